@@ -1,0 +1,14 @@
+-- What the errors of the reader of CSV stand for.
+use Rattle.csv.specs.declared.error.ErrorKind.{ErrorKind}
+use Rattle.csv.specs.declared.error.ErrorKind.TheVariants as kind
+use Rattle.like_records.specs.declared.fault.RecordsFault.{RecordsFault}
+use Rattle.like_records.specs.declared.fault.RecordsFault.TheVariants as fault
+
+-- the fault that an error stands for: the reader underneath failed, or else memory ran out
+abbrev pub fault_of : ErrorKind → RecordsFault
+fault_of (kind.Io e) = fault.Read
+fault_of (kind.Utf8 pos err) = fault.Memory
+fault_of (kind.UnequalLengths pos expected len) = fault.Memory
+fault_of (kind.Serialize text) = fault.Memory
+fault_of (kind.Deserialize pos err) = fault.Memory
+fault_of kind.OutOfMemory = fault.Memory

@@ -1,0 +1,35 @@
+// Why a record could not be had.
+ghost use Rattle.std.specs.Prelude.{◌≡◌, true};
+ghost use Rattle.csv.specs.Reading.{stops_reader};
+ghost use Rattle.like_records.specs.Fault.{fault_of};
+
+use csv::ErrorKind;
+use thiserror::Error;
+
+/// Why the next record could not be had.
+#[derive(Debug, Clone, Copy, PartialEq, Eq, Error)]
+pub enum RecordsFault {
+    /// The reader underneath failed.
+    #[error("read failed")]
+    Read,
+    /// Memory ran out.
+    #[error("out of memory")]
+    Memory,
+}
+
+impl RecordsFault {
+    // The fault that an error which stops a reader of CSV stands for.
+    pub(crate) fn of(error: &ErrorKind) -> RecordsFault
+        requires { stops_reader error.now ≡ true }
+        ensures { result ≡ fault_of error.now }
+    {
+        match error {
+            ErrorKind::Io(_) => RecordsFault::Read,
+            ErrorKind::OutOfMemory => RecordsFault::Memory,
+            ErrorKind::Utf8 { .. }
+            | ErrorKind::UnequalLengths { .. }
+            | ErrorKind::Serialize(_)
+            | ErrorKind::Deserialize { .. } => unreachable!(),
+        }
+    }
+}

@@ -1,0 +1,101 @@
+// The records of a CSV file, one at a time.
+ghost use Rattle.std.specs.Prelude.{◌≡◌, ◌<◌, [], Some, length, option_map, slice_get};
+ghost use Rattle.like_records.specs.Reading.{NextRecord, records_of};
+
+use crate::fault::RecordsFault;
+use csv::{ByteRecord, Reader, ReaderBuilder};
+use std::alloc::Global;
+use std::io::Read;
+use std::marker::Model;
+
+// How far a file has been read.
+#[derive(Debug, Clone, Copy, PartialEq, Eq)]
+enum Progress {
+    // There may be more records.
+    Open,
+    // The last record was read.
+    Ended,
+    // A record could not be had.
+    Failed(RecordsFault),
+}
+
+/// The records of a CSV file, one at a time, each in the room of the one before.
+#[derive(Drop)]
+pub struct Records<R: Read> {
+    reader: Reader<R>,
+    present: ByteRecord,
+    progress: Progress,
+}
+
+impl<R: Read> Model for Records<R> {
+    ghost use Rattle.like_records.specs.Reading.{Reading, records_left, IsKept};
+    ghost use Rattle.csv.specs.Reading.{source_of, reader_state};
+    ghost use Rattle.csv.specs.Records.{fields_of};
+
+    ghost Value = { Reading };
+
+    ghost view = { λ s. record { left = records_left s.progress (reader_state s.reader) (source_of R.remaining s.reader); fields = fields_of s.present } };
+
+    ghost invariant = { λ s. IsKept s.progress s.reader (fields_of s.present) };
+}
+
+impl<R: Read> Records<R> {
+    /// The records of what `reader` gives, before the first.
+    pub fn new(alloc: Global, reader: R) -> Self
+        ensures { result ≡ record { left = option_map records_of (R.remaining reader); fields = [] } }
+    {
+        let reader = ReaderBuilder::new()
+            .has_headers(false)
+            .flexible(true)
+            .from_reader(alloc, reader);
+        Records {
+            reader,
+            present: ByteRecord::new(alloc),
+            progress: Progress::Open,
+        }
+    }
+
+    /// Reads the next record, and says whether there was one. At the end there is none from then
+    /// on, and after a fault there is the same fault from then on.
+    pub fn read_next(&mut self) -> Result<bool, RecordsFault>
+        ensures { NextRecord self.old result self.new }
+    {
+        match self.progress {
+            Progress::Open => {}
+            Progress::Ended => return Ok(false),
+            Progress::Failed(fault) => return Err(fault),
+        }
+        match self.reader.read_byte_record(&mut self.present) {
+            Ok(true) => Ok(true),
+            Ok(false) => {
+                self.present.clear();
+                self.progress = Progress::Ended;
+                Ok(false)
+            }
+            Err(error) => {
+                let fault = RecordsFault::of(error.kind());
+                self.present.clear();
+                self.progress = Progress::Failed(fault);
+                Err(fault)
+            }
+        }
+    }
+
+    /// How many fields the present record has.
+    pub fn field_count(&self) -> usize
+        ensures { result ≡ length self.now.fields }
+    {
+        self.present.len()
+    }
+
+    /// The field of the present record at this place, from 0.
+    pub fn field(&self, index: usize) -> &[u8]
+        requires { index < length self.now.fields }
+        ensures { slice_get self.now.fields index ≡ Some result.now }
+    {
+        match self.present.get(index) {
+            Some(field) => field,
+            None => unreachable!(),
+        }
+    }
+}
