@@ -1,3 +1,4 @@
+mod DecimalDigits
 mod Fields
 mod ReaderSteps
 mod RecordsLeft

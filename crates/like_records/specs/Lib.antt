@@ -1,2 +1,3 @@
+pub mod Decimal
 pub mod Fault
 pub mod Reading

@@ -2,7 +2,12 @@
 #![tactic(auto)]
 
 mod fault;
+mod number;
 mod records;
 
 pub use crate::fault::RecordsFault;
+pub use crate::number::decimal;
 pub use crate::records::Records;
+
+#[cfg(test)]
+mod tests;

@@ -1,5 +1,5 @@
 // The records of a CSV file, one at a time.
-ghost use Rattle.std.specs.Prelude.{◌≡◌, ◌<◌, [], Some, length, option_map, slice_get};
+ghost use Rattle.std.specs.Prelude.{◌≡◌, ◌<◌, ◌↔◌, [], IsTrue, Some, length, map, option_map, slice_get};
 ghost use Rattle.like_records.specs.Reading.{NextRecord, records_of};
 
 use crate::fault::RecordsFault;
@@ -97,5 +97,20 @@ impl<R: Read> Records<R> {
             Some(field) => field,
             None => unreachable!(),
         }
+    }
+
+    /// Whether the present record is of just these fields.
+    pub fn fields_are(&self, texts: &[&str]) -> bool
+        ensures { IsTrue result ↔ (self.now.fields ≡ map (λ text. text.now) texts.now) }
+    {
+        if self.field_count() != texts.len() {
+            return false;
+        }
+        for (index, text) in texts.iter().enumerate() {
+            if self.field(index) != text.as_bytes() {
+                return false;
+            }
+        }
+        true
     }
 }

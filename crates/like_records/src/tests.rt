@@ -1,0 +1,124 @@
+use crate::{Records, RecordsFault, decimal};
+use std::io;
+use std::io::Read;
+use std::test::Fail;
+
+// Gives its text a byte at a time, and an error in place of the byte at `fault_at`.
+#[derive(Drop)]
+struct Flaky {
+    text: &'static [u8],
+    fault_at: usize,
+    given: usize,
+}
+
+impl Read for Flaky {
+    fn read(&mut self, buf: &mut [u8]) -> io::Result<usize> {
+        if self.given == self.fault_at {
+            self.given = self.given.saturating_add(1);
+            return Err(io::Error::from(io::ErrorKind::BrokenPipe));
+        }
+        match (self.text.get(self.given), buf.first_mut()) {
+            (Some(byte), Some(place)) => {
+                *place = *byte;
+                self.given = self.given.saturating_add(1);
+                Ok(1)
+            }
+            _ => Ok(0),
+        }
+    }
+}
+
+#[test]
+fn gives_each_record_in_order(rt: HostRuntime) -> Result<(), Fail> {
+    let text = b"\xef\xbb\xbfname,\"co,unt\"\r\n\n\"say \"\"so\"\"\",,x\rlast".as_slice();
+    let mut records = Records::new(rt.alloc(), text);
+    let rows = [
+        ["name", "co,unt"].as_slice(),
+        ["say \"so\"", "", "x"].as_slice(),
+        ["last"].as_slice(),
+    ];
+    for row in rows {
+        assert!(rt; records.read_next()?);
+        assert!(rt; records.fields_are(row));
+        assert_eq!(rt; records.field_count(), row.len());
+    }
+    assert_eq!(rt; records.read_next(), Ok(false));
+    assert_eq!(rt; records.field_count(), 0);
+    assert_eq!(rt; records.read_next(), Ok(false));
+    Ok(())
+}
+
+#[test]
+fn gives_each_field(rt: HostRuntime) -> Result<(), Fail> {
+    let mut records = Records::new(rt.alloc(), b"like,\xff,7\n".as_slice());
+    assert!(rt; records.read_next()?);
+    assert_eq!(rt; records.field_count(), 3);
+    assert_eq!(rt; records.field(0), b"like".as_slice());
+    assert_eq!(rt; records.field(1), b"\xff".as_slice());
+    assert_eq!(rt; records.field(2), b"7".as_slice());
+    assert!(rt; !records.fields_are(&["like", "x", "7"]));
+    assert!(rt; !records.fields_are(&["like", "x"]));
+    Ok(())
+}
+
+#[test]
+fn an_empty_text_has_no_record(rt: HostRuntime) {
+    let mut records = Records::new(rt.alloc(), b"".as_slice());
+    assert_eq!(rt; records.read_next(), Ok(false));
+}
+
+#[test]
+fn a_failed_read_stays_failed(rt: HostRuntime) -> Result<(), Fail> {
+    let reader = Flaky {
+        text: b"like,1\nlook,2\n",
+        fault_at: 11,
+        given: 0,
+    };
+    let mut records = Records::new(rt.alloc(), reader);
+    assert!(rt; records.read_next()?);
+    assert!(rt; records.fields_are(&["like", "1"]));
+    assert_eq!(rt; records.read_next(), Err(RecordsFault::Read));
+    assert_eq!(rt; records.read_next(), Err(RecordsFault::Read));
+    assert_eq!(rt; records.field_count(), 0);
+    Ok(())
+}
+
+#[test]
+fn reads_numbers(rt: HostRuntime) {
+    let table = [
+        ("0", 19, u64::MAX, Some(0)),
+        ("007", 19, u64::MAX, Some(7)),
+        ("007", 2, u64::MAX, None),
+        ("+1", 19, u64::MAX, None),
+        ("-1", 19, u64::MAX, None),
+        ("", 19, u64::MAX, None),
+        (" 1", 19, u64::MAX, None),
+        ("1 ", 19, u64::MAX, None),
+        ("1/", 19, u64::MAX, None),
+        ("1:", 19, u64::MAX, None),
+        ("18446744073709551615", 19, u64::MAX, None),
+        (
+            "9999999999999999999",
+            19,
+            u64::MAX,
+            Some(9_999_999_999_999_999_999),
+        ),
+        (
+            "1000000000000000000",
+            19,
+            1_000_000_000_000_000_000,
+            Some(1_000_000_000_000_000_000),
+        ),
+        ("1000000000000000001", 19, 1_000_000_000_000_000_000, None),
+        ("4294967295", 10, 4_294_967_295, Some(4_294_967_295)),
+        ("4294967296", 10, 4_294_967_295, None),
+        ("0", 0, 9, None),
+    ];
+    for (text, digits, limit, number) in table {
+        assert_eq!(rt;
+            decimal(text.as_bytes(), digits, limit),
+            number,
+            "at {text}"
+        );
+    }
+}
