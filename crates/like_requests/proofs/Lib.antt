@@ -1,0 +1,6 @@
+pub mod Added
+pub mod Found
+pub mod Names
+pub mod PagesRead
+pub mod Reading
+pub mod RequestsRead

@@ -1,0 +1,23 @@
+use Rattle.std.proofs.Common.{◌+◌, ◌<◌, ℕ, List, sym, arith, length, map, slice_index_or, below_more}
+use Rattle.std.proofs.lemmas.List.{get_or-map}
+use Rattle.like_requests.specs.Setup.{IsPlan}
+use Rattle.like_requests.specs.declared.request.Request.{Request}
+use Rattle.like_requests.proofs.setup.check_setup.Goals as goal
+
+pub loop-submitter-preserved : goal.loop-submitter-preserved
+loop-submitter-preserved c = λ k d below. kept k below d
+  where
+    here : (d : List Request) → IsPlan c.args.setup.now.pages (slice_index_or (map (λ plan. plan.items) c.args.plans.now) c.loop-submitter.submitter d)
+    here d =
+        let within : c.loop-submitter.submitter < length c.args.plans.now = omega arith in
+        rw (
+          get_or-map (λ plan. plan.items) c.args.plans.now c.loop-submitter.submitter c.index-plans-submitter.result d within,
+          ← c.index-plans-submitter.is,
+          ← c.deref.ensures.value,
+        )
+        ((c.is_plan.ensures c.args.setup.now.pages (sym c.len.ensures.len)).0 c.if-not-is_plan.false)
+
+    kept : (k : ℕ) → k < c.loop-submitter.submitter + 1 → (d : List Request)
+        → IsPlan c.args.setup.now.pages (slice_index_or (map (λ plan. plan.items) c.args.plans.now) k d)
+    kept = below_more (λ k. (d : List Request) → IsPlan c.args.setup.now.pages (slice_index_or (map (λ plan. plan.items) c.args.plans.now) k d))
+        c.loop-submitter.submitter (λ k below d. c.loop-submitter.invariant k d below) here

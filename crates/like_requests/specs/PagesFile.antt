@@ -1,0 +1,59 @@
+-- What a pages file says: the records that CSV gives of it, and the pages or the fault.
+use Rattle.std.specs.Prelude.{◌≡◌, ◌≢◌, ◌⊎◌, ◌<◌, ℕ, List, [], ◌∷◌, length, map, Contains, bytes_eq, codes, ⊤}
+use Rattle.like_records.specs.Decimal.{IsDecimal, decimal_value}
+use Rattle.like_records.specs.declared.fault.RecordsFault.{RecordsFault}
+use Rattle.like_records.specs.declared.fault.RecordsFault.TheVariants as records
+use Rattle.like_requests.specs.Pages.{IsName, Page}
+use Rattle.like_requests.specs.Rows.{IsFirstFailed, PassAll, Record, field}
+use Rattle.like_requests.specs.declared.pages.TheConstants.{MAX_PAGES, MAX_COUNT}
+use Rattle.like_requests.specs.declared.pages_file.PagesFault.{PagesFault}
+use Rattle.like_requests.specs.declared.pages_file.PagesFault.TheVariants.{Read, Header, Fields, Name, Duplicate, Count, Split, TooMany, Empty, Memory}
+
+abbrev pub pages_header : Record
+pages_header = codes "name" ∷ codes "count" ∷ codes "split" ∷ []
+
+-- the page that a record lists
+abbrev pub page_of : Record → Page
+page_of r = record { name = field r 0; count = decimal_value (field r 1); split = bytes_eq (field r 2) (codes "yes") }
+
+-- a field says whether a page is marked split
+abbrev pub IsSplitMark : List ℕ → Type 0
+IsSplitMark text = (text ≡ codes "yes") ⊎ (text ≡ codes "no")
+
+-- what the test asks that is named by its fault, of a record after those that list pages with these names
+abbrev pub AsksPage : List (List ℕ) → Record → PagesFault → Type 0
+AsksPage earlier r (Fields row) = length r ≡ 3
+AsksPage earlier r (Name row) = IsName (field r 0)
+AsksPage earlier r (Duplicate row) = ¬ Contains earlier (field r 0)
+AsksPage earlier r (Count row) = IsDecimal 19 MAX_COUNT (field r 1)
+AsksPage earlier r (Split row) = IsSplitMark (field r 2)
+AsksPage earlier r TooMany = length earlier < MAX_PAGES
+AsksPage earlier r Read = ⊤
+AsksPage earlier r Header = ⊤
+AsksPage earlier r Empty = ⊤
+AsksPage earlier r Memory = ⊤
+
+-- the same after earlier records
+abbrev pub AsksPageRecord : List Record → Record → PagesFault → Type 0
+AsksPageRecord earlier r fault = AsksPage (map (λ e. field e 0) earlier) r fault
+
+-- the tests of the record at a row, in order
+abbrev pub page_tests : ℕ → List PagesFault
+page_tests row = Fields row ∷ Name row ∷ Duplicate row ∷ Count row ∷ Split row ∷ TooMany ∷ []
+
+-- the fault that stands for a record that could not be had
+abbrev pub fault_of : RecordsFault → PagesFault
+fault_of records.Read = Read
+fault_of records.Memory = Memory
+
+-- why a file with these records has no pages
+abbrev pub IsPagesFault : List Record → PagesFault → Type 0
+IsPagesFault rows Read = ⊤
+IsPagesFault rows Memory = ⊤
+IsPagesFault rows Header = (body : List Record) → rows ≢ pages_header ∷ body
+IsPagesFault rows Empty = rows ≡ pages_header ∷ []
+IsPagesFault rows fault = (body : List Record) × (rows ≡ pages_header ∷ body) × IsFirstFailed AsksPageRecord page_tests body fault
+
+-- the pages of a file with these records
+abbrev pub IsPagesFile : List Record → List Page → Type 0
+IsPagesFile rows pages = (body : List Record) × (rows ≡ pages_header ∷ body) × (body ≢ []) × PassAll AsksPageRecord page_tests body × (pages ≡ map page_of body)

@@ -1,0 +1,70 @@
+-- What a requests file says: the records that CSV gives of it, and the requests or the fault.
+use Rattle.std.specs.Prelude.{◌≡◌, ◌≢◌, ◌⊎◌, ◌<◌, ℕ, List, [], ◌∷◌, length, map, bytes_eq, codes, if◌then◌else◌, Option, Some, None, ⊤}
+use Rattle.like_records.specs.Decimal.{IsDecimal, decimal_value}
+use Rattle.like_records.specs.declared.fault.RecordsFault.{RecordsFault}
+use Rattle.like_records.specs.declared.fault.RecordsFault.TheVariants as records
+use Rattle.like_requests.specs.Pages.{Page, number_of}
+use Rattle.like_requests.specs.Rows.{IsFirstFailed, PassAll, Record, field}
+use Rattle.like_requests.specs.declared.request.Op.{Op}
+use Rattle.like_requests.specs.declared.request.Op.TheVariants.{Like, Look}
+use Rattle.like_requests.specs.declared.request.PageRef.{PageRef}
+use Rattle.like_requests.specs.declared.request.PageRef.TheVariants.{Known, Unknown}
+use Rattle.like_requests.specs.declared.request.Request.{Request}
+use Rattle.like_requests.specs.declared.setup.TheConstants.{MAX_REQUESTS}
+use Rattle.like_requests.specs.declared.requests_file.TheConstants.{MAX_USER}
+use Rattle.like_requests.specs.declared.requests_file.RequestsFault.{RequestsFault}
+use Rattle.like_requests.specs.declared.requests_file.RequestsFault.TheVariants as fault
+
+abbrev pub requests_header : Record
+requests_header = codes "op" ∷ codes "user" ∷ codes "page" ∷ []
+
+-- a text names an operation
+abbrev pub IsOp : List ℕ → Type 0
+IsOp text = (text ≡ codes "like") ⊎ (text ≡ codes "look")
+
+-- the operation that it names
+abbrev pub op_of : List ℕ → Op
+op_of text = if bytes_eq text (codes "like") then Like else Look
+
+-- the page with this number, if there is one
+abbrev pub page_ref : Option ℕ → PageRef
+page_ref None = Unknown
+page_ref (Some number) = Known number
+
+-- the request that a record makes
+abbrev pub request_of : List Page → Record → Request
+request_of pages r = record { op = op_of (field r 0); user = decimal_value (field r 1); page = page_ref (number_of pages (field r 2)) }
+
+-- what the test asks that is named by its fault, of a record after so many others
+abbrev pub AsksRequest : ℕ → Record → RequestsFault → Type 0
+AsksRequest earlier r (fault.Fields row) = length r ≡ 3
+AsksRequest earlier r (fault.Op row) = IsOp (field r 0)
+AsksRequest earlier r (fault.User row) = IsDecimal 10 MAX_USER (field r 1)
+AsksRequest earlier r fault.TooMany = earlier < MAX_REQUESTS
+AsksRequest earlier r fault.Read = ⊤
+AsksRequest earlier r fault.Header = ⊤
+AsksRequest earlier r fault.Memory = ⊤
+
+-- the same after earlier records
+abbrev pub AsksRequestRecord : List Record → Record → RequestsFault → Type 0
+AsksRequestRecord earlier r why = AsksRequest (length earlier) r why
+
+-- the tests of the record at a row, in order
+abbrev pub request_tests : ℕ → List RequestsFault
+request_tests row = fault.Fields row ∷ fault.Op row ∷ fault.User row ∷ fault.TooMany ∷ []
+
+-- the fault that stands for a record that could not be had
+abbrev pub fault_of : RecordsFault → RequestsFault
+fault_of records.Read = fault.Read
+fault_of records.Memory = fault.Memory
+
+-- why a file with these records has no requests
+abbrev pub IsRequestsFault : List Record → RequestsFault → Type 0
+IsRequestsFault rows fault.Read = ⊤
+IsRequestsFault rows fault.Memory = ⊤
+IsRequestsFault rows fault.Header = (body : List Record) → rows ≢ requests_header ∷ body
+IsRequestsFault rows why = (body : List Record) × (rows ≡ requests_header ∷ body) × IsFirstFailed AsksRequestRecord request_tests body why
+
+-- the requests of a file with these records, where these are the pages
+abbrev pub IsRequestsFile : List Page → List Record → List Request → Type 0
+IsRequestsFile pages rows requests = (body : List Record) × (rows ≡ requests_header ∷ body) × PassAll AsksRequestRecord request_tests body × (requests ≡ map (request_of pages) body)

@@ -1,0 +1,25 @@
+-- Which requests are accepted, and why the others are not.
+use Rattle.std.specs.Prelude.{ℕ, Bool, true, false, ◌&&◌, ◌%◌, ◌==◌, nat_lt, if◌then◌else◌}
+use Rattle.like_requests.specs.declared.request.PageRef.{PageRef}
+use Rattle.like_requests.specs.declared.request.PageRef.TheVariants.{Known, Unknown}
+use Rattle.like_requests.specs.declared.request.Request.{Request}
+use Rattle.like_requests.specs.declared.verdict.Verdict.{Verdict}
+use Rattle.like_requests.specs.declared.verdict.Verdict.TheVariants.{Accepted, UnknownUser, OtherHome, UnknownPage}
+
+-- the submitter by whom a user is served
+abbrev pub home : ℕ → ℕ → ℕ
+home submitters user = user % submitters
+
+abbrev pub is_known : PageRef → Bool
+is_known (Known page) = true
+is_known Unknown = false
+
+-- the user is there, the submitter is the user's home, and the page is there
+abbrev pub is_accepted : ℕ → ℕ → ℕ → Request → Bool
+is_accepted users submitters submitter r =
+    nat_lt r.user users && (home submitters r.user == submitter) && is_known r.page
+
+-- the first of the three that fails
+abbrev pub verdict_of : ℕ → ℕ → ℕ → Request → Verdict
+verdict_of users submitters submitter r =
+    if nat_lt r.user users then (if home submitters r.user == submitter then (if is_known r.page then Accepted else UnknownPage) else OtherHome) else UnknownUser

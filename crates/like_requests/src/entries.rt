@@ -1,0 +1,93 @@
+ghost use Rattle.std.specs.Prelude.{◌≡◌, ◌<◌, ◌≤◌, [], ◌∷◌, ◌++◌, Contains, IfErr, OnOk, length, option_map, slice_get, string_bytes};
+ghost use Rattle.like_requests.specs.Pages.{AreEntries, IsName, names, number_of};
+
+use crate::pages::{MAX_COUNT, MAX_PAGES};
+use indexmap::IndexMap;
+use std::alloc::{AllocError, Global};
+use std::marker::Model;
+use std::str;
+
+/// What the pages file says of a page beside its name.
+#[derive(Clone, Copy, Debug)]
+pub(crate) struct Initial {
+    pub count: u64,
+    pub split: bool,
+}
+
+/// Pages in the order in which they were added, found by name through a hash table: at most 1,024, with distinct names.
+#[derive(Debug, Drop)]
+pub(crate) struct Entries {
+    by_name: IndexMap<String, Initial>,
+}
+
+impl Model for Entries {
+    ghost use Rattle.std.specs.Prelude.{List};
+    ghost use Rattle.like_requests.specs.Pages.{AreEntries, Page};
+
+    ghost Value = { List Page };
+
+    ghost use Rattle.like_requests.specs.Entries.{pages_of};
+
+    ghost view = { λ e. pages_of e.by_name.entries };
+
+    ghost invariant = { λ e. AreEntries (pages_of e.by_name.entries) };
+}
+
+impl Entries {
+    pub fn new(alloc: Global) -> Self
+        ensures { result ≡ [] }
+    {
+        Entries {
+            by_name: IndexMap::new(alloc),
+        }
+    }
+
+    pub fn len(&self) -> u32
+        ensures len { result ≡ length self.now }
+        ensures entries { AreEntries self.now }
+    {
+        self.by_name.len() as u32
+    }
+
+    pub fn name(&self, i: u32) -> &str
+        requires { i < length self.now }
+        ensures { option_map (λ p. p.name) (slice_get self.now i) ≡ Some result.now }
+    {
+        self.by_name.get_index(i as usize).unwrap().0.as_str()
+    }
+
+    pub fn count(&self, i: u32) -> u64
+        requires { i < length self.now }
+        ensures { option_map (λ p. p.count) (slice_get self.now i) ≡ Some result }
+    {
+        self.by_name.get_index(i as usize).unwrap().1.count
+    }
+
+    pub fn split(&self, i: u32) -> bool
+        requires { i < length self.now }
+        ensures { option_map (λ p. p.split) (slice_get self.now i) ≡ Some result }
+    {
+        self.by_name.get_index(i as usize).unwrap().1.split
+    }
+
+    pub fn find(&self, name: &[u8]) -> Option<u32>
+        ensures { result ≡ number_of self.now name.now }
+    {
+        match str::from_utf8(name) {
+            Ok(name) => self.by_name.get_index_of(name).map(|number| number as u32),
+            Err(_) => None,
+        }
+    }
+
+    pub fn add(&mut self, name: String, initial: Initial) -> Result<(), AllocError>
+        requires room { length self.old < MAX_PAGES }
+        requires named { IsName (string_bytes name) }
+        requires counted { initial.count ≤ MAX_COUNT }
+        requires other { ¬ Contains (names self.old) (string_bytes name) }
+        ensures added { OnOk result (self.new
+            ≡ self.old ++ (record { name = string_bytes name; count = initial.count; split = initial.split }) ∷ []) }
+    {
+        self.by_name.insert(name, initial)?;
+        Ok(())
+    }
+}

@@ -1,0 +1,17 @@
+//! Pages, requests, their verdicts and the settings of a run.
+#![tactic(auto)]
+
+mod entries;
+mod pages;
+mod pages_file;
+mod request;
+mod requests_file;
+mod setup;
+mod verdict;
+
+pub use pages::{MAX_COUNT, MAX_NAME, MAX_PAGES, Pages};
+pub use pages_file::{PagesFault, read_pages};
+pub use request::{Numbered, Op, PageRef, Request, Taken};
+pub use requests_file::{RequestsFault, read_requests};
+pub use setup::{SettingsFault, Setup, check_setup};
+pub use verdict::{Verdict, judge};

@@ -1,0 +1,157 @@
+ghost use Rattle.std.specs.Prelude.{◌≡◌, ◌+◌, ◌-◌, ◌<◌, ◌∷◌, List, MatchOption, MatchResult, Some, map, option_map};
+ghost use Rattle.std.specs.List.{AllByRecursion};
+ghost use Rattle.like_records.specs.Reading.{records_of};
+ghost use Rattle.like_requests.specs.First.{FailsFirst};
+ghost use Rattle.like_requests.specs.Pages.{number_of};
+ghost use Rattle.like_requests.specs.RequestsFile.{AsksRequest, AsksRequestRecord, IsOp, IsRequestsFault, IsRequestsFile, op_of, page_ref, request_of, request_tests, requests_header};
+ghost use Rattle.like_requests.specs.Rows.{PassAll, Record};
+
+use crate::pages::Pages;
+use crate::request::{Op, PageRef, Request};
+use crate::setup::MAX_REQUESTS;
+use like_records::{Records, RecordsFault, decimal};
+use std::alloc::{AllocFailed, Global};
+use std::io::Read;
+use thiserror::Error;
+
+/// The greatest number that a requests file may give a user.
+pub const MAX_USER: u64 = 4_294_967_295;
+
+/// Why a requests file has no requests. Rows count records; the header is row 0.
+#[derive(Clone, Copy, Debug, PartialEq, Eq, Error)]
+pub enum RequestsFault {
+    /// The reader failed.
+    #[error("read failed")]
+    Read,
+    /// The first record isn't the header, or there is none.
+    #[error("the header is not op,user,page")]
+    Header,
+    #[error("row {row}: not three fields")]
+    Fields { row: u32 },
+    #[error("row {row}: op is not like or look")]
+    Op { row: u32 },
+    #[error("row {row}: user is not a whole number up to 4294967295")]
+    User { row: u32 },
+    /// A 1,000,001st record is good.
+    #[error("more than 1000000 requests")]
+    TooMany,
+    /// Memory was refused.
+    #[error("out of memory")]
+    Memory,
+}
+
+impl From<RecordsFault> for RequestsFault {
+    ghost use Rattle.std.specs.Prelude.{◌≡◌};
+    ghost use Rattle.like_requests.specs.RequestsFile.{fault_of};
+
+    ghost from_gives = { λ why fault. fault ≡ fault_of why };
+
+    fn from(why: RecordsFault) -> Self {
+        match why {
+            RecordsFault::Read => RequestsFault::Read,
+            RecordsFault::Memory => RequestsFault::Memory,
+        }
+    }
+}
+
+impl From<AllocFailed<Request>> for RequestsFault {
+    ghost use Rattle.std.specs.Prelude.{◌≡◌};
+    ghost use Rattle.like_requests.specs.declared.requests_file.RequestsFault.TheVariants.{Memory};
+
+    ghost from_gives = { λ _ fault. fault ≡ Memory };
+
+    fn from(_: AllocFailed<Request>) -> Self {
+        RequestsFault::Memory
+    }
+}
+
+/// Reads a submitter's requests file: CSV by the default settings, the header `op,user,page`, and a record for each
+/// request. Tests stand in the order of `RequestsFault`'s variants for each record, and the first record that fails
+/// one ends it. A page that is not in `pages` is no fault.
+pub fn read_requests<R: Read + Drop>(
+    alloc: Global,
+    reader: R,
+    pages: &Pages,
+) -> Result<Vec<Request>, RequestsFault>
+    ensures { (rows : List Record) → option_map records_of (R.remaining reader) ≡ Some rows
+        → MatchResult result (λ requests. IsRequestsFile pages.now rows requests.items) (IsRequestsFault rows) }
+{
+    let mut records = Records::new(alloc, reader);
+    if !records.read_next()? || !records.fields_are(&["op", "user", "page"]) {
+        return Err(RequestsFault::Header);
+    }
+    read_plan(alloc, &mut records, pages)
+}
+
+// The requests that the records left make.
+fn read_plan<R: Read>(
+    alloc: Global,
+    records: &mut Records<R>,
+    pages: &Pages,
+) -> Result<Vec<Request>, RequestsFault>
+    ensures { (body : List Record) → records.old.left ≡ Some body
+        → MatchResult result
+        (λ requests. PassAll AsksRequestRecord request_tests body × (requests.items ≡ map (request_of pages.now) body))
+        (IsRequestsFault (requests_header ∷ body)) }
+{
+    let mut requests = Vec::new(alloc);
+    for row in 1..MAX_REQUESTS + 2 {
+        if !records.read_next()? {
+            return Ok(requests);
+        }
+        requests.push(request_at(records, pages, row)?)?;
+    }
+    unreachable!()
+}
+
+// The request that the present record makes at this row.
+fn request_at<R: Read>(
+    records: &Records<R>,
+    pages: &Pages,
+    row: u32,
+) -> Result<Request, RequestsFault>
+    requires { 0 < row }
+    ensures { MatchResult result
+        (λ request. AllByRecursion (AsksRequest (row - 1) records.now.fields) (request_tests row)
+        × (request ≡ request_of pages.now records.now.fields))
+        (FailsFirst (AsksRequest (row - 1) records.now.fields) (request_tests row)) }
+{
+    if records.field_count() != 3 {
+        return Err(RequestsFault::Fields { row });
+    }
+    let Some(op) = op_named(records.field(0)) else {
+        return Err(RequestsFault::Op { row });
+    };
+    let Some(user) = decimal(records.field(1), 10, MAX_USER) else {
+        return Err(RequestsFault::User { row });
+    };
+    if row > MAX_REQUESTS {
+        return Err(RequestsFault::TooMany);
+    }
+    Ok(Request {
+        op,
+        user: user as u32,
+        page: page_named(pages, records.field(2)),
+    })
+}
+
+// The page that a field names.
+fn page_named(pages: &Pages, field: &[u8]) -> PageRef
+    ensures { result ≡ page_ref (number_of pages.now field.now) }
+{
+    match pages.find(field) {
+        Some(number) => PageRef::Known(number),
+        None => PageRef::Unknown,
+    }
+}
+
+// The operation that a field names.
+fn op_named(field: &[u8]) -> Option<Op>
+    ensures { MatchOption result (¬ IsOp field.now) (λ op. IsOp field.now × (op ≡ op_of field.now)) }
+{
+    match field {
+        b"like" => Some(Op::Like),
+        b"look" => Some(Op::Look),
+        _ => None,
+    }
+}
