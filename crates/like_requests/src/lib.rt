@@ -15,3 +15,6 @@ pub use request::{Numbered, Op, PageRef, Request, Taken};
 pub use requests_file::{RequestsFault, read_requests};
 pub use setup::{SettingsFault, Setup, check_setup};
 pub use verdict::{Verdict, judge};
+
+#[cfg(test)]
+mod tests;
