@@ -8,6 +8,7 @@ use Rattle.std.proofs.lemmas.Str.{digit_value_digit}
 use Rattle.std.proofs.lemmas.Str.Parse.{IsDigitsTest, digits_value_short, numerals_by_value}
 use Rattle.like_records.specs.Decimal.{decimal_value}
 
+-- texts of ASCII digits are std's numerals
 all_digits : IsDigitsTest (All IsAsciiDigit)
 all_digits = record {
   empty = All-nil IsAsciiDigit;

@@ -1,21 +1,20 @@
 -- What a read of CSV's reader does to the records left.
-use Rattle.std.proofs.Common.{◌≡◌, ◌+◌, ℕ, Bool, true, false, List, [], ◌∷◌, length, Option, Some, None, option_map, refl, sym, ap, ◌∙◌, inl}
-use Rattle.std.specs.Prelude.{◌⊎◌}
+use Rattle.std.proofs.Common.{◌≡◌, ℕ, true, false, List, [], ◌∷◌, Option, Some, None, option_map, refl, sym, ◌∙◌}
 use Rattle.csv.specs.Machine.{Read, next_record}
-use Rattle.csv.specs.Reading.{ExplainsRead, NextIs, ReadRecord, ReadsNext, default_config, is_flexible, pending_of, source_of, stops_reader, took_first}
-use Rattle.csv.specs.declared.error.ErrorKind.{ErrorKind}
-use Rattle.csv.specs.declared.error.ErrorKind.TheVariants as kind
+use Rattle.csv.specs.Reading.{NextIs, ReadRecord, ReadsNext, default_config, pending_of, source_of}
 use Rattle.csv.specs.declared.parser.State.{State}
 use Rattle.csv.specs.declared.reader.Reader.{Reader}
 use Rattle.csv.proofs.ReadFacts.{rows-end}
-use Rattle.like_records.specs.Reading.{GivesEach, Reading, TakesRecord, records_from_state}
+use Rattle.like_records.specs.Reading.{GivesEach, records_from_state}
 use Rattle.like_records.proofs.RecordsLeft.{records-ended, records-first}
 
+-- a next record that was found is the first of the text's
 next-taken : (s s2 : State) (xs ys : List ℕ) (fields : List (List ℕ)) (o : Option Read) → next_record default_config s [] [] xs ≡ o → NextIs o true fields s2 ys
     → records_from_state s xs ≡ fields ∷ records_from_state s2 ys
 next-taken s s2 xs ys fields None e n = cc n
 next-taken s s2 xs ys fields (Some p) e n = rw (n.1, n.2, n.3) (records-first default_config s xs p e)
 
+-- the same, where the bytes may not be known
 left-taken : (s s2 : State) (before after : Option (List ℕ)) (fields : List (List ℕ)) → ReadsNext default_config s before after true fields s2
     → (rows : List (List (List ℕ))) → option_map (records_from_state s) before ≡ Some rows
     → (rest : List (List (List ℕ))) × (rows ≡ fields ∷ rest) × (option_map (records_from_state s2) after ≡ Some rest)

@@ -1,6 +1,5 @@
 -- How the records of a text follow from its first one.
 use Rattle.std.proofs.Common.{◌≡◌, ◌<◌, ◌≤◌, ◌+◌, ◌-◌, ℕ, zero, suc, Bool, true, false, List, [], ◌∷◌, length, Option, Some, None, refl, sym, ap, ◌∙◌, arith, add-one}
-use Rattle.std.specs.Prelude.{if◌then◌else◌}
 use Rattle.csv.specs.Machine.{Read, ends_at_end, field_after, fields_after, is_end, next_record, step}
 use Rattle.csv.specs.Reading.{records_from, records_next}
 use Rattle.csv.specs.declared.parser.Config.{Config}
@@ -41,6 +40,7 @@ unfolding next_record records_from
 records-none cfg zero = refl
 records-none cfg (suc n) = refl
 
+-- two bounds leave out none of the records after the first, where they leave out none of a shorter text's
 rest-fuel : (cfg : Config) (n m : ℕ) (s : State) (xs : List ℕ) (p : Read) → next_record cfg s [] [] xs ≡ Some p → length xs ≤ n → length xs ≤ m
     → ((s2 : State) (ys : List ℕ) → length ys < n → length ys < m → records_from cfg n s2 ys ≡ records_from cfg m s2 ys)
     → records_from cfg n p.1 p.2 ≡ records_from cfg m p.1 p.2

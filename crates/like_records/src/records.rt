@@ -9,7 +9,7 @@ use std::io::Read;
 use std::marker::Model;
 
 // How far a file has been read.
-#[derive(Debug, Clone, Copy, PartialEq, Eq)]
+#[derive(Clone, Copy)]
 enum Progress {
     // There may be more records.
     Open,
@@ -19,7 +19,10 @@ enum Progress {
     Failed(RecordsFault),
 }
 
-/// The records of a CSV file, one at a time, each in the room of the one before.
+/// The records of a CSV file, one at a time, each in the room of the one before, so that no file is
+/// held whole. Fields stand between commas, and in double quotes where they need them, and a record
+/// ends with CR, LF or CRLF. Empty lines are skipped, and nothing is trimmed. A header row is the
+/// first record, and records may differ in length.
 #[derive(Drop)]
 pub struct Records<R: Read> {
     reader: Reader<R>,

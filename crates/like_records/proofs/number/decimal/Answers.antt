@@ -1,8 +1,7 @@
-use Rattle.std.proofs.Common.{◌≡◌, ◌<◌, ◌≤◌, ◌^◌, get_or, length, take, rules, arith, sym}
+use Rattle.std.proofs.Common.{◌<◌, get_or, length, take, rules, arith, sym}
 use Rattle.std.specs.Char.{IsAsciiDigit}
 use Rattle.std.proofs.lemmas.List.{length-take-le}
 use Rattle.std.proofs.lemmas.List.Elements.{All-more}
-use Rattle.like_records.specs.Decimal.{decimal_value}
 use Rattle.like_records.proofs.DecimalDigits.{decimal_value-few, decimal_value-more}
 use Rattle.like_records.proofs.number.decimal.Goals as goal
 

@@ -1,4 +1,4 @@
-use Rattle.std.proofs.Common.{refl, rules}
+use Rattle.std.proofs.Common.{refl}
 use Rattle.csv.specs.Records.{fields_of}
 use Rattle.like_records.specs.Reading.{GivesEach}
 use Rattle.like_records.proofs.ReaderSteps.{none-taken, record-taken}
