@@ -1,0 +1,11 @@
+pub mod WordParts
+pub mod WordSteps
+pub mod Sums
+pub mod Rows
+pub mod Updates
+pub mod KeptWrites
+pub mod CoreWrites
+pub mod Times
+pub mod NumbersAfter
+pub mod EventLists
+pub mod Started

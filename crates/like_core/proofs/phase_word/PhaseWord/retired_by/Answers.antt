@@ -1,0 +1,12 @@
+use Rattle.std.proofs.Common.{sym}
+use Rattle.like_core.specs.PhaseWord.{fields_of}
+use Rattle.like_core.proofs.WordSteps.{lawful-retired_by, packed-retired_by}
+use Rattle.like_core.proofs.phase_word.PhaseWord.retired_by.Goals as goal
+
+pub invariant_of-result : goal.invariant_of-result
+invariant_of-result c = record {
+  lawful = rw c.with_bit.ensures (lawful-retired_by (fields_of c.args.self) c.args.worker c.args.self.lawful c.requires.worker c.requires.runs c.requires.stays);
+}
+
+pub returns-clause-word : goal.returns-clause-word
+returns-clause-word c = rw c.with_bit.ensures (sym (packed-retired_by (fields_of c.args.self) c.args.worker c.args.self.lawful c.requires.worker c.requires.stays))

@@ -1,0 +1,17 @@
+use Rattle.std.proofs.Common.{◌≡◌, ℕ, ◌+◌, ap, ◌∙◌}
+use Rattle.like_core.specs.Numbers.{Numbers, with_unmerged, with_count}
+use Rattle.like_core.specs.Core.{numbers_of}
+use Rattle.like_core.proofs.pure_core.Core.merge.Goals as goal
+
+pub returns-clause-old : goal.returns-clause-old
+returns-clause-old c =
+    c.add_count.ensures.old ∙ ap (λ (n : Numbers). n.count c.args.page) c.take_unmerged-likes.ensures.empty
+
+pub returns-clause-moved : goal.returns-clause-moved
+returns-clause-moved c =
+    let page = c.args.page in
+    let old = numbers_of c.args.self.now in
+    let likes = c.take_unmerged-likes.result in
+    c.add_count.ensures.added ∙
+    (ap (λ (n : Numbers). with_count n page (n.count page + likes)) c.take_unmerged-likes.ensures.empty ∙
+    ap (λ (l : ℕ). with_count (with_unmerged old c.args.worker page 0) page (old.count page + l)) c.take_unmerged-likes.ensures.likes)

@@ -1,0 +1,13 @@
+use Rattle.std.proofs.Common.{◌≡◌, length, sym, ◌∙◌, ap}
+use Rattle.like_core.proofs.Started.{start_sizes, start_bounds}
+use Rattle.like_core.proofs.pure_core.Core.new.Goals as goal
+
+pub invariant_of-result-clause-rows_sized : goal.invariant_of-result-clause-rows_sized
+invariant_of-result-clause-rows_sized c =
+    λ i within.
+    start_sizes c.in_ok-empty_rows.field-0.items c.args.workers (length c.args.counts.now) c.in_ok-empty_rows.ensures i within ∙
+    sym (ap length c.in_ok-from_slice.ensures)
+
+pub invariant_of-result-clause-bounded : goal.invariant_of-result-clause-bounded
+invariant_of-result-clause-bounded c =
+    start_bounds c.in_ok-vec.field-0.items c.in_ok-empty_rows.field-0.items c.in_ok-from_slice.field-0 c.args.counts.now c.in_ok-from_slice-2.field-0.items c.args.workers (length c.args.counts.now) c.in_ok-empty_rows.ensures c.in_ok-from_slice.ensures c.requires.counts

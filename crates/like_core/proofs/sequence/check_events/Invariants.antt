@@ -1,0 +1,9 @@
+use Rattle.std.proofs.Common.{◌≡◌, take}
+use Rattle.like_core.specs.Table.{PermitsEach, next_all}
+use Rattle.like_core.specs.Core.{numbers_of}
+use Rattle.like_core.proofs.sequence.check_events.Given as goal
+
+abbrev pub invariant-loop-index : goal.invariant-loop-index
+invariant-loop-index l =
+    PermitsEach (numbers_of l.initial.core) (take l.index l.events) ×
+    (numbers_of l.core ≡ next_all (numbers_of l.initial.core) (take l.index l.events))

@@ -1,0 +1,32 @@
+use Rattle.std.specs.Prelude.{◌≡◌, List}
+use Rattle.like_core.specs.declared.event.Event.{Event}
+use Rattle.like_core.specs.declared.pure_core.Core.{Core}
+use Rattle.like_core.specs.declared.setting.Setting.{Setting}
+use Rattle.like_core.specs.Numbers.{Numbers}
+use Rattle.like_core.specs.Kept.{kept}
+use Rattle.like_core.specs.State.{CoreState, after, numbers}
+use Rattle.like_core.specs.Reachable.{Reachable, after_all}
+
+-- the numbers that a core keeps
+abbrev pub numbers_of : Core → Numbers
+numbers_of core = kept core.phase core.ending core.states.items core.unmerged.items core.counts core.marks.items
+
+-- the core stands for each state that has its numbers
+abbrev pub StandsFor : Core → Setting → CoreState → Type 0
+StandsFor core z s = numbers_of core ≡ numbers z s
+
+-- the core stands for a state that can be reached
+pub record IsReachable (core : Core) (z : Setting) : Type 0 where
+  pub state : CoreState
+  pub stands : StandsFor core z state
+  pub reachable : Reachable z state
+
+-- the event takes each state that the old core stood for to one for which the new core stands
+abbrev pub TakesStates : Core → Core → Event → Type 0
+TakesStates old new event =
+    (z : Setting) (s : CoreState) → StandsFor old z s → StandsFor new z (after z s event)
+
+-- and so do all events of a list, one after the other
+abbrev pub TakesStatesAll : Core → Core → List Event → Type 0
+TakesStatesAll old new events =
+    (z : Setting) (s : CoreState) → StandsFor old z s → StandsFor new z (after_all z s events)

@@ -1,0 +1,14 @@
+use Rattle.std.specs.Prelude.{ℕ, zero, suc, ◌+◌, ◌==◌, if◌then◌else◌, List, count_by}
+
+-- the function that is x at i, and f elsewhere
+abbrev pub update : {A : Type 0} → (ℕ → A) → ℕ → A → ℕ → A
+update f i x j = (if j == i then x else f j)
+
+-- f 0 + f 1 + .. + f (n - 1)
+abbrev pub sum_below : (ℕ → ℕ) → ℕ → ℕ
+sum_below f zero = 0
+sum_below f (suc n) = sum_below f n + f n
+
+-- how often x stands in a list
+abbrev pub times : ℕ → List ℕ → ℕ
+times x xs = count_by (λ y. y == x) xs

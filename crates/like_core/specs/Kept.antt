@@ -1,0 +1,17 @@
+use Rattle.std.specs.Prelude.{ℕ, Bool, false, List, [], length, slice_index, slice_index_or}
+use Rattle.like_core.specs.declared.worker_state.WorkerState.{WorkerState}
+use Rattle.like_core.specs.declared.worker_state.WorkerState.TheVariants.{Gone}
+use Rattle.like_core.specs.Numbers.{Numbers}
+
+-- the numbers that lists by worker and page keep; who is no worker is gone
+abbrev pub kept : ℕ → Bool → List WorkerState → List (List ℕ) → List ℕ → List Bool → Numbers
+kept phase ending states unmerged counts marks = record {
+  workers = length unmerged;
+  pages = length counts;
+  marked = λ page. slice_index_or marks page false;
+  phase = phase;
+  ending = ending;
+  state = λ i. slice_index_or states i Gone;
+  unmerged = λ i page. slice_index (slice_index_or unmerged i []) page;
+  count = λ page. slice_index counts page;
+}

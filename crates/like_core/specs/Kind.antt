@@ -1,0 +1,11 @@
+use Rattle.std.specs.Prelude.{ℕ}
+use Rattle.like_core.specs.declared.kind.Kind.{Kind}
+use Rattle.like_core.specs.declared.kind.Kind.TheVariants.{JoinedRunning, JoinedEnding, SplitRunning, SplitEnding}
+
+-- the two bits of a phase word that stand for a kind: the low one is set where the phase is ending, the high one
+-- where it is split
+abbrev pub code_of : Kind → ℕ
+code_of JoinedRunning = 0
+code_of JoinedEnding = 1
+code_of SplitRunning = 2
+code_of SplitEnding = 3

@@ -1,0 +1,13 @@
+pub mod Kind
+pub mod Phase
+pub mod Word
+pub mod PhaseWord
+pub mod Functions
+pub mod WorkerState
+pub mod Numbers
+pub mod Table
+pub mod Kept
+pub mod State
+pub mod Reachable
+pub mod Core
+pub mod Post

@@ -1,0 +1,62 @@
+use Rattle.std.specs.Prelude.{◌≡◌, ℕ, ◌+◌, ◌<◌, ◌↔◌, Bool, IsTrue}
+use Rattle.like_core.specs.declared.worker_state.WorkerState.{WorkerState}
+use Rattle.like_core.specs.declared.worker_state.WorkerState.TheVariants.{Answered, Gone}
+use Rattle.like_core.specs.declared.sight.Sight.{Sight}
+use Rattle.like_core.specs.declared.sight.CoordSight.{CoordSight}
+use Rattle.like_core.specs.Functions.{sum_below, update}
+use Rattle.like_core.specs.Phase.{split}
+use Rattle.like_core.specs.WorkerState.{IsIn}
+
+-- what the table of events speaks of: how many workers and pages there are and which pages are marked as split; the
+-- phase and whether its end was announced; each worker's state; how many likes of a page a worker has not merged; and
+-- each page's count
+pub record Numbers : Type 0 where
+  pub workers : ℕ
+  pub pages : ℕ
+  pub marked : ℕ → Bool
+  pub phase : ℕ
+  pub ending : Bool
+  pub state : ℕ → WorkerState
+  pub unmerged : ℕ → ℕ → ℕ
+  pub count : ℕ → ℕ
+
+-- worker i is in this state, and all else is the same
+abbrev pub with_state : Numbers → ℕ → WorkerState → Numbers
+with_state n i state = record n { state = update n.state i state }
+
+-- worker i has not merged so many likes of the page, and all else is the same
+abbrev pub with_unmerged : Numbers → ℕ → ℕ → ℕ → Numbers
+with_unmerged n i page likes = record n { unmerged = update n.unmerged i (update (n.unmerged i) page likes) }
+
+-- the page has this count, and all else is the same
+abbrev pub with_count : Numbers → ℕ → ℕ → Numbers
+with_count n page count = record n { count = update n.count page count }
+
+-- whether likes of the page go into slices in the present phase
+abbrev pub sliced : Numbers → ℕ → Bool
+sliced n page = split n.marked n.phase page
+
+-- the page's count and all its unmerged likes
+abbrev pub total : Numbers → ℕ → ℕ
+total n page = n.count page + sum_below (λ i. n.unmerged i page) n.workers
+
+-- each worker has answered the present phase or is gone
+abbrev pub AllIn : Numbers → Type 0
+AllIn n = (i : ℕ) → i < n.workers → IsIn n.phase (n.state i)
+
+-- each worker is gone
+abbrev pub AllGone : Numbers → Type 0
+AllGone n = (i : ℕ) → i < n.workers → n.state i ≡ Gone
+
+-- what worker i sees by a look
+pub record Sees (n : Numbers) (i : ℕ) (sight : Sight) : Type 0 where
+  pub number : sight.number ≡ n.phase
+  pub ending : sight.ending ≡ n.ending
+  pub waits : IsTrue sight.waits ↔ (n.state i ≡ Answered n.phase)
+
+-- what the coordinator sees by a look
+pub record CoordSees (n : Numbers) (sight : CoordSight) : Type 0 where
+  pub number : sight.number ≡ n.phase
+  pub ending : sight.ending ≡ n.ending
+  pub all_in : IsTrue sight.all_in ↔ AllIn n
+  pub all_gone : IsTrue sight.all_gone ↔ AllGone n

@@ -1,0 +1,75 @@
+use Rattle.std.specs.Prelude.{ℕ, ◌+◌, ◌==◌, nat_lt, Bool, true, false, not, if◌then◌else◌, List, [], ◌∷◌, ◌++◌, length, filter, replicate, slice_index, slice_index_or}
+use Rattle.like_core.specs.declared.worker_state.WorkerState.{WorkerState}
+use Rattle.like_core.specs.declared.worker_state.WorkerState.TheVariants.{Runs, Answered, Gone}
+use Rattle.like_core.specs.declared.event.Event.{Event}
+use Rattle.like_core.specs.declared.event.Event.TheVariants.{Look, Acknowledge, Report, Retire, Like, Read, Merge, CoordLook, Announce, Release}
+use Rattle.like_core.specs.declared.setting.Setting.{Setting}
+use Rattle.like_core.specs.Functions.{update, times}
+use Rattle.like_core.specs.Phase.{split}
+use Rattle.like_core.specs.WorkerState.{looked}
+use Rattle.like_core.specs.Numbers.{Numbers}
+
+-- who ran a like, and in which phase
+pub record Label : Type 0 where
+  pub worker : ℕ
+  pub phase : ℕ
+
+-- a state of the core: the phase and whether its end was announced, each worker's state, the pages of the likes that
+-- each worker has not merged, in the order of its likes, and the likes applied to each page
+pub record CoreState : Type 0 where
+  pub phase : ℕ
+  pub ending : Bool
+  pub state : ℕ → WorkerState
+  pub unmerged : ℕ → List ℕ
+  pub applied : ℕ → List Label
+
+-- the core at the start: each worker runs phase 0; who is no worker is gone
+abbrev pub start : Setting → CoreState
+start z = record {
+  phase = 0;
+  ending = false;
+  state = λ i. (if nat_lt i z.workers then Runs 0 else Gone);
+  unmerged = λ _. [];
+  applied = λ _. [];
+}
+
+-- whether a page is marked as split
+abbrev pub marked : Setting → ℕ → Bool
+marked z page = slice_index_or z.marks page false
+
+-- the likes of other pages
+abbrev pub without : ℕ → List ℕ → List ℕ
+without page likes = filter (λ other. not (other == page)) likes
+
+-- the state after the event
+abbrev pub after : Setting → CoreState → Event → CoreState
+after z s (Look i) = record s { state = update s.state i (looked s.phase (s.state i)) }
+after z s (Acknowledge i) = record s { state = update s.state i (Answered s.phase) }
+after z s (Report i) = record s { state = update s.state i (Answered s.phase) }
+after z s (Retire i) = record s { state = update s.state i Gone }
+after z s (Like i page) =
+    (if split (marked z) s.phase page then
+    record s { unmerged = update s.unmerged i (s.unmerged i ++ page ∷ []) }
+    else
+    record s { applied = update s.applied page (s.applied page ++ record { worker = i; phase = s.phase } ∷ []) })
+after z s (Read i page) = s
+after z s (Merge i page) = record s {
+  unmerged = update s.unmerged i (without page (s.unmerged i));
+  applied = update s.applied page (s.applied page ++ replicate (times page (s.unmerged i)) (record { worker = i; phase = s.phase }));
+}
+after z s CoordLook = s
+after z s Announce = record s { ending = true }
+after z s Release = record s { phase = s.phase + 1; ending = false }
+
+-- the numbers of a state: lengths of its lists
+abbrev pub numbers : Setting → CoreState → Numbers
+numbers z s = record {
+  workers = z.workers;
+  pages = length z.counts;
+  marked = marked z;
+  phase = s.phase;
+  ending = s.ending;
+  state = s.state;
+  unmerged = λ i page. times page (s.unmerged i);
+  count = λ page. slice_index z.counts page + length (s.applied page);
+}

@@ -1,0 +1,112 @@
+use Rattle.std.specs.Prelude.{List, [], ◌∷◌, take, slice_get, Some, ◌≡◌, ◌≢◌, ℕ, ◌+◌, ◌-◌, ◌^◌, ◌<◌, true, false, if◌then◌else◌}
+use Rattle.like_core.specs.declared.worker_state.WorkerState.TheVariants.{Runs, Answered, Gone}
+use Rattle.like_core.specs.declared.sight.Sight.{Sight}
+use Rattle.like_core.specs.declared.sight.CoordSight.{CoordSight}
+use Rattle.like_core.specs.declared.event.Event.{Event}
+use Rattle.like_core.specs.declared.event.Event.TheVariants.{Look, Acknowledge, Report, Retire, Like, Read, Merge, CoordLook, Announce, Release}
+use Rattle.like_core.specs.declared.shown.Shown.{Shown}
+use Rattle.like_core.specs.declared.shown.Shown.TheVariants.{Seen, Coord, Done, Sliced, Old, Count}
+use Rattle.like_core.specs.declared.refusal.NotNow.{NotNow}
+use Rattle.like_core.specs.declared.refusal.Wrong.{Wrong}
+use Rattle.like_core.specs.declared.refusal.NotNow.TheVariants.{NoSuch, Phase, Last, Full}
+use Rattle.like_core.specs.Phase.{last_phase, IsJoined, IsSplit}
+use Rattle.like_core.specs.WorkerState.{looked}
+use Rattle.like_core.specs.Numbers.{Numbers, with_state, with_unmerged, with_count, sliced, total, AllIn, Sees, CoordSees}
+
+-- the worker and the page that the event names are there
+abbrev pub IsThere : Numbers → Event → Type 0
+IsThere n (Look i) = i < n.workers
+IsThere n (Acknowledge i) = i < n.workers
+IsThere n (Report i) = i < n.workers
+IsThere n (Retire i) = i < n.workers
+IsThere n (Like i page) = (i < n.workers) × (page < n.pages)
+IsThere n (Read i page) = (i < n.workers) × (page < n.pages)
+IsThere n (Merge i page) = (i < n.workers) × (page < n.pages)
+IsThere n CoordLook = Unit {0}
+IsThere n Announce = Unit {0}
+IsThere n Release = Unit {0}
+
+-- the event suits the workers' states, the kind of the phase and the unmerged likes
+abbrev pub Suits : Numbers → Event → Type 0
+Suits n (Look i) = n.state i ≢ Gone
+Suits n (Acknowledge i) = (n.state i ≡ Runs n.phase) × IsJoined n.phase × (n.ending ≡ true)
+Suits n (Report i) =
+    (n.state i ≡ Runs n.phase) × IsSplit n.phase × (n.ending ≡ true) × ((page : ℕ) → n.unmerged i page ≡ 0)
+Suits n (Retire i) = (n.state i ≡ Runs n.phase) × IsJoined n.phase
+Suits n (Like i page) = n.state i ≡ Runs n.phase
+Suits n (Read i page) = (n.state i ≡ Runs n.phase) × (sliced n page ≡ false)
+Suits n (Merge i page) = (n.state i ≡ Runs n.phase) × (sliced n page ≡ true) × (n.ending ≡ true)
+Suits n CoordLook = Unit {0}
+Suits n Announce = n.ending ≡ false
+Suits n Release = (n.ending ≡ true) × AllIn n
+
+-- the event does not announce the end of the last phase
+abbrev pub LeavesLast : Numbers → Event → Type 0
+LeavesLast n Announce = n.phase < last_phase
+LeavesLast n _ = Unit {0}
+
+-- the event does not take a page's total to 2 ^ 63
+abbrev pub HasRoom : Numbers → Event → Type 0
+HasRoom n (Like i page) = total n page < 2 ^ 63 - 1
+HasRoom n _ = Unit {0}
+
+-- the event may happen
+pub record Permits (n : Numbers) (event : Event) : Type 0 where
+  pub there : IsThere n event
+  pub suits : Suits n event
+  pub leaves_last : LeavesLast n event
+  pub room : HasRoom n event
+
+-- the reason is the first for which the event may not happen
+abbrev pub Refuses : Numbers → Event → NotNow → Type 0
+Refuses n event NoSuch = ¬ IsThere n event
+Refuses n event Phase = IsThere n event × ¬ Suits n event
+Refuses n event Last = IsThere n event × Suits n event × ¬ LeavesLast n event
+Refuses n event Full = IsThere n event × Suits n event × LeavesLast n event × ¬ HasRoom n event
+
+-- what the event shows
+abbrev pub IsShown : Numbers → Event → Shown → Type 0
+IsShown n (Look i) shown = ((sight : Sight) × (shown ≡ Seen sight) × Sees n i sight)
+IsShown n (Acknowledge i) shown = shown ≡ Done
+IsShown n (Report i) shown = shown ≡ Done
+IsShown n (Retire i) shown = shown ≡ Done
+IsShown n (Like i page) shown = shown ≡ (if sliced n page then Sliced else Old (n.count page))
+IsShown n (Read i page) shown = shown ≡ Count (n.count page)
+IsShown n (Merge i page) shown = shown ≡ Old (n.count page)
+IsShown n CoordLook shown = ((sight : CoordSight) × (shown ≡ Coord sight) × CoordSees n sight)
+IsShown n Announce shown = shown ≡ Done
+IsShown n Release shown = shown ≡ Done
+
+-- the numbers after the event
+abbrev pub next : Numbers → Event → Numbers
+next n (Look i) = with_state n i (looked n.phase (n.state i))
+next n (Acknowledge i) = with_state n i (Answered n.phase)
+next n (Report i) = with_state n i (Answered n.phase)
+next n (Retire i) = with_state n i Gone
+next n (Like i page) =
+    (if sliced n page then
+    with_unmerged n i page (n.unmerged i page + 1)
+    else
+    with_count n page (n.count page + 1))
+next n (Read i page) = n
+next n (Merge i page) = with_count (with_unmerged n i page 0) page (n.count page + n.unmerged i page)
+next n CoordLook = n
+next n Announce = record n { ending = true }
+next n Release = record n { phase = n.phase + 1; ending = false }
+
+-- the numbers after a list of events
+abbrev pub next_all : Numbers → List Event → Numbers
+next_all n [] = n
+next_all n (event ∷ events) = next_all (next n event) events
+
+-- each event of the list may happen after those before it
+abbrev pub PermitsEach : Numbers → List Event → Type 0
+PermitsEach n [] = Unit {0}
+PermitsEach n (event ∷ events) = Permits n event × PermitsEach (next n event) events
+
+-- the events before the index may happen, and the one there is refused for the reason
+pub record IsWrong (n : Numbers) (events : List Event) (wrong : Wrong) : Type 0 where
+  pub before : PermitsEach n (take wrong.index events)
+  pub event : Event
+  pub at : slice_get events wrong.index ≡ Some event
+  pub refused : Refuses (next_all n (take wrong.index events)) event wrong.reason

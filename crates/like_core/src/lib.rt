@@ -1,0 +1,35 @@
+//! The pure core of the like service: the packed phase word, the core as a state machine over events, and `Post`,
+//! a worker's place at a board.
+//!
+//! Phases alternate as in Narula, Cutler, Kohler and Morris, "Phase Reconciliation for Contended In-Memory
+//! Transactions" (OSDI 2014): even phases are joined, odd ones split.
+#![tactic(auto)]
+
+mod event;
+mod kind;
+mod page_numbers;
+mod phase_word;
+mod post;
+mod pure_core;
+mod refusal;
+mod sequence;
+mod setting;
+mod shown;
+mod sight;
+#[cfg(test)]
+mod tests;
+mod word_steps;
+mod worker_moves;
+mod worker_state;
+
+pub use event::Event;
+pub use kind::Kind;
+pub use phase_word::PhaseWord;
+pub use post::Post;
+pub use pure_core::Core;
+pub use refusal::{NotNow, Wrong};
+pub use sequence::check_events;
+pub use setting::Setting;
+pub use shown::Shown;
+pub use sight::{CoordSight, Sight};
+pub use worker_state::WorkerState;

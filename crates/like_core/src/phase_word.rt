@@ -1,0 +1,87 @@
+ghost use Rattle.std.specs.Prelude.{◌≡◌, ◌≢◌, ℕ, ◌↔◌, IsSome, IfSome, IfNone};
+ghost use Rattle.like_core.specs.Kind.{code_of};
+ghost use Rattle.like_core.specs.Word.{Fields, packed, IsLawful};
+
+use crate::kind::Kind;
+
+/// The number of the last phase.
+pub const LAST_PHASE: u32 = 16_777_214;
+
+/// The phase word, unpacked. Bit `i` of `answered` says that worker `i` acknowledged or reported in this phase, bit
+/// `i` of `retired` that it retired.
+#[derive(Clone, Copy, Debug, PartialEq, Eq)]
+pub struct PhaseWord {
+    pub kind: Kind,
+    /// How many workers there are, 1 to 16.
+    pub workers: u32,
+    pub answered: u16,
+    pub retired: u16,
+    /// The phase, at most `LAST_PHASE`.
+    pub number: u32,
+    ghost lawful: { IsLawful (record { kind = code_of kind; workers = workers; answered = answered; retired = retired; number = number }) },
+}
+
+impl PhaseWord {
+    ghost use Rattle.like_core.specs.PhaseWord.{fields_of};
+
+    /// The word with these fields, or `None` where they are not lawful.
+    pub fn new(
+        kind: Kind,
+        workers: u32,
+        answered: u16,
+        retired: u16,
+        number: u32,
+    ) -> Option<PhaseWord>
+        ensures lawful { IsSome result ↔ IsLawful (record { kind = code_of kind; workers = workers; answered = answered; retired = retired; number = number }) }
+        ensures fields { IfSome result (λ p. fields_of p ≡ record { kind = code_of kind; workers = workers; answered = answered; retired = retired; number = number }) }
+    {
+        if workers < 1 || workers > 16 || number > LAST_PHASE {
+            return None;
+        }
+        let full = 1u32 << workers;
+        if u32::from(answered) >= full || u32::from(retired) >= full || answered & retired != 0 {
+            return None;
+        }
+        if kind.is_split() != (number % 2 == 1) {
+            return None;
+        }
+        if !kind.is_ending() && answered != 0 {
+            return None;
+        }
+        if number == LAST_PHASE && kind.is_ending() {
+            return None;
+        }
+        Some(PhaseWord {
+            kind,
+            workers,
+            answered,
+            retired,
+            number,
+        })
+    }
+
+    /// The one number that holds all fields.
+    pub fn pack(self) -> u64
+        ensures { result ≡ packed (fields_of self) }
+    {
+        u64::from(self.kind.code())
+            + 4 * u64::from(self.workers)
+            + (u64::from(self.answered) << 8)
+            + (u64::from(self.retired) << 24)
+            + (u64::from(self.number) << 40)
+    }
+
+    /// The word that packs to this number, or `None` where none does.
+    pub fn unpack(word: u64) -> Option<PhaseWord>
+        ensures packed { IfSome result (λ p. packed (fields_of p) ≡ word) }
+        ensures none { IfNone result ((p : PhaseWord) → packed (fields_of p) ≢ word) }
+    {
+        PhaseWord::new(
+            Kind::from_code((word & 3) as u8),
+            ((word >> 2) & 63) as u32,
+            ((word >> 8) & 0xffff) as u16,
+            ((word >> 24) & 0xffff) as u16,
+            (word >> 40) as u32,
+        )
+    }
+}

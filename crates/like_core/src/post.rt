@@ -1,0 +1,52 @@
+ghost use Rattle.std.specs.Prelude.{◌≡◌, ◌≢◌, ◌≤◌, true};
+ghost use Rattle.like_core.specs.declared.worker_state.WorkerState.TheVariants.{Gone};
+ghost use Rattle.like_core.specs.Post.{PostView, IsRunning, RunsJoined, RunsSplit, SawEnding, IsSightOf, looked_at, answered, retired, added, MayAdd, MayRead};
+
+use crate::sight::Sight;
+
+/// A worker's place at a board. It runs phase 0 at first.
+///
+/// Each call is one step on the board's words, and none waits. A like of a sliced page is no call: it goes into a slice
+/// that the worker keeps, and the slice's number is added at the end of the phase.
+pub trait Post {
+    ghost view: { Self → PostView };
+
+    /// Looks at the phase word. A worker that has answered a phase enters the next here, once that was released. An
+    /// ending phase that a worker runs stays so until the worker answers or retires.
+    fn look(&mut self) -> Sight
+        requires { (view self.old).state ≢ Gone }
+        ensures sight { IsSightOf (view self.old).state result }
+        ensures view { view self.new ≡ looked_at (view self.old) result }
+        ensures ending { IsRunning (view self.old) → SawEnding (view self.old) → result.ending ≡ true };
+
+    /// Stops at the end of a joined phase, and waits for the release of the next.
+    fn acknowledge(&mut self)
+        requires runs { RunsJoined (view self.old) }
+        requires ending { SawEnding (view self.old) }
+        ensures { view self.new ≡ answered (view self.old) };
+
+    /// Stops at the end of a split phase, and waits for the release of the next. That the worker's slices are merged by
+    /// then is kept by the worker.
+    fn report(&mut self)
+        requires runs { RunsSplit (view self.old) }
+        requires ending { SawEnding (view self.old) }
+        ensures { view self.new ≡ answered (view self.old) };
+
+    /// Ends the worker's part, in a joined phase. No call may follow.
+    fn retire(&mut self)
+        requires { RunsJoined (view self.old) }
+        ensures { view self.new ≡ retired (view self.old) };
+
+    /// Adds to a page's count, and returns the count before: a like of a page that is not sliced, or the merge of a
+    /// slice of `n` likes.
+    fn add(&mut self, page: u32, n: u64) -> u64
+        requires { MayAdd (view self.old) page n }
+        ensures view { view self.new ≡ added (view self.old) page n }
+        ensures own { (view self.old).additions page ≤ result };
+
+    /// The page's count.
+    fn read(&mut self, page: u32) -> u64
+        requires { MayRead (view self.old) page }
+        ensures view { view self.new ≡ view self.old }
+        ensures own { (view self.old).additions page ≤ result };
+}

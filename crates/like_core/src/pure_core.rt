@@ -1,0 +1,93 @@
+ghost use Rattle.std.specs.Prelude.{◌≡◌, ℕ, ◌^◌, ◌<◌, ◌≤◌, ◌↔◌, true, [], length, replicate, slice_index_or, All, IsOk, IfOk, OnOk, IfErr, OnErr};
+ghost use Rattle.like_core.specs.declared.setting.Setting.{Setting};
+ghost use Rattle.like_core.specs.Phase.{last_phase};
+ghost use Rattle.like_core.specs.Numbers.{total};
+ghost use Rattle.like_core.specs.Kept.{kept};
+
+use crate::event::Event;
+use crate::page_numbers::PageNumbers;
+use crate::refusal::NotNow;
+use crate::shown::Shown;
+use crate::worker_state::WorkerState;
+use std::alloc::{AllocError, Global};
+
+mod conditions;
+mod moves;
+
+/// The core as a state machine over events: it keeps the phase, each worker's state, how many likes of each page each
+/// worker has not merged, and each page's count.
+#[derive(Debug, Drop)]
+pub struct Core {
+    phase: u32,
+    ending: bool,
+    states: Vec<WorkerState>,
+    /// By worker.
+    unmerged: Vec<PageNumbers>,
+    counts: PageNumbers,
+    /// Whether each page is marked as split.
+    marks: Vec<bool>,
+    ghost states_sized: { length states.items ≡ length unmerged.items },
+    ghost marks_sized: { length marks.items ≡ length counts },
+    ghost rows_sized: { (i : ℕ) → i < length unmerged.items → length (slice_index_or unmerged.items i []) ≡ length counts },
+    ghost bounded: { (page : ℕ) → page < length counts → total (kept phase ending states.items unmerged.items counts marks.items) page < 2 ^ 63 },
+    ghost within: { phase ≤ last_phase },
+    ghost last: { ending ≡ true → phase < last_phase },
+}
+
+/// So many workers with nothing unmerged.
+fn empty_rows(alloc: Global, workers: u32, pages: usize) -> Result<Vec<PageNumbers>, AllocError>
+    ensures { IfOk result (λ rows. rows.items ≡ replicate workers (replicate pages 0)) }
+{
+    let mut rows = Vec::with_capacity(alloc, workers as usize)?;
+    for _ in 0..workers {
+        rows.push(PageNumbers::zeros(alloc, pages)?)?;
+    }
+    Ok(rows)
+}
+
+impl Core {
+    ghost use Rattle.like_core.specs.Table.{Permits, IsShown, next, Refuses};
+    ghost use Rattle.like_core.specs.State.{start};
+    ghost use Rattle.like_core.specs.Core.{numbers_of, StandsFor, TakesStates};
+
+    /// The core at the start of phase 0, running, with these counts and marks by page. Pages that are marked in `split`
+    /// are split in each odd phase.
+    pub fn new(
+        alloc: Global,
+        workers: u32,
+        counts: &[u64],
+        split: &[bool],
+    ) -> Result<Core, AllocError>
+        requires some_worker { 1 ≤ workers }
+        requires few_workers { workers ≤ 16 }
+        requires same_pages { length split.now ≡ length counts.now }
+        requires few_pages { length counts.now ≤ 1024 }
+        requires counts { All (λ count. count < 2 ^ 63) counts.now }
+        ensures start { IfOk result (λ core. let z : Setting = record { workers = workers; counts = counts.now; marks = split.now } in StandsFor core z (start z)) }
+    {
+        Ok(Core {
+            phase: 0,
+            ending: false,
+            states: vec![in alloc; WorkerState::Runs(0); workers as usize]?,
+            unmerged: empty_rows(alloc, workers, counts.len())?,
+            counts: PageNumbers::from_slice(alloc, counts)?,
+            marks: Vec::from_slice(alloc, split)?,
+        })
+    }
+
+    /// Makes the event where it may happen now. Else it answers the first reason against it, and the core is as before.
+    pub fn step(&mut self, event: Event) -> Result<Shown, NotNow>
+        ensures permitted { IsOk result ↔ Permits (numbers_of self.old) event }
+        ensures shown { IfOk result (IsShown (numbers_of self.old) event) }
+        ensures next { OnOk result (numbers_of self.new ≡ next (numbers_of self.old) event) }
+        ensures states { OnOk result (TakesStates self.old self.new event) }
+
+        ensures refused { IfErr result (Refuses (numbers_of self.old) event) }
+        ensures unchanged { OnErr result (self.new ≡ self.old) }
+    {
+        match self.refusal(event) {
+            Some(reason) => Err(reason),
+            None => Ok(self.apply(event)),
+        }
+    }
+}

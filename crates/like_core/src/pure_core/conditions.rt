@@ -1,0 +1,147 @@
+ghost use Rattle.std.specs.Prelude.{◌≡◌, ◌<◌, ◌↔◌, ℕ, IsTrue, MatchOption};
+ghost use Rattle.like_core.specs.declared.worker_state.WorkerState.TheVariants.{Runs};
+ghost use Rattle.like_core.specs.Numbers.{sliced, total, AllIn, AllGone};
+ghost use Rattle.like_core.specs.Table.{IsThere, Suits, LeavesLast, HasRoom, Permits, Refuses};
+ghost use Rattle.like_core.specs.Core.{numbers_of};
+
+use super::Core;
+use crate::event::Event;
+use crate::phase_word::LAST_PHASE;
+use crate::refusal::NotNow;
+use crate::worker_state::WorkerState;
+
+/// The largest total of a page.
+const MOST: u64 = 9_223_372_036_854_775_807;
+
+impl Core {
+    fn has_worker(&self, worker: u32) -> bool
+        ensures { IsTrue result ↔ (worker < (numbers_of self.now).workers) }
+    {
+        (worker as usize) < self.unmerged.len()
+    }
+
+    fn has_page(&self, page: u32) -> bool
+        ensures { IsTrue result ↔ (page < (numbers_of self.now).pages) }
+    {
+        (page as usize) < self.counts.len()
+    }
+
+    pub(super) fn is_there(&self, event: Event) -> bool
+        ensures { IsTrue result ↔ IsThere (numbers_of self.now) event }
+    {
+        match event {
+            Event::Look(worker)
+            | Event::Acknowledge(worker)
+            | Event::Report(worker)
+            | Event::Retire(worker) => self.has_worker(worker),
+            Event::Like(worker, page) | Event::Read(worker, page) | Event::Merge(worker, page) => {
+                self.has_worker(worker) && self.has_page(page)
+            }
+            Event::CoordLook | Event::Announce | Event::Release => true,
+        }
+    }
+
+    fn runs(&self, worker: u32) -> bool
+        requires { worker < (numbers_of self.now).workers }
+        ensures { IsTrue result ↔ ((numbers_of self.now).state worker ≡ Runs self.now.phase) }
+    {
+        self.states[worker as usize] == WorkerState::Runs(self.phase)
+    }
+
+    pub(super) fn is_sliced(&self, page: u32) -> bool
+        requires { page < (numbers_of self.now).pages }
+        ensures { result ≡ sliced (numbers_of self.now) page }
+    {
+        self.phase % 2 == 1 && self.marks[page as usize]
+    }
+
+    fn has_no_unmerged(&self, worker: u32) -> bool
+        requires { worker < (numbers_of self.now).workers }
+        ensures { IsTrue result ↔ ((page : ℕ) → (numbers_of self.now).unmerged worker page ≡ 0) }
+    {
+        self.unmerged[worker as usize].is_zero()
+    }
+
+    pub(super) fn all_in(&self) -> bool
+        ensures { IsTrue result ↔ AllIn (numbers_of self.now) }
+    {
+        let phase = self.phase;
+        self.states.iter().all(|state| state.is_in(phase))
+    }
+
+    pub(super) fn all_gone(&self) -> bool
+        ensures { IsTrue result ↔ AllGone (numbers_of self.now) }
+    {
+        self.states.iter().all(|state| *state == WorkerState::Gone)
+    }
+
+    pub(super) fn total(&self, page: u32) -> u64
+        requires { page < (numbers_of self.now).pages }
+        ensures { result ≡ total (numbers_of self.now) page }
+    {
+        let mut sum = self.counts.get(page);
+        for row in &self.unmerged {
+            sum += row.get(page);
+        }
+        sum
+    }
+
+    fn suits(&self, event: Event) -> bool
+        requires { IsThere (numbers_of self.now) event }
+        ensures { IsTrue result ↔ Suits (numbers_of self.now) event }
+    {
+        let joined = self.phase % 2 == 0;
+        match event {
+            Event::Look(worker) => self.states[worker as usize] != WorkerState::Gone,
+            Event::Acknowledge(worker) => self.runs(worker) && joined && self.ending,
+            Event::Report(worker) => {
+                self.runs(worker) && !joined && self.ending && self.has_no_unmerged(worker)
+            }
+            Event::Retire(worker) => self.runs(worker) && joined,
+            Event::Like(worker, _) => self.runs(worker),
+            Event::Read(worker, page) => self.runs(worker) && !self.is_sliced(page),
+            Event::Merge(worker, page) => {
+                self.runs(worker) && self.is_sliced(page) && self.ending
+            }
+            Event::CoordLook => true,
+            Event::Announce => !self.ending,
+            Event::Release => self.ending && self.all_in(),
+        }
+    }
+
+    fn leaves_last(&self, event: Event) -> bool
+        ensures { IsTrue result ↔ LeavesLast (numbers_of self.now) event }
+    {
+        match event {
+            Event::Announce => self.phase < LAST_PHASE,
+            _ => true,
+        }
+    }
+
+    fn has_room(&self, event: Event) -> bool
+        requires { IsThere (numbers_of self.now) event }
+        ensures { IsTrue result ↔ HasRoom (numbers_of self.now) event }
+    {
+        match event {
+            Event::Like(_, page) => self.total(page) < MOST,
+            _ => true,
+        }
+    }
+
+    /// The first reason for which the event may not happen now.
+    pub(super) fn refusal(&self, event: Event) -> Option<NotNow>
+        ensures { MatchOption result (Permits (numbers_of self.now) event) (Refuses (numbers_of self.now) event) }
+    {
+        if !self.is_there(event) {
+            Some(NotNow::NoSuch)
+        } else if !self.suits(event) {
+            Some(NotNow::Phase)
+        } else if !self.leaves_last(event) {
+            Some(NotNow::Last)
+        } else if !self.has_room(event) {
+            Some(NotNow::Full)
+        } else {
+            None
+        }
+    }
+}

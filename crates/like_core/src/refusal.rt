@@ -1,0 +1,20 @@
+/// Why an event may not happen now: the first of these that stands.
+#[derive(Clone, Copy, Debug, PartialEq, Eq)]
+pub enum NotNow {
+    /// The worker or the page is not there.
+    NoSuch,
+    /// The worker's state, the kind of the phase or the unmerged likes do not allow it.
+    Phase,
+    /// The end of the last phase is never announced.
+    Last,
+    /// The page's total is the largest that a count can be, 9,223,372,036,854,775,807.
+    Full,
+}
+
+/// The first event of a list that may not happen.
+#[derive(Clone, Copy, Debug, PartialEq, Eq)]
+pub struct Wrong {
+    /// Its place in the list, from 0.
+    pub index: usize,
+    pub reason: NotNow,
+}

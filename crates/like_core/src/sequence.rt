@@ -1,0 +1,25 @@
+ghost use Rattle.std.specs.Prelude.{◌≡◌, ◌↔◌, IsOk, OnOk, IfErr, take};
+ghost use Rattle.like_core.specs.Table.{PermitsEach, next_all, IsWrong};
+ghost use Rattle.like_core.specs.Core.{numbers_of, TakesStatesAll};
+
+use crate::event::Event;
+use crate::pure_core::Core;
+use crate::refusal::Wrong;
+
+/// Makes the events in order, up to the first that may not happen. The core then stands after the events before it.
+pub fn check_events(core: &mut Core, events: &[Event]) -> Result<(), Wrong>
+    ensures permitted { IsOk result ↔ PermitsEach (numbers_of core.old) events.now }
+    ensures next { OnOk result (numbers_of core.new ≡ next_all (numbers_of core.old) events.now) }
+    ensures states { OnOk result (TakesStatesAll core.old core.new events.now) }
+
+    ensures wrong { IfErr result (IsWrong (numbers_of core.old) events.now) }
+    ensures before { IfErr result (λ wrong. numbers_of core.new ≡ next_all (numbers_of core.old) (take wrong.index events.now)) }
+    ensures states_before { IfErr result (λ wrong. TakesStatesAll core.old core.new (take wrong.index events.now)) }
+{
+    for (index, event) in events.iter().enumerate() {
+        if let Err(reason) = core.step(*event) {
+            return Err(Wrong { index, reason });
+        }
+    }
+    Ok(())
+}

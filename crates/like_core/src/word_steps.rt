@@ -1,0 +1,89 @@
+ghost use Rattle.std.specs.Prelude.{◌≡◌, ◌+◌, ◌*◌, ◌^◌, ◌<◌, ◌%◌, bit_or};
+ghost use Rattle.std.specs.Int.{bit_at};
+ghost use Rattle.like_core.specs.Kind.{code_of};
+ghost use Rattle.like_core.specs.Word.{packed, announced, answered_by, retired_by, released};
+ghost use Rattle.like_core.specs.PhaseWord.{fields_of};
+
+use crate::kind::Kind;
+use crate::phase_word::{LAST_PHASE, PhaseWord};
+
+// The mask with one more bit.
+fn with_bit(mask: u16, i: u32) -> u16
+    requires within { i < 16 }
+    requires unset { bit_at mask i ≡ 0 }
+    ensures { result ≡ mask + 2 ^ i }
+{
+    mask | 1 << i
+}
+
+/// What each atomic step makes of the phase word.
+impl PhaseWord {
+    /// The word after an announcement: a `fetch_add` of 1.
+    pub fn announced(self) -> PhaseWord
+        requires running { code_of self.kind % 2 ≡ 0 }
+        requires not_last { self.number < LAST_PHASE }
+        ensures fields { fields_of result ≡ announced (fields_of self) }
+        ensures word { packed (fields_of result) ≡ packed (fields_of self) + 1 }
+    {
+        PhaseWord {
+            kind: Kind::from_code(self.kind.code() + 1),
+            workers: self.workers,
+            answered: self.answered,
+            retired: self.retired,
+            number: self.number,
+        }
+    }
+
+    /// The word after worker `worker` acknowledged or reported: a `fetch_or` of its bit.
+    pub fn answered_by(self, worker: u32) -> PhaseWord
+        requires ending { code_of self.kind % 2 ≡ 1 }
+        requires worker { worker < self.workers }
+        requires runs { bit_at self.answered worker ≡ 0 }
+        requires stays { bit_at self.retired worker ≡ 0 }
+        ensures fields { fields_of result ≡ answered_by (fields_of self) worker }
+        ensures word { packed (fields_of result) ≡ bit_or (packed (fields_of self)) (2 ^ (8 + worker)) }
+    {
+        PhaseWord {
+            kind: self.kind,
+            workers: self.workers,
+            answered: with_bit(self.answered, worker),
+            retired: self.retired,
+            number: self.number,
+        }
+    }
+
+    /// The word after worker `worker` retired: a `fetch_or` of its bit.
+    pub fn retired_by(self, worker: u32) -> PhaseWord
+        requires worker { worker < self.workers }
+        requires runs { bit_at self.answered worker ≡ 0 }
+        requires stays { bit_at self.retired worker ≡ 0 }
+        ensures fields { fields_of result ≡ retired_by (fields_of self) worker }
+        ensures word { packed (fields_of result) ≡ bit_or (packed (fields_of self)) (2 ^ (24 + worker)) }
+    {
+        PhaseWord {
+            kind: self.kind,
+            workers: self.workers,
+            answered: self.answered,
+            retired: with_bit(self.retired, worker),
+            number: self.number,
+        }
+    }
+
+    /// The word that a release stores: the next phase, running, with the same workers gone.
+    pub fn released(self) -> PhaseWord
+        requires ending { code_of self.kind % 2 ≡ 1 }
+        ensures fields { fields_of result ≡ released (fields_of self) }
+    {
+        let kind = match self.kind {
+            Kind::JoinedEnding => Kind::SplitRunning,
+            _ => Kind::JoinedRunning,
+        };
+        PhaseWord {
+            kind,
+            workers: self.workers,
+            answered: 0,
+            retired: self.retired,
+            number: self.number + 1,
+        }
+    }
+}

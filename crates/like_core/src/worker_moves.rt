@@ -1,0 +1,27 @@
+ghost use Rattle.std.specs.Prelude.{◌≡◌, ◌↔◌, IsTrue};
+ghost use Rattle.like_core.specs.WorkerState.{IsIn, looked};
+
+use crate::worker_state::WorkerState;
+
+impl WorkerState {
+    /// Whether the worker is in: it answered this phase or is gone.
+    pub fn is_in(self, phase: u32) -> bool
+        ensures { IsTrue result ↔ IsIn phase self }
+    {
+        match self {
+            WorkerState::Runs(_) => false,
+            WorkerState::Answered(answered) => answered == phase,
+            WorkerState::Gone => true,
+        }
+    }
+
+    /// The worker's state after a look at this phase.
+    pub fn looked(self, phase: u32) -> WorkerState
+        ensures { result ≡ looked phase self }
+    {
+        match self {
+            WorkerState::Answered(answered) if answered < phase => WorkerState::Runs(phase),
+            other => other,
+        }
+    }
+}
