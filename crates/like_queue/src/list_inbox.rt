@@ -1,0 +1,82 @@
+ghost use Rattle.std.specs.Prelude.{◌≡◌, ◌+◌, ◌<◌, ◌≤◌, length, min, nat_lt};
+ghost use Rattle.like_queue.specs.Inbox.{Takes, item_count};
+ghost use Rattle.like_requests.specs.declared.setup.TheConstants.{MAX_REQUESTS};
+
+use like_requests::{Numbered, Request, Taken};
+use std::marker::Model;
+
+/// A submitter's requests as a list of which more and more is open to its worker. Its items are the requests,
+/// numbered from 1, and then the end mark. A take moves no list.
+#[derive(Debug, Drop)]
+pub struct ListInbox {
+    plan: Vec<Request>,
+    // How many items are open, and how many of them were taken.
+    opened: usize,
+    taken: usize,
+}
+
+impl Model for ListInbox {
+    ghost use Rattle.std.specs.Prelude.{◌≤◌, ◌+◌, length};
+    ghost use Rattle.like_requests.specs.declared.setup.TheConstants.{MAX_REQUESTS};
+    ghost use Rattle.like_queue.specs.Inbox.{Inbox, item_count};
+
+    ghost Value = { Inbox };
+
+    ghost view = { λ i. record { plan = i.plan.items; opened = i.opened; taken = i.taken } };
+
+    ghost invariant = { λ i. (length i.plan.items ≤ MAX_REQUESTS) × (i.taken ≤ i.opened) × (i.opened ≤ item_count i.plan.items) };
+}
+
+impl ListInbox {
+    /// The inbox of a plan, of which nothing is open.
+    pub fn new(plan: Vec<Request>) -> Self
+        requires { length plan.items ≤ MAX_REQUESTS }
+        ensures { result ≡ record { plan = plan.items; opened = 0; taken = 0 } }
+    {
+        ListInbox {
+            plan,
+            opened: 0,
+            taken: 0,
+        }
+    }
+
+    /// Opens the next item. `false` where all were open.
+    pub fn open_one(&mut self) -> bool
+        ensures opened { result ≡ nat_lt self.old.opened (item_count self.old.plan) }
+        ensures inbox { self.new ≡ record self.old { opened = min (self.old.opened + 1) (item_count self.old.plan) } }
+    {
+        if self.opened > self.plan.len() {
+            return false;
+        }
+        self.opened += 1;
+        true
+    }
+
+    /// Opens all items.
+    pub fn open_all(&mut self)
+        ensures { self.new ≡ record self.old { opened = item_count self.old.plan } }
+    {
+        self.opened = self.plan.len() + 1;
+    }
+
+    /// Takes the next open item; after the end mark, that again.
+    pub fn take(&mut self) -> Taken
+        ensures { Takes self.old result self.new }
+    {
+        let next = self.taken;
+        if next > self.plan.len() {
+            return Taken::End;
+        }
+        if next == self.opened {
+            return Taken::Nothing;
+        }
+        self.taken += 1;
+        match self.plan.get(next) {
+            Some(request) => Taken::Ask(Numbered {
+                number: next as u32 + 1,
+                request: *request,
+            }),
+            None => Taken::End,
+        }
+    }
+}
