@@ -1,4 +1,4 @@
-use Rattle.std.proofs.Common.{◌≡◌, ℕ, zero, suc, ◌+◌, List, [], ◌∷◌, ◌++◌, take, Some, None, subst, ap, sym, ◌∙◌, refl, arith}
+use Rattle.std.proofs.Common.{◌≡◌, ℕ, zero, suc, List, [], ◌∷◌, take, Some, subst, ap, sym, ◌∙◌, refl}
 use Rattle.std.specs.Prelude.{slice_get}
 use Rattle.like_core.specs.declared.event.Event.{Event}
 use Rattle.like_core.specs.declared.refusal.NotNow.{NotNow}
@@ -9,7 +9,7 @@ use Rattle.like_core.specs.Numbers.{Numbers}
 use Rattle.like_core.specs.Table.{Permits, Refuses, next, next_all, PermitsEach}
 use Rattle.like_core.specs.State.{CoreState, after, numbers}
 use Rattle.like_core.specs.Reachable.{after_all}
-use Rattle.like_core.specs.Core.{numbers_of, StandsFor, TakesStates, TakesStatesAll}
+use Rattle.like_core.specs.Core.{numbers_of, TakesStates, TakesStatesAll}
 use Rattle.like_core.proofs.NumbersAfter.{numbers-after}
 
 -- an event that is refused is not permitted

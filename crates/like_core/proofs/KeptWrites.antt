@@ -1,8 +1,8 @@
-use Rattle.std.proofs.Common.{◌≡◌, ℕ, ◌+◌, ◌^◌, ◌<◌, ◌≤◌, ◌⊎◌, inl, inr, Bool, List, [], length, get_or, set, slice_index, ap, subst, sym, ◌∙◌, refl, arith}
+use Rattle.std.proofs.Common.{◌≡◌, ℕ, ◌+◌, ◌^◌, ◌<◌, ◌≤◌, inl, inr, Bool, List, [], length, get_or, set, slice_index, ap, sym, ◌∙◌, arith}
 use Rattle.std.proofs.Math.ListN.{length-set}
 use Rattle.std.proofs.lemmas.Bool.{cases_eq}
 use Rattle.like_core.specs.declared.worker_state.WorkerState.{WorkerState}
-use Rattle.like_core.specs.Functions.{update, sum_below}
+use Rattle.like_core.specs.Functions.{update}
 use Rattle.like_core.specs.Numbers.{Numbers, with_unmerged, total}
 use Rattle.like_core.specs.Kept.{kept}
 use Rattle.like_core.proofs.Updates.{get_or-set, update-apply, update-same, update-other, update_cases}

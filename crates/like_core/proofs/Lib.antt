@@ -9,3 +9,7 @@ pub mod Times
 pub mod NumbersAfter
 pub mod EventLists
 pub mod Started
+pub mod Reached
+pub mod InPhase
+pub mod GivenLikes
+pub mod CoreReached

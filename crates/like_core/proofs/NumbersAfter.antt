@@ -1,11 +1,11 @@
-use Rattle.std.proofs.Common.{◌≡◌, ◌≢◌, ℕ, ◌+◌, Bool, true, false, cond, List, [], ◌∷◌, ◌++◌, length, replicate, slice_index, length-append, ap, sym, ◌∙◌, refl, arith}
+use Rattle.std.proofs.Common.{◌≡◌, ℕ, ◌+◌, Bool, true, false, cond, List, [], ◌∷◌, ◌++◌, length, replicate, slice_index, length-append, ap, sym, ◌∙◌, refl, arith}
 use Rattle.std.proofs.lemmas.List.{length-replicate}
 use Rattle.like_core.specs.declared.event.Event.{Event}
 use Rattle.like_core.specs.declared.event.Event.TheVariants.{Look, Acknowledge, Report, Retire, Like, Read, Merge, CoordLook, Announce, Release}
 use Rattle.like_core.specs.declared.setting.Setting.{Setting}
 use Rattle.like_core.specs.Functions.{update, times}
 use Rattle.like_core.specs.Phase.{split}
-use Rattle.like_core.specs.Numbers.{Numbers, with_unmerged, with_count}
+use Rattle.like_core.specs.Numbers.{with_unmerged, with_count}
 use Rattle.like_core.specs.Table.{next}
 use Rattle.like_core.specs.State.{CoreState, Label, without, marked, after, numbers}
 use Rattle.like_core.proofs.Updates.{update-same, update-other, update_cases}

@@ -1,10 +1,13 @@
-use Rattle.std.proofs.Common.{◌≡◌, ℕ, zero, suc, ◌+◌, ◌^◌, ◌<◌, ◌≤◌, ◌⊎◌, inl, inr, Bool, false, List, [], All, length, get_or, replicate, slice_index, subst, ap, sym, ◌∙◌, refl, arith}
-use Rattle.std.proofs.lemmas.Bool.{cases_lt}
+use Rattle.std.proofs.Common.{◌≡◌, ℕ, zero, suc, ◌+◌, ◌^◌, ◌<◌, inl, inr, Bool, false, cond, nat_lt, List, [], All, length, get_or, replicate, slice_index, ap, sym, ◌∙◌, refl, arith}
+use Rattle.std.proofs.lemmas.Bool.{cases_lt, cond-true, cond-false, lt-ltb, le-ltb}
 use Rattle.std.proofs.lemmas.List.{get_or-replicate, get_or_past, length-replicate}
 use Rattle.like_core.specs.declared.worker_state.WorkerState.{WorkerState}
+use Rattle.like_core.specs.declared.worker_state.WorkerState.TheVariants.{Runs, Gone}
+use Rattle.like_core.specs.declared.setting.Setting.{Setting}
 use Rattle.like_core.specs.Functions.{sum_below}
 use Rattle.like_core.specs.Numbers.{total}
 use Rattle.like_core.specs.Kept.{kept}
+use Rattle.like_core.specs.State.{start, numbers}
 
 -- a sum of zeros
 pub sum_below-zero : (f : ℕ → ℕ) (n : ℕ) → ((i : ℕ) → f i ≡ 0) → sum_below f n ≡ 0
@@ -50,3 +53,40 @@ start_bounds states rows counts given marks workers pages rows_are counts_are sm
     let same : slice_index counts page ≡ slice_index given page = ap (λ (cs : List ℕ). slice_index cs page) counts_are in
     let count = small page 0 (omega arith) in
     omega arith
+
+-- a core that was just made stands for the start
+pub start_stands : (states : List WorkerState) (rows : List (List ℕ)) (counts : List ℕ) (marks : List Bool) (z : Setting) → states ≡ replicate z.workers (Runs 0) → rows ≡ replicate z.workers (replicate (length z.counts) 0) → counts ≡ z.counts → marks ≡ z.marks → kept 0 false states rows counts marks ≡ numbers z (start z)
+start_stands states rows counts marks z states_are rows_are counts_are marks_are =
+    let workers : length rows ≡ z.workers =
+    ap length rows_are ∙ length-replicate z.workers (replicate (length z.counts) 0)
+    in
+    let state : (i : ℕ) → get_or states i Gone ≡ cond (nat_lt i z.workers) (Runs 0) Gone =
+    λ i.
+    ap (λ (ss : List WorkerState). get_or ss i Gone) states_are ∙
+    elim (cases_lt i z.workers) [
+      | inl within ↦
+          get_or-replicate z.workers i (Runs 0) Gone within ∙
+          sym (cond-true (nat_lt i z.workers) (Runs 0) Gone (lt-ltb i z.workers within))
+      | inr past ↦
+          get_or_past (replicate z.workers (Runs 0)) i Gone (rw (length-replicate {A = WorkerState}) past) ∙
+          sym (cond-false (nat_lt i z.workers) (Runs 0) Gone (le-ltb i z.workers past))
+    ]
+    in
+    let unmerged : (i page : ℕ) → slice_index (get_or rows i []) page ≡ 0 =
+    λ i page.
+    ap (λ (rs : List (List ℕ)). slice_index (get_or rs i []) page) rows_are ∙
+    empty_rows-get z.workers (length z.counts) i page
+    in
+    let count : (page : ℕ) → slice_index counts page ≡ slice_index z.counts page + 0 =
+    λ page. let same = ap (λ (cs : List ℕ). slice_index cs page) counts_are in omega arith
+    in
+    λ m. record {
+      workers = workers m;
+      pages = length (counts_are m);
+      marked = λ page. get_or (marks_are m) page false;
+      phase = 0;
+      ending = false;
+      state = λ i. state i m;
+      unmerged = λ i page. unmerged i page m;
+      count = λ page. count page m;
+    }

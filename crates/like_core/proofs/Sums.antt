@@ -1,4 +1,4 @@
-use Rattle.std.proofs.Common.{ℕ, zero, suc, ◌+◌, ◌-◌, ◌<◌, ◌≤◌, ◌⊎◌, inl, inr, arith, ap, refl, ◌≡◌, ◌∙◌}
+use Rattle.std.proofs.Common.{ℕ, zero, suc, ◌+◌, ◌<◌, ◌≤◌, inl, inr, arith, ap, refl, ◌≡◌}
 use Rattle.std.proofs.Math.Nat.{le-suc_iff}
 use Rattle.std.proofs.lemmas.Bool.{cases_eq}
 use Rattle.like_core.specs.Functions.{sum_below, update}
@@ -24,6 +24,11 @@ sum_below-same f g (suc n) same =
     let before = sum_below-same f g n (λ i below. same i (omega arith)) in
     let here = same n (omega arith) in
     omega arith
+
+-- smaller terms have a smaller sum
+pub sum_below-le : (f g : ℕ → ℕ) (n : ℕ) → ((i : ℕ) → f i ≤ g i) → sum_below f n ≤ sum_below g n
+sum_below-le f g zero each = omega arith
+sum_below-le f g (suc n) each = let before = sum_below-le f g n each in let here = each n in omega arith
 
 -- an update past the terms leaves their sum
 pub sum_below-update_past : (f : ℕ → ℕ) (i x n : ℕ) → n ≤ i → sum_below (update f i x) n ≡ sum_below f n

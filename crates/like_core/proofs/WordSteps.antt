@@ -1,10 +1,9 @@
-use Rattle.std.proofs.Common.{◌≡◌, ℕ, ◌+◌, ◌-◌, ◌*◌, ◌/◌, ◌%◌, ◌^◌, ◌<◌, ◌≤◌, bit_and, bit_or, sym, subst, ap, ◌∙◌, arith, zero-mul}
+use Rattle.std.proofs.Common.{◌≡◌, ℕ, ◌+◌, ◌*◌, ◌%◌, ◌^◌, ◌<◌, bit_and, bit_or, sym, ap, ◌∙◌, arith, zero-mul}
 use Rattle.std.specs.Int.{bit_at}
 use Rattle.std.proofs.lemmas.Nat.{or_disjoint, or_lt, and_or_apart, pow_below, and_comm}
 use Rattle.std.proofs.lemmas.Nat.Bits.{and_pow, bit_at_cat_high, bit_at_cat_low}
 use Rattle.std.proofs.lemmas.Nat.{pow-add}
-use lib.Pow.{pow_mono}
-use Rattle.like_core.specs.Word.{Fields, packed, IsLawful, announced, answered_by, retired_by, released}
+use Rattle.like_core.specs.Word.{Fields, packed, IsLawful, answered_by, retired_by}
 use Rattle.like_core.proofs.WordParts.{narrow}
 
 -- a number has none of the bits of 2 ^ i, where its bit i is 0

@@ -6,6 +6,7 @@ use Rattle.like_core.specs.Numbers.{Numbers}
 use Rattle.like_core.specs.Kept.{kept}
 use Rattle.like_core.specs.State.{CoreState, after, numbers}
 use Rattle.like_core.specs.Reachable.{Reachable, after_all}
+use Rattle.like_core.specs.Exclusive.{IsExclusive, IsInPhase}
 
 -- the numbers that a core keeps
 abbrev pub numbers_of : Core → Numbers
@@ -30,3 +31,12 @@ TakesStates old new event =
 abbrev pub TakesStatesAll : Core → Core → List Event → Type 0
 TakesStatesAll old new events =
     (z : Setting) (s : CoreState) → StandsFor old z s → StandsFor new z (after_all z s events)
+
+-- a core that stands for a state that can be reached still stands for one
+abbrev pub KeepsReachable : Core → Core → Type 0
+KeepsReachable old new = (z : Setting) → IsReachable old z → IsReachable new z
+
+-- where the core stands for a state that can be reached, each state that it stands for is exclusive, and in phase
+abbrev pub IsCoreExclusive : Core → Type 0
+IsCoreExclusive core =
+    (z : Setting) (s : CoreState) → IsReachable core z → StandsFor core z s → IsExclusive s × IsInPhase z s

@@ -9,5 +9,7 @@ pub mod Table
 pub mod Kept
 pub mod State
 pub mod Reachable
+pub mod Exclusive
+pub mod Likes
 pub mod Core
 pub mod Post

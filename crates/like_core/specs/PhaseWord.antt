@@ -1,4 +1,3 @@
-use Rattle.std.specs.Prelude.{ℕ}
 use Rattle.like_core.specs.declared.phase_word.PhaseWord.{PhaseWord}
 use Rattle.like_core.specs.Kind.{code_of}
 use Rattle.like_core.specs.Word.{Fields}

@@ -7,6 +7,7 @@
 
 mod event;
 mod kind;
+pub mod laws;
 mod page_numbers;
 mod phase_word;
 mod post;

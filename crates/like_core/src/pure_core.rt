@@ -48,7 +48,7 @@ fn empty_rows(alloc: Global, workers: u32, pages: usize) -> Result<Vec<PageNumbe
 impl Core {
     ghost use Rattle.like_core.specs.Table.{Permits, IsShown, next, Refuses};
     ghost use Rattle.like_core.specs.State.{start};
-    ghost use Rattle.like_core.specs.Core.{numbers_of, StandsFor, TakesStates};
+    ghost use Rattle.like_core.specs.Core.{numbers_of, StandsFor, TakesStates, IsReachable, KeepsReachable, IsCoreExclusive};
 
     /// The core at the start of phase 0, running, with these counts and marks by page. Pages that are marked in `split`
     /// are split in each odd phase.
@@ -64,6 +64,8 @@ impl Core {
         requires few_pages { length counts.now ≤ 1024 }
         requires counts { All (λ count. count < 2 ^ 63) counts.now }
         ensures start { IfOk result (λ core. let z : Setting = record { workers = workers; counts = counts.now; marks = split.now } in StandsFor core z (start z)) }
+        ensures reachable { IfOk result (λ core. IsReachable core (record { workers = workers; counts = counts.now; marks = split.now })) }
+        ensures exclusive { IfOk result IsCoreExclusive }
     {
         Ok(Core {
             phase: 0,
@@ -84,6 +86,9 @@ impl Core {
 
         ensures refused { IfErr result (Refuses (numbers_of self.old) event) }
         ensures unchanged { OnErr result (self.new ≡ self.old) }
+
+        ensures reachable { KeepsReachable self.old self.new }
+        ensures exclusive { IsCoreExclusive self.new }
     {
         match self.refusal(event) {
             Some(reason) => Err(reason),

@@ -1,6 +1,6 @@
 ghost use Rattle.std.specs.Prelude.{◌≡◌, ◌↔◌, IsOk, OnOk, IfErr, take};
 ghost use Rattle.like_core.specs.Table.{PermitsEach, next_all, IsWrong};
-ghost use Rattle.like_core.specs.Core.{numbers_of, TakesStatesAll};
+ghost use Rattle.like_core.specs.Core.{numbers_of, TakesStatesAll, KeepsReachable, IsCoreExclusive};
 
 use crate::event::Event;
 use crate::pure_core::Core;
@@ -15,6 +15,9 @@ pub fn check_events(core: &mut Core, events: &[Event]) -> Result<(), Wrong>
     ensures wrong { IfErr result (IsWrong (numbers_of core.old) events.now) }
     ensures before { IfErr result (λ wrong. numbers_of core.new ≡ next_all (numbers_of core.old) (take wrong.index events.now)) }
     ensures states_before { IfErr result (λ wrong. TakesStatesAll core.old core.new (take wrong.index events.now)) }
+
+    ensures reachable { KeepsReachable core.old core.new }
+    ensures exclusive { IsCoreExclusive core.new }
 {
     for (index, event) in events.iter().enumerate() {
         if let Err(reason) = core.step(*event) {

@@ -1,4 +1,4 @@
-use Rattle.std.proofs.Common.{◌≡◌, ℕ, ◌+◌, ◌≤◌, suc, take, List, slice_index_or, subst, ap, sym, refl, ◌∙◌, arith}
+use Rattle.std.proofs.Common.{◌≡◌, ◌+◌, suc, take, List, slice_index_or, subst, ap, sym, refl, ◌∙◌, arith}
 use Rattle.std.proofs.lemmas.Option.{slice_get-get_or}
 use Rattle.std.proofs.lemmas.List.{take_all}
 use Rattle.like_core.specs.declared.event.Event.{Event}
@@ -7,6 +7,7 @@ use Rattle.like_core.specs.Numbers.{Numbers}
 use Rattle.like_core.specs.Table.{Permits, Refuses, next, next_all, PermitsEach}
 use Rattle.like_core.specs.Core.{numbers_of}
 use Rattle.like_core.proofs.EventLists.{Refuses-Permits, next_all-take, PermitsEach-take, PermitsEach-at, takes_states_all}
+use Rattle.like_core.proofs.CoreReached.{keeps_reachable_all, core_is_exclusive}
 use Rattle.like_core.proofs.sequence.check_events.Goals as goal
 
 pub returns-in-Err-clause-permitted : goal.returns-in-Err-clause-permitted
@@ -39,6 +40,11 @@ returns-in-Err-clause-states_before c =
     takes_states_all c.args.core.now c.step.new.self (take c.loop-index.index c.args.events.now)
     (ap numbers_of c.in-Err.ensures.unchanged ∙ c.loop-index.invariant.1)
 
+pub returns-in-Err-clause-reachable : goal.returns-in-Err-clause-reachable
+returns-in-Err-clause-reachable c =
+    keeps_reachable_all c.args.core.now c.step.new.self (take c.loop-index.index c.args.events.now) c.loop-index.invariant.0
+    (ap numbers_of c.in-Err.ensures.unchanged ∙ c.loop-index.invariant.1)
+
 pub loop-index-preserved : goal.loop-index-preserved
 loop-index-preserved c =
     let events = c.args.events.now in
@@ -60,3 +66,15 @@ returns-clause-states c =
     let all : take c.loop-index.index events ≡ events = take_all c.loop-index.index events c.loop-index-test.false in
     takes_states_all c.args.core.now c.loop-index.core events
     (c.loop-index.invariant.1 ∙ ap (λ (es : List Event). next_all (numbers_of c.args.core.now) es) all)
+
+pub returns-clause-reachable : goal.returns-clause-reachable
+returns-clause-reachable c =
+    let events = c.args.events.now in
+    let old = numbers_of c.args.core.now in
+    let all : take c.loop-index.index events ≡ events = take_all c.loop-index.index events c.loop-index-test.false in
+    keeps_reachable_all c.args.core.now c.loop-index.core events
+    (subst (λ (es : List Event). PermitsEach old es) all c.loop-index.invariant.0)
+    (c.loop-index.invariant.1 ∙ ap (λ (es : List Event). next_all old es) all)
+
+pub returns-clause-exclusive : goal.returns-clause-exclusive
+returns-clause-exclusive c = core_is_exclusive c.loop-index.core

@@ -1,4 +1,4 @@
-use Rattle.std.proofs.Common.{◌^◌, bit_or, ap, ◌∙◌, arith}
+use Rattle.std.proofs.Common.{bit_or, ap, ◌∙◌}
 use Rattle.std.proofs.lemmas.Nat.{one_shl}
 use Rattle.like_core.proofs.WordSteps.{or_unset}
 use Rattle.like_core.proofs.word_steps.with_bit.Goals as goal

@@ -1,10 +1,7 @@
-use Rattle.std.proofs.Common.{◌≡◌, ◌+◌, ◌^◌, ◌<◌, ◌≤◌, ℕ, List, [], slice_index, slice_set, ap, sym, ◌∙◌, arith}
+use Rattle.std.proofs.Common.{◌≡◌, ◌+◌, ℕ, List, [], slice_index, slice_set, ap, ◌∙◌, arith}
 use Rattle.std.proofs.lemmas.List.{get_or_read}
-use Rattle.like_core.specs.Numbers.{Numbers, with_unmerged, total}
-use Rattle.like_core.specs.Functions.{update}
 use Rattle.like_core.specs.Core.{numbers_of}
-use Rattle.like_core.proofs.Updates.{update-same}
-use Rattle.like_core.proofs.KeptWrites.{unmerged-le-total, total-with_unmerged}
+use Rattle.like_core.proofs.KeptWrites.{unmerged-le-total}
 use Rattle.like_core.proofs.CoreWrites.{WritesRow, written_numbers, written_sizes, written_bounds}
 use Rattle.like_core.proofs.pure_core.Core.add_unmerged.Goals as goal
 

@@ -1,4 +1,4 @@
-use Rattle.std.proofs.Common.{◌≡◌, ℕ, slice_index, List, [], ap, sym, ◌∙◌}
+use Rattle.std.proofs.Common.{ℕ, slice_index, List, [], ap, sym, ◌∙◌}
 use Rattle.std.proofs.lemmas.List.{get_or_read}
 use Rattle.like_core.proofs.Rows.{all_zero}
 use Rattle.like_core.proofs.pure_core.Core.has_no_unmerged.Goals as goal

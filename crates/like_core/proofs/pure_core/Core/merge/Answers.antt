@@ -1,4 +1,4 @@
-use Rattle.std.proofs.Common.{◌≡◌, ℕ, ◌+◌, ap, ◌∙◌}
+use Rattle.std.proofs.Common.{ℕ, ◌+◌, ap, ◌∙◌}
 use Rattle.like_core.specs.Numbers.{Numbers, with_unmerged, with_count}
 use Rattle.like_core.specs.Core.{numbers_of}
 use Rattle.like_core.proofs.pure_core.Core.merge.Goals as goal

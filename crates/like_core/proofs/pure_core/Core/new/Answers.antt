@@ -1,5 +1,6 @@
-use Rattle.std.proofs.Common.{◌≡◌, length, sym, ◌∙◌, ap}
-use Rattle.like_core.proofs.Started.{start_sizes, start_bounds}
+use Rattle.std.proofs.Common.{length, sym, ◌∙◌, ap, rules}
+use Rattle.like_core.proofs.Started.{start_sizes, start_bounds, start_stands}
+use Rattle.like_core.proofs.CoreReached.{starts_reachable, core_is_exclusive}
 use Rattle.like_core.proofs.pure_core.Core.new.Goals as goal
 
 pub invariant_of-result-clause-rows_sized : goal.invariant_of-result-clause-rows_sized
@@ -11,3 +12,11 @@ invariant_of-result-clause-rows_sized c =
 pub invariant_of-result-clause-bounded : goal.invariant_of-result-clause-bounded
 invariant_of-result-clause-bounded c =
     start_bounds c.in_ok-vec.field-0.items c.in_ok-empty_rows.field-0.items c.in_ok-from_slice.field-0 c.args.counts.now c.in_ok-from_slice-2.field-0.items c.args.workers (length c.args.counts.now) c.in_ok-empty_rows.ensures c.in_ok-from_slice.ensures c.requires.counts
+
+pub returns-clause-reachable : goal.returns-clause-reachable
+returns-clause-reachable c =
+    starts_reachable _ (record { workers = c.args.workers; counts = c.args.counts.now; marks = c.args.split.now })
+    (start_stands c.in_ok-vec.field-0.items c.in_ok-empty_rows.field-0.items c.in_ok-from_slice.field-0 c.in_ok-from_slice-2.field-0.items _ (let h = c.in_ok-vec.ensures.items_if_clones_equal in search (rules, h)) c.in_ok-empty_rows.ensures c.in_ok-from_slice.ensures c.in_ok-from_slice-2.ensures.items)
+
+pub returns-clause-exclusive : goal.returns-clause-exclusive
+returns-clause-exclusive c = let h = c.in_ok-vec.ensures in core_is_exclusive _

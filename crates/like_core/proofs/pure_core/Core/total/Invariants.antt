@@ -1,4 +1,4 @@
-use Rattle.std.proofs.Common.{◌≡◌, ℕ, ◌+◌}
+use Rattle.std.proofs.Common.{◌≡◌, ◌+◌}
 use Rattle.like_core.specs.Functions.{sum_below}
 use Rattle.like_core.specs.Core.{numbers_of}
 use Rattle.like_core.proofs.pure_core.Core.total.Given as goal

@@ -1,0 +1,5 @@
+use Rattle.like_core.proofs.GivenLikes.{likes_stay_reachable}
+use Rattle.like_core.proofs.laws.likes_stay_reachable.Goals as goal
+
+pub returns : goal.returns
+returns c = likes_stay_reachable
