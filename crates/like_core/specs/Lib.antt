@@ -13,3 +13,4 @@ pub mod Exclusive
 pub mod Likes
 pub mod Core
 pub mod Post
+pub mod Lone

@@ -20,7 +20,6 @@ mod sight;
 #[cfg(test)]
 mod tests;
 mod word_steps;
-mod worker_moves;
 mod worker_state;
 
 pub use event::Event;

@@ -1,3 +1,6 @@
+mod lone;
+mod posts;
+
 use crate::{CoordSight, Core, Event, Kind, NotNow, PhaseWord, Shown, Sight, Wrong, check_events};
 use std::test::Fail;
 
@@ -167,5 +170,18 @@ fn packs_words_of_idle_workers(rt: HostRuntime) -> Result<(), Fail> {
     assert_eq!(rt; ending.pack(), 234_881_297);
     let released = PhaseWord::new(Kind::SplitRunning, 4, 0, 14, 1).ok_or("released")?;
     assert_eq!(rt; released.pack(), 1_099_746_508_818);
+    Ok(())
+}
+
+/// The same two words, by what each step makes of the word.
+#[test]
+fn steps_lead_to_words_of_idle_workers(rt: HostRuntime) -> Result<(), Fail> {
+    let start = PhaseWord::new(Kind::JoinedRunning, 4, 0, 0, 0).ok_or("start")?;
+    let answered = start.announced().answered_by(0);
+    let ending = answered.retired_by(1).retired_by(2).retired_by(3);
+    assert_eq!(rt; ending.pack(), 234_881_297);
+    assert!(rt; ending.kind.is_ending());
+    assert!(rt; !ending.kind.is_split());
+    assert_eq!(rt; ending.released().pack(), 1_099_746_508_818);
     Ok(())
 }
