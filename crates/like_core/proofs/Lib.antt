@@ -13,4 +13,6 @@ pub mod Reached
 pub mod InPhase
 pub mod GivenLikes
 pub mod CoreReached
-pub mod Lone
+pub mod LoneLooks
+pub mod LoneSteps
+pub mod LoneAdds

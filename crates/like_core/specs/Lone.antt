@@ -1,7 +1,7 @@
 use Rattle.std.specs.Prelude.{◌≡◌, ℕ, ◌+◌, ◌-◌, ◌^◌, ◌<◌, ◌≤◌, ◌==◌, if◌then◌else◌, Option, IsSomeAnd, true}
 use Rattle.like_core.specs.declared.worker_state.WorkerState.TheVariants.{Runs, Answered}
 use Rattle.like_core.specs.declared.sight.Sight.{Sight}
-use Rattle.like_core.specs.Numbers.{Numbers, sliced, total}
+use Rattle.like_core.specs.Numbers.{Numbers, with_unmerged, with_count, sliced, total}
 use Rattle.like_core.specs.Post.{PostView, RunsSome}
 
 -- a post over a core of one worker and one page, which had this count at the start
@@ -34,6 +34,11 @@ pub record Likes (n : Numbers) (likes : ℕ) : Type 0 where
   pub is_sliced : sliced n 0 ≡ true
   pub ending : n.ending ≡ true
   pub room : total n 0 + likes < 2 ^ 63
+
+-- the numbers after so many likes of the slice and its merge
+abbrev pub merged_likes : Numbers → ℕ → Numbers
+merged_likes n likes =
+    with_count (with_unmerged n 0 0 0) 0 (n.count 0 + (n.unmerged 0 0 + likes))
 
 -- all but the state and the last sight is as before
 pub record KeepsBoard (old new : PostView) : Type 0 where

@@ -4,16 +4,6 @@ mod posts;
 use crate::{CoordSight, Core, Event, Kind, NotNow, PhaseWord, Shown, Sight, Wrong, check_events};
 use std::test::Fail;
 
-/// The events that lead two workers into phase 1, in which only worker 0 has looked.
-const INTO_SPLIT: [Event; 6] = [
-    Event::Announce,
-    Event::Acknowledge(0),
-    Event::Acknowledge(1),
-    Event::Release,
-    Event::Look(0),
-    Event::Like(0, 0),
-];
-
 #[test]
 fn refuses_early_release(rt: HostRuntime) -> Result<(), Fail> {
     let mut core = Core::new(rt.alloc(), 2, &[0], &[true])?;
@@ -43,12 +33,20 @@ fn refuses_early_release(rt: HostRuntime) -> Result<(), Fail> {
 #[test]
 fn refuses_retirement_in_split_phase(rt: HostRuntime) -> Result<(), Fail> {
     let mut core = Core::new(rt.alloc(), 2, &[0], &[true])?;
-    assert_eq!(rt; check_events(&mut core, &INTO_SPLIT), Ok(()));
+    let events = [
+        Event::Announce,
+        Event::Acknowledge(0),
+        Event::Acknowledge(1),
+        Event::Release,
+        Event::Look(0),
+        Event::Like(0, 0),
+        Event::Retire(0),
+    ];
     let wrong = Wrong {
-        index: 0,
+        index: 6,
         reason: NotNow::Phase,
     };
-    assert_eq!(rt; check_events(&mut core, &[Event::Retire(0)]), Err(wrong));
+    assert_eq!(rt; check_events(&mut core, &events), Err(wrong));
     assert_eq!(rt; core.step(Event::Look(2)), Err(NotNow::NoSuch));
     Ok(())
 }

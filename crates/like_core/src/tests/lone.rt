@@ -3,7 +3,7 @@ ghost use Rattle.like_core.specs.declared.worker_state.WorkerState.TheVariants.{
 ghost use Rattle.like_core.specs.Numbers.{with_unmerged, with_count, sliced, total};
 ghost use Rattle.like_core.specs.Table.{Permits, IsShown, next};
 ghost use Rattle.like_core.specs.Core.{numbers_of};
-ghost use Rattle.like_core.specs.Lone.{IsLone, Likes, lone_view};
+ghost use Rattle.like_core.specs.Lone.{IsLone, Likes, lone_view, merged_likes};
 ghost use Rattle.like_core.specs.Post.{IsFresh};
 
 use crate::{Core, Event, Post, Shown, Sight};
@@ -35,7 +35,7 @@ fn make(core: &mut Core, event: Event) -> Shown
 fn like_and_merge(core: &mut Core, likes: u64) -> u64
     requires { Likes (numbers_of core.old) likes }
     ensures old { result ≡ (numbers_of core.old).count 0 }
-    ensures merged { numbers_of core.new ≡ with_count (with_unmerged (numbers_of core.old) 0 0 0) 0 ((numbers_of core.old).count 0 + ((numbers_of core.old).unmerged 0 0 + likes)) }
+    ensures merged { numbers_of core.new ≡ merged_likes (numbers_of core.old) likes }
 {
     for _ in 0..likes {
         let _ = make(core, Event::Like(0, 0));

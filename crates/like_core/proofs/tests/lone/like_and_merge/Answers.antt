@@ -3,7 +3,7 @@ use Rattle.like_core.specs.declared.event.Event.TheVariants.{Like, Merge}
 use Rattle.like_core.specs.Numbers.{Numbers, with_unmerged, with_count}
 use Rattle.like_core.specs.Table.{Permits, next}
 use Rattle.like_core.specs.Core.{numbers_of}
-use Rattle.like_core.proofs.Lone.{permits_next_like, after_next_like, permits_merge, after_merge}
+use Rattle.like_core.proofs.LoneAdds.{permits_next_like, after_next_like, permits_merge, after_merge}
 use Rattle.like_core.proofs.tests.lone.like_and_merge.Goals as goal
 
 pub make-requires : goal.make-requires

@@ -1,4 +1,4 @@
-use Rattle.like_core.proofs.Lone.{may_like}
+use Rattle.like_core.proofs.LoneAdds.{may_like}
 use Rattle.like_core.proofs.tests.posts.like.Goals as goal
 
 pub add-requires : goal.add-requires

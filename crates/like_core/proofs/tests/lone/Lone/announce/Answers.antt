@@ -1,5 +1,5 @@
 use Rattle.like_core.specs.declared.event.Event.TheVariants.{Announce}
-use Rattle.like_core.proofs.Lone.{stepped, lone_may_announce}
+use Rattle.like_core.proofs.LoneSteps.{stepped, lone_may_announce}
 use Rattle.like_core.proofs.tests.lone.Lone.announce.Goals as goal
 
 pub invariant_of-self : goal.invariant_of-self

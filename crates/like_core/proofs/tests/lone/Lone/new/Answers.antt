@@ -2,7 +2,7 @@ use Rattle.std.proofs.Common.{None, true, subst, sym, ap}
 use Rattle.like_core.specs.Numbers.{Numbers}
 use Rattle.like_core.specs.Lone.{lone_view}
 use Rattle.like_core.specs.Post.{IsFresh}
-use Rattle.like_core.proofs.Lone.{lone_at, lone_start, fresh_start}
+use Rattle.like_core.proofs.LoneSteps.{lone_at, lone_start, fresh_start}
 use Rattle.like_core.proofs.tests.lone.Lone.new.Goals as goal
 
 pub invariant_of-result : goal.invariant_of-result

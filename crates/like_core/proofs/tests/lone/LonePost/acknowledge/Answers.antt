@@ -3,7 +3,7 @@ use Rattle.like_core.specs.declared.worker_state.WorkerState.TheVariants.{Answer
 use Rattle.like_core.specs.Phase.{IsJoined}
 use Rattle.like_core.specs.Numbers.{with_state}
 use Rattle.like_core.specs.Core.{numbers_of}
-use Rattle.like_core.proofs.Lone.{lone_at, view_at, lone_answered, view_answered}
+use Rattle.like_core.proofs.LoneSteps.{lone_at, view_at, lone_answered, view_answered}
 use Rattle.like_core.proofs.tests.lone.LonePost.acknowledge.Goals as goal
 
 pub invariant_of-self : goal.invariant_of-self

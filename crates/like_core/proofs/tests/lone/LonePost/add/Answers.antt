@@ -1,6 +1,6 @@
 use Rattle.like_core.specs.Numbers.{sliced}
 use Rattle.like_core.specs.Core.{numbers_of}
-use Rattle.like_core.proofs.Lone.{shown_old, shown_sliced, add_plain, add_sliced, likes_follow, first_page, own_before}
+use Rattle.like_core.proofs.LoneAdds.{shown_old, shown_sliced, add_plain, add_sliced, likes_follow, first_page, own_before}
 use Rattle.like_core.proofs.tests.lone.LonePost.add.Goals as goal
 
 pub invariant_of-self : goal.invariant_of-self

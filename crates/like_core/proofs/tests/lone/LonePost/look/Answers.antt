@@ -1,6 +1,7 @@
 use Rattle.std.proofs.Common.{Some, ◌∙◌}
 use Rattle.like_core.specs.Core.{numbers_of}
-use Rattle.like_core.proofs.Lone.{looks_well, sees_it, lone_at, view_at}
+use Rattle.like_core.proofs.LoneLooks.{looks_well, sees_it}
+use Rattle.like_core.proofs.LoneSteps.{lone_at, view_at}
 use Rattle.like_core.proofs.tests.lone.LonePost.look.Goals as goal
 
 pub invariant_of-self : goal.invariant_of-self

@@ -1,4 +1,4 @@
-use Rattle.like_core.proofs.Lone.{view_at}
+use Rattle.like_core.proofs.LoneSteps.{view_at}
 use Rattle.like_core.proofs.tests.lone.LonePost.read.Goals as goal
 
 pub returns-clause-view : goal.returns-clause-view

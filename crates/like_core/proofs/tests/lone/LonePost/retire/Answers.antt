@@ -1,5 +1,5 @@
 use Rattle.like_core.specs.Core.{numbers_of}
-use Rattle.like_core.proofs.Lone.{lone_at, view_at, lone_retired}
+use Rattle.like_core.proofs.LoneSteps.{lone_at, view_at, lone_retired}
 use Rattle.like_core.proofs.tests.lone.LonePost.retire.Goals as goal
 
 pub invariant_of-self : goal.invariant_of-self
