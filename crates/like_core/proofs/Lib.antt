@@ -13,3 +13,4 @@ pub mod Reached
 pub mod InPhase
 pub mod GivenLikes
 pub mod CoreReached
+pub mod Masks
