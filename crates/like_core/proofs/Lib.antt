@@ -14,3 +14,5 @@ pub mod InPhase
 pub mod GivenLikes
 pub mod CoreReached
 pub mod Masks
+pub mod Unanswered
+pub mod ShownEvents
