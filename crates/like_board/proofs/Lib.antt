@@ -1,0 +1,4 @@
+pub mod ViewLists
+pub mod Moves
+pub mod Leads
+pub mod WorkerSteps

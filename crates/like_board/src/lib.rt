@@ -1,0 +1,6 @@
+//! The board.
+#![tactic(auto)]
+
+mod key;
+
+pub use key::Key;
