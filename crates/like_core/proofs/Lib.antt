@@ -16,3 +16,4 @@ pub mod CoreReached
 pub mod Masks
 pub mod Unanswered
 pub mod ShownEvents
+pub mod FromFields

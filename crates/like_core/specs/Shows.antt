@@ -1,4 +1,4 @@
-use Rattle.std.specs.Prelude.{◌≡◌, ℕ, ◌+◌, ◌<◌, ◌≤◌, nat_lt, true, false, if◌then◌else◌, List, [], length, slice_index, slice_set, IfSome}
+use Rattle.std.specs.Prelude.{◌≡◌, ℕ, ◌+◌, ◌^◌, ◌<◌, ◌≤◌, All, nat_lt, true, false, if◌then◌else◌, List, [], length, slice_index, slice_set, IfSome}
 use Rattle.std.specs.List.{sum_by}
 use mathlib.Core.Option.{some}
 use lib.ListN.{get_elem?}
@@ -18,11 +18,14 @@ use Rattle.like_core.specs.Reachable.{Reachable}
 use Rattle.like_core.specs.ShownWord.{shown_word}
 use Rattle.like_core.specs.Views.{ViewRuns, ViewSawEnding, seats_of}
 
--- a setting that a board may have: there are 1 to 16 workers, and each page has a count and a mark
+-- a setting that a board may have: there are 1 to 16 workers and at most 1,024 pages, each with a mark and a count of
+-- at most 10 ^ 18
 pub record IsSetting (z : Setting) : Type 0 where
   pub some_worker : 1 ≤ z.workers
   pub few_workers : z.workers ≤ 16
+  pub few_pages : length z.counts ≤ 1024
   pub marks : length z.marks ≡ length z.counts
+  pub counts : All (λ n. n ≤ 10 ^ 18) z.counts
 
 -- a worker's view of a state: its worker's state there; it saw no later phase; and what it saw of the phase that it
 -- runs is still so

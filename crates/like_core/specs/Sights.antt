@@ -4,6 +4,10 @@ use Rattle.like_core.specs.declared.sight.Sight.{Sight}
 use Rattle.like_core.specs.declared.sight.CoordSight.{CoordSight}
 use Rattle.like_core.specs.Word.{Fields}
 
+-- the fields of the phase word at the start
+abbrev pub first_fields : ℕ → Fields
+first_fields workers = record { kind = 0; workers = workers; answered = 0; retired = 0; number = 0 }
+
 -- what worker i sees in a phase word with these fields: it waits where its bit of `answered` is set
 abbrev pub sight_of : Fields → ℕ → Sight
 sight_of f i = record {
