@@ -29,20 +29,10 @@ use Rattle.like_core.proofs.Reached.{goes_on_by}
 use Rattle.like_core.proofs.InPhase.{reached_in_phase}
 use Rattle.like_core.proofs.Unanswered.{reached_unanswered}
 use Rattle.like_core.proofs.ShownEvents.{shown_lawful, same_fields, fields_released, word_announced, coord_sees}
+use Rattle.like_board.specs.Plays.{Surveyed}
 use Rattle.like_board.proofs.Moves.{if_some}
 use Rattle.like_board.proofs.Leads.{phased, leads}
 use Rattle.like_board.proofs.WorkerSteps.{running_is}
-
--- what the coordinator's look finds and shows
-pub record Surveyed (z : Setting) (found : ℕ) (c : CoordView) : Type 0 where
-  pub fields : Fields
-  pub lawful : IsLawful fields
-  pub found_is : found ≡ packed fields
-  pub number : (coord_sight_of fields).number ≡ c.phase
-  pub ending : (coord_sight_of fields).ending ≡ c.ending
-  pub all_in : c.all_in ≡ true → (coord_sight_of fields).all_in ≡ true
-  pub gone : IsSplit c.phase → (coord_sight_of fields).all_gone ≡ true → c.gone ≡ true
-  pub step : IsStep z CoordLook (CoordShown (coord_sight_of fields)) (Coord c) (Coord (looked_coord c found (coord_sight_of fields)))
 
 -- a look of the coordinator is the event
 pub surveys : (z : Setting) (words : List ℕ) (views : List View) (place : ℕ) (c : CoordView) → ShowsSome z words views → get_elem? views place ≡ some (Coord c) → (r : Surveyed z (get_or words 0 0) c) × ShowsSome z (set words 0 (get_or words 0 0)) (set views place (Coord (looked_coord c (get_or words 0 0) (coord_sight_of r.fields))))

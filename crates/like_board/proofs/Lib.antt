@@ -4,3 +4,4 @@ pub mod Leads
 pub mod WorkerSteps
 pub mod CoordSteps
 pub mod Opens
+pub mod Allowed

@@ -12,17 +12,14 @@ use Rattle.like_core.specs.declared.view.View.TheVariants.{Coord}
 use Rattle.like_core.specs.Word.{Fields, packed}
 use Rattle.like_core.specs.State.{start}
 use Rattle.like_core.specs.ShownWord.{weight, mask, has_answered, is_gone, shown_fields, shown_word}
+use Rattle.like_core.specs.Sights.{first_fields}
 use Rattle.like_core.specs.Views.{fresh_coord}
 use Rattle.like_core.specs.Shows.{IsSetting, Shows, ShowsSome, Fits, FitsCoord}
 use Rattle.like_core.proofs.Reached.{start_reached}
 use Rattle.like_core.proofs.Masks.{mask_none}
 use Rattle.like_board.proofs.Moves.{counts_none}
 
--- the fields of the phase word at the start
-abbrev pub first_fields : ℕ → Fields
-first_fields workers = record { kind = 0; workers = workers; answered = 0; retired = 0; number = 0 }
-
--- they are those of the core's start
+-- the fields at the start are those of the core's start
 start_fields : (z : Setting) → shown_fields z (start z) ≡ first_fields z.workers
 start_fields z =
     let P : WorkerState → Type 0 = λ st. has_answered 0 st ≡ false in

@@ -30,6 +30,7 @@ use Rattle.like_core.proofs.Reached.{goes_on_by}
 use Rattle.like_core.proofs.InPhase.{reached_in_phase}
 use Rattle.like_core.proofs.Unanswered.{reached_unanswered}
 use Rattle.like_core.proofs.ShownEvents.{moved, shown_lawful, fields_looked, word_answered, word_retired, worker_sees}
+use Rattle.like_board.specs.Plays.{Looked}
 use Rattle.like_board.proofs.Moves.{worker_moves}
 
 -- the phase that a worker runs
@@ -91,15 +92,6 @@ looked_gone phase (Answered j) is =
     let Q : P (nat_lt j phase) = elim (nat_lt j phase) as P [ true ↦ λ e. cc | false ↦ λ e. cc ] in
     absurd (Q is)
 looked_gone phase Gone is = refl
-
--- what a worker's look finds and shows
-pub record Looked (z : Setting) (found : ℕ) (v : WorkerView) : Type 0 where
-  pub fields : Fields
-  pub lawful : IsLawful fields
-  pub found_is : found ≡ packed fields
-  pub can : CanSee v.state (sight_of fields v.worker)
-  pub ending : ViewRuns v → ViewSawEnding v → (sight_of fields v.worker).ending ≡ true
-  pub step : IsStep z (Look v.worker) (Seen (sight_of fields v.worker)) (Worker v) (Worker (looked_view v (sight_of fields v.worker)))
 
 -- a look of a worker that is not gone is the event
 pub looks : (z : Setting) (words : List ℕ) (views : List View) (place : ℕ) (v : WorkerView) → ShowsSome z words views → get_elem? views place ≡ some (Worker v) → v.state ≢ Gone → (r : Looked z (get_or words 0 0) v) × ShowsSome z (set words 0 (get_or words 0 0)) (set views place (Worker (looked_view v (sight_of r.fields v.worker))))

@@ -1,4 +1,4 @@
-/// What a board's rule is told once: the workers, and each page's count at the start and mark.
+/// What a board's rule is told once: how many workers there are, and each page's count at the start and mark.
 #[derive(Drop)]
 pub struct Key {
     pub workers: u32,
