@@ -1,11 +1,13 @@
-use Rattle.std.specs.Prelude.{ℕ}
+use Rattle.std.specs.Prelude.{◌≡◌, ℕ, List, Some, slice_get}
 use Rattle.atomic_table.specs.Seated.{TableId}
+use Rattle.like_core.specs.declared.setting.Setting.{Setting}
 use Rattle.like_core.specs.declared.view.WorkerView.{WorkerView}
 use Rattle.like_core.specs.declared.view.CoordView.{CoordView}
 use Rattle.like_board.specs.declared.board.Board.{Board}
 use Rattle.like_board.specs.declared.coord_seat.CoordSeat.{CoordSeat}
 use Rattle.like_board.specs.declared.worker_seat.WorkerSeat.{WorkerSeat}
 use Rattle.like_board.specs.declared.board_post.BoardPost.{BoardPost}
+use Rattle.like_core.specs.Views.{fresh}
 use Rattle.like_board.specs.Known.{worker_of, coord_of}
 
 -- which board it is
@@ -35,3 +37,8 @@ post_board post = seat_board post.seat
 -- what a post knows
 abbrev pub post_view : BoardPost → WorkerView
 post_view post = seat_view post.seat
+
+-- the seats of the workers of a board in order, none of which made a step yet
+abbrev pub AreFresh : TableId → Setting → List WorkerSeat → Type 0
+AreFresh board z seats =
+    (i : ℕ) (seat : WorkerSeat) → slice_get seats i ≡ Some seat → (seat_board seat ≡ board) × (seat_view seat ≡ fresh z i)

@@ -1,4 +1,4 @@
-ghost use Rattle.std.specs.Prelude.{◌≡◌, ℕ, ◌^◌, ◌<◌, ◌≤◌, All, length, Some, IfOk, slice_get};
+ghost use Rattle.std.specs.Prelude.{◌≡◌, ◌^◌, ◌<◌, ◌≤◌, All, length, IfOk};
 ghost use Rattle.like_core.specs.declared.setting.Setting.{Setting};
 
 use crate::coord_seat::CoordSeat;
@@ -18,9 +18,9 @@ pub struct Board {
 }
 
 impl Board {
-    ghost use Rattle.like_core.specs.Views.{fresh, fresh_coord};
+    ghost use Rattle.like_core.specs.Views.{fresh_coord};
     ghost use Rattle.like_board.specs.Rule.{first_word};
-    ghost use Rattle.like_board.specs.Seats.{board_id, coord_board, coord_view, seat_board, seat_view};
+    ghost use Rattle.like_board.specs.Seats.{board_id, coord_board, coord_view, AreFresh};
 
     /// A board in phase 0, running, with these counts by page, the coordinator's seat and each worker's seat in order.
     /// Pages that are marked in `split` are split in each odd phase.
@@ -38,8 +38,7 @@ impl Board {
         ensures coord_here { IfOk result (λ r. coord_board r.1 ≡ board_id r.0) }
         ensures coord { IfOk result (λ r. let z : Setting = record { workers = workers; counts = counts.now; marks = split.now } in coord_view r.1 ≡ record (fresh_coord z (first_word z)) { made = workers }) }
         ensures seats { IfOk result (λ r. length r.2.items ≡ workers) }
-        ensures seats_here { IfOk result (λ r. (i : ℕ) (seat : WorkerSeat) → slice_get r.2.items i ≡ Some seat → seat_board seat ≡ board_id r.0) }
-        ensures views { IfOk result (λ r. let z : Setting = record { workers = workers; counts = counts.now; marks = split.now } in (i : ℕ) (seat : WorkerSeat) → slice_get r.2.items i ≡ Some seat → seat_view seat ≡ fresh z i) }
+        ensures views { IfOk result (λ r. let z : Setting = record { workers = workers; counts = counts.now; marks = split.now } in AreFresh (board_id r.0) z r.2.items) }
     {
         let first = PhaseWord::first(workers);
         let mut words = Vec::with_capacity(alloc, counts.len() + 1)?;
@@ -53,21 +52,7 @@ impl Board {
         let (table, seat) = Table::of_words(alloc, words.as_slice(), &key)?;
         let board = Board { table };
         let mut coord = CoordSeat { seat, seen: first };
-        let seats = make_seats(alloc, &board, &mut coord, workers)?;
+        let seats = coord.make_seats(alloc, &board, workers)?;
         Ok((board, coord, seats))
     }
-}
-
-// The seats of all workers, in order.
-fn make_seats(
-    alloc: Global,
-    board: &Board,
-    coord: &mut CoordSeat,
-    workers: u32,
-) -> Result<Vec<WorkerSeat>, AllocError> {
-    let mut seats = Vec::with_capacity(alloc, workers as usize)?;
-    for number in 0..workers {
-        seats.push_reserved(coord.make_seat(board, number));
-    }
-    Ok(seats)
 }

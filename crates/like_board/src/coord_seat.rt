@@ -1,4 +1,4 @@
-ghost use Rattle.std.specs.Prelude.{◌≡◌, ◌<◌, ◌≤◌, ◌+◌, true, []};
+ghost use Rattle.std.specs.Prelude.{◌≡◌, ◌<◌, ◌≤◌, true, [], length, IfOk, OnOk};
 ghost use Rattle.std.specs.Option.{option_map};
 ghost use Rattle.like_core.specs.declared.view.View.TheVariants.{Coord};
 ghost use Rattle.like_core.specs.Word.{packed};
@@ -11,6 +11,7 @@ use crate::plays::{Announcing, MakesWorker, Releasing, Surveying};
 use crate::worker_seat::WorkerSeat;
 use atomic_table::Seat;
 use like_core::{CoordSight, PhaseWord, View};
+use std::alloc::{AllocError, Global};
 
 /// The coordinator's right to step on a board.
 #[derive(Drop)]
@@ -29,7 +30,7 @@ impl CoordSeat {
     ghost use Rattle.like_core.specs.Phase.{IsSplit};
     ghost use Rattle.like_core.specs.Views.{fresh, looked_coord, announced_coord, released_coord, made_coord, MayAnnounce, MayRelease};
     ghost use Rattle.like_core.specs.Shows.{IsStep};
-    ghost use Rattle.like_board.specs.Seats.{board_id, coord_board, coord_view, seat_board, seat_view};
+    ghost use Rattle.like_board.specs.Seats.{board_id, coord_board, coord_view, seat_board, seat_view, AreFresh};
 
     /// Looks at the phase word. Once it showed all workers in, it shows that until the release.
     pub fn look(&mut self, board: &Board) -> CoordSight
@@ -89,5 +90,28 @@ impl CoordSeat {
     {
         let seat = board.table.shared.split_seat::<MakesWorker>(&mut self.seat);
         WorkerSeat { seat, number }
+    }
+
+    // Makes the seats of all workers, in order.
+    pub(crate) fn make_seats(
+        &mut self,
+        alloc: Global,
+        board: &Board,
+        workers: u32,
+    ) -> Result<Vec<WorkerSeat>, AllocError>
+        requires here { coord_board self.old ≡ board_id board.now }
+        requires none { (coord_view self.old).made ≡ 0 }
+        requires all { workers ≡ (coord_view self.old).setting.workers }
+        requires few { workers ≤ 16 }
+        ensures board { OnOk result (coord_board self.new ≡ coord_board self.old) }
+        ensures view { OnOk result (coord_view self.new ≡ record (coord_view self.old) { made = workers }) }
+        ensures len { IfOk result (λ seats. length seats.items ≡ workers) }
+        ensures seats { IfOk result (λ seats. AreFresh (coord_board self.old) (coord_view self.old).setting seats.items) }
+    {
+        let mut seats = Vec::with_capacity(alloc, workers as usize)?;
+        for number in 0..workers {
+            seats.push_reserved(self.make_seat(board, number));
+        }
+        Ok(seats)
     }
 }
