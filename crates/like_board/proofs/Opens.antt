@@ -1,5 +1,5 @@
 -- What a new board shows.
-use Rattle.std.proofs.Common.{◌≡◌, ◌≢◌, ℕ, zero, suc, ◌+◌, ◌*◌, ◌%◌, ◌^◌, ◌<◌, ◌≤◌, nat_lt, Bool, true, false, cond, ◌⊎◌, inl, inr, List, [], ◌∷◌, length, get_or, subst, ap, sym, ◌∙◌, refl, arith, add-one, add-zero}
+use Rattle.std.proofs.Common.{◌≡◌, ◌≢◌, ℕ, zero, suc, ◌+◌, ◌*◌, ◌%◌, ◌^◌, ◌<◌, ◌≤◌, nat_lt, Bool, true, false, cond, ◌⊎◌, inl, inr, List, [], ◌∷◌, All, length, get_or, subst, ap, sym, ◌∙◌, refl, arith, add-one, add-zero}
 use Rattle.std.proofs.lemmas.Bool.{cond-true, cond-false, lt-ltb, le-ltb}
 use mathlib.Core.Option.{some, some-injective, some-ne-none}
 use lib.ListN.{get_elem?}
@@ -17,6 +17,8 @@ use Rattle.like_core.specs.Views.{fresh_coord}
 use Rattle.like_core.specs.Shows.{IsSetting, Shows, ShowsSome, Fits, FitsCoord}
 use Rattle.like_core.proofs.Reached.{start_reached}
 use Rattle.like_core.proofs.Masks.{mask_none}
+use Rattle.like_board.specs.declared.key.Key.{Key}
+use Rattle.like_board.specs.Rule.{setting_of, first_view}
 use Rattle.like_board.proofs.Moves.{counts_none}
 
 -- the fields at the start are those of the core's start
@@ -74,3 +76,20 @@ opens z setting =
       each_first : (z : Setting) (c : CoordView) → FitsCoord z (start z) c → (place : ℕ) (v : View) → get_elem? (Coord c ∷ []) place ≡ some v → Fits z (start z) v
       each_first z c fits zero v at = subst (Fits z (start z)) (some-injective (Coord c) v at) fits
       each_first z c fits (suc place) v at = absurd (some-ne-none v (sym at))
+
+-- a table that is made with these words starts by the rule
+pub opens_key : (key : Key) (counts : List ℕ) (marks : List Bool) (word : ℕ) (words : List ℕ) → key.counts.items ≡ counts → key.marks.items ≡ marks → word ≡ packed (first_fields key.workers) → words ≡ word ∷ counts → 1 ≤ key.workers → key.workers ≤ 16 → length marks ≡ length counts → length counts ≤ 1024 → All (λ n. n ≤ 10 ^ 18) counts → ShowsSome (setting_of key) words (first_view key ∷ [])
+opens_key key counts marks word words counts_are marks_are word_is words_are some_worker few_workers same_pages few_pages low =
+    let z : Setting = setting_of key in
+    let sized : length key.counts.items ≡ length counts = ap length counts_are in
+    let setting : IsSetting z =
+      record {
+        some_worker = some_worker;
+        few_workers = few_workers;
+        few_pages = subst (λ (n : ℕ). n ≤ 1024) (sym sized) few_pages;
+        marks = ap length marks_are ∙ (same_pages ∙ sym sized);
+        counts = subst (All (λ (n : ℕ). n ≤ 10 ^ 18)) (sym counts_are) low;
+      }
+    in
+    let same : words ≡ packed (first_fields key.workers) ∷ key.counts.items = words_are ∙ (λ m. word_is m ∷ sym counts_are m) in
+    subst (λ (ws : List ℕ). ShowsSome z ws (first_view key ∷ [])) (sym same) (opens z setting)
