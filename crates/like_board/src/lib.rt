@@ -8,6 +8,8 @@ mod coord_seat;
 mod key;
 mod plays;
 mod rule;
+#[cfg(test)]
+mod tests;
 mod worker_seat;
 
 pub use board::Board;
