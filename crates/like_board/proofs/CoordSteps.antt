@@ -1,15 +1,12 @@
 -- Each step of the coordinator is the event, and keeps what the board shows.
-use Rattle.std.proofs.Common.{◌≡◌, ◌≢◌, ℕ, zero, suc, ◌+◌, ◌*◌, ◌%◌, ◌^◌, ◌<◌, ◌≤◌, nat_lt, Bool, true, false, cond, ◌⊎◌, inl, inr, List, [], ◌∷◌, ◌++◌, length, get_or, set, Option, Some, None, IfSome, IsSomeAnd, subst, ap, sym, ◌∙◌, refl, arith}
-use Rattle.std.proofs.lemmas.Bool.{cond-true, cond-false, lt-ltb, le-ltb, ltb-true}
+use Rattle.std.proofs.Common.{◌≡◌, ℕ, ◌+◌, ◌%◌, ◌^◌, ◌<◌, ◌≤◌, nat_lt, true, false, List, get_or, set, Option, Some, None, IfSome, IsSomeAnd, subst, ap, sym, ◌∙◌, refl, arith}
+use Rattle.std.proofs.lemmas.Bool.{ltb-true}
 use mathlib.Core.Option.{some}
 use lib.ListN.{get_elem?}
-use Rattle.like_core.specs.declared.worker_state.WorkerState.{WorkerState}
-use Rattle.like_core.specs.declared.worker_state.WorkerState.TheVariants.{Runs, Answered, Gone}
 use Rattle.like_core.specs.declared.sight.Sight.{Sight}
 use Rattle.like_core.specs.declared.sight.CoordSight.{CoordSight}
-use Rattle.like_core.specs.declared.event.Event.{Event}
 use Rattle.like_core.specs.declared.event.Event.TheVariants.{CoordLook, Announce, Release}
-use Rattle.like_core.specs.declared.shown.Shown.TheVariants.{Coord as CoordShown, Done}
+use Rattle.like_core.specs.declared.shown.Shown.TheVariants.{Done}
 use Rattle.like_core.specs.declared.setting.Setting.{Setting}
 use Rattle.like_core.specs.declared.view.WorkerView.{WorkerView}
 use Rattle.like_core.specs.declared.view.CoordView.{CoordView}
@@ -23,7 +20,7 @@ use Rattle.like_core.specs.Table.{Permits}
 use Rattle.like_core.specs.State.{CoreState, numbers}
 use Rattle.like_core.specs.Sights.{coord_sight_of}
 use Rattle.like_core.specs.ShownWord.{shown_fields, shown_word}
-use Rattle.like_core.specs.Views.{ViewRuns, looked_coord, announced_coord, released_coord, saw_all_gone, MayAnnounce, MayRelease}
+use Rattle.like_core.specs.Views.{looked_coord, announced_coord, released_coord, saw_all_gone, MayAnnounce, MayRelease}
 use Rattle.like_core.specs.Shows.{Shows, ShowsSome, FitsWorker, FitsCoord, IsStep}
 use Rattle.like_core.proofs.Reached.{goes_on_by}
 use Rattle.like_core.proofs.InPhase.{reached_in_phase}
@@ -48,23 +45,22 @@ surveys z words views place c some_state at =
     let found : ℕ = get_or words 0 0 in
     let d : CoordView = looked_coord c found sight in
     let fits : FitsCoord z s d =
-      record {
-        setting = old.setting;
-        made = old.made;
-        unmade = old.unmade;
-        phase = old.phase;
-        ending = old.ending;
-        last = (sees.number, sees.ending);
-        stays = λ _. (sees, sh.word);
-        all_in = λ is. sees.all_in.0 is;
-        gone = old.gone;
-      }
+    record {
+      setting = old.setting;
+      made = old.made;
+      unmade = old.unmade;
+      phase = old.phase;
+      ending = old.ending;
+      last = (sees.number, sees.ending);
+      stays = λ _. (sees, sh.word);
+      all_in = λ is. sees.all_in.0 is;
+      gone = old.gone;
+    }
     in
     let after_it : Shows z s (set words 0 found) (set views place (Coord d)) =
-      leads z s words views place c d s.phase s.ending found sh at refl refl sh.word fits (λ v f. f)
+    leads z s words views place c d s.phase s.ending found sh at refl refl sh.word fits (λ v f. f)
     in
-    let permits : Permits (numbers z s) CoordLook = record { there = tt; suits = tt; leaves_last = tt; room = tt } in
-    (
+    let permits : Permits (numbers z s) CoordLook = record { there = tt; suits = tt; leaves_last = tt; room = tt } in (
       record {
         fields = f;
         lawful = lawful;
@@ -87,7 +83,7 @@ surveys z words views place c some_state at =
           shows_after = after_it;
         };
       },
-      record { state = s; reachable = some_state.reachable; shows = after_it }
+      record { state = s; reachable = some_state.reachable; shows = after_it },
     )
 
 -- what holds of the value of an option, in two ways
@@ -102,10 +98,10 @@ announces z words views place c some_state at may =
     let sh = some_state.shows in
     let old : FitsCoord z s c = sh.each place (Coord c) at in
     let last = some_and c.last
-      (λ (sight : CoordSight). (sight.ending ≡ false) × (nat_lt sight.number last_phase ≡ true))
-      (λ (sight : CoordSight). (sight.number ≡ s.phase) × (sight.ending ≡ s.ending))
-      (λ (sight : CoordSight). sight.all_in ≡ true → CoordSees (numbers z s) sight × (c.word ≡ shown_word z s))
-      may old.last old.stays
+    (λ (sight : CoordSight). (sight.ending ≡ false) × (nat_lt sight.number last_phase ≡ true))
+    (λ (sight : CoordSight). (sight.number ≡ s.phase) × (sight.ending ≡ s.ending))
+    (λ (sight : CoordSight). sight.all_in ≡ true → CoordSees (numbers z s) sight × (c.word ≡ shown_word z s))
+    may old.last old.stays
     in
     let running : s.ending ≡ false = sym last.3.1 ∙ last.2.0 in
     let below : s.phase < last_phase = subst (λ n. n < last_phase) last.3.0 (ltb-true last.0.number last_phase last.2.1) in
@@ -116,34 +112,33 @@ announces z words views place c some_state at may =
     let word : ℕ = (get_or words 0 0 + 1) % 2 ^ 64 in
     let d : CoordView = announced_coord c in
     let fits : FitsCoord z t d =
-      record {
-        setting = old.setting;
-        made = old.made;
-        unmade = old.unmade;
-        phase = old.phase;
-        ending = refl;
-        last = tt;
-        stays = tt;
-        all_in = old.all_in;
-        gone = old.gone;
-      }
+    record {
+      setting = old.setting;
+      made = old.made;
+      unmade = old.unmade;
+      phase = old.phase;
+      ending = refl;
+      last = tt;
+      stays = tt;
+      all_in = old.all_in;
+      gone = old.gone;
+    }
     in
     let workers : (v : WorkerView) → FitsWorker z s v → FitsWorker z t v =
-      λ v f. record {
-        setting = f.setting;
-        there = f.there;
-        state = f.state;
-        number = f.number;
-        ending = λ _ _. refl;
-      }
+    λ v f. record {
+      setting = f.setting;
+      there = f.there;
+      state = f.state;
+      number = f.number;
+      ending = λ _ _. refl;
+    }
     in
     let after_it : Shows z t (set words 0 word) (set views place (Coord d)) =
-      leads z s words views place c d s.phase true word sh at refl refl
-      (ap (λ n. (n + 1) % 2 ^ 64) sh.word ∙ word_announced z s lawful running)
-      fits
-      workers
-    in
-    (
+    leads z s words views place c d s.phase true word sh at refl refl
+    (ap (λ n. (n + 1) % 2 ^ 64) sh.word ∙ word_announced z s lawful running)
+    fits
+    workers
+    in (
       record {
         words = words;
         views = views;
@@ -157,7 +152,7 @@ announces z words views place c some_state at may =
         word = word;
         shows_after = after_it;
       },
-      record { state = t; reachable = reachable; shows = after_it }
+      record { state = t; reachable = reachable; shows = after_it },
     )
 
 -- a release is the event, where what is stored is made of the word that the last look saw
@@ -167,16 +162,16 @@ releases z words views place c seen some_state at may seen_lawful seen_is =
     let sh = some_state.shows in
     let old : FitsCoord z s c = sh.each place (Coord c) at in
     let last = some_and c.last
-      (λ (sight : CoordSight). (sight.ending ≡ true) × (sight.all_in ≡ true))
-      (λ (sight : CoordSight). (sight.number ≡ s.phase) × (sight.ending ≡ s.ending))
-      (λ (sight : CoordSight). sight.all_in ≡ true → CoordSees (numbers z s) sight × (c.word ≡ shown_word z s))
-      may old.last old.stays
+    (λ (sight : CoordSight). (sight.ending ≡ true) × (sight.all_in ≡ true))
+    (λ (sight : CoordSight). (sight.number ≡ s.phase) × (sight.ending ≡ s.ending))
+    (λ (sight : CoordSight). sight.all_in ≡ true → CoordSees (numbers z s) sight × (c.word ≡ shown_word z s))
+    may old.last old.stays
     in
     let now = last.4 last.2.1 in
     let ending : s.ending ≡ true = sym last.3.1 ∙ last.2.0 in
     let all_in : AllIn (numbers z s) = now.0.all_in.0 last.2.1 in
     let permits : Permits (numbers z s) Release =
-      record { there = tt; suits = (ending, all_in); leaves_last = tt; room = tt }
+    record { there = tt; suits = (ending, all_in); leaves_last = tt; room = tt }
     in
     let t : CoreState = phased s (s.phase + 1) false in
     let p = reached_in_phase z s some_state.reachable in
@@ -184,36 +179,35 @@ releases z words views place c seen some_state at may seen_lawful seen_is =
     let same : seen ≡ shown_fields z s = same_fields seen (shown_fields z s) seen_lawful lawful (seen_is ∙ now.1) in
     let d : CoordView = released_coord c in
     let fits : FitsCoord z t d =
-      record {
-        setting = old.setting;
-        made = old.made;
-        unmade = old.unmade;
-        phase = ap (λ n. n + 1) old.phase;
-        ending = refl;
-        last = tt;
-        stays = tt;
-        all_in = λ is. absurd (cc);
-        gone = λ _ all. ap saw_all_gone last.1 ∙ now.0.all_gone.1 all;
-      }
+    record {
+      setting = old.setting;
+      made = old.made;
+      unmade = old.unmade;
+      phase = ap (λ n. n + 1) old.phase;
+      ending = refl;
+      last = tt;
+      stays = tt;
+      all_in = λ is. absurd (cc);
+      gone = λ _ all. ap saw_all_gone last.1 ∙ now.0.all_gone.1 all;
+    }
     in
     let workers : (v : WorkerView) → FitsWorker z s v → FitsWorker z t v =
-      λ v f. record {
-        setting = f.setting;
-        there = f.there;
-        state = f.state;
-        number = if_some v.last (λ (sight : Sight). sight.number ≤ s.phase) (λ (sight : Sight). sight.number ≤ s.phase + 1) (λ sight below. omega arith) f.number;
-        ending = λ runs _.
+    λ v f. record {
+      setting = f.setting;
+      there = f.there;
+      state = f.state;
+      number = if_some v.last (λ (sight : Sight). sight.number ≤ s.phase) (λ (sight : Sight). sight.number ≤ s.phase + 1) (λ sight below. omega arith) f.number;
+      ending = λ runs _.
           let is = running_is (λ _. Unit {0}) v.state runs in
           absurd (subst (IsIn s.phase) (f.state ∙ is.1) (all_in v.worker f.there));
-      }
+    }
     in
     let after_it : Shows z t (set words 0 (packed (released seen))) (set views place (Coord d)) =
-      leads z s words views place c d (s.phase + 1) false (packed (released seen)) sh at refl refl
-      (ap (λ f. packed (released f)) same ∙ ap packed (sym (fields_released z s ending all_in)))
-      fits
-      workers
-    in
-    (
+    leads z s words views place c d (s.phase + 1) false (packed (released seen)) sh at refl refl
+    (ap (λ f. packed (released f)) same ∙ ap packed (sym (fields_released z s ending all_in)))
+    fits
+    workers
+    in (
       record {
         words = words;
         views = views;
@@ -227,5 +221,5 @@ releases z words views place c seen some_state at may seen_lawful seen_is =
         word = packed (released seen);
         shows_after = after_it;
       },
-      record { state = t; reachable = goes_on_by z s Release some_state.reachable permits; shows = after_it }
+      record { state = t; reachable = goes_on_by z s Release some_state.reachable permits; shows = after_it },
     )

@@ -1,21 +1,18 @@
 -- A step of the coordinator keeps what the board shows.
-use Rattle.std.proofs.Common.{◌≡◌, ◌≢◌, ℕ, zero, suc, ◌+◌, ◌<◌, ◌≤◌, ◌==◌, nat_lt, Bool, true, false, cond, ◌⊎◌, inl, inr, List, [], ◌∷◌, ◌++◌, length, get_or, set, count_by, Option, Some, None, IfSome, subst, ap, sym, ◌∙◌, refl, eq-eqb, arith}
-use Rattle.std.specs.List.{sum_by}
+use Rattle.std.proofs.Common.{◌≡◌, ◌≢◌, ℕ, ◌+◌, ◌<◌, ◌==◌, nat_lt, Bool, cond, inl, inr, List, [], ◌∷◌, ◌++◌, set, count_by, subst, ap, sym, ◌∙◌, refl, eq-eqb, arith}
 use Rattle.std.proofs.Math.ListN.{length-set}
 use Rattle.std.proofs.lemmas.List.{get_or-set_same, get_or-set_other}
 use Rattle.std.proofs.lemmas.List.Sums.{sum_by_push}
-use Rattle.std.proofs.lemmas.Bool.{cases_eq, cases_lt, le-ltb, lt-ltb, cond-true, cond-false, ne_eqb}
-use mathlib.Core.Option.{some, some-injective}
+use Rattle.std.proofs.lemmas.Bool.{cases_eq, cases_lt, le-ltb, lt-ltb, ne_eqb}
+use mathlib.Core.Option.{some}
 use lib.ListN.{get_elem?}
-use Rattle.atomic_table.proofs.Lists.{at_set, at_snoc, at_longer, set_here, set_else}
-use Rattle.like_core.specs.declared.worker_state.WorkerState.{WorkerState}
-use Rattle.like_core.specs.declared.worker_state.WorkerState.TheVariants.{Runs, Answered, Gone}
+use Rattle.atomic_table.proofs.Lists.{at_set, at_snoc, at_longer, set_here}
 use Rattle.like_core.specs.declared.setting.Setting.{Setting}
 use Rattle.like_core.specs.declared.view.WorkerView.{WorkerView}
 use Rattle.like_core.specs.declared.view.CoordView.{CoordView}
 use Rattle.like_core.specs.declared.view.View.{View}
 use Rattle.like_core.specs.declared.view.View.TheVariants.{Coord, Worker, Spent}
-use Rattle.like_core.specs.State.{CoreState, numbers}
+use Rattle.like_core.specs.State.{CoreState}
 use Rattle.like_core.specs.ShownWord.{shown_word}
 use Rattle.like_core.specs.Views.{fresh, made_coord, seats_of}
 use Rattle.like_core.specs.Shows.{Shows, Fits, FitsWorker, FitsCoord}
@@ -34,16 +31,16 @@ leads z s words views place c d phase ending word sh at made joined word_is fits
     let wide = sh.width in
     let is = same_coord z s words views place c sh at in
     let others : (j : ℕ) (u : View) → j ≢ place → get_elem? views j ≡ some u → Fits z s u → Fits z t u =
-      λ j u other found f.
-      let P : View → Type 0 = λ x. ((e : CoordView) → x ≡ Coord e → ⊥) → Fits z s x → Fits z t x in
-      let by_view : P u =
-        elim u as P [
-          | Coord e ↦ λ no_coord _. absurd (no_coord e refl)
-          | Worker v ↦ λ _ g. workers v g
-          | Spent ↦ λ _ _. tt
-        ]
-      in
-      by_view (λ e same. other (sh.only j e (found ∙ ap some same) ∙ sym is.0)) f
+    λ j u other found f.
+    let P : View → Type 0 = λ x. ((e : CoordView) → x ≡ Coord e → ⊥) → Fits z s x → Fits z t x in
+    let by_view : P u =
+    elim u as P [
+      | Coord e ↦ λ no_coord _. absurd (no_coord e refl)
+      | Worker v ↦ λ _ g. workers v g
+      | Spent ↦ λ _ _. tt
+    ]
+    in
+    by_view (λ e same. other (sh.only j e (found ∙ ap some same) ∙ sym is.0)) f
     in
     record {
       setting = sh.setting;
@@ -62,8 +59,8 @@ leads z s words views place c d phase ending word sh at made joined word_is fits
         | inr there ↦ others j u there.0 there.1 (sh.each j u there.1)
       ];
       once = λ i.
-        sum_set (seats_of i) views place (Coord c) (Coord d) at (ap (count_by (λ (w : WorkerView). w.worker == i)) joined) ∙
-        (sh.once i ∙ ap (λ n. cond (nat_lt i n) 1 0) (ap (λ (e : CoordView). e.made) is.1 ∙ sym made));
+          sum_set (seats_of i) views place (Coord c) (Coord d) at (ap (count_by (λ (w : WorkerView). w.worker == i)) joined) ∙
+          (sh.once i ∙ ap (λ n. cond (nat_lt i n) 1 0) (ap (λ (e : CoordView). e.made) is.1 ∙ sym made));
     }
 
 one_more : (i n : ℕ) → cond (nat_lt i n) 1 0 + cond (n == i) 1 0 ≡ cond (nat_lt i (n + 1)) 1 0
@@ -96,26 +93,26 @@ splits z s words views place c sh at room =
     let new : WorkerView = fresh z c.made in
     let old : FitsCoord z s c = sh.each place (Coord c) at in
     let fits : FitsCoord z s d =
-      record {
-        setting = old.setting;
-        made = omega arith;
-        unmade = λ i past below. old.unmade i (omega arith) below;
-        phase = old.phase;
-        ending = old.ending;
-        last = old.last;
-        stays = old.stays;
-        all_in = old.all_in;
-        gone = old.gone;
-      }
+    record {
+      setting = old.setting;
+      made = omega arith;
+      unmade = λ i past below. old.unmade i (omega arith) below;
+      phase = old.phase;
+      ending = old.ending;
+      last = old.last;
+      stays = old.stays;
+      all_in = old.all_in;
+      gone = old.gone;
+    }
     in
     let fits_new : FitsWorker z s new =
-      record {
-        setting = refl;
-        there = room;
-        state = old.unmade c.made (omega arith) room;
-        number = tt;
-        ending = λ _ saw. absurd (saw);
-      }
+    record {
+      setting = refl;
+      there = room;
+      state = old.unmade c.made (omega arith) room;
+      number = tt;
+      ending = λ _ saw. absurd (saw);
+    }
     in
     record {
       setting = sh.setting;
@@ -125,7 +122,7 @@ splits z s words views place c sh at room =
       merged = sh.merged;
       coord = d;
       first = at_longer changed (Worker new ∷ []) 0 (Coord d)
-        (ap (get_elem? changed) (sym is.0) ∙ set_here views place (Coord d) (within views place (Coord c) at));
+          (ap (get_elem? changed) (sym is.0) ∙ set_here views place (Coord d) (within views place (Coord c) at));
       only = λ j e found. elim (at_snoc changed (Worker new) (Coord e) j found) [
         | inl before ↦ elim (at_set views place j (Coord d) (Coord e) before) [
           | inl here ↦ here.0 ∙ is.0
@@ -141,9 +138,9 @@ splits z s words views place c sh at room =
         | inr last ↦ subst (Fits z s) last fits_new
       ];
       once = λ i.
-        sum_by_push (seats_of i) changed (Worker new) ∙
-        (ap (λ n. n + cond (c.made == i) 1 0)
+          sum_by_push (seats_of i) changed (Worker new) ∙
+          (ap (λ n. n + cond (c.made == i) 1 0)
           (sum_set (seats_of i) views place (Coord c) (Coord d) at refl ∙
-            (sh.once i ∙ ap (λ (e : CoordView). cond (nat_lt i e.made) 1 0) is.1)) ∙
+          (sh.once i ∙ ap (λ (e : CoordView). cond (nat_lt i e.made) 1 0) is.1)) ∙
           one_more i c.made);
     }

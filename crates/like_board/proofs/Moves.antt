@@ -1,14 +1,13 @@
 -- A step of one worker keeps what the board shows.
-use Rattle.std.proofs.Common.{◌≡◌, ◌≢◌, ℕ, zero, suc, ◌+◌, ◌<◌, ◌≤◌, ◌==◌, nat_lt, Bool, true, false, cond, ◌⊎◌, inl, inr, List, [], length, get_or, set, Option, Some, None, IfSome, subst, ap, sym, ◌∙◌, refl, eq-eqb, arith}
-use Rattle.std.specs.List.{sum_by}
+use Rattle.std.proofs.Common.{◌≡◌, ◌≢◌, ℕ, ◌+◌, ◌<◌, ◌≤◌, ◌==◌, nat_lt, Bool, true, false, cond, inl, inr, List, set, Option, Some, None, IfSome, subst, ap, sym, ◌∙◌, refl, eq-eqb, arith}
 use Rattle.std.proofs.Math.ListN.{length-set}
 use Rattle.std.proofs.lemmas.List.{get_or-set_same, get_or-set_other}
 use Rattle.std.proofs.lemmas.Bool.{cases_eq, cases_lt, le-ltb, cond-true, cond-false}
 use mathlib.Core.Option.{some, some-injective}
 use lib.ListN.{get_elem?}
-use Rattle.atomic_table.proofs.Lists.{at_set, set_here, set_else}
+use Rattle.atomic_table.proofs.Lists.{at_set, set_else}
 use Rattle.like_core.specs.declared.worker_state.WorkerState.{WorkerState}
-use Rattle.like_core.specs.declared.worker_state.WorkerState.TheVariants.{Runs, Answered, Gone}
+use Rattle.like_core.specs.declared.worker_state.WorkerState.TheVariants.{Gone}
 use Rattle.like_core.specs.declared.sight.CoordSight.{CoordSight}
 use Rattle.like_core.specs.declared.setting.Setting.{Setting}
 use Rattle.like_core.specs.declared.view.WorkerView.{WorkerView}
@@ -18,14 +17,14 @@ use Rattle.like_core.specs.declared.view.View.TheVariants.{Coord, Worker, Spent}
 use Rattle.like_core.specs.Functions.{update}
 use Rattle.like_core.specs.Phase.{IsSplit}
 use Rattle.like_core.specs.WorkerState.{IsIn}
-use Rattle.like_core.specs.Numbers.{AllIn, AllGone, CoordSees}
+use Rattle.like_core.specs.Numbers.{AllIn, CoordSees}
 use Rattle.like_core.specs.State.{CoreState, numbers}
 use Rattle.like_core.specs.ShownWord.{shown_word}
 use Rattle.like_core.specs.Views.{seats_of}
 use Rattle.like_core.specs.Shows.{Shows, Fits, FitsWorker, FitsCoord}
 use Rattle.like_core.proofs.Updates.{update-same, update-other, update_cases}
 use Rattle.like_core.proofs.ShownEvents.{moved}
-use Rattle.like_board.proofs.ViewLists.{within, sum_part, sum_two, sum_set}
+use Rattle.like_board.proofs.ViewLists.{sum_part, sum_two, sum_set}
 
 -- what holds of the value of an option may be exchanged for what follows from it
 pub if_some : {A : Type 0} (o : Option A) (P Q : A → Type 0) → ((a : A) → P a → Q a) → IfSome o P → IfSome o Q
@@ -52,24 +51,24 @@ fits_coord_moved z s c i state there has_seat stays gone f =
       ending = f.ending;
       last = f.last;
       stays = if_some c.last
-        (λ (sight : CoordSight). sight.all_in ≡ true → CoordSees (numbers z s) sight × (c.word ≡ shown_word z s))
-        (λ (sight : CoordSight). sight.all_in ≡ true → CoordSees (numbers z t) sight × (c.word ≡ shown_word z t))
-        (λ sight before all_in.
+          (λ (sight : CoordSight). sight.all_in ≡ true → CoordSees (numbers z s) sight × (c.word ≡ shown_word z s))
+          (λ (sight : CoordSight). sight.all_in ≡ true → CoordSees (numbers z t) sight × (c.word ≡ shown_word z t))
+          (λ sight before all_in.
           let now = before all_in in
           let P : CoreState → Type 0 = λ u. CoordSees (numbers z u) sight × (c.word ≡ shown_word z u) in
           subst P (sym (same (now.0.all_in.0 all_in))) now)
-        f.stays;
+          f.stays;
       all_in = λ is.
-        let P : CoreState → Type 0 = λ u. AllIn (numbers z u) in
-        subst P (sym (same (f.all_in is))) (f.all_in is);
+          let P : CoreState → Type 0 = λ u. AllIn (numbers z u) in
+          subst P (sym (same (f.all_in is))) (f.all_in is);
       gone = λ split all.
-        f.gone split
-        (λ j below. elim (cases_eq j i) [
-          | inl here ↦
-              let now : state ≡ Gone = sym (update-same s.state i state) ∙ all i there in
-              ap s.state here ∙ gone split now
-          | inr other ↦ sym (update-other s.state i state j other) ∙ all j below
-        ]);
+          f.gone split
+          (λ j below. elim (cases_eq j i) [
+            | inl here ↦
+                let now : state ≡ Gone = sym (update-same s.state i state) ∙ all i there in
+                ap s.state here ∙ gone split now
+            | inr other ↦ sym (update-other s.state i state j other) ∙ all j below
+          ]);
     }
 
 -- another seat's view keeps fitting while a worker moves
@@ -130,10 +129,10 @@ worker_moves z s words views place v w state word sh at number word_is fits stay
     let seated = has_seat z s words views place v sh at in
     let old : FitsWorker z s v = sh.each place (Worker v) at in
     let not_first : place ≢ 0 = λ zeroth.
-      let here : get_elem? views 0 ≡ some (Worker v) = ap (get_elem? views) (sym zeroth) ∙ at in
-      let same : some (Coord sh.coord) ≡ some (Worker v) = sym sh.first ∙ here in
-      let inner : Coord sh.coord ≡ Worker v = some-injective (Coord sh.coord) (Worker v) same in
-      cc
+    let here : get_elem? views 0 ≡ some (Worker v) = ap (get_elem? views) (sym zeroth) ∙ at in
+    let same : some (Coord sh.coord) ≡ some (Worker v) = sym sh.first ∙ here in
+    let inner : Coord sh.coord ≡ Worker v = some-injective (Coord sh.coord) (Worker v) same in
+    cc
     in
     record {
       setting = sh.setting;
@@ -159,5 +158,5 @@ worker_moves z s words views place v w state word sh at number word_is fits stay
             (sh.each j u there.1)
       ];
       once = λ i.
-        sum_set (seats_of i) views place (Worker v) (Worker w) at (ap (λ k. cond (k == i) 1 0) number) ∙ sh.once i;
+          sum_set (seats_of i) views place (Worker v) (Worker w) at (ap (λ k. cond (k == i) 1 0) number) ∙ sh.once i;
     }

@@ -1,5 +1,5 @@
 -- Each step of a worker is the event, and keeps what the board shows.
-use Rattle.std.proofs.Common.{◌≡◌, ◌≢◌, ℕ, zero, suc, ◌+◌, ◌*◌, ◌^◌, ◌<◌, ◌≤◌, nat_lt, bit_or, Bool, true, false, cond, ◌⊎◌, inl, inr, IsTrue, ◌↔◌, MatchBool, List, [], length, get_or, set, Option, Some, None, IfSome, IsSomeAnd, subst, ap, sym, ◌∙◌, refl, arith}
+use Rattle.std.proofs.Common.{◌≡◌, ◌≢◌, ℕ, ◌+◌, ◌^◌, nat_lt, bit_or, Bool, true, false, cond, ◌⊎◌, inl, inr, IsTrue, ◌↔◌, MatchBool, List, get_or, set, subst, ap, sym, ◌∙◌, refl, arith}
 use Rattle.std.proofs.lemmas.Bool.{cond-true, cond-false, lt-ltb, le-ltb}
 use mathlib.Core.Option.{some}
 use lib.ListN.{get_elem?}
@@ -7,22 +7,21 @@ use Rattle.like_core.specs.declared.worker_state.WorkerState.{WorkerState}
 use Rattle.like_core.specs.declared.worker_state.WorkerState.TheVariants.{Runs, Answered, Gone}
 use Rattle.like_core.specs.declared.sight.Sight.{Sight}
 use Rattle.like_core.specs.declared.event.Event.TheVariants.{Look, Acknowledge, Report, Retire}
-use Rattle.like_core.specs.declared.shown.Shown.TheVariants.{Seen, Done}
+use Rattle.like_core.specs.declared.shown.Shown.TheVariants.{Done}
 use Rattle.like_core.specs.declared.setting.Setting.{Setting}
 use Rattle.like_core.specs.declared.view.WorkerView.{WorkerView}
 use Rattle.like_core.specs.declared.view.View.{View}
 use Rattle.like_core.specs.declared.view.View.TheVariants.{Worker}
-use Rattle.like_core.specs.Functions.{update, times}
+use Rattle.like_core.specs.Functions.{times}
 use Rattle.like_core.specs.Phase.{IsJoined, IsSplit}
 use Rattle.like_core.specs.WorkerState.{IsIn, looked}
-use Rattle.like_core.specs.Word.{Fields, packed, IsLawful}
+use Rattle.like_core.specs.Word.{Fields, packed}
 use Rattle.like_core.specs.Numbers.{Sees}
 use Rattle.like_core.specs.Table.{Permits}
 use Rattle.like_core.specs.State.{CoreState, numbers}
 use Rattle.like_core.specs.Reachable.{Reachable}
-use Rattle.like_core.specs.Exclusive.{IsInPhase}
 use Rattle.like_core.specs.Sights.{sight_of}
-use Rattle.like_core.specs.ShownWord.{shown_fields, shown_word}
+use Rattle.like_core.specs.ShownWord.{shown_fields}
 use Rattle.like_core.specs.Views.{Running, ViewRuns, ViewRunsJoined, ViewRunsSplit, ViewSawEnding, CanSee, state_after, phase_in, looked_view, answered_view, retired_view}
 use Rattle.like_core.specs.Shows.{Shows, ShowsSome, FitsWorker, IsStep}
 use Rattle.like_core.proofs.Updates.{update-same}
@@ -64,16 +63,16 @@ looks_at phase (Answered j) sight runs answered there number waits = elim (answe
       record {
         can = subst (λ (b : Bool). MatchBool b (sight.number ≡ j) (sight.number ≡ j + 1)) (sym is) (number ∙ sym now);
         goes =
-          cond-true sight.waits (Answered j) (Runs (j + 1)) is ∙
-          sym (cond-false (nat_lt j phase) (Runs phase) (Answered j) (le-ltb j phase (omega arith)));
+            cond-true sight.waits (Answered j) (Runs (j + 1)) is ∙
+            sym (cond-false (nat_lt j phase) (Runs phase) (Answered j) (le-ltb j phase (omega arith)));
       }
   | inr before ↦
       let not : sight.waits ≡ false = not_true sight.waits (λ is. let e = waits.0 is in let same : j ≡ phase = cc in omega arith) in
       record {
         can = subst (λ (b : Bool). MatchBool b (sight.number ≡ j) (sight.number ≡ j + 1)) (sym not) (number ∙ sym before);
         goes =
-          cond-false sight.waits (Answered j) (Runs (j + 1)) not ∙
-          (ap Runs before ∙ sym (cond-true (nat_lt j phase) (Runs phase) (Answered j) (lt-ltb j phase (omega arith))));
+            cond-false sight.waits (Answered j) (Runs (j + 1)) not ∙
+            (ap Runs before ∙ sym (cond-true (nat_lt j phase) (Runs phase) (Answered j) (lt-ltb j phase (omega arith))));
       }
 ]
 looks_at phase Gone sight runs answered there number waits = absurd (there refl)
@@ -112,25 +111,24 @@ looks z words views place v some_state at there =
     let w : WorkerView = looked_view v sight in
     let found : ℕ = get_or words 0 0 in
     let fits : FitsWorker z t w =
-      record {
-        setting = old.setting;
-        there = old.there;
-        state = update-same s.state i state ∙ (sym la.goes ∙ ap (λ st. state_after st sight) old.state);
-        number = (let e : sight.number ≡ s.phase = sees.number in omega arith);
-        ending = λ _ saw. sym sees.ending ∙ saw;
-      }
+    record {
+      setting = old.setting;
+      there = old.there;
+      state = update-same s.state i state ∙ (sym la.goes ∙ ap (λ st. state_after st sight) old.state);
+      number = (let e : sight.number ≡ s.phase = sees.number in omega arith);
+      ending = λ _ saw. sym sees.ending ∙ saw;
+    }
     in
     let shows_after : Shows z t (set words 0 found) (set views place (Worker w)) =
-      worker_moves z s words views place v w state found sh at refl
-      (sh.word ∙ ap packed (sym (fields_looked z s i)))
-      fits
-      (looked_in s.phase (s.state i))
-      (λ _. looked_gone s.phase (s.state i))
+    worker_moves z s words views place v w state found sh at refl
+    (sh.word ∙ ap packed (sym (fields_looked z s i)))
+    fits
+    (looked_in s.phase (s.state i))
+    (λ _. looked_gone s.phase (s.state i))
     in
     let permits : Permits (numbers z s) (Look i) =
-      record { there = old.there; suits = not_gone; leaves_last = tt; room = tt }
-    in
-    (
+    record { there = old.there; suits = not_gone; leaves_last = tt; room = tt }
+    in (
       record {
         fields = f;
         lawful = lawful;
@@ -151,7 +149,7 @@ looks z words views place v some_state at there =
           shows_after = shows_after;
         };
       },
-      record { state = t; reachable = goes_on_by z s (Look i) some_state.reachable permits; shows = shows_after }
+      record { state = t; reachable = goes_on_by z s (Look i) some_state.reachable permits; shows = shows_after },
     )
 
 -- what a worker that runs the present phase makes of the board by its answer
@@ -164,13 +162,13 @@ answers z s words views place v phase reached sh at runs present =
     let here : s.state i ≡ Runs phase = old.state ∙ runs in
     let state : WorkerState = Answered s.phase in
     let fits : FitsWorker z (moved s i state) (answered_view v) =
-      record {
-        setting = old.setting;
-        there = old.there;
-        state = update-same s.state i state ∙ ap Answered (sym present ∙ sym (ap phase_in runs));
-        number = old.number;
-        ending = λ running _. absurd running;
-      }
+    record {
+      setting = old.setting;
+      there = old.there;
+      state = update-same s.state i state ∙ ap Answered (sym present ∙ sym (ap phase_in runs));
+      number = old.number;
+      ending = λ running _. absurd running;
+    }
     in
     worker_moves z s words views place v (answered_view v) state (bit_or (get_or words 0 0) (2 ^ (8 + i))) sh at refl
     (ap (λ n. bit_or n (2 ^ (8 + i))) sh.word ∙ word_answered z s i phase lawful old.there here)
@@ -190,14 +188,13 @@ acknowledges z words views place v some_state at joined saw =
     let after_it = answers z s words views place v runs.0 some_state.reachable sh at runs.1 present in
     let ending : s.ending ≡ true = old.ending (runs_view v runs.0 runs.1) saw in
     let permits : Permits (numbers z s) (Acknowledge v.worker) =
-      record {
-        there = old.there;
-        suits = (here ∙ ap Runs present, subst IsJoined present runs.2, ending);
-        leaves_last = tt;
-        room = tt;
-      }
-    in
-    (
+    record {
+      there = old.there;
+      suits = (here ∙ ap Runs present, subst IsJoined present runs.2, ending);
+      leaves_last = tt;
+      room = tt;
+    }
+    in (
       record {
         words = words;
         views = views;
@@ -215,7 +212,7 @@ acknowledges z words views place v some_state at joined saw =
         state = moved s v.worker (Answered s.phase);
         reachable = goes_on_by z s (Acknowledge v.worker) some_state.reachable permits;
         shows = after_it;
-      }
+      },
     )
 
 -- a report is the event
@@ -230,14 +227,13 @@ reports z words views place v some_state at split saw =
     let after_it = answers z s words views place v runs.0 some_state.reachable sh at runs.1 present in
     let ending : s.ending ≡ true = old.ending (runs_view v runs.0 runs.1) saw in
     let permits : Permits (numbers z s) (Report v.worker) =
-      record {
-        there = old.there;
-        suits = (here ∙ ap Runs present, subst IsSplit present runs.2, ending, λ page. ap (times page) (sh.merged v.worker));
-        leaves_last = tt;
-        room = tt;
-      }
-    in
-    (
+    record {
+      there = old.there;
+      suits = (here ∙ ap Runs present, subst IsSplit present runs.2, ending, λ page. ap (times page) (sh.merged v.worker));
+      leaves_last = tt;
+      room = tt;
+    }
+    in (
       record {
         words = words;
         views = views;
@@ -255,7 +251,7 @@ reports z words views place v some_state at split saw =
         state = moved s v.worker (Answered s.phase);
         reachable = goes_on_by z s (Report v.worker) some_state.reachable permits;
         shows = after_it;
-      }
+      },
     )
 
 -- a retirement is the event
@@ -272,25 +268,24 @@ retires z words views place v some_state at joined =
     let present : runs.0 ≡ s.phase = p.runs i runs.0 here in
     let even : IsJoined s.phase = subst IsJoined present runs.2 in
     let fits : FitsWorker z (moved s i Gone) (retired_view v) =
-      record {
-        setting = old.setting;
-        there = old.there;
-        state = update-same s.state i Gone;
-        number = old.number;
-        ending = λ running _. absurd running;
-      }
+    record {
+      setting = old.setting;
+      there = old.there;
+      state = update-same s.state i Gone;
+      number = old.number;
+      ending = λ running _. absurd running;
+    }
     in
     let after_it : Shows z (moved s i Gone) (set words 0 (bit_or (get_or words 0 0) (2 ^ (24 + i)))) (set views place (Worker (retired_view v))) =
-      worker_moves z s words views place v (retired_view v) Gone (bit_or (get_or words 0 0) (2 ^ (24 + i))) sh at refl
-      (ap (λ n. bit_or n (2 ^ (24 + i))) sh.word ∙ word_retired z s i runs.0 lawful old.there here)
-      fits
-      (λ is. absurd (subst (IsIn s.phase) here is))
-      (λ odd _. absurd (omega arith))
+    worker_moves z s words views place v (retired_view v) Gone (bit_or (get_or words 0 0) (2 ^ (24 + i))) sh at refl
+    (ap (λ n. bit_or n (2 ^ (24 + i))) sh.word ∙ word_retired z s i runs.0 lawful old.there here)
+    fits
+    (λ is. absurd (subst (IsIn s.phase) here is))
+    (λ odd _. absurd (omega arith))
     in
     let permits : Permits (numbers z s) (Retire i) =
-      record { there = old.there; suits = (here ∙ ap Runs present, even); leaves_last = tt; room = tt }
-    in
-    (
+    record { there = old.there; suits = (here ∙ ap Runs present, even); leaves_last = tt; room = tt }
+    in (
       record {
         words = words;
         views = views;
@@ -308,5 +303,5 @@ retires z words views place v some_state at joined =
         state = moved s i Gone;
         reachable = goes_on_by z s (Retire i) some_state.reachable permits;
         shows = after_it;
-      }
+      },
     )

@@ -1,11 +1,11 @@
-use Rattle.std.proofs.Common.{◌≡◌, ℕ, ◌+◌, ◌<◌, ◌⊎◌, inl, inr, subst, sym, ap, ◌∙◌, refl, arith}
+use Rattle.std.proofs.Common.{◌≡◌, ℕ, ◌<◌, inl, inr, subst, sym, arith}
 use Rattle.std.proofs.lemmas.Bool.{cases_eq}
 use Rattle.like_core.specs.declared.kind.Kind.{Kind}
 use Rattle.like_core.specs.declared.kind.Kind.TheVariants.{JoinedRunning, JoinedEnding, SplitRunning, SplitEnding}
 use Rattle.like_core.specs.declared.phase_word.PhaseWord.{PhaseWord}
 use Rattle.like_core.specs.Kind.{code_of}
 use Rattle.like_core.specs.PhaseWord.{fields_of}
-use Rattle.like_core.specs.Word.{Fields, packed, IsLawful}
+use Rattle.like_core.specs.Word.{Fields, IsLawful}
 
 -- two bits stand for a kind
 kind_of : (n : ℕ) → n < 4 → (k : Kind) × (code_of k ≡ n)
@@ -24,8 +24,7 @@ kind_of n below = elim (cases_eq n 0) [
 pub word_with : (f : Fields) → IsLawful f → (p : PhaseWord) × (fields_of p ≡ f)
 word_with f lawful =
     let k = kind_of f.kind lawful.kind in
-    let same : (record f { kind = code_of k.0 }) ≡ f = λ m. record f { kind = k.1 m } in
-    (
+    let same : (record f { kind = code_of k.0 }) ≡ f = λ m. record f { kind = k.1 m } in (
       record {
         kind = k.0;
         workers = f.workers;
@@ -34,5 +33,5 @@ word_with f lawful =
         number = f.number;
         lawful = subst IsLawful (sym same) lawful;
       },
-      same
+      same,
     )

@@ -1,8 +1,8 @@
-use Rattle.std.proofs.Common.{◌≡◌, ◌≢◌, ℕ, zero, suc, ◌+◌, ◌-◌, ◌*◌, ◌^◌, ◌<◌, ◌≤◌, ◌==◌, bit_and, Bool, true, false, ◌||◌, inl, inr, sym, subst, ap, ◌∙◌, refl, arith, pow-suc, zero-mul, one-mul}
+use Rattle.std.proofs.Common.{◌≡◌, ◌≢◌, ℕ, zero, suc, ◌+◌, ◌-◌, ◌*◌, ◌^◌, ◌<◌, ◌≤◌, bit_and, Bool, true, false, ◌||◌, inl, inr, sym, subst, ap, ◌∙◌, refl, arith, pow-suc, zero-mul, one-mul}
 use Rattle.std.specs.Int.{bit_at}
 use Rattle.std.proofs.lemmas.Nat.{and_comm}
 use Rattle.std.proofs.lemmas.Nat.Bits.{bit_at_above, bit_at_cat_high, bit_at_cat_low, bit_at_lowest}
-use Rattle.std.proofs.lemmas.Bool.{cases_lt, cases_eq}
+use Rattle.std.proofs.lemmas.Bool.{cases_eq}
 use Rattle.like_core.specs.ShownWord.{weight, mask}
 use Rattle.like_core.proofs.WordSteps.{more_bits-apart}
 
@@ -90,11 +90,11 @@ mask_apart f g (suc n) apart =
     let P : Bool → Bool → Type 0 = λ b c. bit_and (mask f n + weight b * 2 ^ n) (mask g n + weight c * 2 ^ n) ≡ 0 in
     let Q : Bool → Type 0 = λ b. (b ≡ true → g n ≡ false) → P b (g n) in
     let by_f : Q (f n) =
-      elim (f n) as Q [
-        | true ↦ λ clash.
+    elim (f n) as Q [
+      | true ↦ λ clash.
           subst (P true) (sym (clash refl))
           ((λ m. bit_and (one_more (mask f n) m) (no_more (mask g n) m)) ∙ more_bits-apart (mask f n) (mask g n) n rest f_past g_past)
-        | false ↦ λ _.
+      | false ↦ λ _.
           let R : Bool → Type 0 = P false in
           elim (g n) as R [
             | true ↦
@@ -102,7 +102,7 @@ mask_apart f g (suc n) apart =
                 (and_comm (mask f n) (mask g n + 2 ^ n) ∙ more_bits-apart (mask g n) (mask f n) n (and_comm (mask g n) (mask f n) ∙ rest) g_past f_past)
             | false ↦ (λ m. bit_and (no_more (mask f n) m) (no_more (mask g n) m)) ∙ rest
           ]
-      ]
+    ]
     in
     by_f (apart n)
 
@@ -114,15 +114,15 @@ mask_either f g (suc n) apart =
     let P : Bool → Bool → Type 0 = λ b c. weight b * 2 ^ n + weight c * 2 ^ n ≡ weight (b || c) * 2 ^ n in
     let Q : Bool → Type 0 = λ b. (b ≡ true → g n ≡ false) → P b (g n) in
     let by_f : Q (f n) =
-      elim (f n) as Q [
-        | true ↦ λ clash. subst (P true) (sym (clash refl)) (omega (arith, zero-mul (2 ^ n), one-mul (2 ^ n)))
-        | false ↦ λ _.
+    elim (f n) as Q [
+      | true ↦ λ clash. subst (P true) (sym (clash refl)) (omega (arith, zero-mul (2 ^ n), one-mul (2 ^ n)))
+      | false ↦ λ _.
           let R : Bool → Type 0 = P false in
           elim (g n) as R [
             | true ↦ omega (arith, zero-mul (2 ^ n), one-mul (2 ^ n))
             | false ↦ omega (arith, zero-mul (2 ^ n), one-mul (2 ^ n))
           ]
-      ]
+    ]
     in
     let top = by_f (apart n) in
     omega arith
@@ -144,10 +144,10 @@ mask_full f (suc n) full i below =
     let less = mask-lt f n in
     let P : Bool → Type 0 = λ b. mask f n + weight b * 2 ^ n + 1 ≡ 2 ^ suc n → (b ≡ true) × (mask f n + 1 ≡ 2 ^ n) in
     let at_top : P (f n) =
-      elim (f n) as P [
-        | true ↦ λ all. (refl, omega (arith, one-mul (2 ^ n)))
-        | false ↦ λ all. absurd (omega (arith, zero-mul (2 ^ n)))
-      ]
+    elim (f n) as P [
+      | true ↦ λ all. (refl, omega (arith, one-mul (2 ^ n)))
+      | false ↦ λ all. absurd (omega (arith, zero-mul (2 ^ n)))
+    ]
     in
     let top = at_top full in
     elim (cases_eq i n) [

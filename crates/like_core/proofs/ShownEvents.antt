@@ -1,13 +1,13 @@
-use Rattle.std.proofs.Common.{◌≡◌, ◌≢◌, ℕ, ◌+◌, ◌*◌, ◌/◌, ◌%◌, ◌^◌, ◌<◌, ◌≤◌, ◌==◌, ◌||◌, ◌↔◌, bit_and, bit_or, ◌⊎◌, inl, inr, Bool, true, false, cond, IsTrue, subst, ap, sym, ◌∙◌, refl, eq-eqb, arith}
+use Rattle.std.proofs.Common.{◌≡◌, ℕ, ◌+◌, ◌*◌, ◌%◌, ◌^◌, ◌<◌, ◌==◌, ◌||◌, bit_or, inl, inr, Bool, true, false, cond, subst, ap, sym, ◌∙◌, refl, eq-eqb, arith}
 use Rattle.std.specs.Int.{bit_at}
 use Rattle.std.proofs.lemmas.Bool.{cases_eq, eqb-true, ne_eqb, cond-true, cond-false}
 use Rattle.like_core.specs.declared.worker_state.WorkerState.{WorkerState}
 use Rattle.like_core.specs.declared.worker_state.WorkerState.TheVariants.{Runs, Answered, Gone}
 use Rattle.like_core.specs.declared.setting.Setting.{Setting}
 use Rattle.like_core.specs.Functions.{update}
-use Rattle.like_core.specs.Phase.{last_phase, IsJoined}
+use Rattle.like_core.specs.Phase.{last_phase}
 use Rattle.like_core.specs.WorkerState.{IsIn, looked}
-use Rattle.like_core.specs.Numbers.{Numbers, AllIn, AllGone, Sees, CoordSees}
+use Rattle.like_core.specs.Numbers.{AllIn, Sees, CoordSees}
 use Rattle.like_core.specs.Word.{Fields, packed, IsLawful, announced, answered_by, retired_by, released}
 use Rattle.like_core.specs.State.{CoreState, numbers}
 use Rattle.like_core.specs.Exclusive.{IsInPhase}
@@ -67,14 +67,14 @@ shown_lawful z s setting p none =
       running = λ even. mask_none (λ i. has_answered s.phase (s.state i)) z.workers (λ i _. none (even_weight s.ending (s.phase % 2) even) i);
       number = p.within;
       last = λ is.
-        let P : Bool → Type 0 = λ b. (b ≡ true → s.phase < last_phase) → 2 * (s.phase % 2) + weight b ≡ 0 in
-        let Q : P s.ending =
+          let P : Bool → Type 0 = λ b. (b ≡ true → s.phase < last_phase) → 2 * (s.phase % 2) + weight b ≡ 0 in
+          let Q : P s.ending =
           elim s.ending as P [
             | true ↦ λ less. let strict = less refl in absurd (omega arith)
             | false ↦ λ _. omega arith
           ]
-        in
-        Q p.last;
+          in
+          Q p.last;
     }
 
 -- the fields of a state from their parts
@@ -89,11 +89,10 @@ fields_by f g kind workers answered retired number = λ m. record {
 
 -- the bit of a worker that runs the phase is set in neither mask
 pub runs_unset : (z : Setting) (s : CoreState) (i phase : ℕ) → i < z.workers → s.state i ≡ Runs phase → (bit_at (shown_fields z s).answered i ≡ 0) × (bit_at (shown_fields z s).retired i ≡ 0)
-runs_unset z s i phase there runs =
-    (
-      mask_bit (λ j. has_answered s.phase (s.state j)) z.workers i there ∙ ap (λ st. weight (has_answered s.phase st)) runs,
-      mask_bit (λ j. is_gone (s.state j)) z.workers i there ∙ ap (λ st. weight (is_gone st)) runs
-    )
+runs_unset z s i phase there runs = (
+  mask_bit (λ j. has_answered s.phase (s.state j)) z.workers i there ∙ ap (λ st. weight (has_answered s.phase st)) runs,
+  mask_bit (λ j. is_gone (s.state j)) z.workers i there ∙ ap (λ st. weight (is_gone st)) runs,
+)
 
 -- worker i is in another state, and all else is the same
 abbrev pub moved : CoreState → ℕ → WorkerState → CoreState
@@ -115,11 +114,11 @@ fields_answered z s i phase there runs =
     let st : WorkerState = Answered s.phase in
     fields_by (shown_fields z (moved s i st)) (answered_by (shown_fields z s) i) refl refl
     (mask_more (λ j. has_answered s.phase (s.state j)) (λ j. has_answered s.phase (update s.state i st j)) z.workers i there
-      (ap (has_answered s.phase) runs)
-      (ap (has_answered s.phase) (update-same s.state i st) ∙ eq-eqb s.phase s.phase refl)
-      (λ j other. ap (has_answered s.phase) (update-other s.state i st j other)))
+    (ap (has_answered s.phase) runs)
+    (ap (has_answered s.phase) (update-same s.state i st) ∙ eq-eqb s.phase s.phase refl)
+    (λ j other. ap (has_answered s.phase) (update-other s.state i st j other)))
     (mask_same (λ j. is_gone (update s.state i st j)) (λ j. is_gone (s.state j)) z.workers
-      (λ j _. test_same is_gone s i st (ap is_gone (sym runs)) j))
+    (λ j _. test_same is_gone s i st (ap is_gone (sym runs)) j))
     refl
 
 -- a retirement sets the worker's bit of `retired`
@@ -127,11 +126,11 @@ pub fields_retired : (z : Setting) (s : CoreState) (i phase : ℕ) → i < z.wor
 fields_retired z s i phase there runs =
     fields_by (shown_fields z (moved s i Gone)) (retired_by (shown_fields z s) i) refl refl
     (mask_same (λ j. has_answered s.phase (update s.state i Gone j)) (λ j. has_answered s.phase (s.state j)) z.workers
-      (λ j _. test_same (has_answered s.phase) s i Gone (ap (has_answered s.phase) (sym runs)) j))
+    (λ j _. test_same (has_answered s.phase) s i Gone (ap (has_answered s.phase) (sym runs)) j))
     (mask_more (λ j. is_gone (s.state j)) (λ j. is_gone (update s.state i Gone j)) z.workers i there
-      (ap is_gone runs)
-      (ap is_gone (update-same s.state i Gone))
-      (λ j other. ap is_gone (update-other s.state i Gone j other)))
+    (ap is_gone runs)
+    (ap is_gone (update-same s.state i Gone))
+    (λ j other. ap is_gone (update-other s.state i Gone j other)))
     refl
 
 -- a look changes no field
@@ -140,9 +139,9 @@ fields_looked z s i =
     let st : WorkerState = looked s.phase (s.state i) in
     fields_by (shown_fields z (moved s i st)) (shown_fields z s) refl refl
     (mask_same (λ j. has_answered s.phase (update s.state i st j)) (λ j. has_answered s.phase (s.state j)) z.workers
-      (λ j _. test_same (has_answered s.phase) s i st (looked-has_answered s.phase (s.state i)) j))
+    (λ j _. test_same (has_answered s.phase) s i st (looked-has_answered s.phase (s.state i)) j))
     (mask_same (λ j. is_gone (update s.state i st j)) (λ j. is_gone (s.state j)) z.workers
-      (λ j _. test_same is_gone s i st (looked-is_gone s.phase (s.state i)) j))
+    (λ j _. test_same is_gone s i st (looked-is_gone s.phase (s.state i)) j))
     refl
 
 -- an announcement adds 1 to the kind
@@ -165,14 +164,14 @@ fields_released z s ending all_in =
     let one : weight s.ending ≡ 1 = ap weight ending in
     let now : ℕ = 2 * (s.phase % 2) + weight s.ending in
     let kind : 2 * ((s.phase + 1) % 2) + 0 ≡ cond (now == 1) 2 0 =
-      elim (cases_eq now 1) [
-        | inl joined ↦
-            let two : 2 * ((s.phase + 1) % 2) + 0 ≡ 2 = omega arith in
-            two ∙ sym (cond-true (now == 1) 2 0 (eq-eqb now 1 joined))
-        | inr split ↦
-            let none : 2 * ((s.phase + 1) % 2) + 0 ≡ 0 = omega arith in
-            none ∙ sym (cond-false (now == 1) 2 0 (ne_eqb now 1 split))
-      ]
+    elim (cases_eq now 1) [
+      | inl joined ↦
+          let two : 2 * ((s.phase + 1) % 2) + 0 ≡ 2 = omega arith in
+          two ∙ sym (cond-true (now == 1) 2 0 (eq-eqb now 1 joined))
+      | inr split ↦
+          let none : 2 * ((s.phase + 1) % 2) + 0 ≡ 0 = omega arith in
+          none ∙ sym (cond-false (now == 1) 2 0 (ne_eqb now 1 split))
+    ]
     in
     fields_by (shown_fields z next) (released (shown_fields z s)) kind refl
     (mask_none (λ i. has_answered (s.phase + 1) (s.state i)) z.workers (λ i there. in_not_next s.phase (s.state i) (all_in i there)))
@@ -230,15 +229,15 @@ coord_sees z s =
       ending = odd_weight s.ending (s.phase % 2);
       all_in = (
         λ is.
-        let full : mask a z.workers + mask g z.workers + 1 ≡ 2 ^ z.workers = eqb-true _ _ is in
-        λ i there. in_test s.phase (s.state i) (mask_full (λ j. a j || g j) z.workers (ap (λ m. m + 1) (sym sums) ∙ full) i there),
+            let full : mask a z.workers + mask g z.workers + 1 ≡ 2 ^ z.workers = eqb-true _ _ is in
+            λ i there. in_test s.phase (s.state i) (mask_full (λ j. a j || g j) z.workers (ap (λ m. m + 1) (sym sums) ∙ full) i there),
         λ all.
-        eq-eqb (mask a z.workers + mask g z.workers + 1) (2 ^ z.workers)
-        (ap (λ m. m + 1) sums ∙ mask_all (λ j. a j || g j) z.workers (λ i there. test_in s.phase (s.state i) (all i there)))
+            eq-eqb (mask a z.workers + mask g z.workers + 1) (2 ^ z.workers)
+            (ap (λ m. m + 1) sums ∙ mask_all (λ j. a j || g j) z.workers (λ i there. test_in s.phase (s.state i) (all i there))),
       );
       all_gone = (
         λ is i there. gone_test (s.state i) (mask_full g z.workers (eqb-true _ _ is) i there),
-        λ all. eq-eqb (mask g z.workers + 1) (2 ^ z.workers) (mask_all g z.workers (λ i there. ap is_gone (all i there)))
+        λ all. eq-eqb (mask g z.workers + 1) (2 ^ z.workers) (mask_all g z.workers (λ i there. ap is_gone (all i there))),
       );
     }
 
@@ -261,7 +260,7 @@ worker_sees z s i there =
       waits = (
         λ is. answered_weight s.phase (s.state i) (sym bit ∙ eqb-true (bit_at (mask a z.workers) i) 1 is),
         λ is.
-        eq-eqb (bit_at (mask a z.workers) i) 1
-        (bit ∙ (ap (λ st. weight (has_answered s.phase st)) is ∙ ap weight (eq-eqb s.phase s.phase refl)))
+            eq-eqb (bit_at (mask a z.workers) i) 1
+            (bit ∙ (ap (λ st. weight (has_answered s.phase st)) is ∙ ap weight (eq-eqb s.phase s.phase refl))),
       );
     }

@@ -1,5 +1,5 @@
-use Rattle.std.proofs.Common.{◌≡◌, ◌≢◌, ℕ, ◌+◌, ◌<◌, ◌==◌, nat_lt, ◌⊎◌, inl, inr, Bool, true, false, cond, List, [], ◌∷◌, subst, ap, sym, ◌∙◌, refl, arith}
-use Rattle.std.proofs.lemmas.Bool.{cases_lt, cases_eq, lt-ltb, le-ltb, ne_eqb, eqb-true, ltb-true}
+use Rattle.std.proofs.Common.{◌≡◌, ◌≢◌, ℕ, ◌+◌, ◌<◌, ◌==◌, nat_lt, inl, inr, Bool, true, false, cond, List, [], ◌∷◌, subst, sym, ◌∙◌, refl, arith}
+use Rattle.std.proofs.lemmas.Bool.{ne_eqb, ltb-true}
 use Rattle.like_core.specs.declared.worker_state.WorkerState.{WorkerState}
 use Rattle.like_core.specs.declared.worker_state.WorkerState.TheVariants.{Runs, Answered, Gone}
 use Rattle.like_core.specs.declared.event.Event.{Event}
@@ -26,10 +26,10 @@ looked-has_answered phase (Runs j) = refl
 looked-has_answered phase (Answered j) =
     let P : Bool → Type 0 = λ b. (b ≡ true → (j == phase) ≡ false) → has_answered phase (cond b (Runs phase) (Answered j)) ≡ (j == phase) in
     let Q : P (nat_lt j phase) =
-      elim (nat_lt j phase) as P [
-        | true ↦ λ earlier. sym (earlier refl)
-        | false ↦ λ _. refl
-      ]
+    elim (nat_lt j phase) as P [
+      | true ↦ λ earlier. sym (earlier refl)
+      | false ↦ λ _. refl
+    ]
     in
     Q (λ less. ne_eqb j phase (λ same. let below : j < phase = ltb-true j phase less in absurd (omega arith)))
 looked-has_answered phase Gone = refl

@@ -1,4 +1,4 @@
-use Rattle.std.specs.Prelude.{◌≡◌, ◌≢◌, ℕ, ◌+◌, ◌==◌, nat_lt, Bool, true, false, if◌then◌else◌, List, [], count_by, Option, Some, None, IsSomeAnd, MatchBool, unwrap_or}
+use Rattle.std.specs.Prelude.{◌≡◌, ℕ, ◌+◌, ◌==◌, nat_lt, Bool, true, false, if◌then◌else◌, [], count_by, Option, Some, None, IsSomeAnd, MatchBool}
 use Rattle.like_core.specs.declared.worker_state.WorkerState.{WorkerState}
 use Rattle.like_core.specs.declared.worker_state.WorkerState.TheVariants.{Runs, Answered, Gone}
 use Rattle.like_core.specs.declared.sight.Sight.{Sight}
@@ -9,8 +9,6 @@ use Rattle.like_core.specs.declared.view.CoordView.{CoordView}
 use Rattle.like_core.specs.declared.view.View.{View}
 use Rattle.like_core.specs.declared.view.View.TheVariants.{Coord, Worker, Spent}
 use Rattle.like_core.specs.Phase.{last_phase, IsJoined, IsSplit}
-use Rattle.like_core.specs.Word.{Fields, packed}
-use Rattle.like_core.specs.Sights.{sight_of, coord_sight_of}
 
 -- a worker's view before its seat made a step: it runs phase 0, looked never and added nothing
 abbrev pub fresh : Setting → ℕ → WorkerView

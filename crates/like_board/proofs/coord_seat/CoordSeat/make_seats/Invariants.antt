@@ -1,5 +1,4 @@
-use Rattle.std.proofs.Common.{◌≡◌, ◌<◌, ◌≤◌, length, vec_len, vec_capacity}
-use Rattle.like_core.specs.declared.view.CoordView.{CoordView}
+use Rattle.std.proofs.Common.{◌≡◌, ◌≤◌, length, vec_capacity}
 use Rattle.like_board.specs.Seats.{coord_board, coord_view, AreFresh}
 use Rattle.like_board.proofs.coord_seat.CoordSeat.make_seats.Given as goal
 
