@@ -13,6 +13,9 @@ pub mod Reached
 pub mod InPhase
 pub mod GivenLikes
 pub mod CoreReached
+pub mod LoneLooks
+pub mod LoneSteps
+pub mod LoneAdds
 pub mod Masks
 pub mod Unanswered
 pub mod ShownEvents

@@ -1,4 +1,4 @@
-use Rattle.std.proofs.Common.{◌≡◌, ◌≢◌, ℕ, ◌/◌, ◌^◌, ◌<◌, ◌≤◌, Option, Some, None, IsSome, IfNone, bit_and, sym, subst, ap, ◌∙◌, arith}
+use Rattle.std.proofs.Common.{◌≡◌, ◌≢◌, ℕ, ◌/◌, ◌^◌, ◌<◌, ◌≤◌, Option, Some, None, IsSome, IfSome, IfNone, IsSomeAnd, bit_and, sym, subst, ap, ◌∙◌, arith}
 use Rattle.std.proofs.lemmas.Nat.{and_mask}
 use lib.Pow.{pow_mono}
 use Rattle.like_core.specs.declared.phase_word.PhaseWord.{PhaseWord}
@@ -49,3 +49,10 @@ none_packs w kind is None some =
     let at_kind : ℕ → Type 0 = λ k. IsLawful (record (unpacked w) { kind = k }) in
     let found : IsSome {T = PhaseWord} None = some (subst at_kind (sym is) (subst IsLawful parts p.lawful)) in
     cc
+
+-- a word that packs to a number is found
+pub finds : (w kind : ℕ) → kind ≡ bit_and w 3 → (r : Option PhaseWord) → (IsLawful (record (unpacked w) { kind = kind }) → IsSome r) → IfSome r (λ q. fields_of q ≡ record (unpacked w) { kind = kind }) → (p : PhaseWord) → packed (fields_of p) ≡ w → IsSomeAnd r (λ q. fields_of q ≡ fields_of p)
+finds w kind is (Some q) some fields p same =
+    let parts : fields_of p ≡ unpacked w = sym (unpacked-packed (fields_of p) p.lawful) ∙ ap unpacked same in
+    fields ∙ (ap (λ k. record (unpacked w) { kind = k }) is ∙ sym parts)
+finds w kind is None some fields p same = absurd (none_packs w kind is None some p same)

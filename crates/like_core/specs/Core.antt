@@ -4,7 +4,7 @@ use Rattle.like_core.specs.declared.pure_core.Core.{Core}
 use Rattle.like_core.specs.declared.setting.Setting.{Setting}
 use Rattle.like_core.specs.Numbers.{Numbers}
 use Rattle.like_core.specs.Kept.{kept}
-use Rattle.like_core.specs.State.{CoreState, after, numbers}
+use Rattle.like_core.specs.State.{CoreState, start, after, numbers}
 use Rattle.like_core.specs.Reachable.{Reachable, after_all}
 use Rattle.like_core.specs.Exclusive.{IsExclusive, IsInPhase}
 
@@ -15,6 +15,10 @@ numbers_of core = kept core.phase core.ending core.states.items core.unmerged.it
 -- the core stands for each state that has its numbers
 abbrev pub StandsFor : Core → Setting → CoreState → Type 0
 StandsFor core z s = numbers_of core ≡ numbers z s
+
+-- the core stands for the start
+abbrev pub StandsForStart : Core → Setting → Type 0
+StandsForStart core z = StandsFor core z (start z)
 
 -- the core stands for a state that can be reached
 pub record IsReachable (core : Core) (z : Setting) : Type 0 where

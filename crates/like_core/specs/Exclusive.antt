@@ -5,10 +5,17 @@ use Rattle.like_core.specs.Phase.{last_phase, IsJoined, IsSplit}
 use Rattle.like_core.specs.State.{CoreState}
 use Rattle.like_core.specs.Reachable.{Reachable}
 
+-- no worker has unmerged likes
+abbrev pub NoneUnmerged : CoreState → Type 0
+NoneUnmerged s = (i : ℕ) → s.unmerged i ≡ []
+
+-- no worker runs a split phase
+abbrev pub NoneRunsSplit : CoreState → Type 0
+NoneRunsSplit s = (i phase : ℕ) → s.state i ≡ Runs phase → ¬ IsSplit phase
+
 -- while some worker runs a joined phase, no worker has unmerged likes and none runs a split phase
 abbrev pub IsExclusive : CoreState → Type 0
-IsExclusive s =
-    (i phase : ℕ) → s.state i ≡ Runs phase → IsJoined phase → ((worker : ℕ) → s.unmerged worker ≡ []) × ((worker other : ℕ) → s.state worker ≡ Runs other → ¬ IsSplit other)
+IsExclusive s = (i phase : ℕ) → s.state i ≡ Runs phase → IsJoined phase → NoneUnmerged s × NoneRunsSplit s
 
 -- who runs a phase runs the present one; who has answered one has answered the present one or the one before; who has
 -- unmerged likes runs the present phase, and that is split; who is no worker is gone; the last phase is never ending

@@ -17,3 +17,4 @@ pub mod ShownWord
 pub mod Views
 pub mod Shows
 pub mod Post
+pub mod Lone

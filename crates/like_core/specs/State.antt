@@ -23,6 +23,10 @@ pub record CoreState : Type 0 where
   pub unmerged : ℕ → List ℕ
   pub applied : ℕ → List Label
 
+-- the setting with these workers, counts and marks
+abbrev pub setting : ℕ → List ℕ → List Bool → Setting
+setting workers counts marks = record { workers = workers; counts = counts; marks = marks }
+
 -- the core at the start: each worker runs phase 0; who is no worker is gone
 abbrev pub start : Setting → CoreState
 start z = record {

@@ -1,4 +1,6 @@
 use Rattle.std.specs.Prelude.{◌≡◌, ℕ, ◌+◌, ◌*◌, ◌%◌, ◌^◌, ◌<◌, ◌≤◌, ◌↔◌, bit_and, ◌==◌, if◌then◌else◌}
+use Rattle.like_core.specs.declared.kind.Kind.{Kind}
+use Rattle.like_core.specs.Kind.{code_of}
 use Rattle.like_core.specs.Phase.{last_phase, IsJoined}
 
 -- the fields of a phase word as numbers: bit i of `answered` and of `retired` is worker i's
@@ -8,6 +10,16 @@ pub record Fields : Type 0 where
   pub answered : ℕ
   pub retired : ℕ
   pub number : ℕ
+
+-- the fields with these values
+abbrev pub word_fields : Kind → ℕ → ℕ → ℕ → ℕ → Fields
+word_fields kind workers answered retired number = record {
+  kind = code_of kind;
+  workers = workers;
+  answered = answered;
+  retired = retired;
+  number = number;
+}
 
 -- the word with these fields
 abbrev pub packed : Fields → ℕ

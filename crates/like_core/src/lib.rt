@@ -22,7 +22,6 @@ mod tests;
 mod view;
 mod word_sights;
 mod word_steps;
-mod worker_moves;
 mod worker_state;
 
 pub use event::Event;

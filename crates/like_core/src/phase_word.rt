@@ -1,6 +1,5 @@
-ghost use Rattle.std.specs.Prelude.{◌≡◌, ◌≢◌, ℕ, ◌↔◌, IsSome, IfSome, IfNone};
-ghost use Rattle.like_core.specs.Kind.{code_of};
-ghost use Rattle.like_core.specs.Word.{Fields, packed, IsLawful};
+ghost use Rattle.std.specs.Prelude.{◌≡◌, ◌≢◌, ℕ, ◌↔◌, IsSome, IfSome, IsSomeAnd};
+ghost use Rattle.like_core.specs.Word.{word_fields, packed, IsLawful};
 
 use crate::kind::Kind;
 
@@ -18,7 +17,7 @@ pub struct PhaseWord {
     pub retired: u16,
     /// The phase, at most `LAST_PHASE`.
     pub number: u32,
-    ghost lawful: { IsLawful (record { kind = code_of kind; workers = workers; answered = answered; retired = retired; number = number }) },
+    ghost lawful: { IsLawful (word_fields kind workers answered retired number) },
 }
 
 impl PhaseWord {
@@ -32,8 +31,8 @@ impl PhaseWord {
         retired: u16,
         number: u32,
     ) -> Option<PhaseWord>
-        ensures lawful { IsSome result ↔ IsLawful (record { kind = code_of kind; workers = workers; answered = answered; retired = retired; number = number }) }
-        ensures fields { IfSome result (λ p. fields_of p ≡ record { kind = code_of kind; workers = workers; answered = answered; retired = retired; number = number }) }
+        ensures lawful { IsSome result ↔ IsLawful (word_fields kind workers answered retired number) }
+        ensures fields { IfSome result (λ p. fields_of p ≡ word_fields kind workers answered retired number) }
     {
         if workers < 1 || workers > 16 || number > LAST_PHASE {
             return None;
@@ -74,7 +73,7 @@ impl PhaseWord {
     /// The word that packs to this number, or `None` where none does.
     pub fn unpack(word: u64) -> Option<PhaseWord>
         ensures packed { IfSome result (λ p. packed (fields_of p) ≡ word) }
-        ensures none { IfNone result ((p : PhaseWord) → packed (fields_of p) ≢ word) }
+        ensures found { (p : PhaseWord) → packed (fields_of p) ≡ word → IsSomeAnd result (λ q. fields_of q ≡ fields_of p) }
     {
         PhaseWord::new(
             Kind::from_code((word & 3) as u8),

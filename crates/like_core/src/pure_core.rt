@@ -1,5 +1,4 @@
 ghost use Rattle.std.specs.Prelude.{◌≡◌, ℕ, ◌^◌, ◌<◌, ◌≤◌, ◌↔◌, true, [], length, replicate, slice_index_or, All, IsOk, IfOk, OnOk, IfErr, OnErr};
-ghost use Rattle.like_core.specs.declared.setting.Setting.{Setting};
 ghost use Rattle.like_core.specs.Phase.{last_phase};
 ghost use Rattle.like_core.specs.Numbers.{total};
 ghost use Rattle.like_core.specs.Kept.{kept};
@@ -47,8 +46,8 @@ fn empty_rows(alloc: Global, workers: u32, pages: usize) -> Result<Vec<PageNumbe
 
 impl Core {
     ghost use Rattle.like_core.specs.Table.{Permits, IsShown, next, Refuses};
-    ghost use Rattle.like_core.specs.State.{start};
-    ghost use Rattle.like_core.specs.Core.{numbers_of, StandsFor, TakesStates, IsReachable, KeepsReachable, IsCoreExclusive};
+    ghost use Rattle.like_core.specs.State.{setting};
+    ghost use Rattle.like_core.specs.Core.{numbers_of, StandsForStart, TakesStates, IsReachable, KeepsReachable, IsCoreExclusive};
 
     /// The core at the start of phase 0, running, with these counts and marks by page. Pages that are marked in `split`
     /// are split in each odd phase.
@@ -63,8 +62,8 @@ impl Core {
         requires same_pages { length split.now ≡ length counts.now }
         requires few_pages { length counts.now ≤ 1024 }
         requires counts { All (λ count. count < 2 ^ 63) counts.now }
-        ensures start { IfOk result (λ core. let z : Setting = record { workers = workers; counts = counts.now; marks = split.now } in StandsFor core z (start z)) }
-        ensures reachable { IfOk result (λ core. IsReachable core (record { workers = workers; counts = counts.now; marks = split.now })) }
+        ensures start { IfOk result (λ core. StandsForStart core (setting workers counts.now split.now)) }
+        ensures reachable { IfOk result (λ core. IsReachable core (setting workers counts.now split.now)) }
         ensures exclusive { IfOk result IsCoreExclusive }
     {
         Ok(Core {

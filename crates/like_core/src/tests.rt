@@ -1,15 +1,8 @@
+mod lone;
+mod posts;
+
 use crate::{CoordSight, Core, Event, Kind, NotNow, PhaseWord, Shown, Sight, Wrong, check_events};
 use std::test::Fail;
-
-/// The events that lead two workers into phase 1, in which only worker 0 has looked.
-const INTO_SPLIT: [Event; 6] = [
-    Event::Announce,
-    Event::Acknowledge(0),
-    Event::Acknowledge(1),
-    Event::Release,
-    Event::Look(0),
-    Event::Like(0, 0),
-];
 
 #[test]
 fn refuses_early_release(rt: HostRuntime) -> Result<(), Fail> {
@@ -40,12 +33,20 @@ fn refuses_early_release(rt: HostRuntime) -> Result<(), Fail> {
 #[test]
 fn refuses_retirement_in_split_phase(rt: HostRuntime) -> Result<(), Fail> {
     let mut core = Core::new(rt.alloc(), 2, &[0], &[true])?;
-    assert_eq!(rt; check_events(&mut core, &INTO_SPLIT), Ok(()));
+    let events = [
+        Event::Announce,
+        Event::Acknowledge(0),
+        Event::Acknowledge(1),
+        Event::Release,
+        Event::Look(0),
+        Event::Like(0, 0),
+        Event::Retire(0),
+    ];
     let wrong = Wrong {
-        index: 0,
+        index: 6,
         reason: NotNow::Phase,
     };
-    assert_eq!(rt; check_events(&mut core, &[Event::Retire(0)]), Err(wrong));
+    assert_eq!(rt; check_events(&mut core, &events), Err(wrong));
     assert_eq!(rt; core.step(Event::Look(2)), Err(NotNow::NoSuch));
     Ok(())
 }
@@ -167,5 +168,18 @@ fn packs_words_of_idle_workers(rt: HostRuntime) -> Result<(), Fail> {
     assert_eq!(rt; ending.pack(), 234_881_297);
     let released = PhaseWord::new(Kind::SplitRunning, 4, 0, 14, 1).ok_or("released")?;
     assert_eq!(rt; released.pack(), 1_099_746_508_818);
+    Ok(())
+}
+
+/// The same two words, by what each step makes of the word.
+#[test]
+fn steps_lead_to_words_of_idle_workers(rt: HostRuntime) -> Result<(), Fail> {
+    let start = PhaseWord::new(Kind::JoinedRunning, 4, 0, 0, 0).ok_or("start")?;
+    let answered = start.announced().answered_by(0);
+    let ending = answered.retired_by(1).retired_by(2).retired_by(3);
+    assert_eq!(rt; ending.pack(), 234_881_297);
+    assert!(rt; ending.kind.is_ending());
+    assert!(rt; !ending.kind.is_split());
+    assert_eq!(rt; ending.released().pack(), 1_099_746_508_818);
     Ok(())
 }

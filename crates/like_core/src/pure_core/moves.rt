@@ -86,7 +86,7 @@ impl Core {
         requires worker { worker < (numbers_of self.old).workers }
         requires page { page < (numbers_of self.old).pages }
         ensures old { result ≡ (numbers_of self.old).count page }
-        ensures moved { numbers_of self.new ≡ with_count (with_unmerged (numbers_of self.old) worker page 0) page ((numbers_of self.old).count page + (numbers_of self.old).unmerged worker page) }
+        ensures moved { numbers_of self.new ≡ next (numbers_of self.old) (Event.Merge worker page) }
     {
         let likes = self.take_unmerged(worker, page);
         self.add_count(page, likes)

@@ -1,5 +1,6 @@
-use Rattle.like_core.proofs.WordParts.{none_packs}
+use Rattle.like_core.proofs.WordParts.{finds}
 use Rattle.like_core.proofs.phase_word.PhaseWord.unpack.Goals as goal
 
-pub returns-clause-none : goal.returns-clause-none
-returns-clause-none c = none_packs c.args.word _ c.from_code.ensures c.new.result c.new.ensures.lawful.1
+pub returns-clause-found : goal.returns-clause-found
+returns-clause-found c =
+    finds c.args.word _ c.from_code.ensures c.new.result c.new.ensures.lawful.1 c.new.ensures.fields

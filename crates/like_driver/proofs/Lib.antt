@@ -1,0 +1,8 @@
+pub mod Answered
+pub mod Lists
+pub mod Plans
+pub mod Right
+pub mod RunList
+pub mod Tallied
+pub mod Texts
+pub mod Writable

@@ -1,0 +1,47 @@
+-- The statuses with which the program ends.
+use Rattle.std.specs.Prelude.{ℕ}
+use Rattle.like_requests.specs.declared.pages_file.PagesFault.{PagesFault}
+use Rattle.like_requests.specs.declared.pages_file.PagesFault.TheVariants as pages
+use Rattle.like_requests.specs.declared.requests_file.RequestsFault.{RequestsFault}
+use Rattle.like_requests.specs.declared.requests_file.RequestsFault.TheVariants as requests
+use Rattle.like_requests.specs.declared.setup.SettingsFault.{SettingsFault}
+use Rattle.like_requests.specs.declared.setup.SettingsFault.TheVariants as settings
+use Rattle.like_driver.specs.declared.fault.DriverFault.{DriverFault}
+use Rattle.like_driver.specs.declared.fault.DriverFault.TheVariants.{Pages, Requests, Settings, Write, Memory}
+use Rattle.like_driver.specs.declared.write_fault.WriteFault.{WriteFault}
+use Rattle.like_driver.specs.declared.write_fault.WriteFault.TheVariants as write
+
+-- the statuses of faults: of the settings, of a file or the output, of memory
+abbrev pub usage_status : ℕ
+usage_status = 2
+
+abbrev pub file_status : ℕ
+file_status = 3
+
+abbrev pub memory_status : ℕ
+memory_status = 4
+
+abbrev pub pages_status : PagesFault → ℕ
+pages_status pages.Memory = memory_status
+pages_status fault = file_status
+
+abbrev pub requests_status : RequestsFault → ℕ
+requests_status requests.Memory = memory_status
+requests_status fault = file_status
+
+abbrev pub settings_status : SettingsFault → ℕ
+settings_status (settings.Script at) = file_status
+settings_status fault = usage_status
+
+-- the status of a fault
+abbrev pub status_of : DriverFault → ℕ
+status_of (Pages fault) = pages_status fault
+status_of (Requests submitter fault) = requests_status fault
+status_of (Settings fault) = settings_status fault
+status_of Write = file_status
+status_of Memory = memory_status
+
+-- the fault that a fault of writing stands for
+abbrev pub fault_of : WriteFault → DriverFault
+fault_of write.Write = Write
+fault_of write.Memory = Memory

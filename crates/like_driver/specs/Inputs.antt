@@ -1,0 +1,56 @@
+-- What the files of a replay give, as far as their bytes are known.
+use Rattle.std.specs.Prelude.{◌≡◌, ◌-◌, ◌^◌, ℕ, List, min, take, slice_get, Option, Some, IsSomeAnd, option_map, ⊤}
+use Rattle.std.specs.List.{AllZip}
+use Rattle.like_records.specs.Reading.{records_of}
+use Rattle.like_requests.specs.Pages.{Page}
+use Rattle.like_requests.specs.PagesFile.{IsPagesFault, IsPagesFile}
+use Rattle.like_requests.specs.RequestsFile.{IsRequestsFault, IsRequestsFile}
+use Rattle.like_requests.specs.Rows.{Record}
+use Rattle.like_requests.specs.declared.pages_file.PagesFault.{PagesFault}
+use Rattle.like_requests.specs.declared.request.Request.{Request}
+use Rattle.like_requests.specs.declared.requests_file.RequestsFault.{RequestsFault}
+use Rattle.like_driver.specs.declared.fault.DriverFault.{DriverFault}
+use Rattle.like_driver.specs.declared.fault.DriverFault.TheVariants as driver
+
+-- the bytes of the pages file and of each request file, where they are known
+pub record Inputs : Type 0 where
+  pub pages : Option (List ℕ)
+  pub requests : List (Option (List ℕ))
+
+-- a fact of the records of a file, where its bytes are known
+abbrev pub OfRecords : Option (List ℕ) → (List Record → Type 0) → Type 0
+OfRecords source P = (rows : List Record) → option_map records_of source ≡ Some rows → P rows
+
+-- a pages file gives these pages
+abbrev pub GivesPages : Option (List ℕ) → List Page → Type 0
+GivesPages source pages = OfRecords source (λ rows. IsPagesFile rows pages)
+
+-- a pages file is refused with this fault
+abbrev pub RefusesPages : Option (List ℕ) → PagesFault → Type 0
+RefusesPages source fault = OfRecords source (λ rows. IsPagesFault rows fault)
+
+-- a request file gives this plan
+abbrev pub GivesPlan : List Page → Option (List ℕ) → List Request → Type 0
+GivesPlan pages source plan = OfRecords source (λ rows. IsRequestsFile pages rows plan)
+
+-- a request file is refused with this fault
+abbrev pub RefusesPlan : Option (List ℕ) → RequestsFault → Type 0
+RefusesPlan source fault = OfRecords source (λ rows. IsRequestsFault rows fault)
+
+-- the request files give these plans
+abbrev pub GivesPlans : List Page → List (Option (List ℕ)) → List (List Request) → Type 0
+GivesPlans pages sources plans = AllZip (GivesPlan pages) sources plans
+
+-- the request file at this place is the first that is refused
+pub record IsFirstRefused (pages : List Page) (sources : List (Option (List ℕ))) (place : ℕ) (fault : RequestsFault) : Type 0 where
+  pub plans : List (List Request)
+  pub before : GivesPlans pages (take place sources) plans
+  pub refused : IsSomeAnd (slice_get sources place) (λ source. RefusesPlan source fault)
+
+-- why the request files give no plans: the first that is refused, whose number stops at the last of a u32, or want of memory
+abbrev pub RefusesPlans : List Page → List (Option (List ℕ)) → DriverFault → Type 0
+RefusesPlans pages sources (driver.Requests submitter fault) = (place : ℕ) × (submitter ≡ min place (2 ^ 32 - 1)) × IsFirstRefused pages sources place fault
+RefusesPlans pages sources driver.Memory = ⊤
+RefusesPlans pages sources (driver.Pages fault) = ⊥
+RefusesPlans pages sources (driver.Settings fault) = ⊥
+RefusesPlans pages sources driver.Write = ⊥

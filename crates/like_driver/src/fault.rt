@@ -1,0 +1,146 @@
+ghost use Rattle.std.specs.Prelude.{◌≡◌};
+ghost use Rattle.like_driver.specs.Faults.{status_of};
+
+use crate::options::Options;
+use crate::write_fault::WriteFault;
+use like_requests::{PagesFault, Request, RequestsFault, SettingsFault};
+use std::alloc::{AllocError, AllocFailed};
+use std::io::Write;
+
+/// Why a replay ended without its report.
+#[derive(Clone, Copy, Debug, PartialEq, Eq)]
+pub enum DriverFault {
+    Pages(PagesFault),
+    Requests {
+        submitter: u32,
+        fault: RequestsFault,
+    },
+    Settings(SettingsFault),
+    /// The output failed.
+    Write,
+    /// Memory ran out, in the run or the report.
+    Memory,
+}
+
+impl From<AllocError> for DriverFault {
+    ghost use Rattle.std.specs.Prelude.{◌≡◌};
+    ghost use Rattle.like_driver.specs.declared.fault.DriverFault.TheVariants.{Memory};
+
+    ghost from_gives = { λ _ fault. fault ≡ Memory };
+
+    fn from(_: AllocError) -> DriverFault {
+        DriverFault::Memory
+    }
+}
+
+impl From<AllocFailed<Vec<Request>>> for DriverFault {
+    ghost use Rattle.std.specs.Prelude.{◌≡◌};
+    ghost use Rattle.like_driver.specs.declared.fault.DriverFault.TheVariants.{Memory};
+
+    ghost from_gives = { λ _ fault. fault ≡ Memory };
+
+    fn from(_: AllocFailed<Vec<Request>>) -> DriverFault {
+        DriverFault::Memory
+    }
+}
+
+impl From<PagesFault> for DriverFault {
+    ghost use Rattle.std.specs.Prelude.{◌≡◌};
+    ghost use Rattle.like_driver.specs.declared.fault.DriverFault.TheVariants.{Pages};
+
+    ghost from_gives = { λ why fault. fault ≡ Pages why };
+
+    fn from(why: PagesFault) -> DriverFault {
+        DriverFault::Pages(why)
+    }
+}
+
+impl From<SettingsFault> for DriverFault {
+    ghost use Rattle.std.specs.Prelude.{◌≡◌};
+    ghost use Rattle.like_driver.specs.declared.fault.DriverFault.TheVariants.{Settings};
+
+    ghost from_gives = { λ why fault. fault ≡ Settings why };
+
+    fn from(why: SettingsFault) -> DriverFault {
+        DriverFault::Settings(why)
+    }
+}
+
+impl From<WriteFault> for DriverFault {
+    ghost use Rattle.std.specs.Prelude.{◌≡◌};
+    ghost use Rattle.like_driver.specs.Faults.{fault_of};
+
+    ghost from_gives = { λ why fault. fault ≡ fault_of why };
+
+    fn from(why: WriteFault) -> DriverFault {
+        match why {
+            WriteFault::Write => DriverFault::Write,
+            WriteFault::Memory => DriverFault::Memory,
+        }
+    }
+}
+
+impl DriverFault {
+    /// The status with which the program ends.
+    pub fn status(&self) -> u8
+        ensures { result ≡ status_of self.now }
+    {
+        match self {
+            DriverFault::Pages(PagesFault::Memory)
+            | DriverFault::Requests {
+                fault: RequestsFault::Memory,
+                ..
+            }
+            | DriverFault::Memory => 4,
+            DriverFault::Settings(SettingsFault::Script { .. })
+            | DriverFault::Pages(_)
+            | DriverFault::Requests { .. }
+            | DriverFault::Write => 3,
+            DriverFault::Settings(_) => 2,
+        }
+    }
+
+    /// Writes the fault's line, with the name of the file at fault from the options: an empty name where they have none.
+    /// `false` says that a write failed, and nothing of how much was written.
+    pub fn line<W: Write>(&self, options: &Options, out: &mut W) -> bool {
+        match self {
+            DriverFault::Pages(PagesFault::Memory)
+            | DriverFault::Requests {
+                fault: RequestsFault::Memory,
+                ..
+            }
+            | DriverFault::Memory => writeln!(out, "likes: out of memory").is_ok(),
+            DriverFault::Pages(fault) => {
+                let file = options.pages.as_str();
+                writeln!(out, "likes: {file}: {fault}").is_ok()
+            }
+            DriverFault::Requests { submitter, fault } => {
+                let file = request_file(options, *submitter);
+                writeln!(out, "likes: {file}: {fault}").is_ok()
+            }
+            DriverFault::Settings(fault) => settings_line(*fault, options, out),
+            DriverFault::Write => writeln!(out, "likes: standard output: write failed").is_ok(),
+        }
+    }
+}
+
+// The name of a submitter's request file, or nothing where there is none.
+fn request_file(options: &Options, submitter: u32) -> &str {
+    match options.requests.get(submitter as usize) {
+        Some(name) => name.as_str(),
+        None => "",
+    }
+}
+
+// Writes the line of a fault of the settings.
+fn settings_line<W: Write>(fault: SettingsFault, options: &Options, out: &mut W) -> bool {
+    let SettingsFault::Script { at } = fault else {
+        return writeln!(out, "likes: {fault}").is_ok();
+    };
+    let file = match &options.script {
+        Some(name) => name.as_str(),
+        None => "",
+    };
+    let row = u64::from(at) + 1;
+    writeln!(out, "likes: {file}: row {row}: {fault}").is_ok()
+}

@@ -1,0 +1,5 @@
+pub mod Places
+pub mod Queue
+pub mod Share
+pub mod UserTable
+pub mod Waiting

@@ -1,0 +1,18 @@
+-- How a table of users is kept: a place for each user of the share, in the order of the users.
+use Rattle.std.specs.Prelude.{◌≡◌, ℕ, if◌then◌else◌, List, length, map, slice_index_or, Option, None}
+use Rattle.std.specs.List.{range_with_len}
+use Rattle.like_tables.specs.Share.{IsShare, Share, owned_below, owns}
+use Rattle.like_tables.specs.UserTable.{UserTable}
+
+-- there are as many places as users of the share
+pub record ArePlaces (share : Share) (pages : List (Option ℕ)) : Type 0 where
+  pub lawful : IsShare share
+  pub enough : length pages ≡ owned_below share share.users
+
+-- what stands for a user: the page at the place that is numbered by the share's users below it
+abbrev pub last_at : Share → List (Option ℕ) → ℕ → Option ℕ
+last_at share pages user = if owns share user then slice_index_or pages (owned_below share user) None else None
+
+-- the table that the places make
+abbrev pub table_of : Share → List (Option ℕ) → UserTable
+table_of share pages = record { share = share; last = map (last_at share pages) (range_with_len 0 share.users); room = length pages }

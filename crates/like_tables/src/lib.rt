@@ -1,0 +1,17 @@
+//! The tables of one worker: its slice of the likes of a split phase, its stash of requests that wait for the next
+//! joined phase, and the last likes of its users.
+#![tactic(auto)]
+
+mod held;
+mod share;
+mod slice;
+mod stash;
+mod users;
+
+pub use held::Held;
+pub use slice::{MAX_LIKES, Slice};
+pub use stash::{MAX_HELD, Stash};
+pub use users::Users;
+
+#[cfg(test)]
+mod tests;

@@ -1,0 +1,49 @@
+ghost use Rattle.std.specs.Prelude.{◌≡◌};
+ghost use Rattle.like_tables.specs.Share.{homes_below, owned_below, owns};
+
+use std::marker::Model;
+
+/// A worker's share of the users: those below `users` whose home is one of its submitters.
+#[derive(Debug, Drop)]
+pub(crate) struct UserShare {
+    pub users: u32,
+    pub submitters: u32,
+    pub workers: u32,
+    pub worker: u32,
+}
+
+impl Model for UserShare {
+    ghost use Rattle.like_tables.specs.Share.{IsShare, Share, share_of};
+
+    ghost Value = { Share };
+
+    ghost view = { λ s. share_of s.users s.submitters s.workers s.worker };
+
+    ghost invariant = { λ s. IsShare (share_of s.users s.submitters s.workers s.worker) };
+}
+
+impl UserShare {
+    pub fn owns(&self, user: u32) -> bool
+        ensures { result ≡ owns self.now user }
+    {
+        user < self.users && user % self.submitters % self.workers == self.worker
+    }
+
+    // How many of the users below this one have their home with this worker.
+    pub fn owned_below(&self, user: u32) -> u32
+        ensures { result ≡ owned_below self.now user }
+    {
+        let rounds = user / self.submitters;
+        rounds * self.homes_below(self.submitters) + self.homes_below(user % self.submitters)
+    }
+
+    // How many of the submitters below this one the worker serves.
+    fn homes_below(&self, submitter: u32) -> u32
+        ensures { result ≡ homes_below self.now submitter }
+    {
+        if self.worker >= self.workers {
+            return 0;
+        }
+        submitter.saturating_sub(self.worker).div_ceil(self.workers)
+    }
+}

@@ -1,0 +1,75 @@
+ghost use Rattle.std.specs.Prelude.{◌≡◌, ◌+◌, ◌<◌, ◌↔◌, ℕ, List, All, IfOk, IsTrue, length, replicate, slice_index, slice_set, sum};
+
+use std::alloc::{AllocError, Global};
+use std::marker::Model;
+
+/// The most likes that a worker adds: 1,000,000 of each of 64 submitters.
+pub const MAX_LIKES: u64 = 64_000_000;
+
+/// A worker's slice of the split pages: how many likes of each page it has counted and not merged yet.
+///
+/// A like of a split page goes here in a split phase, in place of the page's word. It is a number per page, by page.
+#[derive(Debug, Drop)]
+pub struct Slice {
+    counts: Vec<u64>,
+    total: u64,
+}
+
+impl Model for Slice {
+    ghost Value = { List ℕ };
+
+    ghost view = { λ s. s.counts.items };
+
+    ghost invariant = { λ s. s.total ≡ sum s.counts.items };
+}
+
+impl Slice {
+    /// A slice without a like. Its room, a number for each page, is made here.
+    pub fn new(alloc: Global, pages: u32) -> Result<Self, AllocError>
+        ensures { IfOk result (λ slice. slice ≡ replicate pages 0) }
+    {
+        Ok(Slice {
+            counts: vec![in alloc; 0; pages as usize]?,
+            total: 0,
+        })
+    }
+
+    /// Counts a like of the page.
+    pub fn add(&mut self, page: u32)
+        requires there { page < length self.old }
+        requires below { sum self.old < MAX_LIKES }
+        ensures counted { self.new ≡ slice_set self.old page (slice_index self.old page + 1) }
+        ensures total { sum self.new ≡ sum self.old + 1 }
+    {
+        self.counts[page as usize] += 1;
+        self.total += 1;
+    }
+
+    /// Gives the page's number and sets it to 0.
+    pub fn take(&mut self, page: u32) -> u64
+        requires { page < length self.old }
+        ensures taken { result ≡ slice_index self.old page }
+        ensures emptied { self.new ≡ slice_set self.old page 0 }
+        ensures total { sum self.new + result ≡ sum self.old }
+    {
+        let likes = self.counts[page as usize];
+        self.counts[page as usize] = 0;
+        self.total -= likes;
+        likes
+    }
+
+    /// How many likes it has of all pages.
+    pub fn total(&self) -> u64
+        ensures { result ≡ sum self.now }
+    {
+        self.total
+    }
+
+    /// Whether it has no like of any page.
+    pub fn is_empty(&self) -> bool
+        ensures total { IsTrue result ↔ (sum self.now ≡ 0) }
+        ensures pages { IsTrue result ↔ All (λ likes. likes ≡ 0) self.now }
+    {
+        self.total == 0
+    }
+}

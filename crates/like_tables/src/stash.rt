@@ -1,0 +1,74 @@
+ghost use Rattle.std.specs.Prelude.{◌≡◌, ◌<◌, ◌≤◌, ◌↔◌, [], ◌∷◌, ◌++◌, IfOk, IsTrue, drop, length, slice_get};
+ghost use Rattle.like_tables.specs.Waiting.{IsWaiting};
+
+use crate::held::Held;
+use std::alloc::{AllocError, Global};
+use std::collections::VecDeque;
+use std::marker::Model;
+
+/// The most requests that a stash may hold.
+pub const MAX_HELD: u32 = 4_096;
+
+/// A worker's stash: the requests of a split phase that wait for the next joined one, first in, first out.
+#[derive(Debug, Drop)]
+pub struct Stash {
+    queue: VecDeque<Held>,
+    capacity: u32,
+}
+
+impl Model for Stash {
+    ghost use Rattle.like_tables.specs.Queue.{HasRoom, waiting_in};
+    ghost use Rattle.like_tables.specs.Waiting.{Waiting};
+
+    ghost Value = { Waiting };
+
+    ghost view = { λ s. waiting_in s.queue s.capacity };
+
+    ghost invariant = { λ s. HasRoom s.queue s.capacity };
+}
+
+impl Stash {
+    /// A stash that holds nothing. Its room, for `capacity` requests, is made here.
+    pub fn new(alloc: Global, capacity: u32) -> Result<Self, AllocError>
+        requires some { 1 ≤ capacity }
+        requires few { capacity ≤ MAX_HELD }
+        ensures { IfOk result (λ stash. stash ≡ record { held = []; capacity = capacity }) }
+    {
+        Ok(Stash {
+            queue: VecDeque::with_capacity(alloc, capacity as usize)?,
+            capacity,
+        })
+    }
+
+    /// Puts a request behind all others.
+    pub fn push(&mut self, held: Held)
+        requires { length self.old.held < self.old.capacity }
+        ensures { self.new ≡ record self.old { held = self.old.held ++ held ∷ [] } }
+    {
+        self.queue.push_back_reserved(held);
+    }
+
+    /// Gives and takes out the first request, if it holds one.
+    pub fn pop_front(&mut self) -> Option<Held>
+        ensures first { result ≡ slice_get self.old.held 0 }
+        ensures rest { self.new ≡ record self.old { held = drop 1 self.old.held } }
+    {
+        self.queue.pop_front()
+    }
+
+    /// Whether it holds as many requests as it has room for.
+    pub fn is_full(&self) -> bool
+        ensures full { IsTrue result ↔ (length self.now.held ≡ self.now.capacity) }
+        ensures within { IsWaiting self.now }
+    {
+        self.queue.len() == self.capacity as usize
+    }
+
+    /// How many requests it holds.
+    pub fn len(&self) -> u32
+        ensures len { result ≡ length self.now.held }
+        ensures within { IsWaiting self.now }
+    {
+        self.queue.len() as u32
+    }
+}

@@ -1,0 +1,53 @@
+use crate::{Held, Slice, Stash, Users};
+use like_requests::{Numbered, Op, PageRef, Request};
+use std::test::Fail;
+
+#[test]
+fn a_slice_gives_what_was_added(rt: HostRuntime) -> Result<(), Fail> {
+    let mut slice = Slice::new(rt.alloc(), 2)?;
+    assert!(rt; slice.is_empty());
+    slice.add(1);
+    slice.add(1);
+    slice.add(1);
+    assert_eq!(rt; slice.total(), 3);
+    assert_eq!(rt; slice.take(1), 3);
+    assert_eq!(rt; slice.take(1), 0);
+    assert!(rt; slice.is_empty());
+    Ok(())
+}
+
+#[test]
+fn a_stash_gives_what_was_pushed(rt: HostRuntime) -> Result<(), Fail> {
+    let held = Held {
+        submitter: 0,
+        ask: Numbered {
+            number: 1,
+            request: Request {
+                op: Op::Look,
+                user: 0,
+                page: PageRef::Known(0),
+            },
+        },
+    };
+    let mut stash = Stash::new(rt.alloc(), 1)?;
+    assert!(rt; !stash.is_full());
+    stash.push(held);
+    assert!(rt; stash.is_full());
+    assert_eq!(rt; stash.len(), 1);
+    assert_eq!(rt; stash.pop_front(), Some(held));
+    assert_eq!(rt; stash.pop_front(), None);
+    Ok(())
+}
+
+#[test]
+fn users_are_those_of_the_worker(rt: HostRuntime) -> Result<(), Fail> {
+    let mut users = Users::new(rt.alloc(), 5, 2, 2, 1)?;
+    for user in 0..6 {
+        assert_eq!(rt; users.owns(user), user == 1 || user == 3, "at {user}");
+    }
+    assert_eq!(rt; users.last(3), None);
+    users.set(3, 7);
+    assert_eq!(rt; users.last(3), Some(7));
+    assert_eq!(rt; users.last(1), None);
+    Ok(())
+}

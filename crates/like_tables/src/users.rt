@@ -1,0 +1,84 @@
+ghost use Rattle.std.specs.Prelude.{◌≡◌, ◌≢◌, ◌≤◌, ℕ, Some, IfOk, IsTrue};
+ghost use Rattle.like_tables.specs.Share.{owns, share_of};
+ghost use Rattle.like_tables.specs.UserTable.{IsUserTable, last_of, table_without_likes, with_last};
+
+use crate::share::UserShare;
+use std::alloc::{AllocError, Global};
+use std::marker::Model;
+
+/// The last likes of the users that a worker serves: those below `users` whose home is one of its submitters.
+///
+/// Submitter `s` is served by worker `s mod workers`, and the home of user `u` is submitter `u mod submitters`.
+#[derive(Debug, Drop)]
+pub struct Users {
+    share: UserShare,
+    // The page of each such user's last like, in the order of the users.
+    pages: Vec<Option<u32>>,
+}
+
+impl Model for Users {
+    ghost use Rattle.like_tables.specs.Places.{ArePlaces, table_of};
+    ghost use Rattle.like_tables.specs.UserTable.{UserTable};
+
+    ghost Value = { UserTable };
+
+    ghost view = { λ u. table_of u.share u.pages.items };
+
+    ghost invariant = { λ u. ArePlaces u.share u.pages.items };
+}
+
+impl Users {
+    /// The table of worker `worker`, in which no user has liked a page. Its room, a place for each user that this
+    /// worker serves, is made here.
+    pub fn new(
+        alloc: Global,
+        users: u32,
+        submitters: u32,
+        workers: u32,
+        worker: u32,
+    ) -> Result<Self, AllocError>
+        requires submitters { 1 ≤ submitters }
+        requires workers { 1 ≤ workers }
+        ensures { IfOk result (λ table. table
+            ≡ table_without_likes (share_of users submitters workers worker)) }
+    {
+        let share = UserShare {
+            users,
+            submitters,
+            workers,
+            worker,
+        };
+        let places = share.owned_below(users) as usize;
+        Ok(Users {
+            share,
+            pages: vec![in alloc; None; places]?,
+        })
+    }
+
+    /// Whether the worker serves this user.
+    pub fn owns(&self, user: u32) -> bool
+        ensures owns { result ≡ owns self.now.share user }
+        ensures table { IsUserTable self.now }
+    {
+        self.share.owns(user)
+    }
+
+    /// The page of the user's last like, if any.
+    pub fn last(&self, user: u32) -> Option<u32>
+        requires { IsTrue (owns self.now.share user) }
+        ensures { result ≡ last_of self.now user }
+    {
+        self.pages[self.share.owned_below(user) as usize]
+    }
+
+    /// Notes that the user's last like is of this page.
+    pub fn set(&mut self, user: u32, page: u32)
+        requires { IsTrue (owns self.old.share user) }
+        ensures table { self.new ≡ with_last self.old user page }
+        ensures user { last_of self.new user ≡ Some page }
+        ensures others { (other : ℕ) → other ≢ user → last_of self.new other ≡ last_of self.old other }
+    {
+        let place = self.share.owned_below(user) as usize;
+        self.pages[place] = Some(page);
+    }
+}
