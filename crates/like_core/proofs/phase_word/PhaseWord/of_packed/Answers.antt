@@ -8,7 +8,7 @@ use Rattle.like_core.proofs.phase_word.PhaseWord.of_packed.Goals as goal
 pub unreachable-requires : goal.unreachable-requires
 unreachable-requires c =
     let w = word_with c.requires.0 c.requires.1 in
-    c.in-None.ensures.none w.0 (ap packed w.1 ∙ c.requires.2)
+    c.in-None.ensures.found w.0 (ap packed w.1 ∙ c.requires.2)
 
 pub returns : goal.returns
 returns c = λ f lawful is.
