@@ -98,13 +98,13 @@ announces z words views place c some_state at may =
     let sh = some_state.shows in
     let old : FitsCoord z s c = sh.each place (Coord c) at in
     let last = some_and c.last
-    (λ (sight : CoordSight). (sight.ending ≡ false) × (nat_lt sight.number last_phase ≡ true))
+    (λ (sight : CoordSight). (sight.ending ≡ false) × (sight.number < last_phase))
     (λ (sight : CoordSight). (sight.number ≡ s.phase) × (sight.ending ≡ s.ending))
     (λ (sight : CoordSight). sight.all_in ≡ true → CoordSees (numbers z s) sight × (c.word ≡ shown_word z s))
     may old.last old.stays
     in
     let running : s.ending ≡ false = sym last.3.1 ∙ last.2.0 in
-    let below : s.phase < last_phase = subst (λ n. n < last_phase) last.3.0 (ltb-true last.0.number last_phase last.2.1) in
+    let below : s.phase < last_phase = subst (λ n. n < last_phase) last.3.0 last.2.1 in
     let permits : Permits (numbers z s) Announce = record { there = tt; suits = running; leaves_last = below; room = tt } in
     let t : CoreState = phased s s.phase true in
     let reachable = goes_on_by z s Announce some_state.reachable permits in

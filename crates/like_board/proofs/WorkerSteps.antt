@@ -22,7 +22,8 @@ use Rattle.like_core.specs.State.{CoreState, numbers}
 use Rattle.like_core.specs.Reachable.{Reachable}
 use Rattle.like_core.specs.Sights.{sight_of}
 use Rattle.like_core.specs.ShownWord.{shown_fields}
-use Rattle.like_core.specs.Views.{Running, ViewRuns, ViewRunsJoined, ViewRunsSplit, ViewSawEnding, CanSee, state_after, phase_in, looked_view, answered_view, retired_view}
+use Rattle.like_core.specs.Post.{RunsSome, IsSightOf, seen, phase_of}
+use Rattle.like_core.specs.Views.{ViewRuns, ViewRunsJoined, ViewRunsSplit, ViewSawEnding, looked_view, answered_view, retired_view}
 use Rattle.like_core.specs.Shows.{Shows, ShowsSome, FitsWorker, IsStep}
 use Rattle.like_core.proofs.Updates.{update-same}
 use Rattle.like_core.proofs.Reached.{goes_on_by}
@@ -33,14 +34,14 @@ use Rattle.like_board.specs.Plays.{Looked}
 use Rattle.like_board.proofs.Moves.{worker_moves}
 
 -- the phase that a worker runs
-pub running_is : (P : ℕ → Type 0) (state : WorkerState) → Running P state → (phase : ℕ) × (state ≡ Runs phase) × P phase
+pub running_is : (P : ℕ → Type 0) (state : WorkerState) → RunsSome P state → (phase : ℕ) × (state ≡ Runs phase) × P phase
 running_is P (Runs phase) h = (phase, refl, h)
 running_is P (Answered phase) h = absurd h
 running_is P Gone h = absurd h
 
 -- a view whose worker runs a phase
 runs_view : (v : WorkerView) (phase : ℕ) → v.state ≡ Runs phase → ViewRuns v
-runs_view v phase is = subst (Running (λ _. Unit {0})) (sym is) tt
+runs_view v phase is = subst (RunsSome (λ _. Unit {0})) (sym is) tt
 
 not_true : (b : Bool) → (IsTrue b → ⊥) → b ≡ false
 not_true true no_ = absurd (no_ refl)
@@ -48,8 +49,8 @@ not_true false no_ = refl
 
 -- what a look shows to a worker in this state, and where it takes the worker
 pub record LooksAt (phase : ℕ) (state : WorkerState) (sight : Sight) : Type 0 where
-  pub can : CanSee state sight
-  pub goes : state_after state sight ≡ looked phase state
+  pub can : IsSightOf state sight
+  pub goes : seen state sight ≡ looked phase state
 
 -- whoever is not gone looks so
 looks_at : (phase : ℕ) (state : WorkerState) (sight : Sight) → ((j : ℕ) → state ≡ Runs j → j ≡ phase) → ((j : ℕ) → state ≡ Answered j → (j ≡ phase) ⊎ (j + 1 ≡ phase)) → state ≢ Gone → sight.number ≡ phase → (IsTrue sight.waits ↔ (state ≡ Answered phase)) → LooksAt phase state sight
@@ -114,7 +115,7 @@ looks z words views place v some_state at there =
     record {
       setting = old.setting;
       there = old.there;
-      state = update-same s.state i state ∙ (sym la.goes ∙ ap (λ st. state_after st sight) old.state);
+      state = update-same s.state i state ∙ (sym la.goes ∙ ap (λ st. seen st sight) old.state);
       number = (let e : sight.number ≡ s.phase = sees.number in omega arith);
       ending = λ _ saw. sym sees.ending ∙ saw;
     }
@@ -133,7 +134,7 @@ looks z words views place v some_state at there =
         fields = f;
         lawful = lawful;
         found_is = sh.word;
-        can = subst (λ (st : WorkerState). CanSee st sight) old.state la.can;
+        can = subst (λ (st : WorkerState). IsSightOf st sight) old.state la.can;
         ending = λ runs saw. sees.ending ∙ old.ending runs saw;
         step = record {
           words = words;
@@ -165,7 +166,7 @@ answers z s words views place v phase reached sh at runs present =
     record {
       setting = old.setting;
       there = old.there;
-      state = update-same s.state i state ∙ ap Answered (sym present ∙ sym (ap phase_in runs));
+      state = update-same s.state i state ∙ ap Answered (sym present ∙ sym (ap phase_of runs));
       number = old.number;
       ending = λ running _. absurd running;
     }

@@ -10,7 +10,8 @@ use Rattle.like_core.specs.declared.view.View.TheVariants.{Coord, Worker}
 use Rattle.like_core.specs.Phase.{IsSplit}
 use Rattle.like_core.specs.Word.{Fields, packed, IsLawful}
 use Rattle.like_core.specs.Sights.{sight_of, coord_sight_of}
-use Rattle.like_core.specs.Views.{ViewRuns, ViewSawEnding, CanSee, looked_view, looked_coord}
+use Rattle.like_core.specs.Post.{IsSightOf}
+use Rattle.like_core.specs.Views.{ViewRuns, ViewSawEnding, looked_view, looked_coord}
 use Rattle.like_core.specs.Shows.{IsStep}
 use Rattle.like_board.specs.Known.{worker_of, coord_of}
 
@@ -19,7 +20,7 @@ pub record Looked (z : Setting) (found : ℕ) (v : WorkerView) : Type 0 where
   pub fields : Fields
   pub lawful : IsLawful fields
   pub found_is : found ≡ packed fields
-  pub can : CanSee v.state (sight_of fields v.worker)
+  pub can : IsSightOf v.state (sight_of fields v.worker)
   pub ending : ViewRuns v → ViewSawEnding v → (sight_of fields v.worker).ending ≡ true
   pub step : IsStep z (Look v.worker) (Seen (sight_of fields v.worker)) (Worker v) (Worker (looked_view v (sight_of fields v.worker)))
 

@@ -17,7 +17,8 @@ impl BoardPost<'_> {
     ghost use Rattle.like_core.specs.declared.shown.Shown.TheVariants.{Seen, Done};
     ghost use Rattle.like_core.specs.declared.view.View.TheVariants.{Worker};
     ghost use Rattle.like_core.specs.declared.worker_state.WorkerState.TheVariants.{Gone};
-    ghost use Rattle.like_core.specs.Views.{ViewRuns, ViewRunsJoined, ViewRunsSplit, ViewSawEnding, CanSee, looked_view, answered_view, retired_view};
+    ghost use Rattle.like_core.specs.Post.{IsSightOf};
+    ghost use Rattle.like_core.specs.Views.{ViewRuns, ViewRunsJoined, ViewRunsSplit, ViewSawEnding, looked_view, answered_view, retired_view};
     ghost use Rattle.like_core.specs.Shows.{IsStep};
     ghost use Rattle.like_board.specs.Seats.{seat_board, seat_view, post_board, post_view};
 
@@ -27,7 +28,7 @@ impl BoardPost<'_> {
         requires { (post_view self.old).state ≢ Gone }
         ensures board { post_board self.new ≡ post_board self.old }
         ensures view { post_view self.new ≡ looked_view (post_view self.old) result }
-        ensures sight { CanSee (post_view self.old).state result }
+        ensures sight { IsSightOf (post_view self.old).state result }
         ensures ending { ViewRuns (post_view self.old) → ViewSawEnding (post_view self.old) → result.ending ≡ true }
         ensures event { IsStep (post_view self.old).setting (Look (post_view self.old).worker) (Seen result) (Worker (post_view self.old)) (Worker (post_view self.new)) }
     {

@@ -14,7 +14,7 @@ const ANSWERED: u32 = 8;
 /// The first bit of the phase word that says that a worker retired.
 const RETIRED: u32 = 24;
 
-/// A worker's right to step on a board. It lies in no thread, and any thread may take it.
+/// A worker's right to step on a board. It borrows nothing, so any thread may take it.
 #[derive(Drop)]
 pub struct WorkerSeat {
     pub(crate) seat: Seat<(), View>,
@@ -28,7 +28,8 @@ impl WorkerSeat {
     ghost use Rattle.like_core.specs.declared.event.Event.TheVariants.{Look, Acknowledge, Report, Retire};
     ghost use Rattle.like_core.specs.declared.shown.Shown.TheVariants.{Seen, Done};
     ghost use Rattle.like_core.specs.declared.worker_state.WorkerState.TheVariants.{Gone};
-    ghost use Rattle.like_core.specs.Views.{ViewRuns, ViewRunsJoined, ViewRunsSplit, ViewSawEnding, CanSee, looked_view, answered_view, retired_view};
+    ghost use Rattle.like_core.specs.Post.{IsSightOf};
+    ghost use Rattle.like_core.specs.Views.{ViewRuns, ViewRunsJoined, ViewRunsSplit, ViewSawEnding, looked_view, answered_view, retired_view};
     ghost use Rattle.like_core.specs.Shows.{IsStep};
     ghost use Rattle.like_board.specs.Seats.{board_id, seat_board, seat_view, post_board, post_view};
 
@@ -46,7 +47,7 @@ impl WorkerSeat {
         requires there { (seat_view self.old).state ≢ Gone }
         ensures board { seat_board self.new ≡ seat_board self.old }
         ensures view { seat_view self.new ≡ looked_view (seat_view self.old) result }
-        ensures sight { CanSee (seat_view self.old).state result }
+        ensures sight { IsSightOf (seat_view self.old).state result }
         ensures ending { ViewRuns (seat_view self.old) → ViewSawEnding (seat_view self.old) → result.ending ≡ true }
         ensures event { IsStep (seat_view self.old).setting (Look (seat_view self.old).worker) (Seen result) (Worker (seat_view self.old)) (Worker (seat_view self.new)) }
     {

@@ -1,4 +1,4 @@
-use Rattle.std.specs.Prelude.{◌≡◌, ℕ, ◌+◌, ◌==◌, nat_lt, Bool, true, false, if◌then◌else◌, [], count_by, Option, Some, None, IsSomeAnd, MatchBool}
+use Rattle.std.specs.Prelude.{◌≡◌, ℕ, ◌+◌, ◌==◌, ◌<◌, Bool, true, false, if◌then◌else◌, [], count_by, Option, Some, None, IsSomeAnd}
 use Rattle.like_core.specs.declared.worker_state.WorkerState.{WorkerState}
 use Rattle.like_core.specs.declared.worker_state.WorkerState.TheVariants.{Runs, Answered, Gone}
 use Rattle.like_core.specs.declared.sight.Sight.{Sight}
@@ -9,6 +9,7 @@ use Rattle.like_core.specs.declared.view.CoordView.{CoordView}
 use Rattle.like_core.specs.declared.view.View.{View}
 use Rattle.like_core.specs.declared.view.View.TheVariants.{Coord, Worker, Spent}
 use Rattle.like_core.specs.Phase.{last_phase, IsJoined, IsSplit}
+use Rattle.like_core.specs.Post.{RunsSome, phase_of, seen}
 
 -- a worker's view before its seat made a step: it runs phase 0, looked never and added nothing
 abbrev pub fresh : Setting → ℕ → WorkerView
@@ -35,54 +36,29 @@ fresh_coord z word = record {
   joined = [];
 }
 
--- the worker runs a phase of which P holds
-abbrev pub Running : (ℕ → Type 0) → WorkerState → Type 0
-Running P (Runs phase) = P phase
-Running P (Answered phase) = ⊥
-Running P Gone = ⊥
-
 -- the worker of the view runs a phase
 abbrev pub ViewRuns : WorkerView → Type 0
-ViewRuns v = Running (λ _. Unit {0}) v.state
+ViewRuns v = RunsSome (λ _. Unit {0}) v.state
 
 -- it runs a joined phase
 abbrev pub ViewRunsJoined : WorkerView → Type 0
-ViewRunsJoined v = Running IsJoined v.state
+ViewRunsJoined v = RunsSome IsJoined v.state
 
 -- it runs a split phase
 abbrev pub ViewRunsSplit : WorkerView → Type 0
-ViewRunsSplit v = Running IsSplit v.state
+ViewRunsSplit v = RunsSome IsSplit v.state
 
 -- its last look showed that the end of the phase was announced
 abbrev pub ViewSawEnding : WorkerView → Type 0
 ViewSawEnding v = IsSomeAnd v.last (λ sight. sight.ending ≡ true)
 
--- what a worker in this state can see: one that runs a phase sees that phase; one that has answered a phase sees that
--- phase and waits, or the next
-abbrev pub CanSee : WorkerState → Sight → Type 0
-CanSee (Runs phase) sight = (sight.number ≡ phase) × (sight.waits ≡ false)
-CanSee (Answered phase) sight = MatchBool sight.waits (sight.number ≡ phase) (sight.number ≡ phase + 1)
-CanSee Gone sight = ⊥
-
--- the worker's state after a sight: one that has answered, and does not wait, runs the next phase
-abbrev pub state_after : WorkerState → Sight → WorkerState
-state_after (Runs phase) sight = Runs phase
-state_after (Answered phase) sight = (if sight.waits then Answered phase else Runs (phase + 1))
-state_after Gone sight = Gone
-
--- the phase that a worker in this state runs or has answered
-abbrev pub phase_in : WorkerState → ℕ
-phase_in (Runs phase) = phase
-phase_in (Answered phase) = phase
-phase_in Gone = 0
-
 -- a worker's view after a look
 abbrev pub looked_view : WorkerView → Sight → WorkerView
-looked_view v sight = record v { state = state_after v.state sight; last = Some sight }
+looked_view v sight = record v { state = seen v.state sight; last = Some sight }
 
 -- a worker's view after an acknowledgement or a report
 abbrev pub answered_view : WorkerView → WorkerView
-answered_view v = record v { state = Answered (phase_in v.state) }
+answered_view v = record v { state = Answered (phase_of v.state) }
 
 -- a worker's view after it retired
 abbrev pub retired_view : WorkerView → WorkerView
@@ -112,7 +88,7 @@ made_coord c = record c { made = c.made + 1 }
 
 -- the coordinator may announce: the last look, since which it made no step, showed a running phase that is not the last
 abbrev pub MayAnnounce : CoordView → Type 0
-MayAnnounce c = IsSomeAnd c.last (λ sight. (sight.ending ≡ false) × (nat_lt sight.number last_phase ≡ true))
+MayAnnounce c = IsSomeAnd c.last (λ sight. (sight.ending ≡ false) × (sight.number < last_phase))
 
 -- the coordinator may release: the last look, since which it made no step, showed an ending phase and all in
 abbrev pub MayRelease : CoordView → Type 0
