@@ -1,6 +1,5 @@
 -- Each step of the coordinator is the event, and keeps what the board shows.
-use Rattle.std.proofs.Common.{◌≡◌, ℕ, ◌+◌, ◌%◌, ◌^◌, ◌<◌, ◌≤◌, nat_lt, true, false, List, get_or, set, Option, Some, None, IfSome, IsSomeAnd, subst, ap, sym, ◌∙◌, refl, arith}
-use Rattle.std.proofs.lemmas.Bool.{ltb-true}
+use Rattle.std.proofs.Common.{◌≡◌, ℕ, ◌+◌, ◌%◌, ◌^◌, ◌<◌, ◌≤◌, true, false, List, get_or, set, Option, Some, None, IfSome, IsSomeAnd, subst, ap, sym, ◌∙◌, refl, arith}
 use mathlib.Core.Option.{some}
 use lib.ListN.{get_elem?}
 use Rattle.like_core.specs.declared.sight.Sight.{Sight}

@@ -76,6 +76,7 @@ impl BoardPost<'_> {
         ensures board { seat_board result ≡ post_board self.entry }
         ensures view { seat_view result ≡ post_view self.entry }
     {
-        self.seat
+        let BoardPost { board: _, seat } = self;
+        seat
     }
 }
