@@ -1,4 +1,5 @@
 pub mod Answered
+pub mod Examples
 pub mod Lists
 pub mod Plans
 pub mod Right

@@ -10,7 +10,7 @@ mod users;
 
 pub use held::Held;
 pub use slice::{MAX_LIKES, Slice};
-pub use stash::{MAX_HELD, Stash};
+pub use stash::Stash;
 pub use users::Users;
 
 #[cfg(test)]

@@ -1,13 +1,11 @@
 ghost use Rattle.std.specs.Prelude.{◌≡◌, ◌<◌, ◌≤◌, ◌↔◌, [], ◌∷◌, ◌++◌, IfOk, IsTrue, drop, length, slice_get};
+ghost use Rattle.like_requests.specs.declared.setup.TheConstants.{MAX_STASH};
 ghost use Rattle.like_tables.specs.Waiting.{IsWaiting};
 
 use crate::held::Held;
 use std::alloc::{AllocError, Global};
 use std::collections::VecDeque;
 use std::marker::Model;
-
-/// The most requests that a stash may hold.
-pub const MAX_HELD: u32 = 4_096;
 
 /// A worker's stash: the requests of a split phase that wait for the next joined one, first in, first out.
 #[derive(Debug, Drop)]
@@ -31,7 +29,7 @@ impl Stash {
     /// A stash that holds nothing. Its room, for `capacity` requests, is made here.
     pub fn new(alloc: Global, capacity: u32) -> Result<Self, AllocError>
         requires some { 1 ≤ capacity }
-        requires few { capacity ≤ MAX_HELD }
+        requires few { capacity ≤ MAX_STASH }
         ensures { IfOk result (λ stash. stash ≡ record { held = []; capacity = capacity }) }
     {
         Ok(Stash {

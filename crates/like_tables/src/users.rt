@@ -76,7 +76,8 @@ impl Users {
         requires { IsTrue (owns self.old.share user) }
         ensures table { self.new ≡ with_last self.old user page }
         ensures user { last_of self.new user ≡ Some page }
-        ensures others { (other : ℕ) → other ≢ user → last_of self.new other ≡ last_of self.old other }
+        ensures others { (other : ℕ) → other ≢ user
+            → last_of self.new other ≡ last_of self.old other }
     {
         let place = self.share.owned_below(user) as usize;
         self.pages[place] = Some(page);

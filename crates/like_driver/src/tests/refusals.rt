@@ -192,3 +192,16 @@ fn files_first(rt: HostRuntime) -> Result<(), Fail> {
     assert!(rt; is_untouched);
     Ok(())
 }
+
+#[test]
+fn empty_requests(rt: HostRuntime) -> Result<(), Fail> {
+    let options = options(rt.alloc(), 2, 1)?;
+    let (fault, is_untouched) = fault_of(rt.alloc(), &options, PAGES, "")?;
+    let want = DriverFault::Requests {
+        submitter: 0,
+        fault: RequestsFault::Header,
+    };
+    assert_eq!(rt; fault, Some(want));
+    assert!(rt; is_untouched);
+    Ok(())
+}

@@ -1,0 +1,88 @@
+-- Worked examples of the definitions: three likes by two users, two verdicts of four, and a look that two slices meet.
+use Rattle.std.proofs.Common.{◌≡◌, ℕ, ◌+◌, List, [], ◌∷◌, Option, Some, None, true, false, refl, arith}
+use Rattle.std.specs.Prelude.{codes, decimal}
+use Rattle.like_requests.specs.Pages.{Page}
+use Rattle.like_requests.specs.declared.request.Op.TheVariants.{Like, Look}
+use Rattle.like_requests.specs.declared.request.PageRef.TheVariants.{Known, Unknown}
+use Rattle.like_requests.specs.declared.request.Request.{Request}
+use Rattle.like_requests.specs.declared.verdict.Verdict.TheVariants.{OtherHome, UnknownPage, UnknownUser}
+use Rattle.like_driver.specs.declared.reply.Reply.{Reply}
+use Rattle.like_driver.specs.declared.reply.Reply.TheVariants.{Liked, Seen, Refused}
+use Rattle.like_driver.specs.Likes.{Between, initial_count, last_like, likes, likes_below, likes_up_to, likes_within}
+use Rattle.like_driver.specs.Ran.{Ran}
+use Rattle.like_driver.specs.Replies.{IsRightAnswer}
+use Rattle.like_driver.specs.Reported.{Reported}
+use Rattle.like_driver.specs.Rows.{report_rows}
+use Rattle.like_driver.specs.Service.{Service}
+
+abbrev page_a : ℕ → Page
+page_a count = record { name = codes "a"; count = count; split = true }
+
+abbrev asks_like : ℕ → Request
+asks_like user = record { op = Like; user = user; page = Known 0 }
+
+abbrev asks_look : ℕ → Request
+asks_look user = record { op = Look; user = user; page = Known 0 }
+
+abbrev runs_at : ℕ → ℕ → ℕ → Reply → Ran
+runs_at phase submitter number reply = record { phase = phase; submitter = submitter; number = number; stashed = false; reply = reply }
+
+-- three likes of two users
+abbrev plain : Service
+plain = record { users = 2; pages = page_a 10 ∷ []; plans = (asks_like 0 ∷ asks_like 1 ∷ asks_like 0 ∷ []) ∷ [] }
+
+abbrev plain_ran : List Ran
+plain_ran = runs_at 0 0 1 Liked ∷ runs_at 0 0 2 Liked ∷ runs_at 0 0 3 Liked ∷ []
+
+plain_count : initial_count plain.pages 0 + likes plain 0 (plain_ran ∷ []) ≡ 13
+plain_count = refl
+
+plain_last : last_like plain 1 plain_ran ≡ Some 0
+plain_last = refl
+
+plain_first : last_like plain 0 [] ≡ None
+plain_first = refl
+
+plain_rows : report_rows plain.pages (record { replies = (record { phase = 0; stashed = false; reply = Liked } ∷ []) ∷ []; counts = 13 ∷ []; last = None ∷ Some 0 ∷ [] })
+    ≡ (codes "row" ∷ codes "id" ∷ codes "number" ∷ codes "phase" ∷ codes "answer" ∷ codes "page" ∷ codes "count" ∷ [])
+    ∷ (codes "reply" ∷ decimal 0 ∷ decimal 1 ∷ decimal 0 ∷ codes "liked" ∷ [] ∷ [] ∷ [])
+    ∷ (codes "page" ∷ decimal 0 ∷ [] ∷ [] ∷ [] ∷ codes "a" ∷ decimal 13 ∷ [])
+    ∷ (codes "user" ∷ decimal 1 ∷ [] ∷ [] ∷ [] ∷ codes "a" ∷ [] ∷ [])
+    ∷ []
+plain_rows = refl
+
+-- two submitters, and the verdicts on three requests of the first
+abbrev judged : Service
+judged = record { users = 2; pages = page_a 10 ∷ []; plans = (asks_like 2 ∷ asks_look 1 ∷ (record { op = Like; user = 0; page = Unknown }) ∷ []) ∷ [] ∷ [] }
+
+unknown_user : IsRightAnswer judged [] (runs_at 0 0 1 (Refused UnknownUser))
+unknown_user = refl
+
+other_home : IsRightAnswer judged [] (runs_at 0 0 2 (Refused OtherHome))
+other_home = refl
+
+unknown_page : IsRightAnswer judged [] (runs_at 0 0 3 (Refused UnknownPage))
+unknown_page = refl
+
+-- two workers: two likes in phase 1, then a look in phase 2
+abbrev sliced : Service
+sliced = record { users = 2; pages = page_a 100 ∷ []; plans = (asks_like 0 ∷ asks_look 0 ∷ []) ∷ (asks_like 1 ∷ []) ∷ [] }
+
+abbrev look : Ran
+look = record { phase = 2; submitter = 0; number = 2; stashed = true; reply = Seen (Some 0) 102 }
+
+abbrev sliced_runs : List (List Ran)
+sliced_runs = (runs_at 1 0 1 Liked ∷ look ∷ []) ∷ (runs_at 1 1 1 Liked ∷ []) ∷ []
+
+look_answer : IsRightAnswer sliced (runs_at 1 0 1 Liked ∷ []) look
+look_answer = (refl, tt)
+
+-- the bounds of the look meet in 102, and a look of the first worker in phase 1, before its like, may see 100 or 101
+look_count : Between sliced sliced_runs 2 0 102 (likes_within sliced 0 (runs_at 1 0 1 Liked ∷ []) 2) 0
+look_count = record { lower = omega arith; upper = omega arith }
+
+below_1 : likes_below sliced 0 sliced_runs 1 ≡ 0
+below_1 = refl
+
+up_to_1 : likes_up_to sliced 0 sliced_runs 1 ≡ 2
+up_to_1 = refl
