@@ -16,3 +16,7 @@ pub mod CoreReached
 pub mod LoneLooks
 pub mod LoneSteps
 pub mod LoneAdds
+pub mod Masks
+pub mod Unanswered
+pub mod ShownEvents
+pub mod FromFields

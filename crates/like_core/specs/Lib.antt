@@ -12,5 +12,9 @@ pub mod Reachable
 pub mod Exclusive
 pub mod Likes
 pub mod Core
+pub mod Sights
+pub mod ShownWord
+pub mod Views
+pub mod Shows
 pub mod Post
 pub mod Lone

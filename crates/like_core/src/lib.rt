@@ -19,6 +19,8 @@ mod shown;
 mod sight;
 #[cfg(test)]
 mod tests;
+mod view;
+mod word_sights;
 mod word_steps;
 mod worker_state;
 
@@ -32,4 +34,5 @@ pub use sequence::check_events;
 pub use setting::Setting;
 pub use shown::Shown;
 pub use sight::{CoordSight, Sight};
+pub use view::{Addition, CoordView, PageRead, View, WorkerView};
 pub use worker_state::WorkerState;

@@ -1,0 +1,179 @@
+-- Each step is allowed by the rule, and tells what it is said to tell.
+use Rattle.std.proofs.Common.{◌≡◌, ◌≢◌, ℕ, ◌+◌, ◌%◌, ◌^◌, ◌<◌, bit_or, List, [], ◌∷◌, ◌++◌, get_or, slice_set, subst, ap, sym, ◌∙◌, refl}
+use mathlib.Core.Option.{some}
+use lib.ListN.{get_elem?}
+use Rattle.atomic_table.specs.Table.{Me, keeps, Allows, Splits}
+use Rattle.like_core.specs.declared.worker_state.WorkerState.TheVariants.{Gone}
+use Rattle.like_core.specs.declared.event.Event.TheVariants.{Acknowledge, Report, Retire, Announce, Release}
+use Rattle.like_core.specs.declared.shown.Shown.TheVariants.{Done}
+use Rattle.like_core.specs.declared.setting.Setting.{Setting}
+use Rattle.like_core.specs.declared.view.WorkerView.{WorkerView}
+use Rattle.like_core.specs.declared.view.CoordView.{CoordView}
+use Rattle.like_core.specs.declared.view.View.{View}
+use Rattle.like_core.specs.declared.view.View.TheVariants.{Coord, Worker}
+use Rattle.like_core.specs.Word.{Fields, packed, IsLawful, released}
+use Rattle.like_core.specs.Sights.{sight_of, coord_sight_of}
+use Rattle.like_core.specs.Views.{ViewRunsJoined, ViewRunsSplit, ViewSawEnding, MayAnnounce, MayRelease, fresh, looked_view, answered_view, retired_view, looked_coord, announced_coord, released_coord, made_coord}
+use Rattle.like_core.specs.Shows.{ShowsSome, FitsWorker, FitsCoord, IsStep}
+use Rattle.like_board.specs.declared.key.Key.{Key}
+use Rattle.like_board.specs.Known.{worker_of, coord_of}
+use Rattle.like_board.specs.Rule.{setting_of, IsShowing}
+use Rattle.like_board.specs.Plays.{Looked, Surveyed, TellsLook, TellsSurvey, TellsWorker, TellsCoord}
+use Rattle.like_board.proofs.Leads.{splits}
+use Rattle.like_board.proofs.WorkerSteps.{looks, acknowledges, reports, retires}
+use Rattle.like_board.proofs.CoordSteps.{surveys, announces, releases}
+
+-- the setting in a worker's view is the board's
+worker_setting : (z : Setting) (words : List ℕ) (views : List View) (place : ℕ) (v : WorkerView) → ShowsSome z words views → get_elem? views place ≡ some (Worker v) → v.setting ≡ z
+worker_setting z words views place v some_state at =
+    let fits : FitsWorker z some_state.state v = some_state.shows.each place (Worker v) at in fits.setting
+
+-- the setting in the coordinator's view is the board's
+coord_setting : (z : Setting) (words : List ℕ) (views : List View) (place : ℕ) (c : CoordView) → ShowsSome z words views → get_elem? views place ≡ some (Coord c) → c.setting ≡ z
+coord_setting z words views place c some_state at =
+    let fits : FitsCoord z some_state.state c = some_state.shows.each place (Coord c) at in fits.setting
+
+pub looking : {S : Type 0} (key : Key) (slots id : ℕ) (me : Me S View) → me ≡ (Worker (worker_of me.0), []) → (worker_of me.0).state ≢ Gone → Allows (IsShowing key) slots id me 0 (λ n. n) (λ found after. TellsLook me.0 found after.0 × (after.1 ≡ []))
+looking {S} key slots id me is there = λ st shows _ at _.
+    let z = setting_of key in
+    let v : WorkerView = worker_of me.0 in
+    let here : get_elem? st.views id ≡ some (Worker v) = at ∙ ap (λ (m : Me S View). some m.0) is in
+    let same = worker_setting z st.words st.views id v shows here in
+    let r = looks z st.words st.views id v shows here there in
+    let P : Setting → Type 0 = λ y. (l : Looked y (get_or st.words 0 0) v) × (l.fields ≡ r.0.fields) in
+    let told : P v.setting = subst P (sym same) (r.0, refl) in
+    let w : View = Worker (looked_view v (sight_of r.0.fields v.worker)) in (
+      w,
+      keeps,
+      tt,
+      r.1,
+      (
+        record {
+          looked = told.0;
+          view = ap (λ (f : Fields). Worker (looked_view v (sight_of f v.worker))) (sym told.1);
+        },
+        ap (λ (m : Me S View). m.1) is,
+      ),
+    )
+
+pub acknowledging : {S : Type 0} (key : Key) (slots id : ℕ) (me : Me S View) (bit : ℕ) → bit ≡ 2 ^ (8 + (worker_of me.0).worker) → me ≡ (Worker (worker_of me.0), []) → ViewRunsJoined (worker_of me.0) → ViewSawEnding (worker_of me.0) → Allows (IsShowing key) slots id me 0 (λ n. bit_or n bit) (λ found after. TellsWorker (λ v. Acknowledge v.worker) answered_view me.0 after.0 × (after.1 ≡ []))
+acknowledging {S} key slots id me bit bit_is is joined saw = λ st shows _ at _.
+    let z = setting_of key in
+    let v : WorkerView = worker_of me.0 in
+    let here : get_elem? st.views id ≡ some (Worker v) = at ∙ ap (λ (m : Me S View). some m.0) is in
+    let same = worker_setting z st.words st.views id v shows here in
+    let r = acknowledges z st.words st.views id v shows here joined saw in (
+      Worker (answered_view v),
+      keeps,
+      tt,
+      subst (λ (b : ℕ). ShowsSome z (slice_set st.words 0 (bit_or (get_or st.words 0 0) b)) (slice_set st.views id (Worker (answered_view v)))) (sym bit_is) r.1,
+      (
+        record { view = refl; step = subst (λ (y : Setting). IsStep y (Acknowledge v.worker) Done (Worker v) (Worker (answered_view v))) (sym same) r.0 },
+        ap (λ (m : Me S View). m.1) is,
+      ),
+    )
+
+pub reporting : {S : Type 0} (key : Key) (slots id : ℕ) (me : Me S View) (bit : ℕ) → bit ≡ 2 ^ (8 + (worker_of me.0).worker) → me ≡ (Worker (worker_of me.0), []) → ViewRunsSplit (worker_of me.0) → ViewSawEnding (worker_of me.0) → Allows (IsShowing key) slots id me 0 (λ n. bit_or n bit) (λ found after. TellsWorker (λ v. Report v.worker) answered_view me.0 after.0 × (after.1 ≡ []))
+reporting {S} key slots id me bit bit_is is split saw = λ st shows _ at _.
+    let z = setting_of key in
+    let v : WorkerView = worker_of me.0 in
+    let here : get_elem? st.views id ≡ some (Worker v) = at ∙ ap (λ (m : Me S View). some m.0) is in
+    let same = worker_setting z st.words st.views id v shows here in
+    let r = reports z st.words st.views id v shows here split saw in (
+      Worker (answered_view v),
+      keeps,
+      tt,
+      subst (λ (b : ℕ). ShowsSome z (slice_set st.words 0 (bit_or (get_or st.words 0 0) b)) (slice_set st.views id (Worker (answered_view v)))) (sym bit_is) r.1,
+      (
+        record { view = refl; step = subst (λ (y : Setting). IsStep y (Report v.worker) Done (Worker v) (Worker (answered_view v))) (sym same) r.0 },
+        ap (λ (m : Me S View). m.1) is,
+      ),
+    )
+
+pub retiring : {S : Type 0} (key : Key) (slots id : ℕ) (me : Me S View) (bit : ℕ) → bit ≡ 2 ^ (24 + (worker_of me.0).worker) → me ≡ (Worker (worker_of me.0), []) → ViewRunsJoined (worker_of me.0) → Allows (IsShowing key) slots id me 0 (λ n. bit_or n bit) (λ found after. TellsWorker (λ v. Retire v.worker) retired_view me.0 after.0 × (after.1 ≡ []))
+retiring {S} key slots id me bit bit_is is joined = λ st shows _ at _.
+    let z = setting_of key in
+    let v : WorkerView = worker_of me.0 in
+    let here : get_elem? st.views id ≡ some (Worker v) = at ∙ ap (λ (m : Me S View). some m.0) is in
+    let same = worker_setting z st.words st.views id v shows here in
+    let r = retires z st.words st.views id v shows here joined in (
+      Worker (retired_view v),
+      keeps,
+      tt,
+      subst (λ (b : ℕ). ShowsSome z (slice_set st.words 0 (bit_or (get_or st.words 0 0) b)) (slice_set st.views id (Worker (retired_view v)))) (sym bit_is) r.1,
+      (
+        record { view = refl; step = subst (λ (y : Setting). IsStep y (Retire v.worker) Done (Worker v) (Worker (retired_view v))) (sym same) r.0 },
+        ap (λ (m : Me S View). m.1) is,
+      ),
+    )
+
+pub surveying : {S : Type 0} (key : Key) (slots id : ℕ) (me : Me S View) → me ≡ (Coord (coord_of me.0), []) → Allows (IsShowing key) slots id me 0 (λ n. n) (λ found after. TellsSurvey me.0 found after.0 × (after.1 ≡ []))
+surveying {S} key slots id me is = λ st shows _ at _.
+    let z = setting_of key in
+    let c : CoordView = coord_of me.0 in
+    let here : get_elem? st.views id ≡ some (Coord c) = at ∙ ap (λ (m : Me S View). some m.0) is in
+    let same = coord_setting z st.words st.views id c shows here in
+    let r = surveys z st.words st.views id c shows here in
+    let found : ℕ = get_or st.words 0 0 in
+    let P : Setting → Type 0 = λ y. (l : Surveyed y found c) × (l.fields ≡ r.0.fields) in
+    let told : P c.setting = subst P (sym same) (r.0, refl) in (
+      Coord (looked_coord c found (coord_sight_of r.0.fields)),
+      keeps,
+      tt,
+      r.1,
+      (
+        record {
+          surveyed = told.0;
+          view = ap (λ (f : Fields). Coord (looked_coord c found (coord_sight_of f))) (sym told.1);
+        },
+        ap (λ (m : Me S View). m.1) is,
+      ),
+    )
+
+pub announcing : {S : Type 0} (key : Key) (slots id : ℕ) (me : Me S View) → me ≡ (Coord (coord_of me.0), []) → MayAnnounce (coord_of me.0) → Allows (IsShowing key) slots id me 0 (λ n. (n + 1) % 2 ^ 64) (λ found after. TellsCoord Announce announced_coord me.0 after.0 × (after.1 ≡ []))
+announcing {S} key slots id me is may = λ st shows _ at _.
+    let z = setting_of key in
+    let c : CoordView = coord_of me.0 in
+    let here : get_elem? st.views id ≡ some (Coord c) = at ∙ ap (λ (m : Me S View). some m.0) is in
+    let same = coord_setting z st.words st.views id c shows here in
+    let r = announces z st.words st.views id c shows here may in (
+      Coord (announced_coord c),
+      keeps,
+      tt,
+      r.1,
+      (
+        record { view = refl; step = subst (λ (y : Setting). IsStep y Announce Done (Coord c) (Coord (announced_coord c))) (sym same) r.0 },
+        ap (λ (m : Me S View). m.1) is,
+      ),
+    )
+
+pub releasing : {S : Type 0} (key : Key) (slots id : ℕ) (me : Me S View) (seen : Fields) (new : ℕ) → new ≡ packed (released seen) → IsLawful seen → packed seen ≡ (coord_of me.0).word → me ≡ (Coord (coord_of me.0), []) → MayRelease (coord_of me.0) → Allows (IsShowing key) slots id me 0 (λ _. new) (λ found after. TellsCoord Release released_coord me.0 after.0 × (after.1 ≡ []))
+releasing {S} key slots id me seen new new_is lawful seen_is is may = λ st shows _ at _.
+    let z = setting_of key in
+    let c : CoordView = coord_of me.0 in
+    let here : get_elem? st.views id ≡ some (Coord c) = at ∙ ap (λ (m : Me S View). some m.0) is in
+    let same = coord_setting z st.words st.views id c shows here in
+    let r = releases z st.words st.views id c seen shows here may lawful seen_is in (
+      Coord (released_coord c),
+      keeps,
+      tt,
+      subst (λ (n : ℕ). ShowsSome z (slice_set st.words 0 n) (slice_set st.views id (Coord (released_coord c)))) (sym new_is) r.1,
+      (
+        record { view = refl; step = subst (λ (y : Setting). IsStep y Release Done (Coord c) (Coord (released_coord c))) (sym same) r.0 },
+        ap (λ (m : Me S View). m.1) is,
+      ),
+    )
+
+pub making : {S : Type 0} (key : Key) (id : ℕ) (v : View) → v ≡ Coord (coord_of v) → (coord_of v).made < (coord_of v).setting.workers → Splits {S = S} (IsShowing key) id v (Coord (made_coord (coord_of v))) (Worker (fresh (coord_of v).setting (coord_of v).made))
+making {S} key id v is room = λ st shows at.
+    let z = setting_of key in
+    let c : CoordView = coord_of v in
+    let here : get_elem? st.views id ≡ some (Coord c) = at ∙ ap some is in
+    let same = coord_setting z st.words st.views id c shows here in
+    let P : Setting → Type 0 = λ y. c.made < y.workers in
+    let Q : Setting → Type 0 = λ y. ShowsSome z st.words (slice_set st.views id (Coord (made_coord c)) ++ Worker (fresh y c.made) ∷ []) in
+    subst Q (sym same) (record {
+      state = shows.state;
+      reachable = shows.reachable;
+      shows = splits z shows.state st.words st.views id c shows.shows here (subst P same room);
+    })

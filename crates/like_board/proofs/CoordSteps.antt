@@ -1,0 +1,224 @@
+-- Each step of the coordinator is the event, and keeps what the board shows.
+use Rattle.std.proofs.Common.{◌≡◌, ℕ, ◌+◌, ◌%◌, ◌^◌, ◌<◌, ◌≤◌, true, false, List, get_or, set, Option, Some, None, IfSome, IsSomeAnd, subst, ap, sym, ◌∙◌, refl, arith}
+use mathlib.Core.Option.{some}
+use lib.ListN.{get_elem?}
+use Rattle.like_core.specs.declared.sight.Sight.{Sight}
+use Rattle.like_core.specs.declared.sight.CoordSight.{CoordSight}
+use Rattle.like_core.specs.declared.event.Event.TheVariants.{CoordLook, Announce, Release}
+use Rattle.like_core.specs.declared.shown.Shown.TheVariants.{Done}
+use Rattle.like_core.specs.declared.setting.Setting.{Setting}
+use Rattle.like_core.specs.declared.view.WorkerView.{WorkerView}
+use Rattle.like_core.specs.declared.view.CoordView.{CoordView}
+use Rattle.like_core.specs.declared.view.View.{View}
+use Rattle.like_core.specs.declared.view.View.TheVariants.{Coord}
+use Rattle.like_core.specs.Phase.{last_phase, IsSplit}
+use Rattle.like_core.specs.WorkerState.{IsIn}
+use Rattle.like_core.specs.Word.{Fields, packed, IsLawful, released}
+use Rattle.like_core.specs.Numbers.{AllIn, CoordSees}
+use Rattle.like_core.specs.Table.{Permits}
+use Rattle.like_core.specs.State.{CoreState, numbers}
+use Rattle.like_core.specs.Sights.{coord_sight_of}
+use Rattle.like_core.specs.ShownWord.{shown_fields, shown_word}
+use Rattle.like_core.specs.Views.{looked_coord, announced_coord, released_coord, saw_all_gone, MayAnnounce, MayRelease}
+use Rattle.like_core.specs.Shows.{Shows, ShowsSome, FitsWorker, FitsCoord, IsStep}
+use Rattle.like_core.proofs.Reached.{goes_on_by}
+use Rattle.like_core.proofs.InPhase.{reached_in_phase}
+use Rattle.like_core.proofs.Unanswered.{reached_unanswered}
+use Rattle.like_core.proofs.ShownEvents.{shown_lawful, same_fields, fields_released, word_announced, coord_sees}
+use Rattle.like_board.specs.Plays.{Surveyed}
+use Rattle.like_board.proofs.Moves.{if_some}
+use Rattle.like_board.proofs.Leads.{phased, leads}
+use Rattle.like_board.proofs.WorkerSteps.{running_is}
+
+-- a look of the coordinator is the event
+pub surveys : (z : Setting) (words : List ℕ) (views : List View) (place : ℕ) (c : CoordView) → ShowsSome z words views → get_elem? views place ≡ some (Coord c) → (r : Surveyed z (get_or words 0 0) c) × ShowsSome z (set words 0 (get_or words 0 0)) (set views place (Coord (looked_coord c (get_or words 0 0) (coord_sight_of r.fields))))
+surveys z words views place c some_state at =
+    let s = some_state.state in
+    let sh = some_state.shows in
+    let p = reached_in_phase z s some_state.reachable in
+    let lawful = shown_lawful z s sh.setting p (reached_unanswered z s some_state.reachable) in
+    let old : FitsCoord z s c = sh.each place (Coord c) at in
+    let f : Fields = shown_fields z s in
+    let sight : CoordSight = coord_sight_of f in
+    let sees : CoordSees (numbers z s) sight = coord_sees z s in
+    let found : ℕ = get_or words 0 0 in
+    let d : CoordView = looked_coord c found sight in
+    let fits : FitsCoord z s d =
+    record {
+      setting = old.setting;
+      made = old.made;
+      unmade = old.unmade;
+      phase = old.phase;
+      ending = old.ending;
+      last = (sees.number, sees.ending);
+      stays = λ _. (sees, sh.word);
+      all_in = λ is. sees.all_in.0 is;
+      gone = old.gone;
+    }
+    in
+    let after_it : Shows z s (set words 0 found) (set views place (Coord d)) =
+    leads z s words views place c d s.phase s.ending found sh at refl refl sh.word fits (λ v f. f)
+    in
+    let permits : Permits (numbers z s) CoordLook = record { there = tt; suits = tt; leaves_last = tt; room = tt } in (
+      record {
+        fields = f;
+        lawful = lawful;
+        found_is = sh.word;
+        number = sees.number ∙ sym old.phase;
+        ending = sees.ending ∙ sym old.ending;
+        all_in = λ is. sees.all_in.1 (old.all_in is);
+        gone = λ split all. old.gone (subst IsSplit old.phase split) (sees.all_gone.0 all);
+        step = record {
+          words = words;
+          views = views;
+          place = place;
+          state = s;
+          reachable = some_state.reachable;
+          shows = sh;
+          mine = at;
+          permits = permits;
+          tells = (sight, refl, sees);
+          word = found;
+          shows_after = after_it;
+        };
+      },
+      record { state = s; reachable = some_state.reachable; shows = after_it },
+    )
+
+-- what holds of the value of an option, in two ways
+some_and : {A : Type 0} (o : Option A) (P Q R : A → Type 0) → IsSomeAnd o P → IfSome o Q → IfSome o R → (a : A) × (o ≡ Some a) × P a × Q a × R a
+some_and None P Q R p q r = absurd p
+some_and (Some a) P Q R p q r = (a, refl, p, q, r)
+
+-- an announcement is the event
+pub announces : (z : Setting) (words : List ℕ) (views : List View) (place : ℕ) (c : CoordView) → ShowsSome z words views → get_elem? views place ≡ some (Coord c) → MayAnnounce c → IsStep z Announce Done (Coord c) (Coord (announced_coord c)) × ShowsSome z (set words 0 ((get_or words 0 0 + 1) % 2 ^ 64)) (set views place (Coord (announced_coord c)))
+announces z words views place c some_state at may =
+    let s = some_state.state in
+    let sh = some_state.shows in
+    let old : FitsCoord z s c = sh.each place (Coord c) at in
+    let last = some_and c.last
+    (λ (sight : CoordSight). (sight.ending ≡ false) × (sight.number < last_phase))
+    (λ (sight : CoordSight). (sight.number ≡ s.phase) × (sight.ending ≡ s.ending))
+    (λ (sight : CoordSight). sight.all_in ≡ true → CoordSees (numbers z s) sight × (c.word ≡ shown_word z s))
+    may old.last old.stays
+    in
+    let running : s.ending ≡ false = sym last.3.1 ∙ last.2.0 in
+    let below : s.phase < last_phase = subst (λ n. n < last_phase) last.3.0 last.2.1 in
+    let permits : Permits (numbers z s) Announce = record { there = tt; suits = running; leaves_last = below; room = tt } in
+    let t : CoreState = phased s s.phase true in
+    let reachable = goes_on_by z s Announce some_state.reachable permits in
+    let lawful = shown_lawful z t sh.setting (reached_in_phase z t reachable) (reached_unanswered z t reachable) in
+    let word : ℕ = (get_or words 0 0 + 1) % 2 ^ 64 in
+    let d : CoordView = announced_coord c in
+    let fits : FitsCoord z t d =
+    record {
+      setting = old.setting;
+      made = old.made;
+      unmade = old.unmade;
+      phase = old.phase;
+      ending = refl;
+      last = tt;
+      stays = tt;
+      all_in = old.all_in;
+      gone = old.gone;
+    }
+    in
+    let workers : (v : WorkerView) → FitsWorker z s v → FitsWorker z t v =
+    λ v f. record {
+      setting = f.setting;
+      there = f.there;
+      state = f.state;
+      number = f.number;
+      ending = λ _ _. refl;
+    }
+    in
+    let after_it : Shows z t (set words 0 word) (set views place (Coord d)) =
+    leads z s words views place c d s.phase true word sh at refl refl
+    (ap (λ n. (n + 1) % 2 ^ 64) sh.word ∙ word_announced z s lawful running)
+    fits
+    workers
+    in (
+      record {
+        words = words;
+        views = views;
+        place = place;
+        state = s;
+        reachable = some_state.reachable;
+        shows = sh;
+        mine = at;
+        permits = permits;
+        tells = refl;
+        word = word;
+        shows_after = after_it;
+      },
+      record { state = t; reachable = reachable; shows = after_it },
+    )
+
+-- a release is the event, where what is stored is made of the word that the last look saw
+pub releases : (z : Setting) (words : List ℕ) (views : List View) (place : ℕ) (c : CoordView) (seen : Fields) → ShowsSome z words views → get_elem? views place ≡ some (Coord c) → MayRelease c → IsLawful seen → packed seen ≡ c.word → IsStep z Release Done (Coord c) (Coord (released_coord c)) × ShowsSome z (set words 0 (packed (released seen))) (set views place (Coord (released_coord c)))
+releases z words views place c seen some_state at may seen_lawful seen_is =
+    let s = some_state.state in
+    let sh = some_state.shows in
+    let old : FitsCoord z s c = sh.each place (Coord c) at in
+    let last = some_and c.last
+    (λ (sight : CoordSight). (sight.ending ≡ true) × (sight.all_in ≡ true))
+    (λ (sight : CoordSight). (sight.number ≡ s.phase) × (sight.ending ≡ s.ending))
+    (λ (sight : CoordSight). sight.all_in ≡ true → CoordSees (numbers z s) sight × (c.word ≡ shown_word z s))
+    may old.last old.stays
+    in
+    let now = last.4 last.2.1 in
+    let ending : s.ending ≡ true = sym last.3.1 ∙ last.2.0 in
+    let all_in : AllIn (numbers z s) = now.0.all_in.0 last.2.1 in
+    let permits : Permits (numbers z s) Release =
+    record { there = tt; suits = (ending, all_in); leaves_last = tt; room = tt }
+    in
+    let t : CoreState = phased s (s.phase + 1) false in
+    let p = reached_in_phase z s some_state.reachable in
+    let lawful = shown_lawful z s sh.setting p (reached_unanswered z s some_state.reachable) in
+    let same : seen ≡ shown_fields z s = same_fields seen (shown_fields z s) seen_lawful lawful (seen_is ∙ now.1) in
+    let d : CoordView = released_coord c in
+    let fits : FitsCoord z t d =
+    record {
+      setting = old.setting;
+      made = old.made;
+      unmade = old.unmade;
+      phase = ap (λ n. n + 1) old.phase;
+      ending = refl;
+      last = tt;
+      stays = tt;
+      all_in = λ is. absurd (cc);
+      gone = λ _ all. ap saw_all_gone last.1 ∙ now.0.all_gone.1 all;
+    }
+    in
+    let workers : (v : WorkerView) → FitsWorker z s v → FitsWorker z t v =
+    λ v f. record {
+      setting = f.setting;
+      there = f.there;
+      state = f.state;
+      number = if_some v.last (λ (sight : Sight). sight.number ≤ s.phase) (λ (sight : Sight). sight.number ≤ s.phase + 1) (λ sight below. omega arith) f.number;
+      ending = λ runs _.
+          let is = running_is (λ _. Unit {0}) v.state runs in
+          absurd (subst (IsIn s.phase) (f.state ∙ is.1) (all_in v.worker f.there));
+    }
+    in
+    let after_it : Shows z t (set words 0 (packed (released seen))) (set views place (Coord d)) =
+    leads z s words views place c d (s.phase + 1) false (packed (released seen)) sh at refl refl
+    (ap (λ f. packed (released f)) same ∙ ap packed (sym (fields_released z s ending all_in)))
+    fits
+    workers
+    in (
+      record {
+        words = words;
+        views = views;
+        place = place;
+        state = s;
+        reachable = some_state.reachable;
+        shows = sh;
+        mine = at;
+        permits = permits;
+        tells = refl;
+        word = packed (released seen);
+        shows_after = after_it;
+      },
+      record { state = t; reachable = goes_on_by z s Release some_state.reachable permits; shows = after_it },
+    )

@@ -1,0 +1,146 @@
+-- A step of the coordinator keeps what the board shows.
+use Rattle.std.proofs.Common.{◌≡◌, ◌≢◌, ℕ, ◌+◌, ◌<◌, ◌==◌, nat_lt, Bool, cond, inl, inr, List, [], ◌∷◌, ◌++◌, set, count_by, subst, ap, sym, ◌∙◌, refl, eq-eqb, arith}
+use Rattle.std.proofs.Math.ListN.{length-set}
+use Rattle.std.proofs.lemmas.List.{get_or-set_same, get_or-set_other}
+use Rattle.std.proofs.lemmas.List.Sums.{sum_by_push}
+use Rattle.std.proofs.lemmas.Bool.{cases_eq, cases_lt, le-ltb, lt-ltb, ne_eqb}
+use mathlib.Core.Option.{some}
+use lib.ListN.{get_elem?}
+use Rattle.atomic_table.proofs.Lists.{at_set, at_snoc, at_longer, set_here}
+use Rattle.like_core.specs.declared.setting.Setting.{Setting}
+use Rattle.like_core.specs.declared.view.WorkerView.{WorkerView}
+use Rattle.like_core.specs.declared.view.CoordView.{CoordView}
+use Rattle.like_core.specs.declared.view.View.{View}
+use Rattle.like_core.specs.declared.view.View.TheVariants.{Coord, Worker, Spent}
+use Rattle.like_core.specs.State.{CoreState}
+use Rattle.like_core.specs.ShownWord.{shown_word}
+use Rattle.like_core.specs.Views.{fresh, made_coord, seats_of}
+use Rattle.like_core.specs.Shows.{Shows, Fits, FitsWorker, FitsCoord}
+use Rattle.like_board.proofs.ViewLists.{within, sum_set}
+use Rattle.like_board.proofs.Moves.{same_coord, counts_none, counts_one}
+
+-- the state in another phase
+abbrev pub phased : CoreState → ℕ → Bool → CoreState
+phased s phase ending = record s { phase = phase; ending = ending }
+
+-- after the coordinator led to this phase, with a new view of its own that fits, the words and the views show the state
+-- after, where all workers' views fit that too
+pub leads : (z : Setting) (s : CoreState) (words : List ℕ) (views : List View) (place : ℕ) (c d : CoordView) (phase : ℕ) (ending : Bool) (word : ℕ) → Shows z s words views → get_elem? views place ≡ some (Coord c) → d.made ≡ c.made → d.joined ≡ c.joined → word ≡ shown_word z (phased s phase ending) → FitsCoord z (phased s phase ending) d → ((v : WorkerView) → FitsWorker z s v → FitsWorker z (phased s phase ending) v) → Shows z (phased s phase ending) (set words 0 word) (set views place (Coord d))
+leads z s words views place c d phase ending word sh at made joined word_is fits workers =
+    let t : CoreState = phased s phase ending in
+    let wide = sh.width in
+    let is = same_coord z s words views place c sh at in
+    let others : (j : ℕ) (u : View) → j ≢ place → get_elem? views j ≡ some u → Fits z s u → Fits z t u =
+    λ j u other found f.
+    let P : View → Type 0 = λ x. ((e : CoordView) → x ≡ Coord e → ⊥) → Fits z s x → Fits z t x in
+    let by_view : P u =
+    elim u as P [
+      | Coord e ↦ λ no_coord _. absurd (no_coord e refl)
+      | Worker v ↦ λ _ g. workers v g
+      | Spent ↦ λ _ _. tt
+    ]
+    in
+    by_view (λ e same. other (sh.only j e (found ∙ ap some same) ∙ sym is.0)) f
+    in
+    record {
+      setting = sh.setting;
+      width = length-set words 0 word ∙ sh.width;
+      word = get_or-set_same words 0 word 0 (omega arith) ∙ word_is;
+      pages = λ page below. get_or-set_other words 0 (page + 1) word 0 (λ eq. absurd (omega arith)) ∙ sh.pages page below;
+      merged = sh.merged;
+      coord = d;
+      first = ap (get_elem? (set views place (Coord d))) (sym is.0) ∙ set_here views place (Coord d) (within views place (Coord c) at);
+      only = λ j e found. elim (at_set views place j (Coord d) (Coord e) found) [
+        | inl here ↦ here.0 ∙ is.0
+        | inr there ↦ sh.only j e there.1
+      ];
+      each = λ j u found. elim (at_set views place j (Coord d) u found) [
+        | inl here ↦ subst (Fits z t) here.1 fits
+        | inr there ↦ others j u there.0 there.1 (sh.each j u there.1)
+      ];
+      once = λ i.
+          sum_set (seats_of i) views place (Coord c) (Coord d) at (ap (count_by (λ (w : WorkerView). w.worker == i)) joined) ∙
+          (sh.once i ∙ ap (λ n. cond (nat_lt i n) 1 0) (ap (λ (e : CoordView). e.made) is.1 ∙ sym made));
+    }
+
+one_more : (i n : ℕ) → cond (nat_lt i n) 1 0 + cond (n == i) 1 0 ≡ cond (nat_lt i (n + 1)) 1 0
+one_more i n = elim (cases_lt i n) [
+  | inl less ↦
+      let a = counts_one (nat_lt i n) (lt-ltb i n less) in
+      let b = counts_none (n == i) (ne_eqb n i (λ same. absurd (omega arith))) in
+      let d = counts_one (nat_lt i (n + 1)) (lt-ltb i (n + 1) (omega arith)) in
+      omega arith
+  | inr past ↦ elim (cases_eq n i) [
+    | inl same ↦
+        let a = counts_none (nat_lt i n) (le-ltb i n past) in
+        let b = counts_one (n == i) (eq-eqb n i same) in
+        let d = counts_one (nat_lt i (n + 1)) (lt-ltb i (n + 1) (omega arith)) in
+        omega arith
+    | inr other ↦
+        let a = counts_none (nat_lt i n) (le-ltb i n past) in
+        let b = counts_none (n == i) (ne_eqb n i other) in
+        let d = counts_none (nat_lt i (n + 1)) (le-ltb i (n + 1) (omega arith)) in
+        omega arith
+  ]
+]
+
+-- a seat for the next worker changes nothing that is shown
+pub splits : (z : Setting) (s : CoreState) (words : List ℕ) (views : List View) (place : ℕ) (c : CoordView) → Shows z s words views → get_elem? views place ≡ some (Coord c) → c.made < z.workers → Shows z s words (set views place (Coord (made_coord c)) ++ Worker (fresh z c.made) ∷ [])
+splits z s words views place c sh at room =
+    let is = same_coord z s words views place c sh at in
+    let d : CoordView = made_coord c in
+    let changed : List View = set views place (Coord d) in
+    let new : WorkerView = fresh z c.made in
+    let old : FitsCoord z s c = sh.each place (Coord c) at in
+    let fits : FitsCoord z s d =
+    record {
+      setting = old.setting;
+      made = omega arith;
+      unmade = λ i past below. old.unmade i (omega arith) below;
+      phase = old.phase;
+      ending = old.ending;
+      last = old.last;
+      stays = old.stays;
+      all_in = old.all_in;
+      gone = old.gone;
+    }
+    in
+    let fits_new : FitsWorker z s new =
+    record {
+      setting = refl;
+      there = room;
+      state = old.unmade c.made (omega arith) room;
+      number = tt;
+      ending = λ _ saw. absurd (saw);
+    }
+    in
+    record {
+      setting = sh.setting;
+      width = sh.width;
+      word = sh.word;
+      pages = sh.pages;
+      merged = sh.merged;
+      coord = d;
+      first = at_longer changed (Worker new ∷ []) 0 (Coord d)
+          (ap (get_elem? changed) (sym is.0) ∙ set_here views place (Coord d) (within views place (Coord c) at));
+      only = λ j e found. elim (at_snoc changed (Worker new) (Coord e) j found) [
+        | inl before ↦ elim (at_set views place j (Coord d) (Coord e) before) [
+          | inl here ↦ here.0 ∙ is.0
+          | inr there ↦ sh.only j e there.1
+        ]
+        | inr last ↦ absurd (cc)
+      ];
+      each = λ j u found. elim (at_snoc changed (Worker new) u j found) [
+        | inl before ↦ elim (at_set views place j (Coord d) u before) [
+          | inl here ↦ subst (Fits z s) here.1 fits
+          | inr there ↦ sh.each j u there.1
+        ]
+        | inr last ↦ subst (Fits z s) last fits_new
+      ];
+      once = λ i.
+          sum_by_push (seats_of i) changed (Worker new) ∙
+          (ap (λ n. n + cond (c.made == i) 1 0)
+          (sum_set (seats_of i) views place (Coord c) (Coord d) at refl ∙
+          (sh.once i ∙ ap (λ (e : CoordView). cond (nat_lt i e.made) 1 0) is.1)) ∙
+          one_more i c.made);
+    }

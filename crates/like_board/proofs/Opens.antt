@@ -1,0 +1,95 @@
+-- What a new board shows.
+use Rattle.std.proofs.Common.{◌≡◌, ℕ, zero, suc, ◌^◌, ◌<◌, ◌≤◌, nat_lt, Bool, false, List, [], ◌∷◌, All, length, get_or, subst, ap, sym, ◌∙◌, refl, arith, add-one, add-zero}
+use Rattle.std.proofs.lemmas.Bool.{cond-true, lt-ltb, le-ltb}
+use mathlib.Core.Option.{some, some-injective, some-ne-none}
+use lib.ListN.{get_elem?}
+use Rattle.like_core.specs.declared.worker_state.WorkerState.{WorkerState}
+use Rattle.like_core.specs.declared.worker_state.WorkerState.TheVariants.{Runs, Gone}
+use Rattle.like_core.specs.declared.setting.Setting.{Setting}
+use Rattle.like_core.specs.declared.view.CoordView.{CoordView}
+use Rattle.like_core.specs.declared.view.View.{View}
+use Rattle.like_core.specs.declared.view.View.TheVariants.{Coord}
+use Rattle.like_core.specs.Word.{packed}
+use Rattle.like_core.specs.State.{start}
+use Rattle.like_core.specs.ShownWord.{mask, has_answered, is_gone, shown_fields}
+use Rattle.like_core.specs.Sights.{first_fields}
+use Rattle.like_core.specs.Views.{fresh_coord}
+use Rattle.like_core.specs.Shows.{IsSetting, ShowsSome, Fits, FitsCoord}
+use Rattle.like_core.proofs.Reached.{start_reached}
+use Rattle.like_core.proofs.Masks.{mask_none}
+use Rattle.like_board.specs.declared.key.Key.{Key}
+use Rattle.like_board.specs.Rule.{setting_of, first_view}
+use Rattle.like_board.proofs.Moves.{counts_none}
+
+-- the fields at the start are those of the core's start
+start_fields : (z : Setting) → shown_fields z (start z) ≡ first_fields z.workers
+start_fields z =
+    let P : WorkerState → Type 0 = λ st. has_answered 0 st ≡ false in
+    let Q : WorkerState → Type 0 = λ st. is_gone st ≡ false in
+    let runs : (i : ℕ) → i < z.workers → (start z).state i ≡ Runs 0 = λ i below. cond-true (nat_lt i z.workers) (Runs 0) Gone (lt-ltb i z.workers below) in
+    let answered : mask (λ i. has_answered 0 ((start z).state i)) z.workers ≡ 0 =
+    mask_none (λ i. has_answered 0 ((start z).state i)) z.workers (λ i below. ap (has_answered 0) (runs i below))
+    in
+    let retired : mask (λ i. is_gone ((start z).state i)) z.workers ≡ 0 =
+    mask_none (λ i. is_gone ((start z).state i)) z.workers (λ i below. ap is_gone (runs i below))
+    in
+    λ m. record { kind = 0; workers = z.workers; answered = answered m; retired = retired m; number = 0 }
+
+-- a new board shows the core's start
+pub opens : (z : Setting) → IsSetting z → ShowsSome z (packed (first_fields z.workers) ∷ z.counts) (Coord (fresh_coord z (packed (first_fields z.workers))) ∷ [])
+opens z setting =
+    let c : CoordView = fresh_coord z (packed (first_fields z.workers)) in
+    let fits : FitsCoord z (start z) c =
+    record {
+      setting = refl;
+      made = omega arith;
+      unmade = λ i _ below. cond-true (nat_lt i z.workers) (Runs 0) Gone (lt-ltb i z.workers below);
+      phase = refl;
+      ending = refl;
+      last = tt;
+      stays = tt;
+      all_in = λ is. absurd (cc);
+      gone = λ split _. absurd (omega arith);
+    }
+    in
+    record {
+      state = start z;
+      reachable = start_reached z;
+      shows = record {
+        setting = setting;
+        width = omega arith;
+        word = ap packed (sym (start_fields z));
+        pages = λ page below. rw add-one (sym (add-zero (get_or z.counts page 0)));
+        merged = λ i. refl;
+        coord = c;
+        first = refl;
+        only = only_first c;
+        each = each_first z c fits;
+        once = λ i. sym (counts_none (nat_lt i 0) (le-ltb i 0 (omega arith)));
+      };
+    }
+  where
+    only_first : (c : CoordView) (place : ℕ) (d : CoordView) → get_elem? (Coord c ∷ []) place ≡ some (Coord d) → place ≡ 0
+    only_first c zero d at = refl
+    only_first c (suc place) d at = absurd (some-ne-none (Coord d) (sym at))
+
+    each_first : (z : Setting) (c : CoordView) → FitsCoord z (start z) c → (place : ℕ) (v : View) → get_elem? (Coord c ∷ []) place ≡ some v → Fits z (start z) v
+    each_first z c fits zero v at = subst (Fits z (start z)) (some-injective (Coord c) v at) fits
+    each_first z c fits (suc place) v at = absurd (some-ne-none v (sym at))
+
+-- a table that is made with these words starts by the rule
+pub opens_key : (key : Key) (counts : List ℕ) (marks : List Bool) (word : ℕ) (words : List ℕ) → key.counts.items ≡ counts → key.marks.items ≡ marks → word ≡ packed (first_fields key.workers) → words ≡ word ∷ counts → 1 ≤ key.workers → key.workers ≤ 16 → length marks ≡ length counts → length counts ≤ 1024 → All (λ n. n ≤ 10 ^ 18) counts → ShowsSome (setting_of key) words (first_view key ∷ [])
+opens_key key counts marks word words counts_are marks_are word_is words_are some_worker few_workers same_pages few_pages low =
+    let z : Setting = setting_of key in
+    let sized : length key.counts.items ≡ length counts = ap length counts_are in
+    let setting : IsSetting z =
+    record {
+      some_worker = some_worker;
+      few_workers = few_workers;
+      few_pages = subst (λ (n : ℕ). n ≤ 1024) (sym sized) few_pages;
+      marks = ap length marks_are ∙ (same_pages ∙ sym sized);
+      counts = subst (All (λ (n : ℕ). n ≤ 10 ^ 18)) (sym counts_are) low;
+    }
+    in
+    let same : words ≡ packed (first_fields key.workers) ∷ key.counts.items = words_are ∙ (λ m. word_is m ∷ sym counts_are m) in
+    subst (λ (ws : List ℕ). ShowsSome z ws (first_view key ∷ [])) (sym same) (opens z setting)

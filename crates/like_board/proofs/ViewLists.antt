@@ -1,0 +1,45 @@
+-- The views of all seats as a list: one view changes, and how many seats a worker has stays.
+use Rattle.std.proofs.Common.{◌≡◌, ◌≢◌, ℕ, zero, suc, ◌+◌, ◌<◌, ◌≤◌, List, [], ◌∷◌, length, set, ap, sym, refl, arith}
+use Rattle.std.specs.List.{sum_by}
+use Rattle.std.proofs.lemmas.List.Sums.{sum_by-cons}
+use mathlib.Core.Option.{some, some-injective, some-ne-none}
+use lib.ListN.{get_elem?}
+
+module _ {A : Type 0} where
+  -- what stands in a list stands within it
+  pub within : (l : List A) (i : ℕ) (a : A) → get_elem? l i ≡ some a → i < length l
+  within [] i a e = absurd (some-ne-none a (sym e))
+  within (x ∷ xs) zero a e = omega arith
+  within (x ∷ xs) (suc i) a e = let rest = within xs i a e in omega arith
+
+  -- each element counts in the sum
+  pub sum_part : (f : A → ℕ) (l : List A) (i : ℕ) (a : A) → get_elem? l i ≡ some a → f a ≤ sum_by f l
+  sum_part f [] i a e = absurd (some-ne-none a (sym e))
+  sum_part f (x ∷ xs) zero a e = let here = ap f (some-injective x a e) in omega (arith, sum_by-cons f x xs)
+  sum_part f (x ∷ xs) (suc i) a e = let rest = sum_part f xs i a e in omega (arith, sum_by-cons f x xs)
+
+  -- two elements at two places count both
+  pub sum_two : (f : A → ℕ) (l : List A) (i j : ℕ) (a b : A) → i ≢ j → get_elem? l i ≡ some a → get_elem? l j ≡ some b → f a + f b ≤ sum_by f l
+  sum_two f [] i j a b other at_i at_j = absurd (some-ne-none a (sym at_i))
+  sum_two f (x ∷ xs) zero zero a b other at_i at_j = absurd (other refl)
+  sum_two f (x ∷ xs) zero (suc j) a b other at_i at_j =
+      let here = ap f (some-injective x a at_i) in
+      let rest = sum_part f xs j b at_j in
+      omega (arith, sum_by-cons f x xs)
+  sum_two f (x ∷ xs) (suc i) zero a b other at_i at_j =
+      let here = ap f (some-injective x b at_j) in
+      let rest = sum_part f xs i a at_i in
+      omega (arith, sum_by-cons f x xs)
+  sum_two f (x ∷ xs) (suc i) (suc j) a b other at_i at_j =
+      let rest = sum_two f xs i j a b (λ same. other (ap suc same)) at_i at_j in
+      omega (arith, sum_by-cons f x xs)
+
+  -- the sum stays where an element is replaced by one that counts the same
+  pub sum_set : (f : A → ℕ) (l : List A) (i : ℕ) (a b : A) → get_elem? l i ≡ some a → f b ≡ f a → sum_by f (set l i b) ≡ sum_by f l
+  sum_set f [] i a b e same = refl
+  sum_set f (x ∷ xs) zero a b e same =
+      let here = ap f (some-injective x a e) in
+      omega (arith, sum_by-cons f x xs, sum_by-cons f b xs)
+  sum_set f (x ∷ xs) (suc i) a b e same =
+      let rest = sum_set f xs i a b e same in
+      omega (arith, sum_by-cons f x xs, sum_by-cons f x (set xs i b))

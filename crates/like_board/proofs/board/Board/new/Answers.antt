@@ -1,0 +1,30 @@
+use Rattle.std.proofs.Common.{ℕ, List, [], ◌∷◌, ◌++◌, ap, ◌∙◌}
+use Rattle.like_core.specs.Word.{packed}
+use Rattle.like_board.proofs.Opens.{opens_key}
+use Rattle.like_board.proofs.board.Board.new.Goals as goal
+
+pub of_words-requires : goal.of_words-requires
+of_words-requires c =
+    let word = c.pack.result in
+    opens_key
+    (record {
+      workers = c.args.workers;
+      counts = c.in_ok-from_slice.field-0;
+      marks = c.in_ok-from_slice-2.field-0;
+    })
+    c.args.counts.now
+    c.args.split.now
+    word
+    c.as_slice.result.now
+    c.in_ok-from_slice.ensures.items
+    c.in_ok-from_slice-2.ensures.items
+    (c.pack.ensures ∙ ap packed c.first-first.ensures)
+    (c.as_slice.ensures.value ∙
+    (c.in_ok-extend_from_slice.ensures.items ∙
+    ap (λ (xs : List ℕ). xs ++ c.args.counts.now)
+    (c.push_reserved.ensures.items ∙ ap (λ (xs : List ℕ). xs ++ word ∷ []) c.in_ok-words.ensures.items)))
+    c.requires.some_worker
+    c.requires.few_workers
+    c.requires.same_pages
+    c.requires.few_pages
+    c.requires.counts

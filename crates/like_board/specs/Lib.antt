@@ -1,0 +1,4 @@
+pub mod Known
+pub mod Rule
+pub mod Plays
+pub mod Seats

@@ -1,0 +1,56 @@
+use Rattle.std.specs.Prelude.{◌≡◌, ℕ, true}
+use Rattle.like_core.specs.declared.event.Event.{Event}
+use Rattle.like_core.specs.declared.event.Event.TheVariants.{Look, CoordLook}
+use Rattle.like_core.specs.declared.shown.Shown.TheVariants.{Seen, Done, Coord as CoordShown}
+use Rattle.like_core.specs.declared.setting.Setting.{Setting}
+use Rattle.like_core.specs.declared.view.WorkerView.{WorkerView}
+use Rattle.like_core.specs.declared.view.CoordView.{CoordView}
+use Rattle.like_core.specs.declared.view.View.{View}
+use Rattle.like_core.specs.declared.view.View.TheVariants.{Coord, Worker}
+use Rattle.like_core.specs.Phase.{IsSplit}
+use Rattle.like_core.specs.Word.{Fields, packed, IsLawful}
+use Rattle.like_core.specs.Sights.{sight_of, coord_sight_of}
+use Rattle.like_core.specs.Post.{IsSightOf}
+use Rattle.like_core.specs.Views.{ViewRuns, ViewSawEnding, looked_view, looked_coord}
+use Rattle.like_core.specs.Shows.{IsStep}
+use Rattle.like_board.specs.Known.{worker_of, coord_of}
+
+-- what a worker's look finds and shows
+pub record Looked (z : Setting) (found : ℕ) (v : WorkerView) : Type 0 where
+  pub fields : Fields
+  pub lawful : IsLawful fields
+  pub found_is : found ≡ packed fields
+  pub can : IsSightOf v.state (sight_of fields v.worker)
+  pub ending : ViewRuns v → ViewSawEnding v → (sight_of fields v.worker).ending ≡ true
+  pub step : IsStep z (Look v.worker) (Seen (sight_of fields v.worker)) (Worker v) (Worker (looked_view v (sight_of fields v.worker)))
+
+-- what the coordinator's look finds and shows
+pub record Surveyed (z : Setting) (found : ℕ) (c : CoordView) : Type 0 where
+  pub fields : Fields
+  pub lawful : IsLawful fields
+  pub found_is : found ≡ packed fields
+  pub number : (coord_sight_of fields).number ≡ c.phase
+  pub ending : (coord_sight_of fields).ending ≡ c.ending
+  pub all_in : c.all_in ≡ true → (coord_sight_of fields).all_in ≡ true
+  pub gone : IsSplit c.phase → (coord_sight_of fields).all_gone ≡ true → c.gone ≡ true
+  pub step : IsStep z CoordLook (CoordShown (coord_sight_of fields)) (Coord c) (Coord (looked_coord c found (coord_sight_of fields)))
+
+-- what a worker's look tells: of the view before, the word found and the view after
+pub record TellsLook (v : View) (found : ℕ) (w : View) : Type 0 where
+  pub looked : Looked (worker_of v).setting found (worker_of v)
+  pub view : w ≡ Worker (looked_view (worker_of v) (sight_of looked.fields (worker_of v).worker))
+
+-- what the coordinator's look tells
+pub record TellsSurvey (v : View) (found : ℕ) (w : View) : Type 0 where
+  pub surveyed : Surveyed (coord_of v).setting found (coord_of v)
+  pub view : w ≡ Coord (looked_coord (coord_of v) found (coord_sight_of surveyed.fields))
+
+-- what another step of a worker tells: it is the event, and the view after is this
+pub record TellsWorker (event : WorkerView → Event) (next : WorkerView → WorkerView) (v w : View) : Type 0 where
+  pub view : w ≡ Worker (next (worker_of v))
+  pub step : IsStep (worker_of v).setting (event (worker_of v)) Done (Worker (worker_of v)) (Worker (next (worker_of v)))
+
+-- what another step of the coordinator tells
+pub record TellsCoord (event : Event) (next : CoordView → CoordView) (v w : View) : Type 0 where
+  pub view : w ≡ Coord (next (coord_of v))
+  pub step : IsStep (coord_of v).setting event Done (Coord (coord_of v)) (Coord (next (coord_of v)))

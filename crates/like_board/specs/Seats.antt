@@ -1,0 +1,44 @@
+use Rattle.std.specs.Prelude.{◌≡◌, ℕ, List, Some, slice_get}
+use Rattle.atomic_table.specs.Seated.{TableId}
+use Rattle.like_core.specs.declared.setting.Setting.{Setting}
+use Rattle.like_core.specs.declared.view.WorkerView.{WorkerView}
+use Rattle.like_core.specs.declared.view.CoordView.{CoordView}
+use Rattle.like_board.specs.declared.board.Board.{Board}
+use Rattle.like_board.specs.declared.coord_seat.CoordSeat.{CoordSeat}
+use Rattle.like_board.specs.declared.worker_seat.WorkerSeat.{WorkerSeat}
+use Rattle.like_board.specs.declared.board_post.BoardPost.{BoardPost}
+use Rattle.like_core.specs.Views.{fresh}
+use Rattle.like_board.specs.Known.{worker_of, coord_of}
+
+-- which board it is
+abbrev pub board_id : Board → TableId
+board_id board = board.table.shared.table_id
+
+-- the board of the coordinator's seat
+abbrev pub coord_board : CoordSeat → TableId
+coord_board seat = seat.seat.table_id
+
+-- what the coordinator's seat knows
+abbrev pub coord_view : CoordSeat → CoordView
+coord_view seat = coord_of seat.seat.me.0
+
+-- the board of a worker's seat
+abbrev pub seat_board : WorkerSeat → TableId
+seat_board seat = seat.seat.table_id
+
+-- what a worker's seat knows
+abbrev pub seat_view : WorkerSeat → WorkerView
+seat_view seat = worker_of seat.seat.me.0
+
+-- the board of a post
+abbrev pub post_board : BoardPost → TableId
+post_board post = seat_board post.seat
+
+-- what a post knows
+abbrev pub post_view : BoardPost → WorkerView
+post_view post = seat_view post.seat
+
+-- the seats of the workers of a board in order, none of which made a step yet
+abbrev pub AreFresh : TableId → Setting → List WorkerSeat → Type 0
+AreFresh board z seats =
+    (i : ℕ) (seat : WorkerSeat) → slice_get seats i ≡ Some seat → (seat_board seat ≡ board) × (seat_view seat ≡ fresh z i)

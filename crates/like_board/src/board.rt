@@ -1,0 +1,58 @@
+ghost use Rattle.std.specs.Prelude.{◌≡◌, ◌^◌, ◌<◌, ◌≤◌, All, length, IfOk};
+ghost use Rattle.like_core.specs.declared.setting.Setting.{Setting};
+
+use crate::coord_seat::CoordSeat;
+use crate::key::Key;
+use crate::rule::BoardRule;
+use crate::worker_seat::WorkerSeat;
+use atomic_table::Table;
+use like_core::{PhaseWord, View};
+use std::alloc::{AllocError, Global};
+
+/// The phase word and then one word per page, which threads share.
+#[derive(Drop)]
+pub struct Board {
+    pub(crate) table: Table<(), View, Key, BoardRule, Global>,
+    ghost some_word: { 0 < table.shared.table_id.words },
+    ghost no_slot: { table.shared.table_id.slots ≡ 0 },
+}
+
+impl Board {
+    ghost use Rattle.like_core.specs.Views.{fresh_coord};
+    ghost use Rattle.like_board.specs.Rule.{first_word};
+    ghost use Rattle.like_board.specs.Seats.{board_id, coord_board, coord_view, AreFresh};
+
+    /// A board in phase 0, running, with these counts by page, the coordinator's seat and each worker's seat in order.
+    /// Pages that are marked in `split` are split in each odd phase.
+    pub fn new(
+        alloc: Global,
+        workers: u32,
+        counts: &[u64],
+        split: &[bool],
+    ) -> Result<(Board, CoordSeat, Vec<WorkerSeat>), AllocError>
+        requires some_worker { 1 ≤ workers }
+        requires few_workers { workers ≤ 16 }
+        requires same_pages { length split.now ≡ length counts.now }
+        requires few_pages { length counts.now ≤ 1024 }
+        requires counts { All (λ count. count ≤ 10 ^ 18) counts.now }
+        ensures coord_here { IfOk result (λ r. coord_board r.1 ≡ board_id r.0) }
+        ensures coord { IfOk result (λ r. let z : Setting = record { workers = workers; counts = counts.now; marks = split.now } in coord_view r.1 ≡ record (fresh_coord z (first_word z)) { made = workers }) }
+        ensures seats { IfOk result (λ r. length r.2.items ≡ workers) }
+        ensures views { IfOk result (λ r. let z : Setting = record { workers = workers; counts = counts.now; marks = split.now } in AreFresh (board_id r.0) z r.2.items) }
+    {
+        let first = PhaseWord::first(workers);
+        let mut words = Vec::with_capacity(alloc, counts.len() + 1)?;
+        words.push_reserved(first.pack());
+        words.extend_from_slice(counts)?;
+        let key = Key {
+            workers,
+            counts: Vec::from_slice(alloc, counts)?,
+            marks: Vec::from_slice(alloc, split)?,
+        };
+        let (table, seat) = Table::of_words(alloc, words.as_slice(), &key)?;
+        let board = Board { table };
+        let mut coord = CoordSeat { seat, seen: first };
+        let seats = coord.make_seats(alloc, &board, workers)?;
+        Ok((board, coord, seats))
+    }
+}

@@ -1,0 +1,18 @@
+//! The board of the like service: the phase word and the pages' counts, as words that change in single atomic steps,
+//! over which the coordinator and the workers step with seats of their own.
+#![tactic(auto)]
+
+mod board;
+mod board_post;
+mod coord_seat;
+mod key;
+mod plays;
+mod rule;
+#[cfg(test)]
+mod tests;
+mod worker_seat;
+
+pub use board::Board;
+pub use board_post::BoardPost;
+pub use coord_seat::CoordSeat;
+pub use worker_seat::WorkerSeat;

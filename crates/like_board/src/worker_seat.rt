@@ -1,0 +1,101 @@
+ghost use Rattle.std.specs.Prelude.{◌≡◌, ◌≢◌, ◌<◌, true, []};
+ghost use Rattle.like_core.specs.declared.view.View.TheVariants.{Worker};
+ghost use Rattle.like_board.specs.Known.{worker_of};
+
+use crate::board::Board;
+use crate::board_post::BoardPost;
+use crate::plays::{Acknowledging, Looking, Reporting, Retiring};
+use atomic_table::Seat;
+use like_core::{PhaseWord, Sight, View};
+
+/// The first bit of the phase word that says that a worker acknowledged or reported.
+const ANSWERED: u32 = 8;
+
+/// The first bit of the phase word that says that a worker retired.
+const RETIRED: u32 = 24;
+
+/// A worker's right to step on a board. It borrows nothing, so any thread may take it.
+#[derive(Drop)]
+pub struct WorkerSeat {
+    pub(crate) seat: Seat<(), View>,
+    pub(crate) number: u32,
+    ghost is_worker: { seat.me ≡ (Worker (worker_of seat.me.0), []) },
+    ghost numbered: { number ≡ (worker_of seat.me.0).worker },
+    ghost few: { number < 16 },
+}
+
+impl WorkerSeat {
+    ghost use Rattle.like_core.specs.declared.event.Event.TheVariants.{Look, Acknowledge, Report, Retire};
+    ghost use Rattle.like_core.specs.declared.shown.Shown.TheVariants.{Seen, Done};
+    ghost use Rattle.like_core.specs.declared.worker_state.WorkerState.TheVariants.{Gone};
+    ghost use Rattle.like_core.specs.Post.{IsSightOf};
+    ghost use Rattle.like_core.specs.Views.{ViewRuns, ViewRunsJoined, ViewRunsSplit, ViewSawEnding, looked_view, answered_view, retired_view};
+    ghost use Rattle.like_core.specs.Shows.{IsStep};
+    ghost use Rattle.like_board.specs.Seats.{board_id, seat_board, seat_view, post_board, post_view};
+
+    /// Takes the seat to its board.
+    pub fn at(self, board: &Board) -> BoardPost<'_>
+        requires { seat_board self ≡ board_id board.now }
+        ensures board { post_board result ≡ seat_board self }
+        ensures view { post_view result ≡ seat_view self }
+    {
+        BoardPost { board, seat: self }
+    }
+
+    pub(crate) fn look(&mut self, board: &Board) -> Sight
+        requires here { seat_board self.old ≡ board_id board.now }
+        requires there { (seat_view self.old).state ≢ Gone }
+        ensures board { seat_board self.new ≡ seat_board self.old }
+        ensures view { seat_view self.new ≡ looked_view (seat_view self.old) result }
+        ensures sight { IsSightOf (seat_view self.old).state result }
+        ensures ending { ViewRuns (seat_view self.old) → ViewSawEnding (seat_view self.old) → result.ending ≡ true }
+        ensures event { IsStep (seat_view self.old).setting (Look (seat_view self.old).worker) (Seen result) (Worker (seat_view self.old)) (Worker (seat_view self.new)) }
+    {
+        let word = board.table.shared.load::<Looking>(&mut self.seat, 0);
+        PhaseWord::of_packed(word).sight(self.number)
+    }
+
+    pub(crate) fn acknowledge(&mut self, board: &Board)
+        requires here { seat_board self.old ≡ board_id board.now }
+        requires runs { ViewRunsJoined (seat_view self.old) }
+        requires ending { ViewSawEnding (seat_view self.old) }
+        ensures board { seat_board self.new ≡ seat_board self.old }
+        ensures view { seat_view self.new ≡ answered_view (seat_view self.old) }
+        ensures event { IsStep (seat_view self.old).setting (Acknowledge (seat_view self.old).worker) Done (Worker (seat_view self.old)) (Worker (seat_view self.new)) }
+    {
+        let bit = 1 << (ANSWERED + self.number);
+        board
+            .table
+            .shared
+            .fetch_or::<Acknowledging>(&mut self.seat, 0, bit);
+    }
+
+    pub(crate) fn report(&mut self, board: &Board)
+        requires here { seat_board self.old ≡ board_id board.now }
+        requires runs { ViewRunsSplit (seat_view self.old) }
+        requires ending { ViewSawEnding (seat_view self.old) }
+        ensures board { seat_board self.new ≡ seat_board self.old }
+        ensures view { seat_view self.new ≡ answered_view (seat_view self.old) }
+        ensures event { IsStep (seat_view self.old).setting (Report (seat_view self.old).worker) Done (Worker (seat_view self.old)) (Worker (seat_view self.new)) }
+    {
+        let bit = 1 << (ANSWERED + self.number);
+        board
+            .table
+            .shared
+            .fetch_or::<Reporting>(&mut self.seat, 0, bit);
+    }
+
+    pub(crate) fn retire(&mut self, board: &Board)
+        requires here { seat_board self.old ≡ board_id board.now }
+        requires runs { ViewRunsJoined (seat_view self.old) }
+        ensures board { seat_board self.new ≡ seat_board self.old }
+        ensures view { seat_view self.new ≡ retired_view (seat_view self.old) }
+        ensures event { IsStep (seat_view self.old).setting (Retire (seat_view self.old).worker) Done (Worker (seat_view self.old)) (Worker (seat_view self.new)) }
+    {
+        let bit = 1 << (RETIRED + self.number);
+        board
+            .table
+            .shared
+            .fetch_or::<Retiring>(&mut self.seat, 0, bit);
+    }
+}

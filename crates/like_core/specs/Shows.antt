@@ -1,0 +1,93 @@
+use Rattle.std.specs.Prelude.{◌≡◌, ℕ, ◌+◌, ◌^◌, ◌<◌, ◌≤◌, All, nat_lt, true, if◌then◌else◌, List, [], length, slice_index, slice_set, IfSome}
+use Rattle.std.specs.List.{sum_by}
+use mathlib.Core.Option.{some}
+use lib.ListN.{get_elem?}
+use Rattle.like_core.specs.declared.worker_state.WorkerState.TheVariants.{Runs}
+use Rattle.like_core.specs.declared.event.Event.{Event}
+use Rattle.like_core.specs.declared.shown.Shown.{Shown}
+use Rattle.like_core.specs.declared.setting.Setting.{Setting}
+use Rattle.like_core.specs.declared.view.WorkerView.{WorkerView}
+use Rattle.like_core.specs.declared.view.CoordView.{CoordView}
+use Rattle.like_core.specs.declared.view.View.{View}
+use Rattle.like_core.specs.declared.view.View.TheVariants.{Coord, Worker, Spent}
+use Rattle.like_core.specs.Phase.{IsSplit}
+use Rattle.like_core.specs.Numbers.{AllIn, AllGone, CoordSees}
+use Rattle.like_core.specs.Table.{Permits, IsShown}
+use Rattle.like_core.specs.State.{CoreState, after, numbers}
+use Rattle.like_core.specs.Reachable.{Reachable}
+use Rattle.like_core.specs.ShownWord.{shown_word}
+use Rattle.like_core.specs.Views.{ViewRuns, ViewSawEnding, seats_of}
+
+-- a setting that a board may have: there are 1 to 16 workers and at most 1,024 pages, each with a mark and a count of
+-- at most 10 ^ 18
+pub record IsSetting (z : Setting) : Type 0 where
+  pub some_worker : 1 ≤ z.workers
+  pub few_workers : z.workers ≤ 16
+  pub few_pages : length z.counts ≤ 1024
+  pub marks : length z.marks ≡ length z.counts
+  pub counts : All (λ n. n ≤ 10 ^ 18) z.counts
+
+-- a worker's view of a state: its worker's state there; it saw no later phase; and what it saw of the phase that it
+-- runs is still so
+pub record FitsWorker (z : Setting) (s : CoreState) (v : WorkerView) : Type 0 where
+  pub setting : v.setting ≡ z
+  pub there : v.worker < z.workers
+  pub state : s.state v.worker ≡ v.state
+  pub number : IfSome v.last (λ sight. sight.number ≤ s.phase)
+  pub ending : ViewRuns v → ViewSawEnding v → s.ending ≡ true
+
+-- the coordinator's view of a state: its phase, and whether that is ending; who has no seat yet runs phase 0; a sight
+-- that showed all in is still what a look would show; and all are gone in a split phase only where the last sight before
+-- its release showed that
+pub record FitsCoord (z : Setting) (s : CoreState) (c : CoordView) : Type 0 where
+  pub setting : c.setting ≡ z
+  pub made : c.made ≤ z.workers
+  pub unmade : (i : ℕ) → c.made ≤ i → i < z.workers → s.state i ≡ Runs 0
+  pub phase : c.phase ≡ s.phase
+  pub ending : c.ending ≡ s.ending
+  pub last : IfSome c.last (λ sight. (sight.number ≡ s.phase) × (sight.ending ≡ s.ending))
+  pub stays : IfSome c.last (λ sight. sight.all_in ≡ true → CoordSees (numbers z s) sight × (c.word ≡ shown_word z s))
+  pub all_in : c.all_in ≡ true → AllIn (numbers z s)
+  pub gone : IsSplit s.phase → AllGone (numbers z s) → c.gone ≡ true
+
+-- a seat's view of a state
+abbrev pub Fits : Setting → CoreState → View → Type 0
+Fits z s (Coord c) = FitsCoord z s c
+Fits z s (Worker v) = FitsWorker z s v
+Fits z s Spent = Unit {0}
+
+-- the words and the views of all seats show the state: word 0 is its phase word, and then stands each page's count;
+-- no likes are unmerged; the first seat is the coordinator's, and no other is; and each worker that has a seat has one
+pub record Shows (z : Setting) (s : CoreState) (words : List ℕ) (views : List View) : Type 0 where
+  pub setting : IsSetting z
+  pub width : length words ≡ length z.counts + 1
+  pub word : slice_index words 0 ≡ shown_word z s
+  pub pages : (page : ℕ) → page < length z.counts → slice_index words (page + 1) ≡ slice_index z.counts page + length (s.applied page)
+  pub merged : (i : ℕ) → s.unmerged i ≡ []
+  pub coord : CoordView
+  pub first : get_elem? views 0 ≡ some (Coord coord)
+  pub only : (place : ℕ) (c : CoordView) → get_elem? views place ≡ some (Coord c) → place ≡ 0
+  pub each : (place : ℕ) (v : View) → get_elem? views place ≡ some v → Fits z s v
+  pub once : (i : ℕ) → sum_by (seats_of i) views ≡ (if nat_lt i coord.made then 1 else 0)
+
+-- the words and the views show some state that can be reached
+pub record ShowsSome (z : Setting) (words : List ℕ) (views : List View) : Type 0 where
+  pub state : CoreState
+  pub reachable : Reachable z state
+  pub shows : Shows z state words views
+
+-- one step of a seat, whose view goes from v to w, is the event: some state that can be reached is shown by the words
+-- and by all views, the event is permitted there and shows what it is said to show, and afterwards the words and all
+-- views show the state after the event
+pub record IsStep (z : Setting) (event : Event) (shown : Shown) (v w : View) : Type 0 where
+  pub words : List ℕ
+  pub views : List View
+  pub place : ℕ
+  pub state : CoreState
+  pub reachable : Reachable z state
+  pub shows : Shows z state words views
+  pub mine : get_elem? views place ≡ some v
+  pub permits : Permits (numbers z state) event
+  pub tells : IsShown (numbers z state) event shown
+  pub word : ℕ
+  pub shows_after : Shows z (after z state event) (slice_set words 0 word) (slice_set views place w)

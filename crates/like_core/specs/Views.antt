@@ -1,0 +1,100 @@
+use Rattle.std.specs.Prelude.{◌≡◌, ℕ, ◌+◌, ◌==◌, ◌<◌, Bool, true, false, if◌then◌else◌, [], count_by, Option, Some, None, IsSomeAnd}
+use Rattle.like_core.specs.declared.worker_state.WorkerState.TheVariants.{Runs, Answered, Gone}
+use Rattle.like_core.specs.declared.sight.Sight.{Sight}
+use Rattle.like_core.specs.declared.sight.CoordSight.{CoordSight}
+use Rattle.like_core.specs.declared.setting.Setting.{Setting}
+use Rattle.like_core.specs.declared.view.WorkerView.{WorkerView}
+use Rattle.like_core.specs.declared.view.CoordView.{CoordView}
+use Rattle.like_core.specs.declared.view.View.{View}
+use Rattle.like_core.specs.declared.view.View.TheVariants.{Coord, Worker, Spent}
+use Rattle.like_core.specs.Phase.{last_phase, IsJoined, IsSplit}
+use Rattle.like_core.specs.Post.{RunsSome, phase_of, seen}
+
+-- a worker's view before its seat made a step: it runs phase 0, looked never and added nothing
+abbrev pub fresh : Setting → ℕ → WorkerView
+fresh z worker = record {
+  setting = z;
+  worker = worker;
+  state = Runs 0;
+  last = None;
+  additions = [];
+  reads = [];
+}
+
+-- the coordinator's view before its first step, where this is the phase word
+abbrev pub fresh_coord : Setting → ℕ → CoordView
+fresh_coord z word = record {
+  setting = z;
+  made = 0;
+  phase = 0;
+  ending = false;
+  last = None;
+  word = word;
+  all_in = false;
+  gone = false;
+  joined = [];
+}
+
+-- the worker of the view runs a phase
+abbrev pub ViewRuns : WorkerView → Type 0
+ViewRuns v = RunsSome (λ _. Unit {0}) v.state
+
+-- it runs a joined phase
+abbrev pub ViewRunsJoined : WorkerView → Type 0
+ViewRunsJoined v = RunsSome IsJoined v.state
+
+-- it runs a split phase
+abbrev pub ViewRunsSplit : WorkerView → Type 0
+ViewRunsSplit v = RunsSome IsSplit v.state
+
+-- its last look showed that the end of the phase was announced
+abbrev pub ViewSawEnding : WorkerView → Type 0
+ViewSawEnding v = IsSomeAnd v.last (λ sight. sight.ending ≡ true)
+
+-- a worker's view after a look
+abbrev pub looked_view : WorkerView → Sight → WorkerView
+looked_view v sight = record v { state = seen v.state sight; last = Some sight }
+
+-- a worker's view after an acknowledgement or a report
+abbrev pub answered_view : WorkerView → WorkerView
+answered_view v = record v { state = Answered (phase_of v.state) }
+
+-- a worker's view after it retired
+abbrev pub retired_view : WorkerView → WorkerView
+retired_view v = record v { state = Gone }
+
+-- the coordinator's view after a look at a word
+abbrev pub looked_coord : CoordView → ℕ → CoordSight → CoordView
+looked_coord c word sight = record c { last = Some sight; word = word; all_in = sight.all_in }
+
+-- the coordinator's view after an announcement
+abbrev pub announced_coord : CoordView → CoordView
+announced_coord c = record c { ending = true; last = None }
+
+-- whether the last sight showed all workers gone
+abbrev pub saw_all_gone : Option CoordSight → Bool
+saw_all_gone (Some sight) = sight.all_gone
+saw_all_gone None = false
+
+-- the coordinator's view after a release
+abbrev pub released_coord : CoordView → CoordView
+released_coord c =
+    record c { phase = c.phase + 1; ending = false; last = None; all_in = false; gone = saw_all_gone c.last }
+
+-- the coordinator's view after it made one worker's seat more
+abbrev pub made_coord : CoordView → CoordView
+made_coord c = record c { made = c.made + 1 }
+
+-- the coordinator may announce: the last look, since which it made no step, showed a running phase that is not the last
+abbrev pub MayAnnounce : CoordView → Type 0
+MayAnnounce c = IsSomeAnd c.last (λ sight. (sight.ending ≡ false) × (sight.number < last_phase))
+
+-- the coordinator may release: the last look, since which it made no step, showed an ending phase and all in
+abbrev pub MayRelease : CoordView → Type 0
+MayRelease c = IsSomeAnd c.last (λ sight. (sight.ending ≡ true) × (sight.all_in ≡ true))
+
+-- how many workers' seats with the number i a view stands for: its own, or those that were given back
+abbrev pub seats_of : ℕ → View → ℕ
+seats_of i (Coord c) = count_by (λ w. w.worker == i) c.joined
+seats_of i (Worker v) = (if v.worker == i then 1 else 0)
+seats_of i Spent = 0

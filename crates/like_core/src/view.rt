@@ -1,0 +1,58 @@
+//! What the seats at a board know, as contracts see it. No value of these types is made.
+use crate::setting::Setting;
+use crate::sight::{CoordSight, Sight};
+use crate::worker_state::WorkerState;
+use std::collections::LinkedList;
+
+/// Likes that a worker added to a page's count, in one step.
+pub struct Addition {
+    pub phase: u32,
+    pub page: u32,
+    pub likes: u64,
+}
+
+/// A count that a worker read.
+pub struct PageRead {
+    pub phase: u32,
+    pub page: u32,
+    pub count: u64,
+    /// How many additions the worker had made before.
+    pub after: u64,
+}
+
+/// What a worker's seat knows.
+pub struct WorkerView {
+    pub setting: Setting,
+    pub worker: u32,
+    pub state: WorkerState,
+    /// Its last sight, if it looked.
+    pub last: Option<Sight>,
+    pub additions: LinkedList<Addition>,
+    pub reads: LinkedList<PageRead>,
+}
+
+/// What the coordinator's seat knows.
+pub struct CoordView {
+    pub setting: Setting,
+    /// How many workers' seats were made.
+    pub made: u32,
+    pub phase: u32,
+    pub ending: bool,
+    /// The sight of its last look, where that was its last step.
+    pub last: Option<CoordSight>,
+    /// The phase word that it saw last.
+    pub word: u64,
+    /// Whether a sight of this phase showed all workers in.
+    pub all_in: bool,
+    /// Whether the last sight before this phase's release showed all workers gone.
+    pub gone: bool,
+    /// What the workers' seats knew that were given back.
+    pub joined: LinkedList<WorkerView>,
+}
+
+/// What a seat knows. A seat that was given back knows nothing more.
+pub enum View {
+    Coord(CoordView),
+    Worker(WorkerView),
+    Spent,
+}

@@ -1,0 +1,64 @@
+ghost use Rattle.std.specs.Prelude.{◌≡◌, ◌<◌, ◌≤◌};
+ghost use Rattle.like_core.specs.Word.{Fields, packed, IsLawful};
+ghost use Rattle.like_core.specs.PhaseWord.{fields_of};
+ghost use Rattle.like_core.specs.Sights.{first_fields, sight_of, coord_sight_of};
+
+use crate::kind::Kind;
+use crate::phase_word::PhaseWord;
+use crate::sight::{CoordSight, Sight};
+
+/// What a look at the phase word shows.
+impl PhaseWord {
+    /// The word at the start: so many workers run phase 0.
+    pub fn first(workers: u32) -> PhaseWord
+        requires some_worker { 1 ≤ workers }
+        requires few_workers { workers ≤ 16 }
+        ensures { fields_of result ≡ first_fields workers }
+    {
+        PhaseWord {
+            kind: Kind::JoinedRunning,
+            workers,
+            answered: 0,
+            retired: 0,
+            number: 0,
+        }
+    }
+
+    /// The word that a number packs, where it packs one.
+    pub fn of_packed(word: u64) -> PhaseWord
+        requires { (f : Fields) × IsLawful f × (packed f ≡ word) }
+        ensures { (f : Fields) → IsLawful f → packed f ≡ word → fields_of result ≡ f }
+    {
+        match PhaseWord::unpack(word) {
+            Some(found) => found,
+            None => unreachable!(),
+        }
+    }
+
+    /// What worker `worker` sees.
+    pub fn sight(self, worker: u32) -> Sight
+        requires { worker < 16 }
+        ensures { result ≡ sight_of (fields_of self) worker }
+    {
+        Sight {
+            number: self.number,
+            ending: self.kind.is_ending(),
+            waits: (self.answered >> worker) & 1 == 1,
+        }
+    }
+
+    /// What the coordinator sees.
+    pub fn coord_sight(self) -> CoordSight
+        ensures { result ≡ coord_sight_of (fields_of self) }
+    {
+        let full = (1u32 << self.workers) - 1;
+        let answered = u32::from(self.answered);
+        let retired = u32::from(self.retired);
+        CoordSight {
+            number: self.number,
+            ending: self.kind.is_ending(),
+            all_in: answered + retired == full,
+            all_gone: retired == full,
+        }
+    }
+}
