@@ -1,5 +1,6 @@
-use Rattle.std.proofs.Common.{◌≡◌, ℕ, ◌+◌, ◌-◌, ◌<◌, ◌≤◌, ◌==◌, if◌then◌else◌, Bool, true, false, not, cond, Option, subst, ap, sym, ◌∙◌, refl, arith}
+use Rattle.std.proofs.Common.{[], ◌∷◌, zero, suc, sum, replicate, ◌≡◌, ℕ, ◌+◌, ◌-◌, ◌<◌, ◌≤◌, ◌==◌, Bool, true, false, not, cond, Option, subst, ap, sym, ◌∙◌, refl, arith}
 use Rattle.std.proofs.lemmas.Bool.{cond-true, cond-false}
+use Rattle.std.proofs.lemmas.Grind.{common_steps}
 use Rattle.like_core.specs.declared.worker_state.WorkerState.{WorkerState}
 use Rattle.like_core.specs.declared.worker_state.WorkerState.TheVariants.{Runs}
 use Rattle.like_core.specs.declared.event.Event.TheVariants.{Like, Merge}
@@ -10,11 +11,10 @@ use Rattle.like_core.specs.Functions.{update, sum_below}
 use Rattle.like_core.specs.Phase.{split}
 use Rattle.like_core.specs.Numbers.{Numbers, with_unmerged, with_count, sliced, total}
 use Rattle.like_core.specs.Table.{Permits, next}
-use Rattle.like_core.specs.Post.{PostView, RunsSome, IsRunning, SawEnding, phase_of, slices, added, MayAdd}
+use Rattle.like_core.specs.Post.{PostView, RunsSome, IsRunning, SawEnding, phase_of, slices, added, additions_of, is_marked, pages_of, MayAdd}
 use Rattle.like_core.specs.State.{start}
 use Rattle.like_core.specs.Lone.{lone_view, IsLone, Likes}
 use Rattle.like_core.proofs.KeptWrites.{total-with_unmerged}
-use Rattle.like_core.proofs.Started.{sum_below-zero}
 use Rattle.like_core.proofs.Updates.{update_cases, update-other}
 use Rattle.like_core.proofs.LoneSteps.{runs_present, lone_at, view_at}
 
@@ -29,15 +29,13 @@ total_one n start last l =
 -- the page has room for what may be added
 pub room_to_add : (n : Numbers) (start : ℕ) (last : Option Sight) (page likes : ℕ) → IsLone n start last → MayAdd (lone_view n start last) page likes → n.count 0 + likes ≤ start + 64000000
 room_to_add n start last page likes l may =
-    let adds = (lone_view n start last).additions in
-    let one : sum_below adds n.pages ≡ 0 + (n.count 0 - start) = ap (sum_below adds) l.pages in
     let few = may.few in
     let started = l.started in
     omega arith
 
 -- the one page has the number 0
-pub first_page : (n : Numbers) (start : ℕ) (last : Option Sight) (page : ℕ) → IsLone n start last → page < n.pages → page ≡ 0
-first_page n start last page l there = let one = l.pages in omega arith
+pub first_page : (n : Numbers) (start : ℕ) (last : Option Sight) (page : ℕ) → IsLone n start last → page < pages_of (lone_view n start last) → page ≡ 0
+first_page n start last page l there = omega arith
 
 -- the numbers after likes were added to the page's count
 abbrev pub with_likes : Numbers → (ℕ → ℕ → ℕ) → ℕ → Numbers
@@ -57,16 +55,10 @@ lone_added n start last unmerged likes l merged = record {
 
 pub view_added : (n : Numbers) (start : ℕ) (last : Option Sight) (unmerged : ℕ → ℕ → ℕ) (likes page : ℕ) → IsLone n start last → page ≡ 0 → lone_view (with_likes n unmerged likes) start last ≡ added (lone_view n start last) page likes
 view_added n start last unmerged likes page l first =
-    let adds : ℕ → ℕ = (lone_view n start last).additions in
-    let P : ℕ → ℕ → Type 0 = λ q c. c - (if q == 0 then start else 0) ≡ update adds 0 (adds 0 + likes) q in
     let started = l.started in
-    let each : (q : ℕ) → P q (update n.count 0 (n.count 0 + likes) q) =
-    update_cases P n.count 0 (n.count 0 + likes)
-    (omega arith)
-    (λ q other. sym (update-other adds 0 (adds 0 + likes) q other))
-    in
+    let more : (n.count 0 + likes) - start ≡ (n.count 0 - start) + likes = omega arith in
     let at_first : lone_view (with_likes n unmerged likes) start last ≡ added (lone_view n start last) 0 likes =
-    λ m. record (lone_view n start last) { additions = λ q. each q m }
+    ap (λ a. record (lone_view n start last) { additions = a ∷ [] }) more
     in
     at_first ∙ ap (λ p. added (lone_view n start last) p likes) (sym first)
 
@@ -128,10 +120,10 @@ after_merge n k =
     ap (λ (m : Numbers). with_count m 0 (n.count 0 + (n.unmerged 0 0 + k))) (with_unmerged-twice n (n.unmerged 0 0 + k) 0)
 
 -- the post's slices are the core's
-slices_are : (n : Numbers) (start : ℕ) (last : Option Sight) (page : ℕ) → IsLone n start last → IsRunning (lone_view n start last) → page < n.pages → slices (lone_view n start last) page ≡ sliced n 0
+slices_are : (n : Numbers) (start : ℕ) (last : Option Sight) (page : ℕ) → IsLone n start last → IsRunning (lone_view n start last) → page < pages_of (lone_view n start last) → slices (lone_view n start last) page ≡ sliced n 0
 slices_are n start last page l runs there =
     let phase : phase_of (n.state 0) ≡ n.phase = ap phase_of (runs_present (λ _. Unit {0}) n start last l runs).0 in
-    ap (λ q. split n.marked (phase_of (n.state 0)) q) (first_page n start last page l there) ∙
+    ap (λ q. slices (lone_view n start last) q) (first_page n start last page l there) ∙
     ap (λ k. split n.marked k 0) phase
 
 -- a like of a page that is not sliced
@@ -198,17 +190,22 @@ add_sliced n mid m start last page likes l may is_sliced is then_is =
     )
 
 -- the count before is at least what the post has added
-pub own_before : (n mid : Numbers) (start : ℕ) (last : Option Sight) (page old : ℕ) → page ≡ 0 → sliced n 0 ≡ true → mid ≡ next n (Like 0 0) → old ≡ mid.count 0 → (lone_view n start last).additions page ≤ old
+pub own_before : (n mid : Numbers) (start : ℕ) (last : Option Sight) (page old : ℕ) → page ≡ 0 → sliced n 0 ≡ true → mid ≡ next n (Like 0 0) → old ≡ mid.count 0 → additions_of (lone_view n start last) page ≤ old
 own_before n mid start last page old first is_sliced is old_is =
     let counts : mid.count 0 ≡ n.count 0 = ap (λ (k : Numbers). k.count 0) (first_like n mid is_sliced is) in
-    let adds : (lone_view n start last).additions page ≡ n.count 0 - start = ap (lone_view n start last).additions first in
+    let adds : additions_of (lone_view n start last) page ≡ n.count 0 - start = ap (additions_of (lone_view n start last)) first in
     omega arith
 
+-- zeros add up to nothing
+sum_zeros : (n : ℕ) → sum (replicate n 0) ≡ 0
+sum_zeros zero = refl
+sum_zeros (suc n) = grind (arith, common_steps, sum_zeros n)
+
 -- a post that has added nothing may run its first like
-pub may_like : (v : PostView) → v.state ≡ Runs 0 → 0 < v.pages → ((page : ℕ) → v.additions page ≡ 0) → MayAdd v 0 1
+pub may_like : (v : PostView) → v.state ≡ Runs 0 → 0 < pages_of v → v.additions ≡ replicate (pages_of v) 0 → MayAdd v 0 1
 may_like v runs there nothing =
-    let plain : slices v 0 ≡ false = ap (λ (state : WorkerState). split v.marked (phase_of state) 0) runs in
-    let none = sum_below-zero v.additions v.pages nothing in
+    let plain : slices v 0 ≡ false = ap (λ (state : WorkerState). split (is_marked v) (phase_of state) 0) runs in
+    let none : sum v.additions ≡ 0 = ap sum nothing ∙ sum_zeros (pages_of v) in
     record {
       runs = subst (RunsSome (λ _. Unit {0})) (sym runs) tt;
       there = there;
@@ -218,10 +215,10 @@ may_like v runs there nothing =
     }
 
 -- a post that has added nothing may merge its first slice in phase 1
-pub may_merge : (v : PostView) (likes : ℕ) → v.state ≡ Runs 1 → 0 < v.pages → v.marked 0 ≡ true → ((page : ℕ) → v.additions page ≡ 0) → 1 ≤ likes → likes ≤ 64000000 → SawEnding v → MayAdd v 0 likes
-may_merge v likes runs there is_marked nothing some few saw =
-    let is_sliced : slices v 0 ≡ true = ap (λ (state : WorkerState). split v.marked (phase_of state) 0) runs ∙ is_marked in
-    let none = sum_below-zero v.additions v.pages nothing in
+pub may_merge : (v : PostView) (likes : ℕ) → v.state ≡ Runs 1 → 0 < pages_of v → is_marked v 0 ≡ true → v.additions ≡ replicate (pages_of v) 0 → 1 ≤ likes → likes ≤ 64000000 → SawEnding v → MayAdd v 0 likes
+may_merge v likes runs there marked nothing some few saw =
+    let is_sliced : slices v 0 ≡ true = ap (λ (state : WorkerState). split (is_marked v) (phase_of state) 0) runs ∙ marked in
+    let none : sum v.additions ≡ 0 = ap sum nothing ∙ sum_zeros (pages_of v) in
     record {
       runs = subst (RunsSome (λ _. Unit {0})) (sym runs) tt;
       there = there;

@@ -1,6 +1,4 @@
-use Rattle.std.proofs.Common.{◌≡◌, ℕ, ◌+◌, ◌-◌, ◌^◌, ◌≤◌, ◌==◌, if◌then◌else◌, ◌↔◌, ◌⊎◌, inl, inr, Bool, true, slice_index, [], ◌∷◌, Option, None, IsSomeAnd, Result, Ok, Err, IsOk, OnOk, OnErr, subst, ap, sym, ◌∙◌, refl, arith}
-use Rattle.std.proofs.lemmas.Bool.{cases_eq}
-use Rattle.std.proofs.lemmas.List.{get_or_past}
+use Rattle.std.proofs.Common.{◌≡◌, ℕ, ◌+◌, ◌-◌, ◌^◌, ◌≤◌, ◌↔◌, ◌⊎◌, inl, inr, Bool, true, [], ◌∷◌, Option, None, IsSomeAnd, Result, Ok, Err, IsOk, OnOk, OnErr, subst, ap, sym, ◌∙◌, refl, arith}
 use Rattle.like_core.specs.declared.worker_state.WorkerState.{WorkerState}
 use Rattle.like_core.specs.declared.worker_state.WorkerState.TheVariants.{Runs, Answered, Gone}
 use Rattle.like_core.specs.declared.event.Event.{Event}
@@ -156,10 +154,5 @@ pub fresh_start : (count : ℕ) (is_marked : Bool) → IsFresh (lone_view (numbe
 fresh_start count is_marked = record {
   runs = refl;
   never_looked = refl;
-  added_nothing = λ page.
-      let P : ℕ → Type 0 = λ q. slice_index (count ∷ []) q + 0 - (if q == 0 then count else 0) ≡ 0 in
-      elim (cases_eq page 0) [
-        | inl same ↦ subst P (sym same) (omega arith)
-        | inr other ↦ let none = get_or_past (count ∷ []) page 0 (omega arith) in omega arith
-      ];
+  added_nothing = (let none : (count + 0) - count ≡ 0 = omega arith in ap (λ a. a ∷ []) none);
 }

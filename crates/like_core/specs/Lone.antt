@@ -1,4 +1,4 @@
-use Rattle.std.specs.Prelude.{◌≡◌, ℕ, ◌+◌, ◌-◌, ◌^◌, ◌<◌, ◌≤◌, ◌==◌, if◌then◌else◌, Option, IsSomeAnd, true}
+use Rattle.std.specs.Prelude.{◌≡◌, ℕ, ◌+◌, ◌-◌, ◌^◌, ◌<◌, ◌≤◌, [], ◌∷◌, Option, IsSomeAnd, true}
 use Rattle.like_core.specs.declared.worker_state.WorkerState.TheVariants.{Runs, Answered}
 use Rattle.like_core.specs.declared.sight.Sight.{Sight}
 use Rattle.like_core.specs.Numbers.{Numbers, with_unmerged, with_count, sliced, total}
@@ -8,11 +8,10 @@ use Rattle.like_core.specs.Post.{PostView, RunsSome}
 abbrev pub lone_view : Numbers → ℕ → Option Sight → PostView
 lone_view n start last = record {
   worker = 0;
-  pages = n.pages;
-  marked = n.marked;
+  marks = n.marked 0 ∷ [];
   state = n.state 0;
   last = last;
-  additions = λ page. n.count page - (if page == 0 then start else 0);
+  additions = (n.count 0 - start) ∷ [];
 }
 
 -- what stands between the calls of such a post
@@ -42,6 +41,5 @@ merged_likes n likes =
 
 -- all but the state and the last sight is as before
 pub record KeepsBoard (old new : PostView) : Type 0 where
-  pub pages : new.pages ≡ old.pages
-  pub marked : new.marked ≡ old.marked
+  pub marks : new.marks ≡ old.marks
   pub additions : new.additions ≡ old.additions

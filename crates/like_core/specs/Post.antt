@@ -1,25 +1,35 @@
-use Rattle.std.specs.Prelude.{◌≡◌, ℕ, ◌+◌, ◌<◌, ◌≤◌, Bool, true, false, if◌then◌else◌, Option, Some, None, IsSomeAnd, MatchBool}
+use Rattle.std.specs.Prelude.{◌≡◌, ℕ, ◌+◌, ◌<◌, ◌≤◌, Bool, true, false, if◌then◌else◌, List, length, replicate, slice_index, slice_index_or, slice_set, sum, Option, Some, None, IsSomeAnd, MatchBool}
 use Rattle.like_core.specs.declared.worker_state.WorkerState.{WorkerState}
 use Rattle.like_core.specs.declared.worker_state.WorkerState.TheVariants.{Runs, Answered, Gone}
 use Rattle.like_core.specs.declared.sight.Sight.{Sight}
-use Rattle.like_core.specs.Functions.{update, sum_below}
 use Rattle.like_core.specs.Phase.{IsJoined, IsSplit, split}
 
--- what a post means: whose it is, how many pages its board has and which are marked as split; the worker's state and
--- its last sight, if it looked; and how much it has added to each page
+-- what a post means: whose it is; for each page of its board, whether it is marked as split; the worker's state and its
+-- last sight, if it looked; and how much it has added to each page
 pub record PostView : Type 0 where
   pub worker : ℕ
-  pub pages : ℕ
-  pub marked : ℕ → Bool
+  pub marks : List Bool
   pub state : WorkerState
   pub last : Option Sight
-  pub additions : ℕ → ℕ
+  pub additions : List ℕ
+
+-- how many pages there are
+abbrev pub pages_of : PostView → ℕ
+pages_of v = length v.marks
+
+-- whether a page is marked as split
+abbrev pub is_marked : PostView → ℕ → Bool
+is_marked v page = slice_index_or v.marks page false
+
+-- how much was added to a page
+abbrev pub additions_of : PostView → ℕ → ℕ
+additions_of v page = slice_index v.additions page
 
 -- no call was made on the post yet
 pub record IsFresh (v : PostView) : Type 0 where
   pub runs : v.state ≡ Runs 0
   pub never_looked : v.last ≡ None
-  pub added_nothing : (page : ℕ) → v.additions page ≡ 0
+  pub added_nothing : v.additions ≡ replicate (pages_of v) 0
 
 -- the worker runs a phase of which P holds
 abbrev pub RunsSome : (ℕ → Type 0) → WorkerState → Type 0
@@ -51,7 +61,7 @@ phase_of Gone = 0
 
 -- whether the page is sliced in the post's phase
 abbrev pub slices : PostView → ℕ → Bool
-slices v page = split v.marked (phase_of v.state) page
+slices v page = split (is_marked v) (phase_of v.state) page
 
 -- what a worker in this state can see: one that runs a phase sees that phase; one that has answered a phase sees that
 -- phase and waits, or the next, and runs it
@@ -80,19 +90,19 @@ retired v = record v { state = Gone }
 
 -- the post after n was added to a page
 abbrev pub added : PostView → ℕ → ℕ → PostView
-added v page n = record v { additions = update v.additions page (v.additions page + n) }
+added v page n = record v { additions = slice_set v.additions page (additions_of v page + n) }
 
 -- n may be added to the page: 1 at a like of a page that is not sliced; a slice that is merged in the ending phase; and
 -- all additions of a post together stay within its worker's requests
 pub record MayAdd (v : PostView) (page n : ℕ) : Type 0 where
   pub runs : IsRunning v
-  pub there : page < v.pages
+  pub there : page < pages_of v
   pub like : slices v page ≡ false → n ≡ 1
   pub merge : slices v page ≡ true → (1 ≤ n) × SawEnding v
-  pub few : sum_below v.additions v.pages + n ≤ 64000000
+  pub few : sum v.additions + n ≤ 64000000
 
 -- the page may be read
 pub record MayRead (v : PostView) (page : ℕ) : Type 0 where
   pub runs : IsRunning v
-  pub there : page < v.pages
+  pub there : page < pages_of v
   pub plain : slices v page ≡ false

@@ -1,6 +1,6 @@
 ghost use Rattle.std.specs.Prelude.{◌≡◌, ◌≢◌, ◌≤◌, true};
 ghost use Rattle.like_core.specs.declared.worker_state.WorkerState.TheVariants.{Gone};
-ghost use Rattle.like_core.specs.Post.{PostView, IsRunning, RunsJoined, RunsSplit, SawEnding, IsSightOf, looked_at, answered, retired, added, MayAdd, MayRead};
+ghost use Rattle.like_core.specs.Post.{PostView, IsRunning, RunsJoined, RunsSplit, SawEnding, IsSightOf, looked_at, answered, retired, added, additions_of, MayAdd, MayRead};
 
 use crate::sight::Sight;
 
@@ -42,11 +42,11 @@ pub trait Post {
     fn add(&mut self, page: u32, n: u64) -> u64
         requires { MayAdd (view self.old) page n }
         ensures view { view self.new ≡ added (view self.old) page n }
-        ensures own { (view self.old).additions page ≤ result };
+        ensures own { additions_of (view self.old) page ≤ result };
 
     /// The page's count.
     fn read(&mut self, page: u32) -> u64
         requires { MayRead (view self.old) page }
         ensures view { view self.new ≡ view self.old }
-        ensures own { (view self.old).additions page ≤ result };
+        ensures own { additions_of (view self.old) page ≤ result };
 }

@@ -50,7 +50,6 @@ impl Lone {
     pub fn new(alloc: Global, start: u64) -> Result<Lone, AllocError>
         requires { start ≤ 10 ^ 18 }
         ensures fresh { IfOk result (λ lone. IsFresh (lone_view (numbers_of lone.core) lone.start lone.last)) }
-        ensures page { IfOk result (λ lone. (numbers_of lone.core).pages ≡ 1) }
         ensures split { IfOk result (λ lone. (numbers_of lone.core).marked 0 ≡ true) }
     {
         Ok(Lone {

@@ -1,8 +1,8 @@
-ghost use Rattle.std.specs.Prelude.{◌≡◌, ℕ, ◌+◌, ◌<◌, ◌≤◌, true};
+ghost use Rattle.std.specs.Prelude.{◌≡◌, replicate, ◌+◌, ◌<◌, ◌≤◌, true};
 ghost use Rattle.std.specs.Bool.{OnTrue, OnFalse};
 ghost use Rattle.like_core.specs.declared.worker_state.WorkerState.TheVariants.{Runs, Answered, Gone};
 ghost use Rattle.like_core.specs.Phase.{IsJoined};
-ghost use Rattle.like_core.specs.Post.{IsFresh};
+ghost use Rattle.like_core.specs.Post.{IsFresh, is_marked, pages_of};
 ghost use Rattle.like_core.specs.Lone.{KeepsBoard};
 
 use super::lone::Lone;
@@ -39,13 +39,13 @@ fn enter<P: Post>(post: &mut P, phase: u32) -> bool
 /// Merges the first slice of a post in phase 1, where its end was announced. Returns the count before.
 fn merge<P: Post>(post: &mut P, likes: u64) -> Option<u64>
     requires runs { (P.view post.old).state ≡ Runs 1 }
-    requires page { 0 < (P.view post.old).pages }
-    requires split { (P.view post.old).marked 0 ≡ true }
-    requires added_nothing { (page : ℕ) → (P.view post.old).additions page ≡ 0 }
+    requires page { 0 < pages_of (P.view post.old) }
+    requires split { is_marked (P.view post.old) 0 ≡ true }
+    requires added_nothing { (P.view post.old).additions ≡ replicate (pages_of (P.view post.old)) 0 }
     requires some { 1 ≤ likes }
     requires few { likes ≤ 64000000 }
     ensures runs { (P.view post.new).state ≡ Runs 1 }
-    ensures pages { (P.view post.new).pages ≡ (P.view post.old).pages }
+    ensures pages { pages_of (P.view post.new) ≡ pages_of (P.view post.old) }
 {
     let sight = post.look();
     if !sight.ending {
@@ -57,9 +57,9 @@ fn merge<P: Post>(post: &mut P, likes: u64) -> Option<u64>
 /// Runs the first like of a post. Returns the count before.
 fn like<P: Post>(post: &mut P) -> u64
     requires fresh { IsFresh (P.view post.old) }
-    requires page { 0 < (P.view post.old).pages }
+    requires page { 0 < pages_of (P.view post.old) }
     ensures runs { (P.view post.new).state ≡ Runs 0 }
-    ensures pages { (P.view post.new).pages ≡ (P.view post.old).pages }
+    ensures pages { pages_of (P.view post.new) ≡ pages_of (P.view post.old) }
 {
     post.add(0, 1)
 }
@@ -68,7 +68,7 @@ fn like<P: Post>(post: &mut P) -> u64
 fn read<P: Post>(post: &mut P, phase: u32) -> u64
     requires runs { (P.view post.old).state ≡ Runs phase }
     requires joined { IsJoined phase }
-    requires page { 0 < (P.view post.old).pages }
+    requires page { 0 < pages_of (P.view post.old) }
     ensures runs { (P.view post.new).state ≡ Runs phase }
 {
     post.read(0)

@@ -1,4 +1,4 @@
-use Rattle.std.proofs.Common.{◌≡◌, ℕ, ◌+◌, subst, ap, sym, ◌∙◌, arith}
+use Rattle.std.proofs.Common.{◌≡◌, ◌+◌, subst, ap, sym, ◌∙◌, arith}
 use Rattle.like_core.specs.declared.event.Event.TheVariants.{Like, Merge}
 use Rattle.like_core.specs.Numbers.{Numbers, with_unmerged, with_count}
 use Rattle.like_core.specs.Table.{Permits, next}

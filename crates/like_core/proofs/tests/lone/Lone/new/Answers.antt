@@ -13,8 +13,5 @@ pub returns-clause-fresh : goal.returns-clause-fresh
 returns-clause-fresh c =
     subst (λ (n : Numbers). IsFresh (lone_view n c.args.start None)) (sym c.in_ok-new.ensures.start) (fresh_start c.args.start true)
 
-pub returns-clause-page : goal.returns-clause-page
-returns-clause-page c = ap (λ (n : Numbers). n.pages) c.in_ok-new.ensures.start
-
 pub returns-clause-split : goal.returns-clause-split
 returns-clause-split c = ap (λ (n : Numbers). n.marked 0) c.in_ok-new.ensures.start

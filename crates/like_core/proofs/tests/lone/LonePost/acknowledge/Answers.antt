@@ -1,7 +1,5 @@
 use Rattle.std.proofs.Common.{◌∙◌}
-use Rattle.like_core.specs.declared.worker_state.WorkerState.TheVariants.{Answered}
 use Rattle.like_core.specs.Phase.{IsJoined}
-use Rattle.like_core.specs.Numbers.{with_state}
 use Rattle.like_core.specs.Core.{numbers_of}
 use Rattle.like_core.proofs.LoneSteps.{lone_at, view_at, lone_answered, view_answered}
 use Rattle.like_core.proofs.tests.lone.LonePost.acknowledge.Goals as goal
