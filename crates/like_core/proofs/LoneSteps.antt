@@ -75,7 +75,7 @@ stepped old new event (Ok shown) tells happened same = inl (tells.0 refl, happen
 stepped old new event (Err reason) tells happened same = inr (ap numbers_of same)
 
 -- after an announcement
-lone_announced : (n : Numbers) (start : ℕ) (last : Option Sight) → IsLone n start last → IsLone (next n Announce) start last
+pub lone_announced : (n : Numbers) (start : ℕ) (last : Option Sight) → IsLone n start last → IsLone (next n Announce) start last
 lone_announced n start last l = record {
   workers = l.workers;
   pages = l.pages;
@@ -99,7 +99,7 @@ in_answered phase (Answered k) is_in j is = let same : k ≡ j = cc in sym same 
 in_answered phase Gone is_in j is = cc
 
 -- after a release
-lone_released : (n : Numbers) (start : ℕ) (last : Option Sight) → IsLone n start last → Permits n Release → IsLone (next n Release) start last
+pub lone_released : (n : Numbers) (start : ℕ) (last : Option Sight) → IsLone n start last → Permits n Release → IsLone (next n Release) start last
 lone_released n start last l may =
     let is_in = may.suits.1 0 (let one = l.workers in omega arith) in
     record {

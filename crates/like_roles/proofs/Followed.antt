@@ -1,0 +1,334 @@
+-- Each turn leads a worker that follows the plans to one that does.
+use Rattle.std.proofs.Common.{◌≡◌, ◌≢◌, ℕ, ◌+◌, ◌%◌, ◌≤◌, Bool, true, false, cond, List, [], ◌∷◌, ◌++◌, length, map, get_or, set, replicate, Some, None, refl, ap, sym, ◌∙◌, inl, inr, arith, subst, append-nil, append_assoc}
+use Rattle.std.proofs.lemmas.Bool.{cases_lt}
+use Rattle.std.proofs.lemmas.List.{map-append, get_or_past, length-replicate, get_or-replicate}
+use Rattle.std.proofs.lemmas.List.Elements.{All-head, All-tail, All-push}
+use Rattle.std.proofs.lemmas.List.FromFn.{length-map-range_with_len, get_or-map-range_with_len}
+use Rattle.std.specs.List.{All, range_with_len}
+use Rattle.std.specs.Option.{option_map_or}
+use Rattle.like_requests.specs.declared.request.Numbered.{Numbered}
+use Rattle.like_requests.specs.declared.request.Request.{Request}
+use Rattle.like_requests.specs.declared.request.Taken.{Taken}
+use Rattle.like_core.specs.declared.sight.Sight.{Sight}
+use Rattle.like_core.specs.declared.worker_state.WorkerState.{WorkerState}
+use Rattle.like_core.specs.declared.worker_state.WorkerState.TheVariants as state
+use Rattle.like_core.specs.Phase.{IsJoined, IsSplit, split}
+use Rattle.like_core.specs.Post.{IsRunning, RunsJoined, RunsSome, additions_of, answered, pages_of, phase_of, seen}
+use Rattle.like_tables.specs.declared.held.Held.{Held}
+use Rattle.like_roles.specs.declared.log.Took.{Took}
+use Rattle.like_roles.specs.declared.turn.Turn.{Turn}
+use Rattle.like_roles.specs.Follows.{Follows, IsAsked, IsAskedBy, IsInBlocks, IsServed, IsSized, IsTallied, Stands, entry_held, next_joined}
+use Rattle.like_roles.specs.Order.{block, entry_of, is_look_at_sliced, order_below, took_to_wait, waits}
+use Rattle.like_roles.specs.Serve.{Runs, ran_now}
+use Rattle.like_roles.specs.Service.{Service, is_split_in, marks, request_at, submitters}
+use Rattle.like_roles.specs.Turns as turns
+use Rattle.like_roles.specs.Turns.{CanGive, Gives, Takes, Turns, Works, held_from, merged, saw, settled, trying, with_stashed, with_taken, without_first}
+use Rattle.like_roles.specs.WorkerView.{WorkerView, IsThere, has_to_wait, phase_at, submitter_at}
+use Rattle.like_roles.proofs.Blocks.{block-after_joined, block-later, order_below-more, block-next-prompt, block-next-waits, order_below-prompt, order_below-waits, waits-joined}
+use Rattle.like_roles.proofs.Effects.{HasRun, Runs-effects}
+use Rattle.like_roles.proofs.InBlocks.{before-next, blocks-of_running, order-of_blocks, parity, running-of_blocks, runs-phase, runs-weaker}
+use Rattle.like_roles.proofs.Tallied.{Serves-tallied}
+
+-- a worker that runs a phase and is in its blocks follows the plans
+follows-running : (service : Service) (v : WorkerView) → IsRunning v.post → IsServed service v → IsSized v → IsTallied service v → All (IsAsked service) v.held.held
+    → IsInBlocks service v (phase_at v) → ((place : ℕ) → v.pending ≡ Some place → RunsJoined v.post → v.held.held ≡ []) → Follows service v
+follows-running service v run served sized t held b trying = record {
+  served = served;
+  sized = sized;
+  tallied = t;
+  in_order = order-of_blocks service v (phase_at v) refl b;
+  held = held;
+  stands = running-of_blocks service v (λ _. Unit {0}) v.post.state run b;
+  trying = λ place e. (run, trying place e);
+}
+
+-- what a run does to a worker that follows the plans, where the blocks after it are known
+follows-run : (service : Service) (v after : WorkerView) (h : Held) (stashed : Bool) → Runs v h stashed after → IsRunning v.post → v.pending ≡ None → IsServed service v → IsSized v → IsTallied service v
+    → IsAsked service h → All (IsAsked service) v.held.held → ((e : HasRun v h stashed after) → IsInBlocks service (record v { ran = after.ran }) (phase_at v)) → Follows service after
+follows-run service v after h stashed run here none served sized t asked held blocks =
+    let e = Runs-effects v h stashed after run in
+    let done = Serves-tallied service v h stashed run.reply run.served served sized t asked run.serves in
+    let all : IsServed service after × IsSized after × IsTallied service after =
+    subst (λ x. IsServed service x × IsSized x × IsTallied service x) (sym run.noted) (
+      record { users = done.0.users; submitters_alike = done.0.submitters_alike; marks_alike = done.0.marks_alike },
+      record { slice = done.1.slice; additions = done.1.additions; users = done.1.users },
+      done.2,
+    ) in
+    let b = blocks e in
+    let runs : IsRunning after.post = subst (λ s. RunsSome (λ _. Unit {0}) s) (sym e.state) here in
+    let phase : phase_at v ≡ phase_at after = ap phase_of (sym e.state) in
+    let b' : IsInBlocks service after (phase_at v) = record {
+      within = subst (λ xs. All (λ t. t.phase ≤ phase_at v) xs) (sym e.taken) b.within;
+      joined = λ j. ap (λ xs. order_below service xs (phase_at v + 1)) e.taken ∙ b.joined j ∙ ap (λ w. map entry_of after.ran ++ map (entry_held (phase_at v)) w.held) (sym e.held);
+      split_ran = λ s. ap (λ xs. order_below service xs (phase_at v + 1)) e.taken ∙ b.split_ran s;
+      split_held = λ s. ap (λ xs. block service xs (phase_at v + 1)) e.taken ∙ b.split_held s ∙ ap (λ w. map (entry_held (phase_at v + 1)) w.held) (sym e.held);
+    } in
+    follows-running service after runs all.0 all.1 all.2 (subst (λ w. All (IsAsked service) w.held) (sym e.held) held)
+    (subst (λ k. IsInBlocks service after k) phase b') (λ place p. absurd (cc (e.pending, none, p)))
+
+-- the blocks of a worker that enters the next phase
+enters : (service : Service) (v : WorkerView) (k : ℕ) → IsInBlocks service v k → (IsJoined k → v.held.held ≡ []) → IsInBlocks service v (k + 1)
+enters service v k b empty =
+    let before = before-next v.taken k b.within in
+    let more = order_below-more service v.taken (k + 1) in
+    record {
+      within = λ i t h. omega (arith, b.within i t h);
+      joined = λ j.
+          let odd : k % 2 ≡ 1 = omega arith in
+          more ∙ ap (λ zs. zs ++ block service v.taken (k + 1)) (b.split_ran odd) ∙ ap (λ zs. map entry_of v.ran ++ zs) (b.split_held odd);
+      split_ran = λ s.
+          let even : k % 2 ≡ 0 = omega arith in
+          more ∙ ap (λ zs. order_below service v.taken (k + 1) ++ zs) (block-after_joined service v.taken k before even) ∙ append-nil _
+          ∙ b.joined even ∙ ap (λ hs. map entry_of v.ran ++ map (entry_held k) hs) (empty even) ∙ append-nil _;
+      split_held = λ s.
+          let even : k % 2 ≡ 0 = omega arith in
+          block-later service v.taken (k + 1) ((k + 1) + 1) before (omega arith) ∙ ap (map (entry_held ((k + 1) + 1))) (sym (empty even));
+    }
+
+-- what a look says of a worker that is not gone
+saw-stands : (service : Service) (v : WorkerView) (sight : Sight) (s : WorkerState) → Stands service v s → s ≢ state.Gone → Stands service (saw v sight) (seen s sight)
+saw-stands service v sight (state.Runs k) b n = record { within = b.within; joined = b.joined; split_ran = b.split_ran; split_held = b.split_held }
+saw-stands service v sight (state.Answered k) b n = by_test sight.waits where
+  by_test : (w : Bool) → Stands service (saw v sight) (cond w (state.Answered k) (state.Runs (k + 1)))
+  by_test true = (record { within = b.0.within; joined = b.0.joined; split_ran = b.0.split_ran; split_held = b.0.split_held }, b.1)
+  by_test false = let e = enters service v k b.0 b.1 in record { within = e.within; joined = e.joined; split_ran = e.split_ran; split_held = e.split_held }
+saw-stands service v sight state.Gone b n = absurd (n refl)
+
+-- and of the joined phase in which what it holds runs
+saw-next : (service : Service) (v : WorkerView) (sight : Sight) (s : WorkerState) → Stands service v s → s ≢ state.Gone
+    → map (entry_held (phase_of (seen s sight) + phase_of (seen s sight) % 2)) v.held.held ≡ map (entry_held (phase_of s + phase_of s % 2)) v.held.held
+saw-next service v sight (state.Runs k) b n = refl
+saw-next service v sight (state.Answered k) b n = by_test sight.waits where
+  next : map (entry_held ((k + 1) + (k + 1) % 2)) v.held.held ≡ map (entry_held (k + k % 2)) v.held.held
+  next = elim (parity k) [
+    | inl even ↦ ap (map (entry_held ((k + 1) + (k + 1) % 2))) (b.1 even) ∙ ap (map (entry_held (k + k % 2))) (sym (b.1 even))
+    | inr odd ↦
+        let same : (k + 1) + (k + 1) % 2 ≡ k + k % 2 = omega arith in
+        ap (λ j. map (entry_held j) v.held.held) same
+  ]
+
+  by_test : (w : Bool) → map (entry_held (phase_of (cond w (state.Answered k) (state.Runs (k + 1))) + phase_of (cond w (state.Answered k) (state.Runs (k + 1))) % 2)) v.held.held
+      ≡ map (entry_held (k + k % 2)) v.held.held
+  by_test true = refl
+  by_test false = next
+saw-next service v sight state.Gone b n = absurd (n refl)
+
+-- a look
+follows-saw : (service : Service) (v : WorkerView) (sight : Sight) → Follows service v → v.post.state ≢ state.Gone → v.pending ≡ None → Follows service (saw v sight)
+follows-saw service v sight f here none = record {
+  served = record { users = f.served.users; submitters_alike = f.served.submitters_alike; marks_alike = f.served.marks_alike };
+  sized = record { slice = f.sized.slice; additions = f.sized.additions; users = f.sized.users };
+  tallied = record { likes = f.tallied.likes; replies = f.tallied.replies; last = f.tallied.last };
+  in_order = ap (λ zs. map entry_of v.ran ++ zs) (saw-next service v sight v.post.state f.stands here) ∙ f.in_order;
+  held = f.held;
+  stands = saw-stands service v sight v.post.state f.stands here;
+  trying = λ place e. absurd (cc (none, e));
+}
+
+-- the first of what is held runs in a joined phase
+follows-held : (service : Service) (v : WorkerView) (first : Held) (rest : List Held) (after : WorkerView) → v.pending ≡ None → Follows service v → RunsJoined v.post → v.held.held ≡ first ∷ rest
+    → Runs (without_first v rest) first true after → Follows service after
+follows-held service v first rest after none f j e run =
+    let b = blocks-of_running service v IsJoined v.post.state j f.stands in
+    let even = runs-phase IsJoined v.post.state j in
+    let all : All (IsAsked service) (first ∷ rest) = subst (All (IsAsked service)) e f.held in
+    let k = phase_at v in
+    follows-run service (without_first v rest) after first true run (runs-weaker IsJoined (λ _. Unit {0}) v.post.state (λ _ _. tt) j) none
+    (record { users = f.served.users; submitters_alike = f.served.submitters_alike; marks_alike = f.served.marks_alike })
+    (record { slice = f.sized.slice; additions = f.sized.additions; users = f.sized.users })
+    (record { likes = f.tallied.likes; replies = f.tallied.replies; last = f.tallied.last })
+    (All-head (IsAsked service) first rest all) (All-tail (IsAsked service) first rest all)
+    (λ r. record {
+      within = b.within;
+      joined = λ _. b.joined even ∙ ap (λ hs. map entry_of v.ran ++ map (entry_held k) hs) e
+          ∙ sym (append_assoc (map entry_of v.ran) (entry_held k first ∷ []) (map (entry_held k) rest))
+          ∙ ap (λ zs. zs ++ map (entry_held k) rest) (sym (ap (map entry_of) r.ran ∙ map-append entry_of v.ran (ran_now (without_first v rest) first true r.reply ∷ [])));
+      split_ran = λ s. absurd (omega arith);
+      split_held = λ s. absurd (omega arith);
+    })
+
+-- the merge of a slice
+merged-likes : (v : WorkerView) → IsSized v → (page : ℕ) → additions_of (merged v).post page + get_or (merged v).slice page 0 ≡ additions_of v.post page + get_or v.slice page 0
+merged-likes v s page =
+    let f : ℕ → ℕ = λ p. additions_of v.post p + get_or v.slice p 0 in
+    let n = pages_of v.post in
+    elim (cases_lt page n) [
+      | inl inside ↦
+          let a : additions_of (merged v).post page ≡ additions_of v.post page + get_or v.slice page 0 = get_or-map-range_with_len f 0 n page page 0 inside (omega arith) in
+          let z : get_or (merged v).slice page 0 ≡ 0 = get_or-replicate n page 0 0 inside in
+          omega (arith, a, z)
+      | inr outside ↦
+          let a : additions_of (merged v).post page ≡ 0 = get_or_past (map f (range_with_len 0 n)) page 0 (omega (arith, length-map-range_with_len f 0 n)) in
+          let z : get_or (merged v).slice page 0 ≡ 0 = get_or_past {X = ℕ} (replicate n 0) page 0 (omega (arith, length-replicate {A = ℕ} n 0)) in
+          let b : get_or v.post.additions page 0 ≡ 0 = get_or_past v.post.additions page 0 (omega (arith, s.additions)) in
+          let c : get_or v.slice page 0 ≡ 0 = get_or_past v.slice page 0 (omega (arith, s.slice)) in
+          omega (arith, a, z, b, c)
+    ]
+
+-- a submitter is tried
+follows-trying : (service : Service) (v : WorkerView) (place : ℕ) → Follows service v → IsRunning v.post → (RunsJoined v.post → v.held.held ≡ []) → Follows service (trying v place)
+follows-trying service v place f run empty =
+    let b = blocks-of_running service v (λ _. Unit {0}) v.post.state run f.stands in
+    follows-running service (trying v place) run
+    (record { users = f.served.users; submitters_alike = f.served.submitters_alike; marks_alike = f.served.marks_alike })
+    (record { slice = f.sized.slice; additions = f.sized.additions; users = f.sized.users })
+    (record { likes = f.tallied.likes; replies = f.tallied.replies; last = f.tallied.last })
+    f.held (record { within = b.within; joined = b.joined; split_ran = b.split_ran; split_held = b.split_held }) (λ _ _. empty)
+
+-- the worker answers its phase; in a joined one it holds nothing
+follows-answered : (service : Service) (v : WorkerView) (P : ℕ → Type 0) → Follows service v → RunsSome P v.post.state → v.pending ≡ None → (IsJoined (phase_at v) → v.held.held ≡ []) → Follows service (record v { post = answered v.post })
+follows-answered service v P f run none empty =
+    let b = blocks-of_running service v P v.post.state run f.stands in
+    record {
+      served = record { users = f.served.users; submitters_alike = f.served.submitters_alike; marks_alike = f.served.marks_alike };
+      sized = record { slice = f.sized.slice; additions = f.sized.additions; users = f.sized.users };
+      tallied = record { likes = f.tallied.likes; replies = f.tallied.replies; last = f.tallied.last };
+      in_order = f.in_order;
+      held = f.held;
+      stands = (record { within = b.within; joined = b.joined; split_ran = b.split_ran; split_held = b.split_held }, empty);
+      trying = λ place e. absurd (cc (none, e));
+    }
+
+follows-merged : (service : Service) (v : WorkerView) (P : ℕ → Type 0) → Follows service v → RunsSome P v.post.state → v.pending ≡ None → Follows service (merged v)
+follows-merged service v P f run none =
+    let b = blocks-of_running service v P v.post.state run f.stands in
+    follows-running service (merged v) (runs-weaker P (λ _. Unit {0}) v.post.state (λ _ _. tt) run)
+    (record { users = f.served.users; submitters_alike = f.served.submitters_alike; marks_alike = f.served.marks_alike })
+    (record { slice = length-replicate (pages_of v.post) 0; additions = length-map-range_with_len _ 0 (pages_of v.post); users = f.sized.users })
+    (record { likes = λ page. f.tallied.likes page ∙ sym (merged-likes v f.sized page); replies = f.tallied.replies; last = f.tallied.last })
+    f.held (record { within = b.within; joined = b.joined; split_ran = b.split_ran; split_held = b.split_held }) (λ place e. absurd (cc (none, e)))
+
+-- a worker that runs a phase
+follows-works : (service : Service) (v : WorkerView) (ending : Bool) (answer : Turn) (after : WorkerView) → v.pending ≡ None → Follows service v → Works v ending answer after → Follows service after
+follows-works service v ending answer after none f (turns.runs_held first rest j e a run) = follows-held service v first rest after none f j e run
+follows-works service v ending answer after none f (turns.retires j e ended a x) =
+    subst (Follows service) (sym x) (record {
+      served = record { users = f.served.users; submitters_alike = f.served.submitters_alike; marks_alike = f.served.marks_alike };
+      sized = record { slice = f.sized.slice; additions = f.sized.additions; users = f.sized.users };
+      tallied = record { likes = f.tallied.likes; replies = f.tallied.replies; last = f.tallied.last };
+      in_order = ap (λ hs. map entry_of v.ran ++ map (entry_held 0) hs) e ∙ ap (λ hs. map entry_of v.ran ++ map (entry_held (next_joined v)) hs) (sym e) ∙ f.in_order;
+      held = f.held;
+      stands = (e, ended);
+      trying = λ place p. absurd (cc (none, p));
+    })
+follows-works service v ending answer after none f (turns.acknowledges j e ended seen a x) =
+    subst (Follows service) (sym x) (follows-answered service v IsJoined f j none (λ _. e))
+follows-works service v ending answer after none f (turns.tries_joined place j e next seen a x) =
+    subst (Follows service) (sym x) (follows-trying service v place f (runs-weaker IsJoined (λ _. Unit {0}) v.post.state (λ _ _. tt) j) (λ _. e))
+follows-works service v ending answer after none f (turns.reports s seen a x) =
+    let odd = runs-phase IsSplit v.post.state s in
+    subst (Follows service) (sym x) (follows-answered service (merged v) IsSplit (follows-merged service v IsSplit f s none) s none (λ even. absurd (omega arith)))
+follows-works service v ending answer after none f (turns.idles s seen stuck a x) = subst (Follows service) (sym x) f
+follows-works service v ending answer after none f (turns.tries_split place s seen room next a x) =
+    let odd = runs-phase IsSplit v.post.state s in
+    subst (Follows service) (sym x) (follows-trying service v place f (runs-weaker IsSplit (λ _. Unit {0}) v.post.state (λ _ _. tt) s)
+    (λ j. let even = runs-phase IsJoined v.post.state j in absurd (omega arith)))
+
+-- a turn
+pub follows-turn : (service : Service) (v : WorkerView) (answer : Turn) (after : WorkerView) → v.pending ≡ None → Turns v answer after → Follows service v → Follows service after
+follows-turn service v answer after none (turns.is_gone gone a x) f = subst (Follows service) (sym x) f
+follows-turn service v answer after none (turns.waits sight here i w a x) f = subst (Follows service) (sym x) (follows-saw service v sight f here none)
+follows-turn service v answer after none (turns.works sight here i w x) f = follows-works service (saw v sight) sight.ending answer after none (follows-saw service v sight f here none) x
+
+-- what is tried is no part of what a state says
+settled-stands : (service : Service) (v : WorkerView) (s : WorkerState) → Stands service v s → Stands service (settled v) s
+settled-stands service v (state.Runs k) b = record { within = b.within; joined = b.joined; split_ran = b.split_ran; split_held = b.split_held }
+settled-stands service v (state.Answered k) b = (record { within = b.0.within; joined = b.0.joined; split_ran = b.0.split_ran; split_held = b.0.split_held }, b.1)
+settled-stands service v state.Gone b = b
+
+-- a worker that runs a phase that is joined runs a joined phase
+runs-joined : (s : WorkerState) → RunsSome (λ _. Unit {0}) s → IsJoined (phase_of s) → RunsSome IsJoined s
+runs-joined (state.Runs k) r j = j
+runs-joined (state.Answered k) r j = absurd r
+runs-joined state.Gone r j = absurd r
+
+-- nothing is tried any more
+follows-settled : (service : Service) (v : WorkerView) → Follows service v → Follows service (settled v)
+follows-settled service v f = record {
+  served = record { users = f.served.users; submitters_alike = f.served.submitters_alike; marks_alike = f.served.marks_alike };
+  sized = record { slice = f.sized.slice; additions = f.sized.additions; users = f.sized.users };
+  tallied = record { likes = f.tallied.likes; replies = f.tallied.replies; last = f.tallied.last };
+  in_order = f.in_order;
+  held = f.held;
+  stands = settled-stands service v v.post.state f.stands;
+  trying = λ place e. absurd (cc e);
+}
+
+-- whether a request has to wait is the same by the service and by the worker
+waits-alike : (service : Service) (v : WorkerView) (submitter : ℕ) (r : Request) → IsServed service v → waits service (phase_at v) submitter r ≡ has_to_wait v submitter r
+waits-alike service v submitter r s =
+    ap (λ u. is_look_at_sliced u (submitters service) (is_split_in service (phase_at v)) submitter r) s.users
+    ∙ ap (λ m. is_look_at_sliced v.last.share.users m (is_split_in service (phase_at v)) submitter r) s.submitters_alike
+    ∙ ap (λ xs. is_look_at_sliced v.last.share.users v.last.share.submitters (λ page. split (λ p. get_or xs p false) (phase_at v) page) submitter r) s.marks_alike
+
+-- a request that is taken from the submitter at a place
+follows-takes : (service : Service) (v : WorkerView) (place : ℕ) (ask : Numbered) (answer : Turn) (after : WorkerView) → v.pending ≡ None → Follows service v → IsRunning v.post
+    → (RunsJoined v.post → v.held.held ≡ []) → request_at service (submitter_at v place) ask.number ≡ Some ask.request → IsThere (length (marks service)) ask.request.page
+    → Takes v place ask answer after → Follows service after
+follows-takes service v place ask answer after none f run empty asked there (turns.stashes w a x) =
+    let b = blocks-of_running service v (λ _. Unit {0}) v.post.state run f.stands in
+    let t : Took = record { phase = phase_at v; submitter = submitter_at v place; number = ask.number } in
+    let h : Held = held_from v place ask in
+    let waiting : waits service (phase_at v) (submitter_at v place) ask.request ≡ true = waits-alike service v (submitter_at v place) ask.request f.served ∙ w in
+    let to_wait : took_to_wait service t ≡ true = ap (λ o. option_map_or (waits service (phase_at v) (submitter_at v place)) o false) asked ∙ waiting in
+    let not_even : IsJoined (phase_at v) → ⊥ = λ j. cc (waiting, waits-joined service (phase_at v) (submitter_at v place) ask.request j) in
+    let p = phase_at v in
+    subst (Follows service) (sym x) (follows-running service (with_stashed (with_taken v place ask) h) run
+    (record { users = f.served.users; submitters_alike = f.served.submitters_alike; marks_alike = f.served.marks_alike })
+    (record { slice = f.sized.slice; additions = f.sized.additions; users = f.sized.users })
+    (record { likes = f.tallied.likes; replies = f.tallied.replies; last = f.tallied.last })
+    (All-push (IsAsked service) v.held.held h f.held (record { asked = asked; there = there }))
+    (record {
+      within = All-push (λ u. u.phase ≤ p) v.taken t b.within (omega arith);
+      joined = λ j. absurd (not_even j);
+      split_ran = λ s. order_below-waits service v.taken t to_wait ∙ b.split_ran s;
+      split_held = λ s. block-next-waits service v.taken t to_wait (before-next v.taken p b.within)
+          ∙ ap (λ zs. zs ++ entry_held (p + 1) h ∷ []) (b.split_held s) ∙ sym (map-append (entry_held (p + 1)) v.held.held (h ∷ []));
+    })
+    (λ k e. absurd (cc (none, e))))
+follows-takes service v place ask answer after none f run empty asked there (turns.runs w a r) =
+    let b = blocks-of_running service v (λ _. Unit {0}) v.post.state run f.stands in
+    let t : Took = record { phase = phase_at v; submitter = submitter_at v place; number = ask.number } in
+    let h : Held = held_from v place ask in
+    let p = phase_at v in
+    let prompt : waits service p (submitter_at v place) ask.request ≡ false = waits-alike service v (submitter_at v place) ask.request f.served ∙ w in
+    let at_once : took_to_wait service t ≡ false = ap (λ o. option_map_or (waits service p (submitter_at v place)) o false) asked ∙ prompt in
+    let none_held : IsJoined p → v.held.held ≡ [] = λ j. empty (runs-joined v.post.state run j) in
+    follows-run service (with_taken v place ask) after h false r run none
+    (record { users = f.served.users; submitters_alike = f.served.submitters_alike; marks_alike = f.served.marks_alike })
+    (record { slice = f.sized.slice; additions = f.sized.additions; users = f.sized.users })
+    (record { likes = f.tallied.likes; replies = f.tallied.replies; last = f.tallied.last })
+    (record { asked = asked; there = there }) f.held
+    (λ e.
+    let ran : map entry_of v.ran ++ entry_of (ran_now (with_taken v place ask) h false e.reply) ∷ [] ≡ map entry_of after.ran =
+    sym (ap (map entry_of) e.ran ∙ map-append entry_of v.ran (ran_now (with_taken v place ask) h false e.reply ∷ [])) in
+    record {
+      within = All-push (λ u. u.phase ≤ p) v.taken t b.within (omega arith);
+      joined = λ j. order_below-prompt service v.taken t at_once
+          ∙ ap (λ zs. zs ++ entry_of (ran_now (with_taken v place ask) h false e.reply) ∷ [])
+          (b.joined j ∙ ap (λ hs. map entry_of v.ran ++ map (entry_held p) hs) (none_held j) ∙ append-nil _)
+          ∙ ran ∙ sym (append-nil _) ∙ ap (λ hs. map entry_of after.ran ++ map (entry_held p) hs) (sym (none_held j));
+      split_ran = λ s. order_below-prompt service v.taken t at_once ∙ ap (λ zs. zs ++ entry_of (ran_now (with_taken v place ask) h false e.reply) ∷ []) (b.split_ran s) ∙ ran;
+      split_held = λ s. block-next-prompt service v.taken t at_once ∙ b.split_held s;
+    })
+
+-- what is given
+pub follows-give : (service : Service) (v : WorkerView) (took : Taken) (answer : Turn) (after : WorkerView) → CanGive v took → IsAskedBy service v took → Gives v took answer after → Follows service v
+    → Follows service after
+follows-give service v took answer after can asked (turns.nothing t a x) f = subst (Follows service) (sym x) (follows-settled service v f)
+follows-give service v took answer after can asked (turns.ends place p t a x) f =
+    let run = (f.trying place p).0 in
+    let s = follows-settled service v f in
+    let b = blocks-of_running service (settled v) (λ _. Unit {0}) v.post.state run s.stands in
+    subst (Follows service) (sym x) (follows-running service (record (settled v) { ended = set v.ended place true }) run
+    (record { users = f.served.users; submitters_alike = f.served.submitters_alike; marks_alike = f.served.marks_alike })
+    (record { slice = f.sized.slice; additions = f.sized.additions; users = f.sized.users })
+    (record { likes = f.tallied.likes; replies = f.tallied.replies; last = f.tallied.last })
+    f.held (record { within = b.within; joined = b.joined; split_ran = b.split_ran; split_held = b.split_held }) (λ k e. absurd (cc e)))
+follows-give service v took answer after can asked (turns.asks place ask p t x) f =
+    let run = f.trying place p in
+    let by_plan = (subst (λ y. IsAskedBy service v y) t asked) place p in
+    let next = (subst (λ y. CanGive v y) t can) place p in
+    let P : ℕ → Type 0 = λ n. IsThere n ask.request.page in
+    let there = subst P (ap length (sym f.served.marks_alike)) next.there in
+    follows-takes service (settled v) place ask answer after refl (follows-settled service v f) run.0 run.1 by_plan there x

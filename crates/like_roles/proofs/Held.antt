@@ -1,0 +1,160 @@
+-- What a worker holds, and that it stays sound.
+use Rattle.std.proofs.Common.{◌≡◌, ℕ, ◌+◌, ◌-◌, ◌*◌, ◌%◌, ◌<◌, ◌≤◌, Bool, true, false, List, [], ◌∷◌, ◌++◌, length, drop, get_or, set, sum, Option, Some, None, refl, ap, sym, ◌∙◌, arith, subst, eqb, vec_len, vec_capacity}
+use Rattle.std.proofs.lemmas.List.{length-append, length-drop, length-set}
+use Rattle.std.proofs.lemmas.List.Sums.{sum_by-set}
+use Rattle.std.proofs.lemmas.Bool.{and_parts, eqb-true}
+use Rattle.std.proofs.Math.Nat.{add-mul-mod_self_left, mod-eq_of_lt}
+use Rattle.std.proofs.lemmas.List.Elements.{All-drop, All-append, All-cons}
+use Rattle.std.specs.List.{All, slice_get}
+use Rattle.std.specs.Option.{option_map_or}
+use Rattle.like_requests.specs.Verdict.{is_accepted}
+use Rattle.like_roles.specs.Replies.{looked_at}
+use Rattle.like_requests.specs.declared.request.Numbered.{Numbered}
+use Rattle.like_requests.specs.declared.request.PageRef.{PageRef}
+use Rattle.like_requests.specs.declared.request.Request.{Request}
+use Rattle.like_core.specs.Phase.{split}
+use Rattle.like_core.specs.Post.{PostView, IsRunning, phase_of}
+use Rattle.like_tables.specs.Waiting.{Waiting}
+use Rattle.like_tables.specs.declared.held.Held.{Held}
+use Rattle.like_roles.specs.declared.desk.Desk.{Desk}
+use Rattle.like_roles.specs.Desk.{ArePlaces, CanServe, IsPlaced, IsOwn, IsSound, HasRoomForOne, view_of}
+use Rattle.like_roles.specs.Order.{is_look_at_sliced}
+use Rattle.like_roles.specs.WorkerView.{IsThere, has_to_wait}
+use Rattle.like_roles.proofs.Served.{running_phase}
+
+-- a list whose first element is known
+pub first_of : {X : Type 0} (xs : List X) (x : X) → slice_get xs 0 ≡ Some x → xs ≡ x ∷ drop 1 xs
+first_of [] x h = cc
+first_of (y ∷ ys) x h = let e : y ≡ x = cc h in ap (λ z. z ∷ ys) e
+
+-- a list with no first element
+pub none_first : {X : Type 0} (xs : List X) → slice_get xs 0 ≡ None → xs ≡ []
+none_first [] h = refl
+none_first (y ∷ ys) h = cc
+
+-- what is held is no part of the numbers
+IsPlaced-held : (post : PostView) (d : Desk) (w : Waiting) → IsPlaced post d → IsPlaced post (record d { held = w })
+IsPlaced-held post d w p = record {
+  share = p.share;
+  some = p.some;
+  is_worker = p.is_worker;
+  marks = p.marks;
+  few_pages = p.few_pages;
+  additions = p.additions;
+  slice = p.slice;
+  standing = p.standing;
+}
+
+ArePlaces-held : (d : Desk) (w : Waiting) → ArePlaces d → ArePlaces (record d { held = w })
+ArePlaces-held d w a = record { sized = a.sized; submitters = a.submitters; cursor = a.cursor }
+
+AreOwn-held : (d : Desk) (w : Waiting) (hs : List Held) → All (IsOwn d) hs → All (IsOwn (record d { held = w })) hs
+AreOwn-held d w hs own = λ i y k. let o = own i y k in record { served = o.served; there = o.there }
+
+-- the first request that is held is taken out
+pub IsSound-pop : (post : PostView) (d : Desk) (popped : Waiting) → IsSound post d → popped ≡ record d.held { held = drop 1 d.held.held } → d.pending ≡ None → IsSound post (record d { held = popped })
+IsSound-pop post d popped s e n =
+    let shorter : length (drop 1 d.held.held) ≤ length d.held.held = simp length-drop (omega arith) in
+    subst (λ h. IsSound post (record d { held = h })) (sym e) (record {
+      placed = IsPlaced-held post d (record d.held { held = drop 1 d.held.held }) s.placed;
+      places = ArePlaces-held d (record d.held { held = drop 1 d.held.held }) s.places;
+      room = record { taken = s.room.taken; ran = omega (arith, s.room.ran); few = omega (arith, s.room.few) };
+      slice = s.slice;
+      held = AreOwn-held d (record d.held { held = drop 1 d.held.held }) (drop 1 d.held.held) (All-drop (IsOwn d) 1 d.held.held s.held);
+      waiting = record { some = s.waiting.some; few = s.waiting.few; within = omega (arith, s.waiting.within) };
+      tried = λ place t. cc (n, t);
+    })
+
+-- a request is put behind those that are held
+pub IsSound-push : (post : PostView) (d : Desk) (h : Held) (pushed : Waiting) → IsSound post d → HasRoomForOne post d → length d.held.held < d.held.capacity → IsOwn d h → d.pending ≡ None
+    → pushed ≡ record d.held { held = d.held.held ++ h ∷ [] } → IsSound post (record d { held = pushed })
+IsSound-push post d h pushed s room fits own n e =
+    let longer : length (d.held.held ++ h ∷ []) ≡ length d.held.held + 1 = length-append d.held.held (h ∷ []) in
+    subst (λ w. IsSound post (record d { held = w })) (sym e) (record {
+      placed = IsPlaced-held post d (record d.held { held = d.held.held ++ h ∷ [] }) s.placed;
+      places = ArePlaces-held d (record d.held { held = d.held.held ++ h ∷ [] }) s.places;
+      room = record { taken = s.room.taken; ran = omega (arith, room.ran); few = omega (arith, room.few) };
+      slice = s.slice;
+      held = AreOwn-held d (record d.held { held = d.held.held ++ h ∷ [] }) (d.held.held ++ h ∷ []) (All-append (IsOwn d) d.held.held (h ∷ []) s.held (All-cons (IsOwn d) h [] own (λ i y k. absurd (omega arith))));
+      waiting = record { some = s.waiting.some; few = s.waiting.few; within = omega arith };
+      tried = λ place t. cc (n, t);
+    })
+
+-- the desk's numbers say whether a request has to wait
+pub has_to_wait-is : (post : PostView) (d : Desk) (submitter : ℕ) (r : Request) → IsPlaced post d → IsRunning post
+    → has_to_wait (view_of post d) submitter r ≡ is_look_at_sliced d.users d.submitters (λ page. split (λ p. get_or d.marks.items p false) d.phase page) submitter r
+has_to_wait-is post d submitter r p run =
+    let phase = running_phase (λ _. Unit {0}) post.state d.phase d.gone p.standing run in
+    ap (λ x. has_to_wait (view_of post (record d { last = record d.last { share = x } })) submitter r) p.share
+    ∙ ap (λ xs. is_look_at_sliced d.users d.submitters (λ page. split (λ q. get_or xs q false) (phase_of post.state) page) submitter r) p.marks
+    ∙ ap (λ k. is_look_at_sliced d.users d.submitters (λ page. split (λ q. get_or d.marks.items q false) k page) submitter r) phase
+
+-- one request less is left
+sum-less : (xs : List ℕ) (i : ℕ) → i < length xs → 1 ≤ get_or xs i 0 → sum (set xs i (get_or xs i 0 - 1)) + 1 ≡ sum xs
+sum-less xs i h some = omega (arith, sum_by-set (λ x. x) xs i (get_or xs i 0 - 1) 0 h)
+
+-- a request was taken from the submitter at a place
+pub IsSound-taken : (post : PostView) (d n : Desk) (place : ℕ) → IsSound post d → d.pending ≡ None → place < length d.left.items → 1 ≤ get_or d.left.items place 0
+    → n.left.items ≡ set d.left.items place (get_or d.left.items place 0 - 1) → vec_len n.taken ≡ vec_len d.taken + 1 → vec_capacity n.taken ≡ vec_capacity d.taken
+    → n ≡ record d { left = n.left; taken = n.taken } → IsSound post n × HasRoomForOne post n
+IsSound-taken post d n place s none there some left taken capacity rest =
+    let m : Desk = record d { left = n.left; taken = n.taken } in
+    let less : sum n.left.items + 1 ≡ sum d.left.items = rw left (sum-less d.left.items place there some) in
+    let sized : length n.left.items ≡ length d.left.items = ap length left ∙ length-set d.left.items place (get_or d.left.items place 0 - 1) in
+    subst (λ x. IsSound post x × HasRoomForOne post x) (sym rest) (
+      record {
+        placed = let p = s.placed in record {
+          share = p.share;
+          some = p.some;
+          is_worker = p.is_worker;
+          marks = p.marks;
+          few_pages = p.few_pages;
+          additions = p.additions;
+          slice = p.slice;
+          standing = p.standing;
+        };
+        places = record { sized = omega (arith, n.left.ok.0, d.left.ok.0, s.places.sized); submitters = s.places.submitters; cursor = s.places.cursor };
+        room = record { taken = omega (arith, s.room.taken); ran = omega (arith, s.room.ran); few = omega (arith, s.room.few) };
+        slice = s.slice;
+        held = λ i y k. let o = s.held i y k in record { served = o.served; there = o.there };
+        waiting = s.waiting;
+        tried = λ p t. cc (none, t);
+      },
+      record { ran = omega (arith, s.room.ran); few = omega (arith, s.room.few) },
+    )
+
+-- a request that waits was taken in a split phase
+pub waits-split : (users submitters submitter phase : ℕ) (marked : ℕ → Bool) (r : Request) → is_look_at_sliced users submitters (λ page. split marked phase page) submitter r ≡ true → phase % 2 ≡ 1
+waits-split users submitters submitter phase marked r h =
+    of_page (looked_at r.op r.page) (and_parts (is_accepted users submitters submitter r) _ h).1 where
+      of_page : (o : Option ℕ) → option_map_or (λ page. split marked phase page) o false ≡ true → phase % 2 ≡ 1
+      of_page None e = cc
+      of_page (Some page) e = eqb-true (phase % 2) 1 (and_parts (eqb (phase % 2) 1) (marked page) e).0
+
+-- the submitter at a place is one of the worker's
+pub place-served : (worker workers place : ℕ) → worker < workers → (worker + workers * place) % workers ≡ worker
+place-served worker workers place h = add-mul-mod_self_left worker workers place ∙ mod-eq_of_lt h
+
+-- the page of a request is there by the desk's marks
+pub there-by_marks : (post : PostView) (d : Desk) (page : PageRef) → IsPlaced post d → IsThere (length post.marks) page → IsThere (vec_len d.marks) page
+there-by_marks post d page p h = let P : ℕ → Type 0 = λ n. IsThere n page in subst P (ap length p.marks ∙ sym d.marks.ok.0) h
+
+-- what was taken from the submitter at a place is the worker's
+pub IsOwn-taken : (post : PostView) (d n : Desk) (place submitter : ℕ) (ask : Numbered) → IsPlaced post d → n ≡ record d { left = n.left; taken = n.taken }
+    → submitter ≡ d.worker + d.workers * place → IsThere (length post.marks) ask.request.page → IsOwn n (record { submitter = submitter; ask = ask })
+IsOwn-taken post d n place submitter ask p rest s there =
+    subst (λ x. IsOwn x (record { submitter = submitter; ask = ask })) (sym rest)
+    (record { served = ap (λ y. y % d.workers) s ∙ place-served d.worker d.workers place p.is_worker; there = there-by_marks post d ask.request.page p there })
+
+-- and may be answered now, where it need not wait
+pub CanServe-taken : (post : PostView) (d n : Desk) (place submitter : ℕ) (r : Request) → IsPlaced post d → n ≡ record d { left = n.left; taken = n.taken }
+    → submitter ≡ d.worker + d.workers * place → IsThere (length post.marks) r.page → IsRunning post
+    → is_look_at_sliced d.users d.submitters (λ page. split (λ p. get_or d.marks.items p false) d.phase page) submitter r ≡ false → CanServe post n submitter r
+CanServe-taken post d n place submitter r p rest s there run prompt =
+    subst (λ x. CanServe post x submitter r) (sym rest)
+    (record {
+      running = run;
+      served = ap (λ y. y % d.workers) s ∙ place-served d.worker d.workers place p.is_worker;
+      there = there-by_marks post d r.page p there;
+      prompt = has_to_wait-is post d submitter r p run ∙ prompt;
+    })

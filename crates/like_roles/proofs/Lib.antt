@@ -1,0 +1,17 @@
+pub mod Blocks
+pub mod Effects
+pub mod Examples
+pub mod Followed
+pub mod Held
+pub mod InBlocks
+pub mod Keeps
+pub mod Lists
+pub mod Made
+pub mod Merging
+pub mod Served
+pub mod Started
+pub mod Tallied
+pub mod CueAdds
+pub mod CueSteps
+pub mod CueMade
+pub mod Played

@@ -1,0 +1,170 @@
+-- A test that plays a worker's turns.
+use Rattle.std.proofs.Common.{zero, suc, ◌≡◌, ℕ, ◌+◌, ◌-◌, ◌*◌, ◌<◌, ◌≤◌, ◌==◌, Bool, true, false, cond, List, [], ◌∷◌, ◌++◌, length, get_or, set, replicate, count_by, Option, None, Some, All, IsSome, subst, ap, sym, ◌∙◌, refl, arith}
+use Rattle.std.specs.List.{slice_get}
+use Rattle.std.proofs.lemmas.Bool.{eq-eqb}
+use Rattle.std.proofs.lemmas.List.{get_or-set_same, length-map, length-set}
+use Rattle.std.proofs.lemmas.List.Sums.{sum_by_push}
+use Rattle.std.proofs.lemmas.Option.{get_or_from_slice_get, slice_get_within}
+use Rattle.like_requests.specs.Pages.{Page}
+use Rattle.like_requests.specs.Setup as setup
+use Rattle.like_requests.specs.declared.request.Numbered.{Numbered}
+use Rattle.like_requests.specs.declared.request.PageRef.{PageRef}
+use Rattle.like_requests.specs.declared.request.PageRef.TheVariants.{Known, Unknown}
+use Rattle.like_requests.specs.declared.request.Request.{Request}
+use Rattle.like_requests.specs.declared.request.Taken.{Taken}
+use Rattle.like_requests.specs.declared.request.Taken.TheVariants as taken
+use Rattle.like_requests.specs.declared.setup.Setup.{Setup}
+use Rattle.like_core.specs.Post.{PostView, pages_of}
+use Rattle.like_roles.specs.declared.log.Took.{Took}
+use Rattle.like_roles.specs.declared.turn.Turn.{Turn}
+use Rattle.like_roles.specs.declared.turn.Turn.TheVariants as turn
+use Rattle.like_roles.specs.New.{AreOwnSizes, IsNew, IsPostOf, IsWithin}
+use Rattle.like_roles.specs.Playing.{IsAt, IsGiven, IsPlaying}
+use Rattle.like_roles.specs.Turns.{CanGive, HasTaken, IsNext, Pends, TakesNothing, with_taken}
+use Rattle.like_roles.specs.WorkerView.{WorkerView, IsThere, phase_at, submitter_at}
+
+-- where nothing was taken, it is where it was
+pub stays_at : (plan : List Request) (next : ℕ) (old new : WorkerView) → IsAt plan next old → TakesNothing old new → IsAt plan next new
+stays_at plan next old new p same = record {
+  one = ap length same.ended ∙ p.one;
+  taken = rw (same.share, same.taken) p.taken;
+  left = rw same.left p.left;
+  few = p.few;
+  there = rw same.marks p.there;
+}
+
+-- no submitter is tried but after the answer that says so
+pub tries_none : (answer : Turn) (v : WorkerView) → ((submitter : ℕ) → answer ≡ turn.Try submitter → ⊥) → Pends answer v → v.pending ≡ None
+tries_none turn.Ran v other p = p
+tries_none turn.Stashed v other p = p
+tries_none turn.TookEnd v other p = p
+tries_none turn.Nothing v other p = p
+tries_none turn.Acknowledged v other p = p
+tries_none turn.Reported v other p = p
+tries_none turn.Waiting v other p = p
+tries_none turn.Idle v other p = p
+tries_none turn.Retired v other p = p
+tries_none (turn.Try submitter) v other p = absurd (other submitter refl)
+
+-- the submitter that is tried is the only one
+only_place : (plan : List Request) (next : ℕ) (v : WorkerView) (submitter place : ℕ) → IsAt plan next v → Pends (turn.Try submitter) v → v.pending ≡ Some place → 0 ≡ place
+only_place plan next v submitter place p tries is =
+    let same : tries.0 ≡ place = (let e = sym tries.1.0 ∙ is in cc) in
+    let below = tries.1.2 in
+    let one = p.one in
+    omega arith
+
+-- what is given may be given
+pub may_give : (plan : List Request) (next then : ℕ) (v : WorkerView) (submitter : ℕ) (given : Taken) → IsAt plan next v → Pends (turn.Try submitter) v → IsGiven plan next given then → CanGive v given
+may_give plan next then v submitter (taken.Ask ask) p tries given = λ place is.
+    let within = slice_get_within plan next ask.request given.0 in
+    let left = p.left in
+    let first : IsNext v 0 ask =
+    record {
+      number = given.1 ∙ ap (λ n. n + 1) (sym p.taken);
+      some = omega arith;
+      there = subst (λ (r : Request). IsThere (pages_of v.post) r.page) (get_or_from_slice_get plan next ask.request ask.request given.0) (p.there next ask.request within);
+    }
+    in
+    subst (λ k. IsNext v k ask) (only_place plan next v submitter place p tries is) first
+may_give plan next then v submitter taken.End p tries given = tt
+may_give plan next then v submitter taken.Nothing p tries given = tt
+
+-- a list with an element that is not 0 is not empty
+some_there : (xs : List ℕ) → 1 ≤ get_or xs 0 0 → 0 < length xs
+some_there [] h = absurd (omega arith)
+some_there (x ∷ xs) h = omega arith
+
+-- one more of those that are counted
+count_by-push : {X : Type 0} (p : X → Bool) (xs : List X) (x : X) → p x ≡ true → count_by p (xs ++ x ∷ []) ≡ count_by p xs + 1
+count_by-push p xs x passes = sum_by_push (λ y. cond (p y) 1 0) xs x ∙ ap (λ (b : Bool). count_by p xs + cond b 1 0) passes
+
+-- and then it is one further
+pub gave : (plan : List Request) (next then : ℕ) (v new : WorkerView) (submitter : ℕ) (given : Taken) → IsAt plan next v → Pends (turn.Try submitter) v → IsGiven plan next given then → HasTaken v given new → IsAt plan then new
+gave plan next then v new submitter (taken.Ask ask) p tries given took =
+    let first = sym (only_place plan next v submitter tries.0 p tries tries.1.0) in
+    let same : TakesNothing (with_taken v 0 ask) new = took 0 (tries.1.0 ∙ ap Some first) in
+    let within = slice_get_within plan next ask.request given.0 in
+    let left = p.left in
+    let there = some_there v.left (omega arith) in
+    let one_left = get_or-set_same v.left 0 (get_or v.left 0 0 - 1) 0 there in
+    let more = count_by-push (λ (t : Took). t.submitter == submitter_at v 0) v.taken (record { phase = phase_at v; submitter = submitter_at v 0; number = ask.number }) (eq-eqb (submitter_at v 0) (submitter_at v 0) refl) in
+    let at : IsAt plan (next + 1) (with_taken v 0 ask) =
+    record {
+      one = p.one;
+      taken = more ∙ ap (λ n. n + 1) p.taken;
+      left = omega arith;
+      few = p.few;
+      there = p.there;
+    }
+    in
+    subst (λ k. IsAt plan k new) (sym given.2) (stays_at plan (next + 1) (with_taken v 0 ask) new at same)
+gave plan next then v new submitter taken.End p tries given took =
+    let same = took tries.0 tries.1.0 in
+    let at = stays_at plan next (record v { ended = set v.ended tries.0 true }) new (record {
+      one = length-set v.ended tries.0 true ∙ p.one;
+      taken = p.taken;
+      left = p.left;
+      few = p.few;
+      there = p.there;
+    }) same in
+    subst (λ k. IsAt plan k new) (sym given) at
+gave plan next then v new submitter taken.Nothing p tries given took = absurd given
+
+-- a page that is there by the pages is there by their number
+there_by_number : (pages : List Page) (n : ℕ) (page : PageRef) → n ≡ length pages → setup.IsThere pages page → IsThere n page
+there_by_number pages n (Known page) many there = omega arith
+there_by_number pages n Unknown many there = tt
+
+-- the settings and the plan are within the limits of a worker
+pub within_limits : (s : Setup) (plan : List Request) (n : ℕ) → setup.IsWithinLimits s (plan ∷ []) → n ≡ length plan → IsWithin s (n ∷ [])
+within_limits s plan n w many =
+    let few = (w.lists 0 plan (omega arith)).few in
+    record {
+      some_workers = w.numbers.0.0;
+      few_workers = w.numbers.0.1;
+      some_submitters = omega arith;
+      few_submitters = omega arith;
+      users = w.numbers.1.1.0.1;
+      some_stash = w.numbers.1.1.1.0.0;
+      few_stash = w.numbers.1.1.1.0.1;
+      small = small (omega arith);
+    }
+  where
+    small : n ≤ 1000000 → All (λ k. k ≤ 1000000) (n ∷ [])
+    small h zero d below = h
+    small h (suc k) d below = absurd (omega arith)
+
+-- one worker of one submitter
+own_one : (size workers : ℕ) (own : List ℕ) → workers ≡ 1 → AreOwnSizes (size ∷ []) workers 0 own → (length own ≡ 1) × (get_or own 0 0 ≡ size)
+own_one size workers own is sizes =
+    let s : AreOwnSizes (size ∷ []) 1 0 own = subst (λ n. AreOwnSizes (size ∷ []) n 0 own) is sizes in
+    let some = (s.all 0).1 (omega arith) in
+    let few : length own ≤ 1 = below_two (length own) (λ more. let e = (s.all 1).0 more in omega arith) in
+    (omega arith, s.each 0 some)
+  where
+    below_two : (n : ℕ) → (1 < n → ⊥) → n ≤ 1
+    below_two zero never = omega arith
+    below_two (suc zero) never = omega arith
+    below_two (suc (suc n)) never = absurd (never (omega arith))
+
+-- a new worker may be played with
+pub plays_new : (s : Setup) (plan : List Request) (n : ℕ) (post : PostView) (v : WorkerView) → setup.IsWithinLimits s (plan ∷ []) → s.workers ≡ 1 → n ≡ length plan → IsPostOf 0 s.pages post → IsNew s (n ∷ []) 0 post v → IsPlaying plan 0 v
+plays_new s plan n post v w one many his new =
+    let own = own_one n s.workers v.left one new.left in
+    let lists = w.lists 0 plan (omega arith) in
+    let pages : pages_of v.post ≡ length s.pages = ap pages_of new.at_post ∙ (ap length his.marks ∙ length-map s.pages (λ (p : Page). p.split)) in
+    record {
+      settled = new.pending;
+      at = record {
+        one = ap length new.ended ∙ (length-falses (length v.left) ∙ own.0);
+        taken = rw new.taken refl;
+        left = (let left = own.1 in omega arith);
+        few = lists.few;
+        there = λ k d below. there_by_number s.pages (pages_of v.post) (get_or plan k d).page pages (lists.there k d below);
+      };
+    }
+  where
+    length-falses : (k : ℕ) → length (replicate k false) ≡ k
+    length-falses zero = refl
+    length-falses (suc k) = ap suc (length-falses k)

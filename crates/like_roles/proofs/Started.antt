@@ -1,0 +1,123 @@
+-- The ends of a worker's life: it starts as the plans say, and ends so.
+use Rattle.std.proofs.Common.{◌≡◌, ℕ, Bool, true, List, [], ◌++◌, length, map, get_or, replicate, Some, None, refl, ap, sym, ◌∙◌, inl, inr, arith, subst, append-nil}
+use Rattle.std.proofs.lemmas.Bool.{cases_eq, cases_lt}
+use Rattle.std.proofs.lemmas.List.{get_or_past, get_or-replicate, length-map, length-replicate}
+use Rattle.like_requests.specs.declared.setup.Setup.{Setup}
+use Rattle.like_core.specs.declared.worker_state.WorkerState.{WorkerState}
+use Rattle.like_core.specs.declared.worker_state.WorkerState.TheVariants as state
+use Rattle.like_core.specs.Post.{PostView, RunsSplit, pages_of}
+use Rattle.like_tables.specs.UserTable.{last_of}
+use Rattle.like_roles.specs.declared.turn.Turn.{Turn}
+use Rattle.like_roles.specs.declared.turn.Turn.TheVariants as turn
+use Rattle.like_roles.specs.Follows.{Follows, IsDone, IsInBlocks, IsServiceOf, Stands, entry_held, next_joined}
+use Rattle.like_roles.specs.New.{IsNew, IsPostOf}
+use Rattle.like_roles.specs.Order.{entry_of}
+use Rattle.like_roles.specs.Service.{Service, marks}
+use Rattle.like_roles.specs.Turns as turns
+use Rattle.like_roles.specs.Turns.{Pends, Turns, Works}
+use Rattle.like_roles.specs.WorkerView.{WorkerView, IsSliceInSplit, submitter_at}
+use Rattle.like_roles.proofs.Effects.{Runs-effects}
+
+-- a list of one element holds nothing else, whatever the place
+same_everywhere : {X : Type 0} (n i : ℕ) (x : X) → get_or (replicate n x) i x ≡ x
+same_everywhere {X} n i x =
+    elim (cases_lt i n) [
+      | inl inside ↦ get_or-replicate n i x x inside
+      | inr outside ↦ get_or_past (replicate n x) i x (omega (arith, length-replicate {A = X} n x))
+    ]
+
+-- a new worker follows the plans
+pub follows-new : (s : Setup) (sizes : List ℕ) (worker : ℕ) (post : PostView) (v : WorkerView) (service : Service) → IsPostOf worker s.pages post → IsNew s sizes worker post v
+    → IsServiceOf s.users s.pages sizes service → Follows service v
+follows-new s sizes worker post v service p new same =
+    let marks_are : v.post.marks ≡ marks service = ap (λ x. x.marks) new.at_post ∙ p.marks ∙ ap (map (λ q. q.split)) (sym same.pages_are) in
+    let pages : pages_of v.post ≡ length s.pages = ap length (ap (λ x. x.marks) new.at_post ∙ p.marks) ∙ length-map s.pages (λ q. q.split) in
+    let additions : v.post.additions ≡ replicate (pages_of post) 0 = ap (λ x. x.additions) new.at_post ∙ p.fresh.added_nothing in
+    let state_is : v.post.state ≡ state.Runs 0 = ap (λ x. x.state) new.at_post ∙ p.fresh.runs in
+    let held : v.held.held ≡ [] = ap (λ x. x.held) new.held in
+    let added_to : (page : ℕ) → get_or v.post.additions page 0 ≡ 0 = λ page. ap (λ xs. get_or xs page 0) additions ∙ same_everywhere (pages_of post) page 0 in
+    let in_slice : (page : ℕ) → get_or v.slice page 0 ≡ 0 = λ page. ap (λ xs. get_or xs page 0) new.slice ∙ same_everywhere (length s.pages) page 0 in
+    let blocks : IsInBlocks service v 0 = record {
+      within = λ i t h. absurd (omega (arith, ap length new.taken));
+      joined = λ j. rw (new.taken, new.ran, held) refl;
+      split_ran = λ j. absurd (omega arith);
+      split_held = λ j. absurd (omega arith);
+    } in
+    record {
+      served = record {
+        users = same.users_are ∙ sym (ap (λ x. x.share.users) new.last);
+        submitters_alike = sym (length-map service.plans length) ∙ ap length same.sizes_are ∙ sym (ap (λ x. x.share.submitters) new.last);
+        marks_alike = sym marks_are;
+      };
+      sized = record {
+        slice = ap length new.slice ∙ length-replicate (length s.pages) 0 ∙ sym pages;
+        additions = ap length additions ∙ length-replicate (pages_of post) 0 ∙ ap pages_of (sym new.at_post);
+        users = ap (λ x. length x.last) new.last ∙ length-replicate s.users None ∙ sym (ap (λ x. x.share.users) new.last);
+      };
+      tallied = record {
+        likes = λ page. rw new.ran (omega (arith, added_to page, in_slice page));
+        replies = λ i e h. let k : None ≡ Some e = rw new.ran at h in cc k;
+        last = λ user. ap (λ x. last_of x user) new.last ∙ same_everywhere s.users user None ∙ rw new.ran refl;
+      };
+      in_order = rw (new.taken, new.ran, held) refl;
+      held = λ i h k. absurd (omega (arith, ap length held));
+      stands = subst (λ x. Stands service v x) (sym state_is) blocks;
+      trying = λ place e. absurd (cc (new.pending, e));
+    }
+
+-- the slice of a worker that is gone is empty
+empty-gone : (v : WorkerView) → v.post.state ≡ state.Gone → IsSliceInSplit v.post v.slice → (page : ℕ) → get_or v.slice page 0 ≡ 0
+empty-gone v gone s page =
+    elim (cases_eq (get_or v.slice page 0) 0) [
+      | inl none ↦ none
+      | inr some ↦ absurd (no_split v.post.state gone (s page some).0)
+    ] where
+      no_split : (x : WorkerState) → x ≡ state.Gone → RunsSplit (record v.post { state = x }) → ⊥
+      no_split (state.Runs k) e r = cc e
+      no_split (state.Answered k) e r = r
+      no_split state.Gone e r = r
+
+-- a worker that is gone has done what the plans say
+pub follows-done : (service : Service) (v : WorkerView) → Follows service v → v.post.state ≡ state.Gone → IsSliceInSplit v.post v.slice → IsDone service v
+follows-done service v f gone s =
+    let stands = subst (λ x. Stands service v x) gone f.stands in
+    record {
+      in_order = sym (append-nil _) ∙ ap (λ hs. map entry_of v.ran ++ map (entry_held (next_joined v)) hs) (sym stands.0) ∙ f.in_order;
+      likes = λ page. f.tallied.likes page ∙ omega (arith, empty-gone v gone s page);
+      replies = f.tallied.replies;
+      last = f.tallied.last;
+      ended = stands.1;
+    }
+
+-- nothing is tried after an answer other than that it is
+works-pends : (v : WorkerView) (ending : Bool) (answer : Turn) (after : WorkerView) → v.pending ≡ None → Works v ending answer after → Pends answer after
+works-pends v ending answer after none (turns.runs_held first rest j e a run) =
+    subst (λ x. Pends x after) (sym a) ((Runs-effects (turns.without_first v rest) first true after run).pending ∙ none)
+works-pends v ending answer after none (turns.retires j e ended a x) = subst (λ y. Pends y after) (sym a) (ap (λ y. y.pending) x ∙ none)
+works-pends v ending answer after none (turns.acknowledges j e ended seen a x) = subst (λ y. Pends y after) (sym a) (ap (λ y. y.pending) x ∙ none)
+works-pends v ending answer after none (turns.tries_joined place j e next seen a x) =
+    subst (λ y. Pends y after) (sym a) (subst (λ y. Pends (turn.Try (submitter_at v place)) y) (sym x) (place, (refl, refl, next.there, next.not_ended)))
+works-pends v ending answer after none (turns.reports s seen a x) = subst (λ y. Pends y after) (sym a) (ap (λ y. y.pending) x ∙ none)
+works-pends v ending answer after none (turns.idles s seen stuck a x) = subst (λ y. Pends y after) (sym a) (ap (λ y. y.pending) x ∙ none)
+works-pends v ending answer after none (turns.tries_split place s seen room next a x) =
+    subst (λ y. Pends y after) (sym a) (subst (λ y. Pends (turn.Try (submitter_at v place)) y) (sym x) (place, (refl, refl, next.there, next.not_ended)))
+
+pub turns-pends : (v : WorkerView) (answer : Turn) (after : WorkerView) → v.pending ≡ None → Turns v answer after → Pends answer after
+turns-pends v answer after none (turns.is_gone gone a x) = subst (λ y. Pends y after) (sym a) (ap (λ y. y.pending) x ∙ none)
+turns-pends v answer after none (turns.waits sight here i w a x) = subst (λ y. Pends y after) (sym a) (ap (λ y. y.pending) x ∙ none)
+turns-pends v answer after none (turns.works sight here i w x) = works-pends (turns.saw v sight) sight.ending answer after none x
+
+-- who answers that it is gone is gone
+works-retired : (v : WorkerView) (ending : Bool) (answer : Turn) (after : WorkerView) → Works v ending answer after → answer ≡ turn.Retired → after.post.state ≡ state.Gone
+works-retired v ending answer after (turns.runs_held first rest j e a run) r = cc (a, r)
+works-retired v ending answer after (turns.retires j e ended a x) r = ap (λ y. y.post.state) x
+works-retired v ending answer after (turns.acknowledges j e ended seen a x) r = cc (a, r)
+works-retired v ending answer after (turns.tries_joined place j e next seen a x) r = cc (a, r)
+works-retired v ending answer after (turns.reports s seen a x) r = cc (a, r)
+works-retired v ending answer after (turns.idles s seen stuck a x) r = cc (a, r)
+works-retired v ending answer after (turns.tries_split place s seen room next a x) r = cc (a, r)
+
+pub turns-retired : (v : WorkerView) (answer : Turn) (after : WorkerView) → Turns v answer after → answer ≡ turn.Retired → after.post.state ≡ state.Gone
+turns-retired v answer after (turns.is_gone gone a x) r = ap (λ y. y.post.state) x ∙ gone
+turns-retired v answer after (turns.waits sight here i w a x) r = cc (a, r)
+turns-retired v answer after (turns.works sight here i w x) r = works-retired (turns.saw v sight) sight.ending answer after x r

@@ -1,0 +1,239 @@
+-- What running a request does to likes, replies and last likes.
+use Rattle.std.proofs.Common.{◌≡◌, ◌≢◌, ℕ, ◌+◌, ◌<◌, ◌≤◌, Bool, true, false, cond, eqb, ltb, ◌&&◌, List, [], ◌∷◌, ◌++◌, length, get_or, set, map, take, Option, Some, None, refl, sym, ap, ◌∙◌, inl, inr, arith, append-nil, subst}
+use Rattle.std.proofs.Math.Seq.{take-append_seam}
+use Rattle.std.proofs.lemmas.Bool.{and_parts, cases_eq, cases_lt, eq-eqb, ltb-true, ne_eqb}
+use Rattle.std.proofs.lemmas.List.{length-append, length-set, map-append, get_or-set_same, get_or-set_other, take-append-le}
+use Rattle.std.proofs.lemmas.List.Elements.{filter-append, filter_map-append}
+use Rattle.std.proofs.lemmas.List.Sums.{sum_by-append}
+use Rattle.std.proofs.lemmas.Option.{slice_get_within}
+use Rattle.std.specs.List.{cons_option, filter, slice_get}
+use Rattle.std.specs.Option.{option_to_list}
+use Rattle.std.specs.Prelude.{option_and_then, IsSomeAnd}
+use Rattle.like_requests.specs.Verdict.{home, is_accepted, is_known, verdict_of}
+use Rattle.like_requests.specs.declared.request.Op.{Op}
+use Rattle.like_requests.specs.declared.request.PageRef.TheVariants as ref
+use Rattle.like_requests.specs.declared.request.Request.{Request}
+use Rattle.like_requests.specs.declared.verdict.Verdict.{Verdict}
+use Rattle.like_requests.specs.declared.verdict.Verdict.TheVariants as verdict
+use Rattle.like_core.specs.Post.{added, additions_of, pages_of, slices}
+use Rattle.like_tables.specs.UserTable.{last_of}
+use Rattle.like_tables.specs.declared.held.Held.{Held}
+use Rattle.like_roles.specs.declared.log.Ran.{Ran}
+use Rattle.like_roles.specs.declared.reply.Reply.{Reply}
+use Rattle.like_roles.specs.declared.reply.Reply.TheVariants as reply
+use Rattle.like_roles.specs.Follows.{IsAsked, IsServed, IsSized, IsTallied}
+use Rattle.like_roles.specs.Likes.{AcceptedLike, accepted_like, last_like, last_page, like_ran, likes_ran, page_likes}
+use Rattle.like_roles.specs.Replies.{Answers, HasRightAnswers, IsRightAnswer}
+use Rattle.like_roles.specs.Serve.{Serves, refuses, likes, looks, counted, liked, ran_now, verdict_at}
+use Rattle.like_roles.specs.Service.{Service, marks, request_of, submitters}
+use Rattle.like_roles.specs.WorkerView.{WorkerView, IsThere}
+use Rattle.like_roles.proofs.Lists.{last_of-push, slice_get-at_end, slice_get-before}
+
+-- one more like counts for its page alone
+pub page_likes-push : (page : ℕ) (given : List AcceptedLike) (l : AcceptedLike) → page_likes page (given ++ l ∷ []) ≡ page_likes page given + cond (eqb l.page page) 1 0
+page_likes-push page given l = sum_by-append (λ x. cond (eqb x.page page) 1 0) given (l ∷ []) ∙ omega arith
+
+-- one more like is its user's last
+pub last_page-push_same : (user : ℕ) (given : List AcceptedLike) (l : AcceptedLike) → eqb l.user user ≡ true → last_page user (given ++ l ∷ []) ≡ Some l.page
+last_page-push_same user given l h =
+    simp (filter-append, h, map-append) (last_of-push (map (λ x. x.page) (filter (λ x. eqb x.user user) given)) l.page)
+
+-- and no other user's
+pub last_page-push_other : (user : ℕ) (given : List AcceptedLike) (l : AcceptedLike) → eqb l.user user ≡ false → last_page user (given ++ l ∷ []) ≡ last_page user given
+last_page-push_other user given l h = simp (filter-append, h, append-nil)
+
+-- the likes among entries, and then that of one more entry
+pub likes_ran-push : (service : Service) (ran : List Ran) (e : Ran) (o : Option AcceptedLike) → like_ran service e ≡ o → likes_ran service (ran ++ e ∷ []) ≡ likes_ran service ran ++ option_to_list o
+likes_ran-push service ran e o h =
+    filter_map-append (like_ran service) ran (e ∷ []) ∙ ap (λ x. likes_ran service ran ++ x) (ap (λ x. cons_option x []) h ∙ one o) where
+      one : (x : Option AcceptedLike) → cons_option x [] ≡ option_to_list x
+      one None = refl
+      one (Some x) = refl
+
+-- the verdict of the worker is that of the service
+pub verdict_at-served : (service : Service) (v : WorkerView) (submitter : ℕ) (r : Request) → IsServed service v → verdict_at v submitter r ≡ verdict_of service.users (submitters service) submitter r
+verdict_at-served service v submitter r s =
+    ap (λ u. verdict_of u v.last.share.submitters submitter r) (sym s.users) ∙ ap (λ m. verdict_of service.users m submitter r) (sym s.submitters_alike)
+
+-- a request is accepted where its verdict says so
+pub accepted-true : (users submitters submitter : ℕ) (r : Request) → verdict_of users submitters submitter r ≡ verdict.Accepted → is_accepted users submitters submitter r ≡ true
+accepted-true users submitters submitter r h = by_tests (ltb r.user users) (eqb (home submitters r.user) submitter) (is_known r.page) h where
+  by_tests : (a b k : Bool) → cond a (cond b (cond k verdict.Accepted verdict.UnknownPage) verdict.OtherHome) verdict.UnknownUser ≡ verdict.Accepted → (a && b && k) ≡ true
+  by_tests true true true e = refl
+  by_tests true true false e = cc e
+  by_tests true false k e = cc e
+  by_tests false b k e = cc e
+
+pub accepted-false : (users submitters submitter : ℕ) (r : Request) → verdict_of users submitters submitter r ≢ verdict.Accepted → is_accepted users submitters submitter r ≡ false
+accepted-false users submitters submitter r h = by_tests (ltb r.user users) (eqb (home submitters r.user) submitter) (is_known r.page) h where
+  by_tests : (a b k : Bool) → cond a (cond b (cond k verdict.Accepted verdict.UnknownPage) verdict.OtherHome) verdict.UnknownUser ≢ verdict.Accepted → (a && b && k) ≡ false
+  by_tests true true true e = absurd (e refl)
+  by_tests true true false e = refl
+  by_tests true false k e = refl
+  by_tests false b k e = refl
+
+-- an accepted request's user is there
+pub accepted_user : (users submitters submitter : ℕ) (r : Request) → is_accepted users submitters submitter r ≡ true → r.user < users
+accepted_user users submitters submitter r a =
+    let both = and_parts (ltb r.user users && eqb (home submitters r.user) submitter) (is_known r.page) a in
+    let first = and_parts (ltb r.user users) (eqb (home submitters r.user) submitter) both.0 in
+    ltb-true r.user users first.0
+
+-- the like that an entry of a known request ran
+like_ran-is : (service : Service) (e : Ran) (r : Request) → request_of service e ≡ Some r → like_ran service e ≡ accepted_like service.users (submitters service) e.submitter r
+like_ran-is service e r h = ap (option_and_then (accepted_like service.users (submitters service) e.submitter)) h
+
+-- one more right answer
+pub HasRightAnswers-push : (service : Service) (ran : List Ran) (e : Ran) → HasRightAnswers service ran → IsRightAnswer service ran e → HasRightAnswers service (ran ++ e ∷ [])
+HasRightAnswers-push service ran e all right i f h =
+    let n : i < length (ran ++ e ∷ []) = slice_get_within (ran ++ e ∷ []) i f h in
+    let m : i < length ran + 1 = simp length-append at n in
+    elim (cases_lt i (length ran)) [
+      | inl earlier ↦
+          let old : slice_get ran i ≡ Some f = sym (slice_get-before ran (e ∷ []) i earlier) ∙ h in
+          let le : i ≤ length ran = omega arith in
+          rw take-append-le (all i f old)
+      | inr at_end ↦
+          let same : length ran ≡ i = omega arith in
+          let g : Some e ≡ Some f = sym (subst (λ k. slice_get (ran ++ e ∷ []) k ≡ Some e) same (slice_get-at_end ran e)) ∙ h in
+          let it : e ≡ f = cc g in
+          let front : take i (ran ++ e ∷ []) ≡ ran = subst (λ k. take k (ran ++ e ∷ []) ≡ ran) same (take-append_seam ran (e ∷ [])) in
+          rw (front, ← it) right
+    ]
+
+-- an answer to the request of an entry
+right-by_request : (service : Service) (ran : List Ran) (e : Ran) (r : Request) → request_of service e ≡ Some r
+    → Answers (verdict_of service.users (submitters service) e.submitter r) r.op (last_like service r.user ran) e.reply → IsRightAnswer service ran e
+right-by_request service ran e r h a =
+    subst (λ o. IsSomeAnd o (λ q. Answers (verdict_of service.users (submitters service) e.submitter q) q.op (last_like service q.user ran) e.reply)) (sym h) a
+
+-- the answer to a request that is not accepted
+answers-refused : (v : Verdict) (o : Op) (last : Option ℕ) → v ≢ verdict.Accepted → Answers v o last (reply.Refused v)
+answers-refused verdict.Accepted o last n = absurd (n refl)
+answers-refused verdict.UnknownUser o last n = refl
+answers-refused verdict.OtherHome o last n = refl
+answers-refused verdict.UnknownPage o last n = refl
+
+-- one more accepted like in the slice or on the board
+counted-one : (v : WorkerView) (page other : ℕ) → page < length v.slice → page < length v.post.additions
+    → additions_of (counted v page).post other + get_or (counted v page).slice other 0 ≡ (additions_of v.post other + get_or v.slice other 0) + cond (eqb page other) 1 0
+counted-one v page other in_slice in_additions = by_test (slices v.post page) where
+  one_more : (xs : List ℕ) → page < length xs → get_or (set xs page (get_or xs page 0 + 1)) other 0 ≡ get_or xs other 0 + cond (eqb page other) 1 0
+  one_more xs h =
+      elim (cases_eq page other) [
+        | inl same ↦
+            let e = eq-eqb page other same in
+            rw e (subst (λ k. get_or (set xs page (get_or xs page 0 + 1)) k 0 ≡ get_or xs k 0 + 1) same (get_or-set_same xs page (get_or xs page 0 + 1) 0 h))
+        | inr differs ↦
+            let e = ne_eqb page other differs in
+            rw e (get_or-set_other xs page other (get_or xs page 0 + 1) 0 (λ k. differs (sym k)) ∙ omega arith)
+      ]
+
+  by_test : (b : Bool) → additions_of (cond b (record v { slice = set v.slice page (get_or v.slice page 0 + 1) }) (record v { post = added v.post page 1 })).post other
+      + get_or (cond b (record v { slice = set v.slice page (get_or v.slice page 0 + 1) }) (record v { post = added v.post page 1 })).slice other 0
+      ≡ (additions_of v.post other + get_or v.slice other 0) + cond (eqb page other) 1 0
+  by_test true = omega (arith, one_more v.slice in_slice)
+  by_test false = omega (arith, one_more v.post.additions in_additions)
+
+-- a like that is counted changes no size, and whom the worker serves as little
+counted-sized : (v : WorkerView) (page : ℕ) → IsSized v → IsSized (counted v page)
+counted-sized v page s = by_test (slices v.post page) where
+  by_test : (b : Bool) → IsSized (cond b (record v { slice = set v.slice page (get_or v.slice page 0 + 1) }) (record v { post = added v.post page 1 }))
+  by_test true = record { slice = length-set v.slice page _ ∙ s.slice; additions = s.additions; users = s.users }
+  by_test false = record { slice = s.slice; additions = length-set v.post.additions page _ ∙ s.additions; users = s.users }
+
+counted-served : (service : Service) (v : WorkerView) (page : ℕ) → IsServed service v → IsServed service (counted v page)
+counted-served service v page s = by_test (slices v.post page) where
+  by_test : (b : Bool) → IsServed service (cond b (record v { slice = set v.slice page (get_or v.slice page 0 + 1) }) (record v { post = added v.post page 1 }))
+  by_test true = record { users = s.users; submitters_alike = s.submitters_alike; marks_alike = s.marks_alike }
+  by_test false = record { users = s.users; submitters_alike = s.submitters_alike; marks_alike = s.marks_alike }
+
+counted-last : (v : WorkerView) (page : ℕ) → (counted v page).last ≡ v.last
+counted-last v page = by_test (slices v.post page) where
+  by_test : (b : Bool) → (cond b (record v { slice = set v.slice page (get_or v.slice page 0 + 1) }) (record v { post = added v.post page 1 })).last ≡ v.last
+  by_test true = refl
+  by_test false = refl
+
+-- what holds after an answer that is noted
+abbrev IsAfter : Service → WorkerView → Held → Bool → Reply → WorkerView → Type 0
+IsAfter service v h stashed answer w = IsServed service w × IsSized w × IsTallied service (record w { ran = v.ran ++ ran_now v h stashed answer ∷ [] })
+
+-- an entry that is no accepted like changes neither likes nor last likes
+unchanged : (service : Service) (v : WorkerView) (h : Held) (stashed : Bool) (answer : Reply) → IsServed service v → IsSized v → IsTallied service v
+    → like_ran service (ran_now v h stashed answer) ≡ None → IsRightAnswer service v.ran (ran_now v h stashed answer) → IsAfter service v h stashed answer v
+unchanged service v h stashed answer served sized t none right =
+    let e = ran_now v h stashed answer in
+    let same : likes_ran service (v.ran ++ e ∷ []) ≡ likes_ran service v.ran = likes_ran-push service v.ran e None none ∙ append-nil _ in (
+      served,
+      sized,
+      record {
+        likes = λ page. ap (page_likes page) same ∙ t.likes page;
+        replies = HasRightAnswers-push service v.ran e t.replies right;
+        last = λ user. t.last user ∙ ap (last_page user) (sym same);
+      },
+    )
+
+-- an accepted like
+one_like : (service : Service) (v : WorkerView) (h : Held) (stashed : Bool) (page : ℕ) → IsServed service v → IsSized v → IsTallied service v
+    → like_ran service (ran_now v h stashed reply.Liked) ≡ Some (record { user = h.ask.request.user; page = page }) → IsRightAnswer service v.ran (ran_now v h stashed reply.Liked)
+    → page < pages_of v.post → h.ask.request.user < v.last.share.users → IsAfter service v h stashed reply.Liked (liked v h.ask.request.user page)
+one_like service v h stashed page served sized t like right in_pages in_users =
+    let e = ran_now v h stashed reply.Liked in
+    let user = h.ask.request.user in
+    let l : AcceptedLike = record { user = user; page = page } in
+    let more = likes_ran-push service v.ran e (Some l) like in
+    let in_slice : page < length v.slice = omega (arith, sized.slice) in
+    let in_additions : page < length v.post.additions = omega (arith, sized.additions) in
+    let in_table : user < length v.last.last = omega (arith, sized.users) in
+    let s = counted-served service v page served in
+    let z = counted-sized v page sized in (
+      record { users = served.users; submitters_alike = served.submitters_alike; marks_alike = s.marks_alike },
+      record { slice = z.slice; additions = z.additions; users = length-set v.last.last user (Some page) ∙ sized.users },
+      record {
+        likes = λ other. ap (page_likes other) more ∙ page_likes-push other (likes_ran service v.ran) l ∙ ap (λ n. n + cond (eqb page other) 1 0) (t.likes other)
+            ∙ sym (counted-one v page other in_slice in_additions);
+        replies = HasRightAnswers-push service v.ran e t.replies right;
+        last = λ other. elim (cases_eq user other) [
+          | inl same ↦
+              let now = last_page-push_same other (likes_ran service v.ran) l (eq-eqb user other same) in
+              subst (λ k. get_or (set v.last.last user (Some page)) k None ≡ Some page) same (get_or-set_same v.last.last user (Some page) None in_table)
+              ∙ sym now ∙ ap (last_page other) (sym more)
+          | inr differs ↦
+              let now = last_page-push_other other (likes_ran service v.ran) l (ne_eqb user other differs) in
+              get_or-set_other v.last.last user other (Some page) None (λ k. differs (sym k)) ∙ t.last other ∙ sym now ∙ ap (last_page other) (sym more)
+        ];
+      },
+    )
+
+-- whatever the answer is
+pub Serves-tallied : (service : Service) (v : WorkerView) (h : Held) (stashed : Bool) (answer : Reply) (w : WorkerView) → IsServed service v → IsSized v → IsTallied service v → IsAsked service h
+    → Serves v h.submitter h.ask.request answer w → IsAfter service v h stashed answer w
+Serves-tallied service v h stashed answer w served sized t asked (refuses n a e) =
+    let r = h.ask.request in
+    let V = verdict_at v h.submitter r in
+    let V-is = verdict_at-served service v h.submitter r served in
+    let x = ran_now v h stashed (reply.Refused V) in
+    let no : is_accepted service.users (submitters service) h.submitter r ≡ false = accepted-false service.users (submitters service) h.submitter r (λ k. n (V-is ∙ k)) in
+    let none : like_ran service x ≡ None = like_ran-is service x r asked.asked ∙ rw no refl in
+    let right = right-by_request service v.ran x r asked.asked (subst (λ y. Answers y r.op (last_like service r.user v.ran) (reply.Refused V)) V-is (answers-refused V r.op _ n)) in
+    subst (λ y. IsAfter service v h stashed answer y) (sym e) (subst (λ y. IsAfter service v h stashed y v) (sym a) (unchanged service v h stashed (reply.Refused V) served sized t none right))
+Serves-tallied service v h stashed answer w served sized t asked (likes page a o p l e) =
+    let r = h.ask.request in
+    let V-is = sym (verdict_at-served service v h.submitter r served) ∙ a in
+    let yes = accepted-true service.users (submitters service) h.submitter r V-is in
+    let x = ran_now v h stashed reply.Liked in
+    let like : like_ran service x ≡ Some (record { user = r.user; page = page }) = like_ran-is service x r asked.asked ∙ rw (yes, o, p) refl in
+    let right = right-by_request service v.ran x r asked.asked (rw (V-is, o) refl) in
+    let in_marks : IsThere (length (marks service)) (ref.Known page) = subst (λ q. IsThere (length (marks service)) q) p asked.there in
+    let in_pages : page < pages_of v.post = omega (arith, ap length served.marks_alike) in
+    let in_users : r.user < v.last.share.users = omega (arith, accepted_user service.users (submitters service) h.submitter r yes, served.users) in
+    subst (λ y. IsAfter service v h stashed answer y) (sym e) (subst (λ y. IsAfter service v h stashed y (liked v r.user page)) (sym l) (one_like service v h stashed page served sized t like right in_pages in_users))
+Serves-tallied service v h stashed answer w served sized t asked (looks page count a o p s n e) =
+    let r = h.ask.request in
+    let V-is = sym (verdict_at-served service v h.submitter r served) ∙ a in
+    let yes = accepted-true service.users (submitters service) h.submitter r V-is in
+    let seen = reply.Seen (last_of v.last r.user) count in
+    let x = ran_now v h stashed seen in
+    let none : like_ran service x ≡ None = like_ran-is service x r asked.asked ∙ rw (yes, o) refl in
+    let right = right-by_request service v.ran x r asked.asked (rw (V-is, o) (t.last r.user, tt)) in
+    subst (λ y. IsAfter service v h stashed answer y) (sym e) (subst (λ y. IsAfter service v h stashed y v) (sym s) (unchanged service v h stashed seen served sized t none right))

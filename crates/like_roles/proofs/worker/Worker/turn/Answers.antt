@@ -1,0 +1,23 @@
+use Rattle.std.proofs.Common.{subst}
+use Rattle.like_roles.specs.Desk.{view_of}
+use Rattle.like_roles.specs.Turns.{Turns}
+use Rattle.like_roles.proofs.Followed.{follows-turn}
+use Rattle.like_roles.proofs.Keeps.{turns-keeps}
+use Rattle.like_roles.proofs.Started.{turns-pends, turns-retired}
+use Rattle.like_roles.proofs.worker.Worker.turn.Goals as goal
+
+pub returns-clause-case : goal.returns-clause-case
+returns-clause-case g c = subst (λ v. Turns v c.turn.result (view_of (g.P.Post.view c.turn.new.post) c.turn.new.self)) c.self.view_is c.turn.ensures.case
+
+pub returns-clause-follows : goal.returns-clause-follows
+returns-clause-follows g c = λ service f.
+    follows-turn service c.args.self.now c.turn.result (view_of (g.P.Post.view c.turn.new.post) c.turn.new.self) c.requires (returns-clause-case g c) f
+
+pub returns-clause-pending : goal.returns-clause-pending
+returns-clause-pending g c = turns-pends c.args.self.now c.turn.result (view_of (g.P.Post.view c.turn.new.post) c.turn.new.self) c.requires (returns-clause-case g c)
+
+pub returns-clause-retired : goal.returns-clause-retired
+returns-clause-retired g c = turns-retired c.args.self.now c.turn.result (view_of (g.P.Post.view c.turn.new.post) c.turn.new.self) (returns-clause-case g c)
+
+pub returns-clause-takes : goal.returns-clause-takes
+returns-clause-takes g c = turns-keeps c.args.self.now c.turn.result (view_of (g.P.Post.view c.turn.new.post) c.turn.new.self) (returns-clause-case g c)

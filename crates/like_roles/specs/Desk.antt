@@ -1,0 +1,121 @@
+-- What a worker keeps, beside its post.
+use Rattle.std.specs.Prelude.{◌≡◌, ℕ, ◌+◌, ◌*◌, ◌<◌, ◌≤◌, Bool, true, false, List, [], length, sum, All, Some, None, replicate, vec_len, vec_capacity}
+use Rattle.like_requests.specs.declared.request.Request.{Request}
+use Rattle.like_requests.specs.declared.pages.TheConstants.{MAX_PAGES}
+use Rattle.like_core.specs.declared.worker_state.WorkerState.{WorkerState}
+use Rattle.like_core.specs.declared.worker_state.WorkerState.TheVariants.{Runs, Answered, Gone}
+use Rattle.like_core.specs.Phase.{IsJoined, IsSplit}
+use Rattle.like_core.specs.Post.{PostView, IsRunning}
+use Rattle.like_tables.specs.Waiting.{IsWaiting}
+use Rattle.like_tables.specs.declared.held.Held.{Held}
+use Rattle.like_roles.specs.declared.desk.Desk.{Desk}
+use Rattle.like_requests.specs.declared.setup.Setup.{Setup}
+use Rattle.like_tables.specs.Share.{share_of, worker_of}
+use Rattle.like_tables.specs.UserTable.{table_without_likes}
+use Rattle.like_roles.specs.New.{AreOwnSizes, marks_of}
+use Rattle.like_roles.specs.WorkerView.{WorkerView, IsSliceInSplit, IsThere, has_to_wait}
+
+-- the worker of a post and what is kept beside it
+abbrev pub view_of : PostView → Desk → WorkerView
+view_of post d = record {
+  post = post;
+  held = d.held;
+  slice = d.slice;
+  left = d.left.items;
+  ended = d.ended.items;
+  cursor = d.cursor;
+  pending = d.pending;
+  last = d.last;
+  taken = d.taken.items;
+  ran = d.ran.items;
+}
+
+-- the phase and whether the worker is gone, as its state has them
+abbrev pub IsStanding : WorkerState → ℕ → Bool → Type 0
+IsStanding (Runs j) phase gone = (j ≡ phase) × (gone ≡ false)
+IsStanding (Answered j) phase gone = (j ≡ phase) × (gone ≡ false)
+IsStanding Gone phase gone = gone ≡ true
+
+-- a request that the worker may hold: of one of its submitters, and of a page that is there
+pub record IsOwn (d : Desk) (h : Held) : Type 0 where
+  pub served : worker_of d.workers h.submitter ≡ d.worker
+  pub there : IsThere (vec_len d.marks) h.ask.request.page
+
+-- the submitter at a place is tried: it has not ended, and there is room for a look that waits
+pub record IsTried (post : PostView) (d : Desk) (place : ℕ) : Type 0 where
+  pub there : place < vec_len d.ended
+  pub running : IsRunning post
+  pub joined : IsJoined d.phase → d.held.held ≡ []
+  pub split : IsSplit d.phase → length d.held.held < d.held.capacity
+
+-- the numbers of the run and of the worker's post
+pub record IsPlaced (post : PostView) (d : Desk) : Type 0 where
+  pub share : d.last.share ≡ record { users = d.users; submitters = d.submitters; workers = d.workers; worker = d.worker }
+  pub some : 1 ≤ d.submitters
+  pub is_worker : d.worker < d.workers
+  pub marks : post.marks ≡ d.marks.items
+  pub few_pages : vec_len d.marks ≤ MAX_PAGES
+  pub additions : length post.additions ≡ vec_len d.marks
+  pub slice : length d.slice ≡ vec_len d.marks
+  pub standing : IsStanding post.state d.phase d.gone
+
+-- the submitters by place
+pub record ArePlaces (d : Desk) : Type 0 where
+  pub sized : vec_len d.left ≡ vec_len d.ended
+  pub submitters : (place : ℕ) → place < vec_len d.ended → d.worker + d.workers * place < d.submitters
+  pub cursor : d.cursor ≤ vec_len d.ended
+
+-- there is room to take and to run what was not taken yet, and to run what is held
+pub record HasRoom (post : PostView) (d : Desk) : Type 0 where
+  pub taken : vec_len d.taken + sum d.left.items ≤ vec_capacity d.taken
+  pub ran : vec_len d.ran + length d.held.held + sum d.left.items ≤ vec_capacity d.ran
+  pub few : sum post.additions + sum d.slice + length d.held.held + sum d.left.items ≤ 64000000
+
+-- and there is room to run one more request
+pub record HasRoomForOne (post : PostView) (d : Desk) : Type 0 where
+  pub ran : vec_len d.ran + length d.held.held + sum d.left.items < vec_capacity d.ran
+  pub few : sum post.additions + sum d.slice + length d.held.held + sum d.left.items < 64000000
+
+-- there is room to note one more request that was run
+pub record HasRoomToNote (d : Desk) : Type 0 where
+  pub ran : vec_len d.ran + length d.held.held + sum d.left.items < vec_capacity d.ran
+
+-- what is true of a worker between two calls
+pub record IsSound (post : PostView) (d : Desk) : Type 0 where
+  pub placed : IsPlaced post d
+  pub places : ArePlaces d
+  pub room : HasRoom post d
+  pub slice : IsSliceInSplit post d.slice
+  pub held : All (IsOwn d) d.held.held
+  pub waiting : IsWaiting d.held
+  pub tried : (place : ℕ) → d.pending ≡ Some place → IsTried post d place
+
+-- a request of the worker that may be answered now
+pub record CanServe (post : PostView) (d : Desk) (submitter : ℕ) (r : Request) : Type 0 where
+  pub running : IsRunning post
+  pub served : worker_of d.workers submitter ≡ d.worker
+  pub there : IsThere (vec_len d.marks) r.page
+  pub prompt : has_to_wait (view_of post d) submitter r ≡ false
+
+-- what a worker keeps at first
+pub record IsNewDesk (s : Setup) (sizes : List ℕ) (worker : ℕ) (d : Desk) : Type 0 where
+  pub users : d.users ≡ s.users
+  pub submitters : d.submitters ≡ length sizes
+  pub workers : d.workers ≡ s.workers
+  pub is_worker : d.worker ≡ worker
+  pub marks : d.marks.items ≡ marks_of s.pages
+  pub few_pages : length s.pages ≤ MAX_PAGES
+  pub phase : d.phase ≡ 0
+  pub here : d.gone ≡ false
+  pub held : d.held ≡ record { held = []; capacity = s.stash }
+  pub slice : d.slice ≡ replicate (length s.pages) 0
+  pub ended : d.ended.items ≡ replicate (length d.left.items) false
+  pub left : AreOwnSizes sizes s.workers worker d.left.items
+  pub few : sum d.left.items ≤ 64000000
+  pub cursor : d.cursor ≡ 0
+  pub pending : d.pending ≡ None
+  pub last : d.last ≡ table_without_likes (share_of s.users (length sizes) s.workers worker)
+  pub taken : d.taken.items ≡ []
+  pub taken_room : vec_capacity d.taken ≡ sum d.left.items
+  pub ran : d.ran.items ≡ []
+  pub ran_room : vec_capacity d.ran ≡ sum d.left.items

@@ -1,0 +1,99 @@
+-- What a worker has done, as the plans of its submitters say it should.
+use Rattle.std.specs.Prelude.{◌≡◌, ℕ, ◌+◌, ◌%◌, ◌≤◌, true, List, [], ◌++◌, length, map, slice_index, All, Some, ⊤}
+use Rattle.like_requests.specs.Pages.{Page}
+use Rattle.like_requests.specs.declared.request.Taken.{Taken}
+use Rattle.like_requests.specs.declared.request.Taken.TheVariants as taken
+use Rattle.like_core.specs.declared.worker_state.WorkerState.{WorkerState}
+use Rattle.like_core.specs.declared.worker_state.WorkerState.TheVariants.{Runs, Answered, Gone}
+use Rattle.like_core.specs.Phase.{IsJoined, IsSplit}
+use Rattle.like_core.specs.Post.{IsRunning, RunsJoined, additions_of, pages_of}
+use Rattle.like_tables.specs.UserTable.{last_of}
+use Rattle.like_tables.specs.declared.held.Held.{Held}
+use Rattle.like_roles.specs.Likes.{last_like, likes_among}
+use Rattle.like_roles.specs.Order.{Entry, block, entry_of, order, order_below}
+use Rattle.like_roles.specs.Replies.{HasRightAnswers}
+use Rattle.like_roles.specs.Service.{Service, marks, request_at, submitters}
+use Rattle.like_roles.specs.WorkerView.{WorkerView, HasEnded, IsThere, phase_at, submitter_at}
+
+-- the service is the one that the worker serves
+pub record IsServed (service : Service) (v : WorkerView) : Type 0 where
+  pub users : service.users ≡ v.last.share.users
+  pub submitters_alike : submitters service ≡ v.last.share.submitters
+  pub marks_alike : marks service ≡ v.post.marks
+
+-- the worker has a place for each page, and for each user
+pub record IsSized (v : WorkerView) : Type 0 where
+  pub slice : length v.slice ≡ pages_of v.post
+  pub additions : length v.post.additions ≡ pages_of v.post
+  pub users : length v.last.last ≡ v.last.share.users
+
+-- likes: the accepted likes of each page that it ran are as many as its post's additions and its slice together;
+-- replies: each reply is right, save that nothing is said of counts; and its table has each user's last like
+pub record IsTallied (service : Service) (v : WorkerView) : Type 0 where
+  pub likes : (page : ℕ) → likes_among service page v.ran ≡ additions_of v.post page + slice_index v.slice page
+  pub replies : HasRightAnswers service v.ran
+  pub last : (user : ℕ) → last_of v.last user ≡ last_like service user v.ran
+
+-- a request that is held is that of its submitter's plan, of a page that is there
+pub record IsAsked (service : Service) (h : Held) : Type 0 where
+  pub asked : request_at service h.submitter h.ask.number ≡ Some h.ask.request
+  pub there : IsThere (length (marks service)) h.ask.request.page
+
+-- a request that is held, as it runs in a phase
+abbrev pub entry_held : ℕ → Held → Entry
+entry_held phase h = record { phase = phase; submitter = h.submitter; number = h.ask.number; stashed = true }
+
+-- the joined phase in which what is held runs: the present one or the next
+abbrev pub next_joined : WorkerView → ℕ
+next_joined v = phase_at v + phase_at v % 2
+
+-- order: what it ran, and then what it holds, is the run order of what it took
+abbrev pub IsInOrder : Service → WorkerView → Type 0
+IsInOrder service v = map entry_of v.ran ++ map (entry_held (next_joined v)) v.held.held ≡ order service v.taken
+
+-- the same, by the blocks of phases, for a worker that runs a phase: in a split phase what it holds is the whole part of
+-- the next block that is known
+pub record IsInBlocks (service : Service) (v : WorkerView) (phase : ℕ) : Type 0 where
+  pub within : All (λ t. t.phase ≤ phase) v.taken
+  pub joined : IsJoined phase → order_below service v.taken (phase + 1) ≡ map entry_of v.ran ++ map (entry_held phase) v.held.held
+  pub split_ran : IsSplit phase → order_below service v.taken (phase + 1) ≡ map entry_of v.ran
+  pub split_held : IsSplit phase → block service v.taken (phase + 1) ≡ map (entry_held (phase + 1)) v.held.held
+
+-- what its state says of what it has done: it answers a joined phase only when it holds nothing, and is gone only when
+-- its submitters have ended, too
+abbrev pub Stands : Service → WorkerView → WorkerState → Type 0
+Stands service v (Runs phase) = IsInBlocks service v phase
+Stands service v (Answered phase) = IsInBlocks service v phase × (IsJoined phase → v.held.held ≡ [])
+Stands service v Gone = (v.held.held ≡ []) × HasEnded v
+
+-- all of this, of a worker whose requests are those of the service's plans
+pub record Follows (service : Service) (v : WorkerView) : Type 0 where
+  pub served : IsServed service v
+  pub sized : IsSized v
+  pub tallied : IsTallied service v
+  pub in_order : IsInOrder service v
+  pub held : All (IsAsked service) v.held.held
+  pub stands : Stands service v v.post.state
+  pub trying : (place : ℕ) → v.pending ≡ Some place → IsRunning v.post × (RunsJoined v.post → v.held.held ≡ [])
+
+-- what is given is asked by the plan of the submitter that is tried
+abbrev pub IsAskedBy : Service → WorkerView → Taken → Type 0
+IsAskedBy service v (taken.Ask ask) = (place : ℕ) → v.pending ≡ Some place → request_at service (submitter_at v place) ask.number ≡ Some ask.request
+IsAskedBy service v taken.End = ⊤
+IsAskedBy service v taken.Nothing = ⊤
+
+-- the service has these users and pages, and plans of these sizes
+pub record IsServiceOf (users : ℕ) (pages : List Page) (sizes : List ℕ) (service : Service) : Type 0 where
+  pub users_are : service.users ≡ users
+  pub pages_are : service.pages ≡ pages
+  pub sizes_are : map length service.plans ≡ sizes
+
+-- what a worker that is gone has done: it ran what it took in run order; its post's additions are the accepted likes that
+-- it ran; each reply is right, save that nothing is said of counts; its table has each user's last like; and the end mark
+-- of each of its submitters was taken
+pub record IsDone (service : Service) (v : WorkerView) : Type 0 where
+  pub in_order : map entry_of v.ran ≡ order service v.taken
+  pub likes : (page : ℕ) → likes_among service page v.ran ≡ additions_of v.post page
+  pub replies : HasRightAnswers service v.ran
+  pub last : (user : ℕ) → last_of v.last user ≡ last_like service user v.ran
+  pub ended : HasEnded v

@@ -1,0 +1,13 @@
+pub mod Service
+pub mod Likes
+pub mod Replies
+pub mod Order
+pub mod WorkerView
+pub mod Serve
+pub mod Turns
+pub mod Desk
+pub mod Places
+pub mod New
+pub mod Follows
+pub mod Cue
+pub mod Playing

@@ -1,0 +1,48 @@
+-- A worker that was just made.
+use Rattle.std.specs.Prelude.{◌≡◌, ℕ, ◌+◌, ◌*◌, ◌<◌, ◌≤◌, ◌↔◌, Bool, false, List, [], length, map, replicate, slice_index, All, None}
+use Rattle.like_requests.specs.Pages.{Page}
+use Rattle.like_requests.specs.declared.setup.Setup.{Setup}
+use Rattle.like_requests.specs.declared.setup.TheConstants.{MAX_WORKERS, MAX_SUBMITTERS, MAX_USERS, MAX_STASH, MAX_REQUESTS}
+use Rattle.like_core.specs.Post.{PostView, IsFresh}
+use Rattle.like_tables.specs.Share.{share_of}
+use Rattle.like_tables.specs.UserTable.{table_without_likes}
+use Rattle.like_roles.specs.WorkerView.{WorkerView}
+
+-- the settings and the submitters' numbers of requests are within the limits of a run
+pub record IsWithin (s : Setup) (sizes : List ℕ) : Type 0 where
+  pub some_workers : 1 ≤ s.workers
+  pub few_workers : s.workers ≤ MAX_WORKERS
+  pub some_submitters : 1 ≤ length sizes
+  pub few_submitters : length sizes ≤ MAX_SUBMITTERS
+  pub users : s.users ≤ MAX_USERS
+  pub some_stash : 1 ≤ s.stash
+  pub few_stash : s.stash ≤ MAX_STASH
+  pub small : All (λ n. n ≤ MAX_REQUESTS) sizes
+
+-- whether each page is marked as split
+abbrev pub marks_of : List Page → List Bool
+marks_of pages = map (λ p. p.split) pages
+
+-- the post is that worker's, at a board with these pages, and no call was made on it
+pub record IsPostOf (worker : ℕ) (pages : List Page) (post : PostView) : Type 0 where
+  pub is_his : post.worker ≡ worker
+  pub marks : post.marks ≡ marks_of pages
+  pub fresh : IsFresh post
+
+-- the numbers of requests of a worker's submitters, by place
+pub record AreOwnSizes (sizes : List ℕ) (workers worker : ℕ) (own : List ℕ) : Type 0 where
+  pub each : (place : ℕ) → place < length own → slice_index own place ≡ slice_index sizes (worker + workers * place)
+  pub all : (place : ℕ) → (place < length own) ↔ (worker + workers * place < length sizes)
+
+-- a worker that has done nothing yet
+pub record IsNew (s : Setup) (sizes : List ℕ) (worker : ℕ) (post : PostView) (v : WorkerView) : Type 0 where
+  pub at_post : v.post ≡ post
+  pub held : v.held ≡ record { held = []; capacity = s.stash }
+  pub slice : v.slice ≡ replicate (length s.pages) 0
+  pub left : AreOwnSizes sizes s.workers worker v.left
+  pub ended : v.ended ≡ replicate (length v.left) false
+  pub cursor : v.cursor ≡ 0
+  pub pending : v.pending ≡ None
+  pub last : v.last ≡ table_without_likes (share_of s.users (length sizes) s.workers worker)
+  pub taken : v.taken ≡ []
+  pub ran : v.ran ≡ []

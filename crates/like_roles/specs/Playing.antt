@@ -1,0 +1,27 @@
+-- A test that plays a worker's turns, with one submitter.
+use Rattle.std.specs.Prelude.{◌≡◌, ℕ, ◌+◌, ◌≤◌, ◌==◌, List, length, count_by, All, slice_get, slice_index, Some, None}
+use Rattle.like_requests.specs.declared.request.Request.{Request}
+use Rattle.like_requests.specs.declared.request.Taken.{Taken}
+use Rattle.like_requests.specs.declared.request.Taken.TheVariants.{Ask, End, Nothing}
+use Rattle.like_requests.specs.declared.setup.TheConstants.{MAX_REQUESTS}
+use Rattle.like_core.specs.Post.{pages_of}
+use Rattle.like_roles.specs.WorkerView.{WorkerView, IsThere, submitter_at}
+
+-- the first so many requests of the plan were taken from the worker's one submitter
+pub record IsAt (plan : List Request) (next : ℕ) (v : WorkerView) : Type 0 where
+  pub one : length v.ended ≡ 1
+  pub taken : count_by (λ t. t.submitter == submitter_at v 0) v.taken ≡ next
+  pub left : next + slice_index v.left 0 ≡ length plan
+  pub few : length plan ≤ MAX_REQUESTS
+  pub there : All (λ r. IsThere (pages_of v.post) r.page) plan
+
+-- and no submitter is tried
+pub record IsPlaying (plan : List Request) (next : ℕ) (v : WorkerView) : Type 0 where
+  pub at : IsAt plan next v
+  pub settled : v.pending ≡ None
+
+-- what is given when so many requests of the plan were taken, and how many were taken then
+abbrev pub IsGiven : List Request → ℕ → Taken → ℕ → Type 0
+IsGiven plan next (Ask ask) then = (slice_get plan next ≡ Some ask.request) × (ask.number ≡ next + 1) × (then ≡ next + 1)
+IsGiven plan next End then = then ≡ next
+IsGiven plan next Nothing then = ⊥

@@ -1,0 +1,46 @@
+-- What it does to a worker to run a request.
+use Rattle.std.specs.Prelude.{◌≡◌, ◌≢◌, ℕ, ◌+◌, ◌≤◌, Bool, if◌then◌else◌, [], ◌∷◌, ◌++◌, slice_index, slice_set}
+use Rattle.like_requests.specs.Verdict.{verdict_of}
+use Rattle.like_requests.specs.declared.request.Op.TheVariants.{Like, Look}
+use Rattle.like_requests.specs.declared.request.PageRef.TheVariants.{Known}
+use Rattle.like_requests.specs.declared.request.Request.{Request}
+use Rattle.like_requests.specs.declared.verdict.Verdict.{Verdict}
+use Rattle.like_requests.specs.declared.verdict.Verdict.TheVariants.{Accepted}
+use Rattle.like_core.specs.Post.{added, additions_of, slices}
+use Rattle.like_tables.specs.UserTable.{last_of, with_last}
+use Rattle.like_tables.specs.declared.held.Held.{Held}
+use Rattle.like_roles.specs.declared.log.Ran.{Ran}
+use Rattle.like_roles.specs.declared.reply.Reply.{Reply}
+use Rattle.like_roles.specs.declared.reply.Reply.TheVariants.{Liked, Seen, Refused}
+use Rattle.like_roles.specs.WorkerView.{WorkerView, phase_at}
+
+-- the verdict on a request of a submitter
+abbrev pub verdict_at : WorkerView → ℕ → Request → Verdict
+verdict_at v submitter r = verdict_of v.last.share.users v.last.share.submitters submitter r
+
+-- one more like of a page: in the slice, where the page is sliced, else on the board
+abbrev pub counted : WorkerView → ℕ → WorkerView
+counted v page =
+    if slices v.post page then record v { slice = slice_set v.slice page (slice_index v.slice page + 1) } else record v { post = added v.post page 1 }
+
+-- a user's accepted like of a page is counted, and is the user's last like
+abbrev pub liked : WorkerView → ℕ → ℕ → WorkerView
+liked v user page = let w = counted v page in record w { last = with_last v.last user page }
+
+-- a request of a submitter is answered, and this is what becomes of the worker: its list of what it ran aside
+pub data Serves (v : WorkerView) (submitter : ℕ) (r : Request) (reply : Reply) (after : WorkerView) : Type 0 where
+  refuses : verdict_at v submitter r ≢ Accepted → reply ≡ Refused (verdict_at v submitter r) → after ≡ v → Serves v submitter r reply after
+  likes : (page : ℕ) → verdict_at v submitter r ≡ Accepted → r.op ≡ Like → r.page ≡ Known page → reply ≡ Liked → after ≡ liked v r.user page → Serves v submitter r reply after
+  looks : (page count : ℕ) → verdict_at v submitter r ≡ Accepted → r.op ≡ Look → r.page ≡ Known page → reply ≡ Seen (last_of v.last r.user) count
+      → additions_of v.post page ≤ count → after ≡ v → Serves v submitter r reply after
+
+-- the entry of a request that runs now
+abbrev pub ran_now : WorkerView → Held → Bool → Reply → Ran
+ran_now v h stashed reply = record { phase = phase_at v; submitter = h.submitter; number = h.ask.number; stashed = stashed; reply = reply }
+
+-- a request runs: it is answered, and written to the list of what was run
+pub record Runs (v : WorkerView) (h : Held) (stashed : Bool) (after : WorkerView) : Type 0 where
+  pub reply : Reply
+  pub served : WorkerView
+  pub serves : Serves v h.submitter h.ask.request reply served
+  pub noted : after ≡ record served { ran = v.ran ++ ran_now v h stashed reply ∷ [] }

@@ -1,0 +1,37 @@
+-- What a run serves.
+use Rattle.std.specs.Prelude.{ℕ, zero, suc, Bool, false, List, length, map, slice_get, slice_index_or, Option, None, option_and_then}
+use Rattle.like_requests.specs.Pages.{Page}
+use Rattle.like_requests.specs.declared.request.Request.{Request}
+use Rattle.like_core.specs.Phase.{split}
+use Rattle.like_roles.specs.declared.log.Ran.{Ran}
+
+-- so many users, these pages, and the plan of each submitter: its requests in their order
+pub record Service : Type 0 where
+  pub users : ℕ
+  pub pages : List Page
+  pub plans : List (List Request)
+
+-- how many submitters there are
+abbrev pub submitters : Service → ℕ
+submitters service = length service.plans
+
+-- the request of a plan with this number, counted from 1
+abbrev pub numbered_in : List Request → ℕ → Option Request
+numbered_in plan zero = None
+numbered_in plan (suc n) = slice_get plan n
+
+-- the request of a submitter with this number
+abbrev pub request_at : Service → ℕ → ℕ → Option Request
+request_at service submitter number = option_and_then (λ plan. numbered_in plan number) (slice_get service.plans submitter)
+
+-- the request that an entry ran
+abbrev pub request_of : Service → Ran → Option Request
+request_of service e = request_at service e.submitter e.number
+
+-- whether each page is marked as split
+abbrev pub marks : Service → List Bool
+marks service = map (λ p. p.split) service.pages
+
+-- split pages: whether a page is split in a phase, which no page is in an even one
+abbrev pub is_split_in : Service → ℕ → ℕ → Bool
+is_split_in service phase page = split (λ p. slice_index_or (marks service) p false) phase page

@@ -1,0 +1,134 @@
+-- The turns of a worker, case by case.
+use Rattle.std.specs.Prelude.{◌≡◌, ◌≢◌, ◌⊎◌, ℕ, ◌+◌, ◌-◌, ◌%◌, ◌<◌, ◌≤◌, ◌==◌, count_by, ⊤, Bool, true, false, List, [], ◌∷◌, ◌++◌, length, map, replicate, slice_index, slice_index_or, slice_set, Some, None}
+use Rattle.std.specs.List.{range_with_len}
+use Rattle.like_requests.specs.declared.request.Numbered.{Numbered}
+use Rattle.like_requests.specs.declared.request.Taken.{Taken}
+use Rattle.like_requests.specs.declared.request.Taken.TheVariants as taken
+use Rattle.like_core.specs.declared.sight.Sight.{Sight}
+use Rattle.like_core.specs.declared.worker_state.WorkerState.TheVariants.{Gone}
+use Rattle.like_core.specs.Post.{IsSightOf, RunsJoined, RunsSplit, looked_at, answered, retired, pages_of, additions_of}
+use Rattle.like_tables.specs.declared.held.Held.{Held}
+use Rattle.like_roles.specs.declared.turn.Turn.{Turn}
+use Rattle.like_roles.specs.declared.turn.Turn.TheVariants as turn
+use Rattle.like_roles.specs.WorkerView.{WorkerView, HasEnded, IsThere, IsNextPlace, phase_at, submitter_at, has_to_wait}
+use Rattle.like_roles.specs.Serve.{Runs}
+
+-- the worker after a look
+abbrev pub saw : WorkerView → Sight → WorkerView
+saw v sight = record v { post = looked_at v.post sight }
+
+-- without the first look that it held
+abbrev pub without_first : WorkerView → List Held → WorkerView
+without_first v rest = record v { held = record v.held { held = rest } }
+
+-- it tries the submitter at a place, and looks for the next one after it
+abbrev pub trying : WorkerView → ℕ → WorkerView
+trying v place = record v { pending = Some place; cursor = (place + 1) % length v.ended }
+
+-- the slice is added to the board and emptied
+abbrev pub merged : WorkerView → WorkerView
+merged v = record v {
+  post = record v.post { additions = map (λ page. additions_of v.post page + slice_index v.slice page) (range_with_len 0 (pages_of v.post)) };
+  slice = replicate (pages_of v.post) 0;
+}
+
+-- a page's slice is added to the board and emptied
+abbrev pub merged_page : WorkerView → ℕ → WorkerView
+merged_page v page = record v {
+  post = record v.post { additions = slice_set v.post.additions page (additions_of v.post page + slice_index v.slice page) };
+  slice = slice_set v.slice page 0;
+}
+
+-- it cannot take a request in a split phase
+abbrev pub IsStuck : WorkerView → Type 0
+IsStuck v = HasEnded v ⊎ (length v.held.held ≡ v.held.capacity)
+
+-- what a worker does that has looked and runs a phase: the answer, and the worker after
+pub data Works (v : WorkerView) (ending : Bool) (answer : Turn) (after : WorkerView) : Type 0 where
+  runs_held : (first : Held) (rest : List Held) → RunsJoined v.post → v.held.held ≡ first ∷ rest
+      → answer ≡ turn.Ran → Runs (without_first v rest) first true after → Works v ending answer after
+  retires : RunsJoined v.post → v.held.held ≡ [] → HasEnded v
+      → answer ≡ turn.Retired → after ≡ record v { post = retired v.post } → Works v ending answer after
+  acknowledges : RunsJoined v.post → v.held.held ≡ [] → ¬ HasEnded v → ending ≡ true
+      → answer ≡ turn.Acknowledged → after ≡ record v { post = answered v.post } → Works v ending answer after
+  tries_joined : (place : ℕ) → RunsJoined v.post → v.held.held ≡ [] → IsNextPlace v.ended v.cursor place → ending ≡ false
+      → answer ≡ turn.Try (submitter_at v place) → after ≡ trying v place → Works v ending answer after
+  reports : RunsSplit v.post → ending ≡ true
+      → answer ≡ turn.Reported → after ≡ record (merged v) { post = answered (merged v).post } → Works v ending answer after
+  idles : RunsSplit v.post → ending ≡ false → IsStuck v
+      → answer ≡ turn.Idle → after ≡ v → Works v ending answer after
+  tries_split : (place : ℕ) → RunsSplit v.post → ending ≡ false → length v.held.held ≢ v.held.capacity → IsNextPlace v.ended v.cursor place
+      → answer ≡ turn.Try (submitter_at v place) → after ≡ trying v place → Works v ending answer after
+
+-- turn case: what a turn does, its answer, and the worker after
+pub data Turns (v : WorkerView) (answer : Turn) (after : WorkerView) : Type 0 where
+  is_gone : v.post.state ≡ Gone → answer ≡ turn.Retired → after ≡ v → Turns v answer after
+  waits : (sight : Sight) → v.post.state ≢ Gone → IsSightOf v.post.state sight → sight.waits ≡ true
+      → answer ≡ turn.Waiting → after ≡ saw v sight → Turns v answer after
+  works : (sight : Sight) → v.post.state ≢ Gone → IsSightOf v.post.state sight → sight.waits ≡ false
+      → Works (saw v sight) sight.ending answer after → Turns v answer after
+
+-- the request is the next one of the submitter at a place, which has one left, and its page is there, where it is known
+pub record IsNext (v : WorkerView) (place : ℕ) (ask : Numbered) : Type 0 where
+  pub number : ask.number ≡ count_by (λ t. t.submitter == submitter_at v place) v.taken + 1
+  pub some : 1 ≤ slice_index v.left place
+  pub there : IsThere (pages_of v.post) ask.request.page
+
+-- what may be taken from the submitter that is tried
+abbrev pub CanGive : WorkerView → Taken → Type 0
+CanGive v (taken.Ask ask) = (place : ℕ) → v.pending ≡ Some place → IsNext v place ask
+CanGive v taken.End = ⊤
+CanGive v taken.Nothing = ⊤
+
+-- nothing is tried any more
+abbrev pub settled : WorkerView → WorkerView
+settled v = record v { pending = None }
+
+-- the request is taken in the present phase from the submitter at a place
+abbrev pub with_taken : WorkerView → ℕ → Numbered → WorkerView
+with_taken v place ask = record v {
+  left = slice_set v.left place (slice_index v.left place - 1);
+  taken = v.taken ++ (record { phase = phase_at v; submitter = submitter_at v place; number = ask.number }) ∷ [];
+}
+
+-- the request with the submitter at a place
+abbrev pub held_from : WorkerView → ℕ → Numbered → Held
+held_from v place ask = record { submitter = submitter_at v place; ask = ask }
+
+-- the look is put into the stash
+abbrev pub with_stashed : WorkerView → Held → WorkerView
+with_stashed v h = record v { held = record v.held { held = v.held.held ++ h ∷ [] } }
+
+-- what becomes of a request that is taken from the submitter at a place: the answer, and the worker after
+pub data Takes (v : WorkerView) (place : ℕ) (ask : Numbered) (answer : Turn) (after : WorkerView) : Type 0 where
+  stashes : has_to_wait v (submitter_at v place) ask.request ≡ true
+      → answer ≡ turn.Stashed → after ≡ with_stashed (with_taken v place ask) (held_from v place ask) → Takes v place ask answer after
+  runs : has_to_wait v (submitter_at v place) ask.request ≡ false
+      → answer ≡ turn.Ran → Runs (with_taken v place ask) (held_from v place ask) false after → Takes v place ask answer after
+
+-- turn case, where something was taken from the submitter that is tried: what is done, the answer, and the worker after
+pub data Gives (v : WorkerView) (took : Taken) (answer : Turn) (after : WorkerView) : Type 0 where
+  nothing : took ≡ taken.Nothing → answer ≡ turn.Nothing → after ≡ settled v → Gives v took answer after
+  ends : (place : ℕ) → v.pending ≡ Some place → took ≡ taken.End
+      → answer ≡ turn.TookEnd → after ≡ record (settled v) { ended = slice_set v.ended place true } → Gives v took answer after
+  asks : (place : ℕ) (ask : Numbered) → v.pending ≡ Some place → took ≡ taken.Ask ask
+      → Takes (settled v) place ask answer after → Gives v took answer after
+
+-- a submitter is tried exactly after the answer that says so
+abbrev pub Pends : Turn → WorkerView → Type 0
+Pends (turn.Try submitter) v = (place : ℕ) × ((v.pending ≡ Some place) × (submitter_at v place ≡ submitter) × (place < length v.ended) × (slice_index_or v.ended place true ≡ false))
+Pends answer v = v.pending ≡ None
+
+-- the run and the board are the same, and what was taken from the submitters is
+pub record TakesNothing (old new : WorkerView) : Type 0 where
+  pub share : new.last.share ≡ old.last.share
+  pub marks : new.post.marks ≡ old.post.marks
+  pub taken : new.taken ≡ old.taken
+  pub left : new.left ≡ old.left
+  pub ended : new.ended ≡ old.ended
+
+-- this alone was taken from the submitter that was tried
+abbrev pub HasTaken : WorkerView → Taken → WorkerView → Type 0
+HasTaken old (taken.Ask ask) new = (place : ℕ) → old.pending ≡ Some place → TakesNothing (with_taken old place ask) new
+HasTaken old taken.End new = (place : ℕ) → old.pending ≡ Some place → TakesNothing (record old { ended = slice_set old.ended place true }) new
+HasTaken old taken.Nothing new = TakesNothing old new

@@ -1,0 +1,63 @@
+-- What a worker is, as contracts see it.
+use Rattle.std.specs.Prelude.{◌≡◌, ◌≢◌, ℕ, ◌+◌, ◌-◌, ◌*◌, ◌<◌, nat_le, if◌then◌else◌, Bool, true, false, List, length, slice_index, slice_index_or, Option, ⊤}
+use Rattle.like_requests.specs.declared.request.PageRef.{PageRef}
+use Rattle.like_requests.specs.declared.request.PageRef.TheVariants.{Known, Unknown}
+use Rattle.like_requests.specs.declared.request.Request.{Request}
+use Rattle.like_core.specs.Post.{PostView, RunsSplit, is_marked, phase_of, slices}
+use Rattle.like_tables.specs.UserTable.{UserTable}
+use Rattle.like_tables.specs.Waiting.{Waiting}
+use Rattle.like_roles.specs.declared.log.Ran.{Ran}
+use Rattle.like_roles.specs.declared.log.Took.{Took}
+use Rattle.like_roles.specs.Order.{is_look_at_sliced}
+
+-- its post; the looks that it holds, which are its stash in a split phase and its backlog in a joined one; its slice, a
+-- number for each page; for each of its submitters by place, how many requests of it were not taken yet and whether its
+-- end mark was taken; the place at which it looks for a submitter next; the place of the submitter that it tries, if it
+-- tries one; the last likes of its users; what it took, and what it ran
+pub record WorkerView : Type 0 where
+  pub post : PostView
+  pub held : Waiting
+  pub slice : List ℕ
+  pub left : List ℕ
+  pub ended : List Bool
+  pub cursor : ℕ
+  pub pending : Option ℕ
+  pub last : UserTable
+  pub taken : List Took
+  pub ran : List Ran
+
+-- the phase that it runs or has answered
+abbrev pub phase_at : WorkerView → ℕ
+phase_at v = phase_of v.post.state
+
+-- the submitter at a place: w, w + N, w + 2 N, .. for worker w of N
+abbrev pub submitter_at : WorkerView → ℕ → ℕ
+submitter_at v place = v.last.share.worker + v.last.share.workers * place
+
+-- it took the end mark of each of its submitters
+abbrev pub HasEnded : WorkerView → Type 0
+HasEnded v = (place : ℕ) → place < length v.ended → slice_index_or v.ended place true ≡ true
+
+-- how many steps there are from one place to another of n, going up, and from the last place on to the first
+abbrev pub steps_between : ℕ → ℕ → ℕ → ℕ
+steps_between n from to = if nat_le from to then to - from else to + n - from
+
+-- the place is the first at or after the cursor, in cyclic order, whose submitter's end mark was not taken
+pub record IsNextPlace (ended : List Bool) (cursor place : ℕ) : Type 0 where
+  pub there : place < length ended
+  pub not_ended : slice_index_or ended place true ≡ false
+  pub first : (other : ℕ) → other < length ended
+      → steps_between (length ended) cursor other < steps_between (length ended) cursor place → slice_index_or ended other true ≡ true
+
+-- whether a request of a submitter has to wait for the next joined phase
+abbrev pub has_to_wait : WorkerView → ℕ → Request → Bool
+has_to_wait v submitter r = is_look_at_sliced v.last.share.users v.last.share.submitters (slices v.post) submitter r
+
+-- the page of a request is there, where it is known
+abbrev pub IsThere : ℕ → PageRef → Type 0
+IsThere pages (Known page) = page < pages
+IsThere pages Unknown = ⊤
+
+-- a slice that is not empty belongs to a worker that runs a split phase, and has pages that are marked as split alone
+abbrev pub IsSliceInSplit : PostView → List ℕ → Type 0
+IsSliceInSplit post slice = (page : ℕ) → slice_index slice page ≢ 0 → RunsSplit post × (is_marked post page ≡ true)

@@ -1,0 +1,80 @@
+ghost use Rattle.std.specs.Prelude.{◌≡◌, ◌<◌, ◌≤◌, ◌^◌, All, IfOk, length, replicate, sum, vec_len, vec_capacity, false, [], None};
+ghost use Rattle.like_requests.specs.declared.setup.TheConstants.{MAX_REQUESTS, MAX_SUBMITTERS};
+ghost use Rattle.like_requests.specs.Pages.{ArePages};
+ghost use Rattle.like_tables.specs.Share.{share_of};
+ghost use Rattle.like_tables.specs.UserTable.{table_without_likes};
+ghost use Rattle.like_roles.specs.New.{AreOwnSizes, IsWithin, marks_of};
+ghost use Rattle.like_roles.specs.Desk.{IsNewDesk};
+
+use crate::desk::Desk;
+use like_requests::{Pages, Setup};
+use like_tables::{Slice, Stash, Users};
+use std::alloc::{AllocError, Global};
+
+impl Desk {
+    /// What a worker keeps at first. All its room is made here.
+    pub fn new(alloc: Global, setup: &Setup, sizes: &[u32], worker: u32) -> Result<Desk, AllocError>
+        requires within { IsWithin setup.now sizes.now }
+        requires is_worker { worker < setup.now.workers }
+        ensures { IfOk result (IsNewDesk setup.now sizes.now worker) }
+    {
+        let submitters = sizes.len() as u32;
+        let left = own_sizes(alloc, sizes, setup.workers, worker)?;
+        let room = left.iter().sum::<u32>() as usize;
+        Ok(Desk {
+            users: setup.users,
+            submitters,
+            workers: setup.workers,
+            worker,
+            marks: marks(alloc, &setup.pages)?,
+            phase: 0,
+            started: false,
+            gone: false,
+            held: Stash::new(alloc, setup.stash)?,
+            slice: Slice::new(alloc, setup.pages.len())?,
+            ended: vec![in alloc; false; left.len()]?,
+            left,
+            cursor: 0,
+            pending: None,
+            last: Users::new(alloc, setup.users, submitters, setup.workers, worker)?,
+            taken: Vec::with_capacity(alloc, room)?,
+            ran: Vec::with_capacity(alloc, room)?,
+        })
+    }
+}
+
+// The numbers of requests of a worker's submitters, by place.
+fn own_sizes(
+    alloc: Global,
+    sizes: &[u32],
+    workers: u32,
+    worker: u32,
+) -> Result<Vec<u32>, AllocError>
+    requires some { 1 ≤ workers }
+    requires few_workers { workers ≤ 16 }
+    requires few_submitters { length sizes.now ≤ MAX_SUBMITTERS }
+    requires is_worker { worker < workers }
+    requires small { All (λ n. n ≤ MAX_REQUESTS) sizes.now }
+    ensures sizes { IfOk result (λ own. AreOwnSizes sizes.now workers worker own.items) }
+    ensures few { IfOk result (λ own. sum own.items ≤ 64000000) }
+{
+    let mut own = Vec::new(alloc);
+    let mut submitter = worker as usize;
+    while submitter < sizes.len() {
+        own.push(sizes[submitter])?;
+        submitter += workers as usize;
+    }
+    Ok(own)
+}
+
+// Whether each page is marked as split.
+fn marks(alloc: Global, pages: &Pages) -> Result<Vec<bool>, AllocError>
+    ensures marks { IfOk result (λ marks. marks.items ≡ marks_of pages.now) }
+    ensures pages { ArePages pages.now }
+{
+    let mut marks = Vec::with_capacity(alloc, pages.len() as usize)?;
+    for page in 0..pages.len() {
+        marks.push(pages.split(page))?;
+    }
+    Ok(marks)
+}

@@ -1,0 +1,113 @@
+ghost use Rattle.std.specs.Prelude.{◌≡◌, ◌<◌, IfOk, IfErr, IsSome, None};
+ghost use Rattle.like_core.specs.declared.worker_state.WorkerState.TheVariants.{Gone};
+ghost use Rattle.like_roles.specs.New.{IsNew, IsPostOf, IsWithin};
+ghost use Rattle.like_roles.specs.Follows.{Follows, IsAskedBy, IsDone, IsServiceOf};
+ghost use Rattle.like_roles.specs.Service.{Service};
+ghost use Rattle.like_roles.specs.Turns.{CanGive, Gives, HasTaken, Pends, TakesNothing, Turns};
+ghost use Rattle.like_roles.specs.WorkerView.{IsSliceInSplit};
+
+use crate::desk::Desk;
+use crate::gate::Gate;
+use crate::log::WorkerLog;
+use crate::turn::Turn;
+use like_core::Post;
+use like_requests::{Setup, Taken};
+use std::alloc::Global;
+use std::marker::Model;
+
+/// A worker: it takes the requests of its submitters and runs them at its post, phase by phase.
+///
+/// Its submitters are `w`, `w + N`, `w + 2 N`, .. for worker `w` of `N`; place `j` is that of submitter `w + j N`.
+#[derive(Drop)]
+pub struct Worker<P: Post> {
+    post: P,
+    desk: Desk,
+}
+
+impl<P: Post> Model for Worker<P> {
+    ghost use Rattle.like_roles.specs.WorkerView.{WorkerView};
+
+    ghost Value = { WorkerView };
+
+    ghost use Rattle.like_roles.specs.Desk.{view_of, IsSound};
+
+    ghost view = { λ w. view_of (P.view w.post) w.desk };
+
+    ghost invariant = { λ w. IsSound (P.view w.post) w.desk };
+}
+
+/// There is no memory for a worker. The post that was passed comes back.
+#[derive(Drop)]
+pub struct NoWorker<P: Post> {
+    pub post: P,
+}
+
+impl<P: Post> Worker<P> {
+    /// Worker `worker` of a run with this many requests of each submitter. All its room is made here: its turns take no
+    /// memory.
+    pub fn new(
+        alloc: Global,
+        setup: &Setup,
+        sizes: &[u32],
+        worker: u32,
+        post: P,
+    ) -> Result<Worker<P>, NoWorker<P>>
+        requires within { IsWithin setup.now sizes.now }
+        requires is_worker { worker < setup.now.workers }
+        requires post { IsPostOf worker setup.now.pages (P.view post) }
+        ensures new { IfOk result (IsNew setup.now sizes.now worker (P.view post)) }
+        ensures follows { IfOk result
+            (λ worker. (service : Service) → IsServiceOf setup.now.users setup.now.pages sizes.now service → Follows service worker) }
+        ensures post { IfErr result (λ refused. refused.post ≡ post) }
+    {
+        match Desk::new(alloc, setup, sizes, worker) {
+            Ok(desk) => Ok(Worker { post, desk }),
+            Err(_) => Err(NoWorker { post }),
+        }
+    }
+
+    /// Makes the next turn. After `Try` it is completed by `give`.
+    pub fn turn<G: Gate>(&mut self, gate: &G) -> Turn
+        requires { self.old.pending ≡ None }
+        ensures case { Turns self.old result self.new }
+        ensures follows { (service : Service) → Follows service self.old → Follows service self.new }
+        ensures takes { TakesNothing self.old self.new }
+        ensures pending { Pends result self.new }
+        ensures retired { result ≡ Turn.Retired → self.new.post.state ≡ Gone }
+        ensures slice { IsSliceInSplit self.new.post self.new.slice }
+    {
+        self.desk.turn(&mut self.post, gate)
+    }
+
+    /// Completes a turn that answered `Try`, by what was taken from that submitter.
+    pub fn give<G: Gate>(&mut self, gate: &G, taken: Taken) -> Turn
+        requires tries { IsSome self.old.pending }
+        requires next { CanGive self.old taken }
+        ensures case { Gives self.old taken result self.new }
+        ensures follows { (service : Service) → IsAskedBy service self.old taken → Follows service self.old → Follows service self.new }
+        ensures takes { HasTaken self.old taken self.new }
+        ensures settled { self.new.pending ≡ None }
+        ensures slice { IsSliceInSplit self.new.post self.new.slice }
+    {
+        self.desk.give(&mut self.post, gate, taken)
+    }
+
+    /// Takes a worker that is gone apart: what it has done, and its post.
+    pub fn finish(self) -> (WorkerLog, P)
+        requires { self.post.state ≡ Gone }
+        ensures taken { result.0.taken.items ≡ self.taken }
+        ensures ran { result.0.ran.items ≡ self.ran }
+        ensures last { result.0.last ≡ self.last }
+        ensures post { P.view result.1 ≡ self.post }
+        ensures done { (service : Service) → Follows service self → IsDone service self }
+    {
+        let Worker { post, desk } = self;
+        let Desk {
+            last,
+            taken,
+            ran,
+            ..
+        } = desk;
+        (WorkerLog { taken, ran, last }, post)
+    }
+}
