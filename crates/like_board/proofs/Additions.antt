@@ -1,5 +1,5 @@
 -- An addition to a page's word is its events, and keeps what the board shows.
-use Rattle.std.proofs.Common.{◌≡◌, ◌≢◌, ℕ, ◌+◌, ◌-◌, ◌%◌, ◌^◌, ◌<◌, ◌≤◌, ◌==◌, Bool, true, false, ◌&&◌, cond, inl, inr, List, [], ◌∷◌, ◌++◌, All, length, get_or, set, replicate, subst, ap, sym, ◌∙◌, refl, arith}
+use Rattle.std.proofs.Common.{◌≡◌, ◌≢◌, ℕ, ◌+◌, ◌-◌, ◌%◌, ◌^◌, ◌<◌, ◌≤◌, ◌==◌, ◌&&◌, cond, inl, inr, List, ◌++◌, All, length, get_or, set, replicate, subst, ap, sym, ◌∙◌, refl, arith}
 use Rattle.std.specs.List.{sum_by}
 use Rattle.std.proofs.lemmas.Bool.{cases_eq}
 use Rattle.std.proofs.lemmas.List.{length-append, length-replicate}
@@ -7,7 +7,6 @@ use Rattle.std.proofs.lemmas.List.Elements.{All-get_or}
 use mathlib.Core.Option.{some}
 use lib.ListN.{get_elem?}
 use Rattle.like_core.specs.declared.worker_state.WorkerState.TheVariants.{Runs}
-use Rattle.like_core.specs.declared.event.Event.{Event}
 use Rattle.like_core.specs.declared.shown.Shown.TheVariants.{Old}
 use Rattle.like_core.specs.declared.setting.Setting.{Setting}
 use Rattle.like_core.specs.declared.view.WorkerView.{WorkerView}

@@ -1,5 +1,5 @@
 -- Each step is allowed by the rule, and tells what it is said to tell.
-use Rattle.std.proofs.Common.{◌≡◌, ◌≢◌, ℕ, ◌+◌, ◌%◌, ◌^◌, ◌<◌, ◌≤◌, bit_or, List, [], ◌∷◌, ◌++◌, get_or, slice_set, subst, ap, sym, ◌∙◌, refl, arith}
+use Rattle.std.proofs.Common.{◌≡◌, ◌≢◌, ℕ, ◌+◌, ◌%◌, ◌^◌, ◌<◌, bit_or, List, [], ◌∷◌, ◌++◌, get_or, slice_set, subst, ap, sym, ◌∙◌, refl, arith}
 use mathlib.Core.Option.{some}
 use lib.ListN.{get_elem?}
 use Rattle.atomic_table.specs.Table.{Me, keeps, Allows, Splits, Joins}

@@ -1,5 +1,5 @@
 -- A worker's seat is given back to the coordinator, and what the words show where all were.
-use Rattle.std.proofs.Common.{◌≡◌, ◌≢◌, ℕ, zero, suc, ◌+◌, ◌<◌, ◌≤◌, ◌==◌, nat_lt, Bool, true, false, cond, inl, inr, List, [], ◌∷◌, length, get_or, set, count_by, subst, ap, sym, ◌∙◌, refl, eq-eqb, arith}
+use Rattle.std.proofs.Common.{◌≡◌, ◌≢◌, ℕ, zero, suc, ◌+◌, ◌<◌, ◌==◌, nat_lt, cond, inl, inr, List, ◌∷◌, length, get_or, set, subst, ap, sym, ◌∙◌, refl, eq-eqb, arith}
 use Rattle.std.specs.List.{sum_by}
 use Rattle.std.proofs.lemmas.List.Sums.{sum_by-cons}
 use Rattle.std.proofs.lemmas.Bool.{cond-true}
@@ -13,7 +13,7 @@ use Rattle.like_core.specs.declared.view.View.{View}
 use Rattle.like_core.specs.declared.view.View.TheVariants.{Coord, Worker, Spent}
 use Rattle.like_core.specs.State.{CoreState}
 use Rattle.like_core.specs.Views.{added_to, gathered_coord, seats_of}
-use Rattle.like_core.specs.Tallies.{Tallied, paged, left_to, room}
+use Rattle.like_core.specs.Tallies.{paged, left_to, room}
 use Rattle.like_core.specs.Shows.{Shows, ShowsSome, Fits, FitsWorker, FitsCoord}
 use Rattle.like_board.proofs.ViewLists.{within, sum_two, sum_swap, sum_lone}
 use Rattle.like_board.proofs.Moves.{same_coord, has_seat, once_at_most}

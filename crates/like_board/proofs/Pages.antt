@@ -1,5 +1,5 @@
 -- A step on a page's word keeps what the board shows.
-use Rattle.std.proofs.Common.{◌≡◌, ◌≢◌, ℕ, ◌+◌, ◌<◌, true, inl, inr, List, [], length, get_or, set, subst, ap, sym, ◌∙◌, refl, arith}
+use Rattle.std.proofs.Common.{◌≡◌, ◌≢◌, ℕ, ◌+◌, ◌<◌, true, inl, inr, List, [], length, get_or, set, ap, sym, ◌∙◌, refl, arith}
 use Rattle.std.proofs.Math.ListN.{length-set}
 use Rattle.std.proofs.lemmas.List.{get_or-set_same, get_or-set_other}
 use Rattle.std.proofs.lemmas.Bool.{cases_eq}
@@ -15,7 +15,7 @@ use Rattle.like_core.specs.Numbers.{CoordSees}
 use Rattle.like_core.specs.State.{CoreState, Label, labelled, numbers}
 use Rattle.like_core.specs.ShownWord.{shown_word}
 use Rattle.like_core.specs.Views.{seats_of}
-use Rattle.like_core.specs.Shows.{Shows, Fits, FitsWorker, FitsCoord}
+use Rattle.like_core.specs.Shows.{Shows, Fits, FitsWorker}
 use Rattle.like_board.proofs.Moves.{if_some, joined_other, worker_other, worker_steps}
 
 -- the state with these unmerged and applied likes

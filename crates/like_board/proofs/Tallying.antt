@@ -1,7 +1,6 @@
 -- What the views have added, and may still add, after a step that adds nothing.
-use Rattle.std.proofs.Common.{◌≡◌, ℕ, ◌+◌, ◌*◌, ◌<◌, ◌≤◌, List, [], ◌∷◌, ◌++◌, length, set, ap, sym, ◌∙◌, refl, arith}
+use Rattle.std.proofs.Common.{◌≡◌, ℕ, ◌<◌, List, [], ◌∷◌, ◌++◌, length, set, ap, sym, ◌∙◌, refl, arith}
 use Rattle.std.proofs.lemmas.List.Sums.{sum_by_push}
-use Rattle.std.specs.List.{sum_by}
 use mathlib.Core.Option.{some}
 use lib.ListN.{get_elem?}
 use Rattle.like_core.specs.declared.setting.Setting.{Setting}

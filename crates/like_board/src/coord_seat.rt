@@ -20,7 +20,6 @@ pub struct CoordSeat {
     ghost is_coord: { seat.me ≡ (Coord (coord_of seat.me.0), []) },
     ghost saw: { packed (fields_of seen) ≡ (coord_of seat.me.0).word },
     ghost sized: { seat.table_id.words ≡ length (coord_of seat.me.0).setting.counts + 1 },
-    ghost marked: { length (coord_of seat.me.0).setting.marks ≡ length (coord_of seat.me.0).setting.counts },
     ghost made_all: { (coord_of seat.me.0).made ≡ (coord_of seat.me.0).setting.workers },
     ghost none_back: { (coord_of seat.me.0).joined ≡ [] },
     ghost showed: { option_map (λ _. coord_sight_of (fields_of seen)) (coord_of seat.me.0).last ≡ (coord_of seat.me.0).last },

@@ -1,5 +1,5 @@
 -- An addition to a page's count as events of the core: a like, or likes of a slice and their merge.
-use Rattle.std.proofs.Common.{◌≡◌, ℕ, zero, suc, ◌+◌, ◌-◌, ◌^◌, ◌<◌, Bool, true, false, cond, List, [], ◌∷◌, ◌++◌, length, get_or, replicate, subst, ap, sym, ◌∙◌, refl, eq-eqb, arith}
+use Rattle.std.proofs.Common.{◌≡◌, ℕ, zero, suc, ◌+◌, ◌^◌, ◌<◌, Bool, true, false, cond, List, [], ◌∷◌, ◌++◌, length, get_or, replicate, subst, ap, sym, ◌∙◌, refl, eq-eqb, arith}
 use Rattle.std.proofs.lemmas.Bool.{cond-false}
 use Rattle.like_core.specs.declared.worker_state.WorkerState.TheVariants.{Runs}
 use Rattle.like_core.specs.declared.event.Event.{Event}

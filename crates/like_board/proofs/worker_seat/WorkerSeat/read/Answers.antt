@@ -1,4 +1,4 @@
-use Rattle.std.proofs.Common.{◌≡◌, ap, arith}
+use Rattle.std.proofs.Common.{ap, arith}
 use Rattle.atomic_table.specs.Seated.{TableId}
 use Rattle.like_board.proofs.Allowed.{reading}
 use Rattle.like_board.proofs.worker_seat.WorkerSeat.read.Goals as goal
