@@ -1,0 +1,35 @@
+-- The rows of a worked example: three likes by two users of whom one has a last like.
+use Rattle.std.proofs.Common.{◌≡◌, ℕ, [], ◌∷◌, None, Some, false, refl}
+use Rattle.std.specs.Prelude.{codes, decimal}
+use Rattle.like_requests.specs.Pages.{Page}
+use Rattle.like_roles.specs.declared.log.Ran.{Ran}
+use Rattle.like_roles.specs.declared.reply.Reply.TheVariants.{Liked}
+use Rattle.like_replies.specs.Collected.{answer_at}
+use Rattle.like_replies.specs.Entries.{answer_of, entries_of}
+use Rattle.like_replies.specs.Rows.{report_rows}
+
+abbrev page_a : Page
+page_a = record { name = codes "a"; count = 10; split = false }
+
+plain_rows : report_rows (page_a ∷ []) (record { replies = (record { phase = 0; stashed = false; reply = Liked } ∷ []) ∷ []; counts = 13 ∷ []; last = None ∷ Some 0 ∷ [] })
+    ≡ (codes "row" ∷ codes "id" ∷ codes "number" ∷ codes "phase" ∷ codes "answer" ∷ codes "page" ∷ codes "count" ∷ [])
+    ∷ (codes "reply" ∷ decimal 0 ∷ decimal 1 ∷ decimal 0 ∷ codes "liked" ∷ [] ∷ [] ∷ [])
+    ∷ (codes "page" ∷ decimal 0 ∷ [] ∷ [] ∷ [] ∷ codes "a" ∷ decimal 13 ∷ [])
+    ∷ (codes "user" ∷ decimal 1 ∷ [] ∷ [] ∷ [] ∷ codes "a" ∷ [] ∷ [])
+    ∷ []
+plain_rows = refl
+
+-- a like by a submitter, as it ran
+abbrev ran : ℕ → ℕ → Ran
+ran submitter number = record { phase = 1; submitter = submitter; number = number; stashed = false; reply = Liked }
+
+-- the entries of a request
+of_request : entries_of 1 2 (ran 0 2 ∷ ran 1 2 ∷ ran 1 1 ∷ ran 1 2 ∷ []) ≡ ran 1 2 ∷ ran 1 2 ∷ []
+of_request = refl
+
+-- numbers count from 1
+of_number_1 : answer_at ((answer_of (ran 0 1) ∷ []) ∷ []) 0 1 ≡ Some (answer_of (ran 0 1))
+of_number_1 = refl
+
+of_number_0 : answer_at ((answer_of (ran 0 1) ∷ []) ∷ []) 0 0 ≡ None
+of_number_0 = refl

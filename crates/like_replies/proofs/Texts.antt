@@ -1,0 +1,98 @@
+-- How the text of rows grows, and what was written of it.
+use Rattle.std.proofs.Common.{◌≡◌, ℕ, suc, ◌+◌, List, [], ◌∷◌, ◌++◌, length, map, Option, None, Some, sym, ap, ◌∙◌, arith, append_assoc, append-nil, zero-add, get_or, subst, ◌<◌, All}
+use Rattle.std.proofs.KnownBytes.{Appends-trans, Appends-kept}
+use Rattle.std.proofs.lemmas.Grind.{flat_map-append}
+use Rattle.std.proofs.lemmas.List.{length-map, map-append}
+use Rattle.std.proofs.Math.ListN.{get_or-map}
+use Rattle.std.proofs.lemmas.List.Elements.{filter_map-append}
+use Rattle.std.specs.Io.KnownBytes.{Appends, Keeps, append_known}
+use Rattle.std.specs.List.{enumerate_from, filter_map, flat_map}
+use Rattle.std.proofs.Common.{option_map}
+use Rattle.csv.specs.Writing.{default_writer, row_text}
+use Rattle.like_requests.specs.Pages.{Page}
+use Rattle.like_replies.specs.declared.answer.Answer.{Answer}
+use Rattle.like_replies.specs.Reported.{Reported}
+use Rattle.like_replies.specs.Rows.{header_row, page_row, page_rows, reply_row, reply_rows, report_text, rows_text, submitter_rows, user_row, user_rows}
+
+-- an element at the end has the place after the others
+pub enumerate_from-push : {X : Type 0} (n : ℕ) (xs : List X) (x : X) → enumerate_from n (xs ++ x ∷ []) ≡ enumerate_from n xs ++ (n + length xs, x) ∷ []
+enumerate_from-push {X} n [] x = let e : n ≡ n + 0 = omega arith in ap (λ k. (let p : ℕ × X = (k, x) in p) ∷ []) e
+enumerate_from-push {X} n (y ∷ ys) x =
+    let e : n + 1 + length ys ≡ n + suc (length ys) = omega arith in
+    ap (λ r. (let p : ℕ × X = (n, y) in p) ∷ r) (enumerate_from-push (n + 1) ys x ∙ ap (λ k. enumerate_from (n + 1) ys ++ (let p : ℕ × X = (k, x) in p) ∷ []) e)
+
+-- the text of one more row
+pub rows_text-push : (rows : List (List (List ℕ))) (row : List (List ℕ)) → rows_text (rows ++ row ∷ []) ≡ rows_text rows ++ row_text default_writer row
+rows_text-push rows row = flat_map-append (row_text default_writer) rows (row ∷ []) ∙ ap (λ t. rows_text rows ++ t) (append-nil (row_text default_writer row))
+
+-- the row of one more answer
+pub submitter_rows-push : (pages : List Page) (submitter : ℕ) (answers : List Answer) (a : Answer)
+    → submitter_rows pages submitter (answers ++ a ∷ []) ≡ submitter_rows pages submitter answers ++ reply_row pages submitter (1 + length answers) a ∷ []
+submitter_rows-push pages submitter answers a =
+    ap (map (λ p. reply_row pages submitter p.0 p.1)) (enumerate_from-push 1 answers a) ∙ map-append (λ p. reply_row pages submitter p.0 p.1) (enumerate_from 1 answers) ((1 + length answers, a) ∷ [])
+
+-- the row of one more page
+pub page_rows-push : (pages : List Page) (counts : List ℕ) (count : ℕ) → page_rows pages (counts ++ count ∷ []) ≡ page_rows pages counts ++ page_row pages (length counts) count ∷ []
+page_rows-push pages counts count =
+    let e : enumerate_from 0 (counts ++ count ∷ []) ≡ enumerate_from 0 counts ++ (length counts, count) ∷ [] = simp (enumerate_from-push, zero-add) in
+    ap (map (λ p. page_row pages p.0 p.1)) e ∙ map-append (λ p. page_row pages p.0 p.1) (enumerate_from 0 counts) ((length counts, count) ∷ [])
+
+-- the row of one more user with a like
+pub user_rows-push_some : (pages : List Page) (last : List (Option ℕ)) (page : ℕ) → user_rows pages (last ++ Some page ∷ []) ≡ user_rows pages last ++ user_row pages (length last) page ∷ []
+user_rows-push_some pages last page =
+    let e : enumerate_from 0 (last ++ Some page ∷ []) ≡ enumerate_from 0 last ++ (length last, Some page) ∷ [] = simp (enumerate_from-push, zero-add) in
+    ap (filter_map (λ p. option_map (user_row pages p.0) p.1)) e ∙ filter_map-append (λ p. option_map (user_row pages p.0) p.1) (enumerate_from 0 last) ((length last, Some page) ∷ [])
+
+-- a user without a like has no row
+pub user_rows-push_none : (pages : List Page) (last : List (Option ℕ)) → user_rows pages (last ++ None ∷ []) ≡ user_rows pages last
+user_rows-push_none pages last =
+    let e : enumerate_from 0 (last ++ None ∷ []) ≡ enumerate_from 0 last ++ (length last, None) ∷ [] = simp (enumerate_from-push, zero-add) in
+    ap (filter_map (λ p. option_map (user_row pages p.0) p.1)) e ∙ filter_map-append (λ p. option_map (user_row pages p.0) p.1) (enumerate_from 0 last) ((length last, None) ∷ []) ∙ append-nil _
+
+-- the rows of one more submitter
+pub reply_rows-push : (pages : List Page) (replies : List (List Answer)) (answers : List Answer)
+    → reply_rows pages (replies ++ answers ∷ []) ≡ reply_rows pages replies ++ submitter_rows pages (length replies) answers
+reply_rows-push pages replies answers =
+    let e : enumerate_from 0 (replies ++ answers ∷ []) ≡ enumerate_from 0 replies ++ (length replies, answers) ∷ [] = simp (enumerate_from-push, zero-add) in
+    ap (flat_map (λ p. submitter_rows pages p.0 p.1)) e ∙ flat_map-append (λ p. submitter_rows pages p.0 p.1) (enumerate_from 0 replies) ((length replies, answers) ∷ []) ∙ ap (λ r. reply_rows pages replies ++ r) (append-nil (submitter_rows pages (length replies) answers))
+
+-- rows were written, and then one more
+pub Appends-row : (a b c : Option (List ℕ)) (rows : List (List (List ℕ))) (row : List (List ℕ)) → Appends a b (rows_text rows) → Appends b c (row_text default_writer row) → Appends a c (rows_text (rows ++ row ∷ []))
+Appends-row a b c rows row p q = rw (rows_text-push rows row) (Appends-trans a b c (rows_text rows) (row_text default_writer row) p q)
+
+-- rows were written, and then more rows
+pub Appends-rows : (a b c : Option (List ℕ)) (rows more : List (List (List ℕ))) → Appends a b (rows_text rows) → Appends b c (rows_text more) → Appends a c (rows_text (rows ++ more))
+Appends-rows a b c rows more p q = rw (flat_map-append (row_text default_writer) rows more) (Appends-trans a b c (rows_text rows) (rows_text more) p q)
+
+-- with no text on its way, the writer's bytes are all
+pub Appends-from_empty : (a b : Option (List ℕ)) (text : List ℕ) → Appends (append_known a []) b text → Appends a b text
+Appends-from_empty None b text p = tt
+Appends-from_empty (Some x) None text p = absurd p
+Appends-from_empty (Some x) (Some y) text p = p ∙ ap (λ l. l ++ text) (append-nil x)
+
+-- the text on its way was handed on
+pub Appends-handed : (a b c : Option (List ℕ)) (sheet text : List ℕ) → Appends a (append_known b sheet) text → Appends b c sheet → Appends a c text
+Appends-handed None b c sheet text p q = tt
+Appends-handed (Some x) None c sheet text p q = absurd p
+Appends-handed (Some x) (Some y) None sheet text p q = absurd q
+Appends-handed (Some x) (Some y) (Some z) sheet text p q = q ∙ p
+
+-- the header, the requests, the pages and the users were written, the rest was handed on, and the writer was flushed
+pub Appends-report : (pages : List Page) (r : Reported) (start a b known handed done : Option (List ℕ)) (sheet : List ℕ)
+    → Appends (append_known start []) a (row_text default_writer header_row) → Appends a b (rows_text (reply_rows pages r.replies)) → Appends b (append_known known sheet) (rows_text (page_rows pages r.counts ++ user_rows pages r.last))
+    → Appends known handed sheet → Keeps handed done → Appends start done (report_text pages r)
+Appends-report pages r start a b known handed done sheet header replies others given flushed =
+    let rest : List (List (List ℕ)) = page_rows pages r.counts ++ user_rows pages r.last in
+    let rows = Appends-rows a b (append_known known sheet) (reply_rows pages r.replies) rest replies others in
+    let all = Appends-trans (append_known start []) a (append_known known sheet) (row_text default_writer header_row) (rows_text (reply_rows pages r.replies ++ rest)) header rows in
+    let text : List ℕ = row_text default_writer header_row ++ rows_text (reply_rows pages r.replies ++ rest) in
+    let out = Appends-handed start known handed sheet text (Appends-from_empty start (append_known known sheet) text all) given in
+    let same : text ≡ report_text pages r = ap (λ rows. row_text default_writer header_row ++ rows_text rows) (sym (append_assoc (reply_rows pages r.replies) (page_rows pages r.counts) (user_rows pages r.last))) in
+    rw (← same) (Appends-kept start handed done text out flushed)
+
+-- a fact of each image holds of the image of an element
+pub All-image : {X Y : Type 0} (P : Y → Type 0) (f : X → Y) (xs : List X) (i : ℕ) (x : X) → All P (map f xs) → i < length xs → x ≡ get_or xs i x → P (f x)
+All-image P f xs i x all h is =
+    let n : i < length (map f xs) = simp length-map h in
+    let e : get_or (map f xs) i (f x) ≡ f x = get_or-map f xs i x ∙ ap f (sym is) in
+    subst P e (all i (f x) n)

@@ -1,0 +1,5 @@
+pub mod Collected
+pub mod Entries
+pub mod Reported
+pub mod Rows
+pub mod Slots

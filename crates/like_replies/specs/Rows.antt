@@ -1,0 +1,108 @@
+-- The rows of a report, and their text.
+use Rattle.std.specs.Prelude.{◌≡◌, ◌≢◌, ◌<◌, ⊤, ℕ, All, length, List, [], ◌∷◌, ◌++◌, map, codes, decimal, slice_get, Option, option_map}
+use Rattle.std.specs.List.{enumerate_from, filter_map, flat_map}
+use Rattle.std.specs.Option.{ForSome, option_map_or}
+use Rattle.csv.specs.Writing.{default_writer, row_text}
+use Rattle.like_requests.specs.Pages.{Page}
+use Rattle.like_requests.specs.declared.verdict.Verdict.{Verdict}
+use Rattle.like_requests.specs.declared.verdict.Verdict.TheVariants.{Accepted, UnknownUser, OtherHome, UnknownPage}
+use Rattle.like_roles.specs.declared.reply.Reply.{Reply}
+use Rattle.like_roles.specs.declared.reply.Reply.TheVariants.{Liked, Seen, Refused}
+use Rattle.like_replies.specs.declared.answer.Answer.{Answer}
+use Rattle.like_replies.specs.Reported.{Reported}
+
+-- the name of a page
+abbrev pub name_of : List Page → ℕ → List ℕ
+name_of pages page = option_map_or (λ p. p.name) (slice_get pages page) []
+
+-- the word of a refusal; an accepted request is not refused
+abbrev pub verdict_word : Verdict → List ℕ
+verdict_word Accepted = []
+verdict_word UnknownUser = codes "unknown-user"
+verdict_word OtherHome = codes "other-home"
+verdict_word UnknownPage = codes "unknown-page"
+
+abbrev pub answer_word : Reply → List ℕ
+answer_word Liked = codes "liked"
+answer_word (Seen last count) = codes "seen"
+answer_word (Refused verdict) = verdict_word verdict
+
+-- the name of the page that a reply shows as the last liked one
+abbrev pub shown_page : List Page → Reply → List ℕ
+shown_page pages Liked = []
+shown_page pages (Seen last count) = option_map_or (name_of pages) last []
+shown_page pages (Refused verdict) = []
+
+-- the count that a reply shows
+abbrev pub shown_count : Reply → List ℕ
+shown_count Liked = []
+shown_count (Seen last count) = decimal count
+shown_count (Refused verdict) = []
+
+abbrev pub header_row : List (List ℕ)
+header_row = codes "row" ∷ codes "id" ∷ codes "number" ∷ codes "phase" ∷ codes "answer" ∷ codes "page" ∷ codes "count" ∷ []
+
+-- the row of a submitter's request with this number
+abbrev pub reply_row : List Page → ℕ → ℕ → Answer → List (List ℕ)
+reply_row pages submitter number a =
+    codes "reply" ∷ decimal submitter ∷ decimal number ∷ decimal a.phase ∷ answer_word a.reply ∷ shown_page pages a.reply ∷ shown_count a.reply ∷ []
+
+-- the row of a page with its final count
+abbrev pub page_row : List Page → ℕ → ℕ → List (List ℕ)
+page_row pages page count =
+    codes "page" ∷ decimal page ∷ [] ∷ [] ∷ [] ∷ name_of pages page ∷ decimal count ∷ []
+
+-- the row of a user whose last like is of this page
+abbrev pub user_row : List Page → ℕ → ℕ → List (List ℕ)
+user_row pages user page = codes "user" ∷ decimal user ∷ [] ∷ [] ∷ [] ∷ name_of pages page ∷ [] ∷ []
+
+-- the rows of a submitter's requests, by their numbers from 1
+abbrev pub submitter_rows : List Page → ℕ → List Answer → List (List (List ℕ))
+submitter_rows pages submitter answers = map (λ p. reply_row pages submitter p.0 p.1) (enumerate_from 1 answers)
+
+-- the rows of all requests, by submitter and number
+abbrev pub reply_rows : List Page → List (List Answer) → List (List (List ℕ))
+reply_rows pages replies = flat_map (λ p. submitter_rows pages p.0 p.1) (enumerate_from 0 replies)
+
+-- the rows of the pages, by their numbers from 0
+abbrev pub page_rows : List Page → List ℕ → List (List (List ℕ))
+page_rows pages counts = map (λ p. page_row pages p.0 p.1) (enumerate_from 0 counts)
+
+-- the rows of the users with an accepted like, by their numbers from 0
+abbrev pub user_rows : List Page → List (Option ℕ) → List (List (List ℕ))
+user_rows pages last = filter_map (λ p. option_map (user_row pages p.0) p.1) (enumerate_from 0 last)
+
+-- the rows of a report: the header, the requests, the pages, the users
+abbrev pub report_rows : List Page → Reported → List (List (List ℕ))
+report_rows pages r = header_row ∷ (reply_rows pages r.replies ++ page_rows pages r.counts ++ user_rows pages r.last)
+
+-- the text of rows
+abbrev pub rows_text : List (List (List ℕ)) → List ℕ
+rows_text rows = flat_map (row_text default_writer) rows
+
+-- the text of a report
+abbrev pub report_text : List Page → Reported → List ℕ
+report_text pages r = rows_text (report_rows pages r)
+
+-- the page that a reply shows is there
+abbrev pub ShowsThere : List Page → Reply → Type 0
+ShowsThere pages Liked = ⊤
+ShowsThere pages (Seen last count) = ForSome last (λ page. page < length pages)
+ShowsThere pages (Refused verdict) = ⊤
+
+-- no accepted request is refused
+abbrev pub IsAnswer : Reply → Type 0
+IsAnswer Liked = ⊤
+IsAnswer (Seen last count) = ⊤
+IsAnswer (Refused verdict) = verdict ≢ Accepted
+
+-- a reply can be shown
+pub record IsShowable (pages : List Page) (reply : Reply) : Type 0 where
+  pub there : ShowsThere pages reply
+  pub answer : IsAnswer reply
+
+-- a report counts each page, and shows pages that are there and replies that can be
+pub record IsWritable (pages : List Page) (r : Reported) : Type 0 where
+  pub counted : length r.counts ≡ length pages
+  pub shown : All (All (λ a. IsShowable pages a.reply)) r.replies
+  pub liked : All (λ last. ForSome last (λ page. page < length pages)) r.last

@@ -1,0 +1,72 @@
+-- How answers are gathered: a place for each request, empty or with its answer.
+use Rattle.std.specs.Prelude.{◌≡◌, ◌≢◌, ℕ, zero, suc, ◌-◌, ◌<◌, ◌≤◌, All, List, [], ◌∷◌, ◌++◌, length, map, slice_index_or, slice_set, Option, Some, None, ⊤}
+use Rattle.std.specs.Option.{option_to_list}
+use Rattle.like_roles.specs.declared.log.Ran.{Ran}
+use Rattle.like_replies.specs.declared.answer.Answer.{Answer}
+use Rattle.like_replies.specs.declared.collect_fault.CollectFault.{CollectFault}
+use Rattle.like_replies.specs.declared.collect_fault.CollectFault.TheVariants.{Stranger, Double, Missing, Memory}
+use Rattle.like_replies.specs.Entries.{IsRequest, answer_of, entries_of}
+
+-- what is at the place of a request, if there is such a place
+abbrev pub slot_at : List (List (Option Answer)) → ℕ → ℕ → Option Answer
+slot_at slots submitter zero = None
+slot_at slots submitter (suc place) = slice_index_or (slice_index_or slots submitter []) place None
+
+-- there is a place for this request
+pub record IsSlot (slots : List (List (Option Answer))) (submitter number : ℕ) : Type 0 where
+  pub there : submitter < length slots
+  pub from_one : 1 ≤ number
+  pub within : number ≤ length (slice_index_or slots submitter [])
+
+-- an answer at the place of a request
+abbrev pub with_answer : List (List (Option Answer)) → ℕ → ℕ → Answer → List (List (Option Answer))
+with_answer slots submitter number answer = slice_set slots submitter (slice_set (slice_index_or slots submitter []) (number - 1) (Some answer))
+
+-- the answer of an entry is put at its place, which was empty
+pub record Puts (old : List (List (Option Answer))) (e : Ran) (new : List (List (Option Answer))) : Type 0 where
+  pub slot : IsSlot old e.submitter e.number
+  pub empty : slot_at old e.submitter e.number ≡ None
+  pub is : new ≡ with_answer old e.submitter e.number (answer_of e)
+
+-- an entry has no place, or its place is not empty
+abbrev pub Refuses : List (List (Option Answer)) → Ran → CollectFault → Type 0
+Refuses slots e (Stranger submitter number) = (submitter ≡ e.submitter) × (number ≡ e.number) × ¬ IsSlot slots e.submitter e.number
+Refuses slots e (Double submitter number) = (submitter ≡ e.submitter) × (number ≡ e.number) × IsSlot slots e.submitter e.number × (slot_at slots e.submitter e.number ≢ None)
+Refuses slots e (Missing submitter number) = ⊥
+Refuses slots e Memory = ⊥
+
+-- the places hold the answers of these entries, one at most for each request, and nothing else
+pub record HoldsAll (sizes : List ℕ) (entries : List Ran) (slots : List (List (Option Answer))) : Type 0 where
+  pub sized : map length slots ≡ sizes
+  pub known : All (λ e. IsRequest sizes e.submitter e.number) entries
+  pub each : (submitter number : ℕ) → map answer_of (entries_of submitter number entries) ≡ option_to_list (slot_at slots submitter number)
+
+-- the place of this number is the first of a row that is empty
+pub record IsFirstEmptyIn (row : List (Option Answer)) (number : ℕ) : Type 0 where
+  pub answers : List Answer
+  pub rest : List (Option Answer)
+  pub parts : row ≡ map Some answers ++ None ∷ rest
+  pub is_number : number ≡ suc (length answers)
+
+-- why a submitter's row does not give its answers
+abbrev pub IsRowFault : ℕ → List (Option Answer) → CollectFault → Type 0
+IsRowFault of row (Missing submitter number) = (submitter ≡ of) × IsFirstEmptyIn row number
+IsRowFault of row Memory = ⊤
+IsRowFault of row (Stranger submitter number) = ⊥
+IsRowFault of row (Double submitter number) = ⊥
+
+-- the place of this request is the first that is empty
+pub record IsFirstEmpty (slots : List (List (Option Answer))) (submitter number : ℕ) : Type 0 where
+  pub rows : List (List Answer)
+  pub row : List (Option Answer)
+  pub rest : List (List (Option Answer))
+  pub parts : slots ≡ map (map Some) rows ++ row ∷ rest
+  pub is_submitter : submitter ≡ length rows
+  pub empty : IsFirstEmptyIn row number
+
+-- why the places do not give all answers
+abbrev pub IsSlotsFault : List (List (Option Answer)) → CollectFault → Type 0
+IsSlotsFault slots (Missing submitter number) = IsFirstEmpty slots submitter number
+IsSlotsFault slots Memory = ⊤
+IsSlotsFault slots (Stranger submitter number) = ⊥
+IsSlotsFault slots (Double submitter number) = ⊥

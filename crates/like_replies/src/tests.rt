@@ -1,0 +1,2 @@
+mod collecting;
+mod writing;

@@ -1,0 +1,217 @@
+//! The text of a report, on a writer in memory and on one that fails.
+ghost use Rattle.std.specs.Prelude.{◌≡◌, List, ◌∷◌, [], IfOk, false, length, map};
+ghost use Rattle.like_requests.specs.Pages.{Page};
+ghost use Rattle.like_roles.specs.declared.reply.Reply.TheVariants.{Refused};
+ghost use Rattle.like_replies.specs.Reported.{Reported, reported};
+ghost use Rattle.like_replies.specs.Rows.{IsWritable};
+
+use crate::{Answer, Replies, Report, WriteFault, write_report};
+use like_requests::{Pages, Verdict, read_pages};
+use like_roles::Reply;
+use std::alloc::{AllocError, Global};
+use std::io;
+use std::io::{ErrorKind, Write};
+use std::process::Abort;
+use std::test::Fail;
+
+// The page of a file with one.
+fn one_page(rt: &impl Abort, alloc: Global, text: &str) -> Pages
+    ensures { length result ≡ 1 }
+{
+    let Ok(pages) = read_pages(alloc, text.as_bytes()) else {
+        panic!(rt; "no pages");
+    };
+    assert_eq!(rt; pages.len(), 1);
+    pages
+}
+
+// A report on one page.
+fn report(
+    alloc: Global,
+    rows: Vec<Vec<Answer>>,
+    count: u64,
+    last: Vec<Option<u32>>,
+    phases: u32,
+) -> Result<Report, AllocError>
+    ensures { IfOk result (λ r. let shown : Reported = record { replies = map (λ row. row.items) rows.items; counts = count ∷ []; last = last.items } in reported r ≡ shown) }
+{
+    Ok(Report {
+        logs: Vec::new(alloc),
+        replies: Replies { rows },
+        counts: vec![in alloc; count]?,
+        last,
+        phases,
+    })
+}
+
+// An answer of phase 0.
+fn refused(verdict: Verdict) -> Answer
+    ensures { result ≡ record { phase = 0; stashed = false; reply = Refused verdict } }
+{
+    Answer {
+        phase: 0,
+        stashed: false,
+        reply: Reply::Refused(verdict),
+    }
+}
+
+// The report on four requests that are refused.
+fn verdicts_report(alloc: Global) -> Result<Report, AllocError>
+    ensures { IfOk result (λ r. (pages : List Page) → length pages ≡ 1 → IsWritable pages (reported r)) }
+{
+    let first = vec![in alloc;
+        refused(Verdict::UnknownUser),
+        refused(Verdict::OtherHome),
+        refused(Verdict::UnknownPage),
+        refused(Verdict::UnknownUser),
+    ]?;
+    let rows = vec![in alloc; first, Vec::new(alloc)]?;
+    let last = vec![in alloc; None, None]?;
+    report(alloc, rows, 10, last, 0)
+}
+
+// The report on a like.
+fn like_report(alloc: Global) -> Result<Report, AllocError>
+    ensures { IfOk result (λ r. (pages : List Page) → length pages ≡ 1 → IsWritable pages (reported r)) }
+{
+    let liked = Answer {
+        phase: 0,
+        stashed: false,
+        reply: Reply::Liked,
+    };
+    let first = vec![in alloc; liked]?;
+    let rows = vec![in alloc; first]?;
+    let last = vec![in alloc; Some(0)]?;
+    report(alloc, rows, 1, last, 0)
+}
+
+// The report on a like in phase 1, and on a look that waited for phase 2.
+fn stashed_report(alloc: Global) -> Result<Report, AllocError>
+    ensures { IfOk result (λ r. (pages : List Page) → length pages ≡ 1 → IsWritable pages (reported r)) }
+{
+    let liked = Answer {
+        phase: 1,
+        stashed: false,
+        reply: Reply::Liked,
+    };
+    let seen = Answer {
+        phase: 2,
+        stashed: true,
+        reply: Reply::Seen {
+            last: Some(0),
+            count: 11,
+        },
+    };
+    let first = vec![in alloc; liked, seen]?;
+    let rows = vec![in alloc; first]?;
+    let last = vec![in alloc; Some(0), None]?;
+    report(alloc, rows, 11, last, 4)
+}
+
+// Asserts that what was written is the header row and these.
+fn assert_rows(rt: &impl Abort, text: &[u8], rows: &str) {
+    let header = "row,id,number,phase,answer,page,count\n".as_bytes();
+    assert!(rt; text.starts_with(header));
+    let Some(body) = text.get(header.len()..) else {
+        panic!(rt; "no row");
+    };
+    assert_eq!(rt; body, rows.as_bytes());
+}
+
+#[test]
+fn verdicts(rt: HostRuntime) -> Result<(), Fail> {
+    let pages = one_page(&rt, rt.alloc(), "name,count,split\na,10,no\n");
+    let mut out = Vec::new(rt.alloc());
+    let report = verdicts_report(rt.alloc())?;
+    write_report(rt.alloc(), &report, &pages, &mut out)?;
+    assert_rows(
+        &rt,
+        &out,
+        "reply,0,1,0,unknown-user,,\nreply,0,2,0,other-home,,\nreply,0,3,0,unknown-page,,\nreply,0,4,0,unknown-user,,\npage,0,,,,a,10\n",
+    );
+    Ok(())
+}
+
+#[test]
+fn quoted_names(rt: HostRuntime) -> Result<(), Fail> {
+    let file = "name,count,split\r\n\"x,\"\"y\"\"\",0,no\r\n";
+    let pages = one_page(&rt, rt.alloc(), file);
+    let mut out = Vec::new(rt.alloc());
+    let report = like_report(rt.alloc())?;
+    write_report(rt.alloc(), &report, &pages, &mut out)?;
+    assert_rows(
+        &rt,
+        &out,
+        "reply,0,1,0,liked,,\npage,0,,,,\"x,\"\"y\"\"\",1\nuser,0,,,,\"x,\"\"y\"\"\",\n",
+    );
+    Ok(())
+}
+
+#[test]
+fn split_and_stash(rt: HostRuntime) -> Result<(), Fail> {
+    let pages = one_page(&rt, rt.alloc(), "name,count,split\na,10,yes\n");
+    let mut out = Vec::new(rt.alloc());
+    let report = stashed_report(rt.alloc())?;
+    write_report(rt.alloc(), &report, &pages, &mut out)?;
+    assert_rows(
+        &rt,
+        &out,
+        "reply,0,1,1,liked,,\nreply,0,2,2,seen,a,11\npage,0,,,,a,11\nuser,0,,,,a,\n",
+    );
+    Ok(())
+}
+
+// What was in the writer stays there.
+#[test]
+fn appends(rt: HostRuntime) -> Result<(), Fail> {
+    let pages = one_page(&rt, rt.alloc(), "name,count,split\na,10,no\n");
+    let mut out = Vec::from_slice(rt.alloc(), b"before\n")?;
+    let report = like_report(rt.alloc())?;
+    write_report(rt.alloc(), &report, &pages, &mut out)?;
+    let Some(text) = out.as_slice().strip_prefix(b"before\n".as_slice()) else {
+        panic!(rt; "it is gone");
+    };
+    assert_rows(
+        &rt,
+        text,
+        "reply,0,1,0,liked,,\npage,0,,,,a,1\nuser,0,,,,a,\n",
+    );
+    Ok(())
+}
+
+// A writer of up to ten bytes a write, which fails once it was written to so many times.
+#[derive(Drop)]
+struct Full {
+    writes_left: usize,
+}
+
+impl Write for Full {
+    fn write(&mut self, buf: &[u8]) -> io::Result<usize> {
+        if self.writes_left == 0 {
+            return Err(io::Error::from(ErrorKind::Other));
+        }
+        self.writes_left -= 1;
+        Ok(buf.len().min(10))
+    }
+
+    fn flush(&mut self) -> io::Result<()> {
+        Ok(())
+    }
+}
+
+// The report has 108 bytes, which take 11 writes of up to ten.
+#[test]
+fn failing_writes(rt: HostRuntime) -> Result<(), Fail> {
+    let pages = one_page(&rt, rt.alloc(), "name,count,split\na,10,yes\n");
+    let report = stashed_report(rt.alloc())?;
+    for writes in 0..11 {
+        let mut out = Full {
+            writes_left: writes,
+        };
+        let result = write_report(rt.alloc(), &report, &pages, &mut out);
+        assert_eq!(rt; result, Err(WriteFault::Write), "after {writes} writes");
+    }
+    let mut out = Full { writes_left: 11 };
+    assert_eq!(rt; write_report(rt.alloc(), &report, &pages, &mut out), Ok(()));
+    Ok(())
+}
