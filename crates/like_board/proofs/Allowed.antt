@@ -1,27 +1,33 @@
 -- Each step is allowed by the rule, and tells what it is said to tell.
-use Rattle.std.proofs.Common.{◌≡◌, ◌≢◌, ℕ, ◌+◌, ◌%◌, ◌^◌, ◌<◌, bit_or, List, [], ◌∷◌, ◌++◌, get_or, slice_set, subst, ap, sym, ◌∙◌, refl}
+use Rattle.std.proofs.Common.{◌≡◌, ◌≢◌, ℕ, ◌+◌, ◌%◌, ◌^◌, ◌<◌, ◌≤◌, bit_or, List, [], ◌∷◌, ◌++◌, get_or, slice_set, subst, ap, sym, ◌∙◌, refl, arith}
 use mathlib.Core.Option.{some}
 use lib.ListN.{get_elem?}
-use Rattle.atomic_table.specs.Table.{Me, keeps, Allows, Splits}
+use Rattle.atomic_table.specs.Table.{Me, keeps, Allows, Splits, Joins}
 use Rattle.like_core.specs.declared.worker_state.WorkerState.TheVariants.{Gone}
-use Rattle.like_core.specs.declared.event.Event.TheVariants.{Acknowledge, Report, Retire, Announce, Release}
-use Rattle.like_core.specs.declared.shown.Shown.TheVariants.{Done}
+use Rattle.like_core.specs.declared.event.Event.TheVariants.{Acknowledge, Report, Retire, Read, Announce, Release}
+use Rattle.like_core.specs.declared.shown.Shown.TheVariants.{Done, Old, Count}
 use Rattle.like_core.specs.declared.setting.Setting.{Setting}
 use Rattle.like_core.specs.declared.view.WorkerView.{WorkerView}
 use Rattle.like_core.specs.declared.view.CoordView.{CoordView}
 use Rattle.like_core.specs.declared.view.View.{View}
-use Rattle.like_core.specs.declared.view.View.TheVariants.{Coord, Worker}
+use Rattle.like_core.specs.declared.view.View.TheVariants.{Coord, Worker, Spent}
 use Rattle.like_core.specs.Word.{Fields, packed, IsLawful, released}
 use Rattle.like_core.specs.Sights.{sight_of, coord_sight_of}
-use Rattle.like_core.specs.Views.{ViewRunsJoined, ViewRunsSplit, ViewSawEnding, MayAnnounce, MayRelease, fresh, looked_view, answered_view, retired_view, looked_coord, announced_coord, released_coord, made_coord}
-use Rattle.like_core.specs.Shows.{ShowsSome, FitsWorker, FitsCoord, IsStep}
+use Rattle.like_core.specs.Post.{IsFresh, MayAdd, MayRead}
+use Rattle.like_core.specs.Views.{ViewRunsJoined, ViewRunsSplit, ViewSawEnding, MayAnnounce, MayRelease, fresh, looked_view, answered_view, retired_view, added_view, post_of, likes_merged, adding, looked_coord, announced_coord, released_coord, made_coord, gathered_coord}
+use Rattle.like_core.specs.Shows.{ShowsSome, FitsWorker, FitsCoord, IsStep, IsSteps}
+use Rattle.like_core.proofs.Posts.{post_fresh}
 use Rattle.like_board.specs.declared.key.Key.{Key}
 use Rattle.like_board.specs.Known.{worker_of, coord_of}
 use Rattle.like_board.specs.Rule.{setting_of, IsShowing}
-use Rattle.like_board.specs.Plays.{Looked, Surveyed, TellsLook, TellsSurvey, TellsWorker, TellsCoord}
+use Rattle.like_board.specs.Plays.{Looked, Surveyed, TellsLook, TellsSurvey, TellsWorker, TellsCoord, TellsAdd, TellsRead}
 use Rattle.like_board.proofs.Leads.{splits}
 use Rattle.like_board.proofs.WorkerSteps.{looks, acknowledges, reports, retires}
 use Rattle.like_board.proofs.CoordSteps.{surveys, announces, releases}
+use Rattle.like_board.proofs.Tallying.{tallied_made}
+use Rattle.like_board.proofs.Additions.{adds}
+use Rattle.like_board.proofs.Readings.{reads}
+use Rattle.like_board.proofs.Gathering.{gathers}
 
 -- the setting in a worker's view is the board's
 worker_setting : (z : Setting) (words : List ℕ) (views : List View) (place : ℕ) (v : WorkerView) → ShowsSome z words views → get_elem? views place ≡ some (Worker v) → v.setting ≡ z
@@ -172,8 +178,72 @@ making {S} key id v is room = λ st shows at.
     let same = coord_setting z st.words st.views id c shows here in
     let P : Setting → Type 0 = λ y. c.made < y.workers in
     let Q : Setting → Type 0 = λ y. ShowsSome z st.words (slice_set st.views id (Coord (made_coord c)) ++ Worker (fresh y c.made) ∷ []) in
+    let below : c.made < z.workers = subst P same room in
+    let few = shows.shows.setting.few_workers in
     subst Q (sym same) (record {
       state = shows.state;
       reachable = shows.reachable;
-      shows = splits z shows.state st.words st.views id c shows.shows here (subst P same room);
+      shows = splits z shows.state st.words st.views id c shows.shows here below;
+      tallied = tallied_made z shows.state st.views id c here (omega arith) shows.tallied;
     })
+
+pub adding_to : {S : Type 0} (key : Key) (slots id : ℕ) (me : Me S View) (page n : ℕ) → me ≡ (Worker (worker_of me.0), []) → MayAdd (post_of (worker_of me.0)) page n → Allows (IsShowing key) slots id me (page + 1) (λ k. (k + n) % 2 ^ 64) (λ found after. ((q : ℕ) → page + 1 ≡ q + 1 → TellsAdd q n me.0 found after.0) × (after.1 ≡ []))
+adding_to {S} key slots id me page n is may = λ st shows _ at _.
+    let z = setting_of key in
+    let v : WorkerView = worker_of me.0 in
+    let w : WorkerView = added_view v page n in
+    let found : ℕ = get_or st.words (page + 1) 0 in
+    let here : get_elem? st.views id ≡ some (Worker v) = at ∙ ap (λ (m : Me S View). some m.0) is in
+    let same = worker_setting z st.words st.views id v shows here in
+    let r = adds z st.words st.views id v page n shows here may in
+    let told : TellsAdd page n me.0 found (Worker w) =
+    record {
+      view = refl;
+      own = r.2;
+      step = subst (λ (y : Setting). IsSteps y (likes_merged v page n) (adding v page) (Old found) (Worker v) (Worker w)) (sym same) r.0;
+    }
+    in (
+      Worker w,
+      keeps,
+      tt,
+      r.1,
+      (
+        λ q on. subst (λ (p : ℕ). TellsAdd p n me.0 found (Worker w)) (let e : page ≡ q = omega arith in e) told,
+        ap (λ (m : Me S View). m.1) is,
+      ),
+    )
+
+pub reading : {S : Type 0} (key : Key) (slots id : ℕ) (me : Me S View) (page : ℕ) → me ≡ (Worker (worker_of me.0), []) → MayRead (post_of (worker_of me.0)) page → Allows (IsShowing key) slots id me (page + 1) (λ k. k) (λ found after. (after.0 ≡ Worker (worker_of me.0)) × ((q : ℕ) → page + 1 ≡ q + 1 → TellsRead q me.0 found) × (after.1 ≡ []))
+reading {S} key slots id me page is may = λ st shows _ at _.
+    let z = setting_of key in
+    let v : WorkerView = worker_of me.0 in
+    let found : ℕ = get_or st.words (page + 1) 0 in
+    let here : get_elem? st.views id ≡ some (Worker v) = at ∙ ap (λ (m : Me S View). some m.0) is in
+    let same = worker_setting z st.words st.views id v shows here in
+    let r = reads z st.words st.views id v page shows here may in
+    let told : TellsRead page me.0 found =
+    record {
+      own = r.2;
+      step = subst (λ (y : Setting). IsStep y (Read v.worker page) (Count found) (Worker v) (Worker v)) (sym same) r.0;
+    }
+    in (
+      Worker v,
+      keeps,
+      tt,
+      r.1,
+      (
+        refl,
+        λ q on. subst (λ (p : ℕ). TellsRead p me.0 found) (let e : page ≡ q = omega arith in e) told,
+        ap (λ (m : Me S View). m.1) is,
+      ),
+    )
+
+pub gathering : {S : Type 0} (key : Key) (id other : ℕ) (v w : View) → v ≡ Coord (coord_of v) → w ≡ Worker (worker_of w) → Joins {S = S} (IsShowing key) id v other w (Coord (gathered_coord (coord_of v) (worker_of w))) Spent
+gathering {S} key id other v w is_coord is_worker = λ st shows at apart mine.
+    gathers (setting_of key) st.words st.views id other (coord_of v) (worker_of w) shows (at ∙ ap some is_coord) apart
+    (mine ∙ ap some is_worker)
+
+-- a new seat means a fresh post
+pub fresh_seat : {S : Type 0} (z : Setting) (i : ℕ) (me : Me S View) → me ≡ (Worker (fresh z i), []) → IsFresh (post_of (worker_of me.0))
+fresh_seat {S} z i me is =
+    subst (λ (v : WorkerView). IsFresh (post_of v)) (sym (ap (λ (m : Me S View). worker_of m.0) is)) (post_fresh z i)

@@ -27,6 +27,7 @@ use Rattle.like_core.proofs.Unanswered.{reached_unanswered}
 use Rattle.like_core.proofs.ShownEvents.{shown_lawful, same_fields, fields_released, word_announced, coord_sees}
 use Rattle.like_board.specs.Plays.{Surveyed}
 use Rattle.like_board.proofs.Moves.{if_some}
+use Rattle.like_board.proofs.Tallying.{tallied_on}
 use Rattle.like_board.proofs.Leads.{phased, leads}
 use Rattle.like_board.proofs.WorkerSteps.{running_is}
 
@@ -48,12 +49,14 @@ surveys z words views place c some_state at =
       setting = old.setting;
       made = old.made;
       unmade = old.unmade;
+      unlabelled = old.unlabelled;
       phase = old.phase;
       ending = old.ending;
       last = (sees.number, sees.ending);
       stays = λ _. (sees, sh.word);
       all_in = λ is. sees.all_in.0 is;
       gone = old.gone;
+      joined = old.joined;
     }
     in
     let after_it : Shows z s (set words 0 found) (set views place (Coord d)) =
@@ -76,13 +79,20 @@ surveys z words views place c some_state at =
           reachable = some_state.reachable;
           shows = sh;
           mine = at;
+          before = tt;
           permits = permits;
           tells = (sight, refl, sees);
+          changed = 0;
           word = found;
           shows_after = after_it;
         };
       },
-      record { state = s; reachable = some_state.reachable; shows = after_it },
+      record {
+        state = s;
+        reachable = some_state.reachable;
+        shows = after_it;
+        tallied = tallied_on s s views place (Coord c) (Coord d) (λ _. refl) at (λ _. refl) (λ _. refl) some_state.tallied;
+      },
     )
 
 -- what holds of the value of an option, in two ways
@@ -110,19 +120,6 @@ announces z words views place c some_state at may =
     let lawful = shown_lawful z t sh.setting (reached_in_phase z t reachable) (reached_unanswered z t reachable) in
     let word : ℕ = (get_or words 0 0 + 1) % 2 ^ 64 in
     let d : CoordView = announced_coord c in
-    let fits : FitsCoord z t d =
-    record {
-      setting = old.setting;
-      made = old.made;
-      unmade = old.unmade;
-      phase = old.phase;
-      ending = refl;
-      last = tt;
-      stays = tt;
-      all_in = old.all_in;
-      gone = old.gone;
-    }
-    in
     let workers : (v : WorkerView) → FitsWorker z s v → FitsWorker z t v =
     λ v f. record {
       setting = f.setting;
@@ -130,6 +127,22 @@ announces z words views place c some_state at may =
       state = f.state;
       number = f.number;
       ending = λ _ _. refl;
+      labels = f.labels;
+    }
+    in
+    let fits : FitsCoord z t d =
+    record {
+      setting = old.setting;
+      made = old.made;
+      unmade = old.unmade;
+      unlabelled = old.unlabelled;
+      phase = old.phase;
+      ending = refl;
+      last = tt;
+      stays = tt;
+      all_in = old.all_in;
+      gone = old.gone;
+      joined = λ at_place v found. workers v (old.joined at_place v found);
     }
     in
     let after_it : Shows z t (set words 0 word) (set views place (Coord d)) =
@@ -146,12 +159,19 @@ announces z words views place c some_state at may =
         reachable = some_state.reachable;
         shows = sh;
         mine = at;
+        before = tt;
         permits = permits;
         tells = refl;
+        changed = 0;
         word = word;
         shows_after = after_it;
       },
-      record { state = t; reachable = reachable; shows = after_it },
+      record {
+        state = t;
+        reachable = reachable;
+        shows = after_it;
+        tallied = tallied_on s t views place (Coord c) (Coord d) (λ _. refl) at (λ _. refl) (λ _. refl) some_state.tallied;
+      },
     )
 
 -- a release is the event, where what is stored is made of the word that the last look saw
@@ -177,19 +197,6 @@ releases z words views place c seen some_state at may seen_lawful seen_is =
     let lawful = shown_lawful z s sh.setting p (reached_unanswered z s some_state.reachable) in
     let same : seen ≡ shown_fields z s = same_fields seen (shown_fields z s) seen_lawful lawful (seen_is ∙ now.1) in
     let d : CoordView = released_coord c in
-    let fits : FitsCoord z t d =
-    record {
-      setting = old.setting;
-      made = old.made;
-      unmade = old.unmade;
-      phase = ap (λ n. n + 1) old.phase;
-      ending = refl;
-      last = tt;
-      stays = tt;
-      all_in = λ is. absurd (cc);
-      gone = λ _ all. ap saw_all_gone last.1 ∙ now.0.all_gone.1 all;
-    }
-    in
     let workers : (v : WorkerView) → FitsWorker z s v → FitsWorker z t v =
     λ v f. record {
       setting = f.setting;
@@ -199,6 +206,22 @@ releases z words views place c seen some_state at may seen_lawful seen_is =
       ending = λ runs _.
           let is = running_is (λ _. Unit {0}) v.state runs in
           absurd (subst (IsIn s.phase) (f.state ∙ is.1) (all_in v.worker f.there));
+      labels = f.labels;
+    }
+    in
+    let fits : FitsCoord z t d =
+    record {
+      setting = old.setting;
+      made = old.made;
+      unmade = old.unmade;
+      unlabelled = old.unlabelled;
+      phase = ap (λ n. n + 1) old.phase;
+      ending = refl;
+      last = tt;
+      stays = tt;
+      all_in = λ is. absurd (cc);
+      gone = λ _ all. ap saw_all_gone last.1 ∙ now.0.all_gone.1 all;
+      joined = λ at_place v found. workers v (old.joined at_place v found);
     }
     in
     let after_it : Shows z t (set words 0 (packed (released seen))) (set views place (Coord d)) =
@@ -215,10 +238,17 @@ releases z words views place c seen some_state at may seen_lawful seen_is =
         reachable = some_state.reachable;
         shows = sh;
         mine = at;
+        before = tt;
         permits = permits;
         tells = refl;
+        changed = 0;
         word = packed (released seen);
         shows_after = after_it;
       },
-      record { state = t; reachable = goes_on_by z s Release some_state.reachable permits; shows = after_it },
+      record {
+        state = t;
+        reachable = goes_on_by z s Release some_state.reachable permits;
+        shows = after_it;
+        tallied = tallied_on s t views place (Coord c) (Coord d) (λ _. refl) at (λ _. refl) (λ _. refl) some_state.tallied;
+      },
     )

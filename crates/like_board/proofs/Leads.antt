@@ -97,12 +97,14 @@ splits z s words views place c sh at room =
       setting = old.setting;
       made = omega arith;
       unmade = λ i past below. old.unmade i (omega arith) below;
+      unlabelled = λ i phase page past below. old.unlabelled i phase page (omega arith) below;
       phase = old.phase;
       ending = old.ending;
       last = old.last;
       stays = old.stays;
       all_in = old.all_in;
       gone = old.gone;
+      joined = old.joined;
     }
     in
     let fits_new : FitsWorker z s new =
@@ -112,6 +114,7 @@ splits z s words views place c sh at room =
       state = old.unmade c.made (omega arith) room;
       number = tt;
       ending = λ _ saw. absurd (saw);
+      labels = λ phase page. old.unlabelled c.made phase page (omega arith) room;
     }
     in
     record {

@@ -1,7 +1,14 @@
 pub mod ViewLists
 pub mod Moves
+pub mod Tallying
 pub mod Leads
 pub mod WorkerSteps
 pub mod CoordSteps
+pub mod Pages
+pub mod Additions
+pub mod Readings
+pub mod Gathering
+pub mod LastCounts
+pub mod InOrder
 pub mod Opens
 pub mod Allowed

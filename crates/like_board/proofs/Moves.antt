@@ -1,5 +1,5 @@
 -- A step of one worker keeps what the board shows.
-use Rattle.std.proofs.Common.{◌≡◌, ◌≢◌, ℕ, ◌+◌, ◌<◌, ◌≤◌, ◌==◌, nat_lt, Bool, true, false, cond, inl, inr, List, set, Option, Some, None, IfSome, subst, ap, sym, ◌∙◌, refl, eq-eqb, arith}
+use Rattle.std.proofs.Common.{◌≡◌, ◌≢◌, ℕ, ◌+◌, ◌<◌, ◌≤◌, ◌==◌, nat_lt, Bool, true, false, cond, inl, inr, List, [], length, get_or, set, Option, Some, None, IfSome, subst, ap, sym, ◌∙◌, refl, eq-eqb, arith}
 use Rattle.std.proofs.Math.ListN.{length-set}
 use Rattle.std.proofs.lemmas.List.{get_or-set_same, get_or-set_other}
 use Rattle.std.proofs.lemmas.Bool.{cases_eq, cases_lt, le-ltb, cond-true, cond-false}
@@ -38,15 +38,35 @@ moved_same s i state same =
     let each : (j : ℕ) → update s.state i state j ≡ s.state j = update_cases P s.state i state same (λ j other. refl) in
     λ m. record s { state = λ j. each j m }
 
+-- a view of another worker keeps fitting while a worker moves
+fits_worker_moved : (z : Setting) (s : CoreState) (i : ℕ) (state : WorkerState) (v : WorkerView) → v.worker ≢ i → FitsWorker z s v → FitsWorker z (moved s i state) v
+fits_worker_moved z s i state v other f = record {
+  setting = f.setting;
+  there = f.there;
+  state = update-other s.state i state v.worker other ∙ f.state;
+  number = f.number;
+  ending = f.ending;
+  labels = f.labels;
+}
+
+-- a worker of which no seat was given back is none of those whose seats were
+pub joined_other : (c : CoordView) (i place : ℕ) (v : WorkerView) → seats_of i (Coord c) ≡ 0 → get_elem? c.joined place ≡ some v → v.worker ≢ i
+joined_other c i place v none at =
+    λ same.
+    let part = sum_part (λ (w : WorkerView). cond (w.worker == i) 1 0) c.joined place v at in
+    let one : cond {A = ℕ} (v.worker == i) 1 0 ≡ 1 = cond-true (v.worker == i) 1 0 (eq-eqb v.worker i same) in
+    absurd (omega arith)
+
 -- the coordinator's view keeps fitting while a worker moves
-fits_coord_moved : (z : Setting) (s : CoreState) (c : CoordView) (i : ℕ) (state : WorkerState) → i < z.workers → i < c.made → (IsIn s.phase (s.state i) → state ≡ s.state i) → (IsSplit s.phase → state ≡ Gone → s.state i ≡ Gone) → FitsCoord z s c → FitsCoord z (moved s i state) c
-fits_coord_moved z s c i state there has_seat stays gone f =
+fits_coord_moved : (z : Setting) (s : CoreState) (c : CoordView) (i : ℕ) (state : WorkerState) → i < z.workers → i < c.made → seats_of i (Coord c) ≡ 0 → (IsIn s.phase (s.state i) → state ≡ s.state i) → (IsSplit s.phase → state ≡ Gone → s.state i ≡ Gone) → FitsCoord z s c → FitsCoord z (moved s i state) c
+fits_coord_moved z s c i state there has_seat none stays gone f =
     let t : CoreState = moved s i state in
     let same : AllIn (numbers z s) → t ≡ s = λ all. moved_same s i state (stays (all i there)) in
     record {
       setting = f.setting;
       made = f.made;
       unmade = λ j past below. update-other s.state i state j (λ eq. absurd (omega arith)) ∙ f.unmade j past below;
+      unlabelled = f.unlabelled;
       phase = f.phase;
       ending = f.ending;
       last = f.last;
@@ -69,21 +89,22 @@ fits_coord_moved z s c i state there has_seat stays gone f =
                 ap s.state here ∙ gone split now
             | inr other ↦ sym (update-other s.state i state j other) ∙ all j below
           ]);
+      joined = λ place v at. fits_worker_moved z s i state v (joined_other c i place v none at) (f.joined place v at);
     }
+
+-- a view that is no seat of a worker's is of another
+pub worker_other : (i : ℕ) (v : WorkerView) → seats_of i (Worker v) ≡ 0 → v.worker ≢ i
+worker_other i v none =
+    λ same.
+    let one : seats_of i (Worker v) ≡ 1 = cond-true (v.worker == i) 1 0 (eq-eqb v.worker i same) in
+    absurd (omega arith)
 
 -- another seat's view keeps fitting while a worker moves
 fits_other : (z : Setting) (s : CoreState) (i : ℕ) (state : WorkerState) → i < z.workers → (IsIn s.phase (s.state i) → state ≡ s.state i) → (IsSplit s.phase → state ≡ Gone → s.state i ≡ Gone) → (u : View) → seats_of i u ≡ 0 → ((c : CoordView) → u ≡ Coord c → i < c.made) → Fits z s u → Fits z (moved s i state) u
 fits_other z s i state there stays gone (Coord c) none has_seat f =
-    fits_coord_moved z s c i state there (has_seat c refl) stays gone f
+    fits_coord_moved z s c i state there (has_seat c refl) none stays gone f
 fits_other z s i state there stays gone (Worker v) none has_seat f =
-    let other : v.worker ≢ i = λ same. let one : seats_of i (Worker v) ≡ 1 = cond-true (v.worker == i) 1 0 (eq-eqb v.worker i same) in absurd (omega arith) in
-    record {
-      setting = f.setting;
-      there = f.there;
-      state = update-other s.state i state v.worker other ∙ f.state;
-      number = f.number;
-      ending = f.ending;
-    }
+    fits_worker_moved z s i state v (worker_other i v none) f
 fits_other z s i state there stays gone Spent none has_seat f = tt
 
 -- a test that says no counts nothing
@@ -108,7 +129,7 @@ has_seat z s words views place v sh at =
     ]
 
 -- no more than one seat has a worker's number
-once_at_most : (b : Bool) → cond b 1 0 ≤ 1
+pub once_at_most : (b : Bool) → cond b 1 0 ≤ 1
 once_at_most true = omega arith
 once_at_most false = omega arith
 
@@ -121,13 +142,11 @@ same_coord z s words views place c sh at =
     let inner : Coord sh.coord ≡ Coord c = some-injective (Coord sh.coord) (Coord c) same in
     (zeroth, cc)
 
--- after worker i moved, with a new view of its own that fits, the words and the views show the state after
-pub worker_moves : (z : Setting) (s : CoreState) (words : List ℕ) (views : List View) (place : ℕ) (v w : WorkerView) (state : WorkerState) (word : ℕ) → Shows z s words views → get_elem? views place ≡ some (Worker v) → w.worker ≡ v.worker → word ≡ shown_word z (moved s v.worker state) → FitsWorker z (moved s v.worker state) w → (IsIn s.phase (s.state v.worker) → state ≡ s.state v.worker) → (IsSplit s.phase → state ≡ Gone → s.state v.worker ≡ Gone) → Shows z (moved s v.worker state) (set words 0 word) (set views place (Worker w))
-worker_moves z s words views place v w state word sh at number word_is fits stays gone =
-    let t : CoreState = moved s v.worker state in
-    let wide = sh.width in
+-- after a worker's step, with a new view of its own that fits, the words and the views show the state after, where the
+-- words do and each view fits it that is no seat of the worker's
+pub worker_steps : (z : Setting) (s t : CoreState) (words later : List ℕ) (views : List View) (place : ℕ) (v w : WorkerView) → Shows z s words views → get_elem? views place ≡ some (Worker v) → w.worker ≡ v.worker → length later ≡ length words → get_or later 0 0 ≡ shown_word z t → ((page : ℕ) → page < length z.counts → get_or later (page + 1) 0 ≡ get_or z.counts page 0 + length (t.applied page)) → ((i : ℕ) → t.unmerged i ≡ []) → FitsWorker z t w → ((u : View) → seats_of v.worker u ≡ 0 → ((c : CoordView) → u ≡ Coord c → v.worker < c.made) → Fits z s u → Fits z t u) → Shows z t later (set views place (Worker w))
+worker_steps z s t words later views place v w sh at number width word pages merged fits others =
     let seated = has_seat z s words views place v sh at in
-    let old : FitsWorker z s v = sh.each place (Worker v) at in
     let not_first : place ≢ 0 = λ zeroth.
     let here : get_elem? views 0 ≡ some (Worker v) = ap (get_elem? views) (sym zeroth) ∙ at in
     let same : some (Coord sh.coord) ≡ some (Worker v) = sym sh.first ∙ here in
@@ -136,10 +155,10 @@ worker_moves z s words views place v w state word sh at number word_is fits stay
     in
     record {
       setting = sh.setting;
-      width = length-set words 0 word ∙ sh.width;
-      word = get_or-set_same words 0 word 0 (omega arith) ∙ word_is;
-      pages = λ page below. get_or-set_other words 0 (page + 1) word 0 (λ eq. absurd (omega arith)) ∙ sh.pages page below;
-      merged = sh.merged;
+      width = width ∙ sh.width;
+      word = word;
+      pages = pages;
+      merged = merged;
       coord = sh.coord;
       first = set_else views place 0 (Worker w) (λ eq. not_first (sym eq)) ∙ sh.first;
       only = λ j c found. elim (at_set views place j (Worker w) (Coord c) found) [
@@ -153,10 +172,23 @@ worker_moves z s words views place v w state word sh at number word_is fits stay
             let once = sh.once v.worker in
             let most = once_at_most (nat_lt v.worker sh.coord.made) in
             let one : seats_of v.worker (Worker v) ≡ 1 = cond-true (v.worker == v.worker) 1 0 (eq-eqb v.worker v.worker refl) in
-            fits_other z s v.worker state old.there stays gone u (omega arith)
+            others u (omega arith)
             (λ c is. subst (λ (d : CoordView). v.worker < d.made) (same_coord z s words views j c sh (there.1 ∙ ap some is)).1 seated)
             (sh.each j u there.1)
       ];
       once = λ i.
           sum_set (seats_of i) views place (Worker v) (Worker w) at (ap (λ k. cond (k == i) 1 0) number) ∙ sh.once i;
     }
+
+-- after worker i moved, with a new view of its own that fits, the words and the views show the state after
+pub worker_moves : (z : Setting) (s : CoreState) (words : List ℕ) (views : List View) (place : ℕ) (v w : WorkerView) (state : WorkerState) (word : ℕ) → Shows z s words views → get_elem? views place ≡ some (Worker v) → w.worker ≡ v.worker → word ≡ shown_word z (moved s v.worker state) → FitsWorker z (moved s v.worker state) w → (IsIn s.phase (s.state v.worker) → state ≡ s.state v.worker) → (IsSplit s.phase → state ≡ Gone → s.state v.worker ≡ Gone) → Shows z (moved s v.worker state) (set words 0 word) (set views place (Worker w))
+worker_moves z s words views place v w state word sh at number word_is fits stays gone =
+    let wide = sh.width in
+    let old : FitsWorker z s v = sh.each place (Worker v) at in
+    worker_steps z s (moved s v.worker state) words (set words 0 word) views place v w sh at number
+    (length-set words 0 word)
+    (get_or-set_same words 0 word 0 (omega arith) ∙ word_is)
+    (λ page below. get_or-set_other words 0 (page + 1) word 0 (λ eq. absurd (omega arith)) ∙ sh.pages page below)
+    sh.merged
+    fits
+    (λ u none seat f. fits_other z s v.worker state old.there stays gone u none seat f)

@@ -44,12 +44,14 @@ opens z setting =
       setting = refl;
       made = omega arith;
       unmade = λ i _ below. cond-true (nat_lt i z.workers) (Runs 0) Gone (lt-ltb i z.workers below);
+      unlabelled = λ i phase page _ _. refl;
       phase = refl;
       ending = refl;
       last = tt;
       stays = tt;
       all_in = λ is. absurd (cc);
       gone = λ split _. absurd (omega arith);
+      joined = λ place v at. absurd (some-ne-none v (sym at));
     }
     in
     record {
@@ -67,6 +69,7 @@ opens z setting =
         each = each_first z c fits;
         once = λ i. sym (counts_none (nat_lt i 0) (le-ltb i 0 (omega arith)));
       };
+      tallied = record { sums = λ page. refl; rooms = λ page. omega arith };
     }
   where
     only_first : (c : CoordView) (place : ℕ) (d : CoordView) → get_elem? (Coord c ∷ []) place ≡ some (Coord d) → place ≡ 0

@@ -43,3 +43,33 @@ module _ {A : Type 0} where
   sum_set f (x ∷ xs) (suc i) a b e same =
       let rest = sum_set f xs i a b e same in
       omega (arith, sum_by-cons f x xs, sum_by-cons f x (set xs i b))
+
+  -- the sum changes by what the element counts that is replaced, and by what its replacement does
+  pub sum_swap : (f : A → ℕ) (l : List A) (i : ℕ) (a b : A) → get_elem? l i ≡ some a → sum_by f (set l i b) + f a ≡ sum_by f l + f b
+  sum_swap f [] i a b e = absurd (some-ne-none a (sym e))
+  sum_swap f (x ∷ xs) zero a b e =
+      let here = ap f (some-injective x a e) in
+      omega (arith, sum_by-cons f x xs, sum_by-cons f b xs)
+  sum_swap f (x ∷ xs) (suc i) a b e =
+      let rest = sum_swap f xs i a b e in
+      omega (arith, sum_by-cons f x xs, sum_by-cons f x (set xs i b))
+
+  -- a sum in which none counts
+  sum_none : (f : A → ℕ) (l : List A) → ((j : ℕ) (b : A) → get_elem? l j ≡ some b → f b ≡ 0) → sum_by f l ≡ 0
+  sum_none f [] none = refl
+  sum_none f (x ∷ xs) none =
+      let first = none zero x refl in
+      let rest = sum_none f xs (λ j b at. none (suc j) b at) in
+      omega (arith, sum_by-cons f x xs)
+
+  -- an element beside which none counts is the whole sum
+  pub sum_lone : (f : A → ℕ) (l : List A) (i : ℕ) (a : A) → get_elem? l i ≡ some a → ((j : ℕ) (b : A) → j ≢ i → get_elem? l j ≡ some b → f b ≡ 0) → sum_by f l ≡ f a
+  sum_lone f [] i a e none = absurd (some-ne-none a (sym e))
+  sum_lone f (x ∷ xs) zero a e none =
+      let here = ap f (some-injective x a e) in
+      let rest = sum_none f xs (λ j b at. none (suc j) b (λ same. absurd (omega arith)) at) in
+      omega (arith, sum_by-cons f x xs)
+  sum_lone f (x ∷ xs) (suc i) a e none =
+      let first = none zero x (λ same. absurd (omega arith)) refl in
+      let rest = sum_lone f xs i a e (λ j b other at. none (suc j) b (λ same. other (omega arith)) at) in
+      omega (arith, sum_by-cons f x xs)

@@ -32,6 +32,7 @@ use Rattle.like_core.proofs.Unanswered.{reached_unanswered}
 use Rattle.like_core.proofs.ShownEvents.{moved, shown_lawful, fields_looked, word_answered, word_retired, worker_sees}
 use Rattle.like_board.specs.Plays.{Looked}
 use Rattle.like_board.proofs.Moves.{worker_moves}
+use Rattle.like_board.proofs.Tallying.{tallied_on}
 
 -- the phase that a worker runs
 pub running_is : (P : ℕ → Type 0) (state : WorkerState) → RunsSome P state → (phase : ℕ) × (state ≡ Runs phase) × P phase
@@ -40,7 +41,7 @@ running_is P (Answered phase) h = absurd h
 running_is P Gone h = absurd h
 
 -- a view whose worker runs a phase
-runs_view : (v : WorkerView) (phase : ℕ) → v.state ≡ Runs phase → ViewRuns v
+pub runs_view : (v : WorkerView) (phase : ℕ) → v.state ≡ Runs phase → ViewRuns v
 runs_view v phase is = subst (RunsSome (λ _. Unit {0})) (sym is) tt
 
 not_true : (b : Bool) → (IsTrue b → ⊥) → b ≡ false
@@ -118,6 +119,7 @@ looks z words views place v some_state at there =
       state = update-same s.state i state ∙ (sym la.goes ∙ ap (λ st. seen st sight) old.state);
       number = (let e : sight.number ≡ s.phase = sees.number in omega arith);
       ending = λ _ saw. sym sees.ending ∙ saw;
+      labels = old.labels;
     }
     in
     let shows_after : Shows z t (set words 0 found) (set views place (Worker w)) =
@@ -144,13 +146,20 @@ looks z words views place v some_state at there =
           reachable = some_state.reachable;
           shows = sh;
           mine = at;
+          before = tt;
           permits = permits;
           tells = (sight, refl, sees);
+          changed = 0;
           word = found;
           shows_after = shows_after;
         };
       },
-      record { state = t; reachable = goes_on_by z s (Look i) some_state.reachable permits; shows = shows_after },
+      record {
+        state = t;
+        reachable = goes_on_by z s (Look i) some_state.reachable permits;
+        shows = shows_after;
+        tallied = tallied_on s t views place (Worker v) (Worker w) (λ _. refl) at (λ _. refl) (λ _. refl) some_state.tallied;
+      },
     )
 
 -- what a worker that runs the present phase makes of the board by its answer
@@ -169,6 +178,7 @@ answers z s words views place v phase reached sh at runs present =
       state = update-same s.state i state ∙ ap Answered (sym present ∙ sym (ap phase_of runs));
       number = old.number;
       ending = λ running _. absurd running;
+      labels = old.labels;
     }
     in
     worker_moves z s words views place v (answered_view v) state (bit_or (get_or words 0 0) (2 ^ (8 + i))) sh at refl
@@ -204,8 +214,10 @@ acknowledges z words views place v some_state at joined saw =
         reachable = some_state.reachable;
         shows = sh;
         mine = at;
+        before = tt;
         permits = permits;
         tells = refl;
+        changed = 0;
         word = bit_or (get_or words 0 0) (2 ^ (8 + v.worker));
         shows_after = after_it;
       },
@@ -213,6 +225,9 @@ acknowledges z words views place v some_state at joined saw =
         state = moved s v.worker (Answered s.phase);
         reachable = goes_on_by z s (Acknowledge v.worker) some_state.reachable permits;
         shows = after_it;
+        tallied =
+            tallied_on s (moved s v.worker (Answered s.phase)) views place (Worker v) (Worker (answered_view v))
+            (λ _. refl) at (λ _. refl) (λ _. refl) some_state.tallied;
       },
     )
 
@@ -243,8 +258,10 @@ reports z words views place v some_state at split saw =
         reachable = some_state.reachable;
         shows = sh;
         mine = at;
+        before = tt;
         permits = permits;
         tells = refl;
+        changed = 0;
         word = bit_or (get_or words 0 0) (2 ^ (8 + v.worker));
         shows_after = after_it;
       },
@@ -252,6 +269,9 @@ reports z words views place v some_state at split saw =
         state = moved s v.worker (Answered s.phase);
         reachable = goes_on_by z s (Report v.worker) some_state.reachable permits;
         shows = after_it;
+        tallied =
+            tallied_on s (moved s v.worker (Answered s.phase)) views place (Worker v) (Worker (answered_view v))
+            (λ _. refl) at (λ _. refl) (λ _. refl) some_state.tallied;
       },
     )
 
@@ -275,6 +295,7 @@ retires z words views place v some_state at joined =
       state = update-same s.state i Gone;
       number = old.number;
       ending = λ running _. absurd running;
+      labels = old.labels;
     }
     in
     let after_it : Shows z (moved s i Gone) (set words 0 (bit_or (get_or words 0 0) (2 ^ (24 + i)))) (set views place (Worker (retired_view v))) =
@@ -295,8 +316,10 @@ retires z words views place v some_state at joined =
         reachable = some_state.reachable;
         shows = sh;
         mine = at;
+        before = tt;
         permits = permits;
         tells = refl;
+        changed = 0;
         word = bit_or (get_or words 0 0) (2 ^ (24 + i));
         shows_after = after_it;
       },
@@ -304,5 +327,8 @@ retires z words views place v some_state at joined =
         state = moved s i Gone;
         reachable = goes_on_by z s (Retire i) some_state.reachable permits;
         shows = after_it;
+        tallied =
+            tallied_on s (moved s i Gone) views place (Worker v) (Worker (retired_view v)) (λ _. refl) at (λ _. refl)
+            (λ _. refl) some_state.tallied;
       },
     )

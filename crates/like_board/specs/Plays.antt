@@ -1,7 +1,7 @@
-use Rattle.std.specs.Prelude.{◌≡◌, ℕ, true}
+use Rattle.std.specs.Prelude.{◌≡◌, ℕ, ◌≤◌, true}
 use Rattle.like_core.specs.declared.event.Event.{Event}
-use Rattle.like_core.specs.declared.event.Event.TheVariants.{Look, CoordLook}
-use Rattle.like_core.specs.declared.shown.Shown.TheVariants.{Seen, Done, Coord as CoordShown}
+use Rattle.like_core.specs.declared.event.Event.TheVariants.{Look, Read, CoordLook}
+use Rattle.like_core.specs.declared.shown.Shown.TheVariants.{Seen, Done, Old, Count, Coord as CoordShown}
 use Rattle.like_core.specs.declared.setting.Setting.{Setting}
 use Rattle.like_core.specs.declared.view.WorkerView.{WorkerView}
 use Rattle.like_core.specs.declared.view.CoordView.{CoordView}
@@ -11,8 +11,8 @@ use Rattle.like_core.specs.Phase.{IsSplit}
 use Rattle.like_core.specs.Word.{Fields, packed, IsLawful}
 use Rattle.like_core.specs.Sights.{sight_of, coord_sight_of}
 use Rattle.like_core.specs.Post.{IsSightOf}
-use Rattle.like_core.specs.Views.{ViewRuns, ViewSawEnding, looked_view, looked_coord}
-use Rattle.like_core.specs.Shows.{IsStep}
+use Rattle.like_core.specs.Views.{ViewRuns, ViewSawEnding, added_to, looked_view, added_view, likes_merged, adding, looked_coord}
+use Rattle.like_core.specs.Shows.{IsStep, IsSteps}
 use Rattle.like_board.specs.Known.{worker_of, coord_of}
 
 -- what a worker's look finds and shows
@@ -54,3 +54,15 @@ pub record TellsWorker (event : WorkerView → Event) (next : WorkerView → Wor
 pub record TellsCoord (event : Event) (next : CoordView → CoordView) (v w : View) : Type 0 where
   pub view : w ≡ Coord (next (coord_of v))
   pub step : IsStep (coord_of v).setting event Done (Coord (coord_of v)) (Coord (next (coord_of v)))
+
+-- what an addition of n to a page tells: the view after has it, the worker's own additions are in the count that it found,
+-- and it is its events
+pub record TellsAdd (page n : ℕ) (v : View) (found : ℕ) (w : View) : Type 0 where
+  pub view : w ≡ Worker (added_view (worker_of v) page n)
+  pub own : added_to page (worker_of v).additions ≤ found
+  pub step : IsSteps (worker_of v).setting (likes_merged (worker_of v) page n) (adding (worker_of v) page) (Old found) (Worker (worker_of v)) (Worker (added_view (worker_of v) page n))
+
+-- what a read of a page tells beside that the view stays: the worker's own additions are in the count, and it is the event
+pub record TellsRead (page : ℕ) (v : View) (found : ℕ) : Type 0 where
+  pub own : added_to page (worker_of v).additions ≤ found
+  pub step : IsStep (worker_of v).setting (Read (worker_of v).worker page) (Count found) (Worker (worker_of v)) (Worker (worker_of v))

@@ -1,4 +1,5 @@
-use Rattle.std.specs.Prelude.{◌≡◌, ℕ, List, Some, slice_get}
+use Rattle.std.specs.Prelude.{◌≡◌, ℕ, ◌+◌, ◌<◌, ◌==◌, List, Some, slice_get, slice_index, count_by}
+use Rattle.std.specs.List.{sum_by}
 use Rattle.atomic_table.specs.Seated.{TableId}
 use Rattle.like_core.specs.declared.setting.Setting.{Setting}
 use Rattle.like_core.specs.declared.view.WorkerView.{WorkerView}
@@ -7,7 +8,8 @@ use Rattle.like_board.specs.declared.board.Board.{Board}
 use Rattle.like_board.specs.declared.coord_seat.CoordSeat.{CoordSeat}
 use Rattle.like_board.specs.declared.worker_seat.WorkerSeat.{WorkerSeat}
 use Rattle.like_board.specs.declared.board_post.BoardPost.{BoardPost}
-use Rattle.like_core.specs.Views.{fresh}
+use Rattle.like_core.specs.Post.{PostView, IsFresh, additions_of}
+use Rattle.like_core.specs.Views.{fresh, post_of}
 use Rattle.like_board.specs.Known.{worker_of, coord_of}
 
 -- which board it is
@@ -38,7 +40,23 @@ post_board post = seat_board post.seat
 abbrev pub post_view : BoardPost → WorkerView
 post_view post = seat_view post.seat
 
+-- what a worker's seat means as a post
+abbrev pub seat_meaning : WorkerSeat → PostView
+seat_meaning seat = post_of (seat_view seat)
+
+-- what a post means
+abbrev pub post_meaning : BoardPost → PostView
+post_meaning post = post_of (post_view post)
+
 -- the seats of the workers of a board in order, none of which made a step yet
 abbrev pub AreFresh : TableId → Setting → List WorkerSeat → Type 0
 AreFresh board z seats =
-    (i : ℕ) (seat : WorkerSeat) → slice_get seats i ≡ Some seat → (seat_board seat ≡ board) × (seat_view seat ≡ fresh z i)
+    (i : ℕ) (seat : WorkerSeat) → slice_get seats i ≡ Some seat → (seat_board seat ≡ board) × (seat_view seat ≡ fresh z i) × IsFresh (seat_meaning seat)
+
+-- each worker's seat stands in the list once
+abbrev pub AreAll : ℕ → List WorkerSeat → Type 0
+AreAll workers seats = (i : ℕ) → i < workers → count_by (λ seat. (seat_meaning seat).worker == i) seats ≡ 1
+
+-- a page's last count: its count at the start, and all that the workers of these seats have added to it
+abbrev pub last_count : Setting → List WorkerSeat → ℕ → ℕ
+last_count z seats page = slice_index z.counts page + sum_by (λ seat. additions_of (seat_meaning seat) page) seats

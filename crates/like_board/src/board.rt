@@ -3,6 +3,7 @@ ghost use Rattle.like_core.specs.declared.setting.Setting.{Setting};
 
 use crate::coord_seat::CoordSeat;
 use crate::key::Key;
+use crate::making::make_seats;
 use crate::rule::BoardRule;
 use crate::worker_seat::WorkerSeat;
 use atomic_table::Table;
@@ -49,10 +50,9 @@ impl Board {
             counts: Vec::from_slice(alloc, counts)?,
             marks: Vec::from_slice(alloc, split)?,
         };
-        let (table, seat) = Table::of_words(alloc, words.as_slice(), &key)?;
+        let (table, mut seat) = Table::of_words(alloc, words.as_slice(), &key)?;
         let board = Board { table };
-        let mut coord = CoordSeat { seat, seen: first };
-        let seats = coord.make_seats(alloc, &board, workers)?;
-        Ok((board, coord, seats))
+        let seats = make_seats(alloc, &board, &mut seat, workers)?;
+        Ok((board, CoordSeat { seat, seen: first }, seats))
     }
 }

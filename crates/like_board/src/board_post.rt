@@ -1,10 +1,10 @@
-ghost use Rattle.std.specs.Prelude.{◌≡◌, ◌≢◌, true};
+ghost use Rattle.std.specs.Prelude.{◌≡◌, ◌≢◌, ◌≤◌, true};
 
 use crate::board::Board;
 use crate::worker_seat::WorkerSeat;
-use like_core::Sight;
+use like_core::{Post, Sight};
 
-/// A worker's seat at its board. Each call is one step on the phase word, and none waits.
+/// A worker's seat at its board. Each call is one step on one of the board's words, and none waits.
 #[derive(Drop)]
 pub struct BoardPost<'a> {
     pub(crate) board: &'a Board,
@@ -13,70 +13,100 @@ pub struct BoardPost<'a> {
 }
 
 impl BoardPost<'_> {
-    ghost use Rattle.like_core.specs.declared.event.Event.TheVariants.{Look, Acknowledge, Report, Retire};
-    ghost use Rattle.like_core.specs.declared.shown.Shown.TheVariants.{Seen, Done};
+    ghost use Rattle.like_board.specs.Seats.{seat_board, seat_view, seat_meaning, post_board, post_view, post_meaning};
+
+    /// Gives the seat back.
+    pub fn back(self) -> WorkerSeat
+        ensures board { seat_board result ≡ post_board self.entry }
+        ensures view { seat_view result ≡ post_view self.entry }
+        ensures meaning { seat_meaning result ≡ post_meaning self.entry }
+    {
+        let BoardPost { board: _, seat } = self;
+        seat
+    }
+}
+
+impl Post for BoardPost<'_> {
+    ghost use Rattle.like_core.specs.declared.event.Event.TheVariants.{Look, Acknowledge, Report, Retire, Read};
+    ghost use Rattle.like_core.specs.declared.shown.Shown.TheVariants.{Seen, Done, Old, Count};
     ghost use Rattle.like_core.specs.declared.view.View.TheVariants.{Worker};
     ghost use Rattle.like_core.specs.declared.worker_state.WorkerState.TheVariants.{Gone};
-    ghost use Rattle.like_core.specs.Post.{IsSightOf};
-    ghost use Rattle.like_core.specs.Views.{ViewRuns, ViewRunsJoined, ViewRunsSplit, ViewSawEnding, looked_view, answered_view, retired_view};
-    ghost use Rattle.like_core.specs.Shows.{IsStep};
-    ghost use Rattle.like_board.specs.Seats.{seat_board, seat_view, post_board, post_view};
+    ghost use Rattle.like_core.specs.Post.{IsRunning, RunsJoined, RunsSplit, SawEnding, IsSightOf, looked_at, answered, retired, added, additions_of, MayAdd, MayRead};
+    ghost use Rattle.like_core.specs.Views.{looked_view, answered_view, retired_view, added_view, likes_merged, adding};
+    ghost use Rattle.like_core.specs.Shows.{IsStep, IsSteps};
+    ghost use Rattle.like_board.specs.Seats.{post_board, post_view, post_meaning};
 
-    /// Looks at the phase word. A worker that has answered a phase enters the next here, once that was released. What a
-    /// running worker saw stays true until it answers or retires.
-    pub fn look(&mut self) -> Sight
-        requires { (post_view self.old).state ≢ Gone }
+    ghost view = { post_meaning };
+
+    fn look(&mut self) -> Sight
+        requires { (post_meaning self.old).state ≢ Gone }
+        ensures sight { IsSightOf (post_meaning self.old).state result }
+        ensures view { post_meaning self.new ≡ looked_at (post_meaning self.old) result }
+        ensures ending { IsRunning (post_meaning self.old) → SawEnding (post_meaning self.old) → result.ending ≡ true }
         ensures board { post_board self.new ≡ post_board self.old }
-        ensures view { post_view self.new ≡ looked_view (post_view self.old) result }
-        ensures sight { IsSightOf (post_view self.old).state result }
-        ensures ending { ViewRuns (post_view self.old) → ViewSawEnding (post_view self.old) → result.ending ≡ true }
+        ensures known { post_view self.new ≡ looked_view (post_view self.old) result }
         ensures event { IsStep (post_view self.old).setting (Look (post_view self.old).worker) (Seen result) (Worker (post_view self.old)) (Worker (post_view self.new)) }
     {
         let board = self.board;
         self.seat.look(board)
     }
 
-    /// Stops at the end of a joined phase, and waits for the release of the next.
-    pub fn acknowledge(&mut self)
-        requires runs { ViewRunsJoined (post_view self.old) }
-        requires ending { ViewSawEnding (post_view self.old) }
+    fn acknowledge(&mut self)
+        requires runs { RunsJoined (post_meaning self.old) }
+        requires ending { SawEnding (post_meaning self.old) }
+        ensures view { post_meaning self.new ≡ answered (post_meaning self.old) }
         ensures board { post_board self.new ≡ post_board self.old }
-        ensures view { post_view self.new ≡ answered_view (post_view self.old) }
+        ensures known { post_view self.new ≡ answered_view (post_view self.old) }
         ensures event { IsStep (post_view self.old).setting (Acknowledge (post_view self.old).worker) Done (Worker (post_view self.old)) (Worker (post_view self.new)) }
     {
         let board = self.board;
         self.seat.acknowledge(board);
     }
 
-    /// Stops at the end of a split phase, and waits for the release of the next.
-    pub fn report(&mut self)
-        requires runs { ViewRunsSplit (post_view self.old) }
-        requires ending { ViewSawEnding (post_view self.old) }
+    fn report(&mut self)
+        requires runs { RunsSplit (post_meaning self.old) }
+        requires ending { SawEnding (post_meaning self.old) }
+        ensures view { post_meaning self.new ≡ answered (post_meaning self.old) }
         ensures board { post_board self.new ≡ post_board self.old }
-        ensures view { post_view self.new ≡ answered_view (post_view self.old) }
+        ensures known { post_view self.new ≡ answered_view (post_view self.old) }
         ensures event { IsStep (post_view self.old).setting (Report (post_view self.old).worker) Done (Worker (post_view self.old)) (Worker (post_view self.new)) }
     {
         let board = self.board;
         self.seat.report(board);
     }
 
-    /// Ends the worker's part, in a joined phase. No step may follow.
-    pub fn retire(&mut self)
-        requires { ViewRunsJoined (post_view self.old) }
+    fn retire(&mut self)
+        requires { RunsJoined (post_meaning self.old) }
+        ensures view { post_meaning self.new ≡ retired (post_meaning self.old) }
         ensures board { post_board self.new ≡ post_board self.old }
-        ensures view { post_view self.new ≡ retired_view (post_view self.old) }
+        ensures known { post_view self.new ≡ retired_view (post_view self.old) }
         ensures event { IsStep (post_view self.old).setting (Retire (post_view self.old).worker) Done (Worker (post_view self.old)) (Worker (post_view self.new)) }
     {
         let board = self.board;
         self.seat.retire(board);
     }
 
-    /// Gives the seat back.
-    pub fn back(self) -> WorkerSeat
-        ensures board { seat_board result ≡ post_board self.entry }
-        ensures view { seat_view result ≡ post_view self.entry }
+    fn add(&mut self, page: u32, n: u64) -> u64
+        requires { MayAdd (post_meaning self.old) page n }
+        ensures view { post_meaning self.new ≡ added (post_meaning self.old) page n }
+        ensures own { additions_of (post_meaning self.old) page ≤ result }
+        ensures board { post_board self.new ≡ post_board self.old }
+        ensures known { post_view self.new ≡ added_view (post_view self.old) page n }
+        ensures event { IsSteps (post_view self.old).setting (likes_merged (post_view self.old) page n) (adding (post_view self.old) page) (Old result) (Worker (post_view self.old)) (Worker (post_view self.new)) }
     {
-        let BoardPost { board: _, seat } = self;
-        seat
+        let board = self.board;
+        self.seat.add(board, page, n)
+    }
+
+    fn read(&mut self, page: u32) -> u64
+        requires { MayRead (post_meaning self.old) page }
+        ensures view { post_meaning self.new ≡ post_meaning self.old }
+        ensures own { additions_of (post_meaning self.old) page ≤ result }
+        ensures board { post_board self.new ≡ post_board self.old }
+        ensures known { post_view self.new ≡ post_view self.old }
+        ensures event { IsStep (post_view self.old).setting (Read (post_view self.old).worker page) (Count result) (Worker (post_view self.old)) (Worker (post_view self.new)) }
+    {
+        let board = self.board;
+        self.seat.read(board, page)
     }
 }

@@ -4,8 +4,10 @@
 
 mod board;
 mod board_post;
+mod closing;
 mod coord_seat;
 mod key;
+mod making;
 mod plays;
 mod rule;
 #[cfg(test)]

@@ -1,12 +1,12 @@
-//! What each kind of step tells the seat that makes it, and how a worker's seat is made.
-ghost use Rattle.std.specs.Prelude.{◌≡◌, []};
+//! What each kind of step tells the seat that makes it, and how a worker's seat is made and given back.
+ghost use Rattle.std.specs.Prelude.{◌≡◌, ℕ, ◌+◌, []};
 ghost use Rattle.like_core.specs.declared.event.Event.TheVariants.{Acknowledge, Report, Retire, Announce, Release};
-ghost use Rattle.like_core.specs.declared.view.View.TheVariants.{Coord, Worker};
-ghost use Rattle.like_core.specs.Views.{fresh, answered_view, retired_view, announced_coord, released_coord, made_coord};
-ghost use Rattle.like_board.specs.Known.{coord_of};
-ghost use Rattle.like_board.specs.Plays.{TellsLook, TellsSurvey, TellsWorker, TellsCoord};
+ghost use Rattle.like_core.specs.declared.view.View.TheVariants.{Coord, Worker, Spent};
+ghost use Rattle.like_core.specs.Views.{fresh, answered_view, retired_view, announced_coord, released_coord, made_coord, gathered_coord};
+ghost use Rattle.like_board.specs.Known.{coord_of, worker_of};
+ghost use Rattle.like_board.specs.Plays.{TellsLook, TellsSurvey, TellsWorker, TellsCoord, TellsAdd, TellsRead};
 
-use atomic_table::{Play, Split};
+use atomic_table::{Join, Play, Split};
 use like_core::View;
 
 /// A worker's look.
@@ -37,6 +37,20 @@ impl Play<(), View> for Retiring {
     ghost then = { λ _ me _ after. TellsWorker (λ v. Retire v.worker) retired_view me.0 after.0 × (after.1 ≡ []) };
 }
 
+/// An addition to the count of the page whose word it steps on: the word after the phase word is page 0's.
+pub struct Adding;
+
+impl Play<(), View> for Adding {
+    ghost then = { λ step me found after. ((page : ℕ) → step.word ≡ page + 1 → TellsAdd page step.first me.0 found after.0) × (after.1 ≡ []) };
+}
+
+/// A read of such a count.
+pub struct Reading;
+
+impl Play<(), View> for Reading {
+    ghost then = { λ step me found after. (after.0 ≡ Worker (worker_of me.0)) × ((page : ℕ) → step.word ≡ page + 1 → TellsRead page me.0 found) × (after.1 ≡ []) };
+}
+
 /// The coordinator's look.
 pub struct Surveying;
 
@@ -65,4 +79,13 @@ impl Split<View> for MakesWorker {
     ghost left = { λ v. Coord (made_coord (coord_of v)) };
 
     ghost right = { λ v. Worker (fresh (coord_of v).setting (coord_of v).made) };
+}
+
+/// The coordinator's seat takes a worker's seat back.
+pub struct Gathers;
+
+impl Join<View> for Gathers {
+    ghost both = { λ v w. Coord (gathered_coord (coord_of v) (worker_of w)) };
+
+    ghost spent = { Spent };
 }

@@ -1,10 +1,10 @@
-ghost use Rattle.std.specs.Prelude.{◌≡◌, ◌≢◌, ◌<◌, true, []};
+ghost use Rattle.std.specs.Prelude.{◌≡◌, ◌≢◌, ◌+◌, ◌<◌, ◌≤◌, true, [], length};
 ghost use Rattle.like_core.specs.declared.view.View.TheVariants.{Worker};
 ghost use Rattle.like_board.specs.Known.{worker_of};
 
 use crate::board::Board;
 use crate::board_post::BoardPost;
-use crate::plays::{Acknowledging, Looking, Reporting, Retiring};
+use crate::plays::{Acknowledging, Adding, Looking, Reading, Reporting, Retiring};
 use atomic_table::Seat;
 use like_core::{PhaseWord, Sight, View};
 
@@ -22,22 +22,24 @@ pub struct WorkerSeat {
     ghost is_worker: { seat.me ≡ (Worker (worker_of seat.me.0), []) },
     ghost numbered: { number ≡ (worker_of seat.me.0).worker },
     ghost few: { number < 16 },
+    ghost sized: { seat.table_id.words ≡ length (worker_of seat.me.0).setting.marks + 1 },
 }
 
 impl WorkerSeat {
-    ghost use Rattle.like_core.specs.declared.event.Event.TheVariants.{Look, Acknowledge, Report, Retire};
-    ghost use Rattle.like_core.specs.declared.shown.Shown.TheVariants.{Seen, Done};
+    ghost use Rattle.like_core.specs.declared.event.Event.TheVariants.{Look, Acknowledge, Report, Retire, Read};
+    ghost use Rattle.like_core.specs.declared.shown.Shown.TheVariants.{Seen, Done, Old, Count};
     ghost use Rattle.like_core.specs.declared.worker_state.WorkerState.TheVariants.{Gone};
-    ghost use Rattle.like_core.specs.Post.{IsSightOf};
-    ghost use Rattle.like_core.specs.Views.{ViewRuns, ViewRunsJoined, ViewRunsSplit, ViewSawEnding, looked_view, answered_view, retired_view};
-    ghost use Rattle.like_core.specs.Shows.{IsStep};
-    ghost use Rattle.like_board.specs.Seats.{board_id, seat_board, seat_view, post_board, post_view};
+    ghost use Rattle.like_core.specs.Post.{IsSightOf, MayAdd, MayRead};
+    ghost use Rattle.like_core.specs.Views.{ViewRuns, ViewRunsJoined, ViewRunsSplit, ViewSawEnding, added_to, looked_view, answered_view, retired_view, added_view, likes_merged, adding};
+    ghost use Rattle.like_core.specs.Shows.{IsStep, IsSteps};
+    ghost use Rattle.like_board.specs.Seats.{board_id, seat_board, seat_view, seat_meaning, post_board, post_view, post_meaning};
 
     /// Takes the seat to its board.
     pub fn at(self, board: &Board) -> BoardPost<'_>
         requires { seat_board self ≡ board_id board.now }
         ensures board { post_board result ≡ seat_board self }
         ensures view { post_view result ≡ seat_view self }
+        ensures meaning { post_meaning result ≡ seat_meaning self }
     {
         BoardPost { board, seat: self }
     }
@@ -97,5 +99,32 @@ impl WorkerSeat {
             .table
             .shared
             .fetch_or::<Retiring>(&mut self.seat, 0, bit);
+    }
+
+    pub(crate) fn add(&mut self, board: &Board, page: u32, n: u64) -> u64
+        requires here { seat_board self.old ≡ board_id board.now }
+        requires may { MayAdd (seat_meaning self.old) page n }
+        ensures board { seat_board self.new ≡ seat_board self.old }
+        ensures view { seat_view self.new ≡ added_view (seat_view self.old) page n }
+        ensures own { added_to page (seat_view self.old).additions ≤ result }
+        ensures event { IsSteps (seat_view self.old).setting (likes_merged (seat_view self.old) page n) (adding (seat_view self.old) page) (Old result) (Worker (seat_view self.old)) (Worker (seat_view self.new)) }
+    {
+        let word = page as usize + 1;
+        board
+            .table
+            .shared
+            .fetch_add::<Adding>(&mut self.seat, word, n)
+    }
+
+    pub(crate) fn read(&mut self, board: &Board, page: u32) -> u64
+        requires here { seat_board self.old ≡ board_id board.now }
+        requires may { MayRead (seat_meaning self.old) page }
+        ensures board { seat_board self.new ≡ seat_board self.old }
+        ensures view { seat_view self.new ≡ seat_view self.old }
+        ensures own { added_to page (seat_view self.old).additions ≤ result }
+        ensures event { IsStep (seat_view self.old).setting (Read (seat_view self.old).worker page) (Count result) (Worker (seat_view self.old)) (Worker (seat_view self.new)) }
+    {
+        let word = page as usize + 1;
+        board.table.shared.load::<Reading>(&mut self.seat, word)
     }
 }

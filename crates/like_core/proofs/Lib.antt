@@ -20,3 +20,6 @@ pub mod Masks
 pub mod Unanswered
 pub mod ShownEvents
 pub mod FromFields
+pub mod Labels
+pub mod Adding
+pub mod Posts

@@ -15,6 +15,7 @@ pub mod Core
 pub mod Sights
 pub mod ShownWord
 pub mod Views
+pub mod Tallies
 pub mod Shows
 pub mod Post
 pub mod Lone

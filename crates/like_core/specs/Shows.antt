@@ -13,10 +13,11 @@ use Rattle.like_core.specs.declared.view.View.TheVariants.{Coord, Worker, Spent}
 use Rattle.like_core.specs.Phase.{IsSplit}
 use Rattle.like_core.specs.Numbers.{AllIn, AllGone, CoordSees}
 use Rattle.like_core.specs.Table.{Permits, IsShown}
-use Rattle.like_core.specs.State.{CoreState, after, numbers}
-use Rattle.like_core.specs.Reachable.{Reachable}
+use Rattle.like_core.specs.State.{CoreState, labelled, after, numbers}
+use Rattle.like_core.specs.Reachable.{Reachable, after_all, PermitsAll}
 use Rattle.like_core.specs.ShownWord.{shown_word}
-use Rattle.like_core.specs.Views.{ViewRuns, ViewSawEnding, seats_of}
+use Rattle.like_core.specs.Views.{ViewRuns, ViewSawEnding, added_in, seats_of}
+use Rattle.like_core.specs.Tallies.{Tallied}
 
 -- a setting that a board may have: there are 1 to 16 workers and at most 1,024 pages, each with a mark and a count of
 -- at most 10 ^ 18
@@ -27,28 +28,31 @@ pub record IsSetting (z : Setting) : Type 0 where
   pub marks : length z.marks ≡ length z.counts
   pub counts : All (λ n. n ≤ 10 ^ 18) z.counts
 
--- a worker's view of a state: its worker's state there; it saw no later phase; and what it saw of the phase that it
--- runs is still so
+-- a worker's view of a state: its worker's state there; it saw no later phase; what it saw of the phase that it runs is
+-- still so; and of each page's likes as many have the label of its worker and a phase as it added to the page in the phase
 pub record FitsWorker (z : Setting) (s : CoreState) (v : WorkerView) : Type 0 where
   pub setting : v.setting ≡ z
   pub there : v.worker < z.workers
   pub state : s.state v.worker ≡ v.state
   pub number : IfSome v.last (λ sight. sight.number ≤ s.phase)
   pub ending : ViewRuns v → ViewSawEnding v → s.ending ≡ true
+  pub labels : (phase page : ℕ) → labelled v.worker phase (s.applied page) ≡ added_in phase page v.additions
 
--- the coordinator's view of a state: its phase, and whether that is ending; who has no seat yet runs phase 0; a sight
--- that showed all in is still what a look would show; and all are gone in a split phase only where the last sight before
--- its release showed that
+-- the coordinator's view of a state: its phase, and whether that is ending; who has no seat yet runs phase 0 and added
+-- nothing; a sight that showed all in is still what a look would show; all are gone in a split phase only where the last
+-- sight before its release showed that; and the views of the seats that were given back are still so
 pub record FitsCoord (z : Setting) (s : CoreState) (c : CoordView) : Type 0 where
   pub setting : c.setting ≡ z
   pub made : c.made ≤ z.workers
   pub unmade : (i : ℕ) → c.made ≤ i → i < z.workers → s.state i ≡ Runs 0
+  pub unlabelled : (i phase page : ℕ) → c.made ≤ i → i < z.workers → labelled i phase (s.applied page) ≡ 0
   pub phase : c.phase ≡ s.phase
   pub ending : c.ending ≡ s.ending
   pub last : IfSome c.last (λ sight. (sight.number ≡ s.phase) × (sight.ending ≡ s.ending))
   pub stays : IfSome c.last (λ sight. sight.all_in ≡ true → CoordSees (numbers z s) sight × (c.word ≡ shown_word z s))
   pub all_in : c.all_in ≡ true → AllIn (numbers z s)
   pub gone : IsSplit s.phase → AllGone (numbers z s) → c.gone ≡ true
+  pub joined : (place : ℕ) (v : WorkerView) → get_elem? c.joined place ≡ some v → FitsWorker z s v
 
 -- a seat's view of a state
 abbrev pub Fits : Setting → CoreState → View → Type 0
@@ -70,16 +74,17 @@ pub record Shows (z : Setting) (s : CoreState) (words : List ℕ) (views : List 
   pub each : (place : ℕ) (v : View) → get_elem? views place ≡ some v → Fits z s v
   pub once : (i : ℕ) → sum_by (seats_of i) views ≡ (if nat_lt i coord.made then 1 else 0)
 
--- the words and the views show some state that can be reached
+-- the words and the views show some state that can be reached; beside it stands what follows of the views' additions
 pub record ShowsSome (z : Setting) (words : List ℕ) (views : List View) : Type 0 where
   pub state : CoreState
   pub reachable : Reachable z state
   pub shows : Shows z state words views
+  pub tallied : Tallied state views
 
--- one step of a seat, whose view goes from v to w, is the event: some state that can be reached is shown by the words
--- and by all views, the event is permitted there and shows what it is said to show, and afterwards the words and all
--- views show the state after the event
-pub record IsStep (z : Setting) (event : Event) (shown : Shown) (v w : View) : Type 0 where
+-- one step of a seat, whose view goes from v to w, is these events and then this one: some state that can be reached is
+-- shown by the words and by all views, the events are permitted there one after the other, the last shows what it is
+-- said to show, and afterwards the words, of which one may differ, and all views show the state after the events
+pub record IsSteps (z : Setting) (events : List Event) (event : Event) (shown : Shown) (v w : View) : Type 0 where
   pub words : List ℕ
   pub views : List View
   pub place : ℕ
@@ -87,7 +92,13 @@ pub record IsStep (z : Setting) (event : Event) (shown : Shown) (v w : View) : T
   pub reachable : Reachable z state
   pub shows : Shows z state words views
   pub mine : get_elem? views place ≡ some v
-  pub permits : Permits (numbers z state) event
-  pub tells : IsShown (numbers z state) event shown
+  pub before : PermitsAll z state events
+  pub permits : Permits (numbers z (after_all z state events)) event
+  pub tells : IsShown (numbers z (after_all z state events)) event shown
+  pub changed : ℕ
   pub word : ℕ
-  pub shows_after : Shows z (after z state event) (slice_set words 0 word) (slice_set views place w)
+  pub shows_after : Shows z (after z (after_all z state events) event) (slice_set words changed word) (slice_set views place w)
+
+-- one step of a seat is this event
+abbrev pub IsStep : Setting → Event → Shown → View → View → Type 0
+IsStep z event shown v w = IsSteps z [] event shown v w

@@ -1,4 +1,4 @@
-use Rattle.std.specs.Prelude.{ℕ, ◌+◌, ◌==◌, nat_lt, Bool, true, false, not, if◌then◌else◌, List, [], ◌∷◌, ◌++◌, length, filter, replicate, slice_index, slice_index_or}
+use Rattle.std.specs.Prelude.{ℕ, ◌+◌, ◌==◌, nat_lt, Bool, true, false, not, ◌&&◌, if◌then◌else◌, List, [], ◌∷◌, ◌++◌, length, filter, count_by, replicate, slice_index, slice_index_or}
 use Rattle.like_core.specs.declared.worker_state.WorkerState.{WorkerState}
 use Rattle.like_core.specs.declared.worker_state.WorkerState.TheVariants.{Runs, Answered, Gone}
 use Rattle.like_core.specs.declared.event.Event.{Event}
@@ -13,6 +13,10 @@ use Rattle.like_core.specs.Numbers.{Numbers}
 pub record Label : Type 0 where
   pub worker : ℕ
   pub phase : ℕ
+
+-- how many likes of a list the worker ran in the phase
+abbrev pub labelled : ℕ → ℕ → List Label → ℕ
+labelled worker phase likes = count_by (λ l. (l.worker == worker) && (l.phase == phase)) likes
 
 -- a state of the core: the phase and whether its end was announced, each worker's state, the pages of the likes that
 -- each worker has not merged, in the order of its likes, and the likes applied to each page

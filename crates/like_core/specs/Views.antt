@@ -1,14 +1,27 @@
-use Rattle.std.specs.Prelude.{◌≡◌, ℕ, ◌+◌, ◌==◌, ◌<◌, Bool, true, false, if◌then◌else◌, [], count_by, Option, Some, None, IsSomeAnd}
+use Rattle.std.specs.Prelude.{◌≡◌, ℕ, ◌+◌, ◌==◌, ◌<◌, Bool, true, false, ◌&&◌, if◌then◌else◌, List, [], ◌∷◌, ◌++◌, length, map, replicate, count_by, Option, Some, None, IsSomeAnd}
+use Rattle.std.specs.List.{range_with_len, sum_by}
 use Rattle.like_core.specs.declared.worker_state.WorkerState.TheVariants.{Runs, Answered, Gone}
 use Rattle.like_core.specs.declared.sight.Sight.{Sight}
 use Rattle.like_core.specs.declared.sight.CoordSight.{CoordSight}
+use Rattle.like_core.specs.declared.event.Event.{Event}
+use Rattle.like_core.specs.declared.event.Event.TheVariants.{Like, Merge}
 use Rattle.like_core.specs.declared.setting.Setting.{Setting}
+use Rattle.like_core.specs.declared.view.Addition.{Addition}
 use Rattle.like_core.specs.declared.view.WorkerView.{WorkerView}
 use Rattle.like_core.specs.declared.view.CoordView.{CoordView}
 use Rattle.like_core.specs.declared.view.View.{View}
 use Rattle.like_core.specs.declared.view.View.TheVariants.{Coord, Worker, Spent}
 use Rattle.like_core.specs.Phase.{last_phase, IsJoined, IsSplit}
-use Rattle.like_core.specs.Post.{RunsSome, phase_of, seen}
+use Rattle.like_core.specs.Post.{PostView, RunsSome, phase_of, seen, slices}
+
+-- how many likes were added to a page
+abbrev pub added_to : ℕ → List Addition → ℕ
+added_to page additions = sum_by (λ a. (if a.page == page then a.likes else 0)) additions
+
+-- how many of them in one phase
+abbrev pub added_in : ℕ → ℕ → List Addition → ℕ
+added_in phase page additions =
+    sum_by (λ a. (if (a.phase == phase) && (a.page == page) then a.likes else 0)) additions
 
 -- a worker's view before its seat made a step: it runs phase 0, looked never and added nothing
 abbrev pub fresh : Setting → ℕ → WorkerView
@@ -63,6 +76,29 @@ answered_view v = record v { state = Answered (phase_of v.state) }
 abbrev pub retired_view : WorkerView → WorkerView
 retired_view v = record v { state = Gone }
 
+-- a worker's view after n was added to a page
+abbrev pub added_view : WorkerView → ℕ → ℕ → WorkerView
+added_view v page n =
+    record v { additions = v.additions ++ record { phase = phase_of v.state; page = page; likes = n } ∷ [] }
+
+-- what a worker's view means as a post: its additions are summed by page
+abbrev pub post_of : WorkerView → PostView
+post_of v = record {
+  worker = v.worker;
+  marks = v.setting.marks;
+  state = v.state;
+  last = v.last;
+  additions = map (λ page. added_to page v.additions) (range_with_len 0 (length v.setting.marks));
+}
+
+-- the likes that an addition of n to a page merges; where the page is not sliced there are none, and it is a like itself
+abbrev pub likes_merged : WorkerView → ℕ → ℕ → List Event
+likes_merged v page n = (if slices (post_of v) page then replicate n (Like v.worker page) else [])
+
+-- the event that an addition to a page is, after the likes that it merges
+abbrev pub adding : WorkerView → ℕ → Event
+adding v page = (if slices (post_of v) page then Merge v.worker page else Like v.worker page)
+
 -- the coordinator's view after a look at a word
 abbrev pub looked_coord : CoordView → ℕ → CoordSight → CoordView
 looked_coord c word sight = record c { last = Some sight; word = word; all_in = sight.all_in }
@@ -84,6 +120,10 @@ released_coord c =
 -- the coordinator's view after it made one worker's seat more
 abbrev pub made_coord : CoordView → CoordView
 made_coord c = record c { made = c.made + 1 }
+
+-- the coordinator's view after a worker's seat was given back to it
+abbrev pub gathered_coord : CoordView → WorkerView → CoordView
+gathered_coord c v = record c { joined = v ∷ c.joined }
 
 -- the coordinator may announce: the last look, since which it made no step, showed a running phase that is not the last
 abbrev pub MayAnnounce : CoordView → Type 0

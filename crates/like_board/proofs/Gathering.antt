@@ -1,0 +1,134 @@
+-- A worker's seat is given back to the coordinator, and what the words show where all were.
+use Rattle.std.proofs.Common.{◌≡◌, ◌≢◌, ℕ, zero, suc, ◌+◌, ◌<◌, ◌≤◌, ◌==◌, nat_lt, Bool, true, false, cond, inl, inr, List, [], ◌∷◌, length, get_or, set, count_by, subst, ap, sym, ◌∙◌, refl, eq-eqb, arith}
+use Rattle.std.specs.List.{sum_by}
+use Rattle.std.proofs.lemmas.List.Sums.{sum_by-cons}
+use Rattle.std.proofs.lemmas.Bool.{cond-true}
+use mathlib.Core.Option.{some, some-injective}
+use lib.ListN.{get_elem?}
+use Rattle.atomic_table.proofs.Lists.{at_set, set_here, set_else}
+use Rattle.like_core.specs.declared.setting.Setting.{Setting}
+use Rattle.like_core.specs.declared.view.WorkerView.{WorkerView}
+use Rattle.like_core.specs.declared.view.CoordView.{CoordView}
+use Rattle.like_core.specs.declared.view.View.{View}
+use Rattle.like_core.specs.declared.view.View.TheVariants.{Coord, Worker, Spent}
+use Rattle.like_core.specs.State.{CoreState}
+use Rattle.like_core.specs.Views.{added_to, gathered_coord, seats_of}
+use Rattle.like_core.specs.Tallies.{Tallied, paged, left_to, room}
+use Rattle.like_core.specs.Shows.{Shows, ShowsSome, Fits, FitsWorker, FitsCoord}
+use Rattle.like_board.proofs.ViewLists.{within, sum_two, sum_swap, sum_lone}
+use Rattle.like_board.proofs.Moves.{same_coord, has_seat, once_at_most}
+
+-- the views after the seat at `other` was given back to the coordinator's at `place`
+abbrev pub gathered : List View → ℕ → ℕ → CoordView → WorkerView → List View
+gathered views place other c v = set (set views place (Coord (gathered_coord c v))) other Spent
+
+-- a sum over the views then
+sum_gathered : (f : View → ℕ) (views : List View) (place other : ℕ) (c : CoordView) (v : WorkerView) → get_elem? views place ≡ some (Coord c) → get_elem? (set views place (Coord (gathered_coord c v))) other ≡ some (Worker v) → f Spent ≡ 0 → f (Coord (gathered_coord c v)) ≡ f (Worker v) + f (Coord c) → sum_by f (gathered views place other c v) ≡ sum_by f views
+sum_gathered f views place other c v at mine spent more =
+    let first = sum_swap f views place (Coord c) (Coord (gathered_coord c v)) at in
+    let second = sum_swap f (set views place (Coord (gathered_coord c v))) other (Worker v) Spent mine in
+    omega arith
+
+-- the coordinator's view fits with one worker's view more
+fits_gathered : (z : Setting) (s : CoreState) (c : CoordView) (v : WorkerView) → FitsCoord z s c → FitsWorker z s v → FitsCoord z s (gathered_coord c v)
+fits_gathered z s c v f g = record {
+  setting = f.setting;
+  made = f.made;
+  unmade = f.unmade;
+  unlabelled = f.unlabelled;
+  phase = f.phase;
+  ending = f.ending;
+  last = f.last;
+  stays = f.stays;
+  all_in = f.all_in;
+  gone = f.gone;
+  joined = either f g;
+}
+  where
+    either : FitsCoord z s c → FitsWorker z s v → (at : ℕ) (w : WorkerView) → get_elem? (v ∷ c.joined) at ≡ some w → FitsWorker z s w
+    either f g zero w found = subst (FitsWorker z s) (some-injective v w found) g
+    either f g (suc at) w found = f.joined at w found
+
+-- a seat that is given back changes nothing that is shown
+pub gathers : (z : Setting) (words : List ℕ) (views : List View) (place other : ℕ) (c : CoordView) (v : WorkerView) → ShowsSome z words views → get_elem? views place ≡ some (Coord c) → other ≢ place → get_elem? (set views place (Coord (gathered_coord c v))) other ≡ some (Worker v) → ShowsSome z words (gathered views place other c v)
+gathers z words views place other c v some_state at apart mine =
+    let s = some_state.state in
+    let sh = some_state.shows in
+    let d : CoordView = gathered_coord c v in
+    let changed : List View = set views place (Coord d) in
+    let is = same_coord z s words views place c sh at in
+    let old : FitsCoord z s c = sh.each place (Coord c) at in
+    let there : get_elem? views other ≡ some (Worker v) = sym (set_else views place other (Coord d) apart) ∙ mine in
+    let own : FitsWorker z s v = sh.each other (Worker v) there in
+    let fits : FitsCoord z s d = fits_gathered z s c v old own in
+    let here : get_elem? changed 0 ≡ some (Coord d) =
+    ap (get_elem? changed) (sym is.0) ∙ set_here views place (Coord d) (within views place (Coord c) at)
+    in
+    record {
+      state = s;
+      reachable = some_state.reachable;
+      shows = record {
+        setting = sh.setting;
+        width = sh.width;
+        word = sh.word;
+        pages = sh.pages;
+        merged = sh.merged;
+        coord = d;
+        first = set_else changed other 0 Spent (λ same. apart (sym same ∙ sym is.0)) ∙ here;
+        only = λ j e found. elim (at_set changed other j Spent (Coord e) found) [
+          | inl spent ↦ let clash = spent.1 in absurd (cc)
+          | inr before ↦ elim (at_set views place j (Coord d) (Coord e) before.1) [
+            | inl first ↦ first.0 ∙ is.0
+            | inr rest ↦ sh.only j e rest.1
+          ]
+        ];
+        each = λ j u found. elim (at_set changed other j Spent u found) [
+          | inl spent ↦ subst (Fits z s) spent.1 tt
+          | inr before ↦ elim (at_set views place j (Coord d) u before.1) [
+            | inl first ↦ subst (Fits z s) first.1 fits
+            | inr rest ↦ sh.each j u rest.1
+          ]
+        ];
+        once = λ i.
+            sum_gathered (seats_of i) views place other c v at mine refl
+            (sum_by-cons (λ (w : WorkerView). cond (w.worker == i) 1 0) v c.joined) ∙
+            (sh.once i ∙ ap (λ (e : CoordView). cond (nat_lt i e.made) 1 0) is.1);
+      };
+      tallied = record {
+        sums = λ page.
+            some_state.tallied.sums page ∙
+            sym
+            (sum_gathered (paged page) views place other c v at mine refl
+            (sum_by-cons (λ (w : WorkerView). added_to page w.additions) v c.joined));
+        rooms = λ page.
+            let before = some_state.tallied.rooms page in
+            let more = sum_by-cons (λ (w : WorkerView). left_to page w) v c.joined in
+            let same = sum_gathered (room page) views place other c v at mine refl (omega arith) in
+            omega arith;
+      };
+    }
+
+-- beside a coordinator that has all workers' seats back, no view adds to a page
+others_spent : (z : Setting) (s : CoreState) (words : List ℕ) (views : List View) (place : ℕ) (c : CoordView) → Shows z s words views → get_elem? views place ≡ some (Coord c) → ((i : ℕ) → i < c.made → seats_of i (Coord c) ≡ 1) → (page j : ℕ) (u : View) → j ≢ place → get_elem? views j ≡ some u → paged page u ≡ 0
+others_spent z s words views place c sh at all page j (Coord e) other found =
+    absurd (other (sh.only j e found ∙ sym (sh.only place c at)))
+others_spent z s words views place c sh at all page j (Worker v) other found =
+    let is = same_coord z s words views place c sh at in
+    let seated = subst (λ (d : CoordView). v.worker < d.made) is.1 (has_seat z s words views j v sh found) in
+    let two = sum_two (seats_of v.worker) views place j (Coord c) (Worker v) (λ same. other (sym same)) at found in
+    let once = sh.once v.worker in
+    let most = once_at_most (nat_lt v.worker sh.coord.made) in
+    let one : seats_of v.worker (Worker v) ≡ 1 = cond-true (v.worker == v.worker) 1 0 (eq-eqb v.worker v.worker refl) in
+    let back = all v.worker seated in
+    absurd (omega arith)
+others_spent z s words views place c sh at all page j Spent other found = refl
+
+-- where all workers' seats were given back, each page's word is its count at the start and all their additions
+pub last_word : (z : Setting) (words : List ℕ) (views : List View) (place : ℕ) (c : CoordView) → ShowsSome z words views → get_elem? views place ≡ some (Coord c) → ((i : ℕ) → i < c.made → seats_of i (Coord c) ≡ 1) → (page : ℕ) → page < length z.counts → get_or words (page + 1) 0 ≡ get_or z.counts page 0 + sum_by (λ w. added_to page w.additions) c.joined
+last_word z words views place c some_state at all page on =
+    let s = some_state.state in
+    let sh = some_state.shows in
+    let lone = sum_lone (paged page) views place (Coord c) at (others_spent z s words views place c sh at all page) in
+    let sums = some_state.tallied.sums page in
+    let found = sh.pages page on in
+    omega arith

@@ -1,0 +1,121 @@
+-- What the last words are, in terms of the seats that were given back.
+use Rattle.std.proofs.Common.{◌≡◌, ℕ, zero, suc, ◌+◌, ◌<◌, ◌≤◌, ◌==◌, cond, List, [], ◌∷◌, ◌++◌, All, length, map, get_or, count_by, IfSome, subst, ap, sym, ◌∙◌, refl, arith}
+use Rattle.std.specs.List.{sum_by}
+use Rattle.std.proofs.lemmas.List.{append-nil, length-append}
+use Rattle.std.proofs.lemmas.List.Sums.{sum_by-cons}
+use mathlib.Core.Option.{some, some-injective, some-ne-none}
+use lib.ListN.{get_elem?}
+use Rattle.atomic_table.specs.Table.{Final, Seen}
+use Rattle.like_core.specs.declared.sight.Sight.{Sight}
+use Rattle.like_core.specs.declared.setting.Setting.{Setting}
+use Rattle.like_core.specs.declared.view.WorkerView.{WorkerView}
+use Rattle.like_core.specs.declared.view.CoordView.{CoordView}
+use Rattle.like_core.specs.declared.view.View.{View}
+use Rattle.like_core.specs.declared.view.View.TheVariants.{Coord}
+use Rattle.like_core.specs.Post.{additions_of}
+use Rattle.like_core.specs.Views.{added_to, post_of, seats_of}
+use Rattle.like_core.specs.Shows.{ShowsSome, FitsWorker, FitsCoord}
+use Rattle.like_core.proofs.Posts.{additions_at}
+use Rattle.like_board.specs.declared.key.Key.{Key}
+use Rattle.like_board.specs.declared.worker_seat.WorkerSeat.{WorkerSeat}
+use Rattle.like_board.specs.Known.{coord_of}
+use Rattle.like_board.specs.Rule.{setting_of, IsShowing}
+use Rattle.like_board.specs.Seats.{seat_view, seat_meaning, AreAll, last_count}
+use Rattle.like_board.proofs.Moves.{if_some}
+use Rattle.like_board.proofs.Gathering.{last_word}
+
+-- what stands at a place is what is read there
+pub read_at : (l : List ℕ) (i n : ℕ) → get_elem? l i ≡ some n → get_or l i 0 ≡ n
+read_at [] i n at = absurd (some-ne-none n (sym at))
+read_at (x ∷ xs) zero n at = some-injective x n at
+read_at (x ∷ xs) (suc i) n at = read_at xs i n at
+
+module _ {A B : Type 0} (g : A → B) where
+  -- a sum over images
+  sum_by-map : (f : B → ℕ) (xs : List A) → sum_by f (map g xs) ≡ sum_by (λ x. f (g x)) xs
+  sum_by-map f [] = refl
+  sum_by-map f (x ∷ xs) =
+      let rest = sum_by-map f xs in
+      omega (arith, sum_by-cons f (g x) (map g xs), sum_by-cons (λ y. f (g y)) x xs)
+
+  -- the image at a place
+  at_mapped : (xs : List A) (k : ℕ) (d : A) → k < length xs → get_elem? (map g xs) k ≡ some (g (get_or xs k d))
+  at_mapped [] k d below = absurd (omega arith)
+  at_mapped (x ∷ xs) zero d below = refl
+  at_mapped (x ∷ xs) (suc k) d below = at_mapped xs k d (omega arith)
+
+-- equal terms have an equal sum
+sum_same : {A : Type 0} (f h : A → ℕ) (xs : List A) → ((k : ℕ) (a : A) → get_elem? xs k ≡ some a → f a ≡ h a) → sum_by f xs ≡ sum_by h xs
+sum_same f h [] each = refl
+sum_same f h (x ∷ xs) each =
+    let here = each zero x refl in
+    let rest = sum_same f h xs (λ k a at. each (suc k) a at) in
+    omega (arith, sum_by-cons f x xs, sum_by-cons h x xs)
+
+-- where all seats were given back, a page's word is its count at the start and what they mean to have added
+closed_word : (z : Setting) (words : List ℕ) (views : List View) (place : ℕ) (c : CoordView) → ShowsSome z words views → get_elem? views place ≡ some (Coord c) → c.made ≡ c.setting.workers → ((i : ℕ) → i < c.setting.workers → seats_of i (Coord c) ≡ 1) → (page : ℕ) → page < length c.setting.counts → get_or words (page + 1) 0 ≡ get_or c.setting.counts page 0 + sum_by (λ w. additions_of (post_of w) page) c.joined
+closed_word z words views place c some_state at made all page on =
+    let sh = some_state.shows in
+    let old : FitsCoord z some_state.state c = sh.each place (Coord c) at in
+    let same : c.setting ≡ z = old.setting in
+    let sized = ap (λ (y : Setting). length y.counts) same in
+    let word =
+    last_word z words views place c some_state at (λ i below. all i (omega arith)) page (omega arith)
+    in
+    let first = ap (λ (y : Setting). get_or y.counts page 0) same in
+    let sums =
+    sum_same (λ (w : WorkerView). additions_of (post_of w) page) (λ (w : WorkerView). added_to page w.additions) c.joined
+    (λ k w found.
+    let fits : FitsWorker z some_state.state w = old.joined k w found in
+    let marks = ap (λ (y : Setting). length y.marks) fits.setting in
+    let paired = sh.setting.marks in
+    additions_at w page (omega arith))
+    in
+    omega arith
+
+-- no worker whose seat was given back saw a later phase
+closed_phase : (z : Setting) (words : List ℕ) (views : List View) (place : ℕ) (c : CoordView) → ShowsSome z words views → get_elem? views place ≡ some (Coord c) → (k : ℕ) (w : WorkerView) → get_elem? c.joined k ≡ some w → IfSome w.last (λ sight. sight.number ≤ c.phase)
+closed_phase z words views place c some_state at k w found =
+    let old : FitsCoord z some_state.state c = some_state.shows.each place (Coord c) at in
+    let fits : FitsWorker z some_state.state w = old.joined k w found in
+    let same = old.phase in
+    if_some w.last (λ (sight : Sight). sight.number ≤ some_state.state.phase) (λ (sight : Sight). sight.number ≤ c.phase)
+    (λ sight below. omega arith)
+    fits.number
+
+-- the last words and phases, where the coordinator's seat has all workers' seats
+pub closes : {S : Type 0} (key : Key) (id : ℕ) (me : View) (words : List ℕ) (slots : List S) (c : CoordView) (seats : List WorkerSeat) → Final (Seen (IsShowing key) id me) words slots → me ≡ Coord (record c { joined = map seat_view seats ++ c.joined }) → c.joined ≡ [] → c.made ≡ c.setting.workers → AreAll c.setting.workers seats → ((page : ℕ) → page < length c.setting.counts → get_or words (page + 1) 0 ≡ last_count c.setting seats page) × All (λ seat. IfSome (seat_meaning seat).last (λ sight. sight.number ≤ c.phase)) seats
+closes key id me words slots c seats final me_is none made all =
+    let z = setting_of key in
+    let views : List View = final.0.views in
+    let back : map seat_view seats ++ c.joined ≡ map seat_view seats =
+    ap (λ (l : List WorkerView). map seat_view seats ++ l) none ∙ append-nil (map seat_view seats)
+    in
+    let d : CoordView = record c { joined = map seat_view seats } in
+    let is : me ≡ Coord d = me_is ∙ ap (λ (l : List WorkerView). Coord (record c { joined = l })) back in
+    let at : get_elem? views id ≡ some (Coord d) = final.1.1 ∙ ap some is in
+    let shows : ShowsSome z words views = subst (λ (l : List ℕ). ShowsSome z l views) final.2 final.1.0 in
+    let each : (i : ℕ) → i < c.setting.workers → seats_of i (Coord d) ≡ 1 =
+    λ i below. sum_by-map seat_view (λ (w : WorkerView). cond (w.worker == i) 1 0) seats ∙ all i below
+    in (
+      λ page on.
+          closed_word z words views id d shows at made each page on ∙
+          ap (λ (k : ℕ). get_or c.setting.counts page 0 + k) (sum_by-map seat_view (λ (w : WorkerView). additions_of (post_of w) page) seats),
+      λ k seat below.
+          closed_phase z words views id d shows at k (seat_view (get_or seats k seat)) (at_mapped seat_view seats k seat below),
+    )
+
+-- a view that is some coordinator's is the coordinator's that it is read as
+pub as_coord : (v : View) (c : CoordView) → v ≡ Coord c → v ≡ Coord (coord_of v)
+as_coord v c is = is ∙ ap Coord (sym (ap coord_of is))
+
+last_read : {A : Type 0} (xs : List A) (x : A) → get_or (xs ++ x ∷ []) (length xs) x ≡ x
+last_read [] x = refl
+last_read (y ∷ ys) x = last_read ys x
+
+-- what holds of each element of a list holds of its last
+pub All-last : {A : Type 0} (P : A → Type 0) (all front : List A) (x : A) → all ≡ front ++ x ∷ [] → All P all → P x
+All-last {A} P all front x is each =
+    let here : All P (front ++ x ∷ []) = subst (All P) is each in
+    let long = length-append front (x ∷ []) in
+    subst P (last_read front x) (here (length front) x (omega arith))

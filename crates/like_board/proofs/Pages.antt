@@ -1,0 +1,93 @@
+-- A step on a page's word keeps what the board shows.
+use Rattle.std.proofs.Common.{◌≡◌, ◌≢◌, ℕ, ◌+◌, ◌<◌, true, inl, inr, List, [], length, get_or, set, subst, ap, sym, ◌∙◌, refl, arith}
+use Rattle.std.proofs.Math.ListN.{length-set}
+use Rattle.std.proofs.lemmas.List.{get_or-set_same, get_or-set_other}
+use Rattle.std.proofs.lemmas.Bool.{cases_eq}
+use mathlib.Core.Option.{some}
+use lib.ListN.{get_elem?}
+use Rattle.like_core.specs.declared.sight.CoordSight.{CoordSight}
+use Rattle.like_core.specs.declared.setting.Setting.{Setting}
+use Rattle.like_core.specs.declared.view.WorkerView.{WorkerView}
+use Rattle.like_core.specs.declared.view.CoordView.{CoordView}
+use Rattle.like_core.specs.declared.view.View.{View}
+use Rattle.like_core.specs.declared.view.View.TheVariants.{Coord, Worker, Spent}
+use Rattle.like_core.specs.Numbers.{CoordSees}
+use Rattle.like_core.specs.State.{CoreState, Label, labelled, numbers}
+use Rattle.like_core.specs.ShownWord.{shown_word}
+use Rattle.like_core.specs.Views.{seats_of}
+use Rattle.like_core.specs.Shows.{Shows, Fits, FitsWorker, FitsCoord}
+use Rattle.like_board.proofs.Moves.{if_some, joined_other, worker_other, worker_steps}
+
+-- the state with these unmerged and applied likes
+abbrev pub with_likes : CoreState → (ℕ → List ℕ) → (ℕ → List Label) → CoreState
+with_likes s unmerged applied = record s { unmerged = unmerged; applied = applied }
+
+-- the likes of all workers but one have the labels that they had
+abbrev pub KeepsOthers : CoreState → (ℕ → List Label) → ℕ → Type 0
+KeepsOthers s applied i = (j phase page : ℕ) → j ≢ i → labelled j phase (applied page) ≡ labelled j phase (s.applied page)
+
+-- a view of another worker keeps fitting
+fits_worker_else : (z : Setting) (s : CoreState) (unmerged : ℕ → List ℕ) (applied : ℕ → List Label) (i : ℕ) (v : WorkerView) → KeepsOthers s applied i → v.worker ≢ i → FitsWorker z s v → FitsWorker z (with_likes s unmerged applied) v
+fits_worker_else z s unmerged applied i v keeps other f = record {
+  setting = f.setting;
+  there = f.there;
+  state = f.state;
+  number = f.number;
+  ending = f.ending;
+  labels = λ phase page. keeps v.worker phase page other ∙ f.labels phase page;
+}
+
+-- the view of another seat keeps fitting
+fits_else : (z : Setting) (s : CoreState) (unmerged : ℕ → List ℕ) (applied : ℕ → List Label) (i : ℕ) → KeepsOthers s applied i → (u : View) → seats_of i u ≡ 0 → ((c : CoordView) → u ≡ Coord c → i < c.made) → Fits z s u → Fits z (with_likes s unmerged applied) u
+fits_else z s unmerged applied i keeps (Coord c) none has_seat f =
+    let seated = has_seat c refl in
+    let t : CoreState = with_likes s unmerged applied in
+    record {
+      setting = f.setting;
+      made = f.made;
+      unmade = f.unmade;
+      unlabelled = λ j phase page past below.
+          keeps j phase page (λ same. absurd (omega arith)) ∙ f.unlabelled j phase page past below;
+      phase = f.phase;
+      ending = f.ending;
+      last = f.last;
+      stays = if_some c.last
+          (λ (sight : CoordSight). sight.all_in ≡ true → CoordSees (numbers z s) sight × (c.word ≡ shown_word z s))
+          (λ (sight : CoordSight). sight.all_in ≡ true → CoordSees (numbers z t) sight × (c.word ≡ shown_word z t))
+          (λ sight before all_in.
+          let now = before all_in in (
+            record { number = now.0.number; ending = now.0.ending; all_in = now.0.all_in; all_gone = now.0.all_gone },
+            now.1,
+          ))
+          f.stays;
+      all_in = f.all_in;
+      gone = f.gone;
+      joined = λ place v at.
+          fits_worker_else z s unmerged applied i v keeps (joined_other c i place v none at) (f.joined place v at);
+    }
+fits_else z s unmerged applied i keeps (Worker v) none has_seat f =
+    fits_worker_else z s unmerged applied i v keeps (worker_other i v none) f
+fits_else z s unmerged applied i keeps Spent none has_seat f = tt
+
+-- after a step on a page's word, with a new view of its own that fits, the words and the views show the state after
+pub page_steps : (z : Setting) (s : CoreState) (unmerged : ℕ → List ℕ) (applied : ℕ → List Label) (words : List ℕ) (views : List View) (place : ℕ) (v w : WorkerView) (page word : ℕ) → Shows z s words views → get_elem? views place ≡ some (Worker v) → w.worker ≡ v.worker → page < length z.counts → word ≡ get_or z.counts page 0 + length (applied page) → ((q : ℕ) → q ≢ page → length (applied q) ≡ length (s.applied q)) → ((j : ℕ) → unmerged j ≡ []) → KeepsOthers s applied v.worker → FitsWorker z (with_likes s unmerged applied) w → Shows z (with_likes s unmerged applied) (set words (page + 1) word) (set views place (Worker w))
+page_steps z s unmerged applied words views place v w page word sh at number on word_is others merged keeps fits =
+    let wide = sh.width in
+    let t : CoreState = with_likes s unmerged applied in
+    let later : List ℕ = set words (page + 1) word in
+    let pages : (q : ℕ) → q < length z.counts → get_or later (q + 1) 0 ≡ get_or z.counts q 0 + length (applied q) =
+    λ q below.
+    elim (cases_eq q page) [
+      | inl same ↦ rw same (get_or-set_same words (page + 1) word 0 (omega arith) ∙ word_is)
+      | inr other ↦
+          get_or-set_other words (page + 1) (q + 1) word 0 (λ eq. other (omega arith)) ∙
+          (sh.pages q below ∙ ap (λ (n : ℕ). get_or z.counts q 0 + n) (sym (others q other)))
+    ]
+    in
+    worker_steps z s t words later views place v w sh at number
+    (length-set words (page + 1) word)
+    (get_or-set_other words (page + 1) 0 word 0 (λ eq. absurd (omega arith)) ∙ sh.word)
+    pages
+    merged
+    fits
+    (λ u none seat f. fits_else z s unmerged applied v.worker keeps u none seat f)

@@ -1,0 +1,79 @@
+-- A read of a page's word is the event, and keeps what the board shows.
+use Rattle.std.proofs.Common.{◌≡◌, ◌≢◌, ℕ, ◌+◌, ◌<◌, ◌≤◌, List, length, get_or, set, ap, sym, ◌∙◌, refl, arith}
+use mathlib.Core.Option.{some}
+use lib.ListN.{get_elem?}
+use Rattle.like_core.specs.declared.worker_state.WorkerState.TheVariants.{Runs}
+use Rattle.like_core.specs.declared.event.Event.TheVariants.{Read}
+use Rattle.like_core.specs.declared.shown.Shown.TheVariants.{Count}
+use Rattle.like_core.specs.declared.setting.Setting.{Setting}
+use Rattle.like_core.specs.declared.view.WorkerView.{WorkerView}
+use Rattle.like_core.specs.declared.view.View.{View}
+use Rattle.like_core.specs.declared.view.View.TheVariants.{Worker}
+use Rattle.like_core.specs.Phase.{split}
+use Rattle.like_core.specs.Table.{Permits}
+use Rattle.like_core.specs.State.{marked, numbers}
+use Rattle.like_core.specs.Post.{MayRead, slices, phase_of}
+use Rattle.like_core.specs.Views.{added_to, post_of}
+use Rattle.like_core.specs.Tallies.{paged}
+use Rattle.like_core.specs.Shows.{Shows, ShowsSome, FitsWorker, IsStep}
+use Rattle.like_core.proofs.InPhase.{reached_in_phase}
+use Rattle.like_board.proofs.ViewLists.{sum_part}
+use Rattle.like_board.proofs.WorkerSteps.{running_is}
+use Rattle.like_board.proofs.Pages.{page_steps}
+use Rattle.like_board.proofs.Tallying.{tallied_on}
+
+-- a read is the event
+pub reads : (z : Setting) (words : List ℕ) (views : List View) (place : ℕ) (v : WorkerView) (page : ℕ) → ShowsSome z words views → get_elem? views place ≡ some (Worker v) → MayRead (post_of v) page → IsStep z (Read v.worker page) (Count (get_or words (page + 1) 0)) (Worker v) (Worker v) × ShowsSome z (set words (page + 1) (get_or words (page + 1) 0)) (set views place (Worker v)) × (added_to page v.additions ≤ get_or words (page + 1) 0)
+reads z words views place v page some_state at may =
+    let s = some_state.state in
+    let sh = some_state.shows in
+    let i = v.worker in
+    let old : FitsWorker z s v = sh.each place (Worker v) at in
+    let runs = running_is (λ _. Unit {0}) v.state may.runs in
+    let here : s.state i ≡ Runs runs.0 = old.state ∙ runs.1 in
+    let now : runs.0 ≡ s.phase = (reached_in_phase z s some_state.reachable).runs i runs.0 here in
+    let present : phase_of v.state ≡ s.phase = ap phase_of runs.1 ∙ now in
+    let marks : length v.setting.marks ≡ length z.counts =
+    ap (λ (y : Setting). length y.marks) old.setting ∙ sh.setting.marks
+    in
+    let may_there = may.there in
+    let on : page < length z.counts = omega arith in
+    let same : split (marked z) s.phase page ≡ slices (post_of v) page =
+    sym (λ m. split (marked (old.setting m)) (present m) page)
+    in
+    let sums = some_state.tallied.sums page in
+    let part = sum_part (paged page) views place (Worker v) at in
+    let found : get_or words (page + 1) 0 ≡ get_or z.counts page 0 + length (s.applied page) = sh.pages page on in
+    let permits : Permits (numbers z s) (Read i page) =
+    record { there = (old.there, on); suits = (here ∙ ap Runs now, same ∙ may.plain); leaves_last = tt; room = tt }
+    in
+    let shows : Shows z s (set words (page + 1) (get_or words (page + 1) 0)) (set views place (Worker v)) =
+    page_steps z s s.unmerged s.applied words views place v v page (get_or words (page + 1) 0) sh at refl on found
+    (λ q other. refl)
+    sh.merged
+    (λ j phase q other. refl)
+    old
+    in (
+      record {
+        words = words;
+        views = views;
+        place = place;
+        state = s;
+        reachable = some_state.reachable;
+        shows = sh;
+        mine = at;
+        before = tt;
+        permits = permits;
+        tells = ap Count found;
+        changed = page + 1;
+        word = get_or words (page + 1) 0;
+        shows_after = shows;
+      },
+      record {
+        state = s;
+        reachable = some_state.reachable;
+        shows = shows;
+        tallied = tallied_on s s views place (Worker v) (Worker v) (λ _. refl) at (λ _. refl) (λ _. refl) some_state.tallied;
+      },
+      omega arith,
+    )

@@ -1,0 +1,48 @@
+-- What the views have added, and may still add, after a step that adds nothing.
+use Rattle.std.proofs.Common.{◌≡◌, ℕ, ◌+◌, ◌*◌, ◌<◌, ◌≤◌, List, [], ◌∷◌, ◌++◌, length, set, ap, sym, ◌∙◌, refl, arith}
+use Rattle.std.proofs.lemmas.List.Sums.{sum_by_push}
+use Rattle.std.specs.List.{sum_by}
+use mathlib.Core.Option.{some}
+use lib.ListN.{get_elem?}
+use Rattle.like_core.specs.declared.setting.Setting.{Setting}
+use Rattle.like_core.specs.declared.view.CoordView.{CoordView}
+use Rattle.like_core.specs.declared.view.View.{View}
+use Rattle.like_core.specs.declared.view.View.TheVariants.{Coord, Worker}
+use Rattle.like_core.specs.State.{CoreState, Label}
+use Rattle.like_core.specs.Views.{fresh, made_coord}
+use Rattle.like_core.specs.Tallies.{Tallied, paged, room}
+use Rattle.like_board.proofs.ViewLists.{sum_set, sum_swap}
+
+-- after a step that applies no like, with a new view that has the same additions
+pub tallied_on : (s t : CoreState) (views : List View) (place : ℕ) (a b : View) → ((page : ℕ) → t.applied page ≡ s.applied page) → get_elem? views place ≡ some a → ((page : ℕ) → paged page b ≡ paged page a) → ((page : ℕ) → room page b ≡ room page a) → Tallied s views → Tallied t (set views place b)
+tallied_on s t views place a b applied at same_pages same_rooms old = record {
+  sums = λ page.
+      ap (λ (l : List Label). length l) (applied page) ∙
+      (old.sums page ∙ sym (sum_set (paged page) views place a b at (same_pages page)));
+  rooms = λ page.
+      let sized = ap (λ (l : List Label). length l) (applied page) in
+      let same = sum_set (room page) views place a b at (same_rooms page) in
+      let before = old.rooms page in
+      omega arith;
+}
+
+-- after a worker's seat was made
+pub tallied_made : (z : Setting) (s : CoreState) (views : List View) (place : ℕ) (c : CoordView) → get_elem? views place ≡ some (Coord c) → c.made < 16 → Tallied s views → Tallied s (set views place (Coord (made_coord c)) ++ Worker (fresh z c.made) ∷ [])
+tallied_made z s views place c at few old =
+    let d : CoordView = made_coord c in
+    let new : View = Worker (fresh z c.made) in
+    let changed : List View = set views place (Coord d) in
+    record {
+      sums = λ page.
+          let before = old.sums page in
+          let same = sum_set (paged page) views place (Coord c) (Coord d) at refl in
+          let more = sum_by_push (paged page) changed new in
+          let none : paged page new ≡ 0 = refl in
+          omega arith;
+      rooms = λ page.
+          let before = old.rooms page in
+          let swap = sum_swap (room page) views place (Coord c) (Coord d) at in
+          let more = sum_by_push (room page) changed new in
+          let all : room page new ≡ 64000000 = refl in
+          omega arith;
+    }

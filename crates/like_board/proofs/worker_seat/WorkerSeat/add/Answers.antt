@@ -1,0 +1,16 @@
+use Rattle.std.proofs.Common.{◌≡◌, ap, arith}
+use Rattle.atomic_table.specs.Seated.{TableId}
+use Rattle.like_board.proofs.Allowed.{adding_to}
+use Rattle.like_board.proofs.worker_seat.WorkerSeat.add.Goals as goal
+
+pub fetch_add-requires : goal.fetch_add-requires
+fetch_add-requires c =
+    let seat = c.args.self.now in
+    let board = c.args.board.now in
+    let words = ap (λ (t : TableId). t.words) c.requires.here in
+    let sized = seat.sized in
+    let there = c.requires.may.there in (
+      c.requires.here,
+      omega arith,
+      adding_to board.table.shared.key _ _ _ c.args.page c.args.n seat.is_worker c.requires.may,
+    )

@@ -1,0 +1,57 @@
+//! How the seats of a board's workers are made.
+ghost use Rattle.std.specs.Prelude.{◌≡◌, ◌+◌, ◌<◌, ◌≤◌, [], length, IfOk, OnOk};
+ghost use Rattle.like_core.specs.declared.view.View.TheVariants.{Coord};
+ghost use Rattle.like_core.specs.Post.{IsFresh};
+ghost use Rattle.like_core.specs.Views.{fresh, made_coord};
+ghost use Rattle.like_board.specs.Known.{coord_of};
+ghost use Rattle.like_board.specs.Seats.{board_id, seat_board, seat_view, seat_meaning, AreFresh};
+
+use crate::board::Board;
+use crate::plays::MakesWorker;
+use crate::worker_seat::WorkerSeat;
+use atomic_table::Seat;
+use like_core::View;
+use std::alloc::{AllocError, Global};
+
+/// Makes the seat of the next worker.
+fn make_seat(board: &Board, coord: &mut Seat<(), View>, number: u32) -> WorkerSeat
+    requires here { coord.old.table_id ≡ board_id board.now }
+    requires coord { coord.old.me ≡ (Coord (coord_of coord.old.me.0), []) }
+    requires sized { coord.old.table_id.words ≡ length (coord_of coord.old.me.0).setting.marks + 1 }
+    requires next { number ≡ (coord_of coord.old.me.0).made }
+    requires room { number < (coord_of coord.old.me.0).setting.workers }
+    requires few { number < 16 }
+    ensures board { coord.new.table_id ≡ coord.old.table_id }
+    ensures coord { coord.new.me ≡ (Coord (made_coord (coord_of coord.old.me.0)), []) }
+    ensures seat_board { seat_board result ≡ coord.old.table_id }
+    ensures seat_view { seat_view result ≡ fresh (coord_of coord.old.me.0).setting number }
+    ensures fresh { IsFresh (seat_meaning result) }
+{
+    let seat = board.table.shared.split_seat::<MakesWorker>(coord);
+    WorkerSeat { seat, number }
+}
+
+/// Makes the seats of all workers, in order.
+pub(crate) fn make_seats(
+    alloc: Global,
+    board: &Board,
+    coord: &mut Seat<(), View>,
+    workers: u32,
+) -> Result<Vec<WorkerSeat>, AllocError>
+    requires here { coord.old.table_id ≡ board_id board.now }
+    requires coord { coord.old.me ≡ (Coord (coord_of coord.old.me.0), []) }
+    requires sized { coord.old.table_id.words ≡ length (coord_of coord.old.me.0).setting.marks + 1 }
+    requires none { (coord_of coord.old.me.0).made ≡ 0 }
+    requires all { workers ≡ (coord_of coord.old.me.0).setting.workers }
+    requires few { workers ≤ 16 }
+    ensures board { OnOk result (coord.new.table_id ≡ coord.old.table_id) }
+    ensures coord { OnOk result (coord.new.me ≡ (Coord (record (coord_of coord.old.me.0) { made = workers }), [])) }
+    ensures len { IfOk result (λ seats. length seats.items ≡ workers) }
+    ensures seats { IfOk result (λ seats. AreFresh coord.old.table_id (coord_of coord.old.me.0).setting seats.items) }
+{
+    let mut seats = Vec::with_capacity(alloc, workers as usize)?;
+    for number in 0..workers {
+        seats.push_reserved(make_seat(board, coord, number));
+    }
+    Ok(seats)
+}
