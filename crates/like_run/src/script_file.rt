@@ -1,0 +1,143 @@
+ghost use Rattle.std.specs.Prelude.{◌≡◌, ◌-◌, ◌<◌, ◌∷◌, List, MatchOption, MatchResult, Some, map, option_map};
+ghost use Rattle.std.specs.List.{AllByRecursion};
+ghost use Rattle.like_records.specs.Decimal.{decimal_value};
+ghost use Rattle.like_records.specs.Reading.{records_of};
+ghost use Rattle.like_requests.specs.First.{FailsFirst};
+ghost use Rattle.like_requests.specs.Rows.{PassAll, Record};
+ghost use Rattle.like_run.specs.ScriptFile.{AsksEntry, AsksEntryRecord, IsEntry, IsIndex, IsScriptFault, IsScriptFile, Names, entry_of, entry_tests, named, script_header};
+
+use crate::turned::Turned;
+use like_records::{Records, RecordsFault, decimal};
+use std::alloc::{AllocFailed, Global};
+use std::io::Read;
+use thiserror::Error;
+
+/// The most entries of a script.
+pub const MAX_ENTRIES: u32 = 1_000_000;
+
+/// The greatest number that a script file may give a submitter or a worker.
+pub const MAX_INDEX: u64 = 4_294_967_295;
+
+/// Why a script file has no entries. Rows count records; the header is row 0.
+#[derive(Clone, Copy, Debug, PartialEq, Eq, Error)]
+pub enum ScriptFault {
+    /// The reader failed.
+    #[error("read failed")]
+    Read,
+    /// The record is no entry; at row 0, the first record isn't the header, or there is none.
+    #[error("row {row}: not a turn")]
+    Line { row: u32 },
+    /// A 1,000,001st record is good.
+    #[error("more than 1000000 turns")]
+    TooMany,
+    /// Memory was refused.
+    #[error("out of memory")]
+    Memory,
+}
+
+impl From<RecordsFault> for ScriptFault {
+    ghost use Rattle.std.specs.Prelude.{◌≡◌};
+    ghost use Rattle.like_run.specs.ScriptFile.{fault_of};
+
+    ghost from_gives = { λ why fault. fault ≡ fault_of why };
+
+    fn from(why: RecordsFault) -> Self {
+        match why {
+            RecordsFault::Read => ScriptFault::Read,
+            RecordsFault::Memory => ScriptFault::Memory,
+        }
+    }
+}
+
+impl From<AllocFailed<Turned>> for ScriptFault {
+    ghost use Rattle.std.specs.Prelude.{◌≡◌};
+    ghost use Rattle.like_run.specs.declared.script_file.ScriptFault.TheVariants.{Memory};
+
+    ghost from_gives = { λ _ fault. fault ≡ Memory };
+
+    fn from(_: AllocFailed<Turned>) -> Self {
+        ScriptFault::Memory
+    }
+}
+
+/// Reads a script file: CSV by the default settings, the header `turn,index`, and a record for each entry. The first
+/// record that is no entry ends it, or else the 1,000,001st.
+pub fn read_script<R: Read + Drop>(alloc: Global, reader: R) -> Result<Vec<Turned>, ScriptFault>
+    ensures { (rows : List Record) → option_map records_of (R.remaining reader) ≡ Some rows
+        → MatchResult result (λ entries. IsScriptFile rows entries.items) (IsScriptFault rows) }
+{
+    let mut records = Records::new(alloc, reader);
+    if !records.read_next()? || !records.fields_are(&["turn", "index"]) {
+        return Err(ScriptFault::Line { row: 0 });
+    }
+    read_entries(alloc, &mut records)
+}
+
+// The entries that the records left make.
+fn read_entries<R: Read>(
+    alloc: Global,
+    records: &mut Records<R>,
+) -> Result<Vec<Turned>, ScriptFault>
+    ensures { (body : List Record) → records.old.left ≡ Some body
+        → MatchResult result
+        (λ entries. PassAll AsksEntryRecord entry_tests body × (entries.items ≡ map entry_of body))
+        (IsScriptFault (script_header ∷ body)) }
+{
+    let mut entries = Vec::new(alloc);
+    for row in 1..MAX_ENTRIES + 2 {
+        if !records.read_next()? {
+            return Ok(entries);
+        }
+        entries.push(entry_at(records, row)?)?;
+    }
+    unreachable!()
+}
+
+// The entry that the present record makes at this row.
+fn entry_at<R: Read>(records: &Records<R>, row: u32) -> Result<Turned, ScriptFault>
+    requires { 0 < row }
+    ensures { MatchResult result
+        (λ entry. AllByRecursion (AsksEntry (row - 1) records.now.fields) (entry_tests row) × (entry ≡ entry_of records.now.fields))
+        (FailsFirst (AsksEntry (row - 1) records.now.fields) (entry_tests row)) }
+{
+    let Some(entry) = entry_in(records) else {
+        return Err(ScriptFault::Line { row });
+    };
+    if row > MAX_ENTRIES {
+        return Err(ScriptFault::TooMany);
+    }
+    Ok(entry)
+}
+
+// The entry that the present record makes, if it makes one.
+fn entry_in<R: Read>(records: &Records<R>) -> Option<Turned>
+    ensures { MatchOption result (¬ IsEntry records.now.fields) (λ entry. IsEntry records.now.fields × (entry ≡ entry_of records.now.fields)) }
+{
+    if records.field_count() != 2 {
+        return None;
+    }
+    entry_named(records.field(0), records.field(1))
+}
+
+// The entry that two fields name, if they name one.
+fn entry_named(turn: &[u8], index: &[u8]) -> Option<Turned>
+    ensures { MatchOption result (¬ Names turn.now index.now) (λ entry. Names turn.now index.now × (entry ≡ named turn.now index.now)) }
+{
+    if turn == b"open".as_slice() {
+        return Some(Turned::OpenOne(index_named(index)?));
+    }
+    if turn == b"worker".as_slice() {
+        return Some(Turned::Worker(index_named(index)?));
+    }
+    if turn == b"coordinator".as_slice() && index == b"0".as_slice() {
+        return Some(Turned::Coordinator);
+    }
+    None
+}
+
+// The number of a submitter or a worker that a field writes, if it writes one.
+fn index_named(index: &[u8]) -> Option<u32>
+    ensures { MatchOption result (¬ IsIndex index.now) (λ number. IsIndex index.now × (number ≡ decimal_value index.now)) }
+{
+    decimal(index, 10, MAX_INDEX).map(|number| number as u32)
+}

@@ -1,0 +1,2 @@
+//! Worked examples, with values that were worked out by hand.
+mod scripts;

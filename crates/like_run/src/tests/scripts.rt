@@ -1,0 +1,53 @@
+//! Script files.
+use crate::{ScriptFault, Turned, read_script};
+use std::alloc::Global;
+use std::process::Abort;
+use std::test::Fail;
+
+// Asserts that a script file is refused with this fault.
+fn assert_fault(rt: &impl Abort, alloc: Global, text: &str, fault: ScriptFault) {
+    match read_script(alloc, text.as_bytes()) {
+        Ok(_) => panic!(rt; "read: {text}"),
+        Err(met) => assert_eq!(rt; met, fault, "at {text}"),
+    }
+}
+
+#[test]
+fn reads_a_script(rt: HostRuntime) -> Result<(), Fail> {
+    let text = "turn,index\r\nopen,0\r\nworker,0004294967\ncoordinator,0\n\nopen,4294967295";
+    let entries = read_script(rt.alloc(), text.as_bytes())?;
+    let wanted = [
+        Turned::OpenOne(0),
+        Turned::Worker(4_294_967),
+        Turned::Coordinator,
+        Turned::OpenOne(4_294_967_295),
+    ];
+    assert_eq!(rt; entries.as_slice(), wanted.as_slice());
+    Ok(())
+}
+
+#[test]
+fn a_script_may_have_no_entry(rt: HostRuntime) -> Result<(), Fail> {
+    assert!(rt; read_script(rt.alloc(), b"turn,index\n".as_slice())?.is_empty());
+    Ok(())
+}
+
+#[test]
+fn names_the_fault_of_a_script_file(rt: HostRuntime) {
+    let rows = [
+        ("", 0),
+        ("turn,place\nopen,0\n", 0),
+        ("turn\n", 0),
+        ("turn,index\nworker,0\nfly,1\n", 2),
+        ("turn,index\nopen\n", 1),
+        ("turn,index\nopen,0,0\n", 1),
+        ("turn,index\nopen,0\nworker,0\nworker,-1\n", 3),
+        ("turn,index\nopen,4294967296\n", 1),
+        ("turn,index\nopen,\n", 1),
+        ("turn,index\ncoordinator,1\n", 1),
+        ("turn,index\ncoordinator,00\n", 1),
+    ];
+    for (text, row) in rows {
+        assert_fault(&rt, rt.alloc(), text, ScriptFault::Line { row });
+    }
+}
