@@ -9,8 +9,8 @@ use Rattle.std.specs.List.{cons_option, slice_get}
 use Rattle.std.specs.Option.{option_to_list}
 use Rattle.like_requests.specs.Pages.{Page}
 use Rattle.like_requests.specs.declared.request.Request.{Request}
-use Rattle.like_driver.specs.declared.report.Answer.{Answer}
-use Rattle.like_driver.specs.Likes.{AcceptedLike, accepted_like}
+use Rattle.like_replies.specs.declared.answer.Answer.{Answer}
+use Rattle.like_roles.specs.Likes.{AcceptedLike, accepted_like}
 use Rattle.like_driver.specs.Tallies.{AreAnswered, likes_asked, reply_after}
 use Rattle.like_driver.proofs.Lists.{slice_get-before, slice_get-at_end}
 

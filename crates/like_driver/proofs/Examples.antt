@@ -1,19 +1,17 @@
 -- Worked examples of the definitions: three likes by two users, two verdicts of four, and a look that two slices meet.
-use Rattle.std.proofs.Common.{◌≡◌, ℕ, ◌+◌, List, [], ◌∷◌, Option, Some, None, true, false, refl, arith}
-use Rattle.std.specs.Prelude.{codes, decimal}
+use Rattle.std.proofs.Common.{◌≡◌, ℕ, ◌+◌, List, [], ◌∷◌, Some, None, true, false, refl, arith}
+use Rattle.std.specs.Prelude.{codes}
 use Rattle.like_requests.specs.Pages.{Page}
 use Rattle.like_requests.specs.declared.request.Op.TheVariants.{Like, Look}
 use Rattle.like_requests.specs.declared.request.PageRef.TheVariants.{Known, Unknown}
 use Rattle.like_requests.specs.declared.request.Request.{Request}
 use Rattle.like_requests.specs.declared.verdict.Verdict.TheVariants.{OtherHome, UnknownPage, UnknownUser}
-use Rattle.like_driver.specs.declared.reply.Reply.{Reply}
-use Rattle.like_driver.specs.declared.reply.Reply.TheVariants.{Liked, Seen, Refused}
-use Rattle.like_driver.specs.Likes.{Between, initial_count, last_like, likes, likes_below, likes_up_to, likes_within}
-use Rattle.like_driver.specs.Ran.{Ran}
-use Rattle.like_driver.specs.Replies.{IsRightAnswer}
-use Rattle.like_driver.specs.Reported.{Reported}
-use Rattle.like_driver.specs.Rows.{report_rows}
-use Rattle.like_driver.specs.Service.{Service}
+use Rattle.like_roles.specs.declared.reply.Reply.{Reply}
+use Rattle.like_roles.specs.declared.reply.Reply.TheVariants.{Liked, Seen, Refused}
+use Rattle.like_roles.specs.Likes.{Between, initial_count, last_like, likes, likes_below, likes_up_to, likes_within}
+use Rattle.like_roles.specs.declared.log.Ran.{Ran}
+use Rattle.like_roles.specs.Replies.{IsRightAnswer}
+use Rattle.like_roles.specs.Service.{Service}
 
 abbrev page_a : ℕ → Page
 page_a count = record { name = codes "a"; count = count; split = true }
@@ -42,14 +40,6 @@ plain_last = refl
 
 plain_first : last_like plain 0 [] ≡ None
 plain_first = refl
-
-plain_rows : report_rows plain.pages (record { replies = (record { phase = 0; stashed = false; reply = Liked } ∷ []) ∷ []; counts = 13 ∷ []; last = None ∷ Some 0 ∷ [] })
-    ≡ (codes "row" ∷ codes "id" ∷ codes "number" ∷ codes "phase" ∷ codes "answer" ∷ codes "page" ∷ codes "count" ∷ [])
-    ∷ (codes "reply" ∷ decimal 0 ∷ decimal 1 ∷ decimal 0 ∷ codes "liked" ∷ [] ∷ [] ∷ [])
-    ∷ (codes "page" ∷ decimal 0 ∷ [] ∷ [] ∷ [] ∷ codes "a" ∷ decimal 13 ∷ [])
-    ∷ (codes "user" ∷ decimal 1 ∷ [] ∷ [] ∷ [] ∷ codes "a" ∷ [] ∷ [])
-    ∷ []
-plain_rows = refl
 
 -- two submitters, and the verdicts on three requests of the first
 abbrev judged : Service

@@ -5,5 +5,4 @@ pub mod Plans
 pub mod Right
 pub mod RunList
 pub mod Tallied
-pub mod Texts
 pub mod Writable

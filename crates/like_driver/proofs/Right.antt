@@ -15,13 +15,13 @@ use Rattle.like_requests.specs.declared.request.PageRef.TheVariants.{Known, Unkn
 use Rattle.like_requests.specs.declared.request.Request.{Request}
 use Rattle.like_requests.specs.declared.verdict.Verdict.{Verdict}
 use Rattle.like_requests.specs.declared.verdict.Verdict.TheVariants.{Accepted, UnknownUser, OtherHome, UnknownPage}
-use Rattle.like_driver.specs.declared.report.Answer.{Answer}
-use Rattle.like_driver.specs.Likes.{AcceptedLike, Between, initial_count, like_ran, last_page, likes_among, likes_below, likes_ran, likes_up_to, likes_within, page_likes}
-use Rattle.like_driver.specs.Ran.{Ran}
+use Rattle.like_replies.specs.declared.answer.Answer.{Answer}
+use Rattle.like_roles.specs.Likes.{AcceptedLike, Between, initial_count, like_ran, last_page, likes_among, likes_below, likes_ran, likes_up_to, likes_within, page_likes}
+use Rattle.like_roles.specs.declared.log.Ran.{Ran}
 use Rattle.like_driver.specs.Replayed.{IsRightReport}
-use Rattle.like_driver.specs.Replies.{Answers, HasRightAnswers, HasRightCounts, IsRightAnswer, IsSeen, looked_at}
-use Rattle.like_driver.specs.Reported.{Reported}
-use Rattle.like_driver.specs.Service.{Service, request_of}
+use Rattle.like_roles.specs.Replies.{Answers, HasRightAnswers, HasRightCounts, IsRightAnswer, IsSeen, looked_at}
+use Rattle.like_replies.specs.Reported.{Reported}
+use Rattle.like_roles.specs.Service.{Service, request_of}
 use Rattle.like_driver.specs.Tallies.{AreAnswered, IsTallied, count_after, likes_asked, reply_after, settled}
 use Rattle.like_driver.proofs.Lists.{slice_get-take}
 use Rattle.like_driver.proofs.RunList.{AllByRecursion-drop, AllByRecursion-take, IsPlain, alone, answers-run_list, entry, filter_all, filter_none, likes-run_list, phases-run_list, places-run_list, run_list, slice_get-run_list, take-run_list}

@@ -4,11 +4,12 @@ use Rattle.std.specs.List.{cons_option, filter, range_with_len, slice_get, AllBy
 use Rattle.std.specs.Option.{option_and_then}
 use Rattle.like_requests.specs.Pages.{Page}
 use Rattle.like_requests.specs.declared.request.Request.{Request}
-use Rattle.like_driver.specs.declared.report.Answer.{Answer}
-use Rattle.like_driver.specs.Likes.{accepted_like, like_ran, likes_ran}
-use Rattle.like_driver.specs.Ran.{Ran}
-use Rattle.like_driver.specs.Replayed.{answer_of, place_of}
-use Rattle.like_driver.specs.Service.{Service}
+use Rattle.like_replies.specs.declared.answer.Answer.{Answer}
+use Rattle.like_roles.specs.Likes.{accepted_like, like_ran, likes_ran}
+use Rattle.like_roles.specs.declared.log.Ran.{Ran}
+use Rattle.like_replies.specs.Entries.{answer_of}
+use Rattle.like_driver.specs.Replayed.{place_of}
+use Rattle.like_roles.specs.Service.{Service}
 use Rattle.like_driver.specs.Tallies.{likes_asked}
 
 -- the entry of the request at a place of the plan

@@ -15,9 +15,9 @@ use Rattle.like_requests.specs.declared.request.Op.TheVariants as op
 use Rattle.like_requests.specs.declared.request.PageRef.TheVariants as ref
 use Rattle.like_requests.specs.declared.request.Request.{Request}
 use Rattle.like_requests.specs.declared.verdict.Verdict.TheVariants as verdict
-use Rattle.like_driver.specs.declared.reply.Reply.TheVariants.{Seen}
+use Rattle.like_roles.specs.declared.reply.Reply.TheVariants.{Seen}
 use Rattle.like_requests.specs.Pages.{Page}
-use Rattle.like_driver.specs.Likes.{AcceptedLike, accepted_like, initial_count, page_likes, last_page}
+use Rattle.like_roles.specs.Likes.{AcceptedLike, accepted_like, initial_count, page_likes, last_page}
 use Rattle.like_driver.specs.Tallies.{IsTallied, reply_after}
 use Rattle.like_driver.proofs.Lists.{last_of-push, slice_get-set_same, slice_get-set_other}
 

@@ -14,10 +14,10 @@ use Rattle.like_requests.specs.declared.request.PageRef.TheVariants.{Known, Unkn
 use Rattle.like_requests.specs.declared.request.Request.{Request}
 use Rattle.like_requests.specs.declared.verdict.Verdict.{Verdict}
 use Rattle.like_requests.specs.declared.verdict.Verdict.TheVariants.{Accepted, UnknownUser, OtherHome, UnknownPage}
-use Rattle.like_driver.specs.declared.report.Answer.{Answer}
-use Rattle.like_driver.specs.Likes.{AcceptedLike, last_page, like_of}
-use Rattle.like_driver.specs.Reported.{Reported}
-use Rattle.like_driver.specs.Rows.{IsWritable, ShowsThere}
+use Rattle.like_replies.specs.declared.answer.Answer.{Answer}
+use Rattle.like_roles.specs.Likes.{AcceptedLike, last_page, like_of}
+use Rattle.like_replies.specs.Reported.{Reported}
+use Rattle.like_replies.specs.Rows.{IsShowable, IsWritable}
 use Rattle.like_driver.specs.Tallies.{AreAnswered, IsReport, count_after, likes_asked, reply_after, settled}
 use Rattle.like_driver.proofs.Right.{all_from_get, all_get}
 use Rattle.like_driver.proofs.RunList.{AllByRecursion-take}
@@ -55,18 +55,18 @@ last_page-there : (pages : List Page) (user : ℕ) (likes : List AcceptedLike) �
 last_page-there pages user likes all = λ p h. all_get (λ q. q < length pages) _ _ p (pages_there pages (λ (l : AcceptedLike). eqb l.user user) likes all) h
 
 -- a settled reply shows the last like that it was given
-ShowsThere-settled : (pages : List Page) (v : Verdict) (o : Op) (last : Option ℕ) (count : ℕ) → ForSome last (λ p. p < length pages) → ShowsThere pages (settled v o last count)
-ShowsThere-settled pages Accepted Like last count h = tt
-ShowsThere-settled pages Accepted Look last count h = h
-ShowsThere-settled pages UnknownUser o last count h = tt
-ShowsThere-settled pages OtherHome o last count h = tt
-ShowsThere-settled pages UnknownPage o last count h = tt
+IsShowable-settled : (pages : List Page) (v : Verdict) (o : Op) (last : Option ℕ) (count : ℕ) → ForSome last (λ p. p < length pages) → IsShowable pages (settled v o last count)
+IsShowable-settled pages Accepted Like last count h = record { there = tt; answer = tt }
+IsShowable-settled pages Accepted Look last count h = record { there = h; answer = tt }
+IsShowable-settled pages UnknownUser o last count h = record { there = tt; answer = λ e. cc }
+IsShowable-settled pages OtherHome o last count h = record { there = tt; answer = λ e. cc }
+IsShowable-settled pages UnknownPage o last count h = record { there = tt; answer = λ e. cc }
 
 -- each answer shows a page that is there
-answers_there : (pages : List Page) (users : ℕ) (plan : List Request) (answers : List Answer) → IsPlan pages plan → AreAnswered pages users plan answers → AllByRecursion (λ (a : Answer). ShowsThere pages a.reply) answers
+answers_there : (pages : List Page) (users : ℕ) (plan : List Request) (answers : List Answer) → IsPlan pages plan → AreAnswered pages users plan answers → AllByRecursion (λ (a : Answer). IsShowable pages a.reply) answers
 answers_there pages users plan answers planned given =
     let there = recursion_from_All (λ (r : Request). IsThere pages r.page) plan planned.there in
-    all_from_get (λ (a : Answer). ShowsThere pages a.reply) answers (λ i a h.
+    all_from_get (λ (a : Answer). IsShowable pages a.reply) answers (λ i a h.
     elim (slice_get_cases plan i).1 [
       | inl found ↦
           let front = likes_asked-there pages users (take i plan) (AllByRecursion-take (λ (r : Request). IsThere pages r.page) plan i there) in
@@ -74,16 +74,16 @@ answers_there pages users plan answers planned given =
           let reply = reply_after pages users (likes_asked users (take i plan)) r in
           let e : Some a ≡ Some (let x : Answer = record { phase = 0; stashed = false; reply = reply } in x) = sym h ∙ given.each i r found.2 in
           let same : a ≡ (let x : Answer = record { phase = 0; stashed = false; reply = reply } in x) = cc e in
-          subst (λ (x : Answer). ShowsThere pages x.reply) (sym same)
-          (ShowsThere-settled pages (verdict_of users 1 0 r) r.op (last_page r.user (likes_asked users (take i plan))) (count_after pages (likes_asked users (take i plan)) r.page) (last_page-there pages r.user (likes_asked users (take i plan)) front))
+          subst (λ (x : Answer). IsShowable pages x.reply) (sym same)
+          (IsShowable-settled pages (verdict_of users 1 0 r) r.op (last_page r.user (likes_asked users (take i plan))) (count_after pages (likes_asked users (take i plan)) r.page) (last_page-there pages r.user (likes_asked users (take i plan)) front))
       | inr past ↦ absurd (omega (arith, slice_get_within answers i a h, given.as_many, past.0))
     ])
 
 -- so the report may be written
 pub IsWritable-report : (pages : List Page) (users : ℕ) (plan : List Request) (r : Reported) → IsPlan pages plan → IsReport pages users plan r → IsWritable pages r
 IsWritable-report pages users plan r planned report =
-    let P : List Answer → Type 0 = λ row. All (λ (a : Answer). ShowsThere pages a.reply) row in
-    let row : P report.answers = All-from_recursion (λ (a : Answer). ShowsThere pages a.reply) report.answers (answers_there pages users plan report.answers planned report.answered) in
+    let P : List Answer → Type 0 = λ row. All (λ (a : Answer). IsShowable pages a.reply) row in
+    let row : P report.answers = All-from_recursion (λ (a : Answer). IsShowable pages a.reply) report.answers (answers_there pages users plan report.answers planned report.answered) in
     let there = likes_asked-there pages users plan (recursion_from_All (λ (q : Request). IsThere pages q.page) plan planned.there) in
     let Q : Option ℕ → Type 0 = λ last. ForSome last (λ page. page < length pages) in
     record {

@@ -8,8 +8,8 @@ use Rattle.like_requests.specs.declared.setup.SettingsFault.{SettingsFault}
 use Rattle.like_requests.specs.declared.setup.SettingsFault.TheVariants as settings
 use Rattle.like_driver.specs.declared.fault.DriverFault.{DriverFault}
 use Rattle.like_driver.specs.declared.fault.DriverFault.TheVariants.{Pages, Requests, Settings, Write, Memory}
-use Rattle.like_driver.specs.declared.write_fault.WriteFault.{WriteFault}
-use Rattle.like_driver.specs.declared.write_fault.WriteFault.TheVariants as write
+use Rattle.like_replies.specs.declared.write_fault.WriteFault.{WriteFault}
+use Rattle.like_replies.specs.declared.write_fault.WriteFault.TheVariants as write
 
 -- the statuses of faults: of the settings, of a file or the output, of memory
 abbrev pub usage_status : ℕ

@@ -1,11 +1,5 @@
 pub mod Faults
 pub mod Inputs
-pub mod Likes
-pub mod Ran
 pub mod Replayed
-pub mod Replies
-pub mod Reported
-pub mod Rows
-pub mod Service
 pub mod Settings
 pub mod Tallies

@@ -10,23 +10,19 @@ use Rattle.like_requests.specs.declared.setup.SettingsFault.{SettingsFault}
 use Rattle.like_driver.specs.declared.fault.DriverFault.{DriverFault}
 use Rattle.like_driver.specs.declared.fault.DriverFault.TheVariants.{Pages, Requests, Settings, Write, Memory}
 use Rattle.like_driver.specs.declared.options.Options.{Options}
-use Rattle.like_driver.specs.declared.report.Answer.{Answer}
+use Rattle.like_replies.specs.Entries.{answer_of}
 use Rattle.like_driver.specs.Inputs.{Inputs, GivesPages, GivesPlans, RefusesPages, RefusesPlans}
-use Rattle.like_driver.specs.Likes.{initial_count, last_like, likes}
-use Rattle.like_driver.specs.Ran.{Ran}
-use Rattle.like_driver.specs.Replies.{HasRightAnswers, HasRightCounts}
-use Rattle.like_driver.specs.Reported.{Reported}
-use Rattle.like_driver.specs.Rows.{report_text}
-use Rattle.like_driver.specs.Service.{Service}
+use Rattle.like_roles.specs.Likes.{initial_count, last_like, likes}
+use Rattle.like_roles.specs.declared.log.Ran.{Ran}
+use Rattle.like_roles.specs.Replies.{HasRightAnswers, HasRightCounts}
+use Rattle.like_replies.specs.Reported.{Reported}
+use Rattle.like_replies.specs.Rows.{report_text}
+use Rattle.like_roles.specs.Service.{Service}
 use Rattle.like_driver.specs.Settings.{IsServed, IsSettingsFault}
 
 -- the phase, the submitter, the number and the mark of an entry
 abbrev pub place_of : Ran → ℕ × ℕ × ℕ × Bool
 place_of e = (e.phase, e.submitter, e.number, e.stashed)
-
--- the answer of an entry
-abbrev pub answer_of : Ran → Answer
-answer_of e = record { phase = e.phase; stashed = e.stashed; reply = e.reply }
 
 -- the run list of the only worker has each request of the only plan once, in its order, in phase 0 and not stashed
 abbrev pub RunsInOrder : List Request → List Ran → Type 0

@@ -10,11 +10,11 @@ use Rattle.like_requests.specs.declared.request.PageRef.TheVariants.{Known, Unkn
 use Rattle.like_requests.specs.declared.request.Request.{Request}
 use Rattle.like_requests.specs.declared.verdict.Verdict.{Verdict}
 use Rattle.like_requests.specs.declared.verdict.Verdict.TheVariants.{Accepted, UnknownUser, OtherHome, UnknownPage}
-use Rattle.like_driver.specs.declared.reply.Reply.{Reply}
-use Rattle.like_driver.specs.declared.reply.Reply.TheVariants.{Liked, Seen, Refused}
-use Rattle.like_driver.specs.declared.report.Answer.{Answer}
-use Rattle.like_driver.specs.Likes.{AcceptedLike, accepted_like, initial_count, last_page, page_likes}
-use Rattle.like_driver.specs.Reported.{Reported}
+use Rattle.like_roles.specs.declared.reply.Reply.{Reply}
+use Rattle.like_roles.specs.declared.reply.Reply.TheVariants.{Liked, Seen, Refused}
+use Rattle.like_replies.specs.declared.answer.Answer.{Answer}
+use Rattle.like_roles.specs.Likes.{AcceptedLike, accepted_like, initial_count, last_page, page_likes}
+use Rattle.like_replies.specs.Reported.{Reported}
 
 -- the counts of all pages and the last likes of all users after these accepted likes
 pub record IsTallied (pages : List Page) (users : ℕ) (likes : List AcceptedLike) (counts : List ℕ) (last : List (Option ℕ)) : Type 0 where

@@ -2,7 +2,7 @@ ghost use Rattle.std.specs.Prelude.{◌≡◌};
 ghost use Rattle.like_driver.specs.Faults.{status_of};
 
 use crate::options::Options;
-use crate::write_fault::WriteFault;
+use like_replies::WriteFault;
 use like_requests::{PagesFault, Request, RequestsFault, SettingsFault};
 use std::alloc::{AllocError, AllocFailed};
 use std::io::Write;

@@ -5,18 +5,11 @@ pub mod example;
 pub mod fault;
 pub mod options;
 pub mod replay;
-pub mod reply;
-pub mod report;
-pub mod report_text;
-pub mod row;
-pub mod rows;
 pub mod serve;
 pub mod settings;
-pub mod sheet;
 pub mod tallies;
 #[cfg(test)]
 mod tests;
-pub mod write_fault;
 
 use std::env::{Env, FillError};
 use std::process::ExitCode;

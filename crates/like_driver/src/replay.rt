@@ -4,9 +4,9 @@ ghost use Rattle.like_driver.specs.Replayed.{IsBeforeOutput, IsReplayFault, IsRe
 
 use crate::fault::DriverFault;
 use crate::options::Options;
-use crate::report_text::write_report;
 use crate::serve::serve;
 use crate::settings::only_plan;
+use like_replies::write_report;
 use like_requests::{Pages, Request, Setup, read_pages, read_requests};
 use std::alloc::Global;
 use std::io::{Read, Write};

@@ -1,10 +1,10 @@
 ghost use Rattle.std.specs.Prelude.{◌≤◌, All, IfOk, length};
 ghost use Rattle.like_requests.specs.Setup.{IsPlan};
-ghost use Rattle.like_driver.specs.Reported.{reported};
+ghost use Rattle.like_replies.specs.Reported.{reported};
 ghost use Rattle.like_driver.specs.Tallies.{IsReport};
 
-use crate::report::{Answer, Report};
 use crate::tallies::Tallies;
+use like_replies::{Answer, Replies, Report};
 use like_requests::{Pages, Request};
 use std::alloc::{AllocError, Global};
 
@@ -28,12 +28,14 @@ pub fn serve(
             reply,
         })?;
     }
-    let mut replies = Vec::with_capacity(alloc, 1)?;
-    replies.push(answers)?;
+    let mut rows = Vec::with_capacity(alloc, 1)?;
+    rows.push(answers)?;
     let Tallies { counts, last } = tallies;
     Ok(Report {
-        replies,
+        logs: Vec::new(alloc),
+        replies: Replies { rows },
         counts,
         last,
+        phases: 0,
     })
 }

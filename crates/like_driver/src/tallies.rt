@@ -2,11 +2,11 @@ ghost use Rattle.std.specs.Prelude.{◌≡◌, ◌+◌, ◌^◌, ◌<◌, ◌≤
 ghost use Rattle.std.specs.Option.{option_to_list};
 ghost use Rattle.like_requests.specs.Pages.{Page};
 ghost use Rattle.like_requests.specs.declared.pages.TheConstants.{MAX_COUNT};
-ghost use Rattle.like_driver.specs.Likes.{AcceptedLike, accepted_like};
+ghost use Rattle.like_roles.specs.Likes.{AcceptedLike, accepted_like};
 ghost use Rattle.like_driver.specs.Tallies.{IsTallied, reply_after};
 
-use crate::reply::Reply;
 use like_requests::{Op, PageRef, Pages, Request, Verdict, judge};
+use like_roles::Reply;
 use std::alloc::{AllocError, Global};
 
 /// The count of each page and the last like of each user, while requests are served.

@@ -2,7 +2,7 @@ use Rattle.std.proofs.Common.{◌≡◌, ◌∙◌, map, rules, is_some}
 use Rattle.like_requests.specs.Setup.{IsPlan}
 use Rattle.like_driver.specs.Inputs.{Inputs}
 use Rattle.like_driver.specs.Replayed.{SettingsRefused}
-use Rattle.like_driver.specs.Reported.{reported}
+use Rattle.like_replies.specs.Reported.{reported}
 use Rattle.like_driver.proofs.Right.{IsRightReport-alone}
 use Rattle.like_driver.proofs.RunList.{run_list}
 use Rattle.like_driver.proofs.Writable.{IsWritable-report}

@@ -1,6 +1,6 @@
 use Rattle.std.proofs.Common.{◌≡◌, ℕ, ◌<◌, ◌≤◌, length, get_or}
 use Rattle.like_requests.specs.declared.pages.TheConstants.{MAX_COUNT}
-use Rattle.like_driver.specs.Likes.{initial_count}
+use Rattle.like_roles.specs.Likes.{initial_count}
 use Rattle.like_driver.proofs.tallies.Tallies.new.Given as goal
 
 abbrev pub invariant-loop-page : goal.invariant-loop-page
