@@ -3,6 +3,7 @@
 use super::examples::options;
 use crate::fault::DriverFault;
 use crate::options::Options;
+use crate::script_fault::ScriptFault;
 use like_requests::{PagesFault, RequestsFault, SettingsFault};
 use std::alloc::Global;
 use std::process::Abort;
@@ -161,6 +162,11 @@ fn of_the_rest(rt: HostRuntime) -> Result<(), Fail> {
         (
             DriverFault::Settings(SettingsFault::Script { at: 1 }),
             "likes: : row 2: no such worker or submitter\n",
+            3,
+        ),
+        (
+            DriverFault::Script(ScriptFault::Read),
+            "likes: : read failed\n",
             3,
         ),
         (
