@@ -1,5 +1,5 @@
 -- The statuses with which the program ends.
-use Rattle.std.specs.Prelude.{ℕ}
+use Rattle.std.specs.Prelude.{ℕ, List, codes, string_bytes}
 use Rattle.like_requests.specs.declared.pages_file.PagesFault.{PagesFault}
 use Rattle.like_requests.specs.declared.pages_file.PagesFault.TheVariants as pages
 use Rattle.like_requests.specs.declared.requests_file.RequestsFault.{RequestsFault}
@@ -7,9 +7,13 @@ use Rattle.like_requests.specs.declared.requests_file.RequestsFault.TheVariants 
 use Rattle.like_requests.specs.declared.setup.SettingsFault.{SettingsFault}
 use Rattle.like_requests.specs.declared.setup.SettingsFault.TheVariants as settings
 use Rattle.like_driver.specs.declared.fault.DriverFault.{DriverFault}
-use Rattle.like_driver.specs.declared.fault.DriverFault.TheVariants.{Pages, Requests, Settings, Write, Memory}
+use Rattle.like_driver.specs.declared.fault.DriverFault.TheVariants.{Pages, Requests, Script, Settings, Write, Memory}
+use Rattle.like_driver.specs.declared.parse_fault.ParseFault.{ParseFault}
+use Rattle.like_driver.specs.declared.parse_fault.ParseFault.TheVariants as parse
 use Rattle.like_replies.specs.declared.write_fault.WriteFault.{WriteFault}
 use Rattle.like_replies.specs.declared.write_fault.WriteFault.TheVariants as write
+use Rattle.like_run.specs.declared.script_file.ScriptFault.{ScriptFault}
+use Rattle.like_run.specs.declared.script_file.ScriptFault.TheVariants as script
 
 -- the statuses of faults: of the settings, of a file or the output, of memory
 abbrev pub usage_status : ℕ
@@ -29,6 +33,10 @@ abbrev pub requests_status : RequestsFault → ℕ
 requests_status requests.Memory = memory_status
 requests_status fault = file_status
 
+abbrev pub script_status : ScriptFault → ℕ
+script_status script.Memory = memory_status
+script_status fault = file_status
+
 abbrev pub settings_status : SettingsFault → ℕ
 settings_status (settings.Script at) = file_status
 settings_status fault = usage_status
@@ -37,6 +45,7 @@ settings_status fault = usage_status
 abbrev pub status_of : DriverFault → ℕ
 status_of (Pages fault) = pages_status fault
 status_of (Requests submitter fault) = requests_status fault
+status_of (Script fault) = script_status fault
 status_of (Settings fault) = settings_status fault
 status_of Write = file_status
 status_of Memory = memory_status
@@ -45,3 +54,13 @@ status_of Memory = memory_status
 abbrev pub fault_of : WriteFault → DriverFault
 fault_of write.Write = Write
 fault_of write.Memory = Memory
+
+-- the status of a wrong command line
+abbrev pub parse_status : ParseFault → ℕ
+parse_status (parse.Usage text) = usage_status
+parse_status parse.Memory = memory_status
+
+-- what it writes on standard error
+abbrev pub parse_line : ParseFault → List ℕ
+parse_line (parse.Usage text) = string_bytes text
+parse_line parse.Memory = codes "likes: out of memory\n"

@@ -52,5 +52,6 @@ abbrev pub RefusesPlans : List Page → List (Option (List ℕ)) → DriverFault
 RefusesPlans pages sources (driver.Requests submitter fault) = (place : ℕ) × (submitter ≡ min place (2 ^ 32 - 1)) × IsFirstRefused pages sources place fault
 RefusesPlans pages sources driver.Memory = ⊤
 RefusesPlans pages sources (driver.Pages fault) = ⊥
+RefusesPlans pages sources (driver.Script fault) = ⊥
 RefusesPlans pages sources (driver.Settings fault) = ⊥
 RefusesPlans pages sources driver.Write = ⊥

@@ -1,3 +1,4 @@
+pub mod CommandLine
 pub mod Faults
 pub mod Inputs
 pub mod Replayed

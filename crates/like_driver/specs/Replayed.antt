@@ -8,7 +8,7 @@ use Rattle.like_requests.specs.declared.request.Request.{Request}
 use Rattle.like_requests.specs.declared.setup.Setup.{Setup}
 use Rattle.like_requests.specs.declared.setup.SettingsFault.{SettingsFault}
 use Rattle.like_driver.specs.declared.fault.DriverFault.{DriverFault}
-use Rattle.like_driver.specs.declared.fault.DriverFault.TheVariants.{Pages, Requests, Settings, Write, Memory}
+use Rattle.like_driver.specs.declared.fault.DriverFault.TheVariants.{Pages, Requests, Script, Settings, Write, Memory}
 use Rattle.like_driver.specs.declared.options.Options.{Options}
 use Rattle.like_replies.specs.Entries.{answer_of}
 use Rattle.like_driver.specs.Inputs.{Inputs, GivesPages, GivesPlans, RefusesPages, RefusesPlans}
@@ -74,6 +74,7 @@ pub record SettingsRefused (options : Options) (inputs : Inputs) (fault : Settin
 abbrev pub IsReplayFault : Options → Inputs → DriverFault → Type 0
 IsReplayFault options inputs (Pages fault) = RefusesPages inputs.pages fault
 IsReplayFault options inputs (Requests submitter fault) = PlansRefused inputs (Requests submitter fault)
+IsReplayFault options inputs (Script fault) = ⊥
 IsReplayFault options inputs (Settings fault) = SettingsRefused options inputs fault
 IsReplayFault options inputs Write = ⊤
 IsReplayFault options inputs Memory = ⊤
@@ -82,6 +83,7 @@ IsReplayFault options inputs Memory = ⊤
 abbrev pub IsBeforeOutput : DriverFault → Type 0
 IsBeforeOutput (Pages fault) = ⊤
 IsBeforeOutput (Requests submitter fault) = ⊤
+IsBeforeOutput (Script fault) = ⊤
 IsBeforeOutput (Settings fault) = ⊤
 IsBeforeOutput Write = ⊥
 IsBeforeOutput Memory = ⊥

@@ -4,8 +4,12 @@ ghost use Rattle.like_driver.specs.Faults.{status_of};
 use crate::options::Options;
 use like_replies::WriteFault;
 use like_requests::{PagesFault, Request, RequestsFault, SettingsFault};
+use like_run::ScriptFault;
 use std::alloc::{AllocError, AllocFailed};
 use std::io::Write;
+
+/// The line of an output that failed.
+pub const WRITE_FAILED: &str = "likes: standard output: write failed\n";
 
 /// Why a replay ended without its report.
 #[derive(Clone, Copy, Debug, PartialEq, Eq)]
@@ -15,6 +19,7 @@ pub enum DriverFault {
         submitter: u32,
         fault: RequestsFault,
     },
+    Script(ScriptFault),
     Settings(SettingsFault),
     /// The output failed.
     Write,
@@ -91,10 +96,12 @@ impl DriverFault {
                 fault: RequestsFault::Memory,
                 ..
             }
+            | DriverFault::Script(ScriptFault::Memory)
             | DriverFault::Memory => 4,
             DriverFault::Settings(SettingsFault::Script { .. })
             | DriverFault::Pages(_)
             | DriverFault::Requests { .. }
+            | DriverFault::Script(_)
             | DriverFault::Write => 3,
             DriverFault::Settings(_) => 2,
         }
@@ -109,6 +116,7 @@ impl DriverFault {
                 fault: RequestsFault::Memory,
                 ..
             }
+            | DriverFault::Script(ScriptFault::Memory)
             | DriverFault::Memory => writeln!(out, "likes: out of memory").is_ok(),
             DriverFault::Pages(fault) => {
                 let file = options.pages.as_str();
@@ -118,8 +126,12 @@ impl DriverFault {
                 let file = request_file(options, *submitter);
                 writeln!(out, "likes: {file}: {fault}").is_ok()
             }
+            DriverFault::Script(fault) => {
+                let file = script_file(options);
+                writeln!(out, "likes: {file}: {fault}").is_ok()
+            }
             DriverFault::Settings(fault) => settings_line(*fault, options, out),
-            DriverFault::Write => writeln!(out, "likes: standard output: write failed").is_ok(),
+            DriverFault::Write => out.write_all(WRITE_FAILED.as_bytes()).is_ok(),
         }
     }
 }
@@ -132,15 +144,20 @@ fn request_file(options: &Options, submitter: u32) -> &str {
     }
 }
 
+// The name of the script file, or nothing where there is none.
+fn script_file(options: &Options) -> &str {
+    match &options.script {
+        Some(name) => name.as_str(),
+        None => "",
+    }
+}
+
 // Writes the line of a fault of the settings.
 fn settings_line<W: Write>(fault: SettingsFault, options: &Options, out: &mut W) -> bool {
     let SettingsFault::Script { at } = fault else {
         return writeln!(out, "likes: {fault}").is_ok();
     };
-    let file = match &options.script {
-        Some(name) => name.as_str(),
-        None => "",
-    };
+    let file = script_file(options);
     let row = u64::from(at) + 1;
     writeln!(out, "likes: {file}: row {row}: {fault}").is_ok()
 }

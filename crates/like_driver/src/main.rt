@@ -1,9 +1,16 @@
-//! The like service's program: without words it replays the example that it holds as text.
+//! The like service's program.
 #![tactic(auto)]
 
+pub mod asked;
+pub mod command_line;
 pub mod example;
 pub mod fault;
+pub mod files;
+pub mod help;
 pub mod options;
+pub mod parse_fault;
+pub mod parsing;
+pub mod program;
 pub mod replay;
 pub mod serve;
 pub mod settings;
@@ -11,22 +18,35 @@ pub mod tallies;
 #[cfg(test)]
 mod tests;
 
-use std::env::{Env, FillError};
+use crate::parse_fault::ParseFault;
+use crate::program::serve_words;
+use std::alloc::Global;
+use std::env;
+use std::io::ErrorKind;
 use std::process::ExitCode;
 
-/// The status of a wrong command line.
-const USAGE: u8 = 2;
-
-// Whether there is a word after the program's name.
-fn has_words(rt: &impl Env) -> bool {
-    !matches!(rt.arg(1, &mut [0; 1]), Err(FillError::NotPresent))
+// The words after the program's name.
+fn words(rt: &HostRuntime, alloc: Global) -> Result<Vec<String>, ParseFault> {
+    match env::args(rt) {
+        Ok(words) => Ok(words.skip(1).collect(alloc)?),
+        Err(error) if error.kind() == ErrorKind::InvalidData => {
+            let text = String::from_str(alloc, "error: a word is not UTF-8\n")?;
+            Err(ParseFault::Usage(text))
+        }
+        Err(_) => Err(ParseFault::Memory),
+    }
 }
 
 fn main(rt: HostRuntime) -> ExitCode {
-    if has_words(&rt) {
-        // Where this line can't be written, the status alone tells of it.
-        let _ = eprintln!(rt; "likes: no arguments yet");
-        return ExitCode::from(USAGE);
-    }
-    ExitCode::from(example::run(rt.alloc(), &mut rt.stdout(), &mut rt.stderr()))
+    let alloc = rt.alloc();
+    let (mut out, mut errors) = (rt.stdout(), rt.stderr());
+    let status = match words(&rt, alloc) {
+        Ok(words) => serve_words(&rt, alloc, words.as_slice(), &mut out, &mut errors),
+        Err(fault) => {
+            // Where this can't be written, the status alone tells of the fault.
+            let _ = fault.line(&mut errors);
+            fault.status()
+        }
+    };
+    ExitCode::from(status)
 }

@@ -1,3 +1,5 @@
 mod examples;
 mod faults;
+mod parsing;
+mod program;
 mod refusals;

@@ -4,6 +4,7 @@ use super::examples::options;
 use crate::fault::DriverFault;
 use crate::options::Options;
 use like_requests::{PagesFault, RequestsFault, SettingsFault};
+use like_run::ScriptFault;
 use std::alloc::Global;
 use std::process::Abort;
 use std::test::Fail;
@@ -161,6 +162,11 @@ fn of_the_rest(rt: HostRuntime) -> Result<(), Fail> {
         (
             DriverFault::Settings(SettingsFault::Script { at: 1 }),
             "likes: : row 2: no such worker or submitter\n",
+            3,
+        ),
+        (
+            DriverFault::Script(ScriptFault::Read),
+            "likes: : read failed\n",
             3,
         ),
         (

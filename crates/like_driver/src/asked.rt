@@ -1,0 +1,10 @@
+use crate::options::Options;
+
+/// What the words of the command line ask for.
+#[derive(Debug, Drop)]
+pub enum Asked {
+    /// A replay with these options.
+    Replay(Options),
+    /// Help, with its text.
+    Help(String),
+}

@@ -1,0 +1,99 @@
+//! The program on files, by `serve_words`.
+use crate::program::serve_words;
+use std::alloc::{AllocError, Global};
+use std::fs;
+use std::test::Fail;
+
+const PAGES: &str = "name,count,split\na,10,no\n";
+
+const REQUESTS: &str = "op,user,page\nlike,0,a\nlook,1,b\n";
+
+// The words of a text, each a text of its own.
+fn texts(alloc: Global, text: &str) -> Result<Vec<String>, AllocError> {
+    let mut texts = Vec::new(alloc);
+    for word in text.split_whitespace() {
+        texts.push(String::from_str(alloc, word)?)?;
+    }
+    Ok(texts)
+}
+
+// What the words of a text end in: the status, and what stands on the output and the errors.
+fn served(rt: &HostRuntime, text: &str) -> Result<(u8, Vec<u8>, Vec<u8>), AllocError> {
+    let alloc = rt.alloc();
+    let words = texts(alloc, text)?;
+    let (mut out, mut errors) = (Vec::new(alloc), Vec::new(alloc));
+    let status = serve_words(rt, alloc, words.as_slice(), &mut out, &mut errors);
+    Ok((status, out, errors))
+}
+
+#[test]
+fn replays_files(rt: HostRuntime) -> Result<(), Fail> {
+    fs::write(&rt, "replays-p.csv", PAGES)?;
+    fs::write(&rt, "replays-r.csv", REQUESTS)?;
+    let words = "replay --workers 1 --users 2 replays-p.csv replays-r.csv";
+    let (status, out, errors) = served(&rt, words)?;
+    fs::remove_file(&rt, "replays-p.csv")?;
+    fs::remove_file(&rt, "replays-r.csv")?;
+    let want =
+        "row,id,number,phase,answer,page,count\nreply,0,1,0,liked,,\nreply,0,2,0,unknown-page,,\n\
+        page,0,,,,a,11\nuser,0,,,,a,\n";
+    assert_eq!(rt; out.as_slice(), want.as_bytes());
+    assert_eq!(rt; errors.as_slice(), b"".as_slice());
+    assert_eq!(rt; status, 0);
+    Ok(())
+}
+
+// All files are opened before one is read, and the first that can't be opened is told.
+#[test]
+fn opens_in_order(rt: HostRuntime) -> Result<(), Fail> {
+    fs::write(&rt, "opens-bad.csv", "no,header\n")?;
+    let cases = [
+        (
+            "replay none-p.csv none-r.csv",
+            "likes: none-p.csv: read failed\n",
+        ),
+        (
+            "replay opens-bad.csv opens-bad.csv none-r.csv --script none-s.csv",
+            "likes: none-r.csv: read failed\n",
+        ),
+        (
+            "replay opens-bad.csv opens-bad.csv --script none-s.csv",
+            "likes: none-s.csv: read failed\n",
+        ),
+        (
+            "replay opens-bad.csv opens-bad.csv",
+            "likes: opens-bad.csv: the header is not name,count,split\n",
+        ),
+        ("replay . opens-bad.csv", "likes: .: read failed\n"),
+    ];
+    for (words, line) in cases {
+        let (status, out, errors) = served(&rt, words)?;
+        assert_eq!(rt; errors.as_slice(), line.as_bytes());
+        assert_eq!(rt; status, 3);
+        assert!(rt; out.is_empty());
+    }
+    fs::remove_file(&rt, "opens-bad.csv")?;
+    Ok(())
+}
+
+#[test]
+fn shows_help(rt: HostRuntime) -> Result<(), Fail> {
+    let (status, out, errors) = served(&rt, "replay --help")?;
+    assert_eq!(rt; status, 0);
+    assert!(rt; out.as_slice().starts_with(b"Replays files of requests"));
+    assert!(rt; errors.is_empty());
+    Ok(())
+}
+
+#[test]
+fn tells_wrong_words(rt: HostRuntime) -> Result<(), Fail> {
+    let (status, out, errors) = served(&rt, "run p.csv r.csv")?;
+    assert_eq!(rt; status, 2);
+    assert!(rt; out.is_empty());
+    assert!(rt;
+        errors
+            .as_slice()
+            .starts_with(b"error: unrecognized subcommand 'run'")
+    );
+    Ok(())
+}
