@@ -74,7 +74,7 @@ pub record Shows (z : Setting) (s : CoreState) (words : List ℕ) (views : List 
   pub each : (place : ℕ) (v : View) → get_elem? views place ≡ some v → Fits z s v
   pub once : (i : ℕ) → sum_by (seats_of i) views ≡ (if nat_lt i coord.made then 1 else 0)
 
--- the words and the views show some state that can be reached; beside it stands what follows of the views' additions
+-- the words and the views show some state that can be reached; beside it stand the tallies of the views' additions
 pub record ShowsSome (z : Setting) (words : List ℕ) (views : List View) : Type 0 where
   pub state : CoreState
   pub reachable : Reachable z state
