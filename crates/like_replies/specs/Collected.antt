@@ -22,7 +22,7 @@ pub record IsCollected (sizes : List ℕ) (entries : List Ran) (rows : List (Lis
   pub sized : map length rows ≡ sizes
   pub each : (submitter number : ℕ) → map answer_of (entries_of submitter number entries) ≡ option_to_list (answer_at rows submitter number)
 
--- an entry of this submitter and number is the first of which the fact holds that is bad: the entries before it are good
+-- the first bad entry has this submitter and number: the entries before it are good, and with them the fact makes it bad
 pub record IsFirstBad (sizes : List ℕ) (entries : List Ran) (submitter number : ℕ) (Bad : List Ran → Type 0) : Type 0 where
   pub before : List Ran
   pub entry : Ran
