@@ -12,6 +12,10 @@ use Rattle.like_core.specs.Post.{PostView, IsFresh, additions_of}
 use Rattle.like_core.specs.Views.{fresh, post_of}
 use Rattle.like_board.specs.Known.{worker_of, coord_of}
 
+-- what tells a board from others
+abbrev pub BoardId : Type 0
+BoardId = TableId
+
 -- which board it is
 abbrev pub board_id : Board → TableId
 board_id board = board.table.shared.table_id

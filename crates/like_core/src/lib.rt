@@ -26,7 +26,7 @@ mod worker_state;
 
 pub use event::Event;
 pub use kind::Kind;
-pub use phase_word::PhaseWord;
+pub use phase_word::{LAST_PHASE, PhaseWord};
 pub use post::Post;
 pub use pure_core::Core;
 pub use refusal::{NotNow, Wrong};

@@ -15,3 +15,4 @@ pub mod CueAdds
 pub mod CueSteps
 pub mod CueMade
 pub mod Played
+pub mod Coordinating

@@ -135,13 +135,13 @@ within_limits s plan n w many =
     small h zero d below = h
     small h (suc k) d below = absurd (omega arith)
 
--- one worker of one submitter
-own_one : (size workers : ℕ) (own : List ℕ) → workers ≡ 1 → AreOwnSizes (size ∷ []) workers 0 own → (length own ≡ 1) × (get_or own 0 0 ≡ size)
-own_one size workers own is sizes =
-    let s : AreOwnSizes (size ∷ []) 1 0 own = subst (λ n. AreOwnSizes (size ∷ []) n 0 own) is sizes in
-    let some = (s.all 0).1 (omega arith) in
-    let few : length own ≤ 1 = below_two (length own) (λ more. let e = (s.all 1).0 more in omega arith) in
-    (omega arith, s.each 0 some)
+-- the first worker has the one submitter
+own_one : (size workers : ℕ) (own : List ℕ) → 1 ≤ workers → AreOwnSizes (size ∷ []) workers 0 own → (length own ≡ 1) × (get_or own 0 0 ≡ size)
+own_one size workers own some sizes =
+    let here = (sizes.all 0).1 (omega arith) in
+    let few : length own ≤ 1 = below_two (length own) (λ more. let e = (sizes.all 1).0 more in omega arith) in
+    let none : 0 + workers * 0 ≡ 0 = omega arith in
+    (omega arith, sizes.each 0 here ∙ ap (λ k. get_or (size ∷ []) k 0) none)
   where
     below_two : (n : ℕ) → (1 < n → ⊥) → n ≤ 1
     below_two zero never = omega arith
@@ -149,9 +149,9 @@ own_one size workers own is sizes =
     below_two (suc (suc n)) never = absurd (never (omega arith))
 
 -- a new worker may be played with
-pub plays_new : (s : Setup) (plan : List Request) (n : ℕ) (post : PostView) (v : WorkerView) → setup.IsWithinLimits s (plan ∷ []) → s.workers ≡ 1 → n ≡ length plan → IsPostOf 0 s.pages post → IsNew s (n ∷ []) 0 post v → IsPlaying plan 0 v
-plays_new s plan n post v w one many his new =
-    let own = own_one n s.workers v.left one new.left in
+pub plays_new : (s : Setup) (plan : List Request) (n : ℕ) (post : PostView) (v : WorkerView) → setup.IsWithinLimits s (plan ∷ []) → n ≡ length plan → IsPostOf 0 s.pages post → IsNew s (n ∷ []) 0 post v → IsPlaying plan 0 v
+plays_new s plan n post v w many his new =
+    let own = own_one n s.workers v.left w.numbers.0.0 new.left in
     let lists = w.lists 0 plan (omega arith) in
     let pages : pages_of v.post ≡ length s.pages = ap pages_of new.at_post ∙ (ap length his.marks ∙ length-map s.pages (λ (p : Page). p.split)) in
     record {

@@ -11,3 +11,4 @@ pub mod New
 pub mod Follows
 pub mod Cue
 pub mod Playing
+pub mod CoordTurns

@@ -5,6 +5,10 @@ use Rattle.like_requests.specs.declared.request.Taken.{Taken}
 use Rattle.like_requests.specs.declared.request.Taken.TheVariants.{Ask, End, Nothing}
 use Rattle.like_requests.specs.declared.setup.TheConstants.{MAX_REQUESTS}
 use Rattle.like_core.specs.Post.{pages_of}
+use Rattle.like_requests.specs.Pages.{Page}
+use Rattle.like_board.specs.declared.worker_seat.WorkerSeat.{WorkerSeat}
+use Rattle.like_board.specs.Seats.{BoardId, seat_board, seat_meaning}
+use Rattle.like_roles.specs.New.{IsPostOf}
 use Rattle.like_roles.specs.WorkerView.{WorkerView, IsThere, submitter_at}
 
 -- the first so many requests of the plan were taken from the worker's one submitter
@@ -25,3 +29,8 @@ abbrev pub IsGiven : List Request → ℕ → Taken → ℕ → Type 0
 IsGiven plan next (Ask ask) then = (slice_get plan next ≡ Some ask.request) × (ask.number ≡ next + 1) × (then ≡ next + 1)
 IsGiven plan next End then = then ≡ next
 IsGiven plan next Nothing then = ⊥
+
+-- the seats of workers at a board with these pages, by number; no call was made on them
+abbrev pub ArePosts : BoardId → List Page → List WorkerSeat → Type 0
+ArePosts board pages seats =
+    (i : ℕ) (seat : WorkerSeat) → slice_get seats i ≡ Some seat → (seat_board seat ≡ board) × IsPostOf i pages (seat_meaning seat)

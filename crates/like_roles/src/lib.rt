@@ -1,10 +1,12 @@
 //! The roles of the like service: a worker, which takes the requests of its submitters and runs them at its post, turn
-//! by turn, phase by phase.
+//! by turn, phase by phase; and the coordinator, which ends the phases and releases the next ones.
 //!
 //! Phases, slices and the stash are those of Narula, Cutler, Kohler and Morris, "Phase Reconciliation for Contended
 //! In-Memory Transactions" (OSDI 2014).
 #![tactic(auto)]
 
+mod coord_turn;
+mod coordinator;
 mod desk;
 mod gate;
 mod log;
@@ -15,6 +17,8 @@ mod tests;
 mod turn;
 mod worker;
 
+pub use coord_turn::CoordTurn;
+pub use coordinator::Coordinator;
 pub use gate::{Gate, NoGate};
 pub use log::{Ran, Took, WorkerLog};
 pub use reply::Reply;

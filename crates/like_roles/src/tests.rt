@@ -1,4 +1,5 @@
 //! The worker's turns of the worked examples, played over a core of one worker.
+mod boards;
 mod cue;
 mod gates;
 mod playing;
@@ -7,12 +8,12 @@ ghost use Rattle.std.specs.Prelude.{◌≡◌, [], ◌∷◌};
 ghost use Rattle.like_requests.specs.Setup.{IsWithinLimits};
 
 use crate::{Ran, Reply, Took, Turn, WorkerLog};
-use cue::Cued;
 use cue::Cued::{Announce, Release};
+use cue::{Cue, Cued};
 use gates::Call::{Phase, Run};
 use gates::{Call, Expecting};
 use like_requests::{Op, PageRef, Request, Setup};
-use playing::{play, setup_of, worker_of};
+use playing::{play, setup_of, worker_at};
 use std::alloc::Global;
 use std::process::Abort;
 use std::test::Fail;
@@ -61,11 +62,11 @@ fn log_of(
     turns: &[Turn],
     calls: &[Call],
 ) -> Result<WorkerLog, Fail>
-    requires one { setup.now.workers ≡ 1 }
-    requires within { IsWithinLimits setup.now (plan.now.items ∷ []) }
+    requires { IsWithinLimits setup.now (plan.now.items ∷ []) }
 {
     let gate = Expecting::new(alloc, calls)?;
-    let mut worker = worker_of(alloc, setup, plan, cues)?;
+    let cue = Cue::new(alloc, &setup.pages, cues)?;
+    let mut worker = worker_at(alloc, setup, plan, cue)?;
     play(rt, &mut worker, &gate, plan, turns);
     let again = worker.turn(&gate);
     assert!(rt; again == Turn::Retired);
@@ -85,8 +86,7 @@ fn play_both(
     second: Turn,
     numbers: (u32, u32),
 ) -> Result<WorkerLog, Fail>
-    requires one { setup.now.workers ≡ 1 }
-    requires within { IsWithinLimits setup.now (plan.now.items ∷ []) }
+    requires { IsWithinLimits setup.now (plan.now.items ∷ []) }
 {
     let cues: [&[Cued]; 9] = [
         &[Announce],
@@ -125,7 +125,14 @@ fn play_both(
 #[test]
 fn splits_and_stashes(rt: HostRuntime) -> Result<(), Fail> {
     let plans = [vec![in rt.alloc(); ask(Op::Like, 0), ask(Op::Look, 0)]?];
-    let setup = setup_of(rt.alloc(), b"name,count,split\na,10,yes\n", 2, 256, &plans)?;
+    let setup = setup_of(
+        rt.alloc(),
+        1,
+        b"name,count,split\na,10,yes\n",
+        2,
+        256,
+        &plans,
+    )?;
     let log = play_both(
         &rt,
         rt.alloc(),
@@ -151,7 +158,7 @@ fn splits_and_stashes(rt: HostRuntime) -> Result<(), Fail> {
 fn stashes_and_then_likes(rt: HostRuntime) -> Result<(), Fail> {
     let plans = [vec![in rt.alloc(); ask(Op::Look, 0), ask(Op::Like, 1)]?];
     let text = b"name,count,split\na,5,yes\nb,0,no\n";
-    let setup = setup_of(rt.alloc(), text, 1, 256, &plans)?;
+    let setup = setup_of(rt.alloc(), 1, text, 1, 256, &plans)?;
     let log = play_both(
         &rt,
         rt.alloc(),
@@ -175,7 +182,7 @@ fn stashes_and_then_likes(rt: HostRuntime) -> Result<(), Fail> {
 #[test]
 fn idles_with_a_full_stash(rt: HostRuntime) -> Result<(), Fail> {
     let plans = [vec![in rt.alloc(); ask(Op::Look, 0), ask(Op::Look, 0)]?];
-    let setup = setup_of(rt.alloc(), b"name,count,split\na,0,yes\n", 1, 1, &plans)?;
+    let setup = setup_of(rt.alloc(), 1, b"name,count,split\na,0,yes\n", 1, 1, &plans)?;
     let cues: [&[Cued]; 10] = [
         &[Announce],
         &[Release],
@@ -224,7 +231,7 @@ fn idles_with_a_full_stash(rt: HostRuntime) -> Result<(), Fail> {
 #[test]
 fn runs_unsplit_pages_in_a_split_phase(rt: HostRuntime) -> Result<(), Fail> {
     let plans = [vec![in rt.alloc(); ask(Op::Like, 0), ask(Op::Look, 0)]?];
-    let setup = setup_of(rt.alloc(), b"name,count,split\na,7,no\n", 1, 256, &plans)?;
+    let setup = setup_of(rt.alloc(), 1, b"name,count,split\na,7,no\n", 1, 256, &plans)?;
     let cues: [&[Cued]; 6] = [
         &[Announce],
         &[Release],

@@ -118,7 +118,7 @@ impl Cue {
 }
 
 /// Each page's count and mark.
-fn counts_and_marks(alloc: Global, pages: &Pages) -> Result<(Vec<u64>, Vec<bool>), AllocError>
+pub fn counts_and_marks(alloc: Global, pages: &Pages) -> Result<(Vec<u64>, Vec<bool>), AllocError>
     ensures counts { IfOk result (λ r. r.0.items ≡ map (λ p. p.count) pages.now) }
     ensures marks { IfOk result (λ r. r.1.items ≡ marks_of pages.now) }
     ensures pages { ArePages pages.now }

@@ -1,9 +1,9 @@
 ghost use Rattle.std.specs.Prelude.{◌≡◌, ◌≤◌, [], ◌∷◌, IfOk, None, length, map};
 ghost use Rattle.like_requests.specs.Setup.{IsWithinLimits};
 ghost use Rattle.like_requests.specs.declared.setup.TheConstants.{MAX_REQUESTS};
+ghost use Rattle.like_roles.specs.New.{IsPostOf};
 ghost use Rattle.like_roles.specs.Playing.{IsGiven, IsPlaying};
 
-use super::cue::{Cue, Cued};
 use crate::{Gate, Turn, Worker};
 use like_core::Post;
 use like_requests::{Numbered, Request, Setup, Taken, check_setup, read_pages};
@@ -11,19 +11,20 @@ use std::alloc::Global;
 use std::process::Abort;
 use std::test::Fail;
 
-/// The settings of a run with one worker and no counted turns.
+/// The settings of a run with no counted turns.
 pub fn setup_of(
     alloc: Global,
+    workers: u32,
     pages: &[u8],
     users: u32,
     stash: u32,
     plans: &[Vec<Request>],
 ) -> Result<Setup, Fail>
-    ensures one { IfOk result (λ setup. setup.workers ≡ 1) }
+    ensures workers { IfOk result (λ setup. setup.workers ≡ workers) }
     ensures within { IfOk result (λ setup. IsWithinLimits setup (map (λ plan. plan.items) plans.now)) }
 {
     let setup = Setup {
-        workers: 1,
+        workers,
         users,
         stash,
         turns: 0,
@@ -33,19 +34,18 @@ pub fn setup_of(
     Ok(setup)
 }
 
-/// The one worker of a run with one submitter.
-pub fn worker_of(
+/// The first worker of a run with one submitter.
+pub fn worker_at<P: Post + Drop>(
     alloc: Global,
     setup: &Setup,
     plan: &Vec<Request>,
-    cues: &[&[Cued]],
-) -> Result<Worker<Cue>, Fail>
-    requires one { setup.now.workers ≡ 1 }
+    post: P,
+) -> Result<Worker<P>, Fail>
     requires within { IsWithinLimits setup.now (plan.now.items ∷ []) }
+    requires post { IsPostOf 0 setup.now.pages (P.view post) }
     ensures { IfOk result (IsPlaying plan.now.items 0) }
 {
-    let cue = Cue::new(alloc, &setup.pages, cues)?;
-    match Worker::new(alloc, setup, &[plan.len() as u32], 0, cue) {
+    match Worker::new(alloc, setup, &[plan.len() as u32], 0, post) {
         Ok(worker) => Ok(worker),
         Err(_) => Err("no memory for a worker".into()),
     }
@@ -67,7 +67,7 @@ fn next_of(plan: &[Request], next: &mut usize) -> Taken
 }
 
 /// Makes the worker's next turn, with the take where it tries its submitter.
-fn turn<P: Post, G: Gate>(
+pub fn turn<P: Post, G: Gate>(
     worker: &mut Worker<P>,
     gate: &G,
     plan: &[Request],
