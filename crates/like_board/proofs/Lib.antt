@@ -10,5 +10,6 @@ pub mod Readings
 pub mod Gathering
 pub mod LastCounts
 pub mod InOrder
+pub mod Meanings
 pub mod Opens
 pub mod Allowed

@@ -1,4 +1,4 @@
-use Rattle.std.specs.Prelude.{◌≡◌, ℕ, ◌+◌, ◌<◌, ◌==◌, List, Some, slice_get, slice_index, count_by}
+use Rattle.std.specs.Prelude.{◌≡◌, ℕ, ◌+◌, ◌<◌, ◌==◌, List, ◌∷◌, Some, slice_get, slice_index, count_by}
 use Rattle.std.specs.List.{sum_by}
 use Rattle.atomic_table.specs.Seated.{TableId}
 use Rattle.like_core.specs.declared.setting.Setting.{Setting}
@@ -44,13 +44,17 @@ post_board post = seat_board post.seat
 abbrev pub post_view : BoardPost → WorkerView
 post_view post = seat_view post.seat
 
+-- the numbers that tell boards apart
+abbrev pub board_numbers : TableId → List ℕ
+board_numbers id = id.words ∷ id.slots ∷ id.views_name ∷ id.atom ∷ id.block ∷ id.offset ∷ id.slot_names
+
 -- what a worker's seat means as a post
 abbrev pub seat_meaning : WorkerSeat → PostView
-seat_meaning seat = post_of (seat_view seat)
+seat_meaning seat = record (post_of (seat_view seat)) { board = board_numbers (seat_board seat) }
 
 -- what a post means
 abbrev pub post_meaning : BoardPost → PostView
-post_meaning post = post_of (post_view post)
+post_meaning post = seat_meaning post.seat
 
 -- the seats of the workers of a board in order, none of which made a step yet
 abbrev pub AreFresh : TableId → Setting → List WorkerSeat → Type 0

@@ -7,6 +7,7 @@ use Rattle.like_core.specs.Post.{PostView, RunsSome}
 -- a post over a core of one worker and one page, which had this count at the start
 abbrev pub lone_view : Numbers → ℕ → Option Sight → PostView
 lone_view n start last = record {
+  board = [];
   worker = 0;
   marks = n.marked 0 ∷ [];
   state = n.state 0;

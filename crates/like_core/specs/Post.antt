@@ -4,9 +4,10 @@ use Rattle.like_core.specs.declared.worker_state.WorkerState.TheVariants.{Runs, 
 use Rattle.like_core.specs.declared.sight.Sight.{Sight}
 use Rattle.like_core.specs.Phase.{IsJoined, IsSplit, split}
 
--- what a post means: whose it is; for each page of its board, whether it is marked as split; the worker's state and its
--- last sight, if it looked; and how much it has added to each page
+-- what a post means: at which board it stands, as numbers that tell boards apart; whose it is; for each page of its board,
+-- whether it is marked as split; the worker's state and its last sight, if it looked; and how much it has added to each page
 pub record PostView : Type 0 where
+  pub board : List ℕ
   pub worker : ℕ
   pub marks : List Bool
   pub state : WorkerState

@@ -81,9 +81,10 @@ abbrev pub added_view : WorkerView → ℕ → ℕ → WorkerView
 added_view v page n =
     record v { additions = v.additions ++ record { phase = phase_of v.state; page = page; likes = n } ∷ [] }
 
--- what a worker's view means as a post: its additions are summed by page
+-- what a worker's view means as a post, the board aside: its additions are summed by page
 abbrev pub post_of : WorkerView → PostView
 post_of v = record {
+  board = [];
   worker = v.worker;
   marks = v.setting.marks;
   state = v.state;

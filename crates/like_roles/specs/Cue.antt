@@ -1,5 +1,5 @@
 -- What the post of the tests is: a worker at a core of its own.
-use Rattle.std.specs.Prelude.{◌≡◌, ℕ, ◌+◌, ◌-◌, ◌^◌, ◌<◌, ◌≤◌, true, List, map, slice_index, Option}
+use Rattle.std.specs.Prelude.{◌≡◌, ℕ, ◌+◌, ◌-◌, ◌^◌, ◌<◌, ◌≤◌, true, List, [], map, slice_index, Option}
 use Rattle.std.specs.List.{range_with_len}
 use Rattle.like_core.specs.declared.sight.Sight.{Sight}
 use Rattle.like_core.specs.declared.worker_state.WorkerState.TheVariants.{Runs}
@@ -10,6 +10,7 @@ use Rattle.like_core.specs.Post.{PostView}
 -- what it added to a page is the page's count less that at the start
 abbrev pub cue_view : Numbers → List ℕ → Option Sight → PostView
 cue_view n initial last = record {
+  board = [];
   worker = 0;
   marks = map n.marked (range_with_len 0 n.pages);
   state = n.state 0;

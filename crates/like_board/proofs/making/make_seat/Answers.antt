@@ -1,6 +1,7 @@
 use Rattle.std.proofs.Common.{ℕ, ◌<◌, subst}
 use Rattle.like_board.specs.Known.{coord_of}
 use Rattle.like_board.proofs.Allowed.{making, fresh_seat}
+use Rattle.like_board.proofs.Meanings.{is_fresh}
 use Rattle.like_board.proofs.making.make_seat.Goals as goal
 
 pub split_seat-seat-requires : goal.split_seat-seat-requires
@@ -12,4 +13,4 @@ split_seat-seat-requires c =
     )
 
 pub returns-clause-fresh : goal.returns-clause-fresh
-returns-clause-fresh c = fresh_seat _ _ _ c.split_seat-seat.ensures.4
+returns-clause-fresh c = is_fresh _ _ (fresh_seat _ _ _ c.split_seat-seat.ensures.4)

@@ -1,6 +1,7 @@
 use Rattle.std.proofs.Common.{ap, arith}
 use Rattle.atomic_table.specs.Seated.{TableId}
 use Rattle.like_board.proofs.Allowed.{adding_to}
+use Rattle.like_board.proofs.Meanings.{may_add}
 use Rattle.like_board.proofs.worker_seat.WorkerSeat.add.Goals as goal
 
 pub fetch_add-requires : goal.fetch_add-requires
@@ -12,5 +13,5 @@ fetch_add-requires c =
     let there = c.requires.may.there in (
       c.requires.here,
       omega arith,
-      adding_to board.table.shared.key _ _ _ c.args.page c.args.n seat.is_worker c.requires.may,
+      adding_to board.table.shared.key _ _ _ c.args.page c.args.n seat.is_worker (may_add _ _ c.args.page c.args.n c.requires.may),
     )

@@ -1,6 +1,7 @@
 use Rattle.std.proofs.Common.{ap, arith}
 use Rattle.atomic_table.specs.Seated.{TableId}
 use Rattle.like_board.proofs.Allowed.{reading}
+use Rattle.like_board.proofs.Meanings.{may_read}
 use Rattle.like_board.proofs.worker_seat.WorkerSeat.read.Goals as goal
 
 pub load-requires : goal.load-requires
@@ -12,5 +13,5 @@ load-requires c =
     let there = c.requires.may.there in (
       c.requires.here,
       omega arith,
-      reading board.table.shared.key _ _ _ c.args.page seat.is_worker c.requires.may,
+      reading board.table.shared.key _ _ _ c.args.page seat.is_worker (may_read _ _ c.args.page c.requires.may),
     )
