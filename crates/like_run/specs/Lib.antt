@@ -1,1 +1,11 @@
+pub mod Dealt
+pub mod EndToEnd
+pub mod Gathered
+pub mod Left
+pub mod Log
+pub mod Made
+pub mod Replayed
 pub mod ScriptFile
+pub mod Scripted
+pub mod Server
+pub mod Stage

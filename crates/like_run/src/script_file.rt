@@ -1,9 +1,10 @@
-ghost use Rattle.std.specs.Prelude.{◌≡◌, ◌-◌, ◌<◌, ◌∷◌, List, MatchOption, MatchResult, Some, map, option_map};
+ghost use Rattle.std.specs.Prelude.{◌≡◌, ◌-◌, ◌<◌, ◌≤◌, ◌∷◌, IfOk, List, MatchOption, MatchResult, Some, length, map, option_map};
 ghost use Rattle.std.specs.List.{AllByRecursion};
 ghost use Rattle.like_records.specs.Decimal.{decimal_value};
 ghost use Rattle.like_records.specs.Reading.{records_of};
 ghost use Rattle.like_requests.specs.First.{FailsFirst};
 ghost use Rattle.like_requests.specs.Rows.{PassAll, Record};
+ghost use Rattle.like_run.specs.declared.script_file.TheConstants.{MAX_ENTRIES};
 ghost use Rattle.like_run.specs.ScriptFile.{AsksEntry, AsksEntryRecord, IsEntry, IsIndex, IsScriptFault, IsScriptFile, Names, entry_of, entry_tests, named, script_header};
 
 use crate::turned::Turned;
@@ -63,7 +64,8 @@ impl From<AllocFailed<Turned>> for ScriptFault {
 /// Reads a script file: CSV by the default settings, the header `turn,index`, and a record for each entry. The first
 /// record that is no entry ends it, or else the 1,000,001st.
 pub fn read_script<R: Read + Drop>(alloc: Global, reader: R) -> Result<Vec<Turned>, ScriptFault>
-    ensures { (rows : List Record) → option_map records_of (R.remaining reader) ≡ Some rows
+    ensures few { IfOk result (λ entries. length entries.items ≤ MAX_ENTRIES) }
+    ensures file { (rows : List Record) → option_map records_of (R.remaining reader) ≡ Some rows
         → MatchResult result (λ entries. IsScriptFile rows entries.items) (IsScriptFault rows) }
 {
     let mut records = Records::new(alloc, reader);
@@ -78,7 +80,8 @@ fn read_entries<R: Read>(
     alloc: Global,
     records: &mut Records<R>,
 ) -> Result<Vec<Turned>, ScriptFault>
-    ensures { (body : List Record) → records.old.left ≡ Some body
+    ensures few { IfOk result (λ entries. length entries.items ≤ MAX_ENTRIES) }
+    ensures body { (body : List Record) → records.old.left ≡ Some body
         → MatchResult result
         (λ entries. PassAll AsksEntryRecord entry_tests body × (entries.items ≡ map entry_of body))
         (IsScriptFault (script_header ∷ body)) }

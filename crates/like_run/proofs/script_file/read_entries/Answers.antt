@@ -7,13 +7,13 @@ use Rattle.like_requests.proofs.Reading.{reading_ends}
 use Rattle.like_run.proofs.ScriptRead.{entry_goes_on, entry_stops}
 use Rattle.like_run.proofs.script_file.read_entries.Goals as goal
 
-pub returns-then-not-branch : goal.returns-then-not-branch
-returns-then-not-branch g c = λ body known.
+pub returns-then-not-branch-clause-body : goal.returns-then-not-branch-clause-body
+returns-then-not-branch-clause-body g c = λ body known.
     let ends = rw c.if-not-branch.true at c.in_ok-read_next.ensures in
     reading_ends AsksEntryRecord entry_tests entry_of body c.loop-row.records.left c.loop-row.entries.items (c.loop-row.invariant.read body known) ends.0
 
-pub returns-in_err-entry_at : goal.returns-in_err-entry_at
-returns-in_err-entry_at g c = λ body known.
+pub returns-in_err-entry_at-clause-body : goal.returns-in_err-entry_at-clause-body
+returns-in_err-entry_at-clause-body g c = λ body known.
     let takes = rw c.if-not-branch.false at c.in_ok-read_next.ensures in
     let p = err_from_is_err_and c.from_residual-in_err-entry_at.result c.from_residual-in_err-entry_at.ensures.1 in
     rw (p.1, p.2) (entry_stops body c.loop-row.records c.read_next.new.self c.loop-row.entries.items c.loop-row.row

@@ -13,9 +13,9 @@ of_body : (rows body : List Record) (r : Result (Vec Turned Global) ScriptFault)
 of_body rows body (Ok entries) whole made = (body, whole, made.0, made.1)
 of_body rows body (Err fault) whole why = rw whole why
 
-pub returns : goal.returns
-returns g c = λ rows known.
+pub returns-clause-file : goal.returns-clause-file
+returns-clause-file g c = λ rows known.
     let takes = rw c.if-not-branch.false at c.in_ok-read_next.ensures in
     let (rest, first, more) = takes rows (ap (λ (r : Reading). r.left) c.new-records.ensures ∙ known) in
     let header = c.fields_are.ensures.0 c.if-not-fields_are.false in
-    of_body rows rest c.read_entries.result (first ∙ ap (λ r. r ∷ rest) header) (c.read_entries.ensures rest more)
+    of_body rows rest c.read_entries.result (first ∙ ap (λ r. r ∷ rest) header) (c.read_entries.ensures.body rest more)

@@ -1,0 +1,15 @@
+use Rattle.std.proofs.Common.{◌≡◌, ℕ, sym, subst, ap, ◌∙◌}
+use Rattle.like_core.specs.Post.{additions_of}
+use Rattle.like_roles.specs.Service.{Service}
+use Rattle.like_run.specs.Log.{IsLog}
+use Rattle.like_run.specs.Server.{Serves, ServerView}
+use Rattle.like_run.proofs.Finishing.{log-is}
+use Rattle.like_run.proofs.server.Server.finish.Goals as goal
+
+pub returns-clause-log : goal.returns-clause-log
+returns-clause-log g c = λ service h.
+    let s : ServerView = record { worker = c.self.inside.worker; inboxes = c.self.inside.inboxes.items } in
+    let here : Serves service s = subst (Serves service) (sym c.self.view_is) h in
+    let done = c.finish.ensures.done service here.follows in
+    subst (λ (x : ServerView). IsLog service x.worker.last.share.workers x.worker.last.share.worker c.finish.result.0) c.self.view_is
+    (log-is service s c.finish.result.0 c.self.invariant.2 here done c.finish.ensures.taken c.finish.ensures.ran c.finish.ensures.last)

@@ -1,0 +1,44 @@
+-- What the log of a worker has to say.
+use Rattle.std.specs.Prelude.{◌≡◌, ℕ, ◌≤◌, ◌==◌, if◌then◌else◌, List, [], length, map, filter, slice_index_or, All, AllPairs, Option, Some, None}
+use Rattle.std.specs.List.{range_with_len}
+use Rattle.like_core.specs.declared.sight.Sight.{Sight}
+use Rattle.like_requests.specs.declared.request.Request.{Request}
+use Rattle.like_tables.specs.Share.{worker_of}
+use Rattle.like_tables.specs.UserTable.{last_of}
+use Rattle.like_roles.specs.declared.log.Took.{Took}
+use Rattle.like_roles.specs.declared.log.WorkerLog.{WorkerLog}
+use Rattle.like_roles.specs.Likes.{last_like}
+use Rattle.like_roles.specs.Order.{entry_of, order}
+use Rattle.like_roles.specs.Replies.{HasRightAnswers}
+use Rattle.like_roles.specs.Service.{Service}
+
+-- the numbers of the requests that were taken from a submitter, in their order
+abbrev pub numbers_taken : ℕ → List Took → List ℕ
+numbers_taken submitter taken = map (λ t. t.number) (filter (λ t. t.submitter == submitter) taken)
+
+-- the plan of a submitter, which is empty where there is no such submitter
+abbrev pub plan_of : Service → ℕ → List Request
+plan_of service submitter = slice_index_or service.plans submitter []
+
+-- a worker took the requests of its submitters' plans, each once and in order, and no others
+abbrev pub TakesPlans : Service → ℕ → ℕ → List Took → Type 0
+TakesPlans service workers worker taken =
+    (submitter : ℕ) → numbers_taken submitter taken ≡ (if worker_of workers submitter == worker then range_with_len 1 (length (plan_of service submitter)) else [])
+
+-- the phases of taking never fall
+abbrev pub IsRising : List Took → Type 0
+IsRising taken = AllPairs (λ s t. s.phase ≤ t.phase) taken
+
+-- nothing was taken in a phase above the one that was seen last
+abbrev pub NoneAbove : Option Sight → List Took → Type 0
+NoneAbove None taken = taken ≡ []
+NoneAbove (Some sight) taken = All (λ t. t.phase ≤ sight.number) taken
+
+-- the log of a worker that is gone: it took its submitters' plans, in phases that never fall, and ran what it took in run
+-- order; each reply is right, save that nothing is said of counts; and its table has the last like of each user
+pub record IsLog (service : Service) (workers worker : ℕ) (log : WorkerLog) : Type 0 where
+  pub taken : TakesPlans service workers worker log.taken.items
+  pub rising : IsRising log.taken.items
+  pub ran : map entry_of log.ran.items ≡ order service log.taken.items
+  pub answers : HasRightAnswers service log.ran.items
+  pub last : (user : ℕ) → last_of log.last user ≡ last_like service user log.ran.items

@@ -1,0 +1,27 @@
+-- Why a replay gives no report.
+use Rattle.std.specs.Prelude.{◌⊎◌, List, length, All, ⊤}
+use Rattle.like_requests.specs.Setup.{IsFirstBroken, IsWithinLimits}
+use Rattle.like_requests.specs.declared.request.Request.{Request}
+use Rattle.like_requests.specs.declared.setup.Setup.{Setup}
+use Rattle.like_run.specs.declared.replay_fault.ReplayFault.{ReplayFault}
+use Rattle.like_run.specs.declared.replay_fault.ReplayFault.TheVariants.{Settings, Memory, Unfinished}
+use Rattle.like_run.specs.declared.turned.Turned.{Turned}
+use Rattle.like_run.specs.Scripted.{IsFirstAway, IsThere}
+
+-- the settings and the lists are within their limits, and the script's submitters and workers are there
+pub record Fits (setup : Setup) (plans : List (List Request)) (script : List Turned) : Type 0 where
+  pub within : IsWithinLimits setup plans
+  pub there : All (IsThere setup.workers (length plans)) script
+
+-- no fault of the settings, the lists or the script
+abbrev pub IsRunFault : ReplayFault → Type 0
+IsRunFault (Settings why) = ⊥
+IsRunFault Memory = ⊤
+IsRunFault Unfinished = ⊤
+
+-- the first limit that the settings and the lists break, or else the first entry of the script that is away; or else
+-- memory ran out, or the run did not end
+abbrev pub IsReplayFault : Setup → List (List Request) → List Turned → ReplayFault → Type 0
+IsReplayFault setup plans script (Settings why) = IsFirstBroken setup plans why ⊎ (IsWithinLimits setup plans × IsFirstAway setup.workers (length plans) script why)
+IsReplayFault setup plans script Memory = Fits setup plans script
+IsReplayFault setup plans script Unfinished = Fits setup plans script

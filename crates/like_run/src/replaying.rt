@@ -1,0 +1,134 @@
+ghost use Rattle.std.specs.Prelude.{◌≡◌, ◌<◌, ◌≤◌, ℕ, All, IfErr, IfOk, IfSome, OnOk, length, map, slice_index};
+ghost use Rattle.like_requests.specs.Setup.{IsPlan, IsWithinLimits};
+ghost use Rattle.like_board.specs.Seats.{AreAll, board_id, coord_board, coord_view, last_count, seat_board, seat_meaning};
+ghost use Rattle.like_core.specs.declared.worker_state.WorkerState.TheVariants.{Gone};
+ghost use Rattle.like_roles.specs.New.{IsWithin};
+ghost use Rattle.like_run.specs.declared.script_file.TheConstants.{MAX_ENTRIES};
+ghost use Rattle.like_run.specs.EndToEnd.{IsEndToEnd};
+ghost use Rattle.like_run.specs.Made.{AreNewSeats, service_of};
+ghost use Rattle.like_run.specs.Replayed.{Fits, IsReplayFault, IsRunFault};
+ghost use Rattle.like_run.specs.Scripted.{IsThere};
+ghost use Rattle.like_run.specs.Stage.{IsEnded};
+
+use crate::gathering::{last_likes, replies_of};
+use crate::making::{counts_of, servers_of, sizes_of, split_marks};
+use crate::playing::{Ended, play};
+use crate::replay_fault::ReplayFault;
+use crate::scripted::check_script;
+use crate::servers::finish_all;
+use crate::turned::Turned;
+use like_board::{Board, CoordSeat, WorkerSeat};
+use like_replies::Report;
+use like_requests::{Request, Setup, check_setup};
+use like_roles::Coordinator;
+use std::alloc::Global;
+
+/// Replays a run on one thread. First the script's entries are made in their order; then all lists are opened, and
+/// rounds follow: one turn of the coordinator, and one of each worker in order. It ends with the round in which the
+/// coordinator finds the run ended and every worker is gone; where 1,000,000 rounds were made without that, it is
+/// `Unfinished`. On a fault the lists are given up.
+pub fn replay(
+    alloc: Global,
+    setup: &Setup,
+    plans: Vec<Vec<Request>>,
+    script: &[Turned],
+) -> Result<Report, ReplayFault>
+    requires { length script.now ≤ MAX_ENTRIES }
+    ensures report { IfOk result (IsEndToEnd (service_of setup.now (map (λ plan. plan.items) plans.items)) setup.now.workers) }
+    ensures fits { OnOk result (Fits setup.now (map (λ plan. plan.items) plans.items) script.now) }
+    ensures fault { IfErr result (IsReplayFault setup.now (map (λ plan. plan.items) plans.items) script.now) }
+{
+    check_setup(setup, &plans)?;
+    check_script(script, setup.workers, plans.len())?;
+    replay_within(alloc, setup, plans, script)
+}
+
+// Replays a run within the limits.
+fn replay_within(
+    alloc: Global,
+    setup: &Setup,
+    plans: Vec<Vec<Request>>,
+    script: &[Turned],
+) -> Result<Report, ReplayFault>
+    requires within { IsWithinLimits setup.now (map (λ plan. plan.items) plans.items) }
+    requires script { All (IsThere setup.now.workers (length plans.items)) script.now }
+    ensures report { IfOk result (IsEndToEnd (service_of setup.now (map (λ plan. plan.items) plans.items)) setup.now.workers) }
+    ensures fault { IfErr result IsRunFault }
+{
+    let sizes = sizes_of(alloc, &plans)?;
+    let counts = counts_of(alloc, &setup.pages)?;
+    let marks = split_marks(alloc, &setup.pages)?;
+    let (board, coord, seats) = Board::new(alloc, setup.workers, &counts, &marks)?;
+    let Ended {
+        logs,
+        seats,
+        coord,
+        phases,
+    } = run_on(alloc, setup, &sizes, &board, coord, seats, plans, script)?;
+    let counts = final_counts(board, coord, seats, counts);
+    let replies = replies_of(alloc, &sizes, &logs)?;
+    let last = last_likes(alloc, setup.users, sizes.len() as u32, &logs)?;
+    Ok(Report {
+        logs,
+        replies,
+        counts,
+        last,
+        phases,
+    })
+}
+
+// Plays the script and the rounds on a board, and takes everything apart.
+fn run_on(
+    alloc: Global,
+    setup: &Setup,
+    sizes: &[u32],
+    board: &Board,
+    coord: CoordSeat,
+    seats: Vec<WorkerSeat>,
+    plans: Vec<Vec<Request>>,
+    script: &[Turned],
+) -> Result<Ended, ReplayFault>
+    requires within { IsWithin setup.now sizes.now }
+    requires sizes { sizes.now ≡ map (λ plan. length plan.items) plans.items }
+    requires plans { All (λ plan. IsPlan setup.now.pages plan.items) plans.items }
+    requires len { length seats.items ≡ setup.now.workers }
+    requires seats { AreNewSeats (board_id board.now) setup.now.pages seats.items }
+    requires coord_here { coord_board coord ≡ board_id board.now }
+    requires coord_new { (coord_view coord).phase ≡ 0 }
+    requires script { All (IsThere setup.now.workers (length plans.items)) script.now }
+    ensures ended { IfOk result (IsEnded (service_of setup.now (map (λ plan. plan.items) plans.items)) setup.now.workers (board_id board.now) (coord_view coord).setting) }
+    ensures fault { IfErr result IsRunFault }
+{
+    let mut servers = servers_of(alloc, setup, sizes, board, seats, plans)?;
+    let mut coordinator = Coordinator::new(coord, setup.turns);
+    play(board, &mut coordinator, &mut servers, script)?;
+    let (logs, seats) = finish_all(alloc, servers)?;
+    let phases = coordinator.phase();
+    Ok(Ended {
+        logs,
+        seats,
+        coord: coordinator.finish(),
+        phases,
+    })
+}
+
+// Ends the board, and gives the final counts in place of the initial ones.
+fn final_counts(
+    board: Board,
+    coord: CoordSeat,
+    seats: Vec<WorkerSeat>,
+    initial: Vec<u64>,
+) -> Vec<u64>
+    requires coord_here { coord_board coord ≡ board_id board }
+    requires seats_here { All (λ seat. seat_board seat ≡ board_id board) seats.items }
+    requires all { AreAll (coord_view coord).setting.workers seats.items }
+    requires gone { All (λ seat. (seat_meaning seat).state ≡ Gone) seats.items }
+    requires places { length initial.items ≡ length (coord_view coord).setting.counts }
+    ensures len { length result.items ≡ length initial.items }
+    ensures counts { (page : ℕ) → page < length initial.items → slice_index result.items page ≡ last_count (coord_view coord).setting seats.items page }
+    ensures phases { All (λ seat. IfSome (seat_meaning seat).last (λ sight. sight.number ≤ (coord_view coord).phase)) seats.items }
+{
+    let mut counts = initial;
+    board.close(coord, seats, &mut counts);
+    counts
+}

@@ -1,0 +1,32 @@
+ghost use Rattle.std.specs.Prelude.{◌≡◌, ◌≤◌, ⊤, ℕ, All, IsTrue, ◌↔◌, MatchResult, length};
+ghost use Rattle.like_requests.specs.First.{IsFirstBad};
+ghost use Rattle.like_requests.specs.declared.setup.SettingsFault.TheVariants.{Script};
+ghost use Rattle.like_run.specs.declared.script_file.TheConstants.{MAX_ENTRIES};
+ghost use Rattle.like_run.specs.Scripted.{IsFirstAway, IsThere};
+
+use crate::turned::Turned;
+use like_requests::SettingsFault;
+
+/// Names the first entry of a script whose submitter or worker is not there.
+pub fn check_script(script: &[Turned], workers: u32, submitters: usize) -> Result<(), SettingsFault>
+    requires { length script.now ≤ MAX_ENTRIES }
+    ensures { MatchResult result (λ _. All (IsThere workers submitters) script.now) (IsFirstAway workers submitters script.now) }
+{
+    for (at, entry) in script.iter().enumerate() {
+        if !is_there(entry, workers, submitters) {
+            return Err(SettingsFault::Script { at: at as u32 });
+        }
+    }
+    Ok(())
+}
+
+// Whether the submitter or the worker of an entry is there.
+fn is_there(entry: &Turned, workers: u32, submitters: usize) -> bool
+    ensures { IsTrue result ↔ IsThere workers submitters entry.now }
+{
+    match *entry {
+        Turned::OpenOne(submitter) => (submitter as usize) < submitters,
+        Turned::Worker(worker) => worker < workers,
+        Turned::Coordinator => true,
+    }
+}
