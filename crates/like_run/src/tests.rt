@@ -1,3 +1,5 @@
-//! Worked examples, with values that were worked out by hand.
+//! Worked examples, with values that were worked out by hand, and drawn replays, beside the tables of turns.
+mod by_the_tables;
+mod drawn;
 mod replays;
 mod scripts;

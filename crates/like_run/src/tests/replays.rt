@@ -114,9 +114,15 @@ fn assert_report(
     report
 }
 
-// Asserts what the first worker took, and in which order it ran that: phase, submitter, number and stashed.
-fn assert_log(rt: &impl Abort, report: &Report, taken: &[Took], ran: &[(u32, u32, u32, bool)]) {
-    let Some(log) = report.logs.first() else {
+// Asserts what a worker took, and in which order it ran that: phase, submitter, number and stashed.
+fn assert_log(
+    rt: &impl Abort,
+    report: &Report,
+    worker: usize,
+    taken: &[Took],
+    ran: &[(u32, u32, u32, bool)],
+) {
+    let Some(log) = report.logs.get(worker) else {
         panic!(rt; "no log");
     };
     assert_eq!(rt; log.taken.as_slice(), taken);
@@ -146,6 +152,46 @@ fn plain_likes(rt: HostRuntime) {
         &[&[liked(0), liked(0), liked(0)]],
         &[13],
         &[Some(0), Some(0)],
+    );
+}
+
+#[test]
+fn no_requests(rt: HostRuntime) {
+    let case = Case {
+        workers: 1,
+        users: 2,
+        stash: 256,
+        turns: 1_000,
+        pages: "a,10,no\n",
+        requests: &[""],
+        script: "",
+    };
+    assert_report(&rt, rt.alloc(), &case, 0, &[&[]], &[10], &[None, None]);
+}
+
+#[test]
+fn high_count(rt: HostRuntime) {
+    let case = Case {
+        workers: 1,
+        users: 1,
+        stash: 256,
+        turns: 1_000,
+        pages: "a,1000000000000000000,no\n",
+        requests: &["like,0,a\nlike,0,a\nlook,0,a\n"],
+        script: "",
+    };
+    assert_report(
+        &rt,
+        rt.alloc(),
+        &case,
+        0,
+        &[&[
+            liked(0),
+            liked(0),
+            seen(0, false, Some(0), 1_000_000_000_000_000_002),
+        ]],
+        &[1_000_000_000_000_000_002],
+        &[Some(0)],
     );
 }
 
@@ -202,6 +248,7 @@ fn split_and_stash(rt: HostRuntime) {
     assert_log(
         &rt,
         &report,
+        0,
         &[took(1, 0, 1), took(1, 0, 2)],
         &[(1, 0, 1, false), (2, 0, 2, true)],
     );
@@ -218,7 +265,7 @@ fn late_worker(rt: HostRuntime) {
         requests: &["", "look,1,a\nlook,1,a\n"],
         script: "o1 o1 c0 w0 w1 c0 w1 w1 c0 w0 w1 c0 c0 w1 w1 w1",
     };
-    assert_report(
+    let report = assert_report(
         &rt,
         rt.alloc(),
         &case,
@@ -226,6 +273,14 @@ fn late_worker(rt: HostRuntime) {
         &[&[], &[seen(2, true, None, 0), seen(2, true, None, 0)]],
         &[0],
         &[None, None],
+    );
+    assert_log(&rt, &report, 0, &[], &[]);
+    assert_log(
+        &rt,
+        &report,
+        1,
+        &[took(1, 1, 1), took(1, 1, 2)],
+        &[(2, 1, 1, true), (2, 1, 2, true)],
     );
 }
 
@@ -252,6 +307,7 @@ fn stash_then_like(rt: HostRuntime) {
     assert_log(
         &rt,
         &report,
+        0,
         &[took(1, 0, 1), took(1, 0, 2)],
         &[(1, 0, 2, false), (2, 0, 1, true)],
     );
@@ -280,6 +336,7 @@ fn full_stash(rt: HostRuntime) {
     assert_log(
         &rt,
         &report,
+        0,
         &[took(1, 0, 1), took(2, 0, 2)],
         &[(2, 0, 1, true), (2, 0, 2, false)],
     );
@@ -318,7 +375,7 @@ fn two_slices(rt: HostRuntime) {
         requests: &["like,0,a\nlook,0,a\n", "like,1,a\n"],
         script: "o0 o0 o1 c0 w0 w1 c0 w0 w1 w0 c0 w0 c0 w0 w1 c0 w0",
     };
-    assert_report(
+    let report = assert_report(
         &rt,
         rt.alloc(),
         &case,
@@ -327,6 +384,14 @@ fn two_slices(rt: HostRuntime) {
         &[102],
         &[Some(0), Some(0)],
     );
+    assert_log(
+        &rt,
+        &report,
+        0,
+        &[took(1, 0, 1), took(1, 0, 2)],
+        &[(1, 0, 1, false), (2, 0, 2, true)],
+    );
+    assert_log(&rt, &report, 1, &[took(1, 1, 1)], &[(1, 1, 1, false)]);
 }
 
 #[test]

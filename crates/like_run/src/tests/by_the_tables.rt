@@ -1,0 +1,321 @@
+//! Runs played by the tables of turns over the pure core, with plain lists for all that a worker keeps. Nothing of a
+//! replay's workers, coordinator and lists is used here.
+ghost use Rattle.std.specs.Prelude.{◌≤◌};
+
+use crate::{MAX_ROUNDS, Turned};
+use like_core::{Core, Event, Shown};
+use like_requests::{Numbered, Op, PageRef, Request, Setup, Taken, Verdict};
+use like_roles::{Ran, Reply, Took};
+use like_tables::Held;
+use std::alloc::{AllocError, Global};
+use std::collections::{BTreeMap, VecDeque};
+use std::mem::swap;
+use std::test::Fail;
+
+// A submitter's requests: how many items are open, of which the end mark is the last, and how many requests are taken.
+#[derive(Drop)]
+struct List<'a> {
+    plan: &'a [Request],
+    open: u32,
+    taken: u32,
+}
+
+impl List<'_> {
+    fn take(&mut self) -> Taken {
+        if self.taken >= self.open {
+            return Taken::Nothing;
+        }
+        let Some(request) = self.plan.get(self.taken as usize) else {
+            return Taken::End;
+        };
+        self.taken += 1;
+        Taken::Ask(Numbered {
+            number: self.taken,
+            request: *request,
+        })
+    }
+}
+
+// What a run has beside its workers: its settings, how many submitters there are, the one page that is split in odd
+// phases, the core, the coordinator's turns left, and the lists.
+#[derive(Drop)]
+struct Shared<'a> {
+    setup: &'a Setup,
+    submitters: u32,
+    split: u32,
+    core: Core,
+    turns_left: u32,
+    lists: Vec<List<'a>>,
+}
+
+impl Shared<'_> {
+    // A turn of the coordinator; the phase in which the run ended where all workers are gone.
+    fn lead(&mut self) -> Result<Option<u32>, Fail> {
+        let Shown::Coord(sight) = self.core.step(Event::CoordLook)? else {
+            return Err("a look without a sight".into());
+        };
+        if sight.all_gone {
+            return Ok(Some(sight.number));
+        }
+        if !sight.ending && self.turns_left > 0 {
+            self.turns_left -= 1;
+        } else if !sight.ending {
+            self.core.step(Event::Announce)?;
+        } else if sight.all_in {
+            self.core.step(Event::Release)?;
+            self.turns_left = self.setup.turns;
+        }
+        Ok(None)
+    }
+
+    fn verdict(&self, held: &Held) -> Verdict {
+        let request = held.ask.request;
+        let home = request.user.checked_rem(self.submitters);
+        if request.user >= self.setup.users {
+            Verdict::UnknownUser
+        } else if home != Some(held.submitter) {
+            Verdict::OtherHome
+        } else if request.page == PageRef::Unknown {
+            Verdict::UnknownPage
+        } else {
+            Verdict::Accepted
+        }
+    }
+}
+
+/// A worker, with what it took and ran so far.
+#[derive(Drop)]
+pub struct Player {
+    worker: u32,
+    phase: u32,
+    answered: bool,
+    gone: bool,
+    // Those of its submitters whose end mark was not taken, from the cursor on.
+    submitters: VecDeque<u32>,
+    stash: VecDeque<Held>,
+    backlog: VecDeque<Held>,
+    // By user.
+    last: BTreeMap<u32, u32>,
+    pub taken: Vec<Took>,
+    pub ran: Vec<Ran>,
+}
+
+impl Player {
+    fn new(alloc: Global, worker: u32, workers: u32, submitters: u32) -> Result<Player, AllocError>
+        requires { 1 ≤ workers }
+    {
+        let mut own = VecDeque::new(alloc);
+        for submitter in (worker..submitters).step_by(workers as usize) {
+            own.push_back(submitter)?;
+        }
+        Ok(Player {
+            worker,
+            phase: 0,
+            answered: false,
+            gone: false,
+            submitters: own,
+            stash: VecDeque::new(alloc),
+            backlog: VecDeque::new(alloc),
+            last: BTreeMap::new(alloc),
+            taken: Vec::new(alloc),
+            ran: Vec::new(alloc),
+        })
+    }
+
+    fn turn(&mut self, shared: &mut Shared<'_>) -> Result<(), Fail> {
+        if self.gone {
+            return Ok(());
+        }
+        let Shown::Seen(sight) = shared.core.step(Event::Look(self.worker))? else {
+            return Err("a look without a sight".into());
+        };
+        if self.answered && sight.number == self.phase {
+            return Ok(());
+        }
+        let joined = sight.number % 2 == 0;
+        if self.answered && joined {
+            swap(&mut self.stash, &mut self.backlog);
+        }
+        self.answered = false;
+        self.phase = sight.number;
+        if joined {
+            self.joined_turn(shared, sight.ending)
+        } else {
+            self.split_turn(shared, sight.ending)
+        }
+    }
+
+    fn joined_turn(&mut self, shared: &mut Shared<'_>, ending: bool) -> Result<(), Fail> {
+        if let Some(held) = self.backlog.pop_front() {
+            self.run(shared, held, true)?;
+        } else if self.submitters.is_empty() {
+            shared.core.step(Event::Retire(self.worker))?;
+            self.gone = true;
+        } else if ending {
+            shared.core.step(Event::Acknowledge(self.worker))?;
+            self.answered = true;
+        } else {
+            self.try_one(shared)?;
+        }
+        Ok(())
+    }
+
+    // The core keeps the worker's slice, and refuses a report before it is merged.
+    fn split_turn(&mut self, shared: &mut Shared<'_>, ending: bool) -> Result<(), Fail> {
+        if ending {
+            shared.core.step(Event::Merge(self.worker, shared.split))?;
+            shared.core.step(Event::Report(self.worker))?;
+            self.answered = true;
+        } else if self.stash.len() < shared.setup.stash as usize {
+            self.try_one(shared)?;
+        }
+        Ok(())
+    }
+
+    fn try_one(&mut self, shared: &mut Shared<'_>) -> Result<(), Fail> {
+        let Some(submitter) = self.submitters.pop_front() else {
+            return Ok(());
+        };
+        let list = shared.lists.get_mut(submitter as usize);
+        let taken = list.ok_or("a submitter without a list")?.take();
+        if taken != Taken::End {
+            self.submitters.push_back(submitter)?;
+        }
+        match taken {
+            Taken::Ask(ask) => self.give(shared, Held { submitter, ask }),
+            _ => Ok(()),
+        }
+    }
+
+    fn give(&mut self, shared: &mut Shared<'_>, held: Held) -> Result<(), Fail> {
+        self.taken.push(Took {
+            phase: self.phase,
+            submitter: held.submitter,
+            number: held.ask.number,
+        })?;
+        let request = held.ask.request;
+        let split = request.page == PageRef::Known(shared.split) && self.phase % 2 == 1;
+        if split && request.op == Op::Look && shared.verdict(&held) == Verdict::Accepted {
+            self.stash.push_back(held)?;
+            return Ok(());
+        }
+        self.run(shared, held, false)
+    }
+
+    fn run(&mut self, shared: &mut Shared<'_>, held: Held, stashed: bool) -> Result<(), Fail> {
+        let reply = self.reply(shared, held)?;
+        self.ran.push(Ran {
+            phase: self.phase,
+            submitter: held.submitter,
+            number: held.ask.number,
+            stashed,
+            reply,
+        })?;
+        Ok(())
+    }
+
+    fn reply(&mut self, shared: &mut Shared<'_>, held: Held) -> Result<Reply, Fail> {
+        let request = held.ask.request;
+        let verdict = shared.verdict(&held);
+        let (Verdict::Accepted, PageRef::Known(page)) = (verdict, request.page) else {
+            return Ok(Reply::Refused(verdict));
+        };
+        if request.op == Op::Like {
+            shared.core.step(Event::Like(self.worker, page))?;
+            self.last.insert(request.user, page)?;
+            return Ok(Reply::Liked);
+        }
+        let last = self.last.get(&request.user).copied();
+        match shared.core.step(Event::Read(self.worker, page))? {
+            Shown::Count(count) => Ok(Reply::Seen { last, count }),
+            _ => Err("a read without a count".into()),
+        }
+    }
+}
+
+fn follow(
+    shared: &mut Shared<'_>,
+    players: &mut Vec<Player>,
+    script: &[Turned],
+) -> Result<(), Fail> {
+    for turned in script {
+        match *turned {
+            Turned::OpenOne(submitter) => {
+                let list = shared.lists.get_mut(submitter as usize).ok_or("no list")?;
+                list.open = list.open.saturating_add(1);
+            }
+            Turned::Worker(worker) => {
+                let player = players.get_mut(worker as usize).ok_or("no worker")?;
+                player.turn(shared)?;
+            }
+            Turned::Coordinator => {
+                shared.lead()?;
+            }
+        }
+    }
+    Ok(())
+}
+
+// One turn of the coordinator, and one of each worker.
+fn round(shared: &mut Shared<'_>, players: &mut Vec<Player>) -> Result<Option<u32>, Fail> {
+    let ended = shared.lead()?;
+    for player in players {
+        player.turn(shared)?;
+    }
+    Ok(ended)
+}
+
+// Rounds with all lists open. Gives the phase in which the run ended.
+fn rounds(shared: &mut Shared<'_>, players: &mut Vec<Player>) -> Result<u32, Fail> {
+    for list in &mut shared.lists {
+        list.open = u32::MAX;
+    }
+    for _ in 0..MAX_ROUNDS {
+        if let Some(phase) = round(shared, players)? {
+            return Ok(phase);
+        }
+    }
+    Err("not finished".into())
+}
+
+fn lists_of(alloc: Global, plans: &[Vec<Request>]) -> Result<Vec<List<'_>>, AllocError> {
+    let mut lists = Vec::new(alloc);
+    for plan in plans {
+        lists.push(List {
+            plan,
+            open: 0,
+            taken: 0,
+        })?;
+    }
+    Ok(lists)
+}
+
+/// Plays a script, and then rounds, with two pages of 10 and 20 likes of which one is split. Gives the workers, and the
+/// phase in which the run ended.
+pub fn play(
+    alloc: Global,
+    setup: &Setup,
+    split: u32,
+    plans: &[Vec<Request>],
+    script: &[Turned],
+) -> Result<(Vec<Player>, u32), Fail>
+    requires some { 1 ≤ setup.now.workers }
+    requires few { setup.now.workers ≤ 16 }
+{
+    let submitters = u32::try_from(plans.len())?;
+    let mut shared = Shared {
+        setup,
+        submitters,
+        split,
+        core: Core::new(alloc, setup.workers, &[10, 20], &[split == 0, split == 1])?,
+        turns_left: setup.turns,
+        lists: lists_of(alloc, plans)?,
+    };
+    let mut players = Vec::new(alloc);
+    for worker in 0..setup.workers {
+        players.push(Player::new(alloc, worker, setup.workers, submitters)?)?;
+    }
+    follow(&mut shared, &mut players, script)?;
+    let phases = rounds(&mut shared, &mut players)?;
+    Ok((players, phases))
+}
