@@ -1,11 +1,7 @@
-pub mod Answered
 pub mod Commands
+pub mod Ended
 pub mod Examples
-pub mod Lists
 pub mod Matched
 pub mod Plans
-pub mod Right
-pub mod RunList
-pub mod Tallied
 pub mod Walked
 pub mod Writable

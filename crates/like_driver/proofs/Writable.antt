@@ -1,12 +1,13 @@
--- The report on the requests of the only submitter shows pages that are there.
-use Rattle.std.proofs.Common.{◌≡◌, ℕ, ◌<◌, Bool, true, false, List, [], ◌∷◌, length, map, take, cond, eqb, Option, None, Some, All, sym, ◌∙◌, subst, inl, inr, arith}
-use Rattle.std.proofs.lemmas.List.Elements.{All-from_recursion, recursion_from_All}
-use Rattle.std.proofs.lemmas.Option.{slice_get_cases, slice_get_within}
-use Rattle.std.specs.List.{AllByRecursion, cons_option, filter}
-use Rattle.std.specs.Option.{ForSome}
+-- A report that is right end to end shows pages that are there and replies that can be shown.
+use Rattle.std.proofs.Common.{◌≡◌, ℕ, zero, suc, ◌<◌, Bool, true, false, List, [], ◌∷◌, ◌++◌, length, map, take, cond, eqb, Option, None, Some, All, refl, sym, ap, ◌∙◌, subst, arith}
+use Rattle.std.proofs.lemmas.List.Elements.{All-from_recursion}
+use Rattle.std.proofs.lemmas.Option.{get_or_from_slice_get, slice_get_within}
+use Rattle.std.specs.Prelude.{IsSomeAnd}
+use Rattle.std.specs.List.{AllByRecursion, cons_option, filter, flat_map, slice_get}
+use Rattle.std.specs.Option.{ForSome, option_and_then, option_to_list}
 use Rattle.like_requests.specs.Pages.{Page}
 use Rattle.like_requests.specs.Setup.{IsPlan, IsThere}
-use Rattle.like_requests.specs.Verdict.{is_accepted, verdict_of}
+use Rattle.like_requests.specs.Verdict.{home, is_accepted, verdict_of}
 use Rattle.like_requests.specs.declared.request.Op.{Op}
 use Rattle.like_requests.specs.declared.request.Op.TheVariants.{Like, Look}
 use Rattle.like_requests.specs.declared.request.PageRef.{PageRef}
@@ -14,13 +15,53 @@ use Rattle.like_requests.specs.declared.request.PageRef.TheVariants.{Known, Unkn
 use Rattle.like_requests.specs.declared.request.Request.{Request}
 use Rattle.like_requests.specs.declared.verdict.Verdict.{Verdict}
 use Rattle.like_requests.specs.declared.verdict.Verdict.TheVariants.{Accepted, UnknownUser, OtherHome, UnknownPage}
+use Rattle.like_roles.specs.declared.log.Ran.{Ran}
+use Rattle.like_roles.specs.declared.log.WorkerLog.{WorkerLog}
+use Rattle.like_roles.specs.declared.reply.Reply.{Reply}
+use Rattle.like_roles.specs.declared.reply.Reply.TheVariants.{Liked, Seen, Refused}
+use Rattle.like_roles.specs.Likes.{AcceptedLike, accepted_like, last_like, last_page, like_of, likes_ran}
+use Rattle.like_roles.specs.Replies.{Answers, HasRightAnswers, IsRightAnswer}
+use Rattle.like_roles.specs.Service.{Service, numbered_in, request_at, request_of, submitters}
 use Rattle.like_replies.specs.declared.answer.Answer.{Answer}
-use Rattle.like_roles.specs.Likes.{AcceptedLike, last_page, like_of}
-use Rattle.like_replies.specs.Reported.{Reported}
+use Rattle.like_replies.specs.declared.report.Report.{Report}
+use Rattle.like_replies.specs.Collected.{answer_at, rows_of}
+use Rattle.like_replies.specs.Entries.{answer_of, entries_in, entries_of, is_of}
+use Rattle.like_replies.specs.Reported.{reported}
 use Rattle.like_replies.specs.Rows.{IsShowable, IsWritable}
-use Rattle.like_driver.specs.Tallies.{AreAnswered, IsReport, count_after, likes_asked, reply_after, settled}
-use Rattle.like_driver.proofs.Right.{all_from_get, all_get}
-use Rattle.like_driver.proofs.RunList.{AllByRecursion-take}
+use Rattle.like_tables.specs.Share.{worker_of}
+use Rattle.like_run.specs.EndToEnd.{IsEndToEnd, run_of}
+
+-- what holds of each element by its place holds of all
+all_from_get : {X : Type 0} (P : X → Type 0) (xs : List X) → ((i : ℕ) (x : X) → slice_get xs i ≡ Some x → P x) → AllByRecursion P xs
+all_from_get P [] each = tt
+all_from_get P (x ∷ xs) each = (each 0 x refl, all_from_get P xs (λ i y h. each (suc i) y h))
+
+-- what holds of all holds of the element at a place
+all_get : {X : Type 0} (P : X → Type 0) (xs : List X) (i : ℕ) (x : X) → AllByRecursion P xs → slice_get xs i ≡ Some x → P x
+all_get P [] i x all h = absurd (let no : None ≡ Some x = h in cc no)
+all_get P (y ∷ ys) zero x all h = let same : y ≡ x = cc h in subst P same all.0
+all_get P (y ∷ ys) (suc i) x all h = all_get P ys i x all.1 h
+
+all_both : {X : Type 0} (P : X → Type 0) (xs ys : List X) → AllByRecursion P xs → AllByRecursion P ys → AllByRecursion P (xs ++ ys)
+all_both P [] ys h k = k
+all_both P (x ∷ xs) ys h k = (h.0, all_both P xs ys h.1 k)
+
+kept : {X : Type 0} (P : X → Type 0) (b : Bool) (x : X) (rest : List X) → P x → AllByRecursion P rest → AllByRecursion P (cond b (x ∷ rest) rest)
+kept P true x rest first all = (first, all)
+kept P false x rest first all = all
+
+-- so it does of those that pass a test
+all_filter : {X : Type 0} (P : X → Type 0) (test : X → Bool) (xs : List X) → AllByRecursion P xs → AllByRecursion P (filter test xs)
+all_filter P test [] all = tt
+all_filter P test (x ∷ xs) all = kept P (test x) x (filter test xs) all.0 (all_filter P test xs all.1)
+
+all_map : {X Y : Type 0} (f : X → Y) (P : Y → Type 0) (xs : List X) → AllByRecursion (λ x. P (f x)) xs → AllByRecursion P (map f xs)
+all_map f P [] all = tt
+all_map f P (x ∷ xs) all = (all.0, all_map f P xs all.1)
+
+all_flat : {X Y : Type 0} (f : X → List Y) (P : Y → Type 0) (xs : List X) → AllByRecursion (λ x. AllByRecursion P (f x)) xs → AllByRecursion P (flat_map f xs)
+all_flat f P [] all = tt
+all_flat f P (x ∷ xs) all = all_both P (f x) (flat_map f xs) all.0 (all_flat f P xs all.1)
 
 -- a like of a page that is there
 abbrev LikesThere : List Page → AcceptedLike → Type 0
@@ -34,64 +75,96 @@ likes_there pages true Like user (Known q) rest there all = (there, all)
 likes_there pages true Like user Unknown rest there all = all
 likes_there pages true Look user p rest there all = all
 
--- so are the likes that requests make
-likes_asked-there : (pages : List Page) (users : ℕ) (requests : List Request) → AllByRecursion (λ (r : Request). IsThere pages r.page) requests → AllByRecursion (LikesThere pages) (likes_asked users requests)
-likes_asked-there pages users [] all = tt
-likes_asked-there pages users (r ∷ rest) all = likes_there pages (is_accepted users 1 0 r) r.op r.user r.page (likes_asked users rest) all.0 (likes_asked-there pages users rest all.1)
+-- a reply that is an answer shows no page but the user's last one
+shows_there : (pages : List Page) (v : Verdict) (o : Op) (last : Option ℕ) (reply : Reply) → ForSome last (λ p. p < length pages) → Answers v o last reply → IsShowable pages reply
+shows_there pages Accepted Like last reply there is = subst (IsShowable pages) (sym is) (record { there = tt; answer = tt })
+shows_there pages Accepted Look last Liked there is = absurd is
+shows_there pages Accepted Look last (Seen shown count) there is = record { there = subst (λ x. ForSome x (λ p. p < length pages)) (sym is.0) there; answer = tt }
+shows_there pages Accepted Look last (Refused verdict) there is = absurd is
+shows_there pages UnknownUser o last reply there is = subst (IsShowable pages) (sym is) (record { there = tt; answer = λ e. cc })
+shows_there pages OtherHome o last reply there is = subst (IsShowable pages) (sym is) (record { there = tt; answer = λ e. cc })
+shows_there pages UnknownPage o last reply there is = subst (IsShowable pages) (sym is) (record { there = tt; answer = λ e. cc })
 
--- the pages of likes are there, with one more that is kept or not
-kept : (pages : List Page) (b : Bool) (l : AcceptedLike) (rest : List AcceptedLike) → l.page < length pages → AllByRecursion (λ p. p < length pages) (map (λ (x : AcceptedLike). x.page) rest)
-    → AllByRecursion (λ p. p < length pages) (map (λ (x : AcceptedLike). x.page) (cond b (l ∷ rest) rest))
-kept pages true l rest first all = (first, all)
-kept pages false l rest first all = all
+module _ (service : Service) (planned : All (IsPlan service.pages) service.plans) where
+  -- the page that a request of a plan knows is there
+  in_plan : (plan : List Request) (number : ℕ) (r : Request) → IsPlan service.pages plan → numbered_in plan number ≡ Some r → IsThere service.pages r.page
+  in_plan plan zero r is at = absurd (let no : None ≡ Some r = at in cc no)
+  in_plan plan (suc n) r is at =
+      subst (λ (x : Request). IsThere service.pages x.page) (get_or_from_slice_get plan n r r at) (is.there n r (slice_get_within plan n r at))
 
--- the pages of some of these likes are there
-pages_there : (pages : List Page) (test : AcceptedLike → Bool) (likes : List AcceptedLike) → AllByRecursion (LikesThere pages) likes → AllByRecursion (λ p. p < length pages) (map (λ (l : AcceptedLike). l.page) (filter test likes))
-pages_there pages test [] all = tt
-pages_there pages test (l ∷ rest) all = kept pages (test l) l (filter test rest) all.0 (pages_there pages test rest all.1)
+  asked_there : (submitter number : ℕ) (r : Request) → request_at service submitter number ≡ Some r → IsThere service.pages r.page
+  asked_there submitter number r at = by_plan (slice_get service.plans submitter) refl at where
+    by_plan : (o : Option (List Request)) → slice_get service.plans submitter ≡ o → option_and_then (λ plan. numbered_in plan number) o ≡ Some r → IsThere service.pages r.page
+    by_plan None is h = absurd (let no : None ≡ Some r = h in cc no)
+    by_plan (Some plan) is h =
+        in_plan plan number r (subst (IsPlan service.pages) (get_or_from_slice_get service.plans submitter plan plan is) (planned submitter plan (slice_get_within service.plans submitter plan is))) h
 
--- the page of a last like is there
-last_page-there : (pages : List Page) (user : ℕ) (likes : List AcceptedLike) → AllByRecursion (LikesThere pages) likes → ForSome (last_page user likes) (λ p. p < length pages)
-last_page-there pages user likes all = λ p h. all_get (λ q. q < length pages) _ _ p (pages_there pages (λ (l : AcceptedLike). eqb l.user user) likes all) h
+  -- so are the pages of all accepted likes
+  ran_there : (entries : List Ran) → AllByRecursion (LikesThere service.pages) (likes_ran service entries)
+  ran_there [] = tt
+  ran_there (e ∷ rest) = by_request (request_of service e) (λ r at. asked_there e.submitter e.number r at) (ran_there rest) where
+    by_request : (o : Option Request) → ((r : Request) → o ≡ Some r → IsThere service.pages r.page) → AllByRecursion (LikesThere service.pages) (likes_ran service rest)
+        → AllByRecursion (LikesThere service.pages) (cons_option (option_and_then (accepted_like service.users (submitters service) e.submitter) o) (likes_ran service rest))
+    by_request None there all = all
+    by_request (Some r) there all =
+        likes_there service.pages (is_accepted service.users (submitters service) e.submitter r) r.op r.user r.page (likes_ran service rest) (there r refl) all
 
--- a settled reply shows the last like that it was given
-IsShowable-settled : (pages : List Page) (v : Verdict) (o : Op) (last : Option ℕ) (count : ℕ) → ForSome last (λ p. p < length pages) → IsShowable pages (settled v o last count)
-IsShowable-settled pages Accepted Like last count h = record { there = tt; answer = tt }
-IsShowable-settled pages Accepted Look last count h = record { there = h; answer = tt }
-IsShowable-settled pages UnknownUser o last count h = record { there = tt; answer = λ e. cc }
-IsShowable-settled pages OtherHome o last count h = record { there = tt; answer = λ e. cc }
-IsShowable-settled pages UnknownPage o last count h = record { there = tt; answer = λ e. cc }
+  -- and each last like
+  last_there : (user : ℕ) (entries : List Ran) → ForSome (last_like service user entries) (λ p. p < length service.pages)
+  last_there user entries = λ p h.
+      all_get (λ q. q < length service.pages) _ _ p
+      (all_map (λ (l : AcceptedLike). l.page) (λ q. q < length service.pages) (filter (λ (l : AcceptedLike). eqb l.user user) (likes_ran service entries))
+      (all_filter (LikesThere service.pages) (λ (l : AcceptedLike). eqb l.user user) (likes_ran service entries) (ran_there entries))) h
 
--- each answer shows a page that is there
-answers_there : (pages : List Page) (users : ℕ) (plan : List Request) (answers : List Answer) → IsPlan pages plan → AreAnswered pages users plan answers → AllByRecursion (λ (a : Answer). IsShowable pages a.reply) answers
-answers_there pages users plan answers planned given =
-    let there = recursion_from_All (λ (r : Request). IsThere pages r.page) plan planned.there in
-    all_from_get (λ (a : Answer). IsShowable pages a.reply) answers (λ i a h.
-    elim (slice_get_cases plan i).1 [
-      | inl found ↦
-          let front = likes_asked-there pages users (take i plan) (AllByRecursion-take (λ (r : Request). IsThere pages r.page) plan i there) in
-          let r = found.0 in
-          let reply = reply_after pages users (likes_asked users (take i plan)) r in
-          let e : Some a ≡ Some (let x : Answer = record { phase = 0; stashed = false; reply = reply } in x) = sym h ∙ given.each i r found.2 in
-          let same : a ≡ (let x : Answer = record { phase = 0; stashed = false; reply = reply } in x) = cc e in
-          subst (λ (x : Answer). IsShowable pages x.reply) (sym same)
-          (IsShowable-settled pages (verdict_of users 1 0 r) r.op (last_page r.user (likes_asked users (take i plan))) (count_after pages (likes_asked users (take i plan)) r.page) (last_page-there pages r.user (likes_asked users (take i plan)) front))
-      | inr past ↦ absurd (omega (arith, slice_get_within answers i a h, given.as_many, past.0))
-    ])
+  -- an entry with a right answer can be shown
+  entry_shows : (before : List Ran) (e : Ran) → IsRightAnswer service before e → IsShowable service.pages e.reply
+  entry_shows before e right = by_request (request_of service e) right where
+    by_request : (o : Option Request)
+        → IsSomeAnd o (λ r. Answers (verdict_of service.users (submitters service) e.submitter r) r.op (last_like service r.user before) e.reply) → IsShowable service.pages e.reply
+    by_request None h = absurd h
+    by_request (Some r) h =
+        shows_there service.pages (verdict_of service.users (submitters service) e.submitter r) r.op (last_like service r.user before) e.reply (last_there r.user before) h
 
--- so the report may be written
-pub IsWritable-report : (pages : List Page) (users : ℕ) (plan : List Request) (r : Reported) → IsPlan pages plan → IsReport pages users plan r → IsWritable pages r
-IsWritable-report pages users plan r planned report =
-    let P : List Answer → Type 0 = λ row. All (λ (a : Answer). IsShowable pages a.reply) row in
-    let row : P report.answers = All-from_recursion (λ (a : Answer). IsShowable pages a.reply) report.answers (answers_there pages users plan report.answers planned report.answered) in
-    let there = likes_asked-there pages users plan (recursion_from_All (λ (q : Request). IsThere pages q.page) plan planned.there) in
-    let Q : Option ℕ → Type 0 = λ last. ForSome last (λ page. page < length pages) in
-    record {
-      counted = report.tallied.pages_there;
-      shown = subst (All P) (sym report.one) (All-from_recursion P (report.answers ∷ []) (row, tt));
-      liked = All-from_recursion Q r.last (all_from_get Q r.last (λ user last h.
-          let known : user < users = omega (arith, slice_get_within r.last user last h, report.tallied.users_there) in
-          let same : Some (last_page user (likes_asked users plan)) ≡ Some last = sym (report.tallied.remembered user known) ∙ h in
-          let is : last_page user (likes_asked users plan) ≡ last = cc same in
-          subst Q is (last_page-there pages user (likes_asked users plan) there)));
-    }
+  list_shows : (ran : List Ran) → HasRightAnswers service ran → AllByRecursion (λ (e : Ran). IsShowable service.pages e.reply) ran
+  list_shows ran right = all_from_get (λ (e : Ran). IsShowable service.pages e.reply) ran (λ i e at. entry_shows (take i ran) e (right i e at))
+
+  module _ (workers : ℕ) (r : Report) (h : IsEndToEnd service workers r) where
+    -- all entries can be shown
+    all_show : AllByRecursion (λ (e : Ran). IsShowable service.pages e.reply) (entries_in r.logs.items)
+    all_show =
+        all_flat (λ (log : WorkerLog). log.ran.items) (λ (e : Ran). IsShowable service.pages e.reply) r.logs.items
+        (all_from_get (λ (log : WorkerLog). AllByRecursion (λ (e : Ran). IsShowable service.pages e.reply) log.ran.items) r.logs.items
+        (λ worker log at. list_shows log.ran.items (h.logs worker log at).0.answers))
+
+    -- so can each answer, which is that of an entry
+    answer_shows : (submitter place : ℕ) (a : Answer) → answer_at (rows_of r.replies) submitter (suc place) ≡ Some a → IsShowable service.pages a.reply
+    answer_shows submitter place a at =
+        let one : map answer_of (entries_of submitter (suc place) (entries_in r.logs.items)) ≡ a ∷ [] = h.replies.each submitter (suc place) ∙ ap option_to_list at in
+        let shown = all_map answer_of (λ (x : Answer). IsShowable service.pages x.reply) (entries_of submitter (suc place) (entries_in r.logs.items))
+        (all_filter (λ (e : Ran). IsShowable service.pages e.reply) (is_of submitter (suc place)) (entries_in r.logs.items) all_show) in
+        (subst (AllByRecursion (λ (x : Answer). IsShowable service.pages x.reply)) one shown).0
+
+    row_shows : (submitter : ℕ) (row : List Answer) → slice_get (rows_of r.replies) submitter ≡ Some row → All (λ (a : Answer). IsShowable service.pages a.reply) row
+    row_shows submitter row at =
+        All-from_recursion (λ (a : Answer). IsShowable service.pages a.reply) row
+        (all_from_get (λ (a : Answer). IsShowable service.pages a.reply) row (λ place a there.
+        answer_shows submitter place a (ap (λ xs. slice_get xs place) (get_or_from_slice_get (rows_of r.replies) submitter row [] at) ∙ there)))
+
+    user_shows : (user : ℕ) (last : Option ℕ) → slice_get r.last.items user ≡ Some last → ForSome last (λ page. page < length service.pages)
+    user_shows user last at =
+        let known : user < service.users = omega (arith, slice_get_within r.last.items user last at, h.last.users) in
+        let entries : List Ran = run_of r.logs.items (worker_of workers (home (submitters service) user)) in
+        let same : Some (last_like service user entries) ≡ Some last = sym (h.last.each user known) ∙ at in
+        let is : last_like service user entries ≡ last = cc same in
+        subst (λ x. ForSome x (λ page. page < length service.pages)) is (last_there user entries)
+
+    -- so the report may be written
+    pub IsWritable-end_to_end : IsWritable service.pages (reported r)
+    IsWritable-end_to_end =
+        let P : List Answer → Type 0 = λ row. All (λ (a : Answer). IsShowable service.pages a.reply) row in
+        let Q : Option ℕ → Type 0 = λ last. ForSome last (λ page. page < length service.pages) in
+        record {
+          counted = h.counts.pages;
+          shown = All-from_recursion P (rows_of r.replies) (all_from_get P (rows_of r.replies) row_shows);
+          liked = All-from_recursion Q r.last.items (all_from_get Q r.last.items user_shows);
+        }

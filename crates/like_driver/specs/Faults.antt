@@ -1,5 +1,5 @@
--- The statuses with which the program ends.
-use Rattle.std.specs.Prelude.{ℕ, List, codes, string_bytes}
+-- The statuses with which the program ends, and the lines of faults.
+use Rattle.std.specs.Prelude.{ℕ, List, Option, None, Some, codes, string_bytes}
 use Rattle.like_requests.specs.declared.pages_file.PagesFault.{PagesFault}
 use Rattle.like_requests.specs.declared.pages_file.PagesFault.TheVariants as pages
 use Rattle.like_requests.specs.declared.requests_file.RequestsFault.{RequestsFault}
@@ -7,15 +7,34 @@ use Rattle.like_requests.specs.declared.requests_file.RequestsFault.TheVariants 
 use Rattle.like_requests.specs.declared.setup.SettingsFault.{SettingsFault}
 use Rattle.like_requests.specs.declared.setup.SettingsFault.TheVariants as settings
 use Rattle.like_driver.specs.declared.fault.DriverFault.{DriverFault}
-use Rattle.like_driver.specs.declared.fault.DriverFault.TheVariants.{Pages, Requests, Script, Settings, Write, Memory}
+use Rattle.like_driver.specs.declared.fault.DriverFault.TheVariants.{Pages, Requests, Script, Settings, Unfinished, Write, Memory}
 use Rattle.like_driver.specs.declared.parse_fault.ParseFault.{ParseFault}
 use Rattle.like_driver.specs.declared.parse_fault.ParseFault.TheVariants as parse
 use Rattle.like_replies.specs.declared.write_fault.WriteFault.{WriteFault}
 use Rattle.like_replies.specs.declared.write_fault.WriteFault.TheVariants as write
+use Rattle.like_run.specs.declared.replay_fault.ReplayFault.{ReplayFault}
+use Rattle.like_run.specs.declared.replay_fault.ReplayFault.TheVariants as run
 use Rattle.like_run.specs.declared.script_file.ScriptFault.{ScriptFault}
 use Rattle.like_run.specs.declared.script_file.ScriptFault.TheVariants as script
 
--- the statuses of faults: of the settings, of a file or the output, of memory
+-- the line of memory that ran out
+abbrev pub memory_line : List ℕ
+memory_line = codes "likes: out of memory\n"
+
+-- the line of a fault that has no other text than the program's own
+abbrev pub own_line : DriverFault → Option (List ℕ)
+own_line (Pages pages.Memory) = Some memory_line
+own_line (Pages fault) = None
+own_line (Requests submitter requests.Memory) = Some memory_line
+own_line (Requests submitter fault) = None
+own_line (Script script.Memory) = Some memory_line
+own_line (Script fault) = None
+own_line (Settings fault) = None
+own_line Unfinished = None
+own_line Write = Some (codes "likes: standard output: write failed\n")
+own_line Memory = Some memory_line
+
+-- the statuses of faults: of the settings, of a file or the output, of memory, of a run that does not end
 abbrev pub usage_status : ℕ
 usage_status = 2
 
@@ -24,6 +43,9 @@ file_status = 3
 
 abbrev pub memory_status : ℕ
 memory_status = 4
+
+abbrev pub unfinished_status : ℕ
+unfinished_status = 5
 
 abbrev pub pages_status : PagesFault → ℕ
 pages_status pages.Memory = memory_status
@@ -47,8 +69,15 @@ status_of (Pages fault) = pages_status fault
 status_of (Requests submitter fault) = requests_status fault
 status_of (Script fault) = script_status fault
 status_of (Settings fault) = settings_status fault
+status_of Unfinished = unfinished_status
 status_of Write = file_status
 status_of Memory = memory_status
+
+-- the fault that a fault of the run stands for
+abbrev pub fault_of_replay : ReplayFault → DriverFault
+fault_of_replay (run.Settings fault) = Settings fault
+fault_of_replay run.Unfinished = Unfinished
+fault_of_replay run.Memory = Memory
 
 -- the fault that a fault of writing stands for
 abbrev pub fault_of : WriteFault → DriverFault
@@ -63,4 +92,4 @@ parse_status parse.Memory = memory_status
 -- what it writes on standard error
 abbrev pub parse_line : ParseFault → List ℕ
 parse_line (parse.Usage text) = string_bytes text
-parse_line parse.Memory = codes "likes: out of memory\n"
+parse_line parse.Memory = memory_line

@@ -1,5 +1,5 @@
 -- What the files of a replay give, as far as their bytes are known.
-use Rattle.std.specs.Prelude.{◌≡◌, ◌-◌, ◌^◌, ℕ, List, min, take, slice_get, Option, Some, IsSomeAnd, option_map, ⊤}
+use Rattle.std.specs.Prelude.{◌≡◌, ◌-◌, ◌^◌, ℕ, List, [], min, take, slice_get, Option, Some, None, IsSomeAnd, option_map, ⊤}
 use Rattle.std.specs.List.{AllZip}
 use Rattle.like_records.specs.Reading.{records_of}
 use Rattle.like_requests.specs.Pages.{Page}
@@ -9,13 +9,17 @@ use Rattle.like_requests.specs.Rows.{Record}
 use Rattle.like_requests.specs.declared.pages_file.PagesFault.{PagesFault}
 use Rattle.like_requests.specs.declared.request.Request.{Request}
 use Rattle.like_requests.specs.declared.requests_file.RequestsFault.{RequestsFault}
+use Rattle.like_run.specs.ScriptFile.{IsScriptFault, IsScriptFile}
+use Rattle.like_run.specs.declared.script_file.ScriptFault.{ScriptFault}
+use Rattle.like_run.specs.declared.turned.Turned.{Turned}
 use Rattle.like_driver.specs.declared.fault.DriverFault.{DriverFault}
 use Rattle.like_driver.specs.declared.fault.DriverFault.TheVariants as driver
 
--- the bytes of the pages file and of each request file, where they are known
+-- the bytes of the pages file and of each request file, where they are known, and those of the script file where there is one
 pub record Inputs : Type 0 where
   pub pages : Option (List ℕ)
   pub requests : List (Option (List ℕ))
+  pub script : Option (Option (List ℕ))
 
 -- a fact of the records of a file, where its bytes are known
 abbrev pub OfRecords : Option (List ℕ) → (List Record → Type 0) → Type 0
@@ -37,6 +41,16 @@ GivesPlan pages source plan = OfRecords source (λ rows. IsRequestsFile pages ro
 abbrev pub RefusesPlan : Option (List ℕ) → RequestsFault → Type 0
 RefusesPlan source fault = OfRecords source (λ rows. IsRequestsFault rows fault)
 
+-- a script file gives these entries; where there is none, there are none
+abbrev pub GivesScript : Option (Option (List ℕ)) → List Turned → Type 0
+GivesScript None entries = entries ≡ []
+GivesScript (Some source) entries = OfRecords source (λ rows. IsScriptFile rows entries)
+
+-- a script file is refused with this fault
+abbrev pub RefusesScript : Option (Option (List ℕ)) → ScriptFault → Type 0
+RefusesScript None fault = ⊥
+RefusesScript (Some source) fault = OfRecords source (λ rows. IsScriptFault rows fault)
+
 -- the request files give these plans
 abbrev pub GivesPlans : List Page → List (Option (List ℕ)) → List (List Request) → Type 0
 GivesPlans pages sources plans = AllZip (GivesPlan pages) sources plans
@@ -54,4 +68,5 @@ RefusesPlans pages sources driver.Memory = ⊤
 RefusesPlans pages sources (driver.Pages fault) = ⊥
 RefusesPlans pages sources (driver.Script fault) = ⊥
 RefusesPlans pages sources (driver.Settings fault) = ⊥
+RefusesPlans pages sources driver.Unfinished = ⊥
 RefusesPlans pages sources driver.Write = ⊥

@@ -2,5 +2,3 @@ pub mod CommandLine
 pub mod Faults
 pub mod Inputs
 pub mod Replayed
-pub mod Settings
-pub mod Tallies

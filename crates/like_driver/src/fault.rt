@@ -1,15 +1,19 @@
-ghost use Rattle.std.specs.Prelude.{◌≡◌};
-ghost use Rattle.like_driver.specs.Faults.{status_of};
+ghost use Rattle.std.specs.Prelude.{◌≡◌, IfSome, IsTrue};
+ghost use Rattle.std.specs.Io.KnownBytes.{Appends};
+ghost use Rattle.like_driver.specs.Faults.{own_line, status_of};
 
 use crate::options::Options;
 use like_replies::WriteFault;
 use like_requests::{PagesFault, Request, RequestsFault, SettingsFault};
-use like_run::ScriptFault;
+use like_run::{ReplayFault, ScriptFault};
 use std::alloc::{AllocError, AllocFailed};
 use std::io::Write;
 
 /// The line of an output that failed.
 pub const WRITE_FAILED: &str = "likes: standard output: write failed\n";
+
+/// The line of memory that ran out.
+pub const OUT_OF_MEMORY: &str = "likes: out of memory\n";
 
 /// Why a replay ended without its report.
 #[derive(Clone, Copy, Debug, PartialEq, Eq)]
@@ -21,6 +25,8 @@ pub enum DriverFault {
     },
     Script(ScriptFault),
     Settings(SettingsFault),
+    /// The run did not end in 1,000,000 rounds.
+    Unfinished,
     /// The output failed.
     Write,
     /// Memory ran out, in the run or the report.
@@ -60,14 +66,29 @@ impl From<PagesFault> for DriverFault {
     }
 }
 
-impl From<SettingsFault> for DriverFault {
+impl From<ScriptFault> for DriverFault {
     ghost use Rattle.std.specs.Prelude.{◌≡◌};
-    ghost use Rattle.like_driver.specs.declared.fault.DriverFault.TheVariants.{Settings};
+    ghost use Rattle.like_driver.specs.declared.fault.DriverFault.TheVariants.{Script};
 
-    ghost from_gives = { λ why fault. fault ≡ Settings why };
+    ghost from_gives = { λ why fault. fault ≡ Script why };
 
-    fn from(why: SettingsFault) -> DriverFault {
-        DriverFault::Settings(why)
+    fn from(why: ScriptFault) -> DriverFault {
+        DriverFault::Script(why)
+    }
+}
+
+impl From<ReplayFault> for DriverFault {
+    ghost use Rattle.std.specs.Prelude.{◌≡◌};
+    ghost use Rattle.like_driver.specs.Faults.{fault_of_replay};
+
+    ghost from_gives = { λ why fault. fault ≡ fault_of_replay why };
+
+    fn from(why: ReplayFault) -> DriverFault {
+        match why {
+            ReplayFault::Settings(fault) => DriverFault::Settings(fault),
+            ReplayFault::Unfinished => DriverFault::Unfinished,
+            ReplayFault::Memory => DriverFault::Memory,
+        }
     }
 }
 
@@ -104,12 +125,15 @@ impl DriverFault {
             | DriverFault::Script(_)
             | DriverFault::Write => 3,
             DriverFault::Settings(_) => 2,
+            DriverFault::Unfinished => 5,
         }
     }
 
     /// Writes the fault's line, with the name of the file at fault from the options: an empty name where they have none.
     /// `false` says that a write failed, and nothing of how much was written.
-    pub fn line<W: Write>(&self, options: &Options, out: &mut W) -> bool {
+    pub fn line<W: Write>(&self, options: &Options, out: &mut W) -> bool
+        ensures { IsTrue result → IfSome (own_line self.now) (λ text. Appends (W.contents out.old) (W.contents out.new) text) }
+    {
         match self {
             DriverFault::Pages(PagesFault::Memory)
             | DriverFault::Requests {
@@ -117,7 +141,7 @@ impl DriverFault {
                 ..
             }
             | DriverFault::Script(ScriptFault::Memory)
-            | DriverFault::Memory => writeln!(out, "likes: out of memory").is_ok(),
+            | DriverFault::Memory => out.write_all(OUT_OF_MEMORY.as_bytes()).is_ok(),
             DriverFault::Pages(fault) => {
                 let file = options.pages.as_str();
                 writeln!(out, "likes: {file}: {fault}").is_ok()
@@ -131,6 +155,9 @@ impl DriverFault {
                 writeln!(out, "likes: {file}: {fault}").is_ok()
             }
             DriverFault::Settings(fault) => settings_line(*fault, options, out),
+            DriverFault::Unfinished => {
+                writeln!(out, "likes: {}", ReplayFault::Unfinished).is_ok()
+            }
             DriverFault::Write => out.write_all(WRITE_FAILED.as_bytes()).is_ok(),
         }
     }

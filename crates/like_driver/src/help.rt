@@ -47,8 +47,8 @@ Example:
   printf 'op,user,page\\nlike,0,news\\nlook,0,news\\n' > requests.csv
   likes replay --workers 1 pages.csv requests.csv
 
-Today one worker, one file of requests and no script are served, with a T of at least three more
-than there are requests. Other settings end with the line 'likes: settings'.";
+After the turns of FILE all requests are handed over, and rounds follow: a turn of the coordinator
+and then one of each worker. A replay that does not end in 1000000 rounds gives no report.";
 
 pub const EXAMPLE: &str = "\
 A like adds one to a page's count; a look answers with a user's last like and a page's count.
@@ -60,4 +60,5 @@ Example:
   likes replay --workers 1 pages.csv requests.csv
 
 'likes replay --help' says what each file looks like.
-Statuses: 0 done, 2 a wrong command line, 3 a file or the output at fault, 4 out of memory.";
+Statuses: 0 done, 2 a wrong command line, 3 a file or the output at fault, 4 out of memory,
+5 a replay that does not end.";

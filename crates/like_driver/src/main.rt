@@ -12,9 +12,6 @@ pub mod parse_fault;
 pub mod parsing;
 pub mod program;
 pub mod replay;
-pub mod serve;
-pub mod settings;
-pub mod tallies;
 #[cfg(test)]
 mod tests;
 

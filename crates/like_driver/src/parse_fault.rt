@@ -2,6 +2,7 @@ ghost use Rattle.std.specs.Prelude.{◌≡◌, IsTrue};
 ghost use Rattle.std.specs.Io.KnownBytes.{Appends};
 ghost use Rattle.like_driver.specs.Faults.{parse_line, parse_status};
 
+use crate::fault::OUT_OF_MEMORY;
 use std::alloc::AllocError;
 use std::io::Write;
 
@@ -42,7 +43,7 @@ impl ParseFault {
     {
         let text = match self {
             ParseFault::Usage(text) => text.as_str(),
-            ParseFault::Memory => "likes: out of memory\n",
+            ParseFault::Memory => OUT_OF_MEMORY,
         };
         out.write_all(text.as_bytes()).is_ok()
     }

@@ -1,19 +1,19 @@
-ghost use Rattle.std.specs.Prelude.{◌≡◌, ◌-◌, ◌^◌, ℕ, IfErr, MatchResult, OnOk, is_some, length, map, min};
-ghost use Rattle.like_driver.specs.Inputs.{GivesPlans, Inputs, RefusesPlans};
+ghost use Rattle.std.specs.Prelude.{◌≡◌, ◌≤◌, ◌-◌, ◌^◌, ℕ, IfErr, IfOk, MatchResult, OnOk, is_some, length, map, min, option_map};
+ghost use Rattle.like_run.specs.declared.script_file.TheConstants.{MAX_ENTRIES};
+ghost use Rattle.like_driver.specs.Inputs.{GivesPlans, GivesScript, Inputs, RefusesPlans, RefusesScript};
 ghost use Rattle.like_driver.specs.Replayed.{IsBeforeOutput, IsReplayFault, IsReplayed};
 
 use crate::fault::DriverFault;
 use crate::options::Options;
-use crate::serve::serve;
-use crate::settings::only_plan;
 use like_replies::write_report;
 use like_requests::{Pages, Request, Setup, read_pages, read_requests};
+use like_run::{ScriptFault, Turned, read_script, replay};
 use std::alloc::Global;
 use std::io::{Read, Write};
 
-/// Reads the pages file and the request files in their order, serves the requests, and writes the report.
-/// One worker, one request file and no script are served, with at least three more turns than requests; all other
-/// settings are `Turns`. After `Write` and `Memory` nothing is said of how much was written.
+/// Reads the pages file, the request files in their order and the script file, replays the run that they ask for, and
+/// writes its report. Where there is no script, no turn is taken before the rounds. After `Write` and `Memory` nothing
+/// is said of how much was written.
 pub fn replay_files<R: Read + Drop, W: Write>(
     alloc: Global,
     options: &Options,
@@ -24,14 +24,15 @@ pub fn replay_files<R: Read + Drop, W: Write>(
 ) -> Result<(), DriverFault>
     requires request_names { length requests.items ≡ length options.now.requests.items }
     requires script_name { is_some script ≡ is_some options.now.script }
-    ensures replayed { let inputs : Inputs = record { pages = R.remaining pages; requests = map R.remaining requests.items } in
+    ensures replayed { let inputs : Inputs = record { pages = R.remaining pages; requests = map R.remaining requests.items; script = option_map R.remaining script } in
         OnOk result (IsReplayed options.now inputs (W.contents out.old) (W.contents out.new)) }
-    ensures fault { let inputs : Inputs = record { pages = R.remaining pages; requests = map R.remaining requests.items } in
+    ensures fault { let inputs : Inputs = record { pages = R.remaining pages; requests = map R.remaining requests.items; script = option_map R.remaining script } in
         IfErr result (IsReplayFault options.now inputs) }
     ensures untouched { IfErr result (λ fault. IsBeforeOutput fault → out.new ≡ out.old) }
 {
     let pages = read_pages(alloc, pages)?;
     let plans = read_plans(alloc, &pages, requests)?;
+    let script = read_turns(alloc, script)?;
     let setup = Setup {
         workers: options.workers,
         users: options.users,
@@ -39,8 +40,7 @@ pub fn replay_files<R: Read + Drop, W: Write>(
         turns: options.turns,
         pages,
     };
-    let plan = only_plan(&setup, &plans, script.is_some())?;
-    let report = serve(alloc, &setup.pages, setup.users, plan)?;
+    let report = replay(alloc, &setup, plans, &script)?;
     write_report(alloc, &report, &setup.pages, out)?;
     Ok(())
 }
@@ -66,6 +66,19 @@ fn read_plans<R: Read + Drop>(
         }
     }
     Ok(plans)
+}
+
+// The entries of the script, and none where there is no script.
+fn read_turns<R: Read + Drop>(alloc: Global, script: Option<R>) -> Result<Vec<Turned>, ScriptFault>
+    ensures few { IfOk result (λ entries. length entries.items ≤ MAX_ENTRIES) }
+    ensures given { MatchResult result
+        (λ entries. GivesScript (option_map R.remaining script) entries.items)
+        (RefusesScript (option_map R.remaining script)) }
+{
+    match script {
+        None => Ok(Vec::new(alloc)),
+        Some(reader) => read_script(alloc, reader),
+    }
 }
 
 // The number of the submitter at a place, which stops at the last of a u32.

@@ -1,5 +1,5 @@
-//! The worked examples, by `replay_files`.
-ghost use Rattle.std.specs.Prelude.{◌≡◌, IfOk, length, None};
+//! The worked examples, by `replay_files`, from the texts of the files to the text of the report.
+ghost use Rattle.std.specs.Prelude.{◌≡◌, IfOk, is_some, length, None};
 
 use crate::fault::DriverFault;
 use crate::options::Options;
@@ -8,7 +8,7 @@ use std::alloc::{AllocError, Global};
 use std::process::Abort;
 
 /// One worker, this many users, 256 stashed looks, 1,000 turns, and the names of so many request files.
-pub fn options(alloc: Global, users: u32, files: u32) -> Result<Options, AllocError>
+pub fn options(alloc: Global, users: u32, files: usize) -> Result<Options, AllocError>
     ensures named { IfOk result (λ o. length o.requests.items ≡ files) }
     ensures unscripted { IfOk result (λ o. o.script ≡ None) }
 {
@@ -27,33 +27,74 @@ pub fn options(alloc: Global, users: u32, files: u32) -> Result<Options, AllocEr
     })
 }
 
-// What a replay of one request file wrote.
-fn replayed(
-    alloc: Global,
+// A replay: its settings, and the texts of its files.
+#[derive(Clone, Copy)]
+struct Case {
+    workers: u32,
     users: u32,
-    pages: &str,
-    requests: &str,
-) -> Result<Vec<u8>, DriverFault> {
-    let options = options(alloc, users, 1)?;
-    let mut files = Vec::with_capacity(alloc, 1)?;
-    if files.push(requests.as_bytes()).is_err() {
-        return Err(DriverFault::Memory);
+    stash: u32,
+    turns: u32,
+    pages: &'static str,
+    requests: &'static [&'static str],
+    script: Option<&'static str>,
+}
+
+// One worker, one user and no script; what else an example names stands in its test.
+const LONE: Case = Case {
+    workers: 1,
+    users: 1,
+    stash: 256,
+    turns: 1_000,
+    pages: "",
+    requests: &[],
+    script: None,
+};
+
+// The bytes of texts.
+fn bytes(alloc: Global, texts: &'static [&'static str]) -> Result<Vec<&'static [u8]>, AllocError>
+    ensures { IfOk result (λ files. length files.items ≡ length texts.now) }
+{
+    let mut files = Vec::new(alloc);
+    for text in texts {
+        files.push(text.as_bytes())?;
     }
+    Ok(files)
+}
+
+// The options of a replay.
+fn options_of(alloc: Global, case: Case) -> Result<Options, AllocError>
+    ensures named { IfOk result (λ o. length o.requests.items ≡ length case.requests.now) }
+    ensures scripted { IfOk result (λ o. is_some o.script ≡ is_some case.script) }
+{
+    let script = match case.script {
+        None => None,
+        Some(_) => Some(String::from_str(alloc, "s.csv")?),
+    };
+    let mut options = options(alloc, case.users, case.requests.len())?;
+    options.workers = case.workers;
+    options.stash = case.stash;
+    options.turns = case.turns;
+    options.script = script;
+    Ok(options)
+}
+
+// What a replay writes.
+fn replayed(alloc: Global, case: Case) -> Result<Vec<u8>, DriverFault> {
+    let options = options_of(alloc, case)?;
+    let files = bytes(alloc, case.requests)?;
+    let script = match case.script {
+        None => None,
+        Some(text) => Some(text.as_bytes()),
+    };
     let mut out = Vec::new(alloc);
-    replay_files(alloc, &options, pages.as_bytes(), files, None, &mut out)?;
+    let pages = case.pages.as_bytes();
+    replay_files(alloc, &options, pages, files, script, &mut out)?;
     Ok(out)
 }
 
-// Asserts that a replay of one request file writes the header row and these.
-fn assert_rows(
-    rt: &impl Abort,
-    alloc: Global,
-    users: u32,
-    pages: &str,
-    requests: &str,
-    rows: &str,
-) {
-    let Ok(text) = replayed(alloc, users, pages, requests) else {
+// Asserts that a replay writes the header row and these.
+fn assert_report(rt: &impl Abort, alloc: Global, case: Case, rows: &str) {
+    let Ok(text) = replayed(alloc, case) else {
         panic!(rt; "no report");
     };
     let header = "row,id,number,phase,answer,page,count\n".as_bytes();
@@ -66,61 +107,254 @@ fn assert_rows(
 
 #[test]
 fn plain_likes(rt: HostRuntime) {
-    assert_rows(
+    let case = Case {
+        users: 2,
+        pages: "name,count,split\na,10,no\n",
+        requests: &["op,user,page\nlike,0,a\nlike,1,a\nlike,0,a\n"],
+        ..LONE
+    };
+    assert_report(
         &rt,
         rt.alloc(),
-        2,
-        "name,count,split\na,10,no\n",
-        "op,user,page\nlike,0,a\nlike,1,a\nlike,0,a\n",
-        "reply,0,1,0,liked,,\nreply,0,2,0,liked,,\nreply,0,3,0,liked,,\npage,0,,,,a,13\nuser,0,,,,a,\nuser,1,,,,a,\n",
+        case,
+        "reply,0,1,0,liked,,\nreply,0,2,0,liked,,\nreply,0,3,0,liked,,\npage,0,,,,a,13\n\
+        user,0,,,,a,\nuser,1,,,,a,\n",
     );
 }
 
 #[test]
 fn no_requests(rt: HostRuntime) {
-    assert_rows(
+    let case = Case {
+        users: 2,
+        pages: "name,count,split\na,10,no\n",
+        requests: &["op,user,page\n"],
+        ..LONE
+    };
+    assert_report(&rt, rt.alloc(), case, "page,0,,,,a,10\n");
+}
+
+#[test]
+fn verdicts(rt: HostRuntime) {
+    let case = Case {
+        users: 2,
+        pages: "name,count,split\na,10,no\n",
+        requests: &[
+            "op,user,page\nlike,2,a\nlook,1,a\nlike,0,zz\nlike,3,zz\n",
+            "op,user,page\n",
+        ],
+        ..LONE
+    };
+    assert_report(
         &rt,
         rt.alloc(),
-        2,
-        "name,count,split\na,10,no\n",
-        "op,user,page\n",
-        "page,0,,,,a,10\n",
+        case,
+        "reply,0,1,0,unknown-user,,\nreply,0,2,0,other-home,,\nreply,0,3,0,unknown-page,,\n\
+        reply,0,4,0,unknown-user,,\npage,0,,,,a,10\n",
     );
 }
 
 #[test]
 fn quoted_names(rt: HostRuntime) {
-    assert_rows(
+    let case = Case {
+        pages: "name,count,split\r\n\"x,\"\"y\"\"\",0,no\r\n",
+        requests: &["op,user,page\r\nlike,0,\"x,\"\"y\"\"\"\r\n"],
+        ..LONE
+    };
+    assert_report(
         &rt,
         rt.alloc(),
-        1,
-        "name,count,split\r\n\"x,\"\"y\"\"\",0,no\r\n",
-        "op,user,page\r\nlike,0,\"x,\"\"y\"\"\"\r\n",
+        case,
         "reply,0,1,0,liked,,\npage,0,,,,\"x,\"\"y\"\"\",1\nuser,0,,,,\"x,\"\"y\"\"\",\n",
     );
 }
 
 #[test]
 fn high_count(rt: HostRuntime) {
-    assert_rows(
+    let case = Case {
+        pages: "name,count,split\na,1000000000000000000,no\n",
+        requests: &["op,user,page\nlike,0,a\nlike,0,a\nlook,0,a\n"],
+        ..LONE
+    };
+    assert_report(
         &rt,
         rt.alloc(),
-        1,
-        "name,count,split\na,1000000000000000000,no\n",
-        "op,user,page\nlike,0,a\nlike,0,a\nlook,0,a\n",
-        "reply,0,1,0,liked,,\nreply,0,2,0,liked,,\nreply,0,3,0,seen,a,1000000000000000002\npage,0,,,,a,1000000000000000002\nuser,0,,,,a,\n",
+        case,
+        "reply,0,1,0,liked,,\nreply,0,2,0,liked,,\nreply,0,3,0,seen,a,1000000000000000002\n\
+        page,0,,,,a,1000000000000000002\nuser,0,,,,a,\n",
     );
 }
 
 // Each answer that one submitter can have, and a look before any like.
 #[test]
 fn answers(rt: HostRuntime) {
-    assert_rows(
+    let case = Case {
+        users: 2,
+        pages: "name,count,split\na,10,no\nb,7,yes\n",
+        requests: &["op,user,page\nlook,1,a\nlike,2,a\nlike,0,zz\nlike,1,b\nlook,1,a\n"],
+        ..LONE
+    };
+    assert_report(
         &rt,
         rt.alloc(),
-        2,
-        "name,count,split\na,10,no\nb,7,yes\n",
-        "op,user,page\nlook,1,a\nlike,2,a\nlike,0,zz\nlike,1,b\nlook,1,a\n",
-        "reply,0,1,0,seen,,10\nreply,0,2,0,unknown-user,,\nreply,0,3,0,unknown-page,,\nreply,0,4,0,liked,,\nreply,0,5,0,seen,b,10\npage,0,,,,a,10\npage,1,,,,b,8\nuser,1,,,,b,\n",
+        case,
+        "reply,0,1,0,seen,,10\nreply,0,2,0,unknown-user,,\nreply,0,3,0,unknown-page,,\n\
+        reply,0,4,0,liked,,\nreply,0,5,0,seen,b,10\npage,0,,,,a,10\npage,1,,,,b,8\n\
+        user,1,,,,b,\n",
+    );
+}
+
+// In phase 1 a like goes into the slice and a look waits; after the merge it sees 11.
+#[test]
+fn split_and_stash(rt: HostRuntime) {
+    let case = Case {
+        users: 2,
+        turns: 0,
+        pages: "name,count,split\na,10,yes\n",
+        requests: &["op,user,page\nlike,0,a\nlook,0,a\n"],
+        script: Some(
+            "turn,index\nopen,0\nopen,0\ncoordinator,0\nworker,0\ncoordinator,0\nworker,0\n\
+            worker,0\ncoordinator,0\nworker,0\ncoordinator,0\nworker,0\n",
+        ),
+        ..LONE
+    };
+    assert_report(
+        &rt,
+        rt.alloc(),
+        case,
+        "reply,0,1,1,liked,,\nreply,0,2,2,seen,a,11\npage,0,,,,a,11\nuser,0,,,,a,\n",
+    );
+}
+
+// Worker 0 has not looked at phase 2 when its end is announced, and goes through it all the same.
+#[test]
+fn late_worker(rt: HostRuntime) {
+    let case = Case {
+        workers: 2,
+        users: 2,
+        turns: 0,
+        pages: "name,count,split\na,0,yes\n",
+        requests: &["op,user,page\n", "op,user,page\nlook,1,a\nlook,1,a\n"],
+        script: Some(
+            "turn,index\nopen,1\nopen,1\ncoordinator,0\nworker,0\nworker,1\ncoordinator,0\n\
+            worker,1\nworker,1\ncoordinator,0\nworker,0\nworker,1\ncoordinator,0\n\
+            coordinator,0\nworker,1\nworker,1\nworker,1\n",
+        ),
+        ..LONE
+    };
+    assert_report(
+        &rt,
+        rt.alloc(),
+        case,
+        "reply,1,1,2,seen,,0\nreply,1,2,2,seen,,0\npage,0,,,,a,0\n",
+    );
+}
+
+// A like of a page that is not split overtakes a look that waits, whose user likes it then.
+#[test]
+fn stash_then_like(rt: HostRuntime) {
+    let case = Case {
+        turns: 0,
+        pages: "name,count,split\na,5,yes\nb,0,no\n",
+        requests: &["op,user,page\nlook,0,a\nlike,0,b\n"],
+        script: Some(
+            "turn,index\nopen,0\nopen,0\ncoordinator,0\nworker,0\ncoordinator,0\nworker,0\n\
+            worker,0\ncoordinator,0\nworker,0\ncoordinator,0\nworker,0\n",
+        ),
+        ..LONE
+    };
+    assert_report(
+        &rt,
+        rt.alloc(),
+        case,
+        "reply,0,1,2,seen,b,5\nreply,0,2,1,liked,,\npage,0,,,,a,5\npage,1,,,,b,1\n\
+        user,0,,,,b,\n",
+    );
+}
+
+// The stash of one is full, so the second look is taken in phase 2.
+#[test]
+fn full_stash(rt: HostRuntime) {
+    let case = Case {
+        stash: 1,
+        turns: 0,
+        pages: "name,count,split\na,0,yes\n",
+        requests: &["op,user,page\nlook,0,a\nlook,0,a\n"],
+        script: Some(
+            "turn,index\nopen,0\nopen,0\ncoordinator,0\nworker,0\ncoordinator,0\nworker,0\n\
+            worker,0\ncoordinator,0\nworker,0\ncoordinator,0\nworker,0\nworker,0\n",
+        ),
+        ..LONE
+    };
+    assert_report(
+        &rt,
+        rt.alloc(),
+        case,
+        "reply,0,1,2,seen,,0\nreply,0,2,2,seen,,0\npage,0,,,,a,0\n",
+    );
+}
+
+#[test]
+fn unsplit_in_split_phase(rt: HostRuntime) {
+    let case = Case {
+        turns: 0,
+        pages: "name,count,split\na,7,no\n",
+        requests: &["op,user,page\nlike,0,a\nlook,0,a\n"],
+        script: Some(
+            "turn,index\nopen,0\nopen,0\ncoordinator,0\nworker,0\ncoordinator,0\nworker,0\n\
+            worker,0\n",
+        ),
+        ..LONE
+    };
+    assert_report(
+        &rt,
+        rt.alloc(),
+        case,
+        "reply,0,1,1,liked,,\nreply,0,2,1,seen,a,8\npage,0,,,,a,8\nuser,0,,,,a,\n",
+    );
+}
+
+// Two workers like one page in their slices, and a look sees both likes.
+#[test]
+fn two_slices(rt: HostRuntime) {
+    let case = Case {
+        workers: 2,
+        users: 2,
+        turns: 0,
+        pages: "name,count,split\na,100,yes\n",
+        requests: &[
+            "op,user,page\nlike,0,a\nlook,0,a\n",
+            "op,user,page\nlike,1,a\n",
+        ],
+        script: Some(
+            "turn,index\nopen,0\nopen,0\nopen,1\ncoordinator,0\nworker,0\nworker,1\n\
+            coordinator,0\nworker,0\nworker,1\nworker,0\ncoordinator,0\nworker,0\n\
+            coordinator,0\nworker,0\nworker,1\ncoordinator,0\nworker,0\n",
+        ),
+        ..LONE
+    };
+    assert_report(
+        &rt,
+        rt.alloc(),
+        case,
+        "reply,0,1,1,liked,,\nreply,0,2,2,seen,a,102\nreply,1,1,1,liked,,\npage,0,,,,a,102\n\
+        user,0,,,,a,\nuser,1,,,,a,\n",
+    );
+}
+
+// Three of four workers have no submitter.
+#[test]
+fn idle_workers(rt: HostRuntime) {
+    let case = Case {
+        workers: 4,
+        turns: 0,
+        pages: "name,count,split\na,0,yes\n",
+        requests: &["op,user,page\nlike,0,a\n"],
+        ..LONE
+    };
+    assert_report(
+        &rt,
+        rt.alloc(),
+        case,
+        "reply,0,1,1,liked,,\npage,0,,,,a,1\nuser,0,,,,a,\n",
     );
 }

@@ -128,6 +128,7 @@ fn of_requests(rt: HostRuntime) -> Result<(), Fail> {
 #[test]
 fn of_the_rest(rt: HostRuntime) -> Result<(), Fail> {
     let mut options = options(rt.alloc(), 2, 1)?;
+    options.script = Some(String::from_str(rt.alloc(), "s.csv")?);
     let cases = [
         (
             DriverFault::Settings(SettingsFault::Workers),
@@ -161,13 +162,33 @@ fn of_the_rest(rt: HostRuntime) -> Result<(), Fail> {
         ),
         (
             DriverFault::Settings(SettingsFault::Script { at: 1 }),
-            "likes: : row 2: no such worker or submitter\n",
+            "likes: s.csv: row 2: no such worker or submitter\n",
             3,
         ),
         (
             DriverFault::Script(ScriptFault::Read),
-            "likes: : read failed\n",
+            "likes: s.csv: read failed\n",
             3,
+        ),
+        (
+            DriverFault::Script(ScriptFault::Line { row: 2 }),
+            "likes: s.csv: row 2: not a turn\n",
+            3,
+        ),
+        (
+            DriverFault::Script(ScriptFault::TooMany),
+            "likes: s.csv: more than 1000000 turns\n",
+            3,
+        ),
+        (
+            DriverFault::Script(ScriptFault::Memory),
+            "likes: out of memory\n",
+            4,
+        ),
+        (
+            DriverFault::Unfinished,
+            "likes: not finished after 1000000 rounds\n",
+            5,
         ),
         (
             DriverFault::Write,
@@ -179,14 +200,13 @@ fn of_the_rest(rt: HostRuntime) -> Result<(), Fail> {
     for (fault, want, status) in cases {
         assert_line(&rt, rt.alloc(), &options, fault, want, status);
     }
-    options.script = Some(String::from_str(rt.alloc(), "s.csv")?);
-    let fault = DriverFault::Settings(SettingsFault::Script { at: 0 });
+    options.script = None;
     assert_line(
         &rt,
         rt.alloc(),
         &options,
-        fault,
-        "likes: s.csv: row 1: no such worker or submitter\n",
+        DriverFault::Script(ScriptFault::Read),
+        "likes: : read failed\n",
         3,
     );
     Ok(())
