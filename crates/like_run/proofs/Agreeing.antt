@@ -1,8 +1,8 @@
 -- A worker and its inboxes go on to agree.
-use Rattle.std.proofs.Common.{◌≡◌, ◌≢◌, ℕ, ◌+◌, ◌*◌, ◌-◌, ◌<◌, ◌≤◌, min, Bool, true, false, ltb, List, [], ◌∷◌, ◌++◌, length, map, get_or, set, slice_get, Option, Some, None, refl, sym, ap, ◌∙◌, subst, arith, inl, inr, add-one, option_map, option_and_then}
-use Rattle.std.specs.List.{All, count_by, range_with_len}
+use Rattle.std.proofs.Common.{◌≡◌, ℕ, ◌+◌, ◌*◌, ◌-◌, ◌<◌, ◌≤◌, Bool, true, false, ltb, List, length, get_or, set, slice_get, Some, None, refl, sym, ap, ◌∙◌, subst, arith, inl, inr, add-one, option_map, option_and_then}
+use Rattle.std.specs.List.{All, range_with_len}
 use Rattle.std.proofs.lemmas.Bool.{cases_eq, le-ltb, lt-ltb, ltb-false}
-use Rattle.std.proofs.lemmas.List.{get_or-set_same, get_or-set_other, length-set, map-set, set-get_or}
+use Rattle.std.proofs.lemmas.List.{get_or-set_same, get_or-set_other, length-set, set-get_or}
 use Rattle.std.proofs.lemmas.Option.{slice_get-map, slice_get_within, get_or_from_slice_get, same_Some}
 use Rattle.std.proofs.Math.Seq.{map-set_same}
 use Rattle.like_requests.specs.declared.request.Numbered.{Numbered}
@@ -10,7 +10,7 @@ use Rattle.like_requests.specs.declared.request.Request.{Request}
 use Rattle.like_requests.specs.declared.request.Taken.{Taken}
 use Rattle.like_requests.specs.declared.request.Taken.TheVariants as taken
 use Rattle.like_core.specs.Post.{pages_of}
-use Rattle.like_queue.specs.Inbox.{HasEnded, Inbox, Takes, item_count}
+use Rattle.like_queue.specs.Inbox.{Inbox, Takes, item_count}
 use Rattle.like_tables.specs.Share.{Share}
 use Rattle.like_roles.specs.declared.log.Took.{Took}
 use Rattle.like_roles.specs.declared.turn.Turn.{Turn}
@@ -20,7 +20,7 @@ use Rattle.like_roles.specs.Service.{Service, numbered_in, request_at}
 use Rattle.like_roles.specs.Turns.{CanGive, Gives, HasTaken, IsNext, Pends, TakesNothing, Turns, with_taken}
 use Rattle.like_roles.specs.WorkerView.{WorkerView, IsThere, phase_at, submitter_at}
 use Rattle.like_run.specs.Log.{IsRising, numbers_taken}
-use Rattle.like_run.specs.Server.{Agree, AgreesAt, AreOwnPlans, Serves, ServerView, numbers_given, plans_of, requests_taken}
+use Rattle.like_run.specs.Server.{Agree, AgreesAt, AreOwnPlans, Serves, numbers_given, plans_of, requests_taken}
 use Rattle.like_run.proofs.Numbers.{count-taken, given-own, numbers-next, numbers-same, slice_get-set_other, slice_get-set_same}
 use Rattle.like_run.proofs.Sights.{HasSeen, IsTrying, gives-seen, taken-rising, turns-seen}
 

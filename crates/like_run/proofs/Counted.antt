@@ -1,5 +1,5 @@
 -- Each request of the plans has one entry in the run lists of all workers.
-use Rattle.std.proofs.Common.{◌≡◌, ◌≢◌, ℕ, zero, suc, ◌+◌, ◌%◌, ◌<◌, ◌≤◌, Bool, true, false, ◌&&◌, cond, eqb, ltb, leb, List, [], ◌∷◌, ◌++◌, length, map, filter, slice_get, Some, refl, sym, ap, ◌∙◌, subst, arith, inl, inr, zero-add, add-zero, add-one}
+use Rattle.std.proofs.Common.{◌≡◌, ℕ, zero, suc, ◌+◌, ◌<◌, ◌≤◌, Bool, true, false, ◌&&◌, cond, eqb, ltb, leb, List, [], ◌∷◌, length, map, filter, slice_get, Some, refl, sym, ap, ◌∙◌, arith, inl, inr, zero-add, add-zero, add-one}
 use Rattle.std.specs.List.{count_by, flat_map, range_with_len, sum_by}
 use Rattle.std.proofs.Math.Nat.{mod-lt}
 use Rattle.std.proofs.lemmas.Bool.{cases_eq, cases_lt, eq-eqb, ne_eqb, le-ltb, lt-ltb}
@@ -10,7 +10,7 @@ use Rattle.like_tables.specs.Share.{worker_of}
 use Rattle.like_roles.specs.declared.log.Ran.{Ran}
 use Rattle.like_roles.specs.declared.log.Took.{Took}
 use Rattle.like_roles.specs.declared.log.WorkerLog.{WorkerLog}
-use Rattle.like_roles.specs.Order.{Entry, entry_of, order}
+use Rattle.like_roles.specs.Order.{Entry, entry_of}
 use Rattle.like_roles.specs.Service.{Service}
 use Rattle.like_run.specs.Log.{IsLog, numbers_taken, plan_of}
 use Rattle.like_run.proofs.Ordered.{order-weighs}

@@ -1,21 +1,19 @@
 -- How a replay comes to its end.
-use Rattle.std.proofs.Common.{◌≡◌, ℕ, zero, suc, ◌+◌, ◌*◌, ◌/◌, ◌%◌, ◌<◌, ◌≤◌, List, [], ◌∷◌, length, map, get_or, slice_get, Option, Some, None, option_map, refl, sym, ap, ◌∙◌, subst, arith, zero-add}
+use Rattle.std.proofs.Common.{◌≡◌, ℕ, ◌+◌, ◌*◌, ◌/◌, ◌%◌, ◌<◌, List, [], length, get_or, slice_get, Some, sym, ap, ◌∙◌, subst, arith, zero-add}
 use Rattle.std.specs.List.{All, AllZip, range_with_len}
-use Rattle.std.proofs.Math.Nat.{div-add-mod, mod-lt}
+use Rattle.std.proofs.Math.Nat.{div-add-mod}
 use Rattle.std.proofs.lemmas.List.{length-map}
 use Rattle.std.proofs.lemmas.List.FromFn.{length-range_with_len}
-use Rattle.std.proofs.lemmas.Option.{slice_get-get_or, slice_get-map, slice_get_within}
+use Rattle.std.proofs.lemmas.Option.{slice_get-get_or, slice_get_within}
 use Rattle.like_requests.specs.Pages.{Page}
-use Rattle.like_requests.specs.declared.request.Request.{Request}
 use Rattle.like_core.specs.declared.setting.Setting.{Setting}
 use Rattle.like_core.specs.declared.worker_state.WorkerState.TheVariants.{Gone}
-use Rattle.like_core.specs.Post.{IsFresh}
 use Rattle.like_core.specs.declared.view.WorkerView.{WorkerView as SeatView}
 use Rattle.like_board.specs.declared.worker_seat.WorkerSeat.{WorkerSeat}
-use Rattle.like_board.specs.Seats.{AreFresh, BoardId, board_numbers, coord_board, coord_view, seat_board, seat_meaning, seat_view}
-use Rattle.like_tables.specs.Share.{Share, share_of}
+use Rattle.like_board.specs.Seats.{AreFresh, BoardId, board_numbers, coord_board, coord_view}
+use Rattle.like_tables.specs.Share.{Share}
 use Rattle.like_roles.specs.CoordTurns.{CoordinatorView, HasEndedJoined}
-use Rattle.like_roles.specs.New.{IsPostOf, marks_of}
+use Rattle.like_roles.specs.New.{marks_of}
 use Rattle.like_roles.specs.Service.{Service, submitters}
 use Rattle.like_run.specs.declared.playing.Ended.{Ended}
 use Rattle.like_run.specs.declared.turned.Turned.{Turned}

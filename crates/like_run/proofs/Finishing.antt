@@ -1,5 +1,5 @@
 -- What a worker and its inboxes leave when the worker is gone, and how they begin.
-use Rattle.std.proofs.Common.{◌≡◌, ◌≢◌, ℕ, ◌+◌, ◌*◌, ◌<◌, ◌≤◌, min, Bool, true, false, cond, ltb, eqb, List, [], ◌∷◌, length, map, get_or, replicate, slice_get, Option, Some, None, refl, sym, ap, ◌∙◌, subst, arith, inl, inr, option_map, IfSome}
+use Rattle.std.proofs.Common.{◌≡◌, ℕ, ◌+◌, ◌*◌, ◌<◌, Bool, true, false, cond, List, [], length, get_or, slice_get, Option, Some, None, refl, sym, ap, ◌∙◌, subst, arith, inl, inr, option_map, IfSome}
 use Rattle.std.specs.List.{All, range_with_len}
 use Rattle.std.specs.Option.{option_map_or, unwrap_or}
 use Rattle.std.proofs.lemmas.Bool.{cases_Bool, cases_lt, le-ltb, ltb-true}
@@ -24,7 +24,7 @@ use Rattle.like_roles.specs.Follows.{IsDone}
 use Rattle.like_roles.specs.Service.{Service}
 use Rattle.like_roles.specs.WorkerView.{WorkerView, IsThere, phase_at}
 use Rattle.like_run.specs.Log.{IsLog, NoneAbove, TakesPlans, numbers_taken, plan_of}
-use Rattle.like_run.specs.Server.{Agree, AreInboxesFor, Serves, ServerView, numbers_given, place_of, plans_of, requests_taken}
+use Rattle.like_run.specs.Server.{Agree, AreInboxesFor, Serves, ServerView, place_of, plans_of, requests_taken}
 use Rattle.like_run.proofs.Numbers.{own-place}
 
 -- the whole plan of a submitter was taken

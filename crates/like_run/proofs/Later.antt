@@ -1,13 +1,10 @@
 -- The same server later, and later than that.
-use Rattle.std.proofs.Common.{◌≡◌, ◌≢◌, ℕ, zero, suc, ◌<◌, List, [], ◌∷◌, length, get_or, set, slice_get, Some, refl, sym, ap, ◌∙◌, ◌+◌, arith, subst, inl, inr}
+use Rattle.std.proofs.Common.{◌≡◌, ℕ, zero, suc, ◌<◌, List, [], ◌∷◌, length, get_or, set, slice_get, Some, refl, sym, ap, ◌∙◌, ◌+◌, arith, subst, inl, inr}
 use Rattle.std.proofs.lemmas.Bool.{cases_eq}
 use Rattle.std.proofs.lemmas.List.{get_or-set_same, get_or-set_other}
 use Rattle.like_core.specs.declared.worker_state.WorkerState.TheVariants.{Gone}
 use Rattle.std.specs.List.{AllZip}
-use Rattle.like_queue.specs.Inbox.{Inbox}
-use Rattle.like_roles.specs.Service.{Service}
-use Rattle.like_roles.specs.WorkerView.{WorkerView}
-use Rattle.like_run.specs.Server.{GoesOn, Serves, ServerView}
+use Rattle.like_run.specs.Server.{GoesOn, ServerView}
 
 pub goes-same : (s : ServerView) → GoesOn s s
 goes-same s = record { share = refl; whose = refl; board = refl; inboxes = refl; serves = λ _ h. h }

@@ -1,5 +1,5 @@
 -- The servers of a replay as they are made.
-use Rattle.std.proofs.Common.{◌≡◌, ℕ, zero, suc, ◌+◌, ◌*◌, ◌<◌, ◌≤◌, List, [], ◌∷◌, ◌++◌, length, map, drop, take, get_or, remove, slice_get, Option, Some, None, option_map, refl, sym, ap, ◌∙◌, subst, arith}
+use Rattle.std.proofs.Common.{◌≡◌, ℕ, zero, suc, ◌+◌, ◌*◌, ◌<◌, List, [], ◌∷◌, ◌++◌, length, map, drop, take, get_or, remove, slice_get, Option, Some, None, option_map, refl, sym, ap, ◌∙◌, subst, arith}
 use Rattle.std.specs.List.{All, AllZip, range_with_len}
 use Rattle.std.specs.Option.{unwrap_or}
 use Rattle.std.proofs.lemmas.List.{get_or-drop, length-map, map-id}
@@ -10,7 +10,7 @@ use Rattle.like_requests.specs.declared.request.Request.{Request}
 use Rattle.like_requests.specs.declared.setup.Setup.{Setup}
 use Rattle.like_core.specs.Post.{PostView}
 use Rattle.like_queue.specs.Inbox.{Inbox}
-use Rattle.like_tables.specs.Share.{Share, share_of}
+use Rattle.like_tables.specs.Share.{share_of}
 use Rattle.like_roles.specs.Follows.{IsServiceOf}
 use Rattle.like_roles.specs.New.{IsPostOf}
 use Rattle.like_roles.specs.Service.{Service}

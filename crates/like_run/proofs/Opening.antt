@@ -1,15 +1,14 @@
 -- How much of an inbox is open does not matter to its worker.
-use Rattle.std.proofs.Common.{◌≡◌, ℕ, ◌<◌, List, [], ◌∷◌, length, map, get_or, slice_get, Option, Some, None, option_map, refl, sym, ap, ◌∙◌, subst, arith, cond}
+use Rattle.std.proofs.Common.{◌≡◌, ℕ, List, [], length, map, slice_get, Option, Some, None, option_map, refl, sym, ap, ◌∙◌, subst, cond}
 use Rattle.std.specs.List.{range_with_len}
 use Rattle.std.specs.Option.{option_map_or}
 use Rattle.std.proofs.lemmas.List.{length-map}
 use Rattle.std.proofs.lemmas.Option.{slice_get-map}
-use Rattle.like_requests.specs.declared.request.Request.{Request}
 use Rattle.like_queue.specs.Inbox.{Inbox}
-use Rattle.like_tables.specs.Share.{Share, serves}
+use Rattle.like_tables.specs.Share.{serves}
 use Rattle.like_roles.specs.Service.{Service}
 use Rattle.like_roles.specs.WorkerView.{WorkerView}
-use Rattle.like_run.specs.Server.{Agree, AgreesAt, Serves, numbers_given, place_of, plans_of, requests_taken, without_opened}
+use Rattle.like_run.specs.Server.{Agree, AgreesAt, Serves, place_of, requests_taken, without_opened}
 
 -- inboxes that differ in how much is open
 module _ (a b : List Inbox) (alike : map without_opened b ≡ map without_opened a) where

@@ -1,6 +1,6 @@
 -- What a replay that has ended reports, end to end.
-use Rattle.std.proofs.Common.{◌≡◌, ◌≢◌, ℕ, zero, suc, ◌+◌, ◌<◌, ◌≤◌, Bool, true, false, ◌&&◌, cond, leb, ltb, eqb, List, [], ◌∷◌, ◌++◌, length, map, filter, get_or, slice_get, Option, Some, None, option_map, IfSome, refl, sym, ap, ◌∙◌, subst, arith, inl, inr, zero-add}
-use Rattle.std.specs.List.{All, AllZip, count_by, flat_map, range_with_len, sum_by}
+use Rattle.std.proofs.Common.{◌≡◌, ℕ, zero, suc, ◌+◌, ◌<◌, ◌≤◌, ◌&&◌, eqb, List, [], ◌∷◌, length, map, get_or, slice_get, Option, Some, None, option_map, IfSome, refl, sym, ap, ◌∙◌, subst, arith, inl, inr, zero-add}
+use Rattle.std.specs.List.{All, AllZip, range_with_len, sum_by}
 use Rattle.std.specs.Option.{option_map_or, unwrap_or}
 use Rattle.std.proofs.Math.Nat.{mod-lt}
 use Rattle.std.proofs.lemmas.List.{get_or_past}
@@ -21,7 +21,7 @@ use Rattle.like_board.proofs.InOrder.{all_in_order}
 use Rattle.like_board.proofs.Meanings.{same_board}
 use Rattle.like_core.specs.declared.worker_state.WorkerState.TheVariants.{Gone}
 use Rattle.like_tables.specs.Share.{Share, share_of, worker_of}
-use Rattle.like_tables.specs.UserTable.{UserTable, last_of}
+use Rattle.like_tables.specs.UserTable.{last_of}
 use Rattle.like_roles.specs.declared.log.Ran.{Ran}
 use Rattle.like_roles.specs.declared.log.Took.{Took}
 use Rattle.like_roles.specs.declared.log.WorkerLog.{WorkerLog}
@@ -34,7 +34,7 @@ use Rattle.like_run.specs.Gathered.{AreTables, RunsOnce}
 use Rattle.like_run.specs.Log.{IsLog, NoneAbove, plan_of}
 use Rattle.like_run.specs.Server.{ServerView}
 use Rattle.like_run.specs.Left.{IsLogOf, IsSeatOf}
-use Rattle.like_run.specs.Made.{AreServers, IsServer}
+use Rattle.like_run.specs.Made.{IsServer}
 use Rattle.like_run.specs.Stage.{IsEnded}
 use Rattle.like_run.proofs.Counted.{count-in-all, in_range}
 use Rattle.like_run.proofs.Pairs.{pairs-at, pairs-length, pairs-sum}

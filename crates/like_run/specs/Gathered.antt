@@ -1,5 +1,5 @@
 -- What is gathered from the logs of all workers.
-use Rattle.std.specs.Prelude.{◌≡◌, ℕ, ◌<◌, ◌≤◌, List, length, slice_get, slice_index, Some}
+use Rattle.std.specs.Prelude.{◌≡◌, ℕ, List, length, slice_get, Some}
 use Rattle.like_roles.specs.declared.log.Ran.{Ran}
 use Rattle.like_roles.specs.declared.log.WorkerLog.{WorkerLog}
 use Rattle.like_replies.specs.Entries.{IsRequest, entries_of}

@@ -1,5 +1,5 @@
 -- A worker with the inboxes of its submitters.
-use Rattle.std.specs.Prelude.{◌≡◌, ◌≢◌, ℕ, ◌+◌, ◌*◌, ◌/◌, ◌<◌, min, nat_lt, if◌then◌else◌, true, List, [], length, map, slice_get, slice_index, slice_index_or, All, option_map, IfSome, Some}
+use Rattle.std.specs.Prelude.{◌≡◌, ◌≢◌, ℕ, ◌+◌, ◌*◌, ◌/◌, ◌<◌, min, nat_lt, if◌then◌else◌, true, List, [], length, map, slice_get, slice_index, slice_index_or, All, IfSome, Some}
 use Rattle.std.specs.List.{range_with_len}
 use Rattle.std.specs.Option.{option_map_or}
 use Rattle.like_requests.specs.Setup.{IsPlan}
@@ -11,7 +11,7 @@ use Rattle.like_queue.specs.Inbox.{Inbox}
 use Rattle.like_tables.specs.Share.{Share, serves}
 use Rattle.like_roles.specs.Follows.{Follows}
 use Rattle.like_roles.specs.Service.{Service}
-use Rattle.like_roles.specs.WorkerView.{WorkerView, IsThere, phase_at, submitter_at}
+use Rattle.like_roles.specs.WorkerView.{WorkerView, IsThere, phase_at}
 use Rattle.like_run.specs.Log.{IsRising, NoneAbove, numbers_taken}
 
 -- the worker, and the inboxes of its submitters by place

@@ -5,7 +5,7 @@ use Rattle.like_core.specs.declared.worker_state.WorkerState.TheVariants.{Gone}
 use Rattle.like_core.specs.declared.setting.Setting.{Setting}
 use Rattle.like_core.specs.Phase.{IsJoined}
 use Rattle.like_board.specs.Seats.{BoardId, board_numbers, coord_board, coord_view}
-use Rattle.like_roles.specs.CoordTurns.{CoordinatorView, HasEndedJoined, IsBeforeEnd}
+use Rattle.like_roles.specs.CoordTurns.{CoordinatorView, IsBeforeEnd}
 use Rattle.like_roles.specs.Service.{Service}
 use Rattle.like_run.specs.declared.playing.Ended.{Ended}
 use Rattle.like_run.specs.declared.turned.Turned.{Turned}

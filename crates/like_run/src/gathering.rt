@@ -1,10 +1,10 @@
-ghost use Rattle.std.specs.Prelude.{◌≡◌, ◌<◌, ◌≤◌, ℕ, All, IfOk, Some, length, slice_get};
+ghost use Rattle.std.specs.Prelude.{◌≡◌, ◌<◌, ◌≤◌, ℕ, IfOk, Some, length, slice_get};
 ghost use Rattle.like_requests.specs.Verdict.{home};
 ghost use Rattle.like_requests.specs.declared.setup.TheConstants.{MAX_SUBMITTERS};
 ghost use Rattle.like_replies.specs.Collected.{IsCollected, rows_of};
 ghost use Rattle.like_replies.specs.Entries.{entries_in};
 ghost use Rattle.like_roles.specs.declared.log.WorkerLog.{WorkerLog as Log};
-ghost use Rattle.like_tables.specs.Share.{share_of, worker_of};
+ghost use Rattle.like_tables.specs.Share.{worker_of};
 ghost use Rattle.like_tables.specs.UserTable.{last_of};
 ghost use Rattle.like_run.specs.Gathered.{AreTables, RunsOnce};
 

@@ -1,4 +1,4 @@
-ghost use Rattle.std.specs.Prelude.{◌≡◌, ◌<◌, ◌≤◌, All, IfOk, IfErr, length, map};
+ghost use Rattle.std.specs.Prelude.{◌≡◌, ◌≤◌, All, IfOk, length, map};
 ghost use Rattle.like_requests.specs.Pages.{ArePages};
 ghost use Rattle.like_requests.specs.Setup.{IsPlan};
 ghost use Rattle.like_requests.specs.declared.setup.TheConstants.{MAX_REQUESTS};

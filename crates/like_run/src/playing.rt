@@ -22,9 +22,9 @@ pub const MAX_ROUNDS: u32 = 1_000_000;
 pub(crate) struct Ended {
     pub logs: Vec<WorkerLog>,
     pub seats: Vec<WorkerSeat>,
-    pub coord: CoordSeat,
     /// The phase in which it ended.
     pub phases: u32,
+    pub coord: CoordSeat,
 }
 
 /// Makes a script's entries in their order, opens all lists, and makes rounds until the run ended.

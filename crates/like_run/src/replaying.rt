@@ -62,8 +62,8 @@ fn replay_within(
     let Ended {
         logs,
         seats,
-        coord,
         phases,
+        coord,
     } = run_on(alloc, setup, &sizes, &board, coord, seats, plans, script)?;
     let counts = final_counts(board, coord, seats, counts);
     let replies = replies_of(alloc, &sizes, &logs)?;
@@ -103,12 +103,11 @@ fn run_on(
     let mut coordinator = Coordinator::new(coord, setup.turns);
     play(board, &mut coordinator, &mut servers, script)?;
     let (logs, seats) = finish_all(alloc, servers)?;
-    let phases = coordinator.phase();
     Ok(Ended {
         logs,
         seats,
+        phases: coordinator.phase(),
         coord: coordinator.finish(),
-        phases,
     })
 }
 

@@ -1,6 +1,4 @@
-ghost use Rattle.std.specs.Prelude.{◌≡◌, ◌≤◌, ⊤, ℕ, All, IsTrue, ◌↔◌, MatchResult, length};
-ghost use Rattle.like_requests.specs.First.{IsFirstBad};
-ghost use Rattle.like_requests.specs.declared.setup.SettingsFault.TheVariants.{Script};
+ghost use Rattle.std.specs.Prelude.{◌≤◌, All, IsTrue, ◌↔◌, MatchResult, length};
 ghost use Rattle.like_run.specs.declared.script_file.TheConstants.{MAX_ENTRIES};
 ghost use Rattle.like_run.specs.Scripted.{IsFirstAway, IsThere};
 

@@ -1,4 +1,4 @@
-use Rattle.std.proofs.Common.{◌≡◌, ◌++◌, ◌∷◌, [], ℕ, List, Vec, Global, length, map, set, refl, sym, ap, ◌∙◌, subst, arith, ◌%◌, ◌≤◌}
+use Rattle.std.proofs.Common.{◌++◌, ◌∷◌, [], List, Vec, Global, length, map, set, refl, sym, ap, ◌∙◌, subst, arith, ◌%◌, ◌≤◌}
 use Rattle.std.proofs.lemmas.List.{length-map, length-set, length_push, map-append, map-id}
 use Rattle.std.proofs.lemmas.Iterator.Adapters.{YieldsList-from_vec}
 use Rattle.std.proofs.lemmas.Iterator.Consumers.{YieldsList-end, YieldsList-turn}

@@ -1,4 +1,4 @@
-use Rattle.std.proofs.Common.{◌≡◌, length, map, take}
+use Rattle.std.proofs.Common.{◌≡◌, length, map}
 use Rattle.like_run.proofs.Deals.{AllDealt}
 use Rattle.like_run.proofs.dealing.deal.Given as goal
 

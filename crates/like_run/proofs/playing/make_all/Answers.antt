@@ -1,4 +1,4 @@
-use Rattle.std.proofs.Common.{◌≡◌, ◌∙◌, get_or}
+use Rattle.std.proofs.Common.{◌∙◌, get_or}
 use Rattle.like_run.proofs.Coordinated.{can-make-later, coord-further, coord-same}
 use Rattle.like_run.proofs.Later.{all-further-both, all-same}
 use Rattle.like_run.specs.declared.turned.Turned.TheVariants.{OpenOne}

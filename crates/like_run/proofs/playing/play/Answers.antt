@@ -1,4 +1,4 @@
-use Rattle.std.proofs.Common.{◌≡◌, ◌∙◌}
+use Rattle.std.proofs.Common.{◌∙◌}
 use Rattle.like_run.proofs.Coordinated.{coord-further}
 use Rattle.like_run.proofs.Later.{all-further-both}
 use Rattle.like_run.proofs.playing.play.Goals as goal

@@ -1,4 +1,4 @@
-use Rattle.std.proofs.Common.{◌≡◌, ◌<◌, ◌≤◌, ℕ, List, Vec, Global, length, get_or, map, slice_get, Some, refl, sym, ap, ◌∙◌, subst, arith}
+use Rattle.std.proofs.Common.{◌≡◌, ◌≤◌, ℕ, List, Vec, Global, length, map, slice_get, sym, ap, ◌∙◌, subst, arith}
 use Rattle.std.specs.List.{All}
 use Rattle.std.proofs.lemmas.List.{length-map}
 use Rattle.like_requests.specs.Pages.{Page}
@@ -15,7 +15,6 @@ use Rattle.like_requests.specs.Verdict.{home}
 use Rattle.like_roles.specs.declared.log.WorkerLog.{WorkerLog}
 use Rattle.like_roles.specs.Service.{Service}
 use Rattle.like_tables.specs.Share.{worker_of}
-use Rattle.like_tables.specs.UserTable.{last_of}
 use Rattle.like_run.specs.Gathered.{AreTables, RunsOnce}
 use Rattle.like_run.specs.Made.{service_of}
 use Rattle.like_run.proofs.Makings.{all-back, all-map, map-twice}

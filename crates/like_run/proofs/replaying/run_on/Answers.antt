@@ -1,4 +1,4 @@
-use Rattle.std.proofs.Common.{◌≡◌, ℕ, List, Vec, Global, length, get_or, map, sym, ap, ◌∙◌, subst, arith}
+use Rattle.std.proofs.Common.{◌≡◌, List, Vec, Global, get_or, map, sym, ap, ◌∙◌, subst, arith}
 use Rattle.std.proofs.lemmas.List.{length-map}
 use Rattle.like_requests.specs.declared.request.Request.{Request}
 use Rattle.like_board.specs.Seats.{board_id, board_numbers, coord_view}
@@ -28,4 +28,4 @@ returns-clause-ended c =
     c.in_ok-servers.servers.items c.play.new.servers.items _ c.new-coordinator.result c.play.new.coordinator
     c.in_ok-servers.ensures c.play.ensures.servers c.in_ok-play.ensures.gone c.in_ok-logs.ensures.logs c.in_ok-logs.ensures.seats
     (ap (λ (v : CoordinatorView). v.board) c.new-coordinator.ensures ∙ c.requires.coord_here) (ap (λ (v : CoordinatorView). v.seat.setting) c.new-coordinator.ensures)
-    c.play.ensures.coordinator c.in_ok-play.ensures.ended c.finish.ensures.board c.finish.ensures.view c.phase-phases.ensures
+    c.play.ensures.coordinator c.in_ok-play.ensures.ended c.finish.ensures.board c.finish.ensures.view c.phase.ensures

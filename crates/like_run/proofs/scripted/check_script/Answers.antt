@@ -1,6 +1,5 @@
-use Rattle.std.proofs.Common.{◌≡◌, ◌<◌, ℕ, length, get_or, rules}
+use Rattle.std.proofs.Common.{get_or, rules}
 use Rattle.std.proofs.lemmas.Option.{slice_get-get_or}
-use Rattle.like_run.specs.declared.turned.Turned.{Turned}
 use Rattle.like_run.specs.declared.turned.Turned.TheVariants.{OpenOne}
 use Rattle.like_run.specs.Scripted.{IsThere}
 use Rattle.like_run.proofs.FirstAway.{first-away, holds-more}

@@ -1,4 +1,4 @@
-use Rattle.std.proofs.Common.{◌≡◌, length, refl}
+use Rattle.std.proofs.Common.{length, refl}
 use Rattle.std.proofs.lemmas.Option.{slice_get_read}
 use Rattle.like_run.proofs.Later.{all-further, all-same}
 use Rattle.like_run.proofs.servers.turn_of.Goals as goal

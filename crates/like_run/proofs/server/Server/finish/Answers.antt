@@ -1,6 +1,4 @@
-use Rattle.std.proofs.Common.{◌≡◌, ℕ, sym, subst, ap, ◌∙◌}
-use Rattle.like_core.specs.Post.{additions_of}
-use Rattle.like_roles.specs.Service.{Service}
+use Rattle.std.proofs.Common.{sym, subst}
 use Rattle.like_run.specs.Log.{IsLog}
 use Rattle.like_run.specs.Server.{Serves, ServerView}
 use Rattle.like_run.proofs.Finishing.{log-is}

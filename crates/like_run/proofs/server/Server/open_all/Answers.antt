@@ -1,5 +1,4 @@
-use Rattle.std.proofs.Common.{◌≡◌, arith}
-use Rattle.like_run.proofs.Later.{goes-further, goes-same}
+use Rattle.like_run.proofs.Later.{goes-further}
 use Rattle.like_run.proofs.server.Server.open_all.Goals as goal
 
 pub loop-place-preserved : goal.loop-place-preserved
