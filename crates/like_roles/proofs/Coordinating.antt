@@ -1,14 +1,15 @@
 -- What the coordinator's turns keep.
-use Rattle.std.proofs.Common.{◌≡◌, ◌≢◌, ℕ, ◌%◌, ◌≤◌, true, false, Some, subst, ap, sym, ◌∙◌, refl, arith}
+use Rattle.std.proofs.Common.{◌≡◌, ℕ, ◌≤◌, true, false, subst, ap, sym, ◌∙◌, arith}
 use Rattle.like_core.specs.declared.event.Event.TheVariants.{CoordLook}
 use Rattle.like_core.specs.declared.setting.Setting.{Setting}
 use Rattle.like_core.specs.declared.shown.Shown.{Shown}
+use Rattle.like_core.specs.declared.shown.Shown.TheVariants.{Coord as CoordShown}
 use Rattle.like_core.specs.declared.sight.CoordSight.{CoordSight}
 use Rattle.like_core.specs.declared.view.CoordView.{CoordView}
 use Rattle.like_core.specs.declared.view.View.{View}
 use Rattle.like_core.specs.declared.view.View.TheVariants.{Coord}
 use Rattle.like_core.specs.Phase.{last_phase, IsJoined, IsSplit}
-use Rattle.like_core.specs.Shows.{Fits, FitsCoord, IsStep}
+use Rattle.like_core.specs.Shows.{FitsCoord, IsStep}
 use Rattle.like_core.proofs.InPhase.{reached_in_phase}
 use Rattle.like_roles.specs.declared.coord_turn.CoordTurn.{CoordTurn}
 use Rattle.like_roles.specs.declared.coord_turn.CoordTurn.TheVariants.{Ended}
@@ -60,6 +61,7 @@ ended_joined v answer after t before is = shown t.acts
 -- the coordinator after a look
 pub record Looked (v w : CoordinatorView) (sight : CoordSight) : Type 0 where
   pub shows : IsCoordSight v.seat sight
+  pub event : IsStep v.seat.setting CoordLook (CoordShown sight) (Coord v.seat) (Coord w.seat)
   pub is : w ≡ surveyed v w.seat.word sight
 
 -- what it does then is a turn case
@@ -68,6 +70,7 @@ by_case v w sight answer after l acts = record {
   word = w.seat.word;
   sight = sight;
   shows = l.shows;
+  event = subst (λ (x : CoordinatorView). IsStep v.seat.setting CoordLook (CoordShown sight) (Coord v.seat) (Coord x.seat)) l.is l.event;
   acts = subst (λ (x : CoordinatorView). Acts x sight answer after) l.is acts;
 }
 

@@ -1,6 +1,5 @@
 -- Likes and merges of the tests' post.
-use Rattle.std.proofs.Common.{zero, suc, sum, map, set, ◌≡◌, ℕ, ◌+◌, ◌-◌, ◌<◌, ◌≤◌, ◌==◌, Bool, true, false, cond, List, length, get_or, Option, subst, ap, sym, ◌∙◌, refl, inl, inr, arith}
-use Rattle.std.specs.List.{range_with_len}
+use Rattle.std.proofs.Common.{set, ◌≡◌, ℕ, ◌+◌, ◌-◌, ◌<◌, ◌≤◌, ◌==◌, Bool, true, false, cond, List, length, get_or, Option, subst, ap, sym, ◌∙◌, refl, inl, inr, arith}
 use Rattle.std.proofs.lemmas.Bool.{cases_eq, cond-true, cond-false}
 use Rattle.std.proofs.lemmas.List.{length-set, get_or-set_same, get_or-set_other}
 use Rattle.std.proofs.lemmas.List.FromFn.{fill_by_all, length-map-range_with_len, get_or-map-range_with_len}
@@ -11,7 +10,7 @@ use Rattle.like_core.specs.Functions.{update, sum_below}
 use Rattle.like_core.specs.Phase.{split}
 use Rattle.like_core.specs.Numbers.{Numbers, with_unmerged, with_count, sliced, total}
 use Rattle.like_core.specs.Table.{Permits, next}
-use Rattle.like_core.specs.Post.{PostView, MayAdd, MayRead, IsRunning, phase_of, slices, added, additions_of, pages_of}
+use Rattle.like_core.specs.Post.{MayAdd, MayRead, IsRunning, phase_of, slices, added, additions_of, pages_of}
 use Rattle.like_core.proofs.KeptWrites.{total-with_unmerged}
 use Rattle.like_core.proofs.LoneSteps.{runs_present}
 use Rattle.like_core.proofs.Updates.{update_cases, update-same, update-other}

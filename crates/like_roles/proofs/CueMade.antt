@@ -1,23 +1,16 @@
 -- The tests' post at its start.
-use Rattle.std.proofs.Common.{zero, suc, map, take, replicate, ◌≡◌, ℕ, ◌+◌, ◌-◌, ◌^◌, ◌<◌, ◌≤◌, Bool, true, false, List, [], ◌∷◌, ◌++◌, length, get_or, None, Some, IsSomeAnd, option_map, subst, ap, sym, ◌∙◌, refl, inl, inr, arith}
-use Rattle.std.specs.List.{range_with_len, slice_get}
+use Rattle.std.proofs.Common.{map, replicate, ◌≡◌, ℕ, ◌+◌, ◌-◌, ◌^◌, ◌<◌, ◌≤◌, Bool, true, false, List, [], length, get_or, None, IsSomeAnd, subst, ap, sym, ◌∙◌, refl, inl, inr, arith}
+use Rattle.std.specs.List.{range_with_len}
 use Rattle.std.proofs.lemmas.Bool.{cases_lt}
-use Rattle.std.proofs.lemmas.List.{get_or-map, length-map}
+use Rattle.std.proofs.lemmas.List.{get_or-map, get_or-replicate, get_or_past, length-map, length-replicate}
 use Rattle.std.proofs.lemmas.List.FromFn.{fill_by_all, length-map-range_with_len}
 use Rattle.like_requests.specs.Pages.{ArePages, Page}
 use Rattle.like_core.specs.declared.setting.Setting.{Setting}
 use Rattle.like_core.specs.declared.sight.Sight.{Sight}
 use Rattle.like_core.specs.Numbers.{Numbers}
 use Rattle.like_core.specs.State.{numbers, setting, start}
-use Rattle.like_roles.specs.Cue.{IsCued, cue_view, without_pages}
+use Rattle.like_roles.specs.Cue.{IsCued, cue_view}
 use Rattle.like_roles.specs.New.{IsPostOf, marks_of}
-
--- one more page of a list
-pub map-more : {X : Type 0} (f : Page → X) (pages : List Page) (i : ℕ) (x : X) → option_map f (slice_get pages i) ≡ Some x → map f (take (suc i) pages) ≡ map f (take i pages) ++ x ∷ []
-map-more f [] zero x h = cc
-map-more f [] (suc i) x h = cc
-map-more f (p ∷ ps) zero x h = let e : f p ≡ x = cc h in ap (λ y. y ∷ []) e
-map-more f (p ∷ ps) (suc i) x h = ap (λ xs. f p ∷ xs) (map-more f ps i x h)
 
 -- each page's count is small
 pub counts_small : (pages : List Page) → ArePages pages → (k d : ℕ) → k < length (map (λ p. p.count) pages) → get_or (map (λ p. p.count) pages) k d ≤ 10 ^ 18
@@ -28,25 +21,10 @@ counts_small pages are k d below =
     let small = are.entries.counted k nobody within in
     omega arith
 
--- nothing stands past the end
-past : (xs : List ℕ) (i : ℕ) → length xs ≤ i → get_or xs i 0 ≡ 0
-past [] i h = refl
-past (x ∷ xs) zero h = absurd (omega arith)
-past (x ∷ xs) (suc i) h = past xs i (omega arith)
-
 -- a function that is 0 makes zeros
-length-zeros : (n : ℕ) → length (replicate n zero) ≡ n
-length-zeros zero = refl
-length-zeros (suc n) = ap suc (length-zeros n)
-
-zeros-at : (n i : ℕ) → get_or (replicate n zero) i zero ≡ zero
-zeros-at zero i = refl
-zeros-at (suc n) zero = refl
-zeros-at (suc n) (suc i) = zeros-at n i
-
 zeros_made : (f : ℕ → ℕ) (n k : ℕ) → k ≡ n → ((i : ℕ) → f i ≡ 0) → map f (range_with_len 0 n) ≡ replicate k 0
 zeros_made f n k same none =
-    sym (fill_by_all f (replicate k 0) n 0 (length-zeros k ∙ same) (λ i below. zeros-at k i ∙ sym (none i)))
+    sym (fill_by_all f (replicate k 0) n 0 (length-replicate k 0 ∙ same) (λ i below. get_or-replicate k i 0 0 (omega (arith, same)) ∙ sym (none i)))
 
 -- the numbers of a core that starts with one worker
 abbrev pub first : List ℕ → List Bool → Numbers
@@ -67,7 +45,7 @@ cued_first counts marks small = record {
   started = λ page. omega arith;
   small = λ page. elim (cases_lt page (length counts)) [
     | inl below ↦ small page 0 below
-    | inr above ↦ let none = past counts page above in omega arith
+    | inr above ↦ let none = get_or_past counts page 0 above in omega arith
   ];
 }
 

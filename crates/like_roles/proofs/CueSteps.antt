@@ -1,12 +1,10 @@
 -- The steps of the tests' post that change no count.
-use Rattle.std.proofs.Common.{◌≡◌, ℕ, ◌+◌, ◌≤◌, ◌⊎◌, inl, inr, List, Option, Some, true, ◌≢◌, subst, ap, sym, ◌∙◌, refl, arith}
+use Rattle.std.proofs.Common.{◌≡◌, ℕ, ◌⊎◌, inl, inr, List, Option, Some, true, ◌≢◌, subst, ap, sym}
 use Rattle.like_core.specs.declared.event.Event.TheVariants.{Look, Announce, Release}
 use Rattle.like_core.specs.declared.pure_core.Core.{Core}
 use Rattle.like_core.specs.declared.sight.Sight.{Sight}
-use Rattle.like_core.specs.declared.worker_state.WorkerState.{WorkerState}
 use Rattle.like_core.specs.declared.worker_state.WorkerState.TheVariants.{Answered, Gone}
 use Rattle.like_core.specs.Core.{numbers_of}
-use Rattle.like_core.specs.Lone.{IsLone, lone_view}
 use Rattle.like_core.specs.Numbers.{Numbers, Sees, with_state}
 use Rattle.like_core.specs.Post.{IsRunning, IsSightOf, PostView, RunsSome, SawEnding, answered, looked_at, phase_of}
 use Rattle.like_core.specs.Table.{Permits, next}

@@ -1,9 +1,8 @@
 -- What a turn takes from the submitters, and what it leaves as it is.
-use Rattle.std.proofs.Common.{◌≡◌, ℕ, ◌+◌, Bool, true, false, cond, refl, sym, ◌∙◌, get_or, set, subst}
+use Rattle.std.proofs.Common.{◌≡◌, ℕ, Bool, true, false, refl, sym, ◌∙◌, set, subst}
 use Rattle.like_requests.specs.declared.request.Numbered.{Numbered}
 use Rattle.like_requests.specs.declared.request.Request.{Request}
 use Rattle.like_requests.specs.declared.request.Taken.{Taken}
-use Rattle.like_core.specs.Post.{added, slices}
 use Rattle.like_tables.specs.declared.held.Held.{Held}
 use Rattle.like_roles.specs.declared.reply.Reply.{Reply}
 use Rattle.like_roles.specs.declared.turn.Turn.{Turn}
@@ -11,6 +10,7 @@ use Rattle.like_roles.specs.Serve.{Runs, Serves, refuses, likes, looks, counted}
 use Rattle.like_roles.specs.Turns as turns
 use Rattle.like_roles.specs.Turns.{Gives, HasTaken, Takes, TakesNothing, Turns, Works}
 use Rattle.like_roles.specs.WorkerView.{WorkerView}
+use Rattle.like_roles.proofs.Served.{counted_by}
 
 -- nothing was taken from a worker to itself
 same : (v : WorkerView) → TakesNothing v v
@@ -21,10 +21,7 @@ both : (u v w : WorkerView) → TakesNothing u v → TakesNothing v w → TakesN
 both u v w a b = record { share = b.share ∙ a.share; marks = b.marks ∙ a.marks; taken = b.taken ∙ a.taken; left = b.left ∙ a.left; ended = b.ended ∙ a.ended }
 
 counted-keeps : (v : WorkerView) (page : ℕ) → TakesNothing v (counted v page)
-counted-keeps v page = by_test (slices v.post page) where
-  by_test : (b : Bool) → TakesNothing v (cond b (record v { slice = set v.slice page (get_or v.slice page 0 + 1) }) (record v { post = added v.post page 1 }))
-  by_test true = record { share = refl; marks = refl; taken = refl; left = refl; ended = refl }
-  by_test false = record { share = refl; marks = refl; taken = refl; left = refl; ended = refl }
+counted-keeps v page = counted_by (TakesNothing v) v page (record { share = refl; marks = refl; taken = refl; left = refl; ended = refl }) (record { share = refl; marks = refl; taken = refl; left = refl; ended = refl })
 
 serves-keeps : (v : WorkerView) (submitter : ℕ) (r : Request) (reply : Reply) (w : WorkerView) → Serves v submitter r reply w → TakesNothing v w
 serves-keeps v submitter r reply w (refuses n a e) = subst (TakesNothing v) (sym e) (same v)

@@ -1,13 +1,11 @@
 -- A test that plays a worker's turns.
-use Rattle.std.proofs.Common.{zero, suc, ◌≡◌, ℕ, ◌+◌, ◌-◌, ◌*◌, ◌<◌, ◌≤◌, ◌==◌, Bool, true, false, cond, List, [], ◌∷◌, ◌++◌, length, get_or, set, replicate, count_by, Option, None, Some, All, IsSome, subst, ap, sym, ◌∙◌, refl, arith}
-use Rattle.std.specs.List.{slice_get}
+use Rattle.std.proofs.Common.{zero, suc, ◌≡◌, ℕ, ◌+◌, ◌-◌, ◌*◌, ◌<◌, ◌≤◌, ◌==◌, Bool, true, false, cond, List, [], ◌∷◌, ◌++◌, length, get_or, set, count_by, None, Some, All, subst, ap, sym, ◌∙◌, refl, arith}
 use Rattle.std.proofs.lemmas.Bool.{eq-eqb}
-use Rattle.std.proofs.lemmas.List.{get_or-set_same, length-map, length-set}
+use Rattle.std.proofs.lemmas.List.{get_or-set_same, length-map, length-replicate, length-set}
 use Rattle.std.proofs.lemmas.List.Sums.{sum_by_push}
 use Rattle.std.proofs.lemmas.Option.{get_or_from_slice_get, slice_get_within}
 use Rattle.like_requests.specs.Pages.{Page}
 use Rattle.like_requests.specs.Setup as setup
-use Rattle.like_requests.specs.declared.request.Numbered.{Numbered}
 use Rattle.like_requests.specs.declared.request.PageRef.{PageRef}
 use Rattle.like_requests.specs.declared.request.PageRef.TheVariants.{Known, Unknown}
 use Rattle.like_requests.specs.declared.request.Request.{Request}
@@ -157,14 +155,10 @@ plays_new s plan n post v w many his new =
     record {
       settled = new.pending;
       at = record {
-        one = ap length new.ended ∙ (length-falses (length v.left) ∙ own.0);
+        one = ap length new.ended ∙ (length-replicate (length v.left) false ∙ own.0);
         taken = rw new.taken refl;
         left = (let left = own.1 in omega arith);
         few = lists.few;
         there = λ k d below. there_by_number s.pages (pages_of v.post) (get_or plan k d).page pages (lists.there k d below);
       };
     }
-  where
-    length-falses : (k : ℕ) → length (replicate k false) ≡ k
-    length-falses zero = refl
-    length-falses (suc k) = ap suc (length-falses k)

@@ -8,7 +8,7 @@ use Rattle.like_core.specs.Post.{PostView, RunsSome, added, phase_of, slices}
 use Rattle.like_roles.specs.declared.desk.Desk.{Desk}
 use Rattle.like_roles.specs.declared.reply.Reply.{Reply}
 use Rattle.like_roles.specs.Desk.{IsPlaced, IsStanding, view_of}
-use Rattle.like_roles.specs.Serve.{Serves, refuses, likes, looks, counted, verdict_at}
+use Rattle.like_roles.specs.Serve.{Serves, refuses, likes, looks, counted, liked, verdict_at}
 use Rattle.like_roles.specs.WorkerView.{WorkerView}
 
 -- the numbers of the desk give the verdict
@@ -21,29 +21,27 @@ running_phase P (state.Runs j) phase gone s r = s.0
 running_phase P (state.Answered j) phase gone s r = absurd r
 running_phase P state.Gone phase gone s r = absurd r
 
--- a like that is counted changes no state, and no list of what was run
-pub counted-state : (v : WorkerView) (page : ℕ) → (counted v page).post.state ≡ v.post.state
-counted-state v page = by_test (slices v.post page) where
-  by_test : (b : Bool) → (cond b (record v { slice = slice_set v.slice page (slice_index v.slice page + 1) }) (record v { post = added v.post page 1 })).post.state ≡ v.post.state
-  by_test true = refl
-  by_test false = refl
+-- what holds with one more like in the slice, and with one more on the board, holds once a like is counted
+pub counted_by : (P : WorkerView → Type 0) (v : WorkerView) (page : ℕ) → P (record v { slice = slice_set v.slice page (slice_index v.slice page + 1) })
+    → P (record v { post = added v.post page 1 }) → P (counted v page)
+counted_by P v page in_slice on_board = by_test (slices v.post page) where
+  by_test : (b : Bool) → P (cond b (record v { slice = slice_set v.slice page (slice_index v.slice page + 1) }) (record v { post = added v.post page 1 }))
+  by_test true = in_slice
+  by_test false = on_board
 
-pub counted-ran : (v : WorkerView) (page : ℕ) → (counted v page).ran ≡ v.ran
-counted-ran v page = by_test (slices v.post page) where
-  by_test : (b : Bool) → (cond b (record v { slice = slice_set v.slice page (slice_index v.slice page + 1) }) (record v { post = added v.post page 1 })).ran ≡ v.ran
-  by_test true = refl
-  by_test false = refl
+-- what no like changes, no answer changes
+pub Serves-keeps : {X : Type 0} (f : WorkerView → X) (v : WorkerView) (submitter : ℕ) (r : Request) (reply : Reply) (w : WorkerView)
+    → ((user page : ℕ) → f (liked v user page) ≡ f v) → Serves v submitter r reply w → f w ≡ f v
+Serves-keeps f v submitter r reply w k (refuses n a e) = ap f e
+Serves-keeps f v submitter r reply w k (likes page a o p l e) = ap f e ∙ k r.user page
+Serves-keeps f v submitter r reply w k (looks page count a o p s n e) = ap f e
 
 -- an answer changes no state, and no list of what was run
 pub Serves-state : (v : WorkerView) (submitter : ℕ) (r : Request) (reply : Reply) (w : WorkerView) → Serves v submitter r reply w → w.post.state ≡ v.post.state
-Serves-state v submitter r reply w (refuses n a e) = ap (λ x. x.post.state) e
-Serves-state v submitter r reply w (likes page a o p l e) = ap (λ x. x.post.state) e ∙ counted-state v page
-Serves-state v submitter r reply w (looks page count a o p s n e) = ap (λ x. x.post.state) e
+Serves-state v submitter r reply w s = Serves-keeps (λ x. x.post.state) v submitter r reply w (λ user page. counted_by (λ x. x.post.state ≡ v.post.state) v page refl refl) s
 
 pub Serves-ran : (v : WorkerView) (submitter : ℕ) (r : Request) (reply : Reply) (w : WorkerView) → Serves v submitter r reply w → w.ran ≡ v.ran
-Serves-ran v submitter r reply w (refuses n a e) = ap (λ x. x.ran) e
-Serves-ran v submitter r reply w (likes page a o p l e) = ap (λ x. x.ran) e ∙ counted-ran v page
-Serves-ran v submitter r reply w (looks page count a o p s n e) = ap (λ x. x.ran) e
+Serves-ran v submitter r reply w s = Serves-keeps (λ x. x.ran) v submitter r reply w (λ user page. counted_by (λ x. x.ran ≡ v.ran) v page refl refl) s
 
 -- a worker that is not gone has a state of its own
 pub not_gone : (s : WorkerState) (phase : ℕ) (gone : Bool) → IsStanding s phase gone → gone ≡ false → s ≢ state.Gone

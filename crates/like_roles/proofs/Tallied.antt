@@ -15,7 +15,7 @@ use Rattle.like_requests.specs.declared.request.PageRef.TheVariants as ref
 use Rattle.like_requests.specs.declared.request.Request.{Request}
 use Rattle.like_requests.specs.declared.verdict.Verdict.{Verdict}
 use Rattle.like_requests.specs.declared.verdict.Verdict.TheVariants as verdict
-use Rattle.like_core.specs.Post.{added, additions_of, pages_of, slices}
+use Rattle.like_core.specs.Post.{additions_of, pages_of}
 use Rattle.like_tables.specs.UserTable.{last_of}
 use Rattle.like_tables.specs.declared.held.Held.{Held}
 use Rattle.like_roles.specs.declared.log.Ran.{Ran}
@@ -28,6 +28,7 @@ use Rattle.like_roles.specs.Serve.{Serves, refuses, likes, looks, counted, liked
 use Rattle.like_roles.specs.Service.{Service, marks, request_of, submitters}
 use Rattle.like_roles.specs.WorkerView.{WorkerView, IsThere}
 use Rattle.like_roles.proofs.Lists.{last_of-push, slice_get-at_end, slice_get-before}
+use Rattle.like_roles.proofs.Served.{counted_by}
 
 -- one more like counts for its page alone
 pub page_likes-push : (page : ℕ) (given : List AcceptedLike) (l : AcceptedLike) → page_likes page (given ++ l ∷ []) ≡ page_likes page given + cond (eqb l.page page) 1 0
@@ -117,42 +118,36 @@ answers-refused verdict.UnknownPage o last n = refl
 -- one more accepted like in the slice or on the board
 counted-one : (v : WorkerView) (page other : ℕ) → page < length v.slice → page < length v.post.additions
     → additions_of (counted v page).post other + get_or (counted v page).slice other 0 ≡ (additions_of v.post other + get_or v.slice other 0) + cond (eqb page other) 1 0
-counted-one v page other in_slice in_additions = by_test (slices v.post page) where
-  one_more : (xs : List ℕ) → page < length xs → get_or (set xs page (get_or xs page 0 + 1)) other 0 ≡ get_or xs other 0 + cond (eqb page other) 1 0
-  one_more xs h =
-      elim (cases_eq page other) [
-        | inl same ↦
-            let e = eq-eqb page other same in
-            rw e (subst (λ k. get_or (set xs page (get_or xs page 0 + 1)) k 0 ≡ get_or xs k 0 + 1) same (get_or-set_same xs page (get_or xs page 0 + 1) 0 h))
-        | inr differs ↦
-            let e = ne_eqb page other differs in
-            rw e (get_or-set_other xs page other (get_or xs page 0 + 1) 0 (λ k. differs (sym k)) ∙ omega arith)
-      ]
-
-  by_test : (b : Bool) → additions_of (cond b (record v { slice = set v.slice page (get_or v.slice page 0 + 1) }) (record v { post = added v.post page 1 })).post other
-      + get_or (cond b (record v { slice = set v.slice page (get_or v.slice page 0 + 1) }) (record v { post = added v.post page 1 })).slice other 0
-      ≡ (additions_of v.post other + get_or v.slice other 0) + cond (eqb page other) 1 0
-  by_test true = omega (arith, one_more v.slice in_slice)
-  by_test false = omega (arith, one_more v.post.additions in_additions)
+counted-one v page other in_slice in_additions =
+    counted_by (λ w. additions_of w.post other + get_or w.slice other 0 ≡ (additions_of v.post other + get_or v.slice other 0) + cond (eqb page other) 1 0)
+    v page (omega (arith, one_more v.slice in_slice)) (omega (arith, one_more v.post.additions in_additions))
+  where
+    one_more : (xs : List ℕ) → page < length xs → get_or (set xs page (get_or xs page 0 + 1)) other 0 ≡ get_or xs other 0 + cond (eqb page other) 1 0
+    one_more xs h =
+        elim (cases_eq page other) [
+          | inl same ↦
+              let e = eq-eqb page other same in
+              rw e (subst (λ k. get_or (set xs page (get_or xs page 0 + 1)) k 0 ≡ get_or xs k 0 + 1) same (get_or-set_same xs page (get_or xs page 0 + 1) 0 h))
+          | inr differs ↦
+              let e = ne_eqb page other differs in
+              rw e (get_or-set_other xs page other (get_or xs page 0 + 1) 0 (λ k. differs (sym k)) ∙ omega arith)
+        ]
 
 -- a like that is counted changes no size, and whom the worker serves as little
 counted-sized : (v : WorkerView) (page : ℕ) → IsSized v → IsSized (counted v page)
-counted-sized v page s = by_test (slices v.post page) where
-  by_test : (b : Bool) → IsSized (cond b (record v { slice = set v.slice page (get_or v.slice page 0 + 1) }) (record v { post = added v.post page 1 }))
-  by_test true = record { slice = length-set v.slice page _ ∙ s.slice; additions = s.additions; users = s.users }
-  by_test false = record { slice = s.slice; additions = length-set v.post.additions page _ ∙ s.additions; users = s.users }
+counted-sized v page s =
+    counted_by IsSized v page
+    (record { slice = length-set v.slice page _ ∙ s.slice; additions = s.additions; users = s.users })
+    (record { slice = s.slice; additions = length-set v.post.additions page _ ∙ s.additions; users = s.users })
 
 counted-served : (service : Service) (v : WorkerView) (page : ℕ) → IsServed service v → IsServed service (counted v page)
-counted-served service v page s = by_test (slices v.post page) where
-  by_test : (b : Bool) → IsServed service (cond b (record v { slice = set v.slice page (get_or v.slice page 0 + 1) }) (record v { post = added v.post page 1 }))
-  by_test true = record { users = s.users; submitters_alike = s.submitters_alike; marks_alike = s.marks_alike }
-  by_test false = record { users = s.users; submitters_alike = s.submitters_alike; marks_alike = s.marks_alike }
-
-counted-last : (v : WorkerView) (page : ℕ) → (counted v page).last ≡ v.last
-counted-last v page = by_test (slices v.post page) where
-  by_test : (b : Bool) → (cond b (record v { slice = set v.slice page (get_or v.slice page 0 + 1) }) (record v { post = added v.post page 1 })).last ≡ v.last
-  by_test true = refl
-  by_test false = refl
+counted-served service v page s =
+    let same : (w : WorkerView) → w.last ≡ v.last → w.post.marks ≡ v.post.marks → IsServed service w = λ w last marks. record {
+      users = s.users ∙ ap (λ x. x.share.users) (sym last);
+      submitters_alike = s.submitters_alike ∙ ap (λ x. x.share.submitters) (sym last);
+      marks_alike = s.marks_alike ∙ sym marks;
+    } in
+    counted_by (IsServed service) v page (same _ refl refl) (same _ refl refl)
 
 -- what holds after an answer that is noted
 abbrev IsAfter : Service → WorkerView → Held → Bool → Reply → WorkerView → Type 0

@@ -2,7 +2,11 @@
 use Rattle.std.specs.Prelude.{◌≡◌, ℕ, ◌-◌, ◌<◌, true, false, IsSomeAnd}
 use Rattle.like_core.specs.declared.sight.CoordSight.{CoordSight}
 use Rattle.like_core.specs.declared.view.CoordView.{CoordView}
+use Rattle.like_core.specs.declared.event.Event.TheVariants.{CoordLook}
+use Rattle.like_core.specs.declared.shown.Shown.TheVariants.{Coord as CoordShown}
+use Rattle.like_core.specs.declared.view.View.TheVariants.{Coord}
 use Rattle.like_core.specs.Phase.{last_phase, IsJoined, IsSplit}
+use Rattle.like_core.specs.Shows.{IsStep}
 use Rattle.like_core.specs.Views.{announced_coord, looked_coord, released_coord}
 use Rattle.like_board.specs.Seats.{BoardId}
 use Rattle.like_roles.specs.declared.coord_turn.CoordTurn.{CoordTurn}
@@ -43,11 +47,13 @@ pub data Acts (v : CoordinatorView) (sight : CoordSight) (answer : CoordTurn) (a
   waits : sight.all_gone ≡ false → sight.ending ≡ true → sight.all_in ≡ false
       → answer ≡ Waiting → after ≡ v → Acts v sight answer after
 
--- turn case of the coordinator: it looks, and does what the sight asks for; its answer, and the coordinator after
+-- turn case of the coordinator: it looks, which is the event of the core and shows what the core shows, and does what the
+-- sight asks for; its answer, and the coordinator after
 pub record CoordTurns (v : CoordinatorView) (answer : CoordTurn) (after : CoordinatorView) : Type 0 where
   pub word : ℕ
   pub sight : CoordSight
   pub shows : IsCoordSight v.seat sight
+  pub event : IsStep v.seat.setting CoordLook (CoordShown sight) (Coord v.seat) (Coord (looked_coord v.seat word sight))
   pub acts : Acts (surveyed v word sight) sight answer after
 
 -- no split phase was released after a look showed all workers gone

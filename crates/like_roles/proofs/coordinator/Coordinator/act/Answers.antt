@@ -16,6 +16,7 @@ returns-then-sight c =
     let w : CoordinatorView = record { board = coord_board c.look-sight.new.self; seat = known; turns = inside.turns; left = inside.left; phase = sight.number } in
     let looked : Looked v w sight = record {
       shows = record { number = c.look-sight.ensures.number; ending = c.look-sight.ensures.ending; all_in = c.look-sight.ensures.all_in; all_gone = c.look-sight.ensures.all_gone };
+      event = c.look-sight.ensures.event;
       is = λ m. record { board = c.look-sight.ensures.board m; seat = c.look-sight.ensures.view m; turns = inside.turns; left = inside.left; phase = sight.number };
     } in
     let after : CoordinatorView = record { board = coord_board c.look-sight.new.self; seat = coord_view c.look-sight.new.self; turns = inside.turns; left = inside.left; phase = sight.number } in
@@ -31,6 +32,7 @@ returns-then-sight-3 c =
     let w : CoordinatorView = record { board = coord_board c.look-sight.new.self; seat = known; turns = inside.turns; left = inside.left; phase = sight.number } in
     let looked : Looked v w sight = record {
       shows = record { number = c.look-sight.ensures.number; ending = c.look-sight.ensures.ending; all_in = c.look-sight.ensures.all_in; all_gone = c.look-sight.ensures.all_gone };
+      event = c.look-sight.ensures.event;
       is = λ m. record { board = c.look-sight.ensures.board m; seat = c.look-sight.ensures.view m; turns = inside.turns; left = inside.left; phase = sight.number };
     } in
     let after : CoordinatorView = record { board = coord_board c.release.new.self; seat = coord_view c.release.new.self; turns = inside.turns; left = inside.turns; phase = sight.number } in
@@ -46,6 +48,7 @@ returns-then-sight-4 c =
     let w : CoordinatorView = record { board = coord_board c.look-sight.new.self; seat = known; turns = inside.turns; left = inside.left; phase = sight.number } in
     let looked : Looked v w sight = record {
       shows = record { number = c.look-sight.ensures.number; ending = c.look-sight.ensures.ending; all_in = c.look-sight.ensures.all_in; all_gone = c.look-sight.ensures.all_gone };
+      event = c.look-sight.ensures.event;
       is = λ m. record { board = c.look-sight.ensures.board m; seat = c.look-sight.ensures.view m; turns = inside.turns; left = inside.left; phase = sight.number };
     } in
     let after : CoordinatorView = record { board = coord_board c.look-sight.new.self; seat = coord_view c.look-sight.new.self; turns = inside.turns; left = inside.left; phase = sight.number } in
@@ -65,6 +68,7 @@ returns-then-self-gt0 c =
     let w : CoordinatorView = record { board = coord_board c.look-sight.new.self; seat = known; turns = inside.turns; left = inside.left; phase = sight.number } in
     let looked : Looked v w sight = record {
       shows = record { number = c.look-sight.ensures.number; ending = c.look-sight.ensures.ending; all_in = c.look-sight.ensures.all_in; all_gone = c.look-sight.ensures.all_gone };
+      event = c.look-sight.ensures.event;
       is = λ m. record { board = c.look-sight.ensures.board m; seat = c.look-sight.ensures.view m; turns = inside.turns; left = inside.left; phase = sight.number };
     } in
     let after : CoordinatorView = record { board = coord_board c.look-sight.new.self; seat = coord_view c.look-sight.new.self; turns = inside.turns; left = inside.left - 1; phase = sight.number } in
@@ -80,6 +84,7 @@ returns-then-sight-eq-LAST_PHASE c =
     let w : CoordinatorView = record { board = coord_board c.look-sight.new.self; seat = known; turns = inside.turns; left = inside.left; phase = sight.number } in
     let looked : Looked v w sight = record {
       shows = record { number = c.look-sight.ensures.number; ending = c.look-sight.ensures.ending; all_in = c.look-sight.ensures.all_in; all_gone = c.look-sight.ensures.all_gone };
+      event = c.look-sight.ensures.event;
       is = λ m. record { board = c.look-sight.ensures.board m; seat = c.look-sight.ensures.view m; turns = inside.turns; left = inside.left; phase = sight.number };
     } in
     let after : CoordinatorView = record { board = coord_board c.look-sight.new.self; seat = coord_view c.look-sight.new.self; turns = inside.turns; left = inside.left; phase = sight.number } in
@@ -95,6 +100,7 @@ returns c =
     let w : CoordinatorView = record { board = coord_board c.look-sight.new.self; seat = known; turns = inside.turns; left = inside.left; phase = sight.number } in
     let looked : Looked v w sight = record {
       shows = record { number = c.look-sight.ensures.number; ending = c.look-sight.ensures.ending; all_in = c.look-sight.ensures.all_in; all_gone = c.look-sight.ensures.all_gone };
+      event = c.look-sight.ensures.event;
       is = λ m. record { board = c.look-sight.ensures.board m; seat = c.look-sight.ensures.view m; turns = inside.turns; left = inside.left; phase = sight.number };
     } in
     let after : CoordinatorView = record { board = coord_board c.announce.new.self; seat = coord_view c.announce.new.self; turns = inside.turns; left = inside.left; phase = sight.number } in

@@ -1,4 +1,4 @@
-use Rattle.std.proofs.Common.{◌≡◌, ℕ, ◌^◌, ◌<◌, ◌≤◌, List, length, get_or, sym, subst, ◌∙◌}
+use Rattle.std.proofs.Common.{ℕ, ◌^◌, ◌<◌, ◌≤◌, List, length, get_or, sym, subst, ◌∙◌}
 use Rattle.like_roles.proofs.CueMade.{counts_small}
 use Rattle.like_roles.proofs.tests.boards.board_of.Goals as goal
 

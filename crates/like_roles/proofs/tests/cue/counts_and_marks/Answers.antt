@@ -1,5 +1,5 @@
 use Rattle.std.proofs.Common.{refl, add-one}
-use Rattle.like_roles.proofs.CueMade.{map-more}
+use Rattle.like_roles.proofs.Made.{map-more}
 use Rattle.like_roles.proofs.tests.cue.counts_and_marks.Goals as goal
 
 pub loop-page-preserved : goal.loop-page-preserved

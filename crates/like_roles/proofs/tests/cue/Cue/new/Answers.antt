@@ -1,5 +1,4 @@
-use Rattle.std.proofs.Common.{◌≡◌, ℕ, ◌^◌, ◌<◌, ◌≤◌, List, Bool, length, get_or, ap, sym, subst, ◌∙◌, arith}
-use Rattle.like_core.specs.Core.{numbers_of}
+use Rattle.std.proofs.Common.{ℕ, ◌^◌, ◌<◌, ◌≤◌, List, Bool, length, get_or, ap, sym, subst, ◌∙◌, arith}
 use Rattle.like_roles.proofs.CueMade.{counts_small, cue_first, first}
 use Rattle.like_roles.proofs.tests.cue.Cue.new.Goals as goal
 
