@@ -19,7 +19,7 @@ use Rattle.like_roles.specs.declared.log.Ran.{Ran}
 use Rattle.like_roles.specs.declared.log.WorkerLog.{WorkerLog}
 use Rattle.like_roles.specs.declared.reply.Reply.{Reply}
 use Rattle.like_roles.specs.declared.reply.Reply.TheVariants.{Liked, Seen, Refused}
-use Rattle.like_roles.specs.Likes.{AcceptedLike, accepted_like, last_like, last_page, like_of, likes_ran}
+use Rattle.like_roles.specs.Likes.{AcceptedLike, accepted_like, last_like, like_of, likes_ran}
 use Rattle.like_roles.specs.Replies.{Answers, HasRightAnswers, IsRightAnswer}
 use Rattle.like_roles.specs.Service.{Service, numbered_in, request_at, request_of, submitters}
 use Rattle.like_replies.specs.declared.answer.Answer.{Answer}
