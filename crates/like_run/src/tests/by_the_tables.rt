@@ -1,5 +1,5 @@
-//! Runs played by the tables of turns over the pure core, with plain lists for all that a worker keeps. Nothing of a
-//! replay's workers, coordinator and lists is used here.
+//! Runs played by the tables of turns over the pure core, with plain lists for all that a worker keeps. Of a replay's
+//! workers, coordinator and lists nothing is used here but the types of their entries.
 ghost use Rattle.std.specs.Prelude.{◌≤◌};
 
 use crate::{MAX_ROUNDS, Turned};
