@@ -1,7 +1,6 @@
 -- What a seat means, where the board does not matter; and the board that it means.
 use Rattle.std.proofs.Common.{◌≡◌, ℕ, List, get_or, drop, sym, ap, ◌∙◌, refl}
 use Rattle.atomic_table.specs.Seated.{TableId}
-use Rattle.like_core.specs.declared.view.WorkerView.{WorkerView}
 use Rattle.like_core.specs.Post.{IsFresh, MayAdd, MayRead, PostView}
 use Rattle.like_board.specs.Seats.{board_numbers}
 

@@ -1,4 +1,4 @@
-ghost use Rattle.std.specs.Prelude.{◌≡◌, ◌≢◌, ℕ, ◌↔◌, IsSome, IfSome, IsSomeAnd};
+ghost use Rattle.std.specs.Prelude.{◌≡◌, ◌↔◌, IsSome, IfSome, IsSomeAnd};
 ghost use Rattle.like_core.specs.Word.{word_fields, packed, IsLawful};
 
 use crate::kind::Kind;

@@ -1,4 +1,4 @@
-ghost use Rattle.std.specs.Prelude.{◌≡◌, ◌+◌, ◌*◌, ◌^◌, ◌<◌, ◌%◌, bit_or};
+ghost use Rattle.std.specs.Prelude.{◌≡◌, ◌+◌, ◌^◌, ◌<◌, ◌%◌, bit_or};
 ghost use Rattle.std.specs.Int.{bit_at};
 ghost use Rattle.like_core.specs.Kind.{code_of};
 ghost use Rattle.like_core.specs.Word.{packed, announced, answered_by, retired_by, released};

@@ -1,4 +1,4 @@
-ghost use Rattle.std.specs.Prelude.{◌≡◌, ◌+◌, ◌-◌, ◌^◌, ◌<◌, ◌≤◌};
+ghost use Rattle.std.specs.Prelude.{◌≡◌, ◌+◌, ◌-◌, ◌^◌, ◌<◌};
 ghost use Rattle.like_core.specs.Numbers.{with_state, with_unmerged, with_count, total, Sees, CoordSees};
 ghost use Rattle.like_core.specs.WorkerState.{looked};
 ghost use Rattle.like_core.specs.Table.{Permits, IsShown, next};

@@ -1,6 +1,4 @@
-ghost use Rattle.std.specs.Prelude.{◌≡◌, ◌+◌, ◌-◌, ◌^◌, ◌<◌, ◌≤◌, true, false, None, IfOk};
-ghost use Rattle.like_core.specs.declared.worker_state.WorkerState.TheVariants.{Runs};
-ghost use Rattle.like_core.specs.Numbers.{with_unmerged, with_count, sliced, total};
+ghost use Rattle.std.specs.Prelude.{◌≡◌, ◌-◌, ◌^◌, ◌<◌, ◌≤◌, true, None, IfOk};
 ghost use Rattle.like_core.specs.Table.{Permits, IsShown, next};
 ghost use Rattle.like_core.specs.Core.{numbers_of};
 ghost use Rattle.like_core.specs.Lone.{IsLone, Likes, lone_view, merged_likes};
