@@ -13,7 +13,7 @@ use Rattle.like_core.specs.Shows.{FitsCoord, IsStep}
 use Rattle.like_core.proofs.InPhase.{reached_in_phase}
 use Rattle.like_roles.specs.declared.coord_turn.CoordTurn.{CoordTurn}
 use Rattle.like_roles.specs.declared.coord_turn.CoordTurn.TheVariants.{Ended}
-use Rattle.like_roles.specs.CoordTurns.{Acts, ends, counts, stays, announces, releases, waits, CoordinatorView, CoordTurns, HasEndedJoined, IsBeforeEnd, IsCoordSight, surveyed}
+use Rattle.like_roles.specs.CoordTurns.{Acts, ends, counts, stays, announces, releases, waits, CoordinatorView, CoordTurns, HasEndedJoined, IsBeforeEnd, IsCoordSight, looks, surveyed}
 
 -- no phase is above the last
 pub phase_within : (z : Setting) (shown : Shown) (c : CoordView) (w : View) → IsStep z CoordLook shown (Coord c) w → c.phase ≤ last_phase
@@ -70,7 +70,7 @@ by_case v w sight answer after l acts = record {
   word = w.seat.word;
   sight = sight;
   shows = l.shows;
-  event = subst (λ (x : CoordinatorView). IsStep v.seat.setting CoordLook (CoordShown sight) (Coord v.seat) (Coord x.seat)) l.is l.event;
+  event = looks (subst (λ (x : CoordinatorView). IsStep v.seat.setting CoordLook (CoordShown sight) (Coord v.seat) (Coord x.seat)) l.is l.event);
   acts = subst (λ (x : CoordinatorView). Acts x sight answer after) l.is acts;
 }
 

@@ -47,13 +47,16 @@ pub data Acts (v : CoordinatorView) (sight : CoordSight) (answer : CoordTurn) (a
   waits : sight.all_gone ≡ false → sight.ending ≡ true → sight.all_in ≡ false
       → answer ≡ Waiting → after ≡ v → Acts v sight answer after
 
--- turn case of the coordinator: it looks, which is the event of the core and shows what the core shows, and does what the
--- sight asks for; its answer, and the coordinator after
+-- a look of the seat at this word is the event of the core, and shows what the core shows
+pub data IsLook (c : CoordView) (word : ℕ) (sight : CoordSight) : Type 0 where
+  looks : IsStep c.setting CoordLook (CoordShown sight) (Coord c) (Coord (looked_coord c word sight)) → IsLook c word sight
+
+-- turn case of the coordinator: it looks, and does what the sight asks for; its answer, and the coordinator after
 pub record CoordTurns (v : CoordinatorView) (answer : CoordTurn) (after : CoordinatorView) : Type 0 where
   pub word : ℕ
   pub sight : CoordSight
   pub shows : IsCoordSight v.seat sight
-  pub event : IsStep v.seat.setting CoordLook (CoordShown sight) (Coord v.seat) (Coord (looked_coord v.seat word sight))
+  pub event : IsLook v.seat word sight
   pub acts : Acts (surveyed v word sight) sight answer after
 
 -- no split phase was released after a look showed all workers gone
