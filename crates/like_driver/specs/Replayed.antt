@@ -1,5 +1,5 @@
 -- What a replay has done, or why it has not.
-use Rattle.std.specs.Prelude.{ℕ, List, Option, ⊤}
+use Rattle.std.specs.Prelude.{◌≡◌, ℕ, List, length, Option, ⊤}
 use Rattle.std.specs.Io.KnownBytes.{Appends}
 use Rattle.like_requests.specs.Pages.{Page}
 use Rattle.like_requests.specs.declared.request.Request.{Request}
@@ -44,6 +44,12 @@ pub record IsReplayed (options : Options) (inputs : Inputs) (old new : Option (L
   pub fits : Fits (setup_of options pages) plans script
   pub right : IsEndToEnd (service_of (setup_of options pages) plans) options.workers report
   pub written : Appends old new (report_text pages (reported report))
+
+-- some files were replayed, as many request files as the options name
+pub record HasReplayed (options : Options) (old new : Option (List ℕ)) : Type 0 where
+  pub inputs : Inputs
+  pub all_requests : length inputs.requests ≡ length options.requests.items
+  pub replayed : IsReplayed options inputs old new
 
 -- the request files were refused, where the pages file gives these pages
 pub record PlansRefused (inputs : Inputs) (fault : DriverFault) : Type 0 where

@@ -1,5 +1,5 @@
-ghost use Rattle.std.specs.Prelude.{◌≡◌, IfErr, IfOk, is_some, length};
-ghost use Rattle.like_driver.specs.Replayed.{IsBeforeOutput};
+ghost use Rattle.std.specs.Prelude.{◌≡◌, IfErr, IfOk, OnOk, is_some, length};
+ghost use Rattle.like_driver.specs.Replayed.{HasReplayed, IsBeforeOutput};
 
 use crate::fault::DriverFault;
 use crate::options::Options;
@@ -84,6 +84,7 @@ pub fn replay_named<F: Files, W: Write>(
 ) -> Result<(), DriverFault>
 where
     F::File: Read + Drop,
+    ensures replayed { OnOk result (HasReplayed options.now (W.contents out.old) (W.contents out.new)) }
     ensures untouched { IfErr result (λ fault. IsBeforeOutput fault → out.new ≡ out.old) }
 {
     let Opened {
