@@ -1,73 +1,14 @@
 //! Replays of scripts.
-use crate::{MAX_ENTRIES, ReplayFault, Turned, replay};
-use like_replies::{Answer, Report};
-use like_requests::{
-    Op, PageRef, Request, SettingsFault, Setup, Verdict, read_pages, read_requests,
+use super::cases::{
+    Case, FULL_STASH, IDLE_WORKERS, LATE_WORKER, PLAIN_LIKES, SPLIT_AND_STASH, STASH_THEN_LIKE,
+    TWO_SLICES,
 };
+use crate::{ReplayFault, replay};
+use like_replies::{Answer, Report};
+use like_requests::{Op, PageRef, Request, SettingsFault, Setup, Verdict, read_pages};
 use like_roles::{Reply, Took};
 use std::alloc::Global;
 use std::process::Abort;
-
-// A replay: its settings, its files without their headers, and its script as words of two letters.
-#[derive(Drop)]
-struct Case {
-    workers: u32,
-    users: u32,
-    stash: u32,
-    turns: u32,
-    pages: &'static str,
-    requests: &'static [&'static str],
-    script: &'static str,
-}
-
-impl Case {
-    fn setup(&self, rt: &impl Abort, alloc: Global) -> Setup {
-        let text = format!(in alloc; "name,count,split\n{}", self.pages).expect(rt, "memory");
-        Setup {
-            workers: self.workers,
-            users: self.users,
-            stash: self.stash,
-            turns: self.turns,
-            pages: read_pages(alloc, text.as_bytes()).expect(rt, "pages"),
-        }
-    }
-
-    fn plans(&self, rt: &impl Abort, alloc: Global, setup: &Setup) -> Vec<Vec<Request>> {
-        let mut plans = Vec::new(alloc);
-        for requests in self.requests {
-            let text = format!(in alloc; "op,user,page\n{requests}").expect(rt, "memory");
-            let plan = read_requests(alloc, text.as_bytes(), &setup.pages).expect(rt, "requests");
-            assert!(rt; plans.push(plan).is_ok());
-        }
-        plans
-    }
-
-    fn replay(&self, rt: &impl Abort, alloc: Global) -> Result<Report, ReplayFault> {
-        let setup = self.setup(rt, alloc);
-        let plans = self.plans(rt, alloc, &setup);
-        let script = turns(rt, alloc, self.script);
-        assert!(rt; script.len() <= MAX_ENTRIES as usize);
-        replay(alloc, &setup, plans, &script)
-    }
-}
-
-// The entries of a script whose words are `o0` for an open, `w0` for a worker's turn, `c0` for the coordinator's.
-fn turns(rt: &impl Abort, alloc: Global, script: &str) -> Vec<Turned> {
-    let mut turns = Vec::new(alloc);
-    for word in script.as_bytes().chunks(3) {
-        let (Some(kind), Some(digit)) = (word.first(), word.get(1)) else {
-            panic!(rt; "no word");
-        };
-        let index = u32::from(digit.saturating_sub(b'0'));
-        let turned = match kind {
-            b'o' => Turned::OpenOne(index),
-            b'w' => Turned::Worker(index),
-            _ => Turned::Coordinator,
-        };
-        assert!(rt; turns.push(turned).is_ok());
-    }
-    turns
-}
 
 fn answer(phase: u32, stashed: bool, reply: Reply) -> Answer {
     Answer {
@@ -135,19 +76,10 @@ fn assert_log(
 
 #[test]
 fn plain_likes(rt: HostRuntime) {
-    let case = Case {
-        workers: 1,
-        users: 2,
-        stash: 256,
-        turns: 1_000,
-        pages: "a,10,no\n",
-        requests: &["like,0,a\nlike,1,a\nlike,0,a\n"],
-        script: "",
-    };
     assert_report(
         &rt,
         rt.alloc(),
-        &case,
+        &PLAIN_LIKES,
         0,
         &[&[liked(0), liked(0), liked(0)]],
         &[13],
@@ -227,19 +159,10 @@ fn verdicts(rt: HostRuntime) {
 
 #[test]
 fn split_and_stash(rt: HostRuntime) {
-    let case = Case {
-        workers: 1,
-        users: 2,
-        stash: 256,
-        turns: 0,
-        pages: "a,10,yes\n",
-        requests: &["like,0,a\nlook,0,a\n"],
-        script: "o0 o0 c0 w0 c0 w0 w0 c0 w0 c0 w0",
-    };
     let report = assert_report(
         &rt,
         rt.alloc(),
-        &case,
+        &SPLIT_AND_STASH,
         4,
         &[&[liked(1), seen(2, true, Some(0), 11)]],
         &[11],
@@ -256,19 +179,10 @@ fn split_and_stash(rt: HostRuntime) {
 
 #[test]
 fn late_worker(rt: HostRuntime) {
-    let case = Case {
-        workers: 2,
-        users: 2,
-        stash: 256,
-        turns: 0,
-        pages: "a,0,yes\n",
-        requests: &["", "look,1,a\nlook,1,a\n"],
-        script: "o1 o1 c0 w0 w1 c0 w1 w1 c0 w0 w1 c0 c0 w1 w1 w1",
-    };
     let report = assert_report(
         &rt,
         rt.alloc(),
-        &case,
+        &LATE_WORKER,
         4,
         &[&[], &[seen(2, true, None, 0), seen(2, true, None, 0)]],
         &[0],
@@ -286,19 +200,10 @@ fn late_worker(rt: HostRuntime) {
 
 #[test]
 fn stash_then_like(rt: HostRuntime) {
-    let case = Case {
-        workers: 1,
-        users: 1,
-        stash: 256,
-        turns: 0,
-        pages: "a,5,yes\nb,0,no\n",
-        requests: &["look,0,a\nlike,0,b\n"],
-        script: "o0 o0 c0 w0 c0 w0 w0 c0 w0 c0 w0",
-    };
     let report = assert_report(
         &rt,
         rt.alloc(),
-        &case,
+        &STASH_THEN_LIKE,
         4,
         &[&[seen(2, true, Some(1), 5), liked(1)]],
         &[5, 1],
@@ -315,19 +220,10 @@ fn stash_then_like(rt: HostRuntime) {
 
 #[test]
 fn full_stash(rt: HostRuntime) {
-    let case = Case {
-        workers: 1,
-        users: 1,
-        stash: 1,
-        turns: 0,
-        pages: "a,0,yes\n",
-        requests: &["look,0,a\nlook,0,a\n"],
-        script: "o0 o0 c0 w0 c0 w0 w0 c0 w0 c0 w0 w0",
-    };
     let report = assert_report(
         &rt,
         rt.alloc(),
-        &case,
+        &FULL_STASH,
         4,
         &[&[seen(2, true, None, 0), seen(2, false, None, 0)]],
         &[0],
@@ -366,19 +262,10 @@ fn unsplit_in_split_phase(rt: HostRuntime) {
 
 #[test]
 fn two_slices(rt: HostRuntime) {
-    let case = Case {
-        workers: 2,
-        users: 2,
-        stash: 256,
-        turns: 0,
-        pages: "a,100,yes\n",
-        requests: &["like,0,a\nlook,0,a\n", "like,1,a\n"],
-        script: "o0 o0 o1 c0 w0 w1 c0 w0 w1 w0 c0 w0 c0 w0 w1 c0 w0",
-    };
     let report = assert_report(
         &rt,
         rt.alloc(),
-        &case,
+        &TWO_SLICES,
         4,
         &[&[liked(1), seen(2, true, Some(0), 102)], &[liked(1)]],
         &[102],
@@ -396,16 +283,15 @@ fn two_slices(rt: HostRuntime) {
 
 #[test]
 fn idle_workers(rt: HostRuntime) {
-    let case = Case {
-        workers: 4,
-        users: 1,
-        stash: 256,
-        turns: 0,
-        pages: "a,0,yes\n",
-        requests: &["like,0,a\n"],
-        script: "",
-    };
-    assert_report(&rt, rt.alloc(), &case, 2, &[&[liked(1)]], &[1], &[Some(0)]);
+    assert_report(
+        &rt,
+        rt.alloc(),
+        &IDLE_WORKERS,
+        2,
+        &[&[liked(1)]],
+        &[1],
+        &[Some(0)],
+    );
 }
 
 #[test]

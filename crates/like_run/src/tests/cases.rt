@@ -1,0 +1,137 @@
+//! Cases of the worked examples.
+use crate::{MAX_ENTRIES, ReplayFault, Turned, replay};
+use like_replies::Report;
+use like_requests::{Request, Setup, read_pages, read_requests};
+use std::alloc::Global;
+use std::process::Abort;
+
+/// A replay: its settings, its files without their headers, and its script as words of two letters.
+#[derive(Clone, Copy)]
+pub struct Case {
+    pub workers: u32,
+    pub users: u32,
+    pub stash: u32,
+    pub turns: u32,
+    pub pages: &'static str,
+    pub requests: &'static [&'static str],
+    pub script: &'static str,
+}
+
+impl Case {
+    pub fn setup(&self, rt: &impl Abort, alloc: Global) -> Setup {
+        let text = format!(in alloc; "name,count,split\n{}", self.pages).expect(rt, "memory");
+        Setup {
+            workers: self.workers,
+            users: self.users,
+            stash: self.stash,
+            turns: self.turns,
+            pages: read_pages(alloc, text.as_bytes()).expect(rt, "pages"),
+        }
+    }
+
+    pub fn plans(&self, rt: &impl Abort, alloc: Global, setup: &Setup) -> Vec<Vec<Request>> {
+        let mut plans = Vec::new(alloc);
+        for requests in self.requests {
+            let text = format!(in alloc; "op,user,page\n{requests}").expect(rt, "memory");
+            let plan = read_requests(alloc, text.as_bytes(), &setup.pages).expect(rt, "requests");
+            assert!(rt; plans.push(plan).is_ok());
+        }
+        plans
+    }
+
+    pub fn replay(&self, rt: &impl Abort, alloc: Global) -> Result<Report, ReplayFault> {
+        let setup = self.setup(rt, alloc);
+        let plans = self.plans(rt, alloc, &setup);
+        let script = turns(rt, alloc, self.script);
+        assert!(rt; script.len() <= MAX_ENTRIES as usize);
+        replay(alloc, &setup, plans, &script)
+    }
+}
+
+/// The entries of a script whose words are `o0` for an open, `w0` for a worker's turn, `c0` for the coordinator's.
+pub fn turns(rt: &impl Abort, alloc: Global, script: &str) -> Vec<Turned> {
+    let mut turns = Vec::new(alloc);
+    for word in script.as_bytes().chunks(3) {
+        let (Some(kind), Some(digit)) = (word.first(), word.get(1)) else {
+            panic!(rt; "no word");
+        };
+        let index = u32::from(digit.saturating_sub(b'0'));
+        let turned = match kind {
+            b'o' => Turned::OpenOne(index),
+            b'w' => Turned::Worker(index),
+            _ => Turned::Coordinator,
+        };
+        assert!(rt; turns.push(turned).is_ok());
+    }
+    turns
+}
+
+pub const PLAIN_LIKES: Case = Case {
+    workers: 1,
+    users: 2,
+    stash: 256,
+    turns: 1_000,
+    pages: "a,10,no\n",
+    requests: &["like,0,a\nlike,1,a\nlike,0,a\n"],
+    script: "",
+};
+
+pub const SPLIT_AND_STASH: Case = Case {
+    workers: 1,
+    users: 2,
+    stash: 256,
+    turns: 0,
+    pages: "a,10,yes\n",
+    requests: &["like,0,a\nlook,0,a\n"],
+    script: "o0 o0 c0 w0 c0 w0 w0 c0 w0 c0 w0",
+};
+
+pub const LATE_WORKER: Case = Case {
+    workers: 2,
+    users: 2,
+    stash: 256,
+    turns: 0,
+    pages: "a,0,yes\n",
+    requests: &["", "look,1,a\nlook,1,a\n"],
+    script: "o1 o1 c0 w0 w1 c0 w1 w1 c0 w0 w1 c0 c0 w1 w1 w1",
+};
+
+pub const STASH_THEN_LIKE: Case = Case {
+    workers: 1,
+    users: 1,
+    stash: 256,
+    turns: 0,
+    pages: "a,5,yes\nb,0,no\n",
+    requests: &["look,0,a\nlike,0,b\n"],
+    script: "o0 o0 c0 w0 c0 w0 w0 c0 w0 c0 w0",
+};
+
+pub const FULL_STASH: Case = Case {
+    workers: 1,
+    users: 1,
+    stash: 1,
+    turns: 0,
+    pages: "a,0,yes\n",
+    requests: &["look,0,a\nlook,0,a\n"],
+    script: "o0 o0 c0 w0 c0 w0 w0 c0 w0 c0 w0 w0",
+};
+
+pub const TWO_SLICES: Case = Case {
+    workers: 2,
+    users: 2,
+    stash: 256,
+    turns: 0,
+    pages: "a,100,yes\n",
+    requests: &["like,0,a\nlook,0,a\n", "like,1,a\n"],
+    script: "o0 o0 o1 c0 w0 w1 c0 w0 w1 w0 c0 w0 c0 w0 w1 c0 w0",
+};
+
+pub const IDLE_WORKERS: Case = Case {
+    workers: 4,
+    users: 1,
+    stash: 256,
+    turns: 0,
+    pages: "a,0,yes\n",
+    requests: &["like,0,a\n"],
+    script: "",
+};

@@ -1,0 +1,319 @@
+//! The answers of each turn of a script.
+ghost use Rattle.std.specs.Prelude.{◌≡◌, ◌≤◌, All, length, map};
+ghost use Rattle.std.specs.List.{AllZip};
+ghost use Rattle.like_requests.specs.Setup.{IsPlan, IsWithinLimits};
+ghost use Rattle.like_board.specs.Seats.{board_id, coord_board};
+ghost use Rattle.like_roles.specs.New.{IsWithin};
+ghost use Rattle.like_run.specs.declared.script_file.TheConstants.{MAX_ENTRIES};
+ghost use Rattle.like_run.specs.Made.{AreNewSeats};
+ghost use Rattle.like_run.specs.Scripted.{IsThere};
+ghost use Rattle.like_run.specs.Server.{GoesOn};
+ghost use Rattle.like_run.specs.Stage.{CanMake, CoordGoesOn};
+
+use super::cases::{
+    Case, FULL_STASH, IDLE_WORKERS, LATE_WORKER, PLAIN_LIKES, SPLIT_AND_STASH, STASH_THEN_LIKE,
+    TWO_SLICES, turns,
+};
+use crate::making::{counts_of, servers_of, sizes_of, split_marks};
+use crate::scripted::check_script;
+use crate::server::Server;
+use crate::servers::open_one;
+use crate::{MAX_ENTRIES, ReplayFault, Turned};
+use like_board::{Board, CoordSeat, WorkerSeat};
+use like_core::Post;
+use like_requests::{Request, Setup, check_setup};
+use like_roles::{CoordTurn, Coordinator, NoGate, Turn};
+use std::alloc::{AllocError, Global};
+use std::process::Abort;
+
+// What a turn answers.
+#[derive(Clone, Copy, Debug, PartialEq, Eq)]
+enum Answer {
+    Led(CoordTurn),
+    Did(Turn),
+}
+
+// Makes one entry of a script, and gives what it answers where it is a turn.
+fn answer_of<P: Post>(
+    board: &Board,
+    coordinator: &mut Coordinator,
+    servers: &mut Vec<Server<P>>,
+    entry: &Turned,
+) -> Option<Answer>
+    requires here { coordinator.old.board ≡ board_id board.now }
+    requires can { CanMake servers.old.items entry.now }
+    ensures coordinator { CoordGoesOn coordinator.old coordinator.new }
+    ensures servers { AllZip GoesOn servers.old.items servers.new.items }
+{
+    match *entry {
+        Turned::OpenOne(submitter) => {
+            open_one(servers, submitter);
+            None
+        }
+        Turned::Worker(worker) => Some(Answer::Did(servers[worker as usize].turn(&NoGate))),
+        Turned::Coordinator => Some(Answer::Led(coordinator.turn(board))),
+    }
+}
+
+// Makes a script's entries in their order, and gives what the turns among them answer.
+fn answers_of<P: Post>(
+    alloc: Global,
+    board: &Board,
+    coordinator: &mut Coordinator,
+    servers: &mut Vec<Server<P>>,
+    script: &[Turned],
+) -> Result<Vec<Answer>, AllocError>
+    requires here { coordinator.old.board ≡ board_id board.now }
+    requires can { All (CanMake servers.old.items) script.now }
+{
+    let mut answers = Vec::new(alloc);
+    for entry in script {
+        if let Some(answer) = answer_of(board, coordinator, servers, entry) {
+            answers.push(answer)?;
+        }
+    }
+    Ok(answers)
+}
+
+// The answers of a script's turns on a board.
+fn answers_on(
+    alloc: Global,
+    setup: &Setup,
+    sizes: &[u32],
+    board: &Board,
+    coord: CoordSeat,
+    seats: Vec<WorkerSeat>,
+    plans: Vec<Vec<Request>>,
+    script: &[Turned],
+) -> Result<Vec<Answer>, AllocError>
+    requires within { IsWithin setup.now sizes.now }
+    requires sizes { sizes.now ≡ map (λ plan. length plan.items) plans.items }
+    requires plans { All (λ plan. IsPlan setup.now.pages plan.items) plans.items }
+    requires len { length seats.items ≡ setup.now.workers }
+    requires seats { AreNewSeats (board_id board.now) setup.now.pages seats.items }
+    requires coord_here { coord_board coord ≡ board_id board.now }
+    requires script { All (IsThere setup.now.workers (length plans.items)) script.now }
+{
+    let mut servers = servers_of(alloc, setup, sizes, board, seats, plans)?;
+    let mut coordinator = Coordinator::new(coord, setup.turns);
+    answers_of(alloc, board, &mut coordinator, &mut servers, script)
+}
+
+// The answers of a script's turns, in a run within the limits.
+fn answers_within(
+    alloc: Global,
+    setup: &Setup,
+    plans: Vec<Vec<Request>>,
+    script: &[Turned],
+) -> Result<Vec<Answer>, AllocError>
+    requires within { IsWithinLimits setup.now (map (λ plan. plan.items) plans.items) }
+    requires script { All (IsThere setup.now.workers (length plans.items)) script.now }
+{
+    let sizes = sizes_of(alloc, &plans)?;
+    let counts = counts_of(alloc, &setup.pages)?;
+    let marks = split_marks(alloc, &setup.pages)?;
+    let (board, coord, seats) = Board::new(alloc, setup.workers, &counts, &marks)?;
+    answers_on(alloc, setup, &sizes, &board, coord, seats, plans, script)
+}
+
+// The answers of a script's turns.
+fn answers(
+    alloc: Global,
+    setup: &Setup,
+    plans: Vec<Vec<Request>>,
+    script: &[Turned],
+) -> Result<Vec<Answer>, ReplayFault>
+    requires { length script.now ≤ MAX_ENTRIES }
+{
+    check_setup(setup, &plans)?;
+    check_script(script, setup.workers, plans.len())?;
+    Ok(answers_within(alloc, setup, plans, script)?)
+}
+
+// Asserts what the turns of a case's script answer.
+fn assert_answers(rt: &impl Abort, alloc: Global, case: &Case, expected: &[Answer]) {
+    let setup = case.setup(rt, alloc);
+    let plans = case.plans(rt, alloc, &setup);
+    let script = turns(rt, alloc, case.script);
+    assert!(rt; script.len() <= MAX_ENTRIES as usize);
+    let shown = answers(alloc, &setup, plans, &script).expect(rt, "answers");
+    assert_eq!(rt; shown.as_slice(), expected);
+}
+
+#[test]
+fn answers_of_plain_likes(rt: HostRuntime) {
+    let case = Case {
+        script: "o0 o0 o0 o0 c0 w0 c0 w0 c0 w0 c0 w0 c0 w0 c0",
+        ..PLAIN_LIKES
+    };
+    assert_answers(
+        &rt,
+        rt.alloc(),
+        &case,
+        &[
+            Answer::Led(CoordTurn::Counted),
+            Answer::Did(Turn::Ran),
+            Answer::Led(CoordTurn::Counted),
+            Answer::Did(Turn::Ran),
+            Answer::Led(CoordTurn::Counted),
+            Answer::Did(Turn::Ran),
+            Answer::Led(CoordTurn::Counted),
+            Answer::Did(Turn::TookEnd),
+            Answer::Led(CoordTurn::Counted),
+            Answer::Did(Turn::Retired),
+            Answer::Led(CoordTurn::Ended),
+        ],
+    );
+}
+
+#[test]
+fn answers_of_split_and_stash(rt: HostRuntime) {
+    assert_answers(
+        &rt,
+        rt.alloc(),
+        &SPLIT_AND_STASH,
+        &[
+            Answer::Led(CoordTurn::Announced),
+            Answer::Did(Turn::Acknowledged),
+            Answer::Led(CoordTurn::Released),
+            Answer::Did(Turn::Ran),
+            Answer::Did(Turn::Stashed),
+            Answer::Led(CoordTurn::Announced),
+            Answer::Did(Turn::Reported),
+            Answer::Led(CoordTurn::Released),
+            Answer::Did(Turn::Ran),
+        ],
+    );
+}
+
+#[test]
+fn answers_of_late_worker(rt: HostRuntime) {
+    assert_answers(
+        &rt,
+        rt.alloc(),
+        &LATE_WORKER,
+        &[
+            Answer::Led(CoordTurn::Announced),
+            Answer::Did(Turn::Acknowledged),
+            Answer::Did(Turn::Acknowledged),
+            Answer::Led(CoordTurn::Released),
+            Answer::Did(Turn::Stashed),
+            Answer::Did(Turn::Stashed),
+            Answer::Led(CoordTurn::Announced),
+            Answer::Did(Turn::Reported),
+            Answer::Did(Turn::Reported),
+            Answer::Led(CoordTurn::Released),
+            Answer::Led(CoordTurn::Announced),
+            Answer::Did(Turn::Ran),
+            Answer::Did(Turn::Ran),
+            Answer::Did(Turn::Acknowledged),
+        ],
+    );
+}
+
+#[test]
+fn answers_of_stash_then_like(rt: HostRuntime) {
+    assert_answers(
+        &rt,
+        rt.alloc(),
+        &STASH_THEN_LIKE,
+        &[
+            Answer::Led(CoordTurn::Announced),
+            Answer::Did(Turn::Acknowledged),
+            Answer::Led(CoordTurn::Released),
+            Answer::Did(Turn::Stashed),
+            Answer::Did(Turn::Ran),
+            Answer::Led(CoordTurn::Announced),
+            Answer::Did(Turn::Reported),
+            Answer::Led(CoordTurn::Released),
+            Answer::Did(Turn::Ran),
+        ],
+    );
+}
+
+#[test]
+fn answers_of_full_stash(rt: HostRuntime) {
+    assert_answers(
+        &rt,
+        rt.alloc(),
+        &FULL_STASH,
+        &[
+            Answer::Led(CoordTurn::Announced),
+            Answer::Did(Turn::Acknowledged),
+            Answer::Led(CoordTurn::Released),
+            Answer::Did(Turn::Stashed),
+            Answer::Did(Turn::Idle),
+            Answer::Led(CoordTurn::Announced),
+            Answer::Did(Turn::Reported),
+            Answer::Led(CoordTurn::Released),
+            Answer::Did(Turn::Ran),
+            Answer::Did(Turn::Ran),
+        ],
+    );
+}
+
+#[test]
+fn answers_of_two_slices(rt: HostRuntime) {
+    assert_answers(
+        &rt,
+        rt.alloc(),
+        &TWO_SLICES,
+        &[
+            Answer::Led(CoordTurn::Announced),
+            Answer::Did(Turn::Acknowledged),
+            Answer::Did(Turn::Acknowledged),
+            Answer::Led(CoordTurn::Released),
+            Answer::Did(Turn::Ran),
+            Answer::Did(Turn::Ran),
+            Answer::Did(Turn::Stashed),
+            Answer::Led(CoordTurn::Announced),
+            Answer::Did(Turn::Reported),
+            Answer::Led(CoordTurn::Waiting),
+            Answer::Did(Turn::Waiting),
+            Answer::Did(Turn::Reported),
+            Answer::Led(CoordTurn::Released),
+            Answer::Did(Turn::Ran),
+        ],
+    );
+}
+
+#[test]
+fn answers_of_idle_workers(rt: HostRuntime) {
+    let case = Case {
+        script: "o0 o0 c0 w0 w1 w2 w3 c0 w0 w1 w2 w3 c0 w0 w1 w2 w3 c0 w0 w1 w2 w3 c0 w0 w1 w2 w3 c0",
+        ..IDLE_WORKERS
+    };
+    assert_answers(
+        &rt,
+        rt.alloc(),
+        &case,
+        &[
+            Answer::Led(CoordTurn::Announced),
+            Answer::Did(Turn::Acknowledged),
+            Answer::Did(Turn::Retired),
+            Answer::Did(Turn::Retired),
+            Answer::Did(Turn::Retired),
+            Answer::Led(CoordTurn::Released),
+            Answer::Did(Turn::Ran),
+            Answer::Did(Turn::Retired),
+            Answer::Did(Turn::Retired),
+            Answer::Did(Turn::Retired),
+            Answer::Led(CoordTurn::Announced),
+            Answer::Did(Turn::Reported),
+            Answer::Did(Turn::Retired),
+            Answer::Did(Turn::Retired),
+            Answer::Did(Turn::Retired),
+            Answer::Led(CoordTurn::Released),
+            Answer::Did(Turn::TookEnd),
+            Answer::Did(Turn::Retired),
+            Answer::Did(Turn::Retired),
+            Answer::Did(Turn::Retired),
+            Answer::Led(CoordTurn::Announced),
+            Answer::Did(Turn::Retired),
+            Answer::Did(Turn::Retired),
+            Answer::Did(Turn::Retired),
+            Answer::Did(Turn::Retired),
+            Answer::Led(CoordTurn::Ended),
+        ],
+    );
+}
