@@ -1,4 +1,4 @@
--- How a replay comes to its end.
+-- How a run comes to its end.
 use Rattle.std.proofs.Common.{◌≡◌, ℕ, ◌+◌, ◌*◌, ◌/◌, ◌%◌, ◌<◌, List, [], length, get_or, slice_get, Some, sym, ap, ◌∙◌, subst, arith, zero-add}
 use Rattle.std.specs.List.{All, AllZip, range_with_len}
 use Rattle.std.proofs.Math.Nat.{div-add-mod}
@@ -15,7 +15,7 @@ use Rattle.like_tables.specs.Share.{Share}
 use Rattle.like_roles.specs.CoordTurns.{CoordinatorView, HasEndedJoined}
 use Rattle.like_roles.specs.New.{marks_of}
 use Rattle.like_roles.specs.Service.{Service, submitters}
-use Rattle.like_run.specs.declared.playing.Ended.{Ended}
+use Rattle.like_run.specs.declared.ended.Ended.{Ended}
 use Rattle.like_run.specs.declared.turned.Turned.{Turned}
 use Rattle.like_run.specs.declared.turned.Turned.TheVariants.{OpenOne, Worker, Coordinator}
 use Rattle.like_run.specs.Left.{IsLogOf, IsSeatOf}
@@ -74,7 +74,7 @@ new-seats board z pages seats marks fresh worker seat at =
       },
     )
 
--- the replay has ended
+-- the run has ended
 pub has-ended : (service : Service) (workers : ℕ) (board : BoardId) (z : Setting) (first servers : List ServerView) (e : Ended) (v w : CoordinatorView) → AreServers service workers (board_numbers board) first
     → AllZip GoesOn first servers → All (λ s. s.worker.post.state ≡ Gone) servers → AllZip IsLogOf servers e.logs.items → AllZip IsSeatOf servers e.seats.items
     → v.board ≡ board → v.seat.setting ≡ z → CoordGoesOn v w → HasEndedJoined w → coord_board e.coord ≡ w.board → coord_view e.coord ≡ w.seat → e.phases ≡ w.phase

@@ -16,3 +16,5 @@ pub mod Whole
 pub mod Once
 pub mod Ending
 pub mod FirstAway
+pub mod Leaving
+pub mod Asked

@@ -1,4 +1,4 @@
--- What a replay that has ended reports, end to end.
+-- What a run that has ended reports, end to end.
 use Rattle.std.proofs.Common.{◌≡◌, ℕ, zero, suc, ◌+◌, ◌<◌, ◌≤◌, ◌&&◌, eqb, List, [], ◌∷◌, length, map, get_or, slice_get, Option, Some, None, option_map, IfSome, refl, sym, ap, ◌∙◌, subst, arith, inl, inr, zero-add}
 use Rattle.std.specs.List.{All, AllZip, range_with_len, sum_by}
 use Rattle.std.specs.Option.{option_map_or, unwrap_or}
@@ -28,7 +28,7 @@ use Rattle.like_roles.specs.declared.log.WorkerLog.{WorkerLog}
 use Rattle.like_roles.specs.Likes.{initial_count, last_like, likes, likes_among}
 use Rattle.like_roles.specs.Service.{Service, submitters}
 use Rattle.like_replies.specs.Entries.{IsRequest, entries_in, entries_of}
-use Rattle.like_run.specs.declared.playing.Ended.{Ended}
+use Rattle.like_run.specs.declared.ended.Ended.{Ended}
 use Rattle.like_run.specs.EndToEnd.{AreCounts, AreLastLikes, AreLogs, run_of, runs_of}
 use Rattle.like_run.specs.Gathered.{AreTables, RunsOnce}
 use Rattle.like_run.specs.Log.{IsLog, NoneAbove, plan_of}

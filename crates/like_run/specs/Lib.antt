@@ -4,8 +4,11 @@ pub mod Gathered
 pub mod Left
 pub mod Log
 pub mod Made
+pub mod Prepared
 pub mod Replayed
+pub mod Run
 pub mod ScriptFile
 pub mod Scripted
+pub mod Served
 pub mod Server
 pub mod Stage

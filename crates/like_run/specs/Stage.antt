@@ -1,4 +1,4 @@
--- A replay under way, and what it leaves.
+-- A run under way, and what it leaves.
 use Rattle.std.specs.Prelude.{◌≡◌, ℕ, ◌%◌, ◌<◌, List, length, slice_get, All, Some, ⊤}
 use Rattle.std.specs.List.{AllZip}
 use Rattle.like_core.specs.declared.worker_state.WorkerState.TheVariants.{Gone}
@@ -7,7 +7,7 @@ use Rattle.like_core.specs.Phase.{IsJoined}
 use Rattle.like_board.specs.Seats.{BoardId, board_numbers, coord_board, coord_view}
 use Rattle.like_roles.specs.CoordTurns.{CoordinatorView, IsBeforeEnd}
 use Rattle.like_roles.specs.Service.{Service}
-use Rattle.like_run.specs.declared.playing.Ended.{Ended}
+use Rattle.like_run.specs.declared.ended.Ended.{Ended}
 use Rattle.like_run.specs.declared.turned.Turned.{Turned}
 use Rattle.like_run.specs.declared.turned.Turned.TheVariants.{OpenOne, Worker, Coordinator}
 use Rattle.like_run.specs.Left.{IsLogOf, IsSeatOf}
@@ -27,7 +27,7 @@ pub record CoordGoesOn (v w : CoordinatorView) : Type 0 where
   pub setting : w.seat.setting ≡ v.seat.setting
   pub before_end : IsBeforeEnd v → IsBeforeEnd w
 
--- a replay that has ended: its workers are gone, and their servers left these logs and seats; and it ended in a joined
+-- a run that has ended: its workers are gone, and their servers left these logs and seats; and it ended in a joined
 -- phase, which is the last one that the coordinator's seat knows
 pub record IsEnded (service : Service) (workers : ℕ) (board : BoardId) (z : Setting) (e : Ended) : Type 0 where
   pub servers : List ServerView

@@ -10,22 +10,12 @@ use crate::replay_fault::ReplayFault;
 use crate::server::Server;
 use crate::servers::{open_all, open_one, turn_of, turns};
 use crate::turned::Turned;
-use like_board::{Board, CoordSeat, WorkerSeat};
+use like_board::Board;
 use like_core::Post;
-use like_roles::{CoordTurn, Coordinator, WorkerLog};
+use like_roles::{CoordTurn, Coordinator};
 
 /// The most rounds of a replay.
 pub const MAX_ROUNDS: u32 = 1_000_000;
-
-/// What a replay leaves when all workers are gone.
-#[derive(Drop)]
-pub(crate) struct Ended {
-    pub logs: Vec<WorkerLog>,
-    pub seats: Vec<WorkerSeat>,
-    /// The phase in which it ended.
-    pub phases: u32,
-    pub coord: CoordSeat,
-}
 
 /// Makes a script's entries in their order, opens all lists, and makes rounds until the run ended.
 pub(crate) fn play<P: Post>(
@@ -126,8 +116,8 @@ fn round<P: Post>(
     ended && gone
 }
 
-// Makes one turn of the coordinator, and says whether it found the run ended.
-fn coord_turn(coordinator: &mut Coordinator, board: &Board) -> bool
+/// Makes one turn of the coordinator, and says whether it found the run ended.
+pub(crate) fn coord_turn(coordinator: &mut Coordinator, board: &Board) -> bool
     requires here { coordinator.old.board ≡ board_id board.now }
     ensures goes_on { CoordGoesOn coordinator.old coordinator.new }
     ensures ended { IsBeforeEnd coordinator.old → result ≡ true → HasEndedJoined coordinator.new }

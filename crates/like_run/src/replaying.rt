@@ -1,7 +1,6 @@
-ghost use Rattle.std.specs.Prelude.{◌≡◌, ◌<◌, ◌≤◌, ℕ, All, IfErr, IfOk, IfSome, OnOk, length, map, slice_index};
+ghost use Rattle.std.specs.Prelude.{◌≡◌, ◌≤◌, All, IfErr, IfOk, OnOk, length, map};
 ghost use Rattle.like_requests.specs.Setup.{IsPlan, IsWithinLimits};
-ghost use Rattle.like_board.specs.Seats.{AreAll, board_id, coord_board, coord_view, last_count, seat_board, seat_meaning};
-ghost use Rattle.like_core.specs.declared.worker_state.WorkerState.TheVariants.{Gone};
+ghost use Rattle.like_board.specs.Seats.{board_id, coord_board, coord_view};
 ghost use Rattle.like_roles.specs.New.{IsWithin};
 ghost use Rattle.like_run.specs.declared.script_file.TheConstants.{MAX_ENTRIES};
 ghost use Rattle.like_run.specs.EndToEnd.{IsEndToEnd};
@@ -10,10 +9,12 @@ ghost use Rattle.like_run.specs.Replayed.{Fits, IsReplayFault, IsRunFault};
 ghost use Rattle.like_run.specs.Scripted.{IsThere};
 ghost use Rattle.like_run.specs.Stage.{IsEnded};
 
-use crate::gathering::{last_likes, replies_of};
-use crate::making::{counts_of, servers_of, sizes_of, split_marks};
-use crate::playing::{Ended, play};
+use crate::ended::Ended;
+use crate::making::servers_of;
+use crate::playing::play;
+use crate::preparing::{Prepared, prepare};
 use crate::replay_fault::ReplayFault;
+use crate::reporting::report_of;
 use crate::scripted::check_script;
 use crate::servers::finish_all;
 use crate::turned::Turned;
@@ -22,6 +23,7 @@ use like_replies::Report;
 use like_requests::{Request, Setup, check_setup};
 use like_roles::Coordinator;
 use std::alloc::Global;
+use std::snapshot::Snapshot;
 
 /// Replays a run on one thread. First the script's entries are made in their order; then all lists are opened, and
 /// rounds follow: one turn of the coordinator, and one of each worker in order. It ends with the round in which the
@@ -55,26 +57,16 @@ fn replay_within(
     ensures report { IfOk result (IsEndToEnd (service_of setup.now (map (λ plan. plan.items) plans.items)) setup.now.workers) }
     ensures fault { IfErr result IsRunFault }
 {
-    let sizes = sizes_of(alloc, &plans)?;
-    let counts = counts_of(alloc, &setup.pages)?;
-    let marks = split_marks(alloc, &setup.pages)?;
-    let (board, coord, seats) = Board::new(alloc, setup.workers, &counts, &marks)?;
-    let Ended {
-        logs,
-        seats,
-        phases,
-        coord,
-    } = run_on(alloc, setup, &sizes, &board, coord, seats, plans, script)?;
-    let counts = final_counts(board, coord, seats, counts);
-    let replies = replies_of(alloc, &sizes, &logs)?;
-    let last = last_likes(alloc, setup.users, sizes.len() as u32, &logs)?;
-    Ok(Report {
-        logs,
-        replies,
+    let Prepared {
+        sizes,
         counts,
-        last,
-        phases,
-    })
+        board,
+        coord,
+        seats,
+    } = prepare(alloc, setup, &plans)?;
+    let asked = Snapshot::of(&plans);
+    let ended = run_on(alloc, setup, &sizes, &board, coord, seats, plans, script)?;
+    Ok(report_of(alloc, setup, &asked, &sizes, counts, board, ended)?)
 }
 
 // Plays the script and the rounds on a board, and takes everything apart.
@@ -109,25 +101,4 @@ fn run_on(
         phases: coordinator.phase(),
         coord: coordinator.finish(),
     })
-}
-
-// Ends the board, and gives the final counts in place of the initial ones.
-fn final_counts(
-    board: Board,
-    coord: CoordSeat,
-    seats: Vec<WorkerSeat>,
-    initial: Vec<u64>,
-) -> Vec<u64>
-    requires coord_here { coord_board coord ≡ board_id board }
-    requires seats_here { All (λ seat. seat_board seat ≡ board_id board) seats.items }
-    requires all { AreAll (coord_view coord).setting.workers seats.items }
-    requires gone { All (λ seat. (seat_meaning seat).state ≡ Gone) seats.items }
-    requires places { length initial.items ≡ length (coord_view coord).setting.counts }
-    ensures len { length result.items ≡ length initial.items }
-    ensures counts { (page : ℕ) → page < length initial.items → slice_index result.items page ≡ last_count (coord_view coord).setting seats.items page }
-    ensures phases { All (λ seat. IfSome (seat_meaning seat).last (λ sight. sight.number ≤ (coord_view coord).phase)) seats.items }
-{
-    let mut counts = initial;
-    board.close(coord, seats, &mut counts);
-    counts
 }

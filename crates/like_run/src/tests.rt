@@ -3,5 +3,6 @@ mod by_the_tables;
 mod cases;
 mod drawn;
 mod replays;
+mod runs;
 mod scripts;
 mod turns;

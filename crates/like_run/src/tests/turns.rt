@@ -14,7 +14,8 @@ use super::cases::{
     Case, FULL_STASH, IDLE_WORKERS, LATE_WORKER, PLAIN_LIKES, SPLIT_AND_STASH, STASH_THEN_LIKE,
     TWO_SLICES, turns,
 };
-use crate::making::{counts_of, servers_of, sizes_of, split_marks};
+use crate::making::servers_of;
+use crate::preparing::{Prepared, prepare};
 use crate::scripted::check_script;
 use crate::server::Server;
 use crate::servers::open_one;
@@ -109,10 +110,13 @@ fn answers_within(
     requires within { IsWithinLimits setup.now (map (λ plan. plan.items) plans.items) }
     requires script { All (IsThere setup.now.workers (length plans.items)) script.now }
 {
-    let sizes = sizes_of(alloc, &plans)?;
-    let counts = counts_of(alloc, &setup.pages)?;
-    let marks = split_marks(alloc, &setup.pages)?;
-    let (board, coord, seats) = Board::new(alloc, setup.workers, &counts, &marks)?;
+    let Prepared {
+        sizes,
+        board,
+        coord,
+        seats,
+        ..
+    } = prepare(alloc, setup, &plans)?;
     answers_on(alloc, setup, &sizes, &board, coord, seats, plans, script)
 }
 

@@ -1,0 +1,57 @@
+use Rattle.std.proofs.Common.{◌≡◌, ◌≤◌, ◌∙◌, ℕ, List, Vec, Global, Bool, length, map, sym, ap, subst, arith}
+use Rattle.std.specs.List.{All}
+use Rattle.std.proofs.lemmas.List.{length-map}
+use Rattle.like_requests.specs.Pages.{Page}
+use Rattle.like_requests.specs.Setup.{IsPlan}
+use Rattle.like_requests.specs.declared.request.Request.{Request}
+use Rattle.like_requests.specs.declared.pages.TheConstants.{MAX_COUNT}
+use Rattle.like_requests.specs.declared.setup.TheConstants.{MAX_REQUESTS}
+use Rattle.like_core.specs.declared.view.CoordView.{CoordView}
+use Rattle.like_board.specs.Seats.{board_id}
+use Rattle.like_run.proofs.Ending.{new-seats}
+use Rattle.like_run.proofs.Makings.{all-back, all-map, map-twice}
+use Rattle.like_run.proofs.preparing.prepare.Goals as goal
+
+abbrev requests_of : Vec Request Global → List Request
+requests_of plan = plan.items
+
+pub sizes_of-requires : goal.sizes_of-requires
+sizes_of-requires c = λ k d within. (all-back requests_of (IsPlan c.args.setup.now.pages) c.args.plans.now c.requires.lists k d within).few
+
+pub new-requires-clause-counts : goal.new-requires-clause-counts
+new-requires-clause-counts c =
+    subst (λ (xs : List ℕ). All (λ n. n ≤ MAX_COUNT) xs) (sym (c.deref.ensures.value ∙ c.in_ok-counts.ensures.counts))
+    (all-map (λ (p : Page). p.count) (λ n. n ≤ MAX_COUNT) c.args.setup.now.pages c.counts_of.ensures.pages.entries.counted)
+
+pub returns : goal.returns
+returns c =
+    let n = c.requires.numbers in
+    let sized : c.in_ok-sizes.sizes.items ≡ map (λ (p : Vec Request Global). length p.items) c.args.plans.now = c.in_ok-sizes.ensures in
+    let len : length c.in_ok-sizes.sizes.items ≡ length (map requests_of c.args.plans.now) =
+    ap (λ (xs : List ℕ). length xs) sized ∙ length-map c.args.plans.now (λ (p : Vec Request Global). length p.items) ∙ sym (length-map c.args.plans.now requests_of) in
+    let counts : c.deref.result.now ≡ map (λ (p : Page). p.count) c.args.setup.now.pages = c.deref.ensures.value ∙ c.in_ok-counts.ensures.counts in
+    let marks : c.deref-2.result.now ≡ map (λ (p : Page). p.split) c.args.setup.now.pages = c.deref-2.ensures.value ∙ c.in_ok-marks.ensures in
+    record {
+      sizes = sized ∙ map-twice requests_of length c.args.plans.now;
+      within = record {
+        some_workers = n.0.0;
+        few_workers = n.0.1;
+        some_submitters = omega (arith, len, n.1.0.0);
+        few_submitters = omega (arith, len, n.1.0.1);
+        users = n.1.1.0.1;
+        some_stash = n.1.1.1.0.0;
+        few_stash = n.1.1.1.0.1;
+        small = subst (λ (xs : List ℕ). All (λ m. m ≤ MAX_REQUESTS) xs) (sym sized)
+            (all-map (λ (p : Vec Request Global). length p.items) (λ m. m ≤ MAX_REQUESTS) c.args.plans.now
+            (λ k d within. (all-back requests_of (IsPlan c.args.setup.now.pages) c.args.plans.now c.requires.lists k d within).few));
+      };
+      counts = c.in_ok-counts.ensures.counts;
+      coord = c.in_ok-board.ensures.coord_here;
+      start = ap (λ (v : CoordView). v.phase) c.in_ok-board.ensures.coord;
+      setting = ap (λ (v : CoordView). v.setting) c.in_ok-board.ensures.coord
+          ∙ ap (λ (xs : List ℕ). record { workers = c.args.setup.now.workers; counts = xs; marks = c.deref-2.result.now }) counts
+          ∙ ap (λ (xs : List Bool). record { workers = c.args.setup.now.workers; counts = map (λ (p : Page). p.count) c.args.setup.now.pages; marks = xs }) marks;
+      workers = c.in_ok-board.ensures.seats;
+      seats = new-seats (board_id c.in_ok-board.board) (record { workers = c.args.setup.now.workers; counts = c.deref.result.now; marks = c.deref-2.result.now }) c.args.setup.now.pages c.in_ok-board.seats.items marks
+          c.in_ok-board.ensures.views;
+    }

@@ -1,0 +1,146 @@
+//! Runs on threads. What is asserted of them is the same on every schedule.
+use super::cases::{Case, PLAIN_LIKES};
+use crate::{RunFault, run};
+use like_replies::Report;
+use like_requests::{Op, PageRef, Request, SettingsFault};
+use like_roles::{Gate, NoGate, Reply};
+use std::alloc::Global;
+use std::process::Abort;
+use std::sync::atomic::{AtomicU32, Ordering};
+use std::thread::yield_now;
+
+// A run of one page that is split, whose requests are given by `likes`.
+const ONE_PAGE: Case = Case {
+    workers: 2,
+    users: 2,
+    stash: 256,
+    turns: 1_000,
+    pages: "a,0,yes\n",
+    requests: &[],
+    script: "",
+};
+
+// How many times a gate looks before it gives up.
+const LOOKS: u32 = 1 << 24;
+
+// For each submitter so many likes of the page by the user of its number.
+fn likes(rt: &impl Abort, alloc: Global, submitters: u32, each: u32) -> Vec<Vec<Request>> {
+    let mut plans = Vec::new(alloc);
+    for user in 0..submitters {
+        let like = Request {
+            op: Op::Like,
+            user,
+            page: PageRef::Known(0),
+        };
+        let mut plan = Vec::new(alloc);
+        for _ in 0..each {
+            assert!(rt; plan.push(like).is_ok());
+        }
+        assert!(rt; plans.push(plan).is_ok());
+    }
+    plans
+}
+
+// Asserts that so many submitters have so many replies each, all of them `Liked`, and that so many users like the page,
+// whose count this is.
+fn assert_liked(
+    rt: &impl Abort,
+    report: &Report,
+    submitters: usize,
+    each: usize,
+    users: usize,
+    count: u64,
+) {
+    assert_eq!(rt; report.replies.rows.len(), submitters);
+    for row in report.replies.rows.iter() {
+        assert_eq!(rt; row.len(), each);
+        for answer in row {
+            assert_eq!(rt; answer.reply, Reply::Liked);
+        }
+    }
+    assert_eq!(rt; report.counts.as_slice(), [count].as_slice());
+    assert_eq!(rt; report.last.len(), users);
+    for last in report.last.iter() {
+        assert_eq!(rt; *last, Some(0));
+    }
+    assert!(rt; report.phases % 2 == 0);
+}
+
+#[test]
+fn runs_plain_likes(rt: HostRuntime) {
+    let setup = PLAIN_LIKES.setup(&rt, rt.alloc());
+    let plans = PLAIN_LIKES.plans(&rt, rt.alloc(), &setup);
+    let report = run(&rt, rt.alloc(), &setup, plans, &NoGate).expect(&rt, "a report");
+    assert_liked(&rt, &report, 1, 3, 2, 13);
+}
+
+#[test]
+fn runs_many_submitters(rt: HostRuntime) {
+    for turns in [0, 1_000] {
+        let case = Case {
+            workers: 16,
+            users: 64,
+            turns,
+            ..ONE_PAGE
+        };
+        let setup = case.setup(&rt, rt.alloc());
+        let plans = likes(&rt, rt.alloc(), 64, 1_000);
+        let report = run(&rt, rt.alloc(), &setup, plans, &NoGate).expect(&rt, "a report");
+        assert_liked(&rt, &report, 64, 1_000, 64, 64_000);
+    }
+}
+
+// A gate at which each of two workers waits in phase 0 for the other.
+#[derive(Drop)]
+struct Meeting {
+    there: AtomicU32,
+    given_up: AtomicU32,
+}
+
+impl Gate for Meeting {
+    fn push(&self, _s: u32, _n: u32) {}
+
+    fn run(&self, _w: u32, _s: u32, _n: u32) {}
+
+    fn phase(&self, _w: u32, k: u32) {
+        if k > 0 {
+            return;
+        }
+        self.there.fetch_add(1, Ordering::SeqCst);
+        for _ in 0..LOOKS {
+            if self.there.load(Ordering::SeqCst) == 2 {
+                return;
+            }
+            yield_now();
+        }
+        self.given_up.fetch_add(1, Ordering::SeqCst);
+    }
+}
+
+#[test]
+fn runs_workers_side_by_side(rt: HostRuntime) {
+    let setup = ONE_PAGE.setup(&rt, rt.alloc());
+    let plans = likes(&rt, rt.alloc(), 2, 1);
+    let gate = Meeting {
+        there: AtomicU32::new(0),
+        given_up: AtomicU32::new(0),
+    };
+    let report = run(&rt, rt.alloc(), &setup, plans, &gate).expect(&rt, "a report");
+    assert_eq!(rt; gate.there.load(Ordering::SeqCst), 2);
+    assert_eq!(rt; gate.given_up.load(Ordering::SeqCst), 0);
+    assert_liked(&rt, &report, 2, 1, 2, 2);
+}
+
+#[test]
+fn names_the_limit_that_a_run_breaks(rt: HostRuntime) {
+    let case = Case {
+        workers: 17,
+        ..ONE_PAGE
+    };
+    let setup = case.setup(&rt, rt.alloc());
+    let plans = likes(&rt, rt.alloc(), 2, 1);
+    match run(&rt, rt.alloc(), &setup, plans, &NoGate) {
+        Ok(_) => panic!(rt; "a report"),
+        Err(fault) => assert_eq!(rt; fault, RunFault::Settings(SettingsFault::Workers)),
+    }
+}
