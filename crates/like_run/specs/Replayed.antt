@@ -14,10 +14,10 @@ pub record Fits (setup : Setup) (plans : List (List Request)) (script : List Tur
   pub there : All (IsThere setup.workers (length plans)) script
 
 -- no fault of the settings, the lists or the script
-abbrev pub IsRunFault : ReplayFault → Type 0
-IsRunFault (Settings why) = ⊥
-IsRunFault Memory = ⊤
-IsRunFault Unfinished = ⊤
+abbrev pub IsFaultUnderWay : ReplayFault → Type 0
+IsFaultUnderWay (Settings why) = ⊥
+IsFaultUnderWay Memory = ⊤
+IsFaultUnderWay Unfinished = ⊤
 
 -- the first limit that the settings and the lists break, or else the first entry of the script that is away; or else
 -- memory ran out, or the run did not end

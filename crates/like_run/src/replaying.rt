@@ -5,7 +5,7 @@ ghost use Rattle.like_roles.specs.New.{IsWithin};
 ghost use Rattle.like_run.specs.declared.script_file.TheConstants.{MAX_ENTRIES};
 ghost use Rattle.like_run.specs.EndToEnd.{IsEndToEnd};
 ghost use Rattle.like_run.specs.Made.{AreNewSeats, service_of};
-ghost use Rattle.like_run.specs.Replayed.{Fits, IsReplayFault, IsRunFault};
+ghost use Rattle.like_run.specs.Replayed.{Fits, IsReplayFault, IsFaultUnderWay};
 ghost use Rattle.like_run.specs.Scripted.{IsThere};
 ghost use Rattle.like_run.specs.Stage.{IsEnded};
 
@@ -55,7 +55,7 @@ fn replay_within(
     requires within { IsWithinLimits setup.now (map (λ plan. plan.items) plans.items) }
     requires script { All (IsThere setup.now.workers (length plans.items)) script.now }
     ensures report { IfOk result (IsEndToEnd (service_of setup.now (map (λ plan. plan.items) plans.items)) setup.now.workers) }
-    ensures fault { IfErr result IsRunFault }
+    ensures fault { IfErr result IsFaultUnderWay }
 {
     let Prepared {
         sizes,
@@ -89,7 +89,7 @@ fn run_on(
     requires coord_new { (coord_view coord).phase ≡ 0 }
     requires script { All (IsThere setup.now.workers (length plans.items)) script.now }
     ensures ended { IfOk result (IsEnded (service_of setup.now (map (λ plan. plan.items) plans.items)) setup.now.workers (board_id board.now) (coord_view coord).setting) }
-    ensures fault { IfErr result IsRunFault }
+    ensures fault { IfErr result IsFaultUnderWay }
 {
     let mut servers = servers_of(alloc, setup, sizes, board, seats, plans)?;
     let mut coordinator = Coordinator::new(coord, setup.turns);

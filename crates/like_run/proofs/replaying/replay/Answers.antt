@@ -9,7 +9,7 @@ use Rattle.like_replies.specs.declared.report.Report.{Report}
 use Rattle.like_run.specs.declared.replay_fault.ReplayFault.{ReplayFault}
 use Rattle.like_run.specs.declared.replay_fault.ReplayFault.TheVariants.{Settings, Memory, Unfinished}
 use Rattle.like_run.specs.declared.turned.Turned.{Turned}
-use Rattle.like_run.specs.Replayed.{Fits, IsReplayFault, IsRunFault}
+use Rattle.like_run.specs.Replayed.{Fits, IsReplayFault, IsFaultUnderWay}
 use Rattle.like_run.specs.Scripted.{IsFirstAway, IsThere}
 use Rattle.like_run.proofs.replaying.replay.Goals as goal
 
@@ -41,7 +41,7 @@ when-fits : (setup : Setup) (plans : List (List Request)) (script : List Turned)
 when-fits setup plans script (Ok report) fits = fits
 when-fits setup plans script (Err fault) fits = tt
 
-run-fault : (setup : Setup) (plans : List (List Request)) (script : List Turned) (r : Result Report ReplayFault) → Fits setup plans script → IfErr r IsRunFault → IfErr r (IsReplayFault setup plans script)
+run-fault : (setup : Setup) (plans : List (List Request)) (script : List Turned) (r : Result Report ReplayFault) → Fits setup plans script → IfErr r IsFaultUnderWay → IfErr r (IsReplayFault setup plans script)
 run-fault setup plans script (Ok report) fits h = tt
 run-fault setup plans script (Err (Settings why)) fits h = absurd h
 run-fault setup plans script (Err Memory) fits h = fits
