@@ -1,5 +1,5 @@
 -- What a replay has done, or why it has not.
-use Rattle.std.specs.Prelude.{◌≡◌, ℕ, List, length, Option, ⊤}
+use Rattle.std.specs.Prelude.{◌≡◌, ℕ, List, length, is_some, Option, ⊤}
 use Rattle.std.specs.Io.KnownBytes.{Appends}
 use Rattle.like_requests.specs.Pages.{Page}
 use Rattle.like_requests.specs.declared.request.Request.{Request}
@@ -45,10 +45,11 @@ pub record IsReplayed (options : Options) (inputs : Inputs) (old new : Option (L
   pub right : IsEndToEnd (service_of (setup_of options pages) plans) options.workers report
   pub written : Appends old new (report_text pages (reported report))
 
--- some files were replayed, as many request files as the options name
+-- some files were replayed, as many request files as the options name, and with a script just where they name one
 pub record HasReplayed (options : Options) (old new : Option (List ℕ)) : Type 0 where
   pub inputs : Inputs
   pub all_requests : length inputs.requests ≡ length options.requests.items
+  pub scripted : is_some inputs.script ≡ is_some options.script
   pub replayed : IsReplayed options inputs old new
 
 -- the request files were refused, where the pages file gives these pages

@@ -226,6 +226,11 @@ fn split_and_stash(rt: HostRuntime) {
 }
 
 // Worker 0 has not looked at phase 2 when its end is announced, and goes through it all the same.
+/// The script of `late-worker`.
+pub const LATE_WORKER: &str = "turn,index\nopen,1\nopen,1\ncoordinator,0\nworker,0\nworker,1\n\
+    coordinator,0\nworker,1\nworker,1\ncoordinator,0\nworker,0\nworker,1\ncoordinator,0\n\
+    coordinator,0\nworker,1\nworker,1\nworker,1\n";
+
 #[test]
 fn late_worker(rt: HostRuntime) {
     let case = Case {
@@ -234,11 +239,7 @@ fn late_worker(rt: HostRuntime) {
         turns: 0,
         pages: "name,count,split\na,0,yes\n",
         requests: &["op,user,page\n", "op,user,page\nlook,1,a\nlook,1,a\n"],
-        script: Some(
-            "turn,index\nopen,1\nopen,1\ncoordinator,0\nworker,0\nworker,1\ncoordinator,0\n\
-            worker,1\nworker,1\ncoordinator,0\nworker,0\nworker,1\ncoordinator,0\n\
-            coordinator,0\nworker,1\nworker,1\nworker,1\n",
-        ),
+        script: Some(LATE_WORKER),
         ..LONE
     };
     assert_report(

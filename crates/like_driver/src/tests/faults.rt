@@ -1,6 +1,7 @@
 //! The line and the status of each fault.
 
 use super::examples::options;
+use super::refusals::Full;
 use crate::fault::DriverFault;
 use crate::options::Options;
 use like_requests::{PagesFault, RequestsFault, SettingsFault};
@@ -9,7 +10,7 @@ use std::alloc::Global;
 use std::process::Abort;
 use std::test::Fail;
 
-// Asserts what a fault's line and status are.
+// Asserts what a fault's line and status are, and that a line that can't be written is told.
 fn assert_line(
     rt: &impl Abort,
     alloc: Global,
@@ -21,6 +22,7 @@ fn assert_line(
     let mut line = Vec::new(alloc);
     assert!(rt; fault.line(options, &mut line));
     assert_eq!(rt; line.as_slice(), want.as_bytes());
+    assert!(rt; !fault.line(options, &mut Full { writes_left: 0 }));
     assert_eq!(rt; fault.status(), status);
 }
 

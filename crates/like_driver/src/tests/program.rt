@@ -1,4 +1,5 @@
 //! The program on files, by `serve_words`.
+use super::examples::LATE_WORKER;
 use crate::program::serve_words;
 use std::alloc::{AllocError, Global};
 use std::fs;
@@ -37,6 +38,32 @@ fn replays_files(rt: HostRuntime) -> Result<(), Fail> {
     let want =
         "row,id,number,phase,answer,page,count\nreply,0,1,0,liked,,\nreply,0,2,0,unknown-page,,\n\
         page,0,,,,a,11\nuser,0,,,,a,\n";
+    assert_eq!(rt; out.as_slice(), want.as_bytes());
+    assert_eq!(rt; errors.as_slice(), b"".as_slice());
+    assert_eq!(rt; status, 0);
+    Ok(())
+}
+
+// The files of `late-worker` with a request of a user who is not there, by the options and the script that are named:
+// with other numbers, in another order or without the script, the requests would run in other phases.
+#[test]
+fn replays_by_the_options(rt: HostRuntime) -> Result<(), Fail> {
+    fs::write(&rt, "late-p.csv", "name,count,split\na,0,yes\n")?;
+    fs::write(&rt, "late-0.csv", "op,user,page\n")?;
+    fs::write(
+        &rt,
+        "late-1.csv",
+        "op,user,page\nlook,1,a\nlook,1,a\nlook,3,a\n",
+    )?;
+    fs::write(&rt, "late-s.csv", LATE_WORKER)?;
+    let words =
+        "replay --workers 2 --users 2 --turns 0 --script late-s.csv late-p.csv late-0.csv late-1.csv";
+    let (status, out, errors) = served(&rt, words)?;
+    for name in ["late-p.csv", "late-0.csv", "late-1.csv", "late-s.csv"] {
+        fs::remove_file(&rt, name)?;
+    }
+    let want = "row,id,number,phase,answer,page,count\nreply,1,1,2,seen,,0\nreply,1,2,2,seen,,0\n\
+        reply,1,3,3,unknown-user,,\npage,0,,,,a,0\n";
     assert_eq!(rt; out.as_slice(), want.as_bytes());
     assert_eq!(rt; errors.as_slice(), b"".as_slice());
     assert_eq!(rt; status, 0);

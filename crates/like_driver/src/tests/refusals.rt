@@ -42,10 +42,10 @@ impl Read for Shaky {
     }
 }
 
-// A writer of up to ten bytes a write, which fails once it was written to so many times.
+/// A writer of up to ten bytes a write, which fails once it was written to so many times.
 #[derive(Drop)]
-struct Full {
-    writes_left: usize,
+pub struct Full {
+    pub writes_left: usize,
 }
 
 impl Write for Full {
