@@ -1,5 +1,5 @@
--- What clap finds in words that ask for a replay.
-use Rattle.std.proofs.Common.{◌≡◌, ◌∙◌, ◌||◌, ℕ, Bool, cond, true, false, not, refl, sym, ap, subst, arith, codes, List, [], ◌∷◌, ◌++◌, take, drop, Option, Some, None, Result, Ok, Err, IfOk, IfErr, MatchResult, true≢false, is_some}
+-- What clap finds in words that ask for a run or a replay.
+use Rattle.std.proofs.Common.{◌≡◌, ◌∙◌, ◌||◌, ℕ, Bool, cond, true, false, not, refl, sym, ap, ap₂, inl, inr, subst, arith, codes, List, [], ◌∷◌, ◌++◌, take, drop, Option, Some, None, Result, Ok, Err, IfOk, IfErr, MatchResult, true≢false, is_some}
 use Rattle.std.specs.Prelude.{pos, option_map}
 use Rattle.std.specs.List.{find, fold, slice_index_or}
 use Rattle.std.specs.Option.{option_map_or}
@@ -27,7 +27,9 @@ use Rattle.clap.specs.declared.builder.value_parser.ValueParser.{ValueParser}
 use Rattle.clap.specs.declared.builder.value_parser.ValueParser.TheVariants as vp
 use Rattle.clap.specs.declared.parser.matches.ValueSource.{ValueSource}
 use Rattle.clap.specs.declared.parser.matches.ValueSource.TheVariants.{DefaultValue}
-use Rattle.like_driver.specs.CommandLine.{HasNumber, HasReplay, likes, replay_command}
+use Rattle.like_driver.specs.declared.asked.Asked.{Asked}
+use Rattle.like_driver.specs.declared.asked.Asked.TheVariants.{Run, Replay, Help}
+use Rattle.like_driver.specs.CommandLine.{Asks, Gives, GivesReplay, GivesRun, HasAll, HasNumber, IsEntered, likes, replay_command, run_command}
 use Rattle.like_driver.proofs.Walked.{AllFit, FirstPasses, Good, IsGood, good_defaults, good_settled, good_walk, neither, some_kind}
 
 -- ---- rows that are there
@@ -145,19 +147,34 @@ given_row id (r ∷ rs) h = go (bytes_eq r.id id) h (given_row id rs)
     go true e rest = refl
     go false e rest = rest e
 
--- ---- the subcommand `replay` as it is built
+-- ---- the subcommands as they are built
+
+abbrev built_sub : Shape → Shape
+built_sub s = built_leaf (inherited (with_leaf_noted (marked_built likes.top)) s)
+
+abbrev run_built : Shape
+run_built = built_sub run_command
+
+abbrev run_rules : List Rule
+run_rules = run_built.rules
+
+abbrev run_rule_at : ℕ → Rule
+run_rule_at i = slice_index_or run_rules i (new_rule [])
+
+run_rules_fit : AllFit run_rules run_rules
+run_rules_fit = (record { own = refl; some = refl }, (record { own = refl; some = refl }, (record { own = refl; some = refl }, (record { own = refl; some = refl }, (record { own = refl; some = refl }, (record { own = refl; some = refl }, (record { own = refl; some = tt }, tt)))))))
 
 abbrev replay_built : Shape
-replay_built = built_leaf (inherited (with_leaf_noted (marked_built likes.top)) replay_command)
+replay_built = built_sub replay_command
 
-abbrev rules : List Rule
-rules = replay_built.rules
+abbrev replay_rules : List Rule
+replay_rules = replay_built.rules
 
-abbrev rule_at : ℕ → Rule
-rule_at i = slice_index_or rules i (new_rule [])
+abbrev replay_rule_at : ℕ → Rule
+replay_rule_at i = slice_index_or replay_rules i (new_rule [])
 
-rules_fit : AllFit rules rules
-rules_fit = (record { own = refl; some = refl }, (record { own = refl; some = refl }, (record { own = refl; some = refl }, (record { own = refl; some = refl }, (record { own = refl; some = refl }, (record { own = refl; some = refl }, (record { own = refl; some = refl }, (record { own = refl; some = tt }, tt))))))))
+replay_rules_fit : AllFit replay_rules replay_rules
+replay_rules_fit = (record { own = refl; some = refl }, (record { own = refl; some = refl }, (record { own = refl; some = refl }, (record { own = refl; some = refl }, (record { own = refl; some = refl }, (record { own = refl; some = refl }, (record { own = refl; some = refl }, (record { own = refl; some = tt }, tt))))))))
 
 -- a test of two that must both fail
 both_given : (a b : Bool) → cond (not a || (not b || false)) (MissingRequiredArgument ∷ []) [] ≡ []
@@ -166,41 +183,65 @@ both_given true true h = (refl, refl)
 both_given true false h = absurd (some_kind _ refl h)
 both_given false b h = absurd (some_kind _ refl h)
 
-replay_found : (words : List Text) → level_fault replay_built [] nothing_held words false [] ≡ [] → HasReplay (rows_after rules [] words)
-replay_found words none =
-    let end = (walk rules [] nothing_held words).held in
+run_found : (words : List Text) → level_fault run_built [] nothing_held words false [] ≡ [] → HasAll (rows_after run_rules [] words)
+run_found words none =
+    let end = (walk run_rules [] nothing_held words).held in
     let a = neither _ _ none in
     let b = neither _ _ a.1 in
     let c = neither _ _ b.1 in
-    let walked_good = good_walk replay_built rules_fit [] words (walk_from nothing_held) tt a.0 in
-    let settled_good = good_settled rules rules_fit replay_built.args_override_self end walked_good b.0 in
-    let start = (settled rules end).rows in
-    let good = good_defaults rules rules start rules_fit settled_good c.0 in
-    let rows = rows_after rules [] words in
+    let walked_good = good_walk run_built run_rules_fit [] words (walk_from nothing_held) tt a.0 in
+    let settled_good = good_settled run_rules run_rules_fit run_built.args_override_self end walked_good b.0 in
+    let start = (settled run_rules end).rows in
+    let good = good_defaults run_rules run_rules start run_rules_fit settled_good c.0 in
+    let rows = rows_after run_rules [] words in
     let given = both_given (is_given (codes "pages") rows) (is_given (codes "requests") rows) c.1 in
-    let pages = text_found rules (rule_at 5) rows good refl (given_row _ rows given.0) in
-    let requests = text_found rules (rule_at 6) rows good refl (given_row _ rows given.1) in
+    let pages = text_found run_rules (run_rule_at 4) rows good refl (given_row _ rows given.0) in
+    let requests = text_found run_rules (run_rule_at 5) rows good refl (given_row _ rows given.1) in
     record {
-      workers = number_found rules (rule_at 0) 1 16 rows good refl (has_default [] (rule_at 0) (drop 1 rules) (codes "4") start refl) refl;
-      users = number_found rules (rule_at 1) 1 1000000 rows good refl (has_default (take 1 rules) (rule_at 1) (drop 2 rules) (codes "1000") start refl) refl;
-      stash = number_found rules (rule_at 2) 1 4096 rows good refl (has_default (take 2 rules) (rule_at 2) (drop 3 rules) (codes "256") start refl) refl;
-      turns = number_found rules (rule_at 3) 0 1000000 rows good refl (has_default (take 3 rules) (rule_at 3) (drop 4 rules) (codes "1000") start refl) refl;
+      workers = number_found run_rules (run_rule_at 0) 1 16 rows good refl (has_default [] (run_rule_at 0) (drop 1 run_rules) (codes "4") start refl) refl;
+      users = number_found run_rules (run_rule_at 1) 1 1000000 rows good refl (has_default (take 1 run_rules) (run_rule_at 1) (drop 2 run_rules) (codes "1000") start refl) refl;
+      stash = number_found run_rules (run_rule_at 2) 1 4096 rows good refl (has_default (take 2 run_rules) (run_rule_at 2) (drop 3 run_rules) (codes "256") start refl) refl;
+      turns = number_found run_rules (run_rule_at 3) 0 1000000 rows good refl (has_default (take 3 run_rules) (run_rule_at 3) (drop 4 run_rules) (codes "1000") start refl) refl;
+      pages = (pages.0, pages.3);
+      requests = (requests.0 ∷ requests.1, requests.2, omega arith);
+    }
+
+replay_found : (words : List Text) → level_fault replay_built [] nothing_held words false [] ≡ [] → HasAll (rows_after replay_rules [] words)
+replay_found words none =
+    let end = (walk replay_rules [] nothing_held words).held in
+    let a = neither _ _ none in
+    let b = neither _ _ a.1 in
+    let c = neither _ _ b.1 in
+    let walked_good = good_walk replay_built replay_rules_fit [] words (walk_from nothing_held) tt a.0 in
+    let settled_good = good_settled replay_rules replay_rules_fit replay_built.args_override_self end walked_good b.0 in
+    let start = (settled replay_rules end).rows in
+    let good = good_defaults replay_rules replay_rules start replay_rules_fit settled_good c.0 in
+    let rows = rows_after replay_rules [] words in
+    let given = both_given (is_given (codes "pages") rows) (is_given (codes "requests") rows) c.1 in
+    let pages = text_found replay_rules (replay_rule_at 5) rows good refl (given_row _ rows given.0) in
+    let requests = text_found replay_rules (replay_rule_at 6) rows good refl (given_row _ rows given.1) in
+    record {
+      workers = number_found replay_rules (replay_rule_at 0) 1 16 rows good refl (has_default [] (replay_rule_at 0) (drop 1 replay_rules) (codes "4") start refl) refl;
+      users = number_found replay_rules (replay_rule_at 1) 1 1000000 rows good refl (has_default (take 1 replay_rules) (replay_rule_at 1) (drop 2 replay_rules) (codes "1000") start refl) refl;
+      stash = number_found replay_rules (replay_rule_at 2) 1 4096 rows good refl (has_default (take 2 replay_rules) (replay_rule_at 2) (drop 3 replay_rules) (codes "256") start refl) refl;
+      turns = number_found replay_rules (replay_rule_at 3) 0 1000000 rows good refl (has_default (take 3 replay_rules) (replay_rule_at 3) (drop 4 replay_rules) (codes "1000") start refl) refl;
       pages = (pages.0, pages.3);
       requests = (requests.0 ∷ requests.1, requests.2, omega arith);
     }
 
 -- ---- the words
 
-found_replay : (p : Text × List Text) → entered_fault (built likes) (Some p) ≡ []
+found_one : (p : Text × List Text) → entered_fault (built likes) (Some p) ≡ []
     → is_some (entered (built likes) (Some p)) ≡ true
-    → (rows : List Row) × (entered (built likes) (Some p) ≡ Some (codes "replay", rows)) × HasReplay rows
-found_replay p none has = go (answers_to p.0 (codes "replay", [])) none has
+    → (rows : List Row) × IsEntered (entered (built likes) (Some p)) rows × HasAll rows
+found_one p none has = go (answers_to p.0 (codes "run", [])) (answers_to p.0 (codes "replay", [])) none has
   where
-    go : (b : Bool) → option_map_or (λ s. level_fault s [] nothing_held p.1 false []) (cond b (Some replay_built) None) [] ≡ []
-        → is_some (option_map (λ s. rows_at s p.1) (cond b (Some replay_built) None)) ≡ true
-        → (rows : List Row) × (option_map (λ s. rows_at s p.1) (cond b (Some replay_built) None) ≡ Some (codes "replay", rows)) × HasReplay rows
-    go true e h = (rows_after rules [] p.1, refl, replay_found p.1 e)
-    go false e h = absurd (true≢false (sym h))
+    go : (b d : Bool) → option_map_or (λ s. level_fault s [] nothing_held p.1 false []) (cond b (Some run_built) (cond d (Some replay_built) None)) [] ≡ []
+        → is_some (option_map (λ s. rows_at s p.1) (cond b (Some run_built) (cond d (Some replay_built) None))) ≡ true
+        → (rows : List Row) × IsEntered (option_map (λ s. rows_at s p.1) (cond b (Some run_built) (cond d (Some replay_built) None))) rows × HasAll rows
+    go true d e h = (rows_after run_rules [] p.1, inl refl, run_found p.1 e)
+    go false true e h = (rows_after replay_rules [] p.1, inr refl, replay_found p.1 e)
+    go false false e h = absurd (true≢false (sym h))
 
 -- each step of a level that gives no kind gives none
 level_parts : (s : Shape) (names : Names) (h : Held) (words : List Text) (has : Bool) (below : Kinds) → level_fault s names h words has below ≡ []
@@ -220,48 +261,69 @@ top_level words false below none =
     let parts = level_parts (built likes).top (names_of (built likes)) nothing_held words false below none in
     absurd (some_kind _ refl parts.1)
 
--- words with no fault ask for a replay
-pub asks_replay : (words : List Text) → fault_of likes words ≡ []
-    → (rows : List Row) × (subcommand_of likes words ≡ Some (codes "replay", rows)) × HasReplay rows
-asks_replay words none = go (stop_after (built likes).top.rules (names_of (built likes)) words) none
+-- words with no fault enter a subcommand
+pub enters : (words : List Text) → fault_of likes words ≡ []
+    → (rows : List Row) × IsEntered (subcommand_of likes words) rows × HasAll rows
+enters words none = go (stop_after (built likes).top.rules (names_of (built likes)) words) none
   where
     go : (stop : Option (Text × List Text))
         → level_fault (built likes).top (names_of (built likes)) nothing_held words (is_some (entered (built likes) stop)) (entered_fault (built likes) stop) ≡ []
-        → (rows : List Row) × (entered (built likes) stop ≡ Some (codes "replay", rows)) × HasReplay rows
+        → (rows : List Row) × IsEntered (entered (built likes) stop) rows × HasAll rows
     go None e = absurd (true≢false (sym (top_level words false [] e).1))
     go (Some p) e =
         let parts = top_level words (is_some (entered (built likes) (Some p))) (entered_fault (built likes) (Some p)) e in
-        found_replay p parts.0 parts.1
+        found_one p parts.0 parts.1
 
 -- ---- the matches of the subcommand
 
--- the name and the rows of what was entered, apart
+-- the name of what was entered, and what was entered by its name and its rows
 entered_name : {B : Type 0} (f : B → Text) (g : B → List Row) (o : Option B) (name : Text) (rows : List Row) → option_map {U = Text × List Row} (λ b. (f b, g b)) o ≡ Some (name, rows)
     → option_map f o ≡ Some name
 entered_name f g None name rows e = absurd (none-some (name, rows) e)
 entered_name f g (Some b) name rows e = ap (option_map (λ p. p.0)) e
 
--- a parse that entered `replay` has that name
-pub replay_named : (m : ArgMatches) (rows : List Row) → subcommand_rows_of m ≡ Some (codes "replay", rows) → subcommand_name_of m ≡ Some (codes "replay")
-replay_named m rows e = entered_name _ _ (out-ArgMatches m).subcommand (codes "replay") rows e
+entered_whole : {B : Type 0} (f : B → Text) (g : B → List Row) (o : Option B) (name : Text) (rows : List Row) → option_map f o ≡ Some name
+    → option_map (λ (p : Text × List Row). p.1) (option_map {U = Text × List Row} (λ b. (f b, g b)) o) ≡ Some rows → option_map {U = Text × List Row} (λ b. (f b, g b)) o ≡ Some (name, rows)
+entered_whole f g None name rows e h = absurd (none-some name e)
+entered_whole f g (Some b) name rows e h = ap₂ (λ (x : Text) (y : List Row). Some (x, y)) (same_Some (f b) name e) (same_Some (g b) rows h)
 
--- the rows that a parse entered, by those that its subcommand has
-pub replay_rows : (m : ArgMatches) (inner : List Row) (rows : List Row) → subcommand_rows_of m ≡ Some (codes "replay", rows)
-    → option_map (λ (p : Text × List Row). p.1) (subcommand_rows_of m) ≡ Some inner → rows ≡ inner
-replay_rows m inner rows e has = same_Some rows inner (sym (ap (option_map (λ (p : Text × List Row). p.1)) e) ∙ has)
+-- a parse that entered this subcommand has its name
+pub named : (m : ArgMatches) (name : Text) (rows : List Row) → subcommand_rows_of m ≡ Some (name, rows) → subcommand_name_of m ≡ Some name
+named m name rows e = entered_name _ _ (out-ArgMatches m).subcommand name rows e
+
+-- a parse that has the name entered this subcommand
+pub whole : (m : ArgMatches) (name : Text) (rows : List Row) → subcommand_name_of m ≡ Some name → option_map (λ (p : Text × List Row). p.1) (subcommand_rows_of m) ≡ Some rows
+    → subcommand_rows_of m ≡ Some (name, rows)
+whole m name rows e h = entered_whole _ _ (out-ArgMatches m).subcommand name rows e h
+
+-- the rows that a parse entered are those that its subcommand has
+pub same_rows : (m : ArgMatches) (inner : List Row) (rows : List Row) → IsEntered (subcommand_rows_of m) rows → option_map (λ (p : Text × List Row). p.1) (subcommand_rows_of m) ≡ Some inner
+    → rows ≡ inner
+same_rows m inner rows (inl e) has = same_Some rows inner (sym (ap (option_map (λ (p : Text × List Row). p.1)) e) ∙ has)
+same_rows m inner rows (inr e) has = same_Some rows inner (sym (ap (option_map (λ (p : Text × List Row). p.1)) e) ∙ has)
+
+-- one of the names was entered
+pub one_named : (m : ArgMatches) (rows : List Row) → IsEntered (subcommand_rows_of m) rows → ¬ (subcommand_name_of m ≡ Some (codes "run")) → subcommand_name_of m ≡ Some (codes "replay")
+one_named m rows (inl e) no_run = absurd (no_run (named m (codes "run") rows e))
+one_named m rows (inr e) no_run = named m (codes "replay") rows e
+
+-- what a subcommand gives is what the words ask for
+pub asks : (words : List Text) (m : ArgMatches) (asked : Asked) → fault_of likes words ≡ [] → subcommand_rows_of m ≡ subcommand_of likes words → Gives (subcommand_rows_of m) asked → Asks words asked
+asks words m (Run options) none same h = (none, subst (λ found. GivesRun found options) same h)
+asks words m (Replay options) none same h = (none, subst (λ found. GivesReplay found options) same h)
+asks words m (Help text) none same h = absurd h
 
 -- ---- a parse
 
--- a parse that succeeds met no fault, and entered `replay` with what it needs
+-- a parse that succeeds met no fault, and entered a subcommand with what it needs
 pub parsed : (command : Command) (words : List Text) (m : ArgMatches) → app_of command ≡ likes
     → (is_simple_and_free (app_of command) ≡ true → fault_of (app_of command) words ≡ []) → HasMatchesOf (app_of command) words m
-    → (fault_of likes words ≡ []) × (rows : List Row) × (subcommand_rows_of m ≡ Some (codes "replay", rows))
-    × (subcommand_of likes words ≡ Some (codes "replay", rows)) × HasReplay rows
+    → (fault_of likes words ≡ []) × (subcommand_rows_of m ≡ subcommand_of likes words) × (rows : List Row) × IsEntered (subcommand_rows_of m) rows × HasAll rows
 parsed command words m same kinds matches =
     let none : fault_of likes words ≡ [] = subst (λ (a : App). fault_of a words ≡ []) same (kinds (ap is_simple_and_free same)) in
-    let found = asks_replay words none in
+    let found = enters words none in
     let entered_is = (matches (ap is_simple same)).1 ∙ ap (λ (a : App). subcommand_of a words) same in
-    (none, found.0, entered_is ∙ found.1, found.1, found.2)
+    (none, entered_is, found.0, subst (λ e. IsEntered e found.0) (sym entered_is) found.1, found.2)
 
 -- the kinds of fault of a parse that fails
 pub failed : (command : Command) (words : List Text) (e : Error) → app_of command ≡ likes

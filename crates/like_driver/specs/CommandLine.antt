@@ -1,5 +1,5 @@
 -- The command line, as what clap reads of it, and what words ask for.
-use Rattle.std.specs.Prelude.{◌≡◌, ◌≢◌, ◌≤◌, ◌<◌, ℕ, true, false, List, [], ◌∷◌, length, map, codes, pos, Some, option_map, IsSomeAnd, string_bytes, MatchResult, Result, ⊤}
+use Rattle.std.specs.Prelude.{◌≡◌, ◌≢◌, ◌≤◌, ◌<◌, ◌⊎◌, ℕ, true, false, List, [], ◌∷◌, ◌++◌, length, map, codes, pos, Option, None, Some, option_map, IsSomeAnd, string_bytes, MatchResult, Result, ⊤}
 use Rattle.std.specs.Str.Parse.{IsNumeral, digits_value, without_leading_plus}
 use Rattle.clap.specs.Kinds.{IsAmong}
 use Rattle.clap.specs.Lexer.{usize_max, without_minus}
@@ -11,7 +11,7 @@ use Rattle.clap.specs.declared.builder.value_parser.ValueParser.TheVariants as v
 use Rattle.clap.specs.declared.error.kind.ErrorKind.{ErrorKind}
 use Rattle.clap.specs.declared.error.kind.ErrorKind.TheVariants.{DisplayHelp}
 use Rattle.like_driver.specs.declared.asked.Asked.{Asked}
-use Rattle.like_driver.specs.declared.asked.Asked.TheVariants.{Replay, Help}
+use Rattle.like_driver.specs.declared.asked.Asked.TheVariants.{Run, Replay, Help}
 use Rattle.like_driver.specs.declared.options.Options.{Options}
 use Rattle.like_driver.specs.declared.parse_fault.ParseFault.{ParseFault}
 use Rattle.like_driver.specs.declared.parse_fault.ParseFault.TheVariants.{Usage, Memory}
@@ -43,25 +43,29 @@ required_list_rule name = record (new_rule name) {
   range = Some (record { start_inclusive = 1; end_inclusive = usize_max });
 }
 
--- the options and names of a replay
-abbrev pub replay_rules : List Rule
-replay_rules = number_rule (codes "workers") (codes "4") 1 16
+-- the options of a run's settings
+abbrev pub settings_rules : List Rule
+settings_rules = number_rule (codes "workers") (codes "4") 1 16
     ∷ number_rule (codes "users") (codes "1000") 1 1000000
     ∷ number_rule (codes "stash") (codes "256") 1 4096
     ∷ number_rule (codes "turns") (codes "1000") 0 1000000
-    ∷ text_rule (codes "script")
-    ∷ required_rule (codes "pages")
-    ∷ required_list_rule (codes "requests")
     ∷ []
 
+-- the names of the files of a run
+abbrev pub files_rules : List Rule
+files_rules = required_rule (codes "pages") ∷ required_list_rule (codes "requests") ∷ []
+
+abbrev pub run_command : Shape
+run_command = record (new_shape (codes "run")) { rules = settings_rules ++ files_rules }
+
 abbrev pub replay_command : Shape
-replay_command = record (new_shape (codes "replay")) { rules = replay_rules }
+replay_command = record (new_shape (codes "replay")) { rules = settings_rules ++ text_rule (codes "script") ∷ files_rules }
 
 -- the command line of the program: one of its subcommands is required, and the words have no name of the program
 abbrev pub likes : App
 likes = record {
   top = record (new_shape (codes "likes")) { is_leaf = false; no_binary_name = true; disable_help_subcommand = true; subcommand_required = true };
-  subs = replay_command ∷ [];
+  subs = run_command ∷ replay_command ∷ [];
 }
 
 -- a text writes a number: decimal digits, with a plus before them or not
@@ -77,8 +81,8 @@ abbrev pub HasNumber : List Row → Text → ℕ → ℕ → Type 0
 HasNumber rows name least most =
     (text : Text) × (one_of name rows ≡ Some (without_minus text)) × IsSignedIn (pos least) (pos most) text
 
--- clap found what a replay needs
-pub record HasReplay (rows : List Row) : Type 0 where
+-- clap found what a run and a replay need
+pub record HasAll (rows : List Row) : Type 0 where
   pub workers : HasNumber rows (codes "workers") 1 16
   pub users : HasNumber rows (codes "users") 1 1000000
   pub stash : HasNumber rows (codes "stash") 1 4096
@@ -86,27 +90,44 @@ pub record HasReplay (rows : List Row) : Type 0 where
   pub pages : (name : Text) × (first_of (codes "pages") rows ≡ Some name)
   pub requests : (names : List Text) × (all_of (codes "requests") rows ≡ Some names) × (0 < length names)
 
--- options have the values that clap found for a replay
+-- options have the values that clap found for a run or a replay, the script aside
 pub record HasValues (rows : List Row) (o : Options) : Type 0 where
   pub workers : IsNumber rows (codes "workers") 1 16 o.workers
   pub users : IsNumber rows (codes "users") 1 1000000 o.users
   pub stash : IsNumber rows (codes "stash") 1 4096 o.stash
   pub turns : IsNumber rows (codes "turns") 0 1000000 o.turns
-  pub script : first_of (codes "script") rows ≡ option_map string_bytes o.script
   pub pages : first_of (codes "pages") rows ≡ Some (string_bytes o.pages)
   pub requests : all_of (codes "requests") rows ≡ Some (map string_bytes o.requests.items)
   pub some_requests : 0 < length o.requests.items
 
--- the words ask for a replay with these options
-pub record AsksReplay (words : List Text) (o : Options) : Type 0 where
-  pub rows : List Row
-  pub faultless : fault_of likes words ≡ []
-  pub matched : subcommand_of likes words ≡ Some (codes "replay", rows)
-  pub values : HasValues rows o
+-- what was entered is one of the subcommands, with these rows
+abbrev pub IsEntered : Option (Text × List Row) → List Row → Type 0
+IsEntered entered rows = (entered ≡ Some (codes "run", rows)) ⊎ (entered ≡ Some (codes "replay", rows))
 
--- what the words ask for
+-- what was entered gives a run these options
+pub record GivesRun (entered : Option (Text × List Row)) (o : Options) : Type 0 where
+  pub rows : List Row
+  pub matched : entered ≡ Some (codes "run", rows)
+  pub values : HasValues rows o
+  pub script : o.script ≡ None
+
+-- what was entered gives a replay these options
+pub record GivesReplay (entered : Option (Text × List Row)) (o : Options) : Type 0 where
+  pub rows : List Row
+  pub matched : entered ≡ Some (codes "replay", rows)
+  pub values : HasValues rows o
+  pub script : first_of (codes "script") rows ≡ option_map string_bytes o.script
+
+-- what was entered asks for that
+abbrev pub Gives : Option (Text × List Row) → Asked → Type 0
+Gives entered (Run options) = GivesRun entered options
+Gives entered (Replay options) = GivesReplay entered options
+Gives entered (Help text) = ⊥
+
+-- what the words ask for: a run or a replay where they have no fault
 abbrev pub Asks : List Text → Asked → Type 0
-Asks words (Replay options) = AsksReplay words options
+Asks words (Run options) = (fault_of likes words ≡ []) × GivesRun (subcommand_of likes words) options
+Asks words (Replay options) = (fault_of likes words ≡ []) × GivesReplay (subcommand_of likes words) options
 Asks words (Help text) = IsAmong DisplayHelp (fault_of likes words)
 
 -- why the words ask for nothing: they have a fault that is no request for help, or want of memory

@@ -7,13 +7,15 @@ use Rattle.like_requests.specs.declared.requests_file.RequestsFault.TheVariants 
 use Rattle.like_requests.specs.declared.setup.SettingsFault.{SettingsFault}
 use Rattle.like_requests.specs.declared.setup.SettingsFault.TheVariants as settings
 use Rattle.like_driver.specs.declared.fault.DriverFault.{DriverFault}
-use Rattle.like_driver.specs.declared.fault.DriverFault.TheVariants.{Pages, Requests, Script, Settings, Unfinished, Write, Memory}
+use Rattle.like_driver.specs.declared.fault.DriverFault.TheVariants.{Pages, Requests, Script, Settings, Start, Unfinished, Write, Memory}
 use Rattle.like_driver.specs.declared.parse_fault.ParseFault.{ParseFault}
 use Rattle.like_driver.specs.declared.parse_fault.ParseFault.TheVariants as parse
 use Rattle.like_replies.specs.declared.write_fault.WriteFault.{WriteFault}
 use Rattle.like_replies.specs.declared.write_fault.WriteFault.TheVariants as write
 use Rattle.like_run.specs.declared.replay_fault.ReplayFault.{ReplayFault}
-use Rattle.like_run.specs.declared.replay_fault.ReplayFault.TheVariants as run
+use Rattle.like_run.specs.declared.replay_fault.ReplayFault.TheVariants as replay
+use Rattle.like_run.specs.declared.run_fault.RunFault.{RunFault}
+use Rattle.like_run.specs.declared.run_fault.RunFault.TheVariants as run
 use Rattle.like_run.specs.declared.script_file.ScriptFault.{ScriptFault}
 use Rattle.like_run.specs.declared.script_file.ScriptFault.TheVariants as script
 
@@ -30,11 +32,12 @@ own_line (Requests submitter fault) = None
 own_line (Script script.Memory) = Some memory_line
 own_line (Script fault) = None
 own_line (Settings fault) = None
+own_line Start = None
 own_line Unfinished = None
 own_line Write = Some (codes "likes: standard output: write failed\n")
 own_line Memory = Some memory_line
 
--- the statuses of faults: of the settings, of a file or the output, of memory, of a run that does not end
+-- the statuses of faults: of the settings, of a file or the output, of memory or a start, of a replay that does not end
 abbrev pub usage_status : ℕ
 usage_status = 2
 
@@ -69,15 +72,22 @@ status_of (Pages fault) = pages_status fault
 status_of (Requests submitter fault) = requests_status fault
 status_of (Script fault) = script_status fault
 status_of (Settings fault) = settings_status fault
+status_of Start = memory_status
 status_of Unfinished = unfinished_status
 status_of Write = file_status
 status_of Memory = memory_status
 
--- the fault that a fault of the run stands for
+-- the fault that a fault of a replay stands for
 abbrev pub fault_of_replay : ReplayFault → DriverFault
-fault_of_replay (run.Settings fault) = Settings fault
-fault_of_replay run.Unfinished = Unfinished
-fault_of_replay run.Memory = Memory
+fault_of_replay (replay.Settings fault) = Settings fault
+fault_of_replay replay.Unfinished = Unfinished
+fault_of_replay replay.Memory = Memory
+
+-- the fault that a fault of a run on threads stands for
+abbrev pub fault_of_run : RunFault → DriverFault
+fault_of_run (run.Settings fault) = Settings fault
+fault_of_run run.Start = Start
+fault_of_run run.Memory = Memory
 
 -- the fault that a fault of writing stands for
 abbrev pub fault_of : WriteFault → DriverFault

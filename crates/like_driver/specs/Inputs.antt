@@ -1,4 +1,4 @@
--- What the files of a replay give, as far as their bytes are known.
+-- What the files of a run or a replay give, as far as their bytes are known.
 use Rattle.std.specs.Prelude.{◌≡◌, ◌-◌, ◌^◌, ℕ, List, [], min, take, slice_get, Option, Some, None, IsSomeAnd, option_map, ⊤}
 use Rattle.std.specs.List.{AllZip}
 use Rattle.like_records.specs.Reading.{records_of}
@@ -68,5 +68,6 @@ RefusesPlans pages sources driver.Memory = ⊤
 RefusesPlans pages sources (driver.Pages fault) = ⊥
 RefusesPlans pages sources (driver.Script fault) = ⊥
 RefusesPlans pages sources (driver.Settings fault) = ⊥
+RefusesPlans pages sources driver.Start = ⊥
 RefusesPlans pages sources driver.Unfinished = ⊥
 RefusesPlans pages sources driver.Write = ⊥

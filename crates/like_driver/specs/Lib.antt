@@ -1,4 +1,5 @@
 pub mod CommandLine
 pub mod Faults
 pub mod Inputs
+pub mod Ran
 pub mod Replayed

@@ -16,7 +16,7 @@ use Rattle.like_run.specs.declared.replay_fault.ReplayFault.TheVariants as why
 use Rattle.like_run.specs.declared.script_file.ScriptFault.{ScriptFault}
 use Rattle.like_run.specs.declared.turned.Turned.{Turned}
 use Rattle.like_driver.specs.declared.fault.DriverFault.{DriverFault}
-use Rattle.like_driver.specs.declared.fault.DriverFault.TheVariants.{Pages, Requests, Script, Settings, Unfinished, Write, Memory}
+use Rattle.like_driver.specs.declared.fault.DriverFault.TheVariants.{Pages, Requests, Script, Settings, Start, Unfinished, Write, Memory}
 use Rattle.like_driver.specs.declared.options.Options.{Options}
 use Rattle.like_driver.specs.Inputs.{Inputs, GivesPages, GivesPlans, GivesScript, RefusesPages, RefusesPlans, RefusesScript}
 
@@ -88,6 +88,7 @@ IsReplayFault options inputs (Pages fault) = RefusesPages inputs.pages fault
 IsReplayFault options inputs (Requests submitter fault) = PlansRefused inputs (Requests submitter fault)
 IsReplayFault options inputs (Script fault) = ScriptRefused inputs fault
 IsReplayFault options inputs (Settings fault) = RunRefused options inputs (why.Settings fault)
+IsReplayFault options inputs Start = ⊥
 IsReplayFault options inputs Unfinished = RunRefused options inputs why.Unfinished
 IsReplayFault options inputs Write = CanReplay options inputs
 IsReplayFault options inputs Memory = ⊤
@@ -98,6 +99,7 @@ IsBeforeOutput (Pages fault) = ⊤
 IsBeforeOutput (Requests submitter fault) = ⊤
 IsBeforeOutput (Script fault) = ⊤
 IsBeforeOutput (Settings fault) = ⊤
+IsBeforeOutput Start = ⊤
 IsBeforeOutput Unfinished = ⊤
 IsBeforeOutput Write = ⊥
 IsBeforeOutput Memory = ⊥

@@ -1,7 +1,7 @@
-ghost use Rattle.std.specs.Prelude.{◌≡◌, IfOk, codes, false};
-ghost use Rattle.clap.specs.Words.{app_of, rule_of, shape_of};
+ghost use Rattle.std.specs.Prelude.{◌≡◌, IfOk, codes, false, fold};
+ghost use Rattle.clap.specs.Words.{app_of, rule_of, shape_of, with_rule};
 ghost use Rattle.clap.specs.declared.builder.command.Command.TheViews.{out-Command};
-ghost use Rattle.like_driver.specs.CommandLine.{likes, number_rule, replay_command, required_list_rule, required_rule, text_rule};
+ghost use Rattle.like_driver.specs.CommandLine.{likes, number_rule, replay_command, required_list_rule, required_rule, run_command, settings_rules, text_rule};
 
 use crate::help;
 use clap::builder::ValueParser;
@@ -65,22 +65,40 @@ fn requests_argument<'a>(alloc: Global) -> Arg<'a>
         .help(help::REQUESTS)
 }
 
-// The subcommand `replay`.
-fn replay<'a>(alloc: Global) -> Result<Command<'a>, AllocError>
-    ensures shape { IfOk result (λ c. shape_of c ≡ replay_command) }
-    ensures local { IfOk result (λ c. (out-Command c).has_globals ≡ false) }
+// The command with the options of a run's settings.
+fn with_settings<'a>(alloc: Global, command: Command<'a>) -> Result<Command<'a>, AllocError>
+    ensures rules { IfOk result (λ c. app_of c ≡ fold with_rule (app_of command.entry) settings_rules) }
+    ensures local { IfOk result (λ c. (out-Command command.entry).has_globals ≡ false → (out-Command c).has_globals ≡ false) }
 {
     let workers = number_option(alloc, "workers", "N", "4", 1, 16).help(help::WORKERS);
     let users = number_option(alloc, "users", "U", "1000", 1, 1_000_000).help(help::USERS);
     let stash = number_option(alloc, "stash", "C", "256", 1, 4_096).help(help::STASH);
     let turns = number_option(alloc, "turns", "T", "1000", 0, 1_000_000).help(help::TURNS);
-    Command::new(alloc, "replay")
+    command.arg(workers)?.arg(users)?.arg(stash)?.arg(turns)
+}
+
+// The subcommand `run`.
+fn run<'a>(alloc: Global) -> Result<Command<'a>, AllocError>
+    ensures shape { IfOk result (λ c. shape_of c ≡ run_command) }
+    ensures local { IfOk result (λ c. (out-Command c).has_globals ≡ false) }
+{
+    let command = Command::new(alloc, "run")
+        .about(help::RUN)
+        .after_help(help::RUN_FILES);
+    with_settings(alloc, command)?
+        .arg(pages_argument(alloc))?
+        .arg(requests_argument(alloc))
+}
+
+// The subcommand `replay`.
+fn replay<'a>(alloc: Global) -> Result<Command<'a>, AllocError>
+    ensures shape { IfOk result (λ c. shape_of c ≡ replay_command) }
+    ensures local { IfOk result (λ c. (out-Command c).has_globals ≡ false) }
+{
+    let command = Command::new(alloc, "replay")
         .about(help::REPLAY)
-        .after_help(help::FILES)
-        .arg(workers)?
-        .arg(users)?
-        .arg(stash)?
-        .arg(turns)?
+        .after_help(help::REPLAY_FILES);
+    with_settings(alloc, command)?
         .arg(script_option(alloc))?
         .arg(pages_argument(alloc))?
         .arg(requests_argument(alloc))
@@ -97,5 +115,6 @@ pub fn command<'a>(alloc: Global) -> Result<Command<'a>, AllocError>
         .disable_help_subcommand(true)
         .about(help::LIKES)
         .after_help(help::EXAMPLE)
+        .subcommand(run(alloc)?)?
         .subcommand(replay(alloc)?)
 }

@@ -5,7 +5,7 @@ ghost use Rattle.like_driver.specs.Faults.{own_line, status_of};
 use crate::options::Options;
 use like_replies::WriteFault;
 use like_requests::{PagesFault, Request, RequestsFault, SettingsFault};
-use like_run::{ReplayFault, ScriptFault};
+use like_run::{ReplayFault, RunFault, ScriptFault};
 use std::alloc::{AllocError, AllocFailed};
 use std::io::Write;
 
@@ -15,7 +15,7 @@ pub const WRITE_FAILED: &str = "likes: standard output: write failed\n";
 /// The line of memory that ran out.
 pub const OUT_OF_MEMORY: &str = "likes: out of memory\n";
 
-/// Why a replay ended without its report.
+/// Why a run or a replay ended without its report.
 #[derive(Clone, Copy, Debug, PartialEq, Eq)]
 pub enum DriverFault {
     Pages(PagesFault),
@@ -25,7 +25,9 @@ pub enum DriverFault {
     },
     Script(ScriptFault),
     Settings(SettingsFault),
-    /// The run did not end in 1,000,000 rounds.
+    /// A thread could not be started.
+    Start,
+    /// The replay did not end in 1,000,000 rounds.
     Unfinished,
     /// The output failed.
     Write,
@@ -92,6 +94,21 @@ impl From<ReplayFault> for DriverFault {
     }
 }
 
+impl From<RunFault> for DriverFault {
+    ghost use Rattle.std.specs.Prelude.{◌≡◌};
+    ghost use Rattle.like_driver.specs.Faults.{fault_of_run};
+
+    ghost from_gives = { λ why fault. fault ≡ fault_of_run why };
+
+    fn from(why: RunFault) -> DriverFault {
+        match why {
+            RunFault::Settings(fault) => DriverFault::Settings(fault),
+            RunFault::Start => DriverFault::Start,
+            RunFault::Memory => DriverFault::Memory,
+        }
+    }
+}
+
 impl From<WriteFault> for DriverFault {
     ghost use Rattle.std.specs.Prelude.{◌≡◌};
     ghost use Rattle.like_driver.specs.Faults.{fault_of};
@@ -118,6 +135,7 @@ impl DriverFault {
                 ..
             }
             | DriverFault::Script(ScriptFault::Memory)
+            | DriverFault::Start
             | DriverFault::Memory => 4,
             DriverFault::Settings(SettingsFault::Script { .. })
             | DriverFault::Pages(_)
@@ -155,6 +173,7 @@ impl DriverFault {
                 writeln!(out, "likes: {file}: {fault}").is_ok()
             }
             DriverFault::Settings(fault) => settings_line(*fault, options, out),
+            DriverFault::Start => writeln!(out, "likes: {}", RunFault::Start).is_ok(),
             DriverFault::Unfinished => {
                 writeln!(out, "likes: {}", ReplayFault::Unfinished).is_ok()
             }

@@ -1,17 +1,21 @@
 ghost use Rattle.std.specs.Prelude.{◌≡◌, IfErr, IfOk, OnOk, is_some, length};
+ghost use Rattle.like_driver.specs.Ran.{HasRunSome};
 ghost use Rattle.like_driver.specs.Replayed.{HasReplayed, IsBeforeOutput};
 
 use crate::fault::DriverFault;
 use crate::options::Options;
 use crate::replay::replay_files;
+use crate::run::run_files;
 use like_requests::{PagesFault, RequestsFault};
 use like_run::ScriptFault;
 use std::alloc::Global;
 use std::fs;
 use std::fs::Files;
 use std::io::{Read, Write};
+use std::sync::Wait;
+use std::thread::Threads;
 
-/// The files of a replay, opened and not yet read.
+/// The files of a run or a replay, opened and not yet read.
 #[derive(Drop)]
 pub struct Opened<R> {
     pub pages: R,
@@ -72,6 +76,27 @@ where
         }
     }
     Ok(opened)
+}
+
+/// Opens the files that the options name, and makes the run that they ask for, on threads, onto `out`.
+/// After `Write` and `Memory` nothing is said of how much was written.
+pub fn run_named<R: Files + Threads + Wait + Sync, W: Write>(
+    rt: &R,
+    alloc: Global,
+    options: &Options,
+    out: &mut W,
+) -> Result<(), DriverFault>
+where
+    R::File: Read + Drop,
+    ensures run { OnOk result (HasRunSome options.now (W.contents out.old) (W.contents out.new)) }
+    ensures untouched { IfErr result (λ fault. IsBeforeOutput fault → out.new ≡ out.old) }
+{
+    let Opened {
+        pages,
+        requests,
+        ..
+    } = open_files(rt, alloc, options)?;
+    run_files(rt, alloc, options, pages, requests, out)
 }
 
 /// Opens the files that the options name, and replays them onto `out`.

@@ -2,6 +2,8 @@
 
 pub const LIKES: &str = "A like service for a few very popular pages, with exact totals";
 
+pub const RUN: &str = "Runs files of requests on a thread for each worker, and prints the report";
+
 pub const REPLAY: &str = "Replays files of requests on one thread, and prints the report";
 
 pub const WORKERS: &str = "How many workers share the requests";
@@ -19,7 +21,30 @@ pub const PAGES: &str = "The file of pages";
 pub const REQUESTS: &str =
     "The files of requests, one for each submitter: the first is submitter 0";
 
-pub const FILES: &str = "\
+pub const RUN_FILES: &str = "\
+All files are CSV, with a header row.
+
+PAGES has the header name,count,split and a row for each page, up to 1024:
+  name   1 to 64 bytes of UTF-8, no two alike
+  count  the likes that it has at the start, up to 1000000000000000000
+  split  yes for a page whose likes may be counted worker by worker for a while, else no
+
+REQUESTS have the header op,user,page and a row for each request, up to 1000000 a file:
+  op     like, which adds one to the page's count and is the user's last like from then on,
+         or look, which answers with the user's last like and the page's count
+  user   the user's number; a user's requests stand in the file of submitter
+         user mod M, where there are M files
+  page   the page's name
+
+The report is CSV too, with the header row,id,number,phase,answer,page,count: a row reply for each
+request, a row page for each page with its final count, and a row user for each user with a like.
+
+Example:
+  printf 'name,count,split\\nnews,10,no\\n' > pages.csv
+  printf 'op,user,page\\nlike,0,news\\nlook,0,news\\n' > requests.csv
+  likes run pages.csv requests.csv";
+
+pub const REPLAY_FILES: &str = "\
 All files are CSV, with a header row.
 
 PAGES has the header name,count,split and a row for each page, up to 1024:
@@ -59,6 +84,6 @@ Example:
   printf 'op,user,page\\nlike,0,news\\nlook,0,news\\n' > requests.csv
   likes replay --workers 1 pages.csv requests.csv
 
-'likes replay --help' says what each file looks like.
-Statuses: 0 done, 2 a wrong command line, 3 a file or the output at fault, 4 out of memory,
-5 a replay that does not end.";
+'likes run --help' and 'likes replay --help' say what each file looks like.
+Statuses: 0 done, 2 a wrong command line, 3 a file or the output at fault, 4 out of memory
+or no thread to be had, 5 a replay that does not end.";

@@ -11,7 +11,9 @@ pub mod options;
 pub mod parse_fault;
 pub mod parsing;
 pub mod program;
+pub mod reading;
 pub mod replay;
+pub mod run;
 #[cfg(test)]
 mod tests;
 

@@ -1,7 +1,7 @@
-ghost use Rattle.std.specs.Prelude.{◌≡◌, ◌<◌, ◌^◌, ℕ, List, IfErr, IfOk, Some, codes, length, map, option_map, string_bytes};
+ghost use Rattle.std.specs.Prelude.{◌≡◌, ◌<◌, ◌^◌, ℕ, List, IfErr, IfOk, Some, codes, map, option_map, string_bytes};
 ghost use Rattle.clap.specs.Words.{Row, Text, all_of, first_of, found_of, fault_of, rows_of, subcommand_rows_of};
 ghost use Rattle.clap.specs.Kinds.{HasKind};
-ghost use Rattle.like_driver.specs.CommandLine.{Asks, HasNumber, HasReplay, HasValues, IsNumber, IsParseFault, Refuses, likes};
+ghost use Rattle.like_driver.specs.CommandLine.{Asks, Gives, HasAll, HasNumber, HasValues, IsEntered, IsNumber, IsParseFault, Refuses, likes};
 
 use crate::asked::Asked;
 use crate::command_line::command;
@@ -19,7 +19,7 @@ pub fn parse<S: AsStr>(alloc: Global, words: &[S]) -> Result<Asked, ParseFault>
     ensures fault { IfErr result (IsParseFault (map S.text words.now)) }
 {
     match command(alloc)?.try_get_matches_from(words) {
-        Ok(matches) => Ok(Asked::Replay(replay(alloc, &matches)?)),
+        Ok(matches) => Ok(matched(alloc, &matches)?),
         Err(error) => refused(alloc, &error),
     }
 }
@@ -39,21 +39,32 @@ fn refused(alloc: Global, error: &Error) -> Result<Asked, ParseFault>
     }
 }
 
-// The options of the replay that was matched.
-fn replay(alloc: Global, matches: &ArgMatches<'_>) -> Result<Options, AllocError>
-    requires { (rows : List Row) × (subcommand_rows_of matches.now ≡ Some (codes "replay", rows)) × HasReplay rows }
-    ensures { IfOk result (λ options. (rows : List Row) → subcommand_rows_of matches.now ≡ Some (codes "replay", rows) → HasValues rows options) }
+// What the subcommand asks for that was matched.
+fn matched(alloc: Global, matches: &ArgMatches<'_>) -> Result<Asked, AllocError>
+    requires { (rows : List Row) × IsEntered (subcommand_rows_of matches.now) rows × HasAll rows }
+    ensures { IfOk result (Gives (subcommand_rows_of matches.now)) }
 {
+    if let Some(run) = matches.subcommand_matches("run") {
+        return Ok(Asked::Run(options(alloc, run, None)?));
+    }
     match matches.subcommand_matches("replay") {
-        Some(replay) => options(alloc, replay),
+        Some(replay) => {
+            let script = script_file(alloc, replay)?;
+            Ok(Asked::Replay(options(alloc, replay, script)?))
+        }
         None => unreachable!(),
     }
 }
 
-// The options that matches give.
-fn options(alloc: Global, matches: &ArgMatches<'_>) -> Result<Options, AllocError>
-    requires { HasReplay (rows_of (found_of matches.now)) }
-    ensures { IfOk result (HasValues (rows_of (found_of matches.now))) }
+// The options that matches give, with this script.
+fn options(
+    alloc: Global,
+    matches: &ArgMatches<'_>,
+    script: Option<String>,
+) -> Result<Options, AllocError>
+    requires { HasAll (rows_of (found_of matches.now)) }
+    ensures values { IfOk result (HasValues (rows_of (found_of matches.now))) }
+    ensures script { IfOk result (λ options. options.script ≡ script) }
 {
     let workers = number(matches, "workers");
     let users = number(matches, "users");
@@ -61,7 +72,6 @@ fn options(alloc: Global, matches: &ArgMatches<'_>) -> Result<Options, AllocErro
     let turns = number(matches, "turns");
     let pages = pages_file(alloc, matches)?;
     let requests = request_files(alloc, matches)?;
-    let script = script_file(alloc, matches)?;
     Ok(Options {
         workers,
         users,

@@ -1,12 +1,13 @@
-ghost use Rattle.std.specs.Prelude.{◌≡◌, ◌≤◌, ◌-◌, ◌^◌, ℕ, IfErr, IfOk, MatchResult, OnOk, is_some, length, map, min, option_map};
+ghost use Rattle.std.specs.Prelude.{◌≡◌, ◌≤◌, IfErr, IfOk, MatchResult, OnOk, is_some, length, map, option_map};
 ghost use Rattle.like_run.specs.declared.script_file.TheConstants.{MAX_ENTRIES};
-ghost use Rattle.like_driver.specs.Inputs.{GivesPlans, GivesScript, Inputs, RefusesPlans, RefusesScript};
+ghost use Rattle.like_driver.specs.Inputs.{GivesScript, Inputs, RefusesScript};
 ghost use Rattle.like_driver.specs.Replayed.{IsBeforeOutput, IsReplayFault, IsReplayed};
 
 use crate::fault::DriverFault;
 use crate::options::Options;
+use crate::reading::read_plans;
 use like_replies::write_report;
-use like_requests::{Pages, Request, Setup, read_pages, read_requests};
+use like_requests::{Setup, read_pages};
 use like_run::{ScriptFault, Turned, read_script, replay};
 use std::alloc::Global;
 use std::io::{Read, Write};
@@ -45,29 +46,6 @@ pub fn replay_files<R: Read + Drop, W: Write>(
     Ok(())
 }
 
-// The plans of the submitters, each read from its file.
-fn read_plans<R: Read + Drop>(
-    alloc: Global,
-    pages: &Pages,
-    requests: Vec<R>,
-) -> Result<Vec<Vec<Request>>, DriverFault>
-    ensures { MatchResult result
-        (λ plans. GivesPlans pages.now (map R.remaining requests.items) (map (λ plan. plan.items) plans.items))
-        (RefusesPlans pages.now (map R.remaining requests.items)) }
-{
-    let mut plans = Vec::with_capacity(alloc, requests.len())?;
-    for reader in requests {
-        match read_requests(alloc, reader, pages) {
-            Ok(plan) => plans.push(plan)?,
-            Err(fault) => {
-                let submitter = submitter_at(plans.len());
-                return Err(DriverFault::Requests { submitter, fault });
-            }
-        }
-    }
-    Ok(plans)
-}
-
 // The entries of the script, and none where there is no script.
 fn read_turns<R: Read + Drop>(alloc: Global, script: Option<R>) -> Result<Vec<Turned>, ScriptFault>
     ensures few { IfOk result (λ entries. length entries.items ≤ MAX_ENTRIES) }
@@ -79,11 +57,4 @@ fn read_turns<R: Read + Drop>(alloc: Global, script: Option<R>) -> Result<Vec<Tu
         None => Ok(Vec::new(alloc)),
         Some(reader) => read_script(alloc, reader),
     }
-}
-
-// The number of the submitter at a place, which stops at the last of a u32.
-fn submitter_at(place: usize) -> u32
-    ensures { result ≡ min place (2 ^ 32 - 1) }
-{
-    place.min(u32::MAX as usize) as u32
 }

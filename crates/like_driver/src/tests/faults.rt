@@ -188,6 +188,11 @@ fn of_the_rest(rt: HostRuntime) -> Result<(), Fail> {
             4,
         ),
         (
+            DriverFault::Start,
+            "likes: a thread could not be started\n",
+            4,
+        ),
+        (
             DriverFault::Unfinished,
             "likes: not finished after 1000000 rounds\n",
             5,

@@ -20,6 +20,14 @@ fn replay(alloc: Global, text: &str) -> Option<Options> {
     }
 }
 
+// The options of the run that the words ask for, if they ask for one.
+fn run(alloc: Global, text: &str) -> Option<Options> {
+    match asked(alloc, text) {
+        Ok(Asked::Run(options)) => Some(options),
+        _ => None,
+    }
+}
+
 // The text for wrong words, if they are wrong.
 fn usage(alloc: Global, text: &str) -> Option<String> {
     match asked(alloc, text) {
@@ -70,6 +78,23 @@ fn values(rt: HostRuntime) -> Result<(), Fail> {
 }
 
 #[test]
+fn asks_for_runs(rt: HostRuntime) -> Result<(), Fail> {
+    let options = run(rt.alloc(), "run p.csv r.csv").ok_or("a run")?;
+    assert_eq!(rt; options.workers, 4);
+    assert_eq!(rt; options.users, 1_000);
+    assert_eq!(rt; options.stash, 256);
+    assert_eq!(rt; options.turns, 1_000);
+    assert_eq!(rt; files(rt.alloc(), &options)?.as_str(), "p.csv r.csv");
+    let words = "run --workers=16 p.csv --turns 0 a.csv b.csv";
+    let options = run(rt.alloc(), words).ok_or("a run")?;
+    assert_eq!(rt; options.workers, 16);
+    assert_eq!(rt; options.turns, 0);
+    assert_eq!(rt; files(rt.alloc(), &options)?.as_str(), "p.csv a.csv b.csv");
+    assert!(rt; usage(rt.alloc(), "run --script s.csv p.csv r.csv").is_some());
+    Ok(())
+}
+
+#[test]
 fn bounds(rt: HostRuntime) {
     for option in [
         "--workers=1",
@@ -103,7 +128,9 @@ fn bounds(rt: HostRuntime) {
 fn wrong_words(rt: HostRuntime) {
     for words in [
         "",
-        "run p.csv r.csv",
+        "walk p.csv r.csv",
+        "run",
+        "run p.csv",
         "help",
         "p.csv r.csv",
         "replay",

@@ -3,7 +3,11 @@ use super::examples::LATE_WORKER;
 use crate::program::serve_words;
 use std::alloc::{AllocError, Global};
 use std::fs;
+use std::fs::Files;
+use std::io::Read;
+use std::sync::Wait;
 use std::test::Fail;
+use std::thread::Threads;
 
 const PAGES: &str = "name,count,split\na,10,no\n";
 
@@ -19,8 +23,14 @@ fn texts(alloc: Global, text: &str) -> Result<Vec<String>, AllocError> {
 }
 
 // What the words of a text end in: the status, and what stands on the output and the errors.
-fn served(rt: &HostRuntime, text: &str) -> Result<(u8, Vec<u8>, Vec<u8>), AllocError> {
-    let alloc = rt.alloc();
+fn served<R: Files + Threads + Wait + Sync>(
+    rt: &R,
+    alloc: Global,
+    text: &str,
+) -> Result<(u8, Vec<u8>, Vec<u8>), AllocError>
+where
+    R::File: Read + Drop,
+{
     let words = texts(alloc, text)?;
     let (mut out, mut errors) = (Vec::new(alloc), Vec::new(alloc));
     let status = serve_words(rt, alloc, words.as_slice(), &mut out, &mut errors);
@@ -32,7 +42,7 @@ fn replays_files(rt: HostRuntime) -> Result<(), Fail> {
     fs::write(&rt, "replays-p.csv", PAGES)?;
     fs::write(&rt, "replays-r.csv", REQUESTS)?;
     let words = "replay --workers 1 --users 2 replays-p.csv replays-r.csv";
-    let (status, out, errors) = served(&rt, words)?;
+    let (status, out, errors) = served(&rt, rt.alloc(), words)?;
     fs::remove_file(&rt, "replays-p.csv")?;
     fs::remove_file(&rt, "replays-r.csv")?;
     let want =
@@ -58,13 +68,28 @@ fn replays_by_the_options(rt: HostRuntime) -> Result<(), Fail> {
     fs::write(&rt, "late-s.csv", LATE_WORKER)?;
     let words =
         "replay --workers 2 --users 2 --turns 0 --script late-s.csv late-p.csv late-0.csv late-1.csv";
-    let (status, out, errors) = served(&rt, words)?;
+    let (status, out, errors) = served(&rt, rt.alloc(), words)?;
     for name in ["late-p.csv", "late-0.csv", "late-1.csv", "late-s.csv"] {
         fs::remove_file(&rt, name)?;
     }
     let want = "row,id,number,phase,answer,page,count\nreply,1,1,2,seen,,0\nreply,1,2,2,seen,,0\n\
         reply,1,3,3,unknown-user,,\npage,0,,,,a,0\n";
     assert_eq!(rt; out.as_slice(), want.as_bytes());
+    assert_eq!(rt; errors.as_slice(), b"".as_slice());
+    assert_eq!(rt; status, 0);
+    Ok(())
+}
+
+// The phases in which requests run may differ from run to run.
+#[test]
+fn runs_files(rt: HostRuntime) -> Result<(), Fail> {
+    fs::write(&rt, "runs-p.csv", PAGES)?;
+    fs::write(&rt, "runs-r.csv", REQUESTS)?;
+    let words = "run --users 2 runs-p.csv runs-r.csv";
+    let (status, out, errors) = served(&rt, rt.alloc(), words)?;
+    fs::remove_file(&rt, "runs-p.csv")?;
+    fs::remove_file(&rt, "runs-r.csv")?;
+    assert!(rt; out.ends_with(b"page,0,,,,a,11\nuser,0,,,,a,\n"));
     assert_eq!(rt; errors.as_slice(), b"".as_slice());
     assert_eq!(rt; status, 0);
     Ok(())
@@ -78,6 +103,10 @@ fn opens_in_order(rt: HostRuntime) -> Result<(), Fail> {
         (
             "replay none-p.csv none-r.csv",
             "likes: none-p.csv: read failed\n",
+        ),
+        (
+            "run opens-bad.csv none-r.csv",
+            "likes: none-r.csv: read failed\n",
         ),
         (
             "replay opens-bad.csv opens-bad.csv none-r.csv --script none-s.csv",
@@ -94,7 +123,7 @@ fn opens_in_order(rt: HostRuntime) -> Result<(), Fail> {
         ("replay . opens-bad.csv", "likes: .: read failed\n"),
     ];
     for (words, line) in cases {
-        let (status, out, errors) = served(&rt, words)?;
+        let (status, out, errors) = served(&rt, rt.alloc(), words)?;
         assert_eq!(rt; errors.as_slice(), line.as_bytes());
         assert_eq!(rt; status, 3);
         assert!(rt; out.is_empty());
@@ -105,7 +134,7 @@ fn opens_in_order(rt: HostRuntime) -> Result<(), Fail> {
 
 #[test]
 fn shows_help(rt: HostRuntime) -> Result<(), Fail> {
-    let (status, out, errors) = served(&rt, "replay --help")?;
+    let (status, out, errors) = served(&rt, rt.alloc(), "replay --help")?;
     assert_eq!(rt; status, 0);
     assert!(rt; out.as_slice().starts_with(b"Replays files of requests"));
     assert!(rt; errors.is_empty());
@@ -114,13 +143,13 @@ fn shows_help(rt: HostRuntime) -> Result<(), Fail> {
 
 #[test]
 fn tells_wrong_words(rt: HostRuntime) -> Result<(), Fail> {
-    let (status, out, errors) = served(&rt, "run p.csv r.csv")?;
+    let (status, out, errors) = served(&rt, rt.alloc(), "walk p.csv r.csv")?;
     assert_eq!(rt; status, 2);
     assert!(rt; out.is_empty());
     assert!(rt;
         errors
             .as_slice()
-            .starts_with(b"error: unrecognized subcommand 'run'")
+            .starts_with(b"error: unrecognized subcommand 'walk'")
     );
     Ok(())
 }

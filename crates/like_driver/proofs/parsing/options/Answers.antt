@@ -3,8 +3,8 @@ use Rattle.std.proofs.lemmas.List.{length-map}
 use Rattle.std.proofs.lemmas.Option.{same_Some}
 use Rattle.like_driver.proofs.parsing.options.Goals as goal
 
-pub returns : goal.returns
-returns c =
+pub returns-clause-values : goal.returns-clause-values
+returns-clause-values c =
     let names = c.requires.requests.0 in
     let items = c.in_ok-requests.requests.items in
     let same : names ≡ map string_bytes items = same_Some names (map string_bytes items) (sym c.requires.requests.1 ∙ c.in_ok-requests.ensures) in
@@ -14,7 +14,6 @@ returns c =
       users = c.number-users.ensures 1 1000000 (omega arith) c.requires.users;
       stash = c.number-stash.ensures 1 4096 (omega arith) c.requires.stash;
       turns = c.number-turns.ensures 0 1000000 (omega arith) c.requires.turns;
-      script = c.in_ok-script.ensures;
       pages = c.in_ok-pages.ensures;
       requests = c.in_ok-requests.ensures;
       some_requests = omega (arith, size, c.requires.requests.2);

@@ -1,20 +1,20 @@
 use Rattle.std.proofs.Common.{List, map}
 use Rattle.clap.specs.Words.{Text}
 use Rattle.like_driver.specs.CommandLine.{Asks, IsParseFault}
-use Rattle.like_driver.proofs.Matched.{failed, parsed, when_err, when_ok}
+use Rattle.like_driver.proofs.Matched.{asks, failed, parsed, when_err, when_ok}
 use Rattle.like_driver.proofs.parsing.parse.Goals as goal
 
-pub replay-requires : goal.replay-requires
-replay-requires g c =
+pub matched-requires : goal.matched-requires
+matched-requires g c =
     let words : List Text = map g.S.AsStr.text c.args.words.now in
     let p = parsed c.in_ok-command.field-0 words c.in-Ok.matches c.in_ok-command.ensures c.in-Ok.ensures.kinds c.in-Ok.ensures.matches in
-    (p.1, p.2, p.4)
+    (p.2, p.3, p.4)
 
-pub returns-in_ok-replay-in-Ok-clause-asked : goal.returns-in_ok-replay-in-Ok-clause-asked
-returns-in_ok-replay-in-Ok-clause-asked g c =
+pub returns-in_ok-matched-in-Ok-clause-asked : goal.returns-in_ok-matched-in-Ok-clause-asked
+returns-in_ok-matched-in-Ok-clause-asked g c =
     let words : List Text = map g.S.AsStr.text c.args.words.now in
     let p = parsed c.in_ok-command.field-0 words c.in-Ok.matches c.in_ok-command.ensures c.in-Ok.ensures.kinds c.in-Ok.ensures.matches in
-    record { rows = p.1; faultless = p.0; matched = p.3; values = c.in_ok-replay-in-Ok.ensures p.1 p.2 }
+    asks words c.in-Ok.matches c.in_ok-matched-in-Ok.field-0 p.0 p.1 c.in_ok-matched-in-Ok.ensures
 
 pub returns-in-Err-clause-asked : goal.returns-in-Err-clause-asked
 returns-in-Err-clause-asked g c =

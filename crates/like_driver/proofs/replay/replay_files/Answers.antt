@@ -4,7 +4,7 @@ use Rattle.like_requests.specs.declared.request.Request.{Request}
 use Rattle.like_run.specs.Made.{service_of}
 use Rattle.like_driver.specs.Inputs.{Inputs}
 use Rattle.like_driver.specs.Replayed.{GivesAll, setup_of}
-use Rattle.like_driver.proofs.Ended.{run-refused, write-refused}
+use Rattle.like_driver.proofs.Ended.{replay-refused, write-refused}
 use Rattle.like_driver.proofs.Writable.{IsWritable-end_to_end}
 use Rattle.like_driver.proofs.replay.replay_files.Goals as goal
 
@@ -32,7 +32,7 @@ returns-in_err-report-clause-fault g c =
     let given : GivesAll inputs c.in_ok-pages.pages (map requests_of c.in_ok-plans.plans.items) c.in_ok-script.script.items =
     record { lists = record { pages_given = c.in_ok-pages.ensures; plans_given = c.in_ok-plans.ensures }; script_given = c.in_ok-script.ensures.given } in
     let p = err_from_is_err_and c.from_residual-in_err-report.result c.from_residual-in_err-report.ensures.1 in
-    rw (p.1, p.2) (run-refused c.args.options.now inputs c.in_ok-pages.pages (map requests_of c.in_ok-plans.plans.items) c.in_ok-script.script.items c.in_err-report.field-0.0 given
+    rw (p.1, p.2) (replay-refused c.args.options.now inputs c.in_ok-pages.pages (map requests_of c.in_ok-plans.plans.items) c.in_ok-script.script.items c.in_err-report.field-0.0 given
     (rw c.deref.ensures.value at c.in_err-report.ensures.fault))
 
 pub returns-in_err-write_report-clause-fault : goal.returns-in_err-write_report-clause-fault

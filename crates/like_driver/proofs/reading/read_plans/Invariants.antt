@@ -1,6 +1,6 @@
 use Rattle.std.proofs.Common.{◌≡◌, length, map, take}
 use Rattle.like_driver.specs.Inputs.{GivesPlans}
-use Rattle.like_driver.proofs.replay.read_plans.Given as goal
+use Rattle.like_driver.proofs.reading.read_plans.Given as goal
 
 abbrev pub invariant-loop-reader : goal.invariant-loop-reader
 invariant-loop-reader g l =

@@ -5,7 +5,7 @@ use Rattle.std.proofs.lemmas.List.{length-map, map-append}
 use Rattle.like_requests.specs.declared.request.Request.{Request}
 use Rattle.like_driver.specs.Inputs.{GivesPlan}
 use Rattle.like_driver.proofs.Plans.{AllZip-length, AllZip-more, IsFirstRefused-next, take-more_taken}
-use Rattle.like_driver.proofs.replay.read_plans.Goals as goal
+use Rattle.like_driver.proofs.reading.read_plans.Goals as goal
 
 pub loop-reader-preserved : goal.loop-reader-preserved
 loop-reader-preserved g c =

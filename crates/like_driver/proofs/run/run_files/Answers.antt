@@ -1,0 +1,42 @@
+use Rattle.std.proofs.Common.{List, Vec, Global, None, map}
+use Rattle.std.proofs.lemmas.Result.{err_from_is_err_and}
+use Rattle.like_requests.specs.declared.request.Request.{Request}
+use Rattle.like_run.specs.Made.{service_of}
+use Rattle.like_driver.specs.Inputs.{Inputs}
+use Rattle.like_driver.specs.Replayed.{GivesLists, setup_of}
+use Rattle.like_driver.proofs.Ended.{run-refused, run-unwritten}
+use Rattle.like_driver.proofs.Writable.{IsWritable-end_to_end}
+use Rattle.like_driver.proofs.run.run_files.Goals as goal
+
+abbrev requests_of : Vec Request Global → List Request
+requests_of plan = plan.items
+
+pub write_report-requires : goal.write_report-requires
+write_report-requires g c =
+    IsWritable-end_to_end (service_of (setup_of c.args.options.now c.in_ok-pages.pages) (map requests_of c.in_ok-plans.plans.items)) c.in_ok-report.ensures.within.lists
+    c.args.options.now.workers c.in_ok-report.report c.in_ok-report.ensures.report
+
+pub returns-in_err-report-clause-fault : goal.returns-in_err-report-clause-fault
+returns-in_err-report-clause-fault g c =
+    let inputs : Inputs = record { pages = g.R.Read.remaining c.args.pages; requests = map g.R.Read.remaining c.args.requests.items; script = None } in
+    let given : GivesLists inputs c.in_ok-pages.pages (map requests_of c.in_ok-plans.plans.items) = record { pages_given = c.in_ok-pages.ensures; plans_given = c.in_ok-plans.ensures } in
+    let p = err_from_is_err_and c.from_residual-in_err-report.result c.from_residual-in_err-report.ensures.1 in
+    rw (p.1, p.2) (run-refused c.args.options.now inputs c.in_ok-pages.pages (map requests_of c.in_ok-plans.plans.items) c.in_err-report.field-0.0 given c.in_err-report.ensures.fault)
+
+pub returns-in_err-write_report-clause-fault : goal.returns-in_err-write_report-clause-fault
+returns-in_err-write_report-clause-fault g c =
+    let inputs : Inputs = record { pages = g.R.Read.remaining c.args.pages; requests = map g.R.Read.remaining c.args.requests.items; script = None } in
+    let given : GivesLists inputs c.in_ok-pages.pages (map requests_of c.in_ok-plans.plans.items) = record { pages_given = c.in_ok-pages.ensures; plans_given = c.in_ok-plans.ensures } in
+    let p = err_from_is_err_and c.from_residual-in_err-write_report.result c.from_residual-in_err-write_report.ensures.1 in
+    rw (p.1, p.2) (run-unwritten c.args.options.now inputs c.in_ok-pages.pages (map requests_of c.in_ok-plans.plans.items) c.in_err-write_report.field-0.0 given c.in_ok-report.ensures.within)
+
+pub returns-clause-run : goal.returns-clause-run
+returns-clause-run g c = record {
+  pages = c.in_ok-pages.pages;
+  plans = map requests_of c.in_ok-plans.plans.items;
+  report = c.in_ok-report.report;
+  given = record { pages_given = c.in_ok-pages.ensures; plans_given = c.in_ok-plans.ensures };
+  within = c.in_ok-report.ensures.within;
+  right = c.in_ok-report.ensures.report;
+  written = c.in_ok-write_report.ensures;
+}
