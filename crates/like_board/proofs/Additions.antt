@@ -8,8 +8,8 @@ use mathlib.Core.Option.{some}
 use lib.ListN.{get_elem?}
 use Rattle.like_core.specs.declared.worker_state.WorkerState.TheVariants.{Runs}
 use Rattle.like_core.specs.declared.shown.Shown.TheVariants.{Old}
-use Rattle.like_core.specs.declared.setting.Setting.{Setting}
-use Rattle.like_core.specs.declared.view.WorkerView.{WorkerView}
+use Rattle.like_core.specs.declared.opening.Opening.{Opening}
+use Rattle.like_core.specs.declared.view.WorkerSeatView.{WorkerSeatView}
 use Rattle.like_core.specs.declared.view.View.{View}
 use Rattle.like_core.specs.declared.view.View.TheVariants.{Worker}
 use Rattle.like_core.specs.Functions.{update}
@@ -45,7 +45,7 @@ others_keep s i page n j phase q other =
     update_cases P s.applied page (s.applied page ++ more) (omega arith) (λ r apart. refl) q
 
 -- the own view's additions are the labels
-own_labels : (z : Setting) (s : CoreState) (v : WorkerView) (page n : ℕ) → FitsWorker z s v → phase_of v.state ≡ s.phase → (phase q : ℕ) → labelled v.worker phase (applied_by s v.worker page n q) ≡ added_in phase q (added_view v page n).additions
+own_labels : (z : Opening) (s : CoreState) (v : WorkerSeatView) (page n : ℕ) → FitsWorker z s v → phase_of v.state ≡ s.phase → (phase q : ℕ) → labelled v.worker phase (applied_by s v.worker page n q) ≡ added_in phase q (added_view v page n).additions
 own_labels z s v page n f present phase q =
     let more : List Label = replicate n (label v.worker s.phase) in
     let P : ℕ → List Label → Type 0 = λ r l. labelled v.worker phase l ≡ added_in phase r (added_view v page n).additions in
@@ -60,9 +60,9 @@ own_labels z s v page n f present phase q =
     q
 
 -- the view fits after its addition
-fits_added : (z : Setting) (s : CoreState) (v : WorkerView) (page n : ℕ) (rest : ℕ → List ℕ) → FitsWorker z s v → phase_of v.state ≡ s.phase → FitsWorker z (record s { unmerged = rest; applied = applied_by s v.worker page n }) (added_view v page n)
+fits_added : (z : Opening) (s : CoreState) (v : WorkerSeatView) (page n : ℕ) (rest : ℕ → List ℕ) → FitsWorker z s v → phase_of v.state ≡ s.phase → FitsWorker z (record s { unmerged = rest; applied = applied_by s v.worker page n }) (added_view v page n)
 fits_added z s v page n rest f present = record {
-  setting = f.setting;
+  opening = f.opening;
   there = f.there;
   state = f.state;
   number = f.number;
@@ -82,9 +82,9 @@ applied_else s i page n q other =
     ap (λ (l : List Label). length l) (update-other s.applied page (s.applied page ++ replicate n (label i s.phase)) q other)
 
 -- what the views have added and may still add, after an addition
-tallied_added : (s : CoreState) (views : List View) (place : ℕ) (v : WorkerView) (page n : ℕ) (rest : ℕ → List ℕ) → get_elem? views place ≡ some (Worker v) → added_to page v.additions + n ≤ 64000000 → Tallied s views → Tallied (record s { unmerged = rest; applied = applied_by s v.worker page n }) (set views place (Worker (added_view v page n)))
+tallied_added : (s : CoreState) (views : List View) (place : ℕ) (v : WorkerSeatView) (page n : ℕ) (rest : ℕ → List ℕ) → get_elem? views place ≡ some (Worker v) → added_to page v.additions + n ≤ 64000000 → Tallied s views → Tallied (record s { unmerged = rest; applied = applied_by s v.worker page n }) (set views place (Worker (added_view v page n)))
 tallied_added s views place v page n rest at few old =
-    let w : WorkerView = added_view v page n in
+    let w : WorkerSeatView = added_view v page n in
     let sums_now : (q : ℕ) → length (applied_by s v.worker page n q) ≡ sum_by (paged q) (set views place (Worker w)) =
     λ q.
     elim (cases_eq q page) [
@@ -128,7 +128,7 @@ count_low : (counts : List ℕ) (page : ℕ) → page < length counts → All (�
 count_low counts page on low = All-get_or (λ (n : ℕ). n ≤ 10 ^ 18) counts page 0 on low
 
 -- an addition is its events
-pub adds : (z : Setting) (words : List ℕ) (views : List View) (place : ℕ) (v : WorkerView) (page n : ℕ) → ShowsSome z words views → get_elem? views place ≡ some (Worker v) → MayAdd (post_of v) page n → IsSteps z (likes_merged v page n) (adding v page) (Old (get_or words (page + 1) 0)) (Worker v) (Worker (added_view v page n)) × ShowsSome z (set words (page + 1) ((get_or words (page + 1) 0 + n) % 2 ^ 64)) (set views place (Worker (added_view v page n))) × (added_to page v.additions ≤ get_or words (page + 1) 0)
+pub adds : (z : Opening) (words : List ℕ) (views : List View) (place : ℕ) (v : WorkerSeatView) (page n : ℕ) → ShowsSome z words views → get_elem? views place ≡ some (Worker v) → MayAdd (post_of v) page n → IsSteps z (likes_merged v page n) (adding v page) (Old (get_or words (page + 1) 0)) (Worker v) (Worker (added_view v page n)) × ShowsSome z (set words (page + 1) ((get_or words (page + 1) 0 + n) % 2 ^ 64)) (set views place (Worker (added_view v page n))) × (added_to page v.additions ≤ get_or words (page + 1) 0)
 adds z words views place v page n some_state at may =
     let s = some_state.state in
     let sh = some_state.shows in
@@ -138,21 +138,21 @@ adds z words views place v page n some_state at may =
     let here : s.state i ≡ Runs runs.0 = old.state ∙ runs.1 in
     let now : runs.0 ≡ s.phase = (reached_in_phase z s some_state.reachable).runs i runs.0 here in
     let present : phase_of v.state ≡ s.phase = ap phase_of runs.1 ∙ now in
-    let marks : length v.setting.marks ≡ length z.counts =
-    ap (λ (y : Setting). length y.marks) old.setting ∙ sh.setting.marks
+    let marks : length v.opening.marks ≡ length z.counts =
+    ap (λ (y : Opening). length y.marks) old.opening ∙ sh.opening.marks
     in
     let may_there = may.there in
     let on : page < length z.counts = omega arith in
     let few : added_to page v.additions + n ≤ 64000000 =
     (let part = additions-le-sum v page may.there in let all = may.few in omega arith)
     in
-    let low = count_low z.counts page on sh.setting.counts in
+    let low = count_low z.counts page on sh.opening.counts in
     let full = some_state.tallied.rooms page in
     let sums = some_state.tallied.sums page in
     let part = sum_part (paged page) views place (Worker v) at in
     let found : get_or words (page + 1) 0 ≡ get_or z.counts page 0 + length (s.applied page) = sh.pages page on in
     let same : split (marked z) s.phase page ≡ slices (post_of v) page =
-    sym (λ m. split (marked (old.setting m)) (present m) page)
+    sym (λ m. split (marked (old.opening m)) (present m) page)
     in
     let a : Adding z s i page n (likes_merged v page n) (adding v page) =
     adds_either z s i page n (slices (post_of v) page) same may.like
@@ -161,7 +161,7 @@ adds z words views place v page n some_state at may =
     in
     let t : CoreState = with_applied s a.rest page (replicate n (label i s.phase)) in
     let word : ℕ = (get_or words (page + 1) 0 + n) % 2 ^ 64 in
-    let w : WorkerView = added_view v page n in
+    let w : WorkerSeatView = added_view v page n in
     let long = applied_here s i page n in
     let word_is : word ≡ get_or z.counts page 0 + length (applied_by s i page n page) = omega arith in
     let shows : Shows z t (set words (page + 1) word) (set views place (Worker w)) =

@@ -6,9 +6,9 @@ use Rattle.atomic_table.specs.Table.{Me, keeps, Allows, Splits, Joins}
 use Rattle.like_core.specs.declared.worker_state.WorkerState.TheVariants.{Gone}
 use Rattle.like_core.specs.declared.event.Event.TheVariants.{Acknowledge, Report, Retire, Read, Announce, Release}
 use Rattle.like_core.specs.declared.shown.Shown.TheVariants.{Done, Old, Count}
-use Rattle.like_core.specs.declared.setting.Setting.{Setting}
-use Rattle.like_core.specs.declared.view.WorkerView.{WorkerView}
-use Rattle.like_core.specs.declared.view.CoordView.{CoordView}
+use Rattle.like_core.specs.declared.opening.Opening.{Opening}
+use Rattle.like_core.specs.declared.view.WorkerSeatView.{WorkerSeatView}
+use Rattle.like_core.specs.declared.view.CoordSeatView.{CoordSeatView}
 use Rattle.like_core.specs.declared.view.View.{View}
 use Rattle.like_core.specs.declared.view.View.TheVariants.{Coord, Worker, Spent}
 use Rattle.like_core.specs.Word.{Fields, packed, IsLawful, released}
@@ -18,8 +18,8 @@ use Rattle.like_core.specs.Views.{ViewRunsJoined, ViewRunsSplit, ViewSawEnding, 
 use Rattle.like_core.specs.Shows.{ShowsSome, FitsWorker, FitsCoord, IsStep, IsSteps}
 use Rattle.like_core.proofs.Posts.{post_fresh}
 use Rattle.like_board.specs.declared.key.Key.{Key}
-use Rattle.like_board.specs.Known.{worker_of, coord_of}
-use Rattle.like_board.specs.Rule.{setting_of, IsShowing}
+use Rattle.like_board.specs.Known.{worker_view_of, coord_view_of}
+use Rattle.like_board.specs.Rule.{opening_of, IsShowing}
 use Rattle.like_board.specs.Plays.{Looked, Surveyed, TellsLook, TellsSurvey, TellsWorker, TellsCoord, TellsAdd, TellsRead}
 use Rattle.like_board.proofs.Leads.{splits}
 use Rattle.like_board.proofs.WorkerSteps.{looks, acknowledges, reports, retires}
@@ -29,25 +29,25 @@ use Rattle.like_board.proofs.Additions.{adds}
 use Rattle.like_board.proofs.Readings.{reads}
 use Rattle.like_board.proofs.Gathering.{gathers}
 
--- the setting in a worker's view is the board's
-worker_setting : (z : Setting) (words : List ℕ) (views : List View) (place : ℕ) (v : WorkerView) → ShowsSome z words views → get_elem? views place ≡ some (Worker v) → v.setting ≡ z
-worker_setting z words views place v some_state at =
-    let fits : FitsWorker z some_state.state v = some_state.shows.each place (Worker v) at in fits.setting
+-- the opening in a worker's view is the board's
+worker_opening : (z : Opening) (words : List ℕ) (views : List View) (place : ℕ) (v : WorkerSeatView) → ShowsSome z words views → get_elem? views place ≡ some (Worker v) → v.opening ≡ z
+worker_opening z words views place v some_state at =
+    let fits : FitsWorker z some_state.state v = some_state.shows.each place (Worker v) at in fits.opening
 
--- the setting in the coordinator's view is the board's
-coord_setting : (z : Setting) (words : List ℕ) (views : List View) (place : ℕ) (c : CoordView) → ShowsSome z words views → get_elem? views place ≡ some (Coord c) → c.setting ≡ z
-coord_setting z words views place c some_state at =
-    let fits : FitsCoord z some_state.state c = some_state.shows.each place (Coord c) at in fits.setting
+-- the opening in the coordinator's view is the board's
+coord_opening : (z : Opening) (words : List ℕ) (views : List View) (place : ℕ) (c : CoordSeatView) → ShowsSome z words views → get_elem? views place ≡ some (Coord c) → c.opening ≡ z
+coord_opening z words views place c some_state at =
+    let fits : FitsCoord z some_state.state c = some_state.shows.each place (Coord c) at in fits.opening
 
-pub looking : {S : Type 0} (key : Key) (slots id : ℕ) (me : Me S View) → me ≡ (Worker (worker_of me.0), []) → (worker_of me.0).state ≢ Gone → Allows (IsShowing key) slots id me 0 (λ n. n) (λ found after. TellsLook me.0 found after.0 × (after.1 ≡ []))
+pub looking : {S : Type 0} (key : Key) (slots id : ℕ) (me : Me S View) → me ≡ (Worker (worker_view_of me.0), []) → (worker_view_of me.0).state ≢ Gone → Allows (IsShowing key) slots id me 0 (λ n. n) (λ found after. TellsLook me.0 found after.0 × (after.1 ≡ []))
 looking {S} key slots id me is there = λ st shows _ at _.
-    let z = setting_of key in
-    let v : WorkerView = worker_of me.0 in
+    let z = opening_of key in
+    let v : WorkerSeatView = worker_view_of me.0 in
     let here : get_elem? st.views id ≡ some (Worker v) = at ∙ ap (λ (m : Me S View). some m.0) is in
-    let same = worker_setting z st.words st.views id v shows here in
+    let same = worker_opening z st.words st.views id v shows here in
     let r = looks z st.words st.views id v shows here there in
-    let P : Setting → Type 0 = λ y. (l : Looked y (get_or st.words 0 0) v) × (l.fields ≡ r.0.fields) in
-    let told : P v.setting = subst P (sym same) (r.0, refl) in
+    let P : Opening → Type 0 = λ y. (l : Looked y (get_or st.words 0 0) v) × (l.fields ≡ r.0.fields) in
+    let told : P v.opening = subst P (sym same) (r.0, refl) in
     let w : View = Worker (looked_view v (sight_of r.0.fields v.worker)) in (
       w,
       keeps,
@@ -62,67 +62,67 @@ looking {S} key slots id me is there = λ st shows _ at _.
       ),
     )
 
-pub acknowledging : {S : Type 0} (key : Key) (slots id : ℕ) (me : Me S View) (bit : ℕ) → bit ≡ 2 ^ (8 + (worker_of me.0).worker) → me ≡ (Worker (worker_of me.0), []) → ViewRunsJoined (worker_of me.0) → ViewSawEnding (worker_of me.0) → Allows (IsShowing key) slots id me 0 (λ n. bit_or n bit) (λ found after. TellsWorker (λ v. Acknowledge v.worker) answered_view me.0 after.0 × (after.1 ≡ []))
+pub acknowledging : {S : Type 0} (key : Key) (slots id : ℕ) (me : Me S View) (bit : ℕ) → bit ≡ 2 ^ (8 + (worker_view_of me.0).worker) → me ≡ (Worker (worker_view_of me.0), []) → ViewRunsJoined (worker_view_of me.0) → ViewSawEnding (worker_view_of me.0) → Allows (IsShowing key) slots id me 0 (λ n. bit_or n bit) (λ found after. TellsWorker (λ v. Acknowledge v.worker) answered_view me.0 after.0 × (after.1 ≡ []))
 acknowledging {S} key slots id me bit bit_is is joined saw = λ st shows _ at _.
-    let z = setting_of key in
-    let v : WorkerView = worker_of me.0 in
+    let z = opening_of key in
+    let v : WorkerSeatView = worker_view_of me.0 in
     let here : get_elem? st.views id ≡ some (Worker v) = at ∙ ap (λ (m : Me S View). some m.0) is in
-    let same = worker_setting z st.words st.views id v shows here in
+    let same = worker_opening z st.words st.views id v shows here in
     let r = acknowledges z st.words st.views id v shows here joined saw in (
       Worker (answered_view v),
       keeps,
       tt,
       subst (λ (b : ℕ). ShowsSome z (slice_set st.words 0 (bit_or (get_or st.words 0 0) b)) (slice_set st.views id (Worker (answered_view v)))) (sym bit_is) r.1,
       (
-        record { view = refl; step = subst (λ (y : Setting). IsStep y (Acknowledge v.worker) Done (Worker v) (Worker (answered_view v))) (sym same) r.0 },
+        record { view = refl; step = subst (λ (y : Opening). IsStep y (Acknowledge v.worker) Done (Worker v) (Worker (answered_view v))) (sym same) r.0 },
         ap (λ (m : Me S View). m.1) is,
       ),
     )
 
-pub reporting : {S : Type 0} (key : Key) (slots id : ℕ) (me : Me S View) (bit : ℕ) → bit ≡ 2 ^ (8 + (worker_of me.0).worker) → me ≡ (Worker (worker_of me.0), []) → ViewRunsSplit (worker_of me.0) → ViewSawEnding (worker_of me.0) → Allows (IsShowing key) slots id me 0 (λ n. bit_or n bit) (λ found after. TellsWorker (λ v. Report v.worker) answered_view me.0 after.0 × (after.1 ≡ []))
+pub reporting : {S : Type 0} (key : Key) (slots id : ℕ) (me : Me S View) (bit : ℕ) → bit ≡ 2 ^ (8 + (worker_view_of me.0).worker) → me ≡ (Worker (worker_view_of me.0), []) → ViewRunsSplit (worker_view_of me.0) → ViewSawEnding (worker_view_of me.0) → Allows (IsShowing key) slots id me 0 (λ n. bit_or n bit) (λ found after. TellsWorker (λ v. Report v.worker) answered_view me.0 after.0 × (after.1 ≡ []))
 reporting {S} key slots id me bit bit_is is split saw = λ st shows _ at _.
-    let z = setting_of key in
-    let v : WorkerView = worker_of me.0 in
+    let z = opening_of key in
+    let v : WorkerSeatView = worker_view_of me.0 in
     let here : get_elem? st.views id ≡ some (Worker v) = at ∙ ap (λ (m : Me S View). some m.0) is in
-    let same = worker_setting z st.words st.views id v shows here in
+    let same = worker_opening z st.words st.views id v shows here in
     let r = reports z st.words st.views id v shows here split saw in (
       Worker (answered_view v),
       keeps,
       tt,
       subst (λ (b : ℕ). ShowsSome z (slice_set st.words 0 (bit_or (get_or st.words 0 0) b)) (slice_set st.views id (Worker (answered_view v)))) (sym bit_is) r.1,
       (
-        record { view = refl; step = subst (λ (y : Setting). IsStep y (Report v.worker) Done (Worker v) (Worker (answered_view v))) (sym same) r.0 },
+        record { view = refl; step = subst (λ (y : Opening). IsStep y (Report v.worker) Done (Worker v) (Worker (answered_view v))) (sym same) r.0 },
         ap (λ (m : Me S View). m.1) is,
       ),
     )
 
-pub retiring : {S : Type 0} (key : Key) (slots id : ℕ) (me : Me S View) (bit : ℕ) → bit ≡ 2 ^ (24 + (worker_of me.0).worker) → me ≡ (Worker (worker_of me.0), []) → ViewRunsJoined (worker_of me.0) → Allows (IsShowing key) slots id me 0 (λ n. bit_or n bit) (λ found after. TellsWorker (λ v. Retire v.worker) retired_view me.0 after.0 × (after.1 ≡ []))
+pub retiring : {S : Type 0} (key : Key) (slots id : ℕ) (me : Me S View) (bit : ℕ) → bit ≡ 2 ^ (24 + (worker_view_of me.0).worker) → me ≡ (Worker (worker_view_of me.0), []) → ViewRunsJoined (worker_view_of me.0) → Allows (IsShowing key) slots id me 0 (λ n. bit_or n bit) (λ found after. TellsWorker (λ v. Retire v.worker) retired_view me.0 after.0 × (after.1 ≡ []))
 retiring {S} key slots id me bit bit_is is joined = λ st shows _ at _.
-    let z = setting_of key in
-    let v : WorkerView = worker_of me.0 in
+    let z = opening_of key in
+    let v : WorkerSeatView = worker_view_of me.0 in
     let here : get_elem? st.views id ≡ some (Worker v) = at ∙ ap (λ (m : Me S View). some m.0) is in
-    let same = worker_setting z st.words st.views id v shows here in
+    let same = worker_opening z st.words st.views id v shows here in
     let r = retires z st.words st.views id v shows here joined in (
       Worker (retired_view v),
       keeps,
       tt,
       subst (λ (b : ℕ). ShowsSome z (slice_set st.words 0 (bit_or (get_or st.words 0 0) b)) (slice_set st.views id (Worker (retired_view v)))) (sym bit_is) r.1,
       (
-        record { view = refl; step = subst (λ (y : Setting). IsStep y (Retire v.worker) Done (Worker v) (Worker (retired_view v))) (sym same) r.0 },
+        record { view = refl; step = subst (λ (y : Opening). IsStep y (Retire v.worker) Done (Worker v) (Worker (retired_view v))) (sym same) r.0 },
         ap (λ (m : Me S View). m.1) is,
       ),
     )
 
-pub surveying : {S : Type 0} (key : Key) (slots id : ℕ) (me : Me S View) → me ≡ (Coord (coord_of me.0), []) → Allows (IsShowing key) slots id me 0 (λ n. n) (λ found after. TellsSurvey me.0 found after.0 × (after.1 ≡ []))
+pub surveying : {S : Type 0} (key : Key) (slots id : ℕ) (me : Me S View) → me ≡ (Coord (coord_view_of me.0), []) → Allows (IsShowing key) slots id me 0 (λ n. n) (λ found after. TellsSurvey me.0 found after.0 × (after.1 ≡ []))
 surveying {S} key slots id me is = λ st shows _ at _.
-    let z = setting_of key in
-    let c : CoordView = coord_of me.0 in
+    let z = opening_of key in
+    let c : CoordSeatView = coord_view_of me.0 in
     let here : get_elem? st.views id ≡ some (Coord c) = at ∙ ap (λ (m : Me S View). some m.0) is in
-    let same = coord_setting z st.words st.views id c shows here in
+    let same = coord_opening z st.words st.views id c shows here in
     let r = surveys z st.words st.views id c shows here in
     let found : ℕ = get_or st.words 0 0 in
-    let P : Setting → Type 0 = λ y. (l : Surveyed y found c) × (l.fields ≡ r.0.fields) in
-    let told : P c.setting = subst P (sym same) (r.0, refl) in (
+    let P : Opening → Type 0 = λ y. (l : Surveyed y found c) × (l.fields ≡ r.0.fields) in
+    let told : P c.opening = subst P (sym same) (r.0, refl) in (
       Coord (looked_coord c found (coord_sight_of r.0.fields)),
       keeps,
       tt,
@@ -136,50 +136,50 @@ surveying {S} key slots id me is = λ st shows _ at _.
       ),
     )
 
-pub announcing : {S : Type 0} (key : Key) (slots id : ℕ) (me : Me S View) → me ≡ (Coord (coord_of me.0), []) → MayAnnounce (coord_of me.0) → Allows (IsShowing key) slots id me 0 (λ n. (n + 1) % 2 ^ 64) (λ found after. TellsCoord Announce announced_coord me.0 after.0 × (after.1 ≡ []))
+pub announcing : {S : Type 0} (key : Key) (slots id : ℕ) (me : Me S View) → me ≡ (Coord (coord_view_of me.0), []) → MayAnnounce (coord_view_of me.0) → Allows (IsShowing key) slots id me 0 (λ n. (n + 1) % 2 ^ 64) (λ found after. TellsCoord Announce announced_coord me.0 after.0 × (after.1 ≡ []))
 announcing {S} key slots id me is may = λ st shows _ at _.
-    let z = setting_of key in
-    let c : CoordView = coord_of me.0 in
+    let z = opening_of key in
+    let c : CoordSeatView = coord_view_of me.0 in
     let here : get_elem? st.views id ≡ some (Coord c) = at ∙ ap (λ (m : Me S View). some m.0) is in
-    let same = coord_setting z st.words st.views id c shows here in
+    let same = coord_opening z st.words st.views id c shows here in
     let r = announces z st.words st.views id c shows here may in (
       Coord (announced_coord c),
       keeps,
       tt,
       r.1,
       (
-        record { view = refl; step = subst (λ (y : Setting). IsStep y Announce Done (Coord c) (Coord (announced_coord c))) (sym same) r.0 },
+        record { view = refl; step = subst (λ (y : Opening). IsStep y Announce Done (Coord c) (Coord (announced_coord c))) (sym same) r.0 },
         ap (λ (m : Me S View). m.1) is,
       ),
     )
 
-pub releasing : {S : Type 0} (key : Key) (slots id : ℕ) (me : Me S View) (seen : Fields) (new : ℕ) → new ≡ packed (released seen) → IsLawful seen → packed seen ≡ (coord_of me.0).word → me ≡ (Coord (coord_of me.0), []) → MayRelease (coord_of me.0) → Allows (IsShowing key) slots id me 0 (λ _. new) (λ found after. TellsCoord Release released_coord me.0 after.0 × (after.1 ≡ []))
+pub releasing : {S : Type 0} (key : Key) (slots id : ℕ) (me : Me S View) (seen : Fields) (new : ℕ) → new ≡ packed (released seen) → IsLawful seen → packed seen ≡ (coord_view_of me.0).word → me ≡ (Coord (coord_view_of me.0), []) → MayRelease (coord_view_of me.0) → Allows (IsShowing key) slots id me 0 (λ _. new) (λ found after. TellsCoord Release released_coord me.0 after.0 × (after.1 ≡ []))
 releasing {S} key slots id me seen new new_is lawful seen_is is may = λ st shows _ at _.
-    let z = setting_of key in
-    let c : CoordView = coord_of me.0 in
+    let z = opening_of key in
+    let c : CoordSeatView = coord_view_of me.0 in
     let here : get_elem? st.views id ≡ some (Coord c) = at ∙ ap (λ (m : Me S View). some m.0) is in
-    let same = coord_setting z st.words st.views id c shows here in
+    let same = coord_opening z st.words st.views id c shows here in
     let r = releases z st.words st.views id c seen shows here may lawful seen_is in (
       Coord (released_coord c),
       keeps,
       tt,
       subst (λ (n : ℕ). ShowsSome z (slice_set st.words 0 n) (slice_set st.views id (Coord (released_coord c)))) (sym new_is) r.1,
       (
-        record { view = refl; step = subst (λ (y : Setting). IsStep y Release Done (Coord c) (Coord (released_coord c))) (sym same) r.0 },
+        record { view = refl; step = subst (λ (y : Opening). IsStep y Release Done (Coord c) (Coord (released_coord c))) (sym same) r.0 },
         ap (λ (m : Me S View). m.1) is,
       ),
     )
 
-pub making : {S : Type 0} (key : Key) (id : ℕ) (v : View) → v ≡ Coord (coord_of v) → (coord_of v).made < (coord_of v).setting.workers → Splits {S = S} (IsShowing key) id v (Coord (made_coord (coord_of v))) (Worker (fresh (coord_of v).setting (coord_of v).made))
+pub making : {S : Type 0} (key : Key) (id : ℕ) (v : View) → v ≡ Coord (coord_view_of v) → (coord_view_of v).made < (coord_view_of v).opening.workers → Splits {S = S} (IsShowing key) id v (Coord (made_coord (coord_view_of v))) (Worker (fresh (coord_view_of v).opening (coord_view_of v).made))
 making {S} key id v is room = λ st shows at.
-    let z = setting_of key in
-    let c : CoordView = coord_of v in
+    let z = opening_of key in
+    let c : CoordSeatView = coord_view_of v in
     let here : get_elem? st.views id ≡ some (Coord c) = at ∙ ap some is in
-    let same = coord_setting z st.words st.views id c shows here in
-    let P : Setting → Type 0 = λ y. c.made < y.workers in
-    let Q : Setting → Type 0 = λ y. ShowsSome z st.words (slice_set st.views id (Coord (made_coord c)) ++ Worker (fresh y c.made) ∷ []) in
+    let same = coord_opening z st.words st.views id c shows here in
+    let P : Opening → Type 0 = λ y. c.made < y.workers in
+    let Q : Opening → Type 0 = λ y. ShowsSome z st.words (slice_set st.views id (Coord (made_coord c)) ++ Worker (fresh y c.made) ∷ []) in
     let below : c.made < z.workers = subst P same room in
-    let few = shows.shows.setting.few_workers in
+    let few = shows.shows.opening.few_workers in
     subst Q (sym same) (record {
       state = shows.state;
       reachable = shows.reachable;
@@ -187,20 +187,20 @@ making {S} key id v is room = λ st shows at.
       tallied = tallied_made z shows.state st.views id c here (omega arith) shows.tallied;
     })
 
-pub adding_to : {S : Type 0} (key : Key) (slots id : ℕ) (me : Me S View) (page n : ℕ) → me ≡ (Worker (worker_of me.0), []) → MayAdd (post_of (worker_of me.0)) page n → Allows (IsShowing key) slots id me (page + 1) (λ k. (k + n) % 2 ^ 64) (λ found after. ((q : ℕ) → page + 1 ≡ q + 1 → TellsAdd q n me.0 found after.0) × (after.1 ≡ []))
+pub adding_to : {S : Type 0} (key : Key) (slots id : ℕ) (me : Me S View) (page n : ℕ) → me ≡ (Worker (worker_view_of me.0), []) → MayAdd (post_of (worker_view_of me.0)) page n → Allows (IsShowing key) slots id me (page + 1) (λ k. (k + n) % 2 ^ 64) (λ found after. ((q : ℕ) → page + 1 ≡ q + 1 → TellsAdd q n me.0 found after.0) × (after.1 ≡ []))
 adding_to {S} key slots id me page n is may = λ st shows _ at _.
-    let z = setting_of key in
-    let v : WorkerView = worker_of me.0 in
-    let w : WorkerView = added_view v page n in
+    let z = opening_of key in
+    let v : WorkerSeatView = worker_view_of me.0 in
+    let w : WorkerSeatView = added_view v page n in
     let found : ℕ = get_or st.words (page + 1) 0 in
     let here : get_elem? st.views id ≡ some (Worker v) = at ∙ ap (λ (m : Me S View). some m.0) is in
-    let same = worker_setting z st.words st.views id v shows here in
+    let same = worker_opening z st.words st.views id v shows here in
     let r = adds z st.words st.views id v page n shows here may in
     let told : TellsAdd page n me.0 found (Worker w) =
     record {
       view = refl;
       own = r.2;
-      step = subst (λ (y : Setting). IsSteps y (likes_merged v page n) (adding v page) (Old found) (Worker v) (Worker w)) (sym same) r.0;
+      step = subst (λ (y : Opening). IsSteps y (likes_merged v page n) (adding v page) (Old found) (Worker v) (Worker w)) (sym same) r.0;
     }
     in (
       Worker w,
@@ -213,18 +213,18 @@ adding_to {S} key slots id me page n is may = λ st shows _ at _.
       ),
     )
 
-pub reading : {S : Type 0} (key : Key) (slots id : ℕ) (me : Me S View) (page : ℕ) → me ≡ (Worker (worker_of me.0), []) → MayRead (post_of (worker_of me.0)) page → Allows (IsShowing key) slots id me (page + 1) (λ k. k) (λ found after. (after.0 ≡ Worker (worker_of me.0)) × ((q : ℕ) → page + 1 ≡ q + 1 → TellsRead q me.0 found) × (after.1 ≡ []))
+pub reading : {S : Type 0} (key : Key) (slots id : ℕ) (me : Me S View) (page : ℕ) → me ≡ (Worker (worker_view_of me.0), []) → MayRead (post_of (worker_view_of me.0)) page → Allows (IsShowing key) slots id me (page + 1) (λ k. k) (λ found after. (after.0 ≡ Worker (worker_view_of me.0)) × ((q : ℕ) → page + 1 ≡ q + 1 → TellsRead q me.0 found) × (after.1 ≡ []))
 reading {S} key slots id me page is may = λ st shows _ at _.
-    let z = setting_of key in
-    let v : WorkerView = worker_of me.0 in
+    let z = opening_of key in
+    let v : WorkerSeatView = worker_view_of me.0 in
     let found : ℕ = get_or st.words (page + 1) 0 in
     let here : get_elem? st.views id ≡ some (Worker v) = at ∙ ap (λ (m : Me S View). some m.0) is in
-    let same = worker_setting z st.words st.views id v shows here in
+    let same = worker_opening z st.words st.views id v shows here in
     let r = reads z st.words st.views id v page shows here may in
     let told : TellsRead page me.0 found =
     record {
       own = r.2;
-      step = subst (λ (y : Setting). IsStep y (Read v.worker page) (Count found) (Worker v) (Worker v)) (sym same) r.0;
+      step = subst (λ (y : Opening). IsStep y (Read v.worker page) (Count found) (Worker v) (Worker v)) (sym same) r.0;
     }
     in (
       Worker v,
@@ -238,12 +238,12 @@ reading {S} key slots id me page is may = λ st shows _ at _.
       ),
     )
 
-pub gathering : {S : Type 0} (key : Key) (id other : ℕ) (v w : View) → v ≡ Coord (coord_of v) → w ≡ Worker (worker_of w) → Joins {S = S} (IsShowing key) id v other w (Coord (gathered_coord (coord_of v) (worker_of w))) Spent
+pub gathering : {S : Type 0} (key : Key) (id other : ℕ) (v w : View) → v ≡ Coord (coord_view_of v) → w ≡ Worker (worker_view_of w) → Joins {S = S} (IsShowing key) id v other w (Coord (gathered_coord (coord_view_of v) (worker_view_of w))) Spent
 gathering {S} key id other v w is_coord is_worker = λ st shows at apart mine.
-    gathers (setting_of key) st.words st.views id other (coord_of v) (worker_of w) shows (at ∙ ap some is_coord) apart
+    gathers (opening_of key) st.words st.views id other (coord_view_of v) (worker_view_of w) shows (at ∙ ap some is_coord) apart
     (mine ∙ ap some is_worker)
 
 -- a new seat means a fresh post
-pub fresh_seat : {S : Type 0} (z : Setting) (i : ℕ) (me : Me S View) → me ≡ (Worker (fresh z i), []) → IsFresh (post_of (worker_of me.0))
+pub fresh_seat : {S : Type 0} (z : Opening) (i : ℕ) (me : Me S View) → me ≡ (Worker (fresh z i), []) → IsFresh (post_of (worker_view_of me.0))
 fresh_seat {S} z i me is =
-    subst (λ (v : WorkerView). IsFresh (post_of v)) (sym (ap (λ (m : Me S View). worker_of m.0) is)) (post_fresh z i)
+    subst (λ (v : WorkerSeatView). IsFresh (post_of v)) (sym (ap (λ (m : Me S View). worker_view_of m.0) is)) (post_fresh z i)

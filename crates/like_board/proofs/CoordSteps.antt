@@ -6,9 +6,9 @@ use Rattle.like_core.specs.declared.sight.Sight.{Sight}
 use Rattle.like_core.specs.declared.sight.CoordSight.{CoordSight}
 use Rattle.like_core.specs.declared.event.Event.TheVariants.{CoordLook, Announce, Release}
 use Rattle.like_core.specs.declared.shown.Shown.TheVariants.{Done}
-use Rattle.like_core.specs.declared.setting.Setting.{Setting}
-use Rattle.like_core.specs.declared.view.WorkerView.{WorkerView}
-use Rattle.like_core.specs.declared.view.CoordView.{CoordView}
+use Rattle.like_core.specs.declared.opening.Opening.{Opening}
+use Rattle.like_core.specs.declared.view.WorkerSeatView.{WorkerSeatView}
+use Rattle.like_core.specs.declared.view.CoordSeatView.{CoordSeatView}
 use Rattle.like_core.specs.declared.view.View.{View}
 use Rattle.like_core.specs.declared.view.View.TheVariants.{Coord}
 use Rattle.like_core.specs.Phase.{last_phase, IsSplit}
@@ -32,21 +32,21 @@ use Rattle.like_board.proofs.Leads.{phased, leads}
 use Rattle.like_board.proofs.WorkerSteps.{running_is}
 
 -- a look of the coordinator is the event
-pub surveys : (z : Setting) (words : List ℕ) (views : List View) (place : ℕ) (c : CoordView) → ShowsSome z words views → get_elem? views place ≡ some (Coord c) → (r : Surveyed z (get_or words 0 0) c) × ShowsSome z (set words 0 (get_or words 0 0)) (set views place (Coord (looked_coord c (get_or words 0 0) (coord_sight_of r.fields))))
+pub surveys : (z : Opening) (words : List ℕ) (views : List View) (place : ℕ) (c : CoordSeatView) → ShowsSome z words views → get_elem? views place ≡ some (Coord c) → (r : Surveyed z (get_or words 0 0) c) × ShowsSome z (set words 0 (get_or words 0 0)) (set views place (Coord (looked_coord c (get_or words 0 0) (coord_sight_of r.fields))))
 surveys z words views place c some_state at =
     let s = some_state.state in
     let sh = some_state.shows in
     let p = reached_in_phase z s some_state.reachable in
-    let lawful = shown_lawful z s sh.setting p (reached_unanswered z s some_state.reachable) in
+    let lawful = shown_lawful z s sh.opening p (reached_unanswered z s some_state.reachable) in
     let old : FitsCoord z s c = sh.each place (Coord c) at in
     let f : Fields = shown_fields z s in
     let sight : CoordSight = coord_sight_of f in
     let sees : CoordSees (numbers z s) sight = coord_sees z s in
     let found : ℕ = get_or words 0 0 in
-    let d : CoordView = looked_coord c found sight in
+    let d : CoordSeatView = looked_coord c found sight in
     let fits : FitsCoord z s d =
     record {
-      setting = old.setting;
+      opening = old.opening;
       made = old.made;
       unmade = old.unmade;
       unlabelled = old.unlabelled;
@@ -101,7 +101,7 @@ some_and None P Q R p q r = absurd p
 some_and (Some a) P Q R p q r = (a, refl, p, q, r)
 
 -- an announcement is the event
-pub announces : (z : Setting) (words : List ℕ) (views : List View) (place : ℕ) (c : CoordView) → ShowsSome z words views → get_elem? views place ≡ some (Coord c) → MayAnnounce c → IsStep z Announce Done (Coord c) (Coord (announced_coord c)) × ShowsSome z (set words 0 ((get_or words 0 0 + 1) % 2 ^ 64)) (set views place (Coord (announced_coord c)))
+pub announces : (z : Opening) (words : List ℕ) (views : List View) (place : ℕ) (c : CoordSeatView) → ShowsSome z words views → get_elem? views place ≡ some (Coord c) → MayAnnounce c → IsStep z Announce Done (Coord c) (Coord (announced_coord c)) × ShowsSome z (set words 0 ((get_or words 0 0 + 1) % 2 ^ 64)) (set views place (Coord (announced_coord c)))
 announces z words views place c some_state at may =
     let s = some_state.state in
     let sh = some_state.shows in
@@ -117,12 +117,12 @@ announces z words views place c some_state at may =
     let permits : Permits (numbers z s) Announce = record { there = tt; suits = running; leaves_last = below; room = tt } in
     let t : CoreState = phased s s.phase true in
     let reachable = goes_on_by z s Announce some_state.reachable permits in
-    let lawful = shown_lawful z t sh.setting (reached_in_phase z t reachable) (reached_unanswered z t reachable) in
+    let lawful = shown_lawful z t sh.opening (reached_in_phase z t reachable) (reached_unanswered z t reachable) in
     let word : ℕ = (get_or words 0 0 + 1) % 2 ^ 64 in
-    let d : CoordView = announced_coord c in
-    let workers : (v : WorkerView) → FitsWorker z s v → FitsWorker z t v =
+    let d : CoordSeatView = announced_coord c in
+    let workers : (v : WorkerSeatView) → FitsWorker z s v → FitsWorker z t v =
     λ v f. record {
-      setting = f.setting;
+      opening = f.opening;
       there = f.there;
       state = f.state;
       number = f.number;
@@ -132,7 +132,7 @@ announces z words views place c some_state at may =
     in
     let fits : FitsCoord z t d =
     record {
-      setting = old.setting;
+      opening = old.opening;
       made = old.made;
       unmade = old.unmade;
       unlabelled = old.unlabelled;
@@ -175,7 +175,7 @@ announces z words views place c some_state at may =
     )
 
 -- a release is the event, where what is stored is made of the word that the last look saw
-pub releases : (z : Setting) (words : List ℕ) (views : List View) (place : ℕ) (c : CoordView) (seen : Fields) → ShowsSome z words views → get_elem? views place ≡ some (Coord c) → MayRelease c → IsLawful seen → packed seen ≡ c.word → IsStep z Release Done (Coord c) (Coord (released_coord c)) × ShowsSome z (set words 0 (packed (released seen))) (set views place (Coord (released_coord c)))
+pub releases : (z : Opening) (words : List ℕ) (views : List View) (place : ℕ) (c : CoordSeatView) (seen : Fields) → ShowsSome z words views → get_elem? views place ≡ some (Coord c) → MayRelease c → IsLawful seen → packed seen ≡ c.word → IsStep z Release Done (Coord c) (Coord (released_coord c)) × ShowsSome z (set words 0 (packed (released seen))) (set views place (Coord (released_coord c)))
 releases z words views place c seen some_state at may seen_lawful seen_is =
     let s = some_state.state in
     let sh = some_state.shows in
@@ -194,12 +194,12 @@ releases z words views place c seen some_state at may seen_lawful seen_is =
     in
     let t : CoreState = phased s (s.phase + 1) false in
     let p = reached_in_phase z s some_state.reachable in
-    let lawful = shown_lawful z s sh.setting p (reached_unanswered z s some_state.reachable) in
+    let lawful = shown_lawful z s sh.opening p (reached_unanswered z s some_state.reachable) in
     let same : seen ≡ shown_fields z s = same_fields seen (shown_fields z s) seen_lawful lawful (seen_is ∙ now.1) in
-    let d : CoordView = released_coord c in
-    let workers : (v : WorkerView) → FitsWorker z s v → FitsWorker z t v =
+    let d : CoordSeatView = released_coord c in
+    let workers : (v : WorkerSeatView) → FitsWorker z s v → FitsWorker z t v =
     λ v f. record {
-      setting = f.setting;
+      opening = f.opening;
       there = f.there;
       state = f.state;
       number = if_some v.last (λ (sight : Sight). sight.number ≤ s.phase) (λ (sight : Sight). sight.number ≤ s.phase + 1) (λ sight below. omega arith) f.number;
@@ -211,7 +211,7 @@ releases z words views place c seen some_state at may seen_lawful seen_is =
     in
     let fits : FitsCoord z t d =
     record {
-      setting = old.setting;
+      opening = old.opening;
       made = old.made;
       unmade = old.unmade;
       unlabelled = old.unlabelled;

@@ -6,9 +6,9 @@ use Rattle.std.proofs.lemmas.Bool.{cond-true}
 use mathlib.Core.Option.{some, some-injective}
 use lib.ListN.{get_elem?}
 use Rattle.atomic_table.proofs.Lists.{at_set, set_here, set_else}
-use Rattle.like_core.specs.declared.setting.Setting.{Setting}
-use Rattle.like_core.specs.declared.view.WorkerView.{WorkerView}
-use Rattle.like_core.specs.declared.view.CoordView.{CoordView}
+use Rattle.like_core.specs.declared.opening.Opening.{Opening}
+use Rattle.like_core.specs.declared.view.WorkerSeatView.{WorkerSeatView}
+use Rattle.like_core.specs.declared.view.CoordSeatView.{CoordSeatView}
 use Rattle.like_core.specs.declared.view.View.{View}
 use Rattle.like_core.specs.declared.view.View.TheVariants.{Coord, Worker, Spent}
 use Rattle.like_core.specs.State.{CoreState}
@@ -19,20 +19,20 @@ use Rattle.like_board.proofs.ViewLists.{within, sum_two, sum_swap, sum_lone}
 use Rattle.like_board.proofs.Moves.{same_coord, has_seat, once_at_most}
 
 -- the views after the seat at `other` was given back to the coordinator's at `place`
-abbrev pub gathered : List View → ℕ → ℕ → CoordView → WorkerView → List View
+abbrev pub gathered : List View → ℕ → ℕ → CoordSeatView → WorkerSeatView → List View
 gathered views place other c v = set (set views place (Coord (gathered_coord c v))) other Spent
 
 -- a sum over the views then
-sum_gathered : (f : View → ℕ) (views : List View) (place other : ℕ) (c : CoordView) (v : WorkerView) → get_elem? views place ≡ some (Coord c) → get_elem? (set views place (Coord (gathered_coord c v))) other ≡ some (Worker v) → f Spent ≡ 0 → f (Coord (gathered_coord c v)) ≡ f (Worker v) + f (Coord c) → sum_by f (gathered views place other c v) ≡ sum_by f views
+sum_gathered : (f : View → ℕ) (views : List View) (place other : ℕ) (c : CoordSeatView) (v : WorkerSeatView) → get_elem? views place ≡ some (Coord c) → get_elem? (set views place (Coord (gathered_coord c v))) other ≡ some (Worker v) → f Spent ≡ 0 → f (Coord (gathered_coord c v)) ≡ f (Worker v) + f (Coord c) → sum_by f (gathered views place other c v) ≡ sum_by f views
 sum_gathered f views place other c v at mine spent more =
     let first = sum_swap f views place (Coord c) (Coord (gathered_coord c v)) at in
     let second = sum_swap f (set views place (Coord (gathered_coord c v))) other (Worker v) Spent mine in
     omega arith
 
 -- the coordinator's view fits with one worker's view more
-fits_gathered : (z : Setting) (s : CoreState) (c : CoordView) (v : WorkerView) → FitsCoord z s c → FitsWorker z s v → FitsCoord z s (gathered_coord c v)
+fits_gathered : (z : Opening) (s : CoreState) (c : CoordSeatView) (v : WorkerSeatView) → FitsCoord z s c → FitsWorker z s v → FitsCoord z s (gathered_coord c v)
 fits_gathered z s c v f g = record {
-  setting = f.setting;
+  opening = f.opening;
   made = f.made;
   unmade = f.unmade;
   unlabelled = f.unlabelled;
@@ -45,16 +45,16 @@ fits_gathered z s c v f g = record {
   joined = either f g;
 }
   where
-    either : FitsCoord z s c → FitsWorker z s v → (at : ℕ) (w : WorkerView) → get_elem? (v ∷ c.joined) at ≡ some w → FitsWorker z s w
+    either : FitsCoord z s c → FitsWorker z s v → (at : ℕ) (w : WorkerSeatView) → get_elem? (v ∷ c.joined) at ≡ some w → FitsWorker z s w
     either f g zero w found = subst (FitsWorker z s) (some-injective v w found) g
     either f g (suc at) w found = f.joined at w found
 
 -- a seat that is given back changes nothing that is shown
-pub gathers : (z : Setting) (words : List ℕ) (views : List View) (place other : ℕ) (c : CoordView) (v : WorkerView) → ShowsSome z words views → get_elem? views place ≡ some (Coord c) → other ≢ place → get_elem? (set views place (Coord (gathered_coord c v))) other ≡ some (Worker v) → ShowsSome z words (gathered views place other c v)
+pub gathers : (z : Opening) (words : List ℕ) (views : List View) (place other : ℕ) (c : CoordSeatView) (v : WorkerSeatView) → ShowsSome z words views → get_elem? views place ≡ some (Coord c) → other ≢ place → get_elem? (set views place (Coord (gathered_coord c v))) other ≡ some (Worker v) → ShowsSome z words (gathered views place other c v)
 gathers z words views place other c v some_state at apart mine =
     let s = some_state.state in
     let sh = some_state.shows in
-    let d : CoordView = gathered_coord c v in
+    let d : CoordSeatView = gathered_coord c v in
     let changed : List View = set views place (Coord d) in
     let is = same_coord z s words views place c sh at in
     let old : FitsCoord z s c = sh.each place (Coord c) at in
@@ -68,7 +68,7 @@ gathers z words views place other c v some_state at apart mine =
       state = s;
       reachable = some_state.reachable;
       shows = record {
-        setting = sh.setting;
+        opening = sh.opening;
         width = sh.width;
         word = sh.word;
         pages = sh.pages;
@@ -91,30 +91,30 @@ gathers z words views place other c v some_state at apart mine =
         ];
         once = λ i.
             sum_gathered (seats_of i) views place other c v at mine refl
-            (sum_by-cons (λ (w : WorkerView). cond (w.worker == i) 1 0) v c.joined) ∙
-            (sh.once i ∙ ap (λ (e : CoordView). cond (nat_lt i e.made) 1 0) is.1);
+            (sum_by-cons (λ (w : WorkerSeatView). cond (w.worker == i) 1 0) v c.joined) ∙
+            (sh.once i ∙ ap (λ (e : CoordSeatView). cond (nat_lt i e.made) 1 0) is.1);
       };
       tallied = record {
         sums = λ page.
             some_state.tallied.sums page ∙
             sym
             (sum_gathered (paged page) views place other c v at mine refl
-            (sum_by-cons (λ (w : WorkerView). added_to page w.additions) v c.joined));
+            (sum_by-cons (λ (w : WorkerSeatView). added_to page w.additions) v c.joined));
         rooms = λ page.
             let before = some_state.tallied.rooms page in
-            let more = sum_by-cons (λ (w : WorkerView). left_to page w) v c.joined in
+            let more = sum_by-cons (λ (w : WorkerSeatView). left_to page w) v c.joined in
             let same = sum_gathered (room page) views place other c v at mine refl (omega arith) in
             omega arith;
       };
     }
 
 -- beside a coordinator that has all workers' seats back, no view adds to a page
-others_spent : (z : Setting) (s : CoreState) (words : List ℕ) (views : List View) (place : ℕ) (c : CoordView) → Shows z s words views → get_elem? views place ≡ some (Coord c) → ((i : ℕ) → i < c.made → seats_of i (Coord c) ≡ 1) → (page j : ℕ) (u : View) → j ≢ place → get_elem? views j ≡ some u → paged page u ≡ 0
+others_spent : (z : Opening) (s : CoreState) (words : List ℕ) (views : List View) (place : ℕ) (c : CoordSeatView) → Shows z s words views → get_elem? views place ≡ some (Coord c) → ((i : ℕ) → i < c.made → seats_of i (Coord c) ≡ 1) → (page j : ℕ) (u : View) → j ≢ place → get_elem? views j ≡ some u → paged page u ≡ 0
 others_spent z s words views place c sh at all page j (Coord e) other found =
     absurd (other (sh.only j e found ∙ sym (sh.only place c at)))
 others_spent z s words views place c sh at all page j (Worker v) other found =
     let is = same_coord z s words views place c sh at in
-    let seated = subst (λ (d : CoordView). v.worker < d.made) is.1 (has_seat z s words views j v sh found) in
+    let seated = subst (λ (d : CoordSeatView). v.worker < d.made) is.1 (has_seat z s words views j v sh found) in
     let two = sum_two (seats_of v.worker) views place j (Coord c) (Worker v) (λ same. other (sym same)) at found in
     let once = sh.once v.worker in
     let most = once_at_most (nat_lt v.worker sh.coord.made) in
@@ -124,7 +124,7 @@ others_spent z s words views place c sh at all page j (Worker v) other found =
 others_spent z s words views place c sh at all page j Spent other found = refl
 
 -- where all workers' seats were given back, each page's word is its count at the start and all their additions
-pub last_word : (z : Setting) (words : List ℕ) (views : List View) (place : ℕ) (c : CoordView) → ShowsSome z words views → get_elem? views place ≡ some (Coord c) → ((i : ℕ) → i < c.made → seats_of i (Coord c) ≡ 1) → (page : ℕ) → page < length z.counts → get_or words (page + 1) 0 ≡ get_or z.counts page 0 + sum_by (λ w. added_to page w.additions) c.joined
+pub last_word : (z : Opening) (words : List ℕ) (views : List View) (place : ℕ) (c : CoordSeatView) → ShowsSome z words views → get_elem? views place ≡ some (Coord c) → ((i : ℕ) → i < c.made → seats_of i (Coord c) ≡ 1) → (page : ℕ) → page < length z.counts → get_or words (page + 1) 0 ≡ get_or z.counts page 0 + sum_by (λ w. added_to page w.additions) c.joined
 last_word z words views place c some_state at all page on =
     let s = some_state.state in
     let sh = some_state.shows in

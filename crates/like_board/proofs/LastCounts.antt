@@ -7,9 +7,9 @@ use mathlib.Core.Option.{some, some-injective, some-ne-none}
 use lib.ListN.{get_elem?}
 use Rattle.atomic_table.specs.Table.{Final, Seen}
 use Rattle.like_core.specs.declared.sight.Sight.{Sight}
-use Rattle.like_core.specs.declared.setting.Setting.{Setting}
-use Rattle.like_core.specs.declared.view.WorkerView.{WorkerView}
-use Rattle.like_core.specs.declared.view.CoordView.{CoordView}
+use Rattle.like_core.specs.declared.opening.Opening.{Opening}
+use Rattle.like_core.specs.declared.view.WorkerSeatView.{WorkerSeatView}
+use Rattle.like_core.specs.declared.view.CoordSeatView.{CoordSeatView}
 use Rattle.like_core.specs.declared.view.View.{View}
 use Rattle.like_core.specs.declared.view.View.TheVariants.{Coord}
 use Rattle.like_core.specs.Post.{additions_of}
@@ -18,8 +18,8 @@ use Rattle.like_core.specs.Shows.{ShowsSome, FitsWorker, FitsCoord}
 use Rattle.like_core.proofs.Posts.{additions_at}
 use Rattle.like_board.specs.declared.key.Key.{Key}
 use Rattle.like_board.specs.declared.worker_seat.WorkerSeat.{WorkerSeat}
-use Rattle.like_board.specs.Known.{coord_of}
-use Rattle.like_board.specs.Rule.{setting_of, IsShowing}
+use Rattle.like_board.specs.Known.{coord_view_of}
+use Rattle.like_board.specs.Rule.{opening_of, IsShowing}
 use Rattle.like_board.specs.Seats.{seat_view, seat_meaning, AreAll, last_count}
 use Rattle.like_board.proofs.Moves.{if_some}
 use Rattle.like_board.proofs.Gathering.{last_word}
@@ -53,28 +53,28 @@ sum_same f h (x ∷ xs) each =
     omega (arith, sum_by-cons f x xs, sum_by-cons h x xs)
 
 -- where all seats were given back, a page's word is its count at the start and what they mean to have added
-closed_word : (z : Setting) (words : List ℕ) (views : List View) (place : ℕ) (c : CoordView) → ShowsSome z words views → get_elem? views place ≡ some (Coord c) → c.made ≡ c.setting.workers → ((i : ℕ) → i < c.setting.workers → seats_of i (Coord c) ≡ 1) → (page : ℕ) → page < length c.setting.counts → get_or words (page + 1) 0 ≡ get_or c.setting.counts page 0 + sum_by (λ w. additions_of (post_of w) page) c.joined
+closed_word : (z : Opening) (words : List ℕ) (views : List View) (place : ℕ) (c : CoordSeatView) → ShowsSome z words views → get_elem? views place ≡ some (Coord c) → c.made ≡ c.opening.workers → ((i : ℕ) → i < c.opening.workers → seats_of i (Coord c) ≡ 1) → (page : ℕ) → page < length c.opening.counts → get_or words (page + 1) 0 ≡ get_or c.opening.counts page 0 + sum_by (λ w. additions_of (post_of w) page) c.joined
 closed_word z words views place c some_state at made all page on =
     let sh = some_state.shows in
     let old : FitsCoord z some_state.state c = sh.each place (Coord c) at in
-    let same : c.setting ≡ z = old.setting in
-    let sized = ap (λ (y : Setting). length y.counts) same in
+    let same : c.opening ≡ z = old.opening in
+    let sized = ap (λ (y : Opening). length y.counts) same in
     let word =
     last_word z words views place c some_state at (λ i below. all i (omega arith)) page (omega arith)
     in
-    let first = ap (λ (y : Setting). get_or y.counts page 0) same in
+    let first = ap (λ (y : Opening). get_or y.counts page 0) same in
     let sums =
-    sum_same (λ (w : WorkerView). additions_of (post_of w) page) (λ (w : WorkerView). added_to page w.additions) c.joined
+    sum_same (λ (w : WorkerSeatView). additions_of (post_of w) page) (λ (w : WorkerSeatView). added_to page w.additions) c.joined
     (λ k w found.
     let fits : FitsWorker z some_state.state w = old.joined k w found in
-    let marks = ap (λ (y : Setting). length y.marks) fits.setting in
-    let paired = sh.setting.marks in
+    let marks = ap (λ (y : Opening). length y.marks) fits.opening in
+    let paired = sh.opening.marks in
     additions_at w page (omega arith))
     in
     omega arith
 
 -- no worker whose seat was given back saw a later phase
-closed_phase : (z : Setting) (words : List ℕ) (views : List View) (place : ℕ) (c : CoordView) → ShowsSome z words views → get_elem? views place ≡ some (Coord c) → (k : ℕ) (w : WorkerView) → get_elem? c.joined k ≡ some w → IfSome w.last (λ sight. sight.number ≤ c.phase)
+closed_phase : (z : Opening) (words : List ℕ) (views : List View) (place : ℕ) (c : CoordSeatView) → ShowsSome z words views → get_elem? views place ≡ some (Coord c) → (k : ℕ) (w : WorkerSeatView) → get_elem? c.joined k ≡ some w → IfSome w.last (λ sight. sight.number ≤ c.phase)
 closed_phase z words views place c some_state at k w found =
     let old : FitsCoord z some_state.state c = some_state.shows.each place (Coord c) at in
     let fits : FitsWorker z some_state.state w = old.joined k w found in
@@ -84,30 +84,30 @@ closed_phase z words views place c some_state at k w found =
     fits.number
 
 -- the last words and phases, where the coordinator's seat has all workers' seats
-pub closes : {S : Type 0} (key : Key) (id : ℕ) (me : View) (words : List ℕ) (slots : List S) (c : CoordView) (seats : List WorkerSeat) → Final (Seen (IsShowing key) id me) words slots → me ≡ Coord (record c { joined = map seat_view seats ++ c.joined }) → c.joined ≡ [] → c.made ≡ c.setting.workers → AreAll c.setting.workers seats → ((page : ℕ) → page < length c.setting.counts → get_or words (page + 1) 0 ≡ last_count c.setting seats page) × All (λ seat. IfSome (seat_meaning seat).last (λ sight. sight.number ≤ c.phase)) seats
+pub closes : {S : Type 0} (key : Key) (id : ℕ) (me : View) (words : List ℕ) (slots : List S) (c : CoordSeatView) (seats : List WorkerSeat) → Final (Seen (IsShowing key) id me) words slots → me ≡ Coord (record c { joined = map seat_view seats ++ c.joined }) → c.joined ≡ [] → c.made ≡ c.opening.workers → AreAll c.opening.workers seats → ((page : ℕ) → page < length c.opening.counts → get_or words (page + 1) 0 ≡ last_count c.opening seats page) × All (λ seat. IfSome (seat_meaning seat).last (λ sight. sight.number ≤ c.phase)) seats
 closes key id me words slots c seats final me_is none made all =
-    let z = setting_of key in
+    let z = opening_of key in
     let views : List View = final.0.views in
     let back : map seat_view seats ++ c.joined ≡ map seat_view seats =
-    ap (λ (l : List WorkerView). map seat_view seats ++ l) none ∙ append-nil (map seat_view seats)
+    ap (λ (l : List WorkerSeatView). map seat_view seats ++ l) none ∙ append-nil (map seat_view seats)
     in
-    let d : CoordView = record c { joined = map seat_view seats } in
-    let is : me ≡ Coord d = me_is ∙ ap (λ (l : List WorkerView). Coord (record c { joined = l })) back in
+    let d : CoordSeatView = record c { joined = map seat_view seats } in
+    let is : me ≡ Coord d = me_is ∙ ap (λ (l : List WorkerSeatView). Coord (record c { joined = l })) back in
     let at : get_elem? views id ≡ some (Coord d) = final.1.1 ∙ ap some is in
     let shows : ShowsSome z words views = subst (λ (l : List ℕ). ShowsSome z l views) final.2 final.1.0 in
-    let each : (i : ℕ) → i < c.setting.workers → seats_of i (Coord d) ≡ 1 =
-    λ i below. sum_by-map seat_view (λ (w : WorkerView). cond (w.worker == i) 1 0) seats ∙ all i below
+    let each : (i : ℕ) → i < c.opening.workers → seats_of i (Coord d) ≡ 1 =
+    λ i below. sum_by-map seat_view (λ (w : WorkerSeatView). cond (w.worker == i) 1 0) seats ∙ all i below
     in (
       λ page on.
           closed_word z words views id d shows at made each page on ∙
-          ap (λ (k : ℕ). get_or c.setting.counts page 0 + k) (sum_by-map seat_view (λ (w : WorkerView). additions_of (post_of w) page) seats),
+          ap (λ (k : ℕ). get_or c.opening.counts page 0 + k) (sum_by-map seat_view (λ (w : WorkerSeatView). additions_of (post_of w) page) seats),
       λ k seat below.
           closed_phase z words views id d shows at k (seat_view (get_or seats k seat)) (at_mapped seat_view seats k seat below),
     )
 
 -- a view that is some coordinator's is the coordinator's that it is read as
-pub as_coord : (v : View) (c : CoordView) → v ≡ Coord c → v ≡ Coord (coord_of v)
-as_coord v c is = is ∙ ap Coord (sym (ap coord_of is))
+pub as_coord : (v : View) (c : CoordSeatView) → v ≡ Coord c → v ≡ Coord (coord_view_of v)
+as_coord v c is = is ∙ ap Coord (sym (ap coord_view_of is))
 
 last_read : {A : Type 0} (xs : List A) (x : A) → get_or (xs ++ x ∷ []) (length xs) x ≡ x
 last_read [] x = refl

@@ -7,9 +7,9 @@ use Rattle.std.proofs.lemmas.Bool.{cases_eq, cases_lt, le-ltb, lt-ltb, ne_eqb}
 use mathlib.Core.Option.{some}
 use lib.ListN.{get_elem?}
 use Rattle.atomic_table.proofs.Lists.{at_set, at_snoc, at_longer, set_here}
-use Rattle.like_core.specs.declared.setting.Setting.{Setting}
-use Rattle.like_core.specs.declared.view.WorkerView.{WorkerView}
-use Rattle.like_core.specs.declared.view.CoordView.{CoordView}
+use Rattle.like_core.specs.declared.opening.Opening.{Opening}
+use Rattle.like_core.specs.declared.view.WorkerSeatView.{WorkerSeatView}
+use Rattle.like_core.specs.declared.view.CoordSeatView.{CoordSeatView}
 use Rattle.like_core.specs.declared.view.View.{View}
 use Rattle.like_core.specs.declared.view.View.TheVariants.{Coord, Worker, Spent}
 use Rattle.like_core.specs.State.{CoreState}
@@ -25,14 +25,14 @@ phased s phase ending = record s { phase = phase; ending = ending }
 
 -- after the coordinator led to this phase, with a new view of its own that fits, the words and the views show the state
 -- after, where all workers' views fit that too
-pub leads : (z : Setting) (s : CoreState) (words : List ℕ) (views : List View) (place : ℕ) (c d : CoordView) (phase : ℕ) (ending : Bool) (word : ℕ) → Shows z s words views → get_elem? views place ≡ some (Coord c) → d.made ≡ c.made → d.joined ≡ c.joined → word ≡ shown_word z (phased s phase ending) → FitsCoord z (phased s phase ending) d → ((v : WorkerView) → FitsWorker z s v → FitsWorker z (phased s phase ending) v) → Shows z (phased s phase ending) (set words 0 word) (set views place (Coord d))
+pub leads : (z : Opening) (s : CoreState) (words : List ℕ) (views : List View) (place : ℕ) (c d : CoordSeatView) (phase : ℕ) (ending : Bool) (word : ℕ) → Shows z s words views → get_elem? views place ≡ some (Coord c) → d.made ≡ c.made → d.joined ≡ c.joined → word ≡ shown_word z (phased s phase ending) → FitsCoord z (phased s phase ending) d → ((v : WorkerSeatView) → FitsWorker z s v → FitsWorker z (phased s phase ending) v) → Shows z (phased s phase ending) (set words 0 word) (set views place (Coord d))
 leads z s words views place c d phase ending word sh at made joined word_is fits workers =
     let t : CoreState = phased s phase ending in
     let wide = sh.width in
     let is = same_coord z s words views place c sh at in
     let others : (j : ℕ) (u : View) → j ≢ place → get_elem? views j ≡ some u → Fits z s u → Fits z t u =
     λ j u other found f.
-    let P : View → Type 0 = λ x. ((e : CoordView) → x ≡ Coord e → ⊥) → Fits z s x → Fits z t x in
+    let P : View → Type 0 = λ x. ((e : CoordSeatView) → x ≡ Coord e → ⊥) → Fits z s x → Fits z t x in
     let by_view : P u =
     elim u as P [
       | Coord e ↦ λ no_coord _. absurd (no_coord e refl)
@@ -43,7 +43,7 @@ leads z s words views place c d phase ending word sh at made joined word_is fits
     by_view (λ e same. other (sh.only j e (found ∙ ap some same) ∙ sym is.0)) f
     in
     record {
-      setting = sh.setting;
+      opening = sh.opening;
       width = length-set words 0 word ∙ sh.width;
       word = get_or-set_same words 0 word 0 (omega arith) ∙ word_is;
       pages = λ page below. get_or-set_other words 0 (page + 1) word 0 (λ eq. absurd (omega arith)) ∙ sh.pages page below;
@@ -59,8 +59,8 @@ leads z s words views place c d phase ending word sh at made joined word_is fits
         | inr there ↦ others j u there.0 there.1 (sh.each j u there.1)
       ];
       once = λ i.
-          sum_set (seats_of i) views place (Coord c) (Coord d) at (ap (count_by (λ (w : WorkerView). w.worker == i)) joined) ∙
-          (sh.once i ∙ ap (λ n. cond (nat_lt i n) 1 0) (ap (λ (e : CoordView). e.made) is.1 ∙ sym made));
+          sum_set (seats_of i) views place (Coord c) (Coord d) at (ap (count_by (λ (w : WorkerSeatView). w.worker == i)) joined) ∙
+          (sh.once i ∙ ap (λ n. cond (nat_lt i n) 1 0) (ap (λ (e : CoordSeatView). e.made) is.1 ∙ sym made));
     }
 
 one_more : (i n : ℕ) → cond (nat_lt i n) 1 0 + cond (n == i) 1 0 ≡ cond (nat_lt i (n + 1)) 1 0
@@ -85,16 +85,16 @@ one_more i n = elim (cases_lt i n) [
 ]
 
 -- a seat for the next worker changes nothing that is shown
-pub splits : (z : Setting) (s : CoreState) (words : List ℕ) (views : List View) (place : ℕ) (c : CoordView) → Shows z s words views → get_elem? views place ≡ some (Coord c) → c.made < z.workers → Shows z s words (set views place (Coord (made_coord c)) ++ Worker (fresh z c.made) ∷ [])
+pub splits : (z : Opening) (s : CoreState) (words : List ℕ) (views : List View) (place : ℕ) (c : CoordSeatView) → Shows z s words views → get_elem? views place ≡ some (Coord c) → c.made < z.workers → Shows z s words (set views place (Coord (made_coord c)) ++ Worker (fresh z c.made) ∷ [])
 splits z s words views place c sh at room =
     let is = same_coord z s words views place c sh at in
-    let d : CoordView = made_coord c in
+    let d : CoordSeatView = made_coord c in
     let changed : List View = set views place (Coord d) in
-    let new : WorkerView = fresh z c.made in
+    let new : WorkerSeatView = fresh z c.made in
     let old : FitsCoord z s c = sh.each place (Coord c) at in
     let fits : FitsCoord z s d =
     record {
-      setting = old.setting;
+      opening = old.opening;
       made = omega arith;
       unmade = λ i past below. old.unmade i (omega arith) below;
       unlabelled = λ i phase page past below. old.unlabelled i phase page (omega arith) below;
@@ -109,7 +109,7 @@ splits z s words views place c sh at room =
     in
     let fits_new : FitsWorker z s new =
     record {
-      setting = refl;
+      opening = refl;
       there = room;
       state = old.unmade c.made (omega arith) room;
       number = tt;
@@ -118,7 +118,7 @@ splits z s words views place c sh at room =
     }
     in
     record {
-      setting = sh.setting;
+      opening = sh.opening;
       width = sh.width;
       word = sh.word;
       pages = sh.pages;
@@ -144,6 +144,6 @@ splits z s words views place c sh at room =
           sum_by_push (seats_of i) changed (Worker new) ∙
           (ap (λ n. n + cond (c.made == i) 1 0)
           (sum_set (seats_of i) views place (Coord c) (Coord d) at refl ∙
-          (sh.once i ∙ ap (λ (e : CoordView). cond (nat_lt i e.made) 1 0) is.1)) ∙
+          (sh.once i ∙ ap (λ (e : CoordSeatView). cond (nat_lt i e.made) 1 0) is.1)) ∙
           one_more i c.made);
     }

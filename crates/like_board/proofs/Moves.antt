@@ -9,9 +9,9 @@ use Rattle.atomic_table.proofs.Lists.{at_set, set_else}
 use Rattle.like_core.specs.declared.worker_state.WorkerState.{WorkerState}
 use Rattle.like_core.specs.declared.worker_state.WorkerState.TheVariants.{Gone}
 use Rattle.like_core.specs.declared.sight.CoordSight.{CoordSight}
-use Rattle.like_core.specs.declared.setting.Setting.{Setting}
-use Rattle.like_core.specs.declared.view.WorkerView.{WorkerView}
-use Rattle.like_core.specs.declared.view.CoordView.{CoordView}
+use Rattle.like_core.specs.declared.opening.Opening.{Opening}
+use Rattle.like_core.specs.declared.view.WorkerSeatView.{WorkerSeatView}
+use Rattle.like_core.specs.declared.view.CoordSeatView.{CoordSeatView}
 use Rattle.like_core.specs.declared.view.View.{View}
 use Rattle.like_core.specs.declared.view.View.TheVariants.{Coord, Worker, Spent}
 use Rattle.like_core.specs.Functions.{update}
@@ -39,9 +39,9 @@ moved_same s i state same =
     λ m. record s { state = λ j. each j m }
 
 -- a view of another worker keeps fitting while a worker moves
-fits_worker_moved : (z : Setting) (s : CoreState) (i : ℕ) (state : WorkerState) (v : WorkerView) → v.worker ≢ i → FitsWorker z s v → FitsWorker z (moved s i state) v
+fits_worker_moved : (z : Opening) (s : CoreState) (i : ℕ) (state : WorkerState) (v : WorkerSeatView) → v.worker ≢ i → FitsWorker z s v → FitsWorker z (moved s i state) v
 fits_worker_moved z s i state v other f = record {
-  setting = f.setting;
+  opening = f.opening;
   there = f.there;
   state = update-other s.state i state v.worker other ∙ f.state;
   number = f.number;
@@ -50,20 +50,20 @@ fits_worker_moved z s i state v other f = record {
 }
 
 -- a worker of which no seat was given back is none of those whose seats were
-pub joined_other : (c : CoordView) (i place : ℕ) (v : WorkerView) → seats_of i (Coord c) ≡ 0 → get_elem? c.joined place ≡ some v → v.worker ≢ i
+pub joined_other : (c : CoordSeatView) (i place : ℕ) (v : WorkerSeatView) → seats_of i (Coord c) ≡ 0 → get_elem? c.joined place ≡ some v → v.worker ≢ i
 joined_other c i place v none at =
     λ same.
-    let part = sum_part (λ (w : WorkerView). cond (w.worker == i) 1 0) c.joined place v at in
+    let part = sum_part (λ (w : WorkerSeatView). cond (w.worker == i) 1 0) c.joined place v at in
     let one : cond {A = ℕ} (v.worker == i) 1 0 ≡ 1 = cond-true (v.worker == i) 1 0 (eq-eqb v.worker i same) in
     absurd (omega arith)
 
 -- the coordinator's view keeps fitting while a worker moves
-fits_coord_moved : (z : Setting) (s : CoreState) (c : CoordView) (i : ℕ) (state : WorkerState) → i < z.workers → i < c.made → seats_of i (Coord c) ≡ 0 → (IsIn s.phase (s.state i) → state ≡ s.state i) → (IsSplit s.phase → state ≡ Gone → s.state i ≡ Gone) → FitsCoord z s c → FitsCoord z (moved s i state) c
+fits_coord_moved : (z : Opening) (s : CoreState) (c : CoordSeatView) (i : ℕ) (state : WorkerState) → i < z.workers → i < c.made → seats_of i (Coord c) ≡ 0 → (IsIn s.phase (s.state i) → state ≡ s.state i) → (IsSplit s.phase → state ≡ Gone → s.state i ≡ Gone) → FitsCoord z s c → FitsCoord z (moved s i state) c
 fits_coord_moved z s c i state there has_seat none stays gone f =
     let t : CoreState = moved s i state in
     let same : AllIn (numbers z s) → t ≡ s = λ all. moved_same s i state (stays (all i there)) in
     record {
-      setting = f.setting;
+      opening = f.opening;
       made = f.made;
       unmade = λ j past below. update-other s.state i state j (λ eq. absurd (omega arith)) ∙ f.unmade j past below;
       unlabelled = f.unlabelled;
@@ -93,14 +93,14 @@ fits_coord_moved z s c i state there has_seat none stays gone f =
     }
 
 -- a view that is no seat of a worker's is of another
-pub worker_other : (i : ℕ) (v : WorkerView) → seats_of i (Worker v) ≡ 0 → v.worker ≢ i
+pub worker_other : (i : ℕ) (v : WorkerSeatView) → seats_of i (Worker v) ≡ 0 → v.worker ≢ i
 worker_other i v none =
     λ same.
     let one : seats_of i (Worker v) ≡ 1 = cond-true (v.worker == i) 1 0 (eq-eqb v.worker i same) in
     absurd (omega arith)
 
 -- another seat's view keeps fitting while a worker moves
-fits_other : (z : Setting) (s : CoreState) (i : ℕ) (state : WorkerState) → i < z.workers → (IsIn s.phase (s.state i) → state ≡ s.state i) → (IsSplit s.phase → state ≡ Gone → s.state i ≡ Gone) → (u : View) → seats_of i u ≡ 0 → ((c : CoordView) → u ≡ Coord c → i < c.made) → Fits z s u → Fits z (moved s i state) u
+fits_other : (z : Opening) (s : CoreState) (i : ℕ) (state : WorkerState) → i < z.workers → (IsIn s.phase (s.state i) → state ≡ s.state i) → (IsSplit s.phase → state ≡ Gone → s.state i ≡ Gone) → (u : View) → seats_of i u ≡ 0 → ((c : CoordSeatView) → u ≡ Coord c → i < c.made) → Fits z s u → Fits z (moved s i state) u
 fits_other z s i state there stays gone (Coord c) none has_seat f =
     fits_coord_moved z s c i state there (has_seat c refl) none stays gone f
 fits_other z s i state there stays gone (Worker v) none has_seat f =
@@ -116,7 +116,7 @@ pub counts_one : (b : Bool) → b ≡ true → ◌≡◌ {A = ℕ} (cond b 1 0) 
 counts_one b is = cond-true b 1 0 is
 
 -- a worker that has a seat is among those for which one was made
-pub has_seat : (z : Setting) (s : CoreState) (words : List ℕ) (views : List View) (place : ℕ) (v : WorkerView) → (sh : Shows z s words views) → get_elem? views place ≡ some (Worker v) → v.worker < sh.coord.made
+pub has_seat : (z : Opening) (s : CoreState) (words : List ℕ) (views : List View) (place : ℕ) (v : WorkerSeatView) → (sh : Shows z s words views) → get_elem? views place ≡ some (Worker v) → v.worker < sh.coord.made
 has_seat z s words views place v sh at =
     let part = sum_part (seats_of v.worker) views place (Worker v) at in
     let one : seats_of v.worker (Worker v) ≡ 1 = cond-true (v.worker == v.worker) 1 0 (eq-eqb v.worker v.worker refl) in
@@ -134,7 +134,7 @@ once_at_most true = omega arith
 once_at_most false = omega arith
 
 -- the one coordinator's view
-pub same_coord : (z : Setting) (s : CoreState) (words : List ℕ) (views : List View) (place : ℕ) (c : CoordView) → (sh : Shows z s words views) → get_elem? views place ≡ some (Coord c) → (place ≡ 0) × (sh.coord ≡ c)
+pub same_coord : (z : Opening) (s : CoreState) (words : List ℕ) (views : List View) (place : ℕ) (c : CoordSeatView) → (sh : Shows z s words views) → get_elem? views place ≡ some (Coord c) → (place ≡ 0) × (sh.coord ≡ c)
 same_coord z s words views place c sh at =
     let zeroth = sh.only place c at in
     let here : get_elem? views 0 ≡ some (Coord c) = ap (get_elem? views) (sym zeroth) ∙ at in
@@ -144,7 +144,7 @@ same_coord z s words views place c sh at =
 
 -- after a worker's step, with a new view of its own that fits, the words and the views show the state after, where the
 -- words do and each view fits it that is no seat of the worker's
-pub worker_steps : (z : Setting) (s t : CoreState) (words later : List ℕ) (views : List View) (place : ℕ) (v w : WorkerView) → Shows z s words views → get_elem? views place ≡ some (Worker v) → w.worker ≡ v.worker → length later ≡ length words → get_or later 0 0 ≡ shown_word z t → ((page : ℕ) → page < length z.counts → get_or later (page + 1) 0 ≡ get_or z.counts page 0 + length (t.applied page)) → ((i : ℕ) → t.unmerged i ≡ []) → FitsWorker z t w → ((u : View) → seats_of v.worker u ≡ 0 → ((c : CoordView) → u ≡ Coord c → v.worker < c.made) → Fits z s u → Fits z t u) → Shows z t later (set views place (Worker w))
+pub worker_steps : (z : Opening) (s t : CoreState) (words later : List ℕ) (views : List View) (place : ℕ) (v w : WorkerSeatView) → Shows z s words views → get_elem? views place ≡ some (Worker v) → w.worker ≡ v.worker → length later ≡ length words → get_or later 0 0 ≡ shown_word z t → ((page : ℕ) → page < length z.counts → get_or later (page + 1) 0 ≡ get_or z.counts page 0 + length (t.applied page)) → ((i : ℕ) → t.unmerged i ≡ []) → FitsWorker z t w → ((u : View) → seats_of v.worker u ≡ 0 → ((c : CoordSeatView) → u ≡ Coord c → v.worker < c.made) → Fits z s u → Fits z t u) → Shows z t later (set views place (Worker w))
 worker_steps z s t words later views place v w sh at number width word pages merged fits others =
     let seated = has_seat z s words views place v sh at in
     let not_first : place ≢ 0 = λ zeroth.
@@ -154,7 +154,7 @@ worker_steps z s t words later views place v w sh at number width word pages mer
     cc
     in
     record {
-      setting = sh.setting;
+      opening = sh.opening;
       width = width ∙ sh.width;
       word = word;
       pages = pages;
@@ -173,7 +173,7 @@ worker_steps z s t words later views place v w sh at number width word pages mer
             let most = once_at_most (nat_lt v.worker sh.coord.made) in
             let one : seats_of v.worker (Worker v) ≡ 1 = cond-true (v.worker == v.worker) 1 0 (eq-eqb v.worker v.worker refl) in
             others u (omega arith)
-            (λ c is. subst (λ (d : CoordView). v.worker < d.made) (same_coord z s words views j c sh (there.1 ∙ ap some is)).1 seated)
+            (λ c is. subst (λ (d : CoordSeatView). v.worker < d.made) (same_coord z s words views j c sh (there.1 ∙ ap some is)).1 seated)
             (sh.each j u there.1)
       ];
       once = λ i.
@@ -181,7 +181,7 @@ worker_steps z s t words later views place v w sh at number width word pages mer
     }
 
 -- after worker i moved, with a new view of its own that fits, the words and the views show the state after
-pub worker_moves : (z : Setting) (s : CoreState) (words : List ℕ) (views : List View) (place : ℕ) (v w : WorkerView) (state : WorkerState) (word : ℕ) → Shows z s words views → get_elem? views place ≡ some (Worker v) → w.worker ≡ v.worker → word ≡ shown_word z (moved s v.worker state) → FitsWorker z (moved s v.worker state) w → (IsIn s.phase (s.state v.worker) → state ≡ s.state v.worker) → (IsSplit s.phase → state ≡ Gone → s.state v.worker ≡ Gone) → Shows z (moved s v.worker state) (set words 0 word) (set views place (Worker w))
+pub worker_moves : (z : Opening) (s : CoreState) (words : List ℕ) (views : List View) (place : ℕ) (v w : WorkerSeatView) (state : WorkerState) (word : ℕ) → Shows z s words views → get_elem? views place ≡ some (Worker v) → w.worker ≡ v.worker → word ≡ shown_word z (moved s v.worker state) → FitsWorker z (moved s v.worker state) w → (IsIn s.phase (s.state v.worker) → state ≡ s.state v.worker) → (IsSplit s.phase → state ≡ Gone → s.state v.worker ≡ Gone) → Shows z (moved s v.worker state) (set words 0 word) (set views place (Worker w))
 worker_moves z s words views place v w state word sh at number word_is fits stays gone =
     let wide = sh.width in
     let old : FitsWorker z s v = sh.each place (Worker v) at in

@@ -5,8 +5,8 @@ use mathlib.Core.Option.{some, some-injective, some-ne-none}
 use lib.ListN.{get_elem?}
 use Rattle.like_core.specs.declared.worker_state.WorkerState.{WorkerState}
 use Rattle.like_core.specs.declared.worker_state.WorkerState.TheVariants.{Runs, Gone}
-use Rattle.like_core.specs.declared.setting.Setting.{Setting}
-use Rattle.like_core.specs.declared.view.CoordView.{CoordView}
+use Rattle.like_core.specs.declared.opening.Opening.{Opening}
+use Rattle.like_core.specs.declared.view.CoordSeatView.{CoordSeatView}
 use Rattle.like_core.specs.declared.view.View.{View}
 use Rattle.like_core.specs.declared.view.View.TheVariants.{Coord}
 use Rattle.like_core.specs.Word.{packed}
@@ -14,15 +14,15 @@ use Rattle.like_core.specs.State.{start}
 use Rattle.like_core.specs.ShownWord.{mask, has_answered, is_gone, shown_fields}
 use Rattle.like_core.specs.Sights.{first_fields}
 use Rattle.like_core.specs.Views.{fresh_coord}
-use Rattle.like_core.specs.Shows.{IsSetting, ShowsSome, Fits, FitsCoord}
+use Rattle.like_core.specs.Shows.{IsOpening, ShowsSome, Fits, FitsCoord}
 use Rattle.like_core.proofs.Reached.{start_reached}
 use Rattle.like_core.proofs.Masks.{mask_none}
 use Rattle.like_board.specs.declared.key.Key.{Key}
-use Rattle.like_board.specs.Rule.{setting_of, first_view}
+use Rattle.like_board.specs.Rule.{opening_of, first_view}
 use Rattle.like_board.proofs.Moves.{counts_none}
 
 -- the fields at the start are those of the core's start
-start_fields : (z : Setting) → shown_fields z (start z) ≡ first_fields z.workers
+start_fields : (z : Opening) → shown_fields z (start z) ≡ first_fields z.workers
 start_fields z =
     let P : WorkerState → Type 0 = λ st. has_answered 0 st ≡ false in
     let Q : WorkerState → Type 0 = λ st. is_gone st ≡ false in
@@ -36,12 +36,12 @@ start_fields z =
     λ m. record { kind = 0; workers = z.workers; answered = answered m; retired = retired m; number = 0 }
 
 -- a new board shows the core's start
-pub opens : (z : Setting) → IsSetting z → ShowsSome z (packed (first_fields z.workers) ∷ z.counts) (Coord (fresh_coord z (packed (first_fields z.workers))) ∷ [])
-opens z setting =
-    let c : CoordView = fresh_coord z (packed (first_fields z.workers)) in
+pub opens : (z : Opening) → IsOpening z → ShowsSome z (packed (first_fields z.workers) ∷ z.counts) (Coord (fresh_coord z (packed (first_fields z.workers))) ∷ [])
+opens z opening =
+    let c : CoordSeatView = fresh_coord z (packed (first_fields z.workers)) in
     let fits : FitsCoord z (start z) c =
     record {
-      setting = refl;
+      opening = refl;
       made = omega arith;
       unmade = λ i _ below. cond-true (nat_lt i z.workers) (Runs 0) Gone (lt-ltb i z.workers below);
       unlabelled = λ i phase page _ _. refl;
@@ -58,7 +58,7 @@ opens z setting =
       state = start z;
       reachable = start_reached z;
       shows = record {
-        setting = setting;
+        opening = opening;
         width = omega arith;
         word = ap packed (sym (start_fields z));
         pages = λ page below. rw add-one (sym (add-zero (get_or z.counts page 0)));
@@ -72,20 +72,20 @@ opens z setting =
       tallied = record { sums = λ page. refl; rooms = λ page. omega arith };
     }
   where
-    only_first : (c : CoordView) (place : ℕ) (d : CoordView) → get_elem? (Coord c ∷ []) place ≡ some (Coord d) → place ≡ 0
+    only_first : (c : CoordSeatView) (place : ℕ) (d : CoordSeatView) → get_elem? (Coord c ∷ []) place ≡ some (Coord d) → place ≡ 0
     only_first c zero d at = refl
     only_first c (suc place) d at = absurd (some-ne-none (Coord d) (sym at))
 
-    each_first : (z : Setting) (c : CoordView) → FitsCoord z (start z) c → (place : ℕ) (v : View) → get_elem? (Coord c ∷ []) place ≡ some v → Fits z (start z) v
+    each_first : (z : Opening) (c : CoordSeatView) → FitsCoord z (start z) c → (place : ℕ) (v : View) → get_elem? (Coord c ∷ []) place ≡ some v → Fits z (start z) v
     each_first z c fits zero v at = subst (Fits z (start z)) (some-injective (Coord c) v at) fits
     each_first z c fits (suc place) v at = absurd (some-ne-none v (sym at))
 
 -- a table that is made with these words starts by the rule
-pub opens_key : (key : Key) (counts : List ℕ) (marks : List Bool) (word : ℕ) (words : List ℕ) → key.counts.items ≡ counts → key.marks.items ≡ marks → word ≡ packed (first_fields key.workers) → words ≡ word ∷ counts → 1 ≤ key.workers → key.workers ≤ 16 → length marks ≡ length counts → length counts ≤ 1024 → All (λ n. n ≤ 10 ^ 18) counts → ShowsSome (setting_of key) words (first_view key ∷ [])
+pub opens_key : (key : Key) (counts : List ℕ) (marks : List Bool) (word : ℕ) (words : List ℕ) → key.counts.items ≡ counts → key.marks.items ≡ marks → word ≡ packed (first_fields key.workers) → words ≡ word ∷ counts → 1 ≤ key.workers → key.workers ≤ 16 → length marks ≡ length counts → length counts ≤ 1024 → All (λ n. n ≤ 10 ^ 18) counts → ShowsSome (opening_of key) words (first_view key ∷ [])
 opens_key key counts marks word words counts_are marks_are word_is words_are some_worker few_workers same_pages few_pages low =
-    let z : Setting = setting_of key in
+    let z : Opening = opening_of key in
     let sized : length key.counts.items ≡ length counts = ap length counts_are in
-    let setting : IsSetting z =
+    let opening : IsOpening z =
     record {
       some_worker = some_worker;
       few_workers = few_workers;
@@ -95,4 +95,4 @@ opens_key key counts marks word words counts_are marks_are word_is words_are som
     }
     in
     let same : words ≡ packed (first_fields key.workers) ∷ key.counts.items = words_are ∙ (λ m. word_is m ∷ sym counts_are m) in
-    subst (λ (ws : List ℕ). ShowsSome z ws (first_view key ∷ [])) (sym same) (opens z setting)
+    subst (λ (ws : List ℕ). ShowsSome z ws (first_view key ∷ [])) (sym same) (opens z opening)

@@ -6,9 +6,9 @@ use Rattle.std.proofs.lemmas.Bool.{cases_eq}
 use mathlib.Core.Option.{some}
 use lib.ListN.{get_elem?}
 use Rattle.like_core.specs.declared.sight.CoordSight.{CoordSight}
-use Rattle.like_core.specs.declared.setting.Setting.{Setting}
-use Rattle.like_core.specs.declared.view.WorkerView.{WorkerView}
-use Rattle.like_core.specs.declared.view.CoordView.{CoordView}
+use Rattle.like_core.specs.declared.opening.Opening.{Opening}
+use Rattle.like_core.specs.declared.view.WorkerSeatView.{WorkerSeatView}
+use Rattle.like_core.specs.declared.view.CoordSeatView.{CoordSeatView}
 use Rattle.like_core.specs.declared.view.View.{View}
 use Rattle.like_core.specs.declared.view.View.TheVariants.{Coord, Worker, Spent}
 use Rattle.like_core.specs.Numbers.{CoordSees}
@@ -27,9 +27,9 @@ abbrev pub KeepsOthers : CoreState → (ℕ → List Label) → ℕ → Type 0
 KeepsOthers s applied i = (j phase page : ℕ) → j ≢ i → labelled j phase (applied page) ≡ labelled j phase (s.applied page)
 
 -- a view of another worker keeps fitting
-fits_worker_else : (z : Setting) (s : CoreState) (unmerged : ℕ → List ℕ) (applied : ℕ → List Label) (i : ℕ) (v : WorkerView) → KeepsOthers s applied i → v.worker ≢ i → FitsWorker z s v → FitsWorker z (with_likes s unmerged applied) v
+fits_worker_else : (z : Opening) (s : CoreState) (unmerged : ℕ → List ℕ) (applied : ℕ → List Label) (i : ℕ) (v : WorkerSeatView) → KeepsOthers s applied i → v.worker ≢ i → FitsWorker z s v → FitsWorker z (with_likes s unmerged applied) v
 fits_worker_else z s unmerged applied i v keeps other f = record {
-  setting = f.setting;
+  opening = f.opening;
   there = f.there;
   state = f.state;
   number = f.number;
@@ -38,12 +38,12 @@ fits_worker_else z s unmerged applied i v keeps other f = record {
 }
 
 -- the view of another seat keeps fitting
-fits_else : (z : Setting) (s : CoreState) (unmerged : ℕ → List ℕ) (applied : ℕ → List Label) (i : ℕ) → KeepsOthers s applied i → (u : View) → seats_of i u ≡ 0 → ((c : CoordView) → u ≡ Coord c → i < c.made) → Fits z s u → Fits z (with_likes s unmerged applied) u
+fits_else : (z : Opening) (s : CoreState) (unmerged : ℕ → List ℕ) (applied : ℕ → List Label) (i : ℕ) → KeepsOthers s applied i → (u : View) → seats_of i u ≡ 0 → ((c : CoordSeatView) → u ≡ Coord c → i < c.made) → Fits z s u → Fits z (with_likes s unmerged applied) u
 fits_else z s unmerged applied i keeps (Coord c) none has_seat f =
     let seated = has_seat c refl in
     let t : CoreState = with_likes s unmerged applied in
     record {
-      setting = f.setting;
+      opening = f.opening;
       made = f.made;
       unmade = f.unmade;
       unlabelled = λ j phase page past below.
@@ -70,7 +70,7 @@ fits_else z s unmerged applied i keeps (Worker v) none has_seat f =
 fits_else z s unmerged applied i keeps Spent none has_seat f = tt
 
 -- after a step on a page's word, with a new view of its own that fits, the words and the views show the state after
-pub page_steps : (z : Setting) (s : CoreState) (unmerged : ℕ → List ℕ) (applied : ℕ → List Label) (words : List ℕ) (views : List View) (place : ℕ) (v w : WorkerView) (page word : ℕ) → Shows z s words views → get_elem? views place ≡ some (Worker v) → w.worker ≡ v.worker → page < length z.counts → word ≡ get_or z.counts page 0 + length (applied page) → ((q : ℕ) → q ≢ page → length (applied q) ≡ length (s.applied q)) → ((j : ℕ) → unmerged j ≡ []) → KeepsOthers s applied v.worker → FitsWorker z (with_likes s unmerged applied) w → Shows z (with_likes s unmerged applied) (set words (page + 1) word) (set views place (Worker w))
+pub page_steps : (z : Opening) (s : CoreState) (unmerged : ℕ → List ℕ) (applied : ℕ → List Label) (words : List ℕ) (views : List View) (place : ℕ) (v w : WorkerSeatView) (page word : ℕ) → Shows z s words views → get_elem? views place ≡ some (Worker v) → w.worker ≡ v.worker → page < length z.counts → word ≡ get_or z.counts page 0 + length (applied page) → ((q : ℕ) → q ≢ page → length (applied q) ≡ length (s.applied q)) → ((j : ℕ) → unmerged j ≡ []) → KeepsOthers s applied v.worker → FitsWorker z (with_likes s unmerged applied) w → Shows z (with_likes s unmerged applied) (set words (page + 1) word) (set views place (Worker w))
 page_steps z s unmerged applied words views place v w page word sh at number on word_is others merged keeps fits =
     let wide = sh.width in
     let t : CoreState = with_likes s unmerged applied in

@@ -5,8 +5,8 @@ use lib.ListN.{get_elem?}
 use Rattle.like_core.specs.declared.worker_state.WorkerState.TheVariants.{Runs}
 use Rattle.like_core.specs.declared.event.Event.TheVariants.{Read}
 use Rattle.like_core.specs.declared.shown.Shown.TheVariants.{Count}
-use Rattle.like_core.specs.declared.setting.Setting.{Setting}
-use Rattle.like_core.specs.declared.view.WorkerView.{WorkerView}
+use Rattle.like_core.specs.declared.opening.Opening.{Opening}
+use Rattle.like_core.specs.declared.view.WorkerSeatView.{WorkerSeatView}
 use Rattle.like_core.specs.declared.view.View.{View}
 use Rattle.like_core.specs.declared.view.View.TheVariants.{Worker}
 use Rattle.like_core.specs.Phase.{split}
@@ -23,7 +23,7 @@ use Rattle.like_board.proofs.Pages.{page_steps}
 use Rattle.like_board.proofs.Tallying.{tallied_on}
 
 -- a read is the event
-pub reads : (z : Setting) (words : List ℕ) (views : List View) (place : ℕ) (v : WorkerView) (page : ℕ) → ShowsSome z words views → get_elem? views place ≡ some (Worker v) → MayRead (post_of v) page → IsStep z (Read v.worker page) (Count (get_or words (page + 1) 0)) (Worker v) (Worker v) × ShowsSome z (set words (page + 1) (get_or words (page + 1) 0)) (set views place (Worker v)) × (added_to page v.additions ≤ get_or words (page + 1) 0)
+pub reads : (z : Opening) (words : List ℕ) (views : List View) (place : ℕ) (v : WorkerSeatView) (page : ℕ) → ShowsSome z words views → get_elem? views place ≡ some (Worker v) → MayRead (post_of v) page → IsStep z (Read v.worker page) (Count (get_or words (page + 1) 0)) (Worker v) (Worker v) × ShowsSome z (set words (page + 1) (get_or words (page + 1) 0)) (set views place (Worker v)) × (added_to page v.additions ≤ get_or words (page + 1) 0)
 reads z words views place v page some_state at may =
     let s = some_state.state in
     let sh = some_state.shows in
@@ -33,13 +33,13 @@ reads z words views place v page some_state at may =
     let here : s.state i ≡ Runs runs.0 = old.state ∙ runs.1 in
     let now : runs.0 ≡ s.phase = (reached_in_phase z s some_state.reachable).runs i runs.0 here in
     let present : phase_of v.state ≡ s.phase = ap phase_of runs.1 ∙ now in
-    let marks : length v.setting.marks ≡ length z.counts =
-    ap (λ (y : Setting). length y.marks) old.setting ∙ sh.setting.marks
+    let marks : length v.opening.marks ≡ length z.counts =
+    ap (λ (y : Opening). length y.marks) old.opening ∙ sh.opening.marks
     in
     let may_there = may.there in
     let on : page < length z.counts = omega arith in
     let same : split (marked z) s.phase page ≡ slices (post_of v) page =
-    sym (λ m. split (marked (old.setting m)) (present m) page)
+    sym (λ m. split (marked (old.opening m)) (present m) page)
     in
     let sums = some_state.tallied.sums page in
     let part = sum_part (paged page) views place (Worker v) at in

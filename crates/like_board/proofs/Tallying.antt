@@ -3,8 +3,8 @@ use Rattle.std.proofs.Common.{◌≡◌, ℕ, ◌<◌, List, [], ◌∷◌, ◌+
 use Rattle.std.proofs.lemmas.List.Sums.{sum_by_push}
 use mathlib.Core.Option.{some}
 use lib.ListN.{get_elem?}
-use Rattle.like_core.specs.declared.setting.Setting.{Setting}
-use Rattle.like_core.specs.declared.view.CoordView.{CoordView}
+use Rattle.like_core.specs.declared.opening.Opening.{Opening}
+use Rattle.like_core.specs.declared.view.CoordSeatView.{CoordSeatView}
 use Rattle.like_core.specs.declared.view.View.{View}
 use Rattle.like_core.specs.declared.view.View.TheVariants.{Coord, Worker}
 use Rattle.like_core.specs.State.{CoreState, Label}
@@ -26,9 +26,9 @@ tallied_on s t views place a b applied at same_pages same_rooms old = record {
 }
 
 -- after a worker's seat was made
-pub tallied_made : (z : Setting) (s : CoreState) (views : List View) (place : ℕ) (c : CoordView) → get_elem? views place ≡ some (Coord c) → c.made < 16 → Tallied s views → Tallied s (set views place (Coord (made_coord c)) ++ Worker (fresh z c.made) ∷ [])
+pub tallied_made : (z : Opening) (s : CoreState) (views : List View) (place : ℕ) (c : CoordSeatView) → get_elem? views place ≡ some (Coord c) → c.made < 16 → Tallied s views → Tallied s (set views place (Coord (made_coord c)) ++ Worker (fresh z c.made) ∷ [])
 tallied_made z s views place c at few old =
-    let d : CoordView = made_coord c in
+    let d : CoordSeatView = made_coord c in
     let new : View = Worker (fresh z c.made) in
     let changed : List View = set views place (Coord d) in
     record {

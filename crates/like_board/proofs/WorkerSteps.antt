@@ -8,8 +8,8 @@ use Rattle.like_core.specs.declared.worker_state.WorkerState.TheVariants.{Runs, 
 use Rattle.like_core.specs.declared.sight.Sight.{Sight}
 use Rattle.like_core.specs.declared.event.Event.TheVariants.{Look, Acknowledge, Report, Retire}
 use Rattle.like_core.specs.declared.shown.Shown.TheVariants.{Done}
-use Rattle.like_core.specs.declared.setting.Setting.{Setting}
-use Rattle.like_core.specs.declared.view.WorkerView.{WorkerView}
+use Rattle.like_core.specs.declared.opening.Opening.{Opening}
+use Rattle.like_core.specs.declared.view.WorkerSeatView.{WorkerSeatView}
 use Rattle.like_core.specs.declared.view.View.{View}
 use Rattle.like_core.specs.declared.view.View.TheVariants.{Worker}
 use Rattle.like_core.specs.Functions.{times}
@@ -41,7 +41,7 @@ running_is P (Answered phase) h = absurd h
 running_is P Gone h = absurd h
 
 -- a view whose worker runs a phase
-pub runs_view : (v : WorkerView) (phase : ℕ) → v.state ≡ Runs phase → ViewRuns v
+pub runs_view : (v : WorkerSeatView) (phase : ℕ) → v.state ≡ Runs phase → ViewRuns v
 runs_view v phase is = subst (RunsSome (λ _. Unit {0})) (sym is) tt
 
 not_true : (b : Bool) → (IsTrue b → ⊥) → b ≡ false
@@ -95,13 +95,13 @@ looked_gone phase (Answered j) is =
 looked_gone phase Gone is = refl
 
 -- a look of a worker that is not gone is the event
-pub looks : (z : Setting) (words : List ℕ) (views : List View) (place : ℕ) (v : WorkerView) → ShowsSome z words views → get_elem? views place ≡ some (Worker v) → v.state ≢ Gone → (r : Looked z (get_or words 0 0) v) × ShowsSome z (set words 0 (get_or words 0 0)) (set views place (Worker (looked_view v (sight_of r.fields v.worker))))
+pub looks : (z : Opening) (words : List ℕ) (views : List View) (place : ℕ) (v : WorkerSeatView) → ShowsSome z words views → get_elem? views place ≡ some (Worker v) → v.state ≢ Gone → (r : Looked z (get_or words 0 0) v) × ShowsSome z (set words 0 (get_or words 0 0)) (set views place (Worker (looked_view v (sight_of r.fields v.worker))))
 looks z words views place v some_state at there =
     let s = some_state.state in
     let sh = some_state.shows in
     let i = v.worker in
     let p = reached_in_phase z s some_state.reachable in
-    let lawful = shown_lawful z s sh.setting p (reached_unanswered z s some_state.reachable) in
+    let lawful = shown_lawful z s sh.opening p (reached_unanswered z s some_state.reachable) in
     let old : FitsWorker z s v = sh.each place (Worker v) at in
     let f : Fields = shown_fields z s in
     let sight : Sight = sight_of f i in
@@ -110,11 +110,11 @@ looks z words views place v some_state at there =
     let la : LooksAt s.phase (s.state i) sight = looks_at s.phase (s.state i) sight (p.runs i) (p.answered i) not_gone sees.number sees.waits in
     let state : WorkerState = looked s.phase (s.state i) in
     let t : CoreState = moved s i state in
-    let w : WorkerView = looked_view v sight in
+    let w : WorkerSeatView = looked_view v sight in
     let found : ℕ = get_or words 0 0 in
     let fits : FitsWorker z t w =
     record {
-      setting = old.setting;
+      opening = old.opening;
       there = old.there;
       state = update-same s.state i state ∙ (sym la.goes ∙ ap (λ st. seen st sight) old.state);
       number = (let e : sight.number ≡ s.phase = sees.number in omega arith);
@@ -163,17 +163,17 @@ looks z words views place v some_state at there =
     )
 
 -- what a worker that runs the present phase makes of the board by its answer
-answers : (z : Setting) (s : CoreState) (words : List ℕ) (views : List View) (place : ℕ) (v : WorkerView) (phase : ℕ) → Reachable z s → Shows z s words views → get_elem? views place ≡ some (Worker v) → v.state ≡ Runs phase → phase ≡ s.phase → Shows z (moved s v.worker (Answered s.phase)) (set words 0 (bit_or (get_or words 0 0) (2 ^ (8 + v.worker)))) (set views place (Worker (answered_view v)))
+answers : (z : Opening) (s : CoreState) (words : List ℕ) (views : List View) (place : ℕ) (v : WorkerSeatView) (phase : ℕ) → Reachable z s → Shows z s words views → get_elem? views place ≡ some (Worker v) → v.state ≡ Runs phase → phase ≡ s.phase → Shows z (moved s v.worker (Answered s.phase)) (set words 0 (bit_or (get_or words 0 0) (2 ^ (8 + v.worker)))) (set views place (Worker (answered_view v)))
 answers z s words views place v phase reached sh at runs present =
     let i = v.worker in
     let p = reached_in_phase z s reached in
-    let lawful = shown_lawful z s sh.setting p (reached_unanswered z s reached) in
+    let lawful = shown_lawful z s sh.opening p (reached_unanswered z s reached) in
     let old : FitsWorker z s v = sh.each place (Worker v) at in
     let here : s.state i ≡ Runs phase = old.state ∙ runs in
     let state : WorkerState = Answered s.phase in
     let fits : FitsWorker z (moved s i state) (answered_view v) =
     record {
-      setting = old.setting;
+      opening = old.opening;
       there = old.there;
       state = update-same s.state i state ∙ ap Answered (sym present ∙ sym (ap phase_of runs));
       number = old.number;
@@ -188,7 +188,7 @@ answers z s words views place v phase reached sh at runs present =
     (λ _ gone. absurd (cc))
 
 -- an acknowledgement is the event
-pub acknowledges : (z : Setting) (words : List ℕ) (views : List View) (place : ℕ) (v : WorkerView) → ShowsSome z words views → get_elem? views place ≡ some (Worker v) → ViewRunsJoined v → ViewSawEnding v → IsStep z (Acknowledge v.worker) Done (Worker v) (Worker (answered_view v)) × ShowsSome z (set words 0 (bit_or (get_or words 0 0) (2 ^ (8 + v.worker)))) (set views place (Worker (answered_view v)))
+pub acknowledges : (z : Opening) (words : List ℕ) (views : List View) (place : ℕ) (v : WorkerSeatView) → ShowsSome z words views → get_elem? views place ≡ some (Worker v) → ViewRunsJoined v → ViewSawEnding v → IsStep z (Acknowledge v.worker) Done (Worker v) (Worker (answered_view v)) × ShowsSome z (set words 0 (bit_or (get_or words 0 0) (2 ^ (8 + v.worker)))) (set views place (Worker (answered_view v)))
 acknowledges z words views place v some_state at joined saw =
     let s = some_state.state in
     let sh = some_state.shows in
@@ -232,7 +232,7 @@ acknowledges z words views place v some_state at joined saw =
     )
 
 -- a report is the event
-pub reports : (z : Setting) (words : List ℕ) (views : List View) (place : ℕ) (v : WorkerView) → ShowsSome z words views → get_elem? views place ≡ some (Worker v) → ViewRunsSplit v → ViewSawEnding v → IsStep z (Report v.worker) Done (Worker v) (Worker (answered_view v)) × ShowsSome z (set words 0 (bit_or (get_or words 0 0) (2 ^ (8 + v.worker)))) (set views place (Worker (answered_view v)))
+pub reports : (z : Opening) (words : List ℕ) (views : List View) (place : ℕ) (v : WorkerSeatView) → ShowsSome z words views → get_elem? views place ≡ some (Worker v) → ViewRunsSplit v → ViewSawEnding v → IsStep z (Report v.worker) Done (Worker v) (Worker (answered_view v)) × ShowsSome z (set words 0 (bit_or (get_or words 0 0) (2 ^ (8 + v.worker)))) (set views place (Worker (answered_view v)))
 reports z words views place v some_state at split saw =
     let s = some_state.state in
     let sh = some_state.shows in
@@ -276,21 +276,21 @@ reports z words views place v some_state at split saw =
     )
 
 -- a retirement is the event
-pub retires : (z : Setting) (words : List ℕ) (views : List View) (place : ℕ) (v : WorkerView) → ShowsSome z words views → get_elem? views place ≡ some (Worker v) → ViewRunsJoined v → IsStep z (Retire v.worker) Done (Worker v) (Worker (retired_view v)) × ShowsSome z (set words 0 (bit_or (get_or words 0 0) (2 ^ (24 + v.worker)))) (set views place (Worker (retired_view v)))
+pub retires : (z : Opening) (words : List ℕ) (views : List View) (place : ℕ) (v : WorkerSeatView) → ShowsSome z words views → get_elem? views place ≡ some (Worker v) → ViewRunsJoined v → IsStep z (Retire v.worker) Done (Worker v) (Worker (retired_view v)) × ShowsSome z (set words 0 (bit_or (get_or words 0 0) (2 ^ (24 + v.worker)))) (set views place (Worker (retired_view v)))
 retires z words views place v some_state at joined =
     let s = some_state.state in
     let sh = some_state.shows in
     let i = v.worker in
     let runs = running_is IsJoined v.state joined in
     let p = reached_in_phase z s some_state.reachable in
-    let lawful = shown_lawful z s sh.setting p (reached_unanswered z s some_state.reachable) in
+    let lawful = shown_lawful z s sh.opening p (reached_unanswered z s some_state.reachable) in
     let old : FitsWorker z s v = sh.each place (Worker v) at in
     let here : s.state i ≡ Runs runs.0 = old.state ∙ runs.1 in
     let present : runs.0 ≡ s.phase = p.runs i runs.0 here in
     let even : IsJoined s.phase = subst IsJoined present runs.2 in
     let fits : FitsWorker z (moved s i Gone) (retired_view v) =
     record {
-      setting = old.setting;
+      opening = old.opening;
       there = old.there;
       state = update-same s.state i Gone;
       number = old.number;

@@ -1,23 +1,23 @@
 use Rattle.std.specs.Prelude.{[]}
-use Rattle.like_core.specs.declared.setting.Setting.{Setting}
-use Rattle.like_core.specs.declared.view.WorkerView.{WorkerView}
-use Rattle.like_core.specs.declared.view.CoordView.{CoordView}
+use Rattle.like_core.specs.declared.opening.Opening.{Opening}
+use Rattle.like_core.specs.declared.view.WorkerSeatView.{WorkerSeatView}
+use Rattle.like_core.specs.declared.view.CoordSeatView.{CoordSeatView}
 use Rattle.like_core.specs.declared.view.View.{View}
 use Rattle.like_core.specs.declared.view.View.TheVariants.{Coord, Worker, Spent}
 use Rattle.like_core.specs.Views.{fresh, fresh_coord}
 
--- the setting of a view that is of no board
-abbrev pub nowhere : Setting
+-- the opening of a view that is of no board
+abbrev pub nowhere : Opening
 nowhere = record { workers = 0; counts = []; marks = [] }
 
 -- the worker's view that a view is
-abbrev pub worker_of : View → WorkerView
-worker_of (Coord c) = fresh nowhere 0
-worker_of (Worker v) = v
-worker_of Spent = fresh nowhere 0
+abbrev pub worker_view_of : View → WorkerSeatView
+worker_view_of (Coord c) = fresh nowhere 0
+worker_view_of (Worker v) = v
+worker_view_of Spent = fresh nowhere 0
 
 -- the coordinator's view that a view is
-abbrev pub coord_of : View → CoordView
-coord_of (Coord c) = c
-coord_of (Worker v) = fresh_coord nowhere 0
-coord_of Spent = fresh_coord nowhere 0
+abbrev pub coord_view_of : View → CoordSeatView
+coord_view_of (Coord c) = c
+coord_view_of (Worker v) = fresh_coord nowhere 0
+coord_view_of Spent = fresh_coord nowhere 0

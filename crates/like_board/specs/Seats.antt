@@ -1,16 +1,16 @@
 use Rattle.std.specs.Prelude.{◌≡◌, ℕ, ◌+◌, ◌<◌, ◌==◌, List, ◌∷◌, Some, slice_get, slice_index, count_by}
 use Rattle.std.specs.List.{sum_by}
 use Rattle.atomic_table.specs.Seated.{TableId}
-use Rattle.like_core.specs.declared.setting.Setting.{Setting}
-use Rattle.like_core.specs.declared.view.WorkerView.{WorkerView}
-use Rattle.like_core.specs.declared.view.CoordView.{CoordView}
+use Rattle.like_core.specs.declared.opening.Opening.{Opening}
+use Rattle.like_core.specs.declared.view.WorkerSeatView.{WorkerSeatView}
+use Rattle.like_core.specs.declared.view.CoordSeatView.{CoordSeatView}
 use Rattle.like_board.specs.declared.board.Board.{Board}
 use Rattle.like_board.specs.declared.coord_seat.CoordSeat.{CoordSeat}
 use Rattle.like_board.specs.declared.worker_seat.WorkerSeat.{WorkerSeat}
 use Rattle.like_board.specs.declared.board_post.BoardPost.{BoardPost}
 use Rattle.like_core.specs.Post.{PostView, IsFresh, additions_of}
 use Rattle.like_core.specs.Views.{fresh, post_of}
-use Rattle.like_board.specs.Known.{worker_of, coord_of}
+use Rattle.like_board.specs.Known.{worker_view_of, coord_view_of}
 
 -- what tells a board from others
 abbrev pub BoardId : Type 0
@@ -25,23 +25,23 @@ abbrev pub coord_board : CoordSeat → TableId
 coord_board seat = seat.seat.table_id
 
 -- what the coordinator's seat knows
-abbrev pub coord_view : CoordSeat → CoordView
-coord_view seat = coord_of seat.seat.me.0
+abbrev pub coord_view : CoordSeat → CoordSeatView
+coord_view seat = coord_view_of seat.seat.me.0
 
 -- the board of a worker's seat
 abbrev pub seat_board : WorkerSeat → TableId
 seat_board seat = seat.seat.table_id
 
 -- what a worker's seat knows
-abbrev pub seat_view : WorkerSeat → WorkerView
-seat_view seat = worker_of seat.seat.me.0
+abbrev pub seat_view : WorkerSeat → WorkerSeatView
+seat_view seat = worker_view_of seat.seat.me.0
 
 -- the board of a post
 abbrev pub post_board : BoardPost → TableId
 post_board post = seat_board post.seat
 
 -- what a post knows
-abbrev pub post_view : BoardPost → WorkerView
+abbrev pub post_view : BoardPost → WorkerSeatView
 post_view post = seat_view post.seat
 
 -- the numbers that tell boards apart
@@ -57,7 +57,7 @@ abbrev pub post_meaning : BoardPost → PostView
 post_meaning post = seat_meaning post.seat
 
 -- the seats of the workers of a board in order, none of which made a step yet
-abbrev pub AreFresh : TableId → Setting → List WorkerSeat → Type 0
+abbrev pub AreFresh : TableId → Opening → List WorkerSeat → Type 0
 AreFresh board z seats =
     (i : ℕ) (seat : WorkerSeat) → slice_get seats i ≡ Some seat → (seat_board seat ≡ board) × (seat_view seat ≡ fresh z i) × IsFresh (seat_meaning seat)
 
@@ -66,5 +66,5 @@ abbrev pub AreAll : ℕ → List WorkerSeat → Type 0
 AreAll workers seats = (i : ℕ) → i < workers → count_by (λ seat. (seat_meaning seat).worker == i) seats ≡ 1
 
 -- a page's last count: its count at the start, and all that the workers of these seats have added to it
-abbrev pub last_count : Setting → List WorkerSeat → ℕ → ℕ
+abbrev pub last_count : Opening → List WorkerSeat → ℕ → ℕ
 last_count z seats page = slice_index z.counts page + sum_by (λ seat. additions_of (seat_meaning seat) page) seats

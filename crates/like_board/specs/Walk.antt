@@ -1,11 +1,11 @@
 use Rattle.std.specs.Prelude.{◌≡◌, ℕ, true, List, [], ◌∷◌}
 use Rattle.like_core.specs.declared.worker_state.WorkerState.{WorkerState}
-use Rattle.like_core.specs.declared.setting.Setting.{Setting}
+use Rattle.like_core.specs.declared.opening.Opening.{Opening}
 use Rattle.like_core.specs.declared.view.Addition.{Addition}
-use Rattle.like_core.specs.declared.view.WorkerView.{WorkerView}
+use Rattle.like_core.specs.declared.view.WorkerSeatView.{WorkerSeatView}
 
 -- a board of two workers and one page, which is split and begins at 10
-abbrev pub walk : Setting
+abbrev pub walk : Opening
 walk = record { workers = 2; counts = 10 ∷ []; marks = true ∷ [] }
 
 -- likes that were added to a page in a phase
@@ -13,8 +13,8 @@ abbrev pub addition : ℕ → ℕ → ℕ → Addition
 addition phase page likes = record { phase = phase; page = page; likes = likes }
 
 -- the view of this worker on that board: its state, and what it has added
-pub record Walks (v : WorkerView) (worker : ℕ) (state : WorkerState) (additions : List Addition) : Type 0 where
+pub record Walks (v : WorkerSeatView) (worker : ℕ) (state : WorkerState) (additions : List Addition) : Type 0 where
   pub worker_is : v.worker ≡ worker
   pub state_is : v.state ≡ state
-  pub setting_is : v.setting ≡ walk
+  pub opening_is : v.opening ≡ walk
   pub additions_are : v.additions ≡ additions

@@ -1,5 +1,5 @@
 ghost use Rattle.std.specs.Prelude.{◌≡◌, ◌^◌, ◌<◌, ◌≤◌, All, length, IfOk};
-ghost use Rattle.like_core.specs.declared.setting.Setting.{Setting};
+ghost use Rattle.like_core.specs.declared.opening.Opening.{Opening};
 
 use crate::coord_seat::CoordSeat;
 use crate::key::Key;
@@ -37,9 +37,9 @@ impl Board {
         requires few_pages { length counts.now ≤ 1024 }
         requires counts { All (λ count. count ≤ 10 ^ 18) counts.now }
         ensures coord_here { IfOk result (λ r. coord_board r.1 ≡ board_id r.0) }
-        ensures coord { IfOk result (λ r. let z : Setting = record { workers = workers; counts = counts.now; marks = split.now } in coord_view r.1 ≡ record (fresh_coord z (first_word z)) { made = workers }) }
+        ensures coord { IfOk result (λ r. let z : Opening = record { workers = workers; counts = counts.now; marks = split.now } in coord_view r.1 ≡ record (fresh_coord z (first_word z)) { made = workers }) }
         ensures seats { IfOk result (λ r. length r.2.items ≡ workers) }
-        ensures views { IfOk result (λ r. let z : Setting = record { workers = workers; counts = counts.now; marks = split.now } in AreFresh (board_id r.0) z r.2.items) }
+        ensures views { IfOk result (λ r. let z : Opening = record { workers = workers; counts = counts.now; marks = split.now } in AreFresh (board_id r.0) z r.2.items) }
     {
         let first = PhaseWord::first(workers);
         let mut words = Vec::with_capacity(alloc, counts.len() + 1)?;

@@ -45,7 +45,7 @@ impl Post for BoardPost<'_> {
         ensures ending { IsRunning (post_meaning self.old) → SawEnding (post_meaning self.old) → result.ending ≡ true }
         ensures board { post_board self.new ≡ post_board self.old }
         ensures known { post_view self.new ≡ looked_view (post_view self.old) result }
-        ensures event { IsStep (post_view self.old).setting (Look (post_view self.old).worker) (Seen result) (Worker (post_view self.old)) (Worker (post_view self.new)) }
+        ensures event { IsStep (post_view self.old).opening (Look (post_view self.old).worker) (Seen result) (Worker (post_view self.old)) (Worker (post_view self.new)) }
     {
         let board = self.board;
         self.seat.look(board)
@@ -57,7 +57,7 @@ impl Post for BoardPost<'_> {
         ensures view { post_meaning self.new ≡ answered (post_meaning self.old) }
         ensures board { post_board self.new ≡ post_board self.old }
         ensures known { post_view self.new ≡ answered_view (post_view self.old) }
-        ensures event { IsStep (post_view self.old).setting (Acknowledge (post_view self.old).worker) Done (Worker (post_view self.old)) (Worker (post_view self.new)) }
+        ensures event { IsStep (post_view self.old).opening (Acknowledge (post_view self.old).worker) Done (Worker (post_view self.old)) (Worker (post_view self.new)) }
     {
         let board = self.board;
         self.seat.acknowledge(board);
@@ -69,7 +69,7 @@ impl Post for BoardPost<'_> {
         ensures view { post_meaning self.new ≡ answered (post_meaning self.old) }
         ensures board { post_board self.new ≡ post_board self.old }
         ensures known { post_view self.new ≡ answered_view (post_view self.old) }
-        ensures event { IsStep (post_view self.old).setting (Report (post_view self.old).worker) Done (Worker (post_view self.old)) (Worker (post_view self.new)) }
+        ensures event { IsStep (post_view self.old).opening (Report (post_view self.old).worker) Done (Worker (post_view self.old)) (Worker (post_view self.new)) }
     {
         let board = self.board;
         self.seat.report(board);
@@ -80,7 +80,7 @@ impl Post for BoardPost<'_> {
         ensures view { post_meaning self.new ≡ retired (post_meaning self.old) }
         ensures board { post_board self.new ≡ post_board self.old }
         ensures known { post_view self.new ≡ retired_view (post_view self.old) }
-        ensures event { IsStep (post_view self.old).setting (Retire (post_view self.old).worker) Done (Worker (post_view self.old)) (Worker (post_view self.new)) }
+        ensures event { IsStep (post_view self.old).opening (Retire (post_view self.old).worker) Done (Worker (post_view self.old)) (Worker (post_view self.new)) }
     {
         let board = self.board;
         self.seat.retire(board);
@@ -92,7 +92,7 @@ impl Post for BoardPost<'_> {
         ensures own { additions_of (post_meaning self.old) page ≤ result }
         ensures board { post_board self.new ≡ post_board self.old }
         ensures known { post_view self.new ≡ added_view (post_view self.old) page n }
-        ensures event { IsSteps (post_view self.old).setting (likes_merged (post_view self.old) page n) (adding (post_view self.old) page) (Old result) (Worker (post_view self.old)) (Worker (post_view self.new)) }
+        ensures event { IsSteps (post_view self.old).opening (likes_merged (post_view self.old) page n) (adding (post_view self.old) page) (Old result) (Worker (post_view self.old)) (Worker (post_view self.new)) }
     {
         let board = self.board;
         self.seat.add(board, page, n)
@@ -104,7 +104,7 @@ impl Post for BoardPost<'_> {
         ensures own { additions_of (post_meaning self.old) page ≤ result }
         ensures board { post_board self.new ≡ post_board self.old }
         ensures known { post_view self.new ≡ post_view self.old }
-        ensures event { IsStep (post_view self.old).setting (Read (post_view self.old).worker page) (Count result) (Worker (post_view self.old)) (Worker (post_view self.new)) }
+        ensures event { IsStep (post_view self.old).opening (Read (post_view self.old).worker page) (Count result) (Worker (post_view self.old)) (Worker (post_view self.new)) }
     {
         let board = self.board;
         self.seat.read(board, page)

@@ -5,7 +5,7 @@ ghost use mathlib.Core.Option.{some};
 ghost use lib.ListN.{get_elem?};
 ghost use Rattle.like_core.specs.declared.view.View.TheVariants.{Coord};
 ghost use Rattle.like_core.specs.declared.worker_state.WorkerState.TheVariants.{Gone};
-ghost use Rattle.like_board.specs.Known.{coord_of};
+ghost use Rattle.like_board.specs.Known.{coord_view_of};
 ghost use Rattle.like_board.specs.Seats.{board_id, coord_board, coord_view, seat_board, seat_view, seat_meaning, AreAll, last_count};
 
 use crate::board::Board;
@@ -19,10 +19,10 @@ use std::alloc::Global;
 /// Gives the workers' seats back to the coordinator's.
 fn gather(board: &Board, coord: &mut Seat<(), View>, mut seats: Vec<WorkerSeat>)
     requires here { coord.old.table_id ≡ board_id board.now }
-    requires coord { coord.old.me ≡ (Coord (coord_of coord.old.me.0), []) }
+    requires coord { coord.old.me ≡ (Coord (coord_view_of coord.old.me.0), []) }
     requires seats { All (λ seat. seat_board seat ≡ board_id board.now) seats.items }
     ensures board { coord.new.table_id ≡ coord.old.table_id }
-    ensures coord { coord.new.me ≡ (Coord (record (coord_of coord.old.me.0) { joined = map seat_view seats.items ++ (coord_of coord.old.me.0).joined }), []) }
+    ensures coord { coord.new.me ≡ (Coord (record (coord_view_of coord.old.me.0) { joined = map seat_view seats.items ++ (coord_view_of coord.old.me.0).joined }), []) }
 {
     while let Some(seat) = seats.pop() {
         let WorkerSeat { seat, number: _ } = seat;
@@ -48,11 +48,11 @@ impl Board {
     pub fn close(self, coord: CoordSeat, seats: Vec<WorkerSeat>, counts: &mut [u64])
         requires coord_here { coord_board coord ≡ board_id self }
         requires seats_here { All (λ seat. seat_board seat ≡ board_id self) seats.items }
-        requires all { AreAll (coord_view coord).setting.workers seats.items }
+        requires all { AreAll (coord_view coord).opening.workers seats.items }
         requires gone { All (λ seat. (seat_meaning seat).state ≡ Gone) seats.items }
-        requires places { length counts.old ≡ length (coord_view coord).setting.counts }
+        requires places { length counts.old ≡ length (coord_view coord).opening.counts }
         ensures len { length counts.new ≡ length counts.old }
-        ensures counts { (page : ℕ) → page < length counts.old → slice_index counts.new page ≡ last_count (coord_view coord).setting seats.items page }
+        ensures counts { (page : ℕ) → page < length counts.old → slice_index counts.new page ≡ last_count (coord_view coord).opening seats.items page }
         ensures phases { All (λ seat. IfSome (seat_meaning seat).last (λ sight. sight.number ≤ (coord_view coord).phase)) seats.items }
     {
         let CoordSeat {

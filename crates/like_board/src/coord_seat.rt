@@ -4,7 +4,7 @@ ghost use Rattle.like_core.specs.declared.view.View.TheVariants.{Coord};
 ghost use Rattle.like_core.specs.Word.{packed};
 ghost use Rattle.like_core.specs.PhaseWord.{fields_of};
 ghost use Rattle.like_core.specs.Sights.{coord_sight_of};
-ghost use Rattle.like_board.specs.Known.{coord_of};
+ghost use Rattle.like_board.specs.Known.{coord_view_of};
 
 use crate::board::Board;
 use crate::plays::{Announcing, Releasing, Surveying};
@@ -17,12 +17,12 @@ pub struct CoordSeat {
     pub(crate) seat: Seat<(), View>,
     /// The phase word that it saw last.
     pub(crate) seen: PhaseWord,
-    ghost is_coord: { seat.me ≡ (Coord (coord_of seat.me.0), []) },
-    ghost saw: { packed (fields_of seen) ≡ (coord_of seat.me.0).word },
-    ghost sized: { seat.table_id.words ≡ length (coord_of seat.me.0).setting.counts + 1 },
-    ghost made_all: { (coord_of seat.me.0).made ≡ (coord_of seat.me.0).setting.workers },
-    ghost none_back: { (coord_of seat.me.0).joined ≡ [] },
-    ghost showed: { option_map (λ _. coord_sight_of (fields_of seen)) (coord_of seat.me.0).last ≡ (coord_of seat.me.0).last },
+    ghost is_coord: { seat.me ≡ (Coord (coord_view_of seat.me.0), []) },
+    ghost saw: { packed (fields_of seen) ≡ (coord_view_of seat.me.0).word },
+    ghost sized: { seat.table_id.words ≡ length (coord_view_of seat.me.0).opening.counts + 1 },
+    ghost made_all: { (coord_view_of seat.me.0).made ≡ (coord_view_of seat.me.0).opening.workers },
+    ghost none_back: { (coord_view_of seat.me.0).joined ≡ [] },
+    ghost showed: { option_map (λ _. coord_sight_of (fields_of seen)) (coord_view_of seat.me.0).last ≡ (coord_view_of seat.me.0).last },
 }
 
 impl CoordSeat {
@@ -42,7 +42,7 @@ impl CoordSeat {
         ensures ending { result.ending ≡ (coord_view self.old).ending }
         ensures all_in { (coord_view self.old).all_in ≡ true → result.all_in ≡ true }
         ensures all_gone { IsSplit (coord_view self.old).phase → result.all_gone ≡ true → (coord_view self.old).gone ≡ true }
-        ensures event { IsStep (coord_view self.old).setting CoordLook (CoordShown result) (Coord (coord_view self.old)) (Coord (coord_view self.new)) }
+        ensures event { IsStep (coord_view self.old).opening CoordLook (CoordShown result) (Coord (coord_view self.old)) (Coord (coord_view self.new)) }
     {
         let word = board.table.shared.load::<Surveying>(&mut self.seat, 0);
         self.seen = PhaseWord::of_packed(word);
@@ -55,7 +55,7 @@ impl CoordSeat {
         requires running { MayAnnounce (coord_view self.old) }
         ensures board { coord_board self.new ≡ coord_board self.old }
         ensures view { coord_view self.new ≡ announced_coord (coord_view self.old) }
-        ensures event { IsStep (coord_view self.old).setting Announce Done (Coord (coord_view self.old)) (Coord (coord_view self.new)) }
+        ensures event { IsStep (coord_view self.old).opening Announce Done (Coord (coord_view self.old)) (Coord (coord_view self.new)) }
     {
         board
             .table
@@ -69,7 +69,7 @@ impl CoordSeat {
         requires all_in { MayRelease (coord_view self.old) }
         ensures board { coord_board self.new ≡ coord_board self.old }
         ensures view { coord_view self.new ≡ released_coord (coord_view self.old) }
-        ensures event { IsStep (coord_view self.old).setting Release Done (Coord (coord_view self.old)) (Coord (coord_view self.new)) }
+        ensures event { IsStep (coord_view self.old).opening Release Done (Coord (coord_view self.old)) (Coord (coord_view self.new)) }
     {
         let next = self.seen.released();
         board

@@ -3,7 +3,7 @@ ghost use Rattle.std.specs.Prelude.{◌≡◌, ◌+◌, ◌<◌, ◌≤◌, [], 
 ghost use Rattle.like_core.specs.declared.view.View.TheVariants.{Coord};
 ghost use Rattle.like_core.specs.Post.{IsFresh};
 ghost use Rattle.like_core.specs.Views.{fresh, made_coord};
-ghost use Rattle.like_board.specs.Known.{coord_of};
+ghost use Rattle.like_board.specs.Known.{coord_view_of};
 ghost use Rattle.like_board.specs.Seats.{board_id, seat_board, seat_view, seat_meaning, AreFresh};
 
 use crate::board::Board;
@@ -16,15 +16,15 @@ use std::alloc::{AllocError, Global};
 /// Makes the seat of the next worker.
 fn make_seat(board: &Board, coord: &mut Seat<(), View>, number: u32) -> WorkerSeat
     requires here { coord.old.table_id ≡ board_id board.now }
-    requires coord { coord.old.me ≡ (Coord (coord_of coord.old.me.0), []) }
-    requires sized { coord.old.table_id.words ≡ length (coord_of coord.old.me.0).setting.marks + 1 }
-    requires next { number ≡ (coord_of coord.old.me.0).made }
-    requires room { number < (coord_of coord.old.me.0).setting.workers }
+    requires coord { coord.old.me ≡ (Coord (coord_view_of coord.old.me.0), []) }
+    requires sized { coord.old.table_id.words ≡ length (coord_view_of coord.old.me.0).opening.marks + 1 }
+    requires next { number ≡ (coord_view_of coord.old.me.0).made }
+    requires room { number < (coord_view_of coord.old.me.0).opening.workers }
     requires few { number < 16 }
     ensures board { coord.new.table_id ≡ coord.old.table_id }
-    ensures coord { coord.new.me ≡ (Coord (made_coord (coord_of coord.old.me.0)), []) }
+    ensures coord { coord.new.me ≡ (Coord (made_coord (coord_view_of coord.old.me.0)), []) }
     ensures seat_board { seat_board result ≡ coord.old.table_id }
-    ensures seat_view { seat_view result ≡ fresh (coord_of coord.old.me.0).setting number }
+    ensures seat_view { seat_view result ≡ fresh (coord_view_of coord.old.me.0).opening number }
     ensures fresh { IsFresh (seat_meaning result) }
 {
     let seat = board.table.shared.split_seat::<MakesWorker>(coord);
@@ -39,15 +39,15 @@ pub(crate) fn make_seats(
     workers: u32,
 ) -> Result<Vec<WorkerSeat>, AllocError>
     requires here { coord.old.table_id ≡ board_id board.now }
-    requires coord { coord.old.me ≡ (Coord (coord_of coord.old.me.0), []) }
-    requires sized { coord.old.table_id.words ≡ length (coord_of coord.old.me.0).setting.marks + 1 }
-    requires none { (coord_of coord.old.me.0).made ≡ 0 }
-    requires all { workers ≡ (coord_of coord.old.me.0).setting.workers }
+    requires coord { coord.old.me ≡ (Coord (coord_view_of coord.old.me.0), []) }
+    requires sized { coord.old.table_id.words ≡ length (coord_view_of coord.old.me.0).opening.marks + 1 }
+    requires none { (coord_view_of coord.old.me.0).made ≡ 0 }
+    requires all { workers ≡ (coord_view_of coord.old.me.0).opening.workers }
     requires few { workers ≤ 16 }
     ensures board { OnOk result (coord.new.table_id ≡ coord.old.table_id) }
-    ensures coord { OnOk result (coord.new.me ≡ (Coord (record (coord_of coord.old.me.0) { made = workers }), [])) }
+    ensures coord { OnOk result (coord.new.me ≡ (Coord (record (coord_view_of coord.old.me.0) { made = workers }), [])) }
     ensures len { IfOk result (λ seats. length seats.items ≡ workers) }
-    ensures seats { IfOk result (λ seats. AreFresh coord.old.table_id (coord_of coord.old.me.0).setting seats.items) }
+    ensures seats { IfOk result (λ seats. AreFresh coord.old.table_id (coord_view_of coord.old.me.0).opening seats.items) }
 {
     let mut seats = Vec::with_capacity(alloc, workers as usize)?;
     for number in 0..workers {

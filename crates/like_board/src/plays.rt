@@ -3,7 +3,7 @@ ghost use Rattle.std.specs.Prelude.{◌≡◌, ℕ, ◌+◌, []};
 ghost use Rattle.like_core.specs.declared.event.Event.TheVariants.{Acknowledge, Report, Retire, Announce, Release};
 ghost use Rattle.like_core.specs.declared.view.View.TheVariants.{Coord, Worker, Spent};
 ghost use Rattle.like_core.specs.Views.{fresh, answered_view, retired_view, announced_coord, released_coord, made_coord, gathered_coord};
-ghost use Rattle.like_board.specs.Known.{coord_of, worker_of};
+ghost use Rattle.like_board.specs.Known.{coord_view_of, worker_view_of};
 ghost use Rattle.like_board.specs.Plays.{TellsLook, TellsSurvey, TellsWorker, TellsCoord, TellsAdd, TellsRead};
 
 use atomic_table::{Join, Play, Split};
@@ -48,7 +48,7 @@ impl Play<(), View> for Adding {
 pub struct Reading;
 
 impl Play<(), View> for Reading {
-    ghost then = { λ step me found after. (after.0 ≡ Worker (worker_of me.0)) × ((page : ℕ) → step.word ≡ page + 1 → TellsRead page me.0 found) × (after.1 ≡ []) };
+    ghost then = { λ step me found after. (after.0 ≡ Worker (worker_view_of me.0)) × ((page : ℕ) → step.word ≡ page + 1 → TellsRead page me.0 found) × (after.1 ≡ []) };
 }
 
 /// The coordinator's look.
@@ -76,16 +76,16 @@ impl Play<(), View> for Releasing {
 pub struct MakesWorker;
 
 impl Split<View> for MakesWorker {
-    ghost left = { λ v. Coord (made_coord (coord_of v)) };
+    ghost left = { λ v. Coord (made_coord (coord_view_of v)) };
 
-    ghost right = { λ v. Worker (fresh (coord_of v).setting (coord_of v).made) };
+    ghost right = { λ v. Worker (fresh (coord_view_of v).opening (coord_view_of v).made) };
 }
 
 /// The coordinator's seat takes a worker's seat back.
 pub struct Gathers;
 
 impl Join<View> for Gathers {
-    ghost both = { λ v w. Coord (gathered_coord (coord_of v) (worker_of w)) };
+    ghost both = { λ v w. Coord (gathered_coord (coord_view_of v) (worker_view_of w)) };
 
     ghost spent = { Spent };
 }

@@ -54,7 +54,7 @@ fn first_acknowledges(
     requires here { coord_board coord.old ≡ board_id board.now }
     requires first { Walks (post_view first.old) 0 (Runs 0) [] }
     ensures board { coord_board coord.new ≡ coord_board coord.old }
-    ensures setting { (coord_view coord.new).setting ≡ (coord_view coord.old).setting }
+    ensures opening { (coord_view coord.new).opening ≡ (coord_view coord.old).opening }
     ensures first { Walks (post_view first.new) 0 (Answered 0) [] }
     ensures first_board { post_board first.new ≡ post_board first.old }
 {
@@ -77,7 +77,7 @@ fn second_acknowledges(
     requires first { Walks (post_view first.old) 0 (Answered 0) [] }
     requires second { Walks (post_view second.old) 1 (Runs 0) [] }
     ensures board { coord_board coord.new ≡ coord_board coord.old }
-    ensures setting { (coord_view coord.new).setting ≡ (coord_view coord.old).setting }
+    ensures opening { (coord_view coord.new).opening ≡ (coord_view coord.old).opening }
     ensures first { Walks (post_view first.new) 0 (Runs 1) [] }
     ensures first_board { post_board first.new ≡ post_board first.old }
     ensures second { Walks (post_view second.new) 1 (Answered 0) [] }
@@ -95,7 +95,7 @@ fn first_reports(rt: &impl Abort, board: &Board, coord: &mut CoordSeat, first: &
     requires here { coord_board coord.old ≡ board_id board.now }
     requires first { Walks (post_view first.old) 0 (Runs 1) [] }
     ensures board { coord_board coord.new ≡ coord_board coord.old }
-    ensures setting { (coord_view coord.new).setting ≡ (coord_view coord.old).setting }
+    ensures opening { (coord_view coord.new).opening ≡ (coord_view coord.old).opening }
     ensures first { Walks (post_view first.new) 0 (Answered 1) (addition 1 0 3 ∷ []) }
     ensures first_board { post_board first.new ≡ post_board first.old }
 {
@@ -112,7 +112,7 @@ fn second_reports(rt: &impl Abort, board: &Board, coord: &mut CoordSeat, second:
     requires here { coord_board coord.old ≡ board_id board.now }
     requires second { Walks (post_view second.old) 1 (Answered 0) [] }
     ensures board { coord_board coord.new ≡ coord_board coord.old }
-    ensures setting { (coord_view coord.new).setting ≡ (coord_view coord.old).setting }
+    ensures opening { (coord_view coord.new).opening ≡ (coord_view coord.old).opening }
     ensures second { Walks (post_view second.new) 1 (Answered 1) [] }
     ensures second_board { post_board second.new ≡ post_board second.old }
 {
@@ -134,7 +134,7 @@ fn both_retire(
     requires first { Walks (post_view first.old) 0 (Answered 1) (addition 1 0 3 ∷ []) }
     requires second { Walks (post_view second.old) 1 (Answered 1) [] }
     ensures board { coord_board coord.new ≡ coord_board coord.old }
-    ensures setting { (coord_view coord.new).setting ≡ (coord_view coord.old).setting }
+    ensures opening { (coord_view coord.new).opening ≡ (coord_view coord.old).opening }
     ensures first { Walks (post_view first.new) 0 Gone (addition 1 0 3 ∷ []) }
     ensures first_board { post_board first.new ≡ post_board first.old }
     ensures second { Walks (post_view second.new) 1 Gone [] }
@@ -186,7 +186,7 @@ fn ends(
     requires coord_here { coord_board coord ≡ board_id board }
     requires first_here { seat_board first ≡ board_id board }
     requires second_here { seat_board second ≡ board_id board }
-    requires setting { (coord_view coord).setting ≡ walk }
+    requires opening { (coord_view coord).opening ≡ walk }
     requires first { Walks (seat_view first) 0 Gone (addition 1 0 3 ∷ []) }
     requires second { Walks (seat_view second) 1 Gone [] }
     ensures { IfOk result (λ count. count ≡ 13) }

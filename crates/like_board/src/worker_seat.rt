@@ -1,6 +1,6 @@
 ghost use Rattle.std.specs.Prelude.{◌≡◌, ◌≢◌, ◌+◌, ◌<◌, ◌≤◌, true, [], length};
 ghost use Rattle.like_core.specs.declared.view.View.TheVariants.{Worker};
-ghost use Rattle.like_board.specs.Known.{worker_of};
+ghost use Rattle.like_board.specs.Known.{worker_view_of};
 
 use crate::board::Board;
 use crate::board_post::BoardPost;
@@ -19,10 +19,10 @@ const RETIRED: u32 = 24;
 pub struct WorkerSeat {
     pub(crate) seat: Seat<(), View>,
     pub(crate) number: u32,
-    ghost is_worker: { seat.me ≡ (Worker (worker_of seat.me.0), []) },
-    ghost numbered: { number ≡ (worker_of seat.me.0).worker },
+    ghost is_worker: { seat.me ≡ (Worker (worker_view_of seat.me.0), []) },
+    ghost numbered: { number ≡ (worker_view_of seat.me.0).worker },
     ghost few: { number < 16 },
-    ghost sized: { seat.table_id.words ≡ length (worker_of seat.me.0).setting.marks + 1 },
+    ghost sized: { seat.table_id.words ≡ length (worker_view_of seat.me.0).opening.marks + 1 },
 }
 
 impl WorkerSeat {
@@ -51,7 +51,7 @@ impl WorkerSeat {
         ensures view { seat_view self.new ≡ looked_view (seat_view self.old) result }
         ensures sight { IsSightOf (seat_view self.old).state result }
         ensures ending { ViewRuns (seat_view self.old) → ViewSawEnding (seat_view self.old) → result.ending ≡ true }
-        ensures event { IsStep (seat_view self.old).setting (Look (seat_view self.old).worker) (Seen result) (Worker (seat_view self.old)) (Worker (seat_view self.new)) }
+        ensures event { IsStep (seat_view self.old).opening (Look (seat_view self.old).worker) (Seen result) (Worker (seat_view self.old)) (Worker (seat_view self.new)) }
     {
         let word = board.table.shared.load::<Looking>(&mut self.seat, 0);
         PhaseWord::of_packed(word).sight(self.number)
@@ -63,7 +63,7 @@ impl WorkerSeat {
         requires ending { ViewSawEnding (seat_view self.old) }
         ensures board { seat_board self.new ≡ seat_board self.old }
         ensures view { seat_view self.new ≡ answered_view (seat_view self.old) }
-        ensures event { IsStep (seat_view self.old).setting (Acknowledge (seat_view self.old).worker) Done (Worker (seat_view self.old)) (Worker (seat_view self.new)) }
+        ensures event { IsStep (seat_view self.old).opening (Acknowledge (seat_view self.old).worker) Done (Worker (seat_view self.old)) (Worker (seat_view self.new)) }
     {
         let bit = 1 << (ANSWERED + self.number);
         board
@@ -78,7 +78,7 @@ impl WorkerSeat {
         requires ending { ViewSawEnding (seat_view self.old) }
         ensures board { seat_board self.new ≡ seat_board self.old }
         ensures view { seat_view self.new ≡ answered_view (seat_view self.old) }
-        ensures event { IsStep (seat_view self.old).setting (Report (seat_view self.old).worker) Done (Worker (seat_view self.old)) (Worker (seat_view self.new)) }
+        ensures event { IsStep (seat_view self.old).opening (Report (seat_view self.old).worker) Done (Worker (seat_view self.old)) (Worker (seat_view self.new)) }
     {
         let bit = 1 << (ANSWERED + self.number);
         board
@@ -92,7 +92,7 @@ impl WorkerSeat {
         requires runs { ViewRunsJoined (seat_view self.old) }
         ensures board { seat_board self.new ≡ seat_board self.old }
         ensures view { seat_view self.new ≡ retired_view (seat_view self.old) }
-        ensures event { IsStep (seat_view self.old).setting (Retire (seat_view self.old).worker) Done (Worker (seat_view self.old)) (Worker (seat_view self.new)) }
+        ensures event { IsStep (seat_view self.old).opening (Retire (seat_view self.old).worker) Done (Worker (seat_view self.old)) (Worker (seat_view self.new)) }
     {
         let bit = 1 << (RETIRED + self.number);
         board
@@ -107,7 +107,7 @@ impl WorkerSeat {
         ensures board { seat_board self.new ≡ seat_board self.old }
         ensures view { seat_view self.new ≡ added_view (seat_view self.old) page n }
         ensures own { added_to page (seat_view self.old).additions ≤ result }
-        ensures event { IsSteps (seat_view self.old).setting (likes_merged (seat_view self.old) page n) (adding (seat_view self.old) page) (Old result) (Worker (seat_view self.old)) (Worker (seat_view self.new)) }
+        ensures event { IsSteps (seat_view self.old).opening (likes_merged (seat_view self.old) page n) (adding (seat_view self.old) page) (Old result) (Worker (seat_view self.old)) (Worker (seat_view self.new)) }
     {
         let word = page as usize + 1;
         board
@@ -122,7 +122,7 @@ impl WorkerSeat {
         ensures board { seat_board self.new ≡ seat_board self.old }
         ensures view { seat_view self.new ≡ seat_view self.old }
         ensures own { added_to page (seat_view self.old).additions ≤ result }
-        ensures event { IsStep (seat_view self.old).setting (Read (seat_view self.old).worker page) (Count result) (Worker (seat_view self.old)) (Worker (seat_view self.new)) }
+        ensures event { IsStep (seat_view self.old).opening (Read (seat_view self.old).worker page) (Count result) (Worker (seat_view self.old)) (Worker (seat_view self.new)) }
     {
         let word = page as usize + 1;
         board.table.shared.load::<Reading>(&mut self.seat, word)

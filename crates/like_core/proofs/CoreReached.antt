@@ -1,6 +1,6 @@
 use Rattle.std.proofs.Common.{◌≡◌, List, [], ◌∷◌, subst, sym, ◌∙◌}
 use Rattle.like_core.specs.declared.event.Event.{Event}
-use Rattle.like_core.specs.declared.setting.Setting.{Setting}
+use Rattle.like_core.specs.declared.opening.Opening.{Opening}
 use Rattle.like_core.specs.declared.pure_core.Core.{Core}
 use Rattle.like_core.specs.Numbers.{Numbers}
 use Rattle.like_core.specs.Table.{Permits, PermitsEach, next, next_all}
@@ -18,14 +18,14 @@ pub reachable_is_exclusive : ReachableIsExclusive
 reachable_is_exclusive z s r = let p = reached_in_phase z s r in (exclusive z s p, p)
 
 -- events that the numbers of a state permit are permitted in the state
-pub PermitsAll_from_each : (z : Setting) (s : CoreState) (events : List Event) → PermitsEach (numbers z s) events → PermitsAll z s events
+pub PermitsAll_from_each : (z : Opening) (s : CoreState) (events : List Event) → PermitsEach (numbers z s) events → PermitsAll z s events
 PermitsAll_from_each z s [] may = tt
 PermitsAll_from_each z s (event ∷ events) may =
     let then_may = subst (λ (n : Numbers). PermitsEach n events) (sym (numbers-after z s event)) may.1 in
     (may.0, PermitsAll_from_each z (after z s event) events then_may)
 
 -- a core that stands for the start stands for a state that can be reached
-pub starts_reachable : (core : Core) (z : Setting) → StandsFor core z (start z) → IsReachable core z
+pub starts_reachable : (core : Core) (z : Opening) → StandsFor core z (start z) → IsReachable core z
 starts_reachable core z stands = record { state = start z; stands = stands; reachable = start_reached z }
 
 -- permitted events keep a core reachable

@@ -3,7 +3,7 @@ use Rattle.std.specs.Prelude.{slice_get}
 use Rattle.like_core.specs.declared.event.Event.{Event}
 use Rattle.like_core.specs.declared.refusal.NotNow.{NotNow}
 use Rattle.like_core.specs.declared.refusal.NotNow.TheVariants.{NoSuch, Phase, Last, Full}
-use Rattle.like_core.specs.declared.setting.Setting.{Setting}
+use Rattle.like_core.specs.declared.opening.Opening.{Opening}
 use Rattle.like_core.specs.declared.pure_core.Core.{Core}
 use Rattle.like_core.specs.Numbers.{Numbers}
 use Rattle.like_core.specs.Table.{Permits, Refuses, next, next_all, PermitsEach}
@@ -40,7 +40,7 @@ PermitsEach-at n (first ∷ events) zero event at all = let same : first ≡ eve
 PermitsEach-at n (first ∷ events) (suc i) event at all = PermitsEach-at (next n first) events i event at all.1
 
 -- the numbers of the state after a list of events
-pub numbers-after_all : (z : Setting) (s : CoreState) (events : List Event) → numbers z (after_all z s events) ≡ next_all (numbers z s) events
+pub numbers-after_all : (z : Opening) (s : CoreState) (events : List Event) → numbers z (after_all z s events) ≡ next_all (numbers z s) events
 numbers-after_all z s [] = refl
 numbers-after_all z s (event ∷ events) =
     numbers-after_all z (after z s event) events ∙ ap (λ (n : Numbers). next_all n events) (numbers-after z s event)

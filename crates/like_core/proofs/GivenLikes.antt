@@ -3,7 +3,7 @@ use Rattle.std.proofs.lemmas.Bool.{cases_lt, cases_eq, cond-true}
 use Rattle.std.proofs.lemmas.List.{append-nil}
 use Rattle.like_core.specs.declared.worker_state.WorkerState.TheVariants.{Runs}
 use Rattle.like_core.specs.declared.event.Event.TheVariants.{Like}
-use Rattle.like_core.specs.declared.setting.Setting.{Setting}
+use Rattle.like_core.specs.declared.opening.Opening.{Opening}
 use Rattle.like_core.specs.Functions.{update, times}
 use Rattle.like_core.specs.Phase.{split}
 use Rattle.like_core.specs.Numbers.{total}
@@ -22,7 +22,7 @@ abbrev pub given_to : CoreState → ℕ → List ℕ → CoreState
 given_to s i likes = record s { unmerged = update s.unmerged i (s.unmerged i ++ likes) }
 
 -- what one worker is given counts for the totals
-pub total-given_to : (z : Setting) (s : CoreState) (i : ℕ) (likes : List ℕ) (page : ℕ) → i < z.workers → total (numbers z (given_to s i likes)) page ≡ total (numbers z s) page + times page likes
+pub total-given_to : (z : Opening) (s : CoreState) (i : ℕ) (likes : List ℕ) (page : ℕ) → i < z.workers → total (numbers z (given_to s i likes)) page ≡ total (numbers z s) page + times page likes
 total-given_to z s i likes page there =
     let all : ℕ → ℕ = λ j. times page (s.unmerged j) in
     let more : ℕ = times page (s.unmerged i ++ likes) in
@@ -60,11 +60,11 @@ given_to-nil s i =
     λ m. record s { unmerged = λ j. each j m }
 
 -- a sliced like gives its worker one page
-pub after-like : (z : Setting) (s : CoreState) (i page : ℕ) → split (marked z) s.phase page ≡ true → after z s (Like i page) ≡ given_to s i (page ∷ [])
+pub after-like : (z : Opening) (s : CoreState) (i page : ℕ) → split (marked z) s.phase page ≡ true → after z s (Like i page) ≡ given_to s i (page ∷ [])
 after-like z s i page sliced = cond-true (split (marked z) s.phase page) _ _ sliced
 
 -- the state stays reachable with likes for one worker
-pub reach_given_to : (z : Setting) (s : CoreState) (i : ℕ) (likes : List ℕ) → Reachable z s → ((page : ℕ) → 0 < times page likes → (s.state i ≡ Runs s.phase) × (page < length z.counts) × (split (marked z) s.phase page ≡ true)) → ((page : ℕ) → total (numbers z (given_to s i likes)) page < 2 ^ 63) → Reachable z (given_to s i likes)
+pub reach_given_to : (z : Opening) (s : CoreState) (i : ℕ) (likes : List ℕ) → Reachable z s → ((page : ℕ) → 0 < times page likes → (s.state i ≡ Runs s.phase) × (page < length z.counts) × (split (marked z) s.phase page ≡ true)) → ((page : ℕ) → total (numbers z (given_to s i likes)) page < 2 ^ 63) → Reachable z (given_to s i likes)
 reach_given_to z s i [] r pages totals = subst (Reachable z) (sym (given_to-nil s i)) r
 reach_given_to z s i (page ∷ likes) r pages totals =
     let more = times-cons_same page likes in
@@ -90,7 +90,7 @@ reach_given_to z s i (page ∷ likes) r pages totals =
     (λ other. subst (λ (t : CoreState). total (numbers z t) other < 2 ^ 63) (sym all) (totals other)))
 
 -- fewer likes make smaller totals
-pub total-given-le : (z : Setting) (s : CoreState) (fewer more : ℕ → List ℕ) (page : ℕ) → ((i : ℕ) → times page (fewer i) ≤ times page (more i)) → total (numbers z (given s fewer)) page ≤ total (numbers z (given s more)) page
+pub total-given-le : (z : Opening) (s : CoreState) (fewer more : ℕ → List ℕ) (page : ℕ) → ((i : ℕ) → times page (fewer i) ≤ times page (more i)) → total (numbers z (given s fewer)) page ≤ total (numbers z (given s more)) page
 total-given-le z s fewer more page each =
     let sums =
     sum_below-le (λ i. times page (s.unmerged i ++ fewer i)) (λ i. times page (s.unmerged i ++ more i)) z.workers
@@ -103,7 +103,7 @@ total-given-le z s fewer more page each =
     omega arith
 
 -- the state stays reachable with likes for each worker below n
-reach_given : (z : Setting) (s : CoreState) (n : ℕ) (more : ℕ → List ℕ) → Reachable z s → MayLike z s more → ((i : ℕ) → n ≤ i → more i ≡ []) → Reachable z (given s more)
+reach_given : (z : Opening) (s : CoreState) (n : ℕ) (more : ℕ → List ℕ) → Reachable z s → MayLike z s more → ((i : ℕ) → n ≤ i → more i ≡ []) → Reachable z (given s more)
 reach_given z s zero more r may none =
     let each : (i : ℕ) → s.unmerged i ≡ s.unmerged i ++ more i =
     λ i. sym (ap (λ (l : List ℕ). s.unmerged i ++ l) (none i (omega arith)) ∙ append-nil (s.unmerged i))

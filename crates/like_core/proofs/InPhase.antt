@@ -4,7 +4,7 @@ use Rattle.like_core.specs.declared.worker_state.WorkerState.{WorkerState}
 use Rattle.like_core.specs.declared.worker_state.WorkerState.TheVariants.{Runs, Answered, Gone}
 use Rattle.like_core.specs.declared.event.Event.{Event}
 use Rattle.like_core.specs.declared.event.Event.TheVariants.{Look, Acknowledge, Report, Retire, Like, Read, Merge, CoordLook, Announce, Release}
-use Rattle.like_core.specs.declared.setting.Setting.{Setting}
+use Rattle.like_core.specs.declared.opening.Opening.{Opening}
 use Rattle.like_core.specs.Functions.{update, times}
 use Rattle.like_core.specs.Phase.{last_phase, IsJoined, IsSplit, split}
 use Rattle.like_core.specs.WorkerState.{IsIn, looked}
@@ -29,7 +29,7 @@ pub split-IsSplit : (marks : ℕ → Bool) (phase page : ℕ) → split marks ph
 split-IsSplit marks phase page is = eqb-true (phase % 2) 1 (and_parts (phase % 2 == 1) (marks page) is).0
 
 -- a state in phase is exclusive
-pub exclusive : (z : Setting) (s : CoreState) → IsInPhase z s → IsExclusive s
+pub exclusive : (z : Opening) (s : CoreState) → IsInPhase z s → IsExclusive s
 exclusive z s p i phase running joined =
     let present = p.runs i phase running in (
       λ worker. elim (p.unmerged worker) [ inl none ↦ none | inr some ↦ let odd = some.1 in absurd (omega arith) ],
@@ -43,11 +43,11 @@ pub record Fits (phase : ℕ) (state : WorkerState) (likes : List ℕ) : Type 0 
   pub unmerged : (likes ≡ []) ⊎ ((state ≡ Runs phase) × IsSplit phase)
 
 -- in phase, it holds of each worker
-fits_each : (z : Setting) (s : CoreState) → IsInPhase z s → (i : ℕ) → Fits s.phase (s.state i) (s.unmerged i)
+fits_each : (z : Opening) (s : CoreState) → IsInPhase z s → (i : ℕ) → Fits s.phase (s.state i) (s.unmerged i)
 fits_each z s p i = record { runs = p.runs i; answered = p.answered i; unmerged = p.unmerged i }
 
 -- where it holds of each worker, and the rest stands, the state is in phase
-in_phase : (z : Setting) (s : CoreState) → ((i : ℕ) → Fits s.phase (s.state i) (s.unmerged i)) → ((i : ℕ) → z.workers ≤ i → s.state i ≡ Gone) → s.phase ≤ last_phase → (s.ending ≡ true → s.phase < last_phase) → IsInPhase z s
+in_phase : (z : Opening) (s : CoreState) → ((i : ℕ) → Fits s.phase (s.state i) (s.unmerged i)) → ((i : ℕ) → z.workers ≤ i → s.state i ≡ Gone) → s.phase ≤ last_phase → (s.ending ≡ true → s.phase < last_phase) → IsInPhase z s
 in_phase z s fits outside within last = record {
   runs = λ i. (fits i).runs;
   answered = λ i. (fits i).answered;
@@ -104,7 +104,7 @@ fits_released phase Gone likes is_in f =
     fits_gone (phase + 1) likes none
 
 -- the start is in phase
-pub start_in_phase : (z : Setting) → IsInPhase z (start z)
+pub start_in_phase : (z : Opening) → IsInPhase z (start z)
 start_in_phase z =
     let P : Bool → Type 0 = λ b. Fits 0 (cond b (Runs 0) Gone) [] in
     in_phase z (start z)
@@ -114,7 +114,7 @@ start_in_phase z =
     (λ ending. cc)
 
 -- an event that changes one worker's state keeps the state in phase
-moves_state : (z : Setting) (s : CoreState) (i : ℕ) (state : WorkerState) → i < z.workers → IsInPhase z s → Fits s.phase state (s.unmerged i) → IsInPhase z (record s { state = update s.state i state })
+moves_state : (z : Opening) (s : CoreState) (i : ℕ) (state : WorkerState) → i < z.workers → IsInPhase z s → Fits s.phase state (s.unmerged i) → IsInPhase z (record s { state = update s.state i state })
 moves_state z s i state there p f =
     let P : ℕ → WorkerState → Type 0 = λ j st. Fits s.phase st (s.unmerged j) in
     in_phase z (record s { state = update s.state i state })
@@ -124,7 +124,7 @@ moves_state z s i state there p f =
     p.last
 
 -- an event that changes one worker's unmerged likes in a split phase keeps the state in phase
-moves_likes : (z : Setting) (s : CoreState) (i : ℕ) (likes : List ℕ) → IsInPhase z s → s.state i ≡ Runs s.phase → IsSplit s.phase → IsInPhase z (record s { unmerged = update s.unmerged i likes })
+moves_likes : (z : Opening) (s : CoreState) (i : ℕ) (likes : List ℕ) → IsInPhase z s → s.state i ≡ Runs s.phase → IsSplit s.phase → IsInPhase z (record s { unmerged = update s.unmerged i likes })
 moves_likes z s i likes p runs odd =
     let P : ℕ → List ℕ → Type 0 = λ j l. Fits s.phase (s.state j) l in
     in_phase z (record s { unmerged = update s.unmerged i likes })
@@ -134,12 +134,12 @@ moves_likes z s i likes p runs odd =
     p.last
 
 -- a state that is one of two is in phase where both are
-in_phase_either : (z : Setting) (b : Bool) (s t : CoreState) → (b ≡ true → IsInPhase z s) → IsInPhase z t → IsInPhase z (cond b s t)
+in_phase_either : (z : Opening) (b : Bool) (s t : CoreState) → (b ≡ true → IsInPhase z s) → IsInPhase z t → IsInPhase z (cond b s t)
 in_phase_either z true s t p q = p refl
 in_phase_either z false s t p q = q
 
 -- each permitted event keeps the state in phase
-pub keeps_in_phase : (z : Setting) (s : CoreState) (event : Event) → IsInPhase z s → Permits (numbers z s) event → IsInPhase z (after z s event)
+pub keeps_in_phase : (z : Opening) (s : CoreState) (event : Event) → IsInPhase z s → Permits (numbers z s) event → IsInPhase z (after z s event)
 keeps_in_phase z s (Look i) p may =
     moves_state z s i (looked s.phase (s.state i)) may.there p (fits_looked s.phase (s.state i) (s.unmerged i) (fits_each z s p i))
 keeps_in_phase z s (Acknowledge i) p may =
@@ -201,13 +201,13 @@ keeps_in_phase z s Release p may =
     (λ ending. cc)
 
 -- every list of permitted events keeps the state in phase
-pub keeps_in_phase_all : (z : Setting) (s : CoreState) (events : List Event) → IsInPhase z s → PermitsAll z s events → IsInPhase z (after_all z s events)
+pub keeps_in_phase_all : (z : Opening) (s : CoreState) (events : List Event) → IsInPhase z s → PermitsAll z s events → IsInPhase z (after_all z s events)
 keeps_in_phase_all z s [] p may = p
 keeps_in_phase_all z s (event ∷ events) p may =
     keeps_in_phase_all z (after z s event) events (keeps_in_phase z s event p may.0) may.1
 
 -- every state that can be reached is in phase
-pub reached_in_phase : (z : Setting) (s : CoreState) → Reachable z s → IsInPhase z s
+pub reached_in_phase : (z : Opening) (s : CoreState) → Reachable z s → IsInPhase z s
 reached_in_phase z s r =
     subst (IsInPhase z) r.reached (keeps_in_phase_all z (start z) r.events (start_in_phase z) r.permitted)
 
@@ -221,7 +221,7 @@ record AreInPhase (n : Numbers) : Type 0 where
   pub last : n.ending ≡ true → n.phase < last_phase
 
 -- states with equal numbers are in phase together
-pub in_phase_alike : (z : Setting) (s t : CoreState) → numbers z s ≡ numbers z t → IsInPhase z s → IsInPhase z t
+pub in_phase_alike : (z : Opening) (s t : CoreState) → numbers z s ≡ numbers z t → IsInPhase z s → IsInPhase z t
 in_phase_alike z s t same p =
     let before : AreInPhase (numbers z s) =
     record {

@@ -3,7 +3,7 @@ use Rattle.like_core.specs.declared.worker_state.WorkerState.{WorkerState}
 use Rattle.like_core.specs.declared.worker_state.WorkerState.TheVariants.{Runs, Answered, Gone}
 use Rattle.like_core.specs.declared.event.Event.{Event}
 use Rattle.like_core.specs.declared.refusal.NotNow.{NotNow}
-use Rattle.like_core.specs.declared.setting.Setting.{Setting}
+use Rattle.like_core.specs.declared.opening.Opening.{Opening}
 use Rattle.like_core.specs.declared.pure_core.Core.{Core}
 use Rattle.like_core.specs.declared.event.Event.TheVariants.{Announce, Release}
 use Rattle.like_core.specs.declared.shown.Shown.{Shown}
@@ -133,12 +133,12 @@ lone_may_release old new start last l happened =
       | inr same ↦ (lone_at n o start last same l, view_at n o start last same)
     ]
 
--- the setting of one worker and one page
-abbrev pub lone_setting : ℕ → Bool → Setting
-lone_setting count is_marked = record { workers = 1; counts = count ∷ []; marks = is_marked ∷ [] }
+-- the opening of one worker and one page
+abbrev pub lone_opening : ℕ → Bool → Opening
+lone_opening count is_marked = record { workers = 1; counts = count ∷ []; marks = is_marked ∷ [] }
 
 -- at the start
-pub lone_start : (count : ℕ) (is_marked : Bool) → count ≤ 10 ^ 18 → IsLone (numbers (lone_setting count is_marked) (start (lone_setting count is_marked))) count None
+pub lone_start : (count : ℕ) (is_marked : Bool) → count ≤ 10 ^ 18 → IsLone (numbers (lone_opening count is_marked) (start (lone_opening count is_marked))) count None
 lone_start count is_marked small = record {
   workers = refl;
   pages = refl;
@@ -150,7 +150,7 @@ lone_start count is_marked small = record {
   small = small;
 }
 
-pub fresh_start : (count : ℕ) (is_marked : Bool) → IsFresh (lone_view (numbers (lone_setting count is_marked) (start (lone_setting count is_marked))) count None)
+pub fresh_start : (count : ℕ) (is_marked : Bool) → IsFresh (lone_view (numbers (lone_opening count is_marked) (start (lone_opening count is_marked))) count None)
 fresh_start count is_marked = record {
   runs = refl;
   never_looked = refl;

@@ -2,7 +2,7 @@ use Rattle.std.proofs.Common.{◌≡◌, ℕ, ◌+◌, Bool, true, false, cond, 
 use Rattle.std.proofs.lemmas.List.{length-replicate}
 use Rattle.like_core.specs.declared.event.Event.{Event}
 use Rattle.like_core.specs.declared.event.Event.TheVariants.{Look, Acknowledge, Report, Retire, Like, Read, Merge, CoordLook, Announce, Release}
-use Rattle.like_core.specs.declared.setting.Setting.{Setting}
+use Rattle.like_core.specs.declared.opening.Opening.{Opening}
 use Rattle.like_core.specs.Functions.{update, times}
 use Rattle.like_core.specs.Phase.{split}
 use Rattle.like_core.specs.Numbers.{with_unmerged, with_count}
@@ -41,7 +41,7 @@ count-update counts lists page more q =
     q
 
 -- the numbers of the state after an event are the next numbers
-pub numbers-after : (z : Setting) (s : CoreState) (event : Event) → numbers z (after z s event) ≡ next (numbers z s) event
+pub numbers-after : (z : Opening) (s : CoreState) (event : Event) → numbers z (after z s event) ≡ next (numbers z s) event
 numbers-after z s (Look i) = refl
 numbers-after z s (Acknowledge i) = refl
 numbers-after z s (Report i) = refl

@@ -6,30 +6,30 @@ use Rattle.std.proofs.lemmas.Bool.{cases_eq}
 use Rattle.std.proofs.lemmas.List.{get_or-set_same, get_or-set_other}
 use Rattle.std.proofs.lemmas.List.FromFn.{length-map-range_with_len, get_or-map-range_with_len, fill_by_all}
 use Rattle.std.proofs.lemmas.List.Sums.{get_or-le-sum_by}
-use Rattle.like_core.specs.declared.setting.Setting.{Setting}
-use Rattle.like_core.specs.declared.view.WorkerView.{WorkerView}
+use Rattle.like_core.specs.declared.opening.Opening.{Opening}
+use Rattle.like_core.specs.declared.view.WorkerSeatView.{WorkerSeatView}
 use Rattle.like_core.specs.Post.{additions_of, added, phase_of, IsFresh}
 use Rattle.like_core.specs.Views.{added_to, fresh, added_view, post_of}
 use Rattle.like_core.proofs.Labels.{added_to_here, added_to_else}
 
 -- the post's additions to a page are the view's
-pub additions_at : (v : WorkerView) (page : ℕ) → page < length v.setting.marks → additions_of (post_of v) page ≡ added_to page v.additions
+pub additions_at : (v : WorkerSeatView) (page : ℕ) → page < length v.opening.marks → additions_of (post_of v) page ≡ added_to page v.additions
 additions_at v page there =
-    get_or-map-range_with_len (λ (q : ℕ). added_to q v.additions) 0 (length v.setting.marks) page page 0 there (omega arith)
+    get_or-map-range_with_len (λ (q : ℕ). added_to q v.additions) 0 (length v.opening.marks) page page 0 there (omega arith)
 
 -- no page has more than all additions together
-pub additions-le-sum : (v : WorkerView) (page : ℕ) → page < length v.setting.marks → added_to page v.additions ≤ sum (post_of v).additions
+pub additions-le-sum : (v : WorkerSeatView) (page : ℕ) → page < length v.opening.marks → added_to page v.additions ≤ sum (post_of v).additions
 additions-le-sum v page there =
-    let sized = length-map-range_with_len (λ (q : ℕ). added_to q v.additions) 0 (length v.setting.marks) in
+    let sized = length-map-range_with_len (λ (q : ℕ). added_to q v.additions) 0 (length v.opening.marks) in
     let part = get_or-le-sum_by (λ (n : ℕ). n) (post_of v).additions page 0 (omega arith) in
     let here = additions_at v page there in
     omega arith
 
 -- the post after an addition
-pub post_added : (v : WorkerView) (page n : ℕ) → page < length v.setting.marks → post_of (added_view v page n) ≡ added (post_of v) page n
+pub post_added : (v : WorkerSeatView) (page n : ℕ) → page < length v.opening.marks → post_of (added_view v page n) ≡ added (post_of v) page n
 post_added v page n there =
-    let w : WorkerView = added_view v page n in
-    let pages : ℕ = length v.setting.marks in
+    let w : WorkerSeatView = added_view v page n in
+    let pages : ℕ = length v.opening.marks in
     let old : List ℕ = (post_of v).additions in
     let more : ℕ = additions_of (post_of v) page + n in
     let sized : length old ≡ pages = length-map-range_with_len (λ (q : ℕ). added_to q v.additions) 0 pages in
@@ -55,5 +55,5 @@ zeros a zero = refl
 zeros a (suc n) = ap (λ (l : List ℕ). 0 ∷ l) (zeros (a + 1) n)
 
 -- the post of a fresh view is fresh
-pub post_fresh : (z : Setting) (i : ℕ) → IsFresh (post_of (fresh z i))
+pub post_fresh : (z : Opening) (i : ℕ) → IsFresh (post_of (fresh z i))
 post_fresh z i = record { runs = refl; never_looked = refl; added_nothing = zeros 0 (length z.marks) }

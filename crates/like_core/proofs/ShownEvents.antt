@@ -3,7 +3,7 @@ use Rattle.std.specs.Int.{bit_at}
 use Rattle.std.proofs.lemmas.Bool.{cases_eq, eqb-true, ne_eqb, cond-true, cond-false}
 use Rattle.like_core.specs.declared.worker_state.WorkerState.{WorkerState}
 use Rattle.like_core.specs.declared.worker_state.WorkerState.TheVariants.{Runs, Answered, Gone}
-use Rattle.like_core.specs.declared.setting.Setting.{Setting}
+use Rattle.like_core.specs.declared.opening.Opening.{Opening}
 use Rattle.like_core.specs.Functions.{update}
 use Rattle.like_core.specs.Phase.{last_phase}
 use Rattle.like_core.specs.WorkerState.{IsIn, looked}
@@ -13,7 +13,7 @@ use Rattle.like_core.specs.State.{CoreState, numbers}
 use Rattle.like_core.specs.Exclusive.{IsInPhase}
 use Rattle.like_core.specs.Sights.{sight_of, coord_sight_of}
 use Rattle.like_core.specs.ShownWord.{weight, mask, has_answered, is_gone, shown_fields, shown_word}
-use Rattle.like_core.specs.Shows.{IsSetting}
+use Rattle.like_core.specs.Shows.{IsOpening}
 use Rattle.like_core.proofs.Updates.{update-same, update-other}
 use Rattle.like_core.proofs.WordParts.{narrow, unpacked, unpacked-packed}
 use Rattle.like_core.proofs.WordSteps.{packed-answered_by, packed-retired_by}
@@ -53,12 +53,12 @@ not_both phase (Answered j) is = refl
 not_both phase Gone is = cc
 
 -- the word of a state is lawful
-pub shown_lawful : (z : Setting) (s : CoreState) → IsSetting z → IsInPhase z s → NoneAnswered s → IsLawful (shown_fields z s)
-shown_lawful z s setting p none =
+pub shown_lawful : (z : Opening) (s : CoreState) → IsOpening z → IsInPhase z s → NoneAnswered s → IsLawful (shown_fields z s)
+shown_lawful z s opening p none =
     let below = weight-lt s.ending in
     record {
-      some_worker = setting.some_worker;
-      few_workers = setting.few_workers;
+      some_worker = opening.some_worker;
+      few_workers = opening.few_workers;
       answered = mask-lt (λ i. has_answered s.phase (s.state i)) z.workers;
       retired = mask-lt (λ i. is_gone (s.state i)) z.workers;
       apart = mask_apart (λ i. has_answered s.phase (s.state i)) (λ i. is_gone (s.state i)) z.workers (λ i. not_both s.phase (s.state i));
@@ -88,7 +88,7 @@ fields_by f g kind workers answered retired number = λ m. record {
 }
 
 -- the bit of a worker that runs the phase is set in neither mask
-pub runs_unset : (z : Setting) (s : CoreState) (i phase : ℕ) → i < z.workers → s.state i ≡ Runs phase → (bit_at (shown_fields z s).answered i ≡ 0) × (bit_at (shown_fields z s).retired i ≡ 0)
+pub runs_unset : (z : Opening) (s : CoreState) (i phase : ℕ) → i < z.workers → s.state i ≡ Runs phase → (bit_at (shown_fields z s).answered i ≡ 0) × (bit_at (shown_fields z s).retired i ≡ 0)
 runs_unset z s i phase there runs = (
   mask_bit (λ j. has_answered s.phase (s.state j)) z.workers i there ∙ ap (λ st. weight (has_answered s.phase st)) runs,
   mask_bit (λ j. is_gone (s.state j)) z.workers i there ∙ ap (λ st. weight (is_gone st)) runs,
@@ -109,7 +109,7 @@ test_same test s i state same j = elim (cases_eq j i) [
 ]
 
 -- an answer sets the worker's bit of `answered`
-pub fields_answered : (z : Setting) (s : CoreState) (i phase : ℕ) → i < z.workers → s.state i ≡ Runs phase → shown_fields z (moved s i (Answered s.phase)) ≡ answered_by (shown_fields z s) i
+pub fields_answered : (z : Opening) (s : CoreState) (i phase : ℕ) → i < z.workers → s.state i ≡ Runs phase → shown_fields z (moved s i (Answered s.phase)) ≡ answered_by (shown_fields z s) i
 fields_answered z s i phase there runs =
     let st : WorkerState = Answered s.phase in
     fields_by (shown_fields z (moved s i st)) (answered_by (shown_fields z s) i) refl refl
@@ -122,7 +122,7 @@ fields_answered z s i phase there runs =
     refl
 
 -- a retirement sets the worker's bit of `retired`
-pub fields_retired : (z : Setting) (s : CoreState) (i phase : ℕ) → i < z.workers → s.state i ≡ Runs phase → shown_fields z (moved s i Gone) ≡ retired_by (shown_fields z s) i
+pub fields_retired : (z : Opening) (s : CoreState) (i phase : ℕ) → i < z.workers → s.state i ≡ Runs phase → shown_fields z (moved s i Gone) ≡ retired_by (shown_fields z s) i
 fields_retired z s i phase there runs =
     fields_by (shown_fields z (moved s i Gone)) (retired_by (shown_fields z s) i) refl refl
     (mask_same (λ j. has_answered s.phase (update s.state i Gone j)) (λ j. has_answered s.phase (s.state j)) z.workers
@@ -134,7 +134,7 @@ fields_retired z s i phase there runs =
     refl
 
 -- a look changes no field
-pub fields_looked : (z : Setting) (s : CoreState) (i : ℕ) → shown_fields z (moved s i (looked s.phase (s.state i))) ≡ shown_fields z s
+pub fields_looked : (z : Opening) (s : CoreState) (i : ℕ) → shown_fields z (moved s i (looked s.phase (s.state i))) ≡ shown_fields z s
 fields_looked z s i =
     let st : WorkerState = looked s.phase (s.state i) in
     fields_by (shown_fields z (moved s i st)) (shown_fields z s) refl refl
@@ -145,7 +145,7 @@ fields_looked z s i =
     refl
 
 -- an announcement adds 1 to the kind
-pub fields_announced : (z : Setting) (s : CoreState) → s.ending ≡ false → shown_fields z (record s { ending = true }) ≡ announced (shown_fields z s)
+pub fields_announced : (z : Opening) (s : CoreState) → s.ending ≡ false → shown_fields z (record s { ending = true }) ≡ announced (shown_fields z s)
 fields_announced z s running =
     let no_weight : weight s.ending ≡ 0 = ap weight running in
     let kind : 2 * (s.phase % 2) + 1 ≡ 2 * (s.phase % 2) + weight s.ending + 1 = omega arith in
@@ -158,7 +158,7 @@ in_not_next phase (Answered j) is = ne_eqb j (phase + 1) (λ next. absurd (omega
 in_not_next phase Gone is = refl
 
 -- a release makes the released fields
-pub fields_released : (z : Setting) (s : CoreState) → s.ending ≡ true → AllIn (numbers z s) → shown_fields z (record s { phase = s.phase + 1; ending = false }) ≡ released (shown_fields z s)
+pub fields_released : (z : Opening) (s : CoreState) → s.ending ≡ true → AllIn (numbers z s) → shown_fields z (record s { phase = s.phase + 1; ending = false }) ≡ released (shown_fields z s)
 fields_released z s ending all_in =
     let next : CoreState = record s { phase = s.phase + 1; ending = false } in
     let one : weight s.ending ≡ 1 = ap weight ending in
@@ -179,19 +179,19 @@ fields_released z s ending all_in =
     refl
 
 -- the word after an acknowledgement or a report
-pub word_answered : (z : Setting) (s : CoreState) (i phase : ℕ) → IsLawful (shown_fields z s) → i < z.workers → s.state i ≡ Runs phase → bit_or (shown_word z s) (2 ^ (8 + i)) ≡ shown_word z (moved s i (Answered s.phase))
+pub word_answered : (z : Opening) (s : CoreState) (i phase : ℕ) → IsLawful (shown_fields z s) → i < z.workers → s.state i ≡ Runs phase → bit_or (shown_word z s) (2 ^ (8 + i)) ≡ shown_word z (moved s i (Answered s.phase))
 word_answered z s i phase lawful there runs =
     packed-answered_by (shown_fields z s) i lawful there (runs_unset z s i phase there runs).0 ∙
     ap packed (sym (fields_answered z s i phase there runs))
 
 -- the word after a retirement
-pub word_retired : (z : Setting) (s : CoreState) (i phase : ℕ) → IsLawful (shown_fields z s) → i < z.workers → s.state i ≡ Runs phase → bit_or (shown_word z s) (2 ^ (24 + i)) ≡ shown_word z (moved s i Gone)
+pub word_retired : (z : Opening) (s : CoreState) (i phase : ℕ) → IsLawful (shown_fields z s) → i < z.workers → s.state i ≡ Runs phase → bit_or (shown_word z s) (2 ^ (24 + i)) ≡ shown_word z (moved s i Gone)
 word_retired z s i phase lawful there runs =
     packed-retired_by (shown_fields z s) i lawful there (runs_unset z s i phase there runs).1 ∙
     ap packed (sym (fields_retired z s i phase there runs))
 
 -- the word after an announcement
-pub word_announced : (z : Setting) (s : CoreState) → IsLawful (shown_fields z (record s { ending = true })) → s.ending ≡ false → (shown_word z s + 1) % 2 ^ 64 ≡ shown_word z (record s { ending = true })
+pub word_announced : (z : Opening) (s : CoreState) → IsLawful (shown_fields z (record s { ending = true })) → s.ending ≡ false → (shown_word z s + 1) % 2 ^ 64 ≡ shown_word z (record s { ending = true })
 word_announced z s lawful running =
     let below = packed-lt (shown_fields z (record s { ending = true })) lawful in
     let same : packed (announced (shown_fields z s)) ≡ shown_word z (record s { ending = true }) = ap packed (sym (fields_announced z s running)) in
@@ -219,7 +219,7 @@ gone_test (Answered j) is = absurd (cc)
 gone_test Gone is = refl
 
 -- the coordinator sees what the state is
-pub coord_sees : (z : Setting) (s : CoreState) → CoordSees (numbers z s) (coord_sight_of (shown_fields z s))
+pub coord_sees : (z : Opening) (s : CoreState) → CoordSees (numbers z s) (coord_sight_of (shown_fields z s))
 coord_sees z s =
     let a : ℕ → Bool = λ i. has_answered s.phase (s.state i) in
     let g : ℕ → Bool = λ i. is_gone (s.state i) in
@@ -250,7 +250,7 @@ answered_weight phase (Answered j) is =
 answered_weight phase Gone is = absurd (omega arith)
 
 -- a worker sees what the state is
-pub worker_sees : (z : Setting) (s : CoreState) (i : ℕ) → i < z.workers → Sees (numbers z s) i (sight_of (shown_fields z s) i)
+pub worker_sees : (z : Opening) (s : CoreState) (i : ℕ) → i < z.workers → Sees (numbers z s) i (sight_of (shown_fields z s) i)
 worker_sees z s i there =
     let a : ℕ → Bool = λ j. has_answered s.phase (s.state j) in
     let bit = mask_bit a z.workers i there in

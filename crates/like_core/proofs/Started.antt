@@ -3,7 +3,7 @@ use Rattle.std.proofs.lemmas.Bool.{cases_lt, cond-true, cond-false, lt-ltb, le-l
 use Rattle.std.proofs.lemmas.List.{get_or-replicate, get_or_past, length-replicate}
 use Rattle.like_core.specs.declared.worker_state.WorkerState.{WorkerState}
 use Rattle.like_core.specs.declared.worker_state.WorkerState.TheVariants.{Runs, Gone}
-use Rattle.like_core.specs.declared.setting.Setting.{Setting}
+use Rattle.like_core.specs.declared.opening.Opening.{Opening}
 use Rattle.like_core.specs.Functions.{sum_below}
 use Rattle.like_core.specs.Numbers.{total}
 use Rattle.like_core.specs.Kept.{kept}
@@ -55,7 +55,7 @@ start_bounds states rows counts given marks workers pages rows_are counts_are sm
     omega arith
 
 -- a core that was just made stands for the start
-pub start_stands : (states : List WorkerState) (rows : List (List ℕ)) (counts : List ℕ) (marks : List Bool) (z : Setting) → states ≡ replicate z.workers (Runs 0) → rows ≡ replicate z.workers (replicate (length z.counts) 0) → counts ≡ z.counts → marks ≡ z.marks → kept 0 false states rows counts marks ≡ numbers z (start z)
+pub start_stands : (states : List WorkerState) (rows : List (List ℕ)) (counts : List ℕ) (marks : List Bool) (z : Opening) → states ≡ replicate z.workers (Runs 0) → rows ≡ replicate z.workers (replicate (length z.counts) 0) → counts ≡ z.counts → marks ≡ z.marks → kept 0 false states rows counts marks ≡ numbers z (start z)
 start_stands states rows counts marks z states_are rows_are counts_are marks_are =
     let workers : length rows ≡ z.workers =
     ap length rows_are ∙ length-replicate z.workers (replicate (length z.counts) 0)

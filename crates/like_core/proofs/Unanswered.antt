@@ -4,7 +4,7 @@ use Rattle.like_core.specs.declared.worker_state.WorkerState.{WorkerState}
 use Rattle.like_core.specs.declared.worker_state.WorkerState.TheVariants.{Runs, Answered, Gone}
 use Rattle.like_core.specs.declared.event.Event.{Event}
 use Rattle.like_core.specs.declared.event.Event.TheVariants.{Look, Acknowledge, Report, Retire, Like, Read, Merge, CoordLook, Announce, Release}
-use Rattle.like_core.specs.declared.setting.Setting.{Setting}
+use Rattle.like_core.specs.declared.opening.Opening.{Opening}
 use Rattle.like_core.specs.Functions.{update}
 use Rattle.like_core.specs.Phase.{split}
 use Rattle.like_core.specs.WorkerState.{looked}
@@ -57,7 +57,7 @@ either : (b : Bool) (s t : CoreState) → NoneAnswered s → NoneAnswered t → 
 either true s t p q = p
 either false s t p q = q
 
-start_unanswered : (z : Setting) → NoneAnswered (start z)
+start_unanswered : (z : Opening) → NoneAnswered (start z)
 start_unanswered z running i =
     let P : Bool → Type 0 = λ b. has_answered 0 (cond b (Runs 0) Gone) ≡ false in
     elim (nat_lt i z.workers) as P [ true ↦ refl | false ↦ refl ]
@@ -68,7 +68,7 @@ moves s i state none here running =
     update_cases P s.state i state (here (none running i)) (λ j other. none running j)
 
 -- each permitted event keeps it so
-keeps_unanswered : (z : Setting) (s : CoreState) (event : Event) → IsInPhase z s → NoneAnswered s → Permits (numbers z s) event → NoneAnswered (after z s event)
+keeps_unanswered : (z : Opening) (s : CoreState) (event : Event) → IsInPhase z s → NoneAnswered s → Permits (numbers z s) event → NoneAnswered (after z s event)
 keeps_unanswered z s (Look i) p none may =
     moves s i (looked s.phase (s.state i)) none (λ was. looked-has_answered s.phase (s.state i) ∙ was)
 keeps_unanswered z s (Acknowledge i) p none may = λ running. let ends = may.suits.2 in absurd (cc)
@@ -89,12 +89,12 @@ keeps_unanswered z s Release p none may =
     λ running i. answered_not (s.phase + 1) (s.state i)
     (λ j is same. elim (p.answered i j is) [ inl now ↦ absurd (omega arith) | inr before ↦ absurd (omega arith) ])
 
-keeps_all : (z : Setting) (s : CoreState) (events : List Event) → IsInPhase z s → NoneAnswered s → PermitsAll z s events → NoneAnswered (after_all z s events)
+keeps_all : (z : Opening) (s : CoreState) (events : List Event) → IsInPhase z s → NoneAnswered s → PermitsAll z s events → NoneAnswered (after_all z s events)
 keeps_all z s [] p none may = none
 keeps_all z s (event ∷ events) p none may =
     keeps_all z (after z s event) events (keeps_in_phase z s event p may.0) (keeps_unanswered z s event p none may.0) may.1
 
 -- in every state that can be reached, nobody has answered a phase before its end was announced
-pub reached_unanswered : (z : Setting) (s : CoreState) → Reachable z s → NoneAnswered s
+pub reached_unanswered : (z : Opening) (s : CoreState) → Reachable z s → NoneAnswered s
 reached_unanswered z s r =
     subst NoneAnswered r.reached (keeps_all z (start z) r.events (start_in_phase z) (start_unanswered z) r.permitted)

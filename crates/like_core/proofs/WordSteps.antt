@@ -10,11 +10,11 @@ use Rattle.like_core.proofs.WordParts.{narrow}
 pub and_unset : (n i : ℕ) → bit_at n i ≡ 0 → bit_and n (2 ^ i) ≡ 0
 and_unset n i unset = and_pow n i ∙ (ap (λ b. b * 2 ^ i) unset ∙ zero-mul (2 ^ i))
 
--- setting an unset bit adds it
+-- opening an unset bit adds it
 pub or_unset : (n i : ℕ) → bit_at n i ≡ 0 → bit_or n (2 ^ i) ≡ n + 2 ^ i
 or_unset n i unset = or_disjoint n (2 ^ i) (and_unset n i unset)
 
--- setting an unset bit of a number's high part adds it there
+-- opening an unset bit of a number's high part adds it there
 pub or_unset_high : (high low k i : ℕ) → low < 2 ^ k → bit_at high i ≡ 0 → bit_or (high * 2 ^ k + low) (2 ^ (k + i)) ≡ high * 2 ^ k + low + 2 ^ (k + i)
 or_unset_high high low k i below unset =
     or_unset (high * 2 ^ k + low) (k + i)

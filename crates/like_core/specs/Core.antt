@@ -1,7 +1,7 @@
 use Rattle.std.specs.Prelude.{◌≡◌, List}
 use Rattle.like_core.specs.declared.event.Event.{Event}
 use Rattle.like_core.specs.declared.pure_core.Core.{Core}
-use Rattle.like_core.specs.declared.setting.Setting.{Setting}
+use Rattle.like_core.specs.declared.opening.Opening.{Opening}
 use Rattle.like_core.specs.Numbers.{Numbers}
 use Rattle.like_core.specs.Kept.{kept}
 use Rattle.like_core.specs.State.{CoreState, start, after, numbers}
@@ -13,15 +13,15 @@ abbrev pub numbers_of : Core → Numbers
 numbers_of core = kept core.phase core.ending core.states.items core.unmerged.items core.counts core.marks.items
 
 -- the core stands for each state that has its numbers
-abbrev pub StandsFor : Core → Setting → CoreState → Type 0
+abbrev pub StandsFor : Core → Opening → CoreState → Type 0
 StandsFor core z s = numbers_of core ≡ numbers z s
 
 -- the core stands for the start
-abbrev pub StandsForStart : Core → Setting → Type 0
+abbrev pub StandsForStart : Core → Opening → Type 0
 StandsForStart core z = StandsFor core z (start z)
 
 -- the core stands for a state that can be reached
-pub record IsReachable (core : Core) (z : Setting) : Type 0 where
+pub record IsReachable (core : Core) (z : Opening) : Type 0 where
   pub state : CoreState
   pub stands : StandsFor core z state
   pub reachable : Reachable z state
@@ -29,18 +29,18 @@ pub record IsReachable (core : Core) (z : Setting) : Type 0 where
 -- the event takes each state that the old core stood for to one for which the new core stands
 abbrev pub TakesStates : Core → Core → Event → Type 0
 TakesStates old new event =
-    (z : Setting) (s : CoreState) → StandsFor old z s → StandsFor new z (after z s event)
+    (z : Opening) (s : CoreState) → StandsFor old z s → StandsFor new z (after z s event)
 
 -- and so do all events of a list, one after the other
 abbrev pub TakesStatesAll : Core → Core → List Event → Type 0
 TakesStatesAll old new events =
-    (z : Setting) (s : CoreState) → StandsFor old z s → StandsFor new z (after_all z s events)
+    (z : Opening) (s : CoreState) → StandsFor old z s → StandsFor new z (after_all z s events)
 
 -- a core that stands for a state that can be reached still stands for one
 abbrev pub KeepsReachable : Core → Core → Type 0
-KeepsReachable old new = (z : Setting) → IsReachable old z → IsReachable new z
+KeepsReachable old new = (z : Opening) → IsReachable old z → IsReachable new z
 
 -- where the core stands for a state that can be reached, each state that it stands for is exclusive, and in phase
 abbrev pub IsCoreExclusive : Core → Type 0
 IsCoreExclusive core =
-    (z : Setting) (s : CoreState) → IsReachable core z → StandsFor core z s → IsExclusive s × IsInPhase z s
+    (z : Opening) (s : CoreState) → IsReachable core z → StandsFor core z s → IsExclusive s × IsInPhase z s

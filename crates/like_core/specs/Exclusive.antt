@@ -1,6 +1,6 @@
 use Rattle.std.specs.Prelude.{◌≡◌, ℕ, ◌+◌, ◌<◌, ◌≤◌, ◌⊎◌, true, []}
 use Rattle.like_core.specs.declared.worker_state.WorkerState.TheVariants.{Runs, Answered, Gone}
-use Rattle.like_core.specs.declared.setting.Setting.{Setting}
+use Rattle.like_core.specs.declared.opening.Opening.{Opening}
 use Rattle.like_core.specs.Phase.{last_phase, IsJoined, IsSplit}
 use Rattle.like_core.specs.State.{CoreState}
 use Rattle.like_core.specs.Reachable.{Reachable}
@@ -19,7 +19,7 @@ IsExclusive s = (i phase : ℕ) → s.state i ≡ Runs phase → IsJoined phase 
 
 -- who runs a phase runs the present one; who has answered one has answered the present one or the one before; who has
 -- unmerged likes runs the present phase, and that is split; who is no worker is gone; the last phase is never ending
-pub record IsInPhase (z : Setting) (s : CoreState) : Type 0 where
+pub record IsInPhase (z : Opening) (s : CoreState) : Type 0 where
   pub runs : (i phase : ℕ) → s.state i ≡ Runs phase → phase ≡ s.phase
   pub answered : (i phase : ℕ) → s.state i ≡ Answered phase → (phase ≡ s.phase) ⊎ (phase + 1 ≡ s.phase)
   pub unmerged : (i : ℕ) → (s.unmerged i ≡ []) ⊎ ((s.state i ≡ Runs s.phase) × IsSplit s.phase)
@@ -29,4 +29,4 @@ pub record IsInPhase (z : Setting) (s : CoreState) : Type 0 where
 
 -- every state that can be reached is exclusive, and in phase
 abbrev pub ReachableIsExclusive : Type 0
-ReachableIsExclusive = (z : Setting) (s : CoreState) → Reachable z s → IsExclusive s × IsInPhase z s
+ReachableIsExclusive = (z : Opening) (s : CoreState) → Reachable z s → IsExclusive s × IsInPhase z s

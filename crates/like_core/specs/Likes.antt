@@ -1,6 +1,6 @@
 use Rattle.std.specs.Prelude.{◌≡◌, ℕ, ◌^◌, ◌<◌, true, List, ◌++◌, length}
 use Rattle.like_core.specs.declared.worker_state.WorkerState.TheVariants.{Runs}
-use Rattle.like_core.specs.declared.setting.Setting.{Setting}
+use Rattle.like_core.specs.declared.opening.Opening.{Opening}
 use Rattle.like_core.specs.Functions.{times}
 use Rattle.like_core.specs.Phase.{split}
 use Rattle.like_core.specs.Numbers.{total}
@@ -13,7 +13,7 @@ given s more = record s { unmerged = λ i. s.unmerged i ++ more i }
 
 -- likes are given only to workers that run the present phase, of pages that are split in it, and with them the totals
 -- stay below 2 ^ 63
-pub record MayLike (z : Setting) (s : CoreState) (more : ℕ → List ℕ) : Type 0 where
+pub record MayLike (z : Opening) (s : CoreState) (more : ℕ → List ℕ) : Type 0 where
   pub runs : (i page : ℕ) → 0 < times page (more i) → s.state i ≡ Runs s.phase
   pub there : (i page : ℕ) → 0 < times page (more i) → page < length z.counts
   pub splits : (i page : ℕ) → 0 < times page (more i) → split (marked z) s.phase page ≡ true
@@ -22,4 +22,4 @@ pub record MayLike (z : Setting) (s : CoreState) (more : ℕ → List ℕ) : Typ
 -- a state that can be reached can also be reached with such likes
 abbrev pub LikesStayReachable : Type 0
 LikesStayReachable =
-    (z : Setting) (s : CoreState) (more : ℕ → List ℕ) → Reachable z s → MayLike z s more → Reachable z (given s more)
+    (z : Opening) (s : CoreState) (more : ℕ → List ℕ) → Reachable z s → MayLike z s more → Reachable z (given s more)

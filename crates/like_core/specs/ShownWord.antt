@@ -1,7 +1,7 @@
 use Rattle.std.specs.Prelude.{ℕ, zero, suc, ◌+◌, ◌*◌, ◌%◌, ◌^◌, ◌==◌, Bool, true, false}
 use Rattle.like_core.specs.declared.worker_state.WorkerState.{WorkerState}
 use Rattle.like_core.specs.declared.worker_state.WorkerState.TheVariants.{Runs, Answered, Gone}
-use Rattle.like_core.specs.declared.setting.Setting.{Setting}
+use Rattle.like_core.specs.declared.opening.Opening.{Opening}
 use Rattle.like_core.specs.Word.{Fields, packed}
 use Rattle.like_core.specs.State.{CoreState}
 
@@ -28,7 +28,7 @@ is_gone (Answered j) = false
 is_gone Gone = true
 
 -- the phase word's fields in a state of the core
-abbrev pub shown_fields : Setting → CoreState → Fields
+abbrev pub shown_fields : Opening → CoreState → Fields
 shown_fields z s = record {
   kind = 2 * (s.phase % 2) + weight s.ending;
   workers = z.workers;
@@ -38,5 +38,5 @@ shown_fields z s = record {
 }
 
 -- the phase word in a state of the core
-abbrev pub shown_word : Setting → CoreState → ℕ
+abbrev pub shown_word : Opening → CoreState → ℕ
 shown_word z s = packed (shown_fields z s)

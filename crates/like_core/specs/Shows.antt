@@ -5,9 +5,9 @@ use lib.ListN.{get_elem?}
 use Rattle.like_core.specs.declared.worker_state.WorkerState.TheVariants.{Runs}
 use Rattle.like_core.specs.declared.event.Event.{Event}
 use Rattle.like_core.specs.declared.shown.Shown.{Shown}
-use Rattle.like_core.specs.declared.setting.Setting.{Setting}
-use Rattle.like_core.specs.declared.view.WorkerView.{WorkerView}
-use Rattle.like_core.specs.declared.view.CoordView.{CoordView}
+use Rattle.like_core.specs.declared.opening.Opening.{Opening}
+use Rattle.like_core.specs.declared.view.WorkerSeatView.{WorkerSeatView}
+use Rattle.like_core.specs.declared.view.CoordSeatView.{CoordSeatView}
 use Rattle.like_core.specs.declared.view.View.{View}
 use Rattle.like_core.specs.declared.view.View.TheVariants.{Coord, Worker, Spent}
 use Rattle.like_core.specs.Phase.{IsSplit}
@@ -19,9 +19,9 @@ use Rattle.like_core.specs.ShownWord.{shown_word}
 use Rattle.like_core.specs.Views.{ViewRuns, ViewSawEnding, added_in, seats_of}
 use Rattle.like_core.specs.Tallies.{Tallied}
 
--- a setting that a board may have: there are 1 to 16 workers and at most 1,024 pages, each with a mark and a count of
+-- a opening that a board may have: there are 1 to 16 workers and at most 1,024 pages, each with a mark and a count of
 -- at most 10 ^ 18
-pub record IsSetting (z : Setting) : Type 0 where
+pub record IsOpening (z : Opening) : Type 0 where
   pub some_worker : 1 ≤ z.workers
   pub few_workers : z.workers ≤ 16
   pub few_pages : length z.counts ≤ 1024
@@ -30,8 +30,8 @@ pub record IsSetting (z : Setting) : Type 0 where
 
 -- a worker's view of a state: its worker's state there; it saw no later phase; what it saw of the phase that it runs is
 -- still so; and of each page's likes as many have the label of its worker and a phase as it added to the page in the phase
-pub record FitsWorker (z : Setting) (s : CoreState) (v : WorkerView) : Type 0 where
-  pub setting : v.setting ≡ z
+pub record FitsWorker (z : Opening) (s : CoreState) (v : WorkerSeatView) : Type 0 where
+  pub opening : v.opening ≡ z
   pub there : v.worker < z.workers
   pub state : s.state v.worker ≡ v.state
   pub number : IfSome v.last (λ sight. sight.number ≤ s.phase)
@@ -41,8 +41,8 @@ pub record FitsWorker (z : Setting) (s : CoreState) (v : WorkerView) : Type 0 wh
 -- the coordinator's view of a state: its phase, and whether that is ending; who has no seat yet runs phase 0 and added
 -- nothing; a sight that showed all in is still what a look would show; all are gone in a split phase only where the last
 -- sight before its release showed that; and the views of the seats that were given back are still so
-pub record FitsCoord (z : Setting) (s : CoreState) (c : CoordView) : Type 0 where
-  pub setting : c.setting ≡ z
+pub record FitsCoord (z : Opening) (s : CoreState) (c : CoordSeatView) : Type 0 where
+  pub opening : c.opening ≡ z
   pub made : c.made ≤ z.workers
   pub unmade : (i : ℕ) → c.made ≤ i → i < z.workers → s.state i ≡ Runs 0
   pub unlabelled : (i phase page : ℕ) → c.made ≤ i → i < z.workers → labelled i phase (s.applied page) ≡ 0
@@ -52,30 +52,30 @@ pub record FitsCoord (z : Setting) (s : CoreState) (c : CoordView) : Type 0 wher
   pub stays : IfSome c.last (λ sight. sight.all_in ≡ true → CoordSees (numbers z s) sight × (c.word ≡ shown_word z s))
   pub all_in : c.all_in ≡ true → AllIn (numbers z s)
   pub gone : IsSplit s.phase → AllGone (numbers z s) → c.gone ≡ true
-  pub joined : (place : ℕ) (v : WorkerView) → get_elem? c.joined place ≡ some v → FitsWorker z s v
+  pub joined : (place : ℕ) (v : WorkerSeatView) → get_elem? c.joined place ≡ some v → FitsWorker z s v
 
 -- a seat's view of a state
-abbrev pub Fits : Setting → CoreState → View → Type 0
+abbrev pub Fits : Opening → CoreState → View → Type 0
 Fits z s (Coord c) = FitsCoord z s c
 Fits z s (Worker v) = FitsWorker z s v
 Fits z s Spent = Unit {0}
 
 -- the words and the views of all seats show the state: word 0 is its phase word, and then stands each page's count;
 -- no likes are unmerged; the first seat is the coordinator's, and no other is; and each worker that has a seat has one
-pub record Shows (z : Setting) (s : CoreState) (words : List ℕ) (views : List View) : Type 0 where
-  pub setting : IsSetting z
+pub record Shows (z : Opening) (s : CoreState) (words : List ℕ) (views : List View) : Type 0 where
+  pub opening : IsOpening z
   pub width : length words ≡ length z.counts + 1
   pub word : slice_index words 0 ≡ shown_word z s
   pub pages : (page : ℕ) → page < length z.counts → slice_index words (page + 1) ≡ slice_index z.counts page + length (s.applied page)
   pub merged : (i : ℕ) → s.unmerged i ≡ []
-  pub coord : CoordView
+  pub coord : CoordSeatView
   pub first : get_elem? views 0 ≡ some (Coord coord)
-  pub only : (place : ℕ) (c : CoordView) → get_elem? views place ≡ some (Coord c) → place ≡ 0
+  pub only : (place : ℕ) (c : CoordSeatView) → get_elem? views place ≡ some (Coord c) → place ≡ 0
   pub each : (place : ℕ) (v : View) → get_elem? views place ≡ some v → Fits z s v
   pub once : (i : ℕ) → sum_by (seats_of i) views ≡ (if nat_lt i coord.made then 1 else 0)
 
 -- the words and the views show some state that can be reached; beside it stand the tallies of the views' additions
-pub record ShowsSome (z : Setting) (words : List ℕ) (views : List View) : Type 0 where
+pub record ShowsSome (z : Opening) (words : List ℕ) (views : List View) : Type 0 where
   pub state : CoreState
   pub reachable : Reachable z state
   pub shows : Shows z state words views
@@ -84,7 +84,7 @@ pub record ShowsSome (z : Setting) (words : List ℕ) (views : List View) : Type
 -- one step of a seat, whose view goes from v to w, is these events and then this one: some state that can be reached is
 -- shown by the words and by all views, the events are permitted there one after the other, the last shows what it is
 -- said to show, and afterwards the words, of which one may differ, and all views show the state after the events
-pub record IsSteps (z : Setting) (events : List Event) (event : Event) (shown : Shown) (v w : View) : Type 0 where
+pub record IsSteps (z : Opening) (events : List Event) (event : Event) (shown : Shown) (v w : View) : Type 0 where
   pub words : List ℕ
   pub views : List View
   pub place : ℕ
@@ -100,5 +100,5 @@ pub record IsSteps (z : Setting) (events : List Event) (event : Event) (shown : 
   pub shows_after : Shows z (after z (after_all z state events) event) (slice_set words changed word) (slice_set views place w)
 
 -- one step of a seat is this event
-abbrev pub IsStep : Setting → Event → Shown → View → View → Type 0
+abbrev pub IsStep : Opening → Event → Shown → View → View → Type 0
 IsStep z event shown v w = IsSteps z [] event shown v w

@@ -3,7 +3,7 @@ use Rattle.like_core.specs.declared.worker_state.WorkerState.{WorkerState}
 use Rattle.like_core.specs.declared.worker_state.WorkerState.TheVariants.{Runs, Answered, Gone}
 use Rattle.like_core.specs.declared.event.Event.{Event}
 use Rattle.like_core.specs.declared.event.Event.TheVariants.{Look, Acknowledge, Report, Retire, Like, Read, Merge, CoordLook, Announce, Release}
-use Rattle.like_core.specs.declared.setting.Setting.{Setting}
+use Rattle.like_core.specs.declared.opening.Opening.{Opening}
 use Rattle.like_core.specs.Functions.{update, times}
 use Rattle.like_core.specs.Phase.{split}
 use Rattle.like_core.specs.WorkerState.{looked}
@@ -27,12 +27,12 @@ pub record CoreState : Type 0 where
   pub unmerged : ℕ → List ℕ
   pub applied : ℕ → List Label
 
--- the setting with these workers, counts and marks
-abbrev pub setting : ℕ → List ℕ → List Bool → Setting
-setting workers counts marks = record { workers = workers; counts = counts; marks = marks }
+-- the opening with these workers, counts and marks
+abbrev pub opening : ℕ → List ℕ → List Bool → Opening
+opening workers counts marks = record { workers = workers; counts = counts; marks = marks }
 
 -- the core at the start: each worker runs phase 0; who is no worker is gone
-abbrev pub start : Setting → CoreState
+abbrev pub start : Opening → CoreState
 start z = record {
   phase = 0;
   ending = false;
@@ -42,7 +42,7 @@ start z = record {
 }
 
 -- whether a page is marked as split
-abbrev pub marked : Setting → ℕ → Bool
+abbrev pub marked : Opening → ℕ → Bool
 marked z page = slice_index_or z.marks page false
 
 -- the likes of other pages
@@ -50,7 +50,7 @@ abbrev pub without : ℕ → List ℕ → List ℕ
 without page likes = filter (λ other. not (other == page)) likes
 
 -- the state after the event
-abbrev pub after : Setting → CoreState → Event → CoreState
+abbrev pub after : Opening → CoreState → Event → CoreState
 after z s (Look i) = record s { state = update s.state i (looked s.phase (s.state i)) }
 after z s (Acknowledge i) = record s { state = update s.state i (Answered s.phase) }
 after z s (Report i) = record s { state = update s.state i (Answered s.phase) }
@@ -70,7 +70,7 @@ after z s Announce = record s { ending = true }
 after z s Release = record s { phase = s.phase + 1; ending = false }
 
 -- the numbers of a state: lengths of its lists
-abbrev pub numbers : Setting → CoreState → Numbers
+abbrev pub numbers : Opening → CoreState → Numbers
 numbers z s = record {
   workers = z.workers;
   pages = length z.counts;

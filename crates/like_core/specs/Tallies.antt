@@ -1,6 +1,6 @@
 use Rattle.std.specs.Prelude.{◌≡◌, ℕ, ◌+◌, ◌-◌, ◌*◌, ◌≤◌, List, length}
 use Rattle.std.specs.List.{sum_by}
-use Rattle.like_core.specs.declared.view.WorkerView.{WorkerView}
+use Rattle.like_core.specs.declared.view.WorkerSeatView.{WorkerSeatView}
 use Rattle.like_core.specs.declared.view.View.{View}
 use Rattle.like_core.specs.declared.view.View.TheVariants.{Coord, Worker, Spent}
 use Rattle.like_core.specs.State.{CoreState}
@@ -13,7 +13,7 @@ paged page (Worker v) = added_to page v.additions
 paged page Spent = 0
 
 -- how much a worker may still add to a page
-abbrev pub left_to : ℕ → WorkerView → ℕ
+abbrev pub left_to : ℕ → WorkerSeatView → ℕ
 left_to page v = 64000000 - added_to page v.additions
 
 -- how much may still be added to a page by a view's worker; by the coordinator's, by those that have no seat yet and

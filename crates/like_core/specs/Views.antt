@@ -5,10 +5,10 @@ use Rattle.like_core.specs.declared.sight.Sight.{Sight}
 use Rattle.like_core.specs.declared.sight.CoordSight.{CoordSight}
 use Rattle.like_core.specs.declared.event.Event.{Event}
 use Rattle.like_core.specs.declared.event.Event.TheVariants.{Like, Merge}
-use Rattle.like_core.specs.declared.setting.Setting.{Setting}
+use Rattle.like_core.specs.declared.opening.Opening.{Opening}
 use Rattle.like_core.specs.declared.view.Addition.{Addition}
-use Rattle.like_core.specs.declared.view.WorkerView.{WorkerView}
-use Rattle.like_core.specs.declared.view.CoordView.{CoordView}
+use Rattle.like_core.specs.declared.view.WorkerSeatView.{WorkerSeatView}
+use Rattle.like_core.specs.declared.view.CoordSeatView.{CoordSeatView}
 use Rattle.like_core.specs.declared.view.View.{View}
 use Rattle.like_core.specs.declared.view.View.TheVariants.{Coord, Worker, Spent}
 use Rattle.like_core.specs.Phase.{last_phase, IsJoined, IsSplit}
@@ -24,9 +24,9 @@ added_in phase page additions =
     sum_by (λ a. (if (a.phase == phase) && (a.page == page) then a.likes else 0)) additions
 
 -- a worker's view before its seat made a step: it runs phase 0, looked never and added nothing
-abbrev pub fresh : Setting → ℕ → WorkerView
+abbrev pub fresh : Opening → ℕ → WorkerSeatView
 fresh z worker = record {
-  setting = z;
+  opening = z;
   worker = worker;
   state = Runs 0;
   last = None;
@@ -35,9 +35,9 @@ fresh z worker = record {
 }
 
 -- the coordinator's view before its first step, where this is the phase word
-abbrev pub fresh_coord : Setting → ℕ → CoordView
+abbrev pub fresh_coord : Opening → ℕ → CoordSeatView
 fresh_coord z word = record {
-  setting = z;
+  opening = z;
   made = 0;
   phase = 0;
   ending = false;
@@ -49,63 +49,63 @@ fresh_coord z word = record {
 }
 
 -- the worker of the view runs a phase
-abbrev pub ViewRuns : WorkerView → Type 0
+abbrev pub ViewRuns : WorkerSeatView → Type 0
 ViewRuns v = RunsSome (λ _. Unit {0}) v.state
 
 -- it runs a joined phase
-abbrev pub ViewRunsJoined : WorkerView → Type 0
+abbrev pub ViewRunsJoined : WorkerSeatView → Type 0
 ViewRunsJoined v = RunsSome IsJoined v.state
 
 -- it runs a split phase
-abbrev pub ViewRunsSplit : WorkerView → Type 0
+abbrev pub ViewRunsSplit : WorkerSeatView → Type 0
 ViewRunsSplit v = RunsSome IsSplit v.state
 
 -- its last look showed that the end of the phase was announced
-abbrev pub ViewSawEnding : WorkerView → Type 0
+abbrev pub ViewSawEnding : WorkerSeatView → Type 0
 ViewSawEnding v = IsSomeAnd v.last (λ sight. sight.ending ≡ true)
 
 -- a worker's view after a look
-abbrev pub looked_view : WorkerView → Sight → WorkerView
+abbrev pub looked_view : WorkerSeatView → Sight → WorkerSeatView
 looked_view v sight = record v { state = seen v.state sight; last = Some sight }
 
 -- a worker's view after an acknowledgement or a report
-abbrev pub answered_view : WorkerView → WorkerView
+abbrev pub answered_view : WorkerSeatView → WorkerSeatView
 answered_view v = record v { state = Answered (phase_of v.state) }
 
 -- a worker's view after it retired
-abbrev pub retired_view : WorkerView → WorkerView
+abbrev pub retired_view : WorkerSeatView → WorkerSeatView
 retired_view v = record v { state = Gone }
 
 -- a worker's view after n was added to a page
-abbrev pub added_view : WorkerView → ℕ → ℕ → WorkerView
+abbrev pub added_view : WorkerSeatView → ℕ → ℕ → WorkerSeatView
 added_view v page n =
     record v { additions = v.additions ++ record { phase = phase_of v.state; page = page; likes = n } ∷ [] }
 
 -- what a worker's view means as a post, the board aside: its additions are summed by page
-abbrev pub post_of : WorkerView → PostView
+abbrev pub post_of : WorkerSeatView → PostView
 post_of v = record {
   board = [];
   worker = v.worker;
-  marks = v.setting.marks;
+  marks = v.opening.marks;
   state = v.state;
   last = v.last;
-  additions = map (λ page. added_to page v.additions) (range_with_len 0 (length v.setting.marks));
+  additions = map (λ page. added_to page v.additions) (range_with_len 0 (length v.opening.marks));
 }
 
 -- the likes that an addition of n to a page merges; where the page is not sliced there are none, and it is a like itself
-abbrev pub likes_merged : WorkerView → ℕ → ℕ → List Event
+abbrev pub likes_merged : WorkerSeatView → ℕ → ℕ → List Event
 likes_merged v page n = (if slices (post_of v) page then replicate n (Like v.worker page) else [])
 
 -- the event that an addition to a page is, after the likes that it merges
-abbrev pub adding : WorkerView → ℕ → Event
+abbrev pub adding : WorkerSeatView → ℕ → Event
 adding v page = (if slices (post_of v) page then Merge v.worker page else Like v.worker page)
 
 -- the coordinator's view after a look at a word
-abbrev pub looked_coord : CoordView → ℕ → CoordSight → CoordView
+abbrev pub looked_coord : CoordSeatView → ℕ → CoordSight → CoordSeatView
 looked_coord c word sight = record c { last = Some sight; word = word; all_in = sight.all_in }
 
 -- the coordinator's view after an announcement
-abbrev pub announced_coord : CoordView → CoordView
+abbrev pub announced_coord : CoordSeatView → CoordSeatView
 announced_coord c = record c { ending = true; last = None }
 
 -- whether the last sight showed all workers gone
@@ -114,24 +114,24 @@ saw_all_gone (Some sight) = sight.all_gone
 saw_all_gone None = false
 
 -- the coordinator's view after a release
-abbrev pub released_coord : CoordView → CoordView
+abbrev pub released_coord : CoordSeatView → CoordSeatView
 released_coord c =
     record c { phase = c.phase + 1; ending = false; last = None; all_in = false; gone = saw_all_gone c.last }
 
 -- the coordinator's view after it made one worker's seat more
-abbrev pub made_coord : CoordView → CoordView
+abbrev pub made_coord : CoordSeatView → CoordSeatView
 made_coord c = record c { made = c.made + 1 }
 
 -- the coordinator's view after a worker's seat was given back to it
-abbrev pub gathered_coord : CoordView → WorkerView → CoordView
+abbrev pub gathered_coord : CoordSeatView → WorkerSeatView → CoordSeatView
 gathered_coord c v = record c { joined = v ∷ c.joined }
 
 -- the coordinator may announce: the last look, since which it made no step, showed a running phase that is not the last
-abbrev pub MayAnnounce : CoordView → Type 0
+abbrev pub MayAnnounce : CoordSeatView → Type 0
 MayAnnounce c = IsSomeAnd c.last (λ sight. (sight.ending ≡ false) × (sight.number < last_phase))
 
 -- the coordinator may release: the last look, since which it made no step, showed an ending phase and all in
-abbrev pub MayRelease : CoordView → Type 0
+abbrev pub MayRelease : CoordSeatView → Type 0
 MayRelease c = IsSomeAnd c.last (λ sight. (sight.ending ≡ true) × (sight.all_in ≡ true))
 
 -- how many workers' seats with the number i a view stands for: its own, or those that were given back

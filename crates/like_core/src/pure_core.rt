@@ -46,7 +46,7 @@ fn empty_rows(alloc: Global, workers: u32, pages: usize) -> Result<Vec<PageNumbe
 
 impl Core {
     ghost use Rattle.like_core.specs.Table.{Permits, IsShown, next, Refuses};
-    ghost use Rattle.like_core.specs.State.{setting};
+    ghost use Rattle.like_core.specs.State.{opening};
     ghost use Rattle.like_core.specs.Core.{numbers_of, StandsForStart, TakesStates, IsReachable, KeepsReachable, IsCoreExclusive};
 
     /// The core at the start of phase 0, running, with these counts and marks by page. Pages that are marked in `split`
@@ -62,8 +62,8 @@ impl Core {
         requires same_pages { length split.now ≡ length counts.now }
         requires few_pages { length counts.now ≤ 1024 }
         requires counts { All (λ count. count < 2 ^ 63) counts.now }
-        ensures start { IfOk result (λ core. StandsForStart core (setting workers counts.now split.now)) }
-        ensures reachable { IfOk result (λ core. IsReachable core (setting workers counts.now split.now)) }
+        ensures start { IfOk result (λ core. StandsForStart core (opening workers counts.now split.now)) }
+        ensures reachable { IfOk result (λ core. IsReachable core (opening workers counts.now split.now)) }
         ensures exclusive { IfOk result IsCoreExclusive }
     {
         Ok(Core {

@@ -1,5 +1,5 @@
 //! What the seats at a board know, as contracts see it. No value of these types is made.
-use crate::setting::Setting;
+use crate::opening::Opening;
 use crate::sight::{CoordSight, Sight};
 use crate::worker_state::WorkerState;
 use std::collections::LinkedList;
@@ -21,8 +21,8 @@ pub struct PageRead {
 }
 
 /// What a worker's seat knows.
-pub struct WorkerView {
-    pub setting: Setting,
+pub struct WorkerSeatView {
+    pub opening: Opening,
     pub worker: u32,
     pub state: WorkerState,
     /// Its last sight, if it looked.
@@ -32,8 +32,8 @@ pub struct WorkerView {
 }
 
 /// What the coordinator's seat knows.
-pub struct CoordView {
-    pub setting: Setting,
+pub struct CoordSeatView {
+    pub opening: Opening,
     /// How many workers' seats were made.
     pub made: u32,
     pub phase: u32,
@@ -47,12 +47,12 @@ pub struct CoordView {
     /// Whether the last sight before this phase's release showed all workers gone.
     pub gone: bool,
     /// What the workers' seats knew that were given back.
-    pub joined: LinkedList<WorkerView>,
+    pub joined: LinkedList<WorkerSeatView>,
 }
 
 /// What a seat knows. A seat that was given back knows nothing more.
 pub enum View {
-    Coord(CoordView),
-    Worker(WorkerView),
+    Coord(CoordSeatView),
+    Worker(WorkerSeatView),
     Spent,
 }

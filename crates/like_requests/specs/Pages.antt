@@ -17,6 +17,14 @@ names pages = map (λ p. p.name) pages
 abbrev pub number_of : List Page → List ℕ → Option ℕ
 number_of pages name = position (bytes_eq name) (names pages)
 
+-- whether each page is marked as split
+abbrev pub marks_of : List Page → List Bool
+marks_of pages = map (λ p. p.split) pages
+
+-- the initial count of each page
+abbrev pub counts_of : List Page → List ℕ
+counts_of pages = map (λ p. p.count) pages
+
 -- a page's name is 1 to 64 bytes of UTF-8
 pub record IsName (name : List ℕ) : Type 0 where
   pub some : 0 < length name

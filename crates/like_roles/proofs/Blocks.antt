@@ -10,7 +10,7 @@ use Rattle.like_requests.specs.Verdict.{is_accepted}
 use Rattle.like_requests.specs.declared.request.Request.{Request}
 use Rattle.like_roles.specs.declared.log.Took.{Took}
 use Rattle.like_roles.specs.Order.{block, entry_in, is_due, is_prompt, order, order_below, phases_of, took_to_wait, waits}
-use Rattle.like_roles.specs.Replies.{looked_at}
+use Rattle.like_roles.specs.Replies.{page_looked_at}
 use Rattle.like_roles.specs.Service.{Service, is_split_in, request_at}
 
 -- what neither is due nor prompt in a phase changes no block of it
@@ -29,7 +29,7 @@ block-due service xs t k d p none = simp (filter-append, d, p, none, append-nil,
 
 -- nothing waits in a joined phase
 pub waits-joined : (service : Service) (k submitter : ℕ) (r : Request) → k % 2 ≡ 0 → waits service k submitter r ≡ false
-waits-joined service k submitter r j = of_test (is_accepted service.users _ submitter r) (looked_at r.op r.page) where
+waits-joined service k submitter r j = of_test (is_accepted service.users _ submitter r) (page_looked_at r.op r.page) where
   even : eqb (k % 2) 1 ≡ false
   even = rw j refl
 

@@ -1,11 +1,11 @@
 -- What the coordinator's turns keep.
 use Rattle.std.proofs.Common.{◌≡◌, ℕ, ◌≤◌, true, false, subst, ap, sym, ◌∙◌, arith}
 use Rattle.like_core.specs.declared.event.Event.TheVariants.{CoordLook}
-use Rattle.like_core.specs.declared.setting.Setting.{Setting}
+use Rattle.like_core.specs.declared.opening.Opening.{Opening}
 use Rattle.like_core.specs.declared.shown.Shown.{Shown}
 use Rattle.like_core.specs.declared.shown.Shown.TheVariants.{Coord as CoordShown}
 use Rattle.like_core.specs.declared.sight.CoordSight.{CoordSight}
-use Rattle.like_core.specs.declared.view.CoordView.{CoordView}
+use Rattle.like_core.specs.declared.view.CoordSeatView.{CoordSeatView}
 use Rattle.like_core.specs.declared.view.View.{View}
 use Rattle.like_core.specs.declared.view.View.TheVariants.{Coord}
 use Rattle.like_core.specs.Phase.{last_phase, IsJoined, IsSplit}
@@ -16,7 +16,7 @@ use Rattle.like_roles.specs.declared.coord_turn.CoordTurn.TheVariants.{Ended}
 use Rattle.like_roles.specs.CoordTurns.{Acts, ends, counts, stays, announces, releases, waits, CoordinatorView, CoordTurns, HasEndedJoined, IsBeforeEnd, IsCoordSight, looks, surveyed}
 
 -- no phase is above the last
-pub phase_within : (z : Setting) (shown : Shown) (c : CoordView) (w : View) → IsStep z CoordLook shown (Coord c) w → c.phase ≤ last_phase
+pub phase_within : (z : Opening) (shown : Shown) (c : CoordSeatView) (w : View) → IsStep z CoordLook shown (Coord c) w → c.phase ≤ last_phase
 phase_within z shown c w step =
     let fits : FitsCoord z step.state c = step.shows.each step.place (Coord c) step.mine in
     let within = (reached_in_phase z step.state step.reachable).within in
@@ -61,7 +61,7 @@ ended_joined v answer after t before is = shown t.acts
 -- the coordinator after a look
 pub record Looked (v w : CoordinatorView) (sight : CoordSight) : Type 0 where
   pub shows : IsCoordSight v.seat sight
-  pub event : IsStep v.seat.setting CoordLook (CoordShown sight) (Coord v.seat) (Coord w.seat)
+  pub event : IsStep v.seat.opening CoordLook (CoordShown sight) (Coord v.seat) (Coord w.seat)
   pub is : w ≡ surveyed v w.seat.word sight
 
 -- what it does then is a turn case
@@ -70,7 +70,7 @@ by_case v w sight answer after l acts = record {
   word = w.seat.word;
   sight = sight;
   shows = l.shows;
-  event = looks (subst (λ (x : CoordinatorView). IsStep v.seat.setting CoordLook (CoordShown sight) (Coord v.seat) (Coord x.seat)) l.is l.event);
+  event = looks (subst (λ (x : CoordinatorView). IsStep v.seat.opening CoordLook (CoordShown sight) (Coord v.seat) (Coord x.seat)) l.is l.event);
   acts = subst (λ (x : CoordinatorView). Acts x sight answer after) l.is acts;
 }
 

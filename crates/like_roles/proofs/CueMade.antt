@@ -5,12 +5,13 @@ use Rattle.std.proofs.lemmas.Bool.{cases_lt}
 use Rattle.std.proofs.lemmas.List.{get_or-map, get_or-replicate, get_or_past, length-map, length-replicate}
 use Rattle.std.proofs.lemmas.List.FromFn.{fill_by_all, length-map-range_with_len}
 use Rattle.like_requests.specs.Pages.{ArePages, Page}
-use Rattle.like_core.specs.declared.setting.Setting.{Setting}
+use Rattle.like_core.specs.declared.opening.Opening.{Opening}
 use Rattle.like_core.specs.declared.sight.Sight.{Sight}
 use Rattle.like_core.specs.Numbers.{Numbers}
-use Rattle.like_core.specs.State.{numbers, setting, start}
+use Rattle.like_core.specs.State.{numbers, opening, start}
 use Rattle.like_roles.specs.Cue.{IsCued, cue_view}
-use Rattle.like_roles.specs.New.{IsPostOf, marks_of}
+use Rattle.like_roles.specs.New.{IsPostOf}
+use Rattle.like_requests.specs.Pages.{marks_of}
 
 -- each page's count is small
 pub counts_small : (pages : List Page) → ArePages pages → (k d : ℕ) → k < length (map (λ p. p.count) pages) → get_or (map (λ p. p.count) pages) k d ≤ 10 ^ 18
@@ -28,7 +29,7 @@ zeros_made f n k same none =
 
 -- the numbers of a core that starts with one worker
 abbrev pub first : List ℕ → List Bool → Numbers
-first counts marks = let z : Setting = setting 1 counts marks in numbers z (start z)
+first counts marks = let z : Opening = opening 1 counts marks in numbers z (start z)
 
 cued_first : (counts : List ℕ) (marks : List Bool) → ((k d : ℕ) → k < length counts → get_or counts k d ≤ 10 ^ 18) → IsCued (first counts marks) counts None
 cued_first counts marks small = record {

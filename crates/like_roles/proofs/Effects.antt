@@ -4,7 +4,7 @@ use Rattle.like_tables.specs.declared.held.Held.{Held}
 use Rattle.like_roles.specs.declared.reply.Reply.{Reply}
 use Rattle.like_roles.specs.Serve.{Runs, ran_now}
 use Rattle.like_roles.specs.WorkerView.{WorkerView}
-use Rattle.like_roles.proofs.Served.{Serves-keeps, Serves-state, counted_by}
+use Rattle.like_roles.proofs.Served.{GivesReply-keeps, GivesReply-state, counted_by}
 
 -- a request that ran: its entry is the last that was run, and all else of these is as before
 pub record HasRun (v : WorkerView) (h : Held) (stashed : Bool) (after : WorkerView) : Type 0 where
@@ -19,8 +19,8 @@ pub Runs-effects : (v : WorkerView) (h : Held) (stashed : Bool) (after : WorkerV
 Runs-effects v h stashed after run = record {
   reply = run.reply;
   ran = ap (λ x. x.ran) run.noted;
-  state = ap (λ x. x.post.state) run.noted ∙ Serves-state v h.submitter h.ask.request run.reply run.served run.serves;
-  held = ap (λ x. x.held) run.noted ∙ Serves-keeps (λ x. x.held) v h.submitter h.ask.request run.reply run.served (λ user page. counted_by (λ x. x.held ≡ v.held) v page refl refl) run.serves;
-  taken = ap (λ x. x.taken) run.noted ∙ Serves-keeps (λ x. x.taken) v h.submitter h.ask.request run.reply run.served (λ user page. counted_by (λ x. x.taken ≡ v.taken) v page refl refl) run.serves;
-  pending = ap (λ x. x.pending) run.noted ∙ Serves-keeps (λ x. x.pending) v h.submitter h.ask.request run.reply run.served (λ user page. counted_by (λ x. x.pending ≡ v.pending) v page refl refl) run.serves;
+  state = ap (λ x. x.post.state) run.noted ∙ GivesReply-state v h.submitter h.ask.request run.reply run.served run.serves;
+  held = ap (λ x. x.held) run.noted ∙ GivesReply-keeps (λ x. x.held) v h.submitter h.ask.request run.reply run.served (λ user page. counted_by (λ x. x.held ≡ v.held) v page refl refl) run.serves;
+  taken = ap (λ x. x.taken) run.noted ∙ GivesReply-keeps (λ x. x.taken) v h.submitter h.ask.request run.reply run.served (λ user page. counted_by (λ x. x.taken ≡ v.taken) v page refl refl) run.serves;
+  pending = ap (λ x. x.pending) run.noted ∙ GivesReply-keeps (λ x. x.pending) v h.submitter h.ask.request run.reply run.served (λ user page. counted_by (λ x. x.pending ≡ v.pending) v page refl refl) run.serves;
 }

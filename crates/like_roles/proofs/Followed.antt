@@ -22,12 +22,12 @@ use Rattle.like_roles.specs.Order.{block, entry_of, is_look_at_sliced, order_bel
 use Rattle.like_roles.specs.Serve.{Runs, ran_now}
 use Rattle.like_roles.specs.Service.{Service, is_split_in, marks, request_at, submitters}
 use Rattle.like_roles.specs.Turns as turns
-use Rattle.like_roles.specs.Turns.{CanGive, Gives, Takes, Turns, Works, held_from, merged, saw, settled, trying, with_stashed, with_taken, without_first}
+use Rattle.like_roles.specs.Turns.{CanGive, Gives, TakesAsk, Turns, Works, held_from, merged, saw, settled, trying, with_stashed, with_taken, without_first}
 use Rattle.like_roles.specs.WorkerView.{WorkerView, IsThere, has_to_wait, phase_at, submitter_at}
 use Rattle.like_roles.proofs.Blocks.{block-after_joined, block-later, order_below-more, block-next-prompt, block-next-waits, order_below-prompt, order_below-waits, waits-joined}
 use Rattle.like_roles.proofs.Effects.{HasRun, Runs-effects}
 use Rattle.like_roles.proofs.InBlocks.{before-next, blocks-of_running, order-of_blocks, parity, running-of_blocks, runs-phase, runs-weaker}
-use Rattle.like_roles.proofs.Tallied.{Serves-tallied}
+use Rattle.like_roles.proofs.Tallied.{GivesReply-tallied}
 
 -- a worker that runs a phase and is in its blocks follows the plans
 follows-running : (service : Service) (v : WorkerView) → IsRunning v.post → IsServed service v → IsSized v → IsTallied service v → All (IsAsked service) v.held.held
@@ -47,7 +47,7 @@ follows-run : (service : Service) (v after : WorkerView) (h : Held) (stashed : B
     → IsAsked service h → All (IsAsked service) v.held.held → ((e : HasRun v h stashed after) → IsInBlocks service (record v { ran = after.ran }) (phase_at v)) → Follows service after
 follows-run service v after h stashed run here none served sized t asked held blocks =
     let e = Runs-effects v h stashed after run in
-    let done = Serves-tallied service v h stashed run.reply run.served served sized t asked run.serves in
+    let done = GivesReply-tallied service v h stashed run.reply run.served served sized t asked run.serves in
     let all : IsServed service after × IsSized after × IsTallied service after =
     subst (λ x. IsServed service x × IsSized x × IsTallied service x) (sym run.noted) (
       record { users = done.0.users; submitters_alike = done.0.submitters_alike; marks_alike = done.0.marks_alike },
@@ -264,7 +264,7 @@ waits-alike service v submitter r s =
 -- a request that is taken from the submitter at a place
 follows-takes : (service : Service) (v : WorkerView) (place : ℕ) (ask : Numbered) (answer : Turn) (after : WorkerView) → v.pending ≡ None → Follows service v → IsRunning v.post
     → (RunsJoined v.post → v.held.held ≡ []) → request_at service (submitter_at v place) ask.number ≡ Some ask.request → IsThere (length (marks service)) ask.request.page
-    → Takes v place ask answer after → Follows service after
+    → TakesAsk v place ask answer after → Follows service after
 follows-takes service v place ask answer after none f run empty asked there (turns.stashes w a x) =
     let b = blocks-of_running service v (λ _. Unit {0}) v.post.state run f.stands in
     let t : Took = record { phase = phase_at v; submitter = submitter_at v place; number = ask.number } in

@@ -8,7 +8,7 @@ use Rattle.std.proofs.lemmas.List.Elements.{All-drop, All-append, All-cons}
 use Rattle.std.specs.List.{All, slice_get}
 use Rattle.std.specs.Option.{option_map_or}
 use Rattle.like_requests.specs.Verdict.{is_accepted}
-use Rattle.like_roles.specs.Replies.{looked_at}
+use Rattle.like_roles.specs.Replies.{page_looked_at}
 use Rattle.like_requests.specs.declared.request.Numbered.{Numbered}
 use Rattle.like_requests.specs.declared.request.PageRef.{PageRef}
 use Rattle.like_requests.specs.declared.request.Request.{Request}
@@ -126,7 +126,7 @@ IsSound-taken post d n place s none there some left taken capacity rest =
 -- a request that waits was taken in a split phase
 pub waits-split : (users submitters submitter phase : ℕ) (marked : ℕ → Bool) (r : Request) → is_look_at_sliced users submitters (λ page. split marked phase page) submitter r ≡ true → phase % 2 ≡ 1
 waits-split users submitters submitter phase marked r h =
-    of_page (looked_at r.op r.page) (and_parts (is_accepted users submitters submitter r) _ h).1 where
+    of_page (page_looked_at r.op r.page) (and_parts (is_accepted users submitters submitter r) _ h).1 where
       of_page : (o : Option ℕ) → option_map_or (λ page. split marked phase page) o false ≡ true → phase % 2 ≡ 1
       of_page None e = cc
       of_page (Some page) e = eqb-true (phase % 2) 1 (and_parts (eqb (phase % 2) 1) (marked page) e).0

@@ -6,9 +6,9 @@ use Rattle.like_requests.specs.declared.request.Taken.{Taken}
 use Rattle.like_tables.specs.declared.held.Held.{Held}
 use Rattle.like_roles.specs.declared.reply.Reply.{Reply}
 use Rattle.like_roles.specs.declared.turn.Turn.{Turn}
-use Rattle.like_roles.specs.Serve.{Runs, Serves, refuses, likes, looks, counted}
+use Rattle.like_roles.specs.Serve.{Runs, GivesReply, refuses, likes, looks, counted}
 use Rattle.like_roles.specs.Turns as turns
-use Rattle.like_roles.specs.Turns.{Gives, HasTaken, Takes, TakesNothing, Turns, Works}
+use Rattle.like_roles.specs.Turns.{Gives, HasTaken, TakesAsk, TakesNothing, Turns, Works}
 use Rattle.like_roles.specs.WorkerView.{WorkerView}
 use Rattle.like_roles.proofs.Served.{counted_by}
 
@@ -23,7 +23,7 @@ both u v w a b = record { share = b.share ∙ a.share; marks = b.marks ∙ a.mar
 counted-keeps : (v : WorkerView) (page : ℕ) → TakesNothing v (counted v page)
 counted-keeps v page = counted_by (TakesNothing v) v page (record { share = refl; marks = refl; taken = refl; left = refl; ended = refl }) (record { share = refl; marks = refl; taken = refl; left = refl; ended = refl })
 
-serves-keeps : (v : WorkerView) (submitter : ℕ) (r : Request) (reply : Reply) (w : WorkerView) → Serves v submitter r reply w → TakesNothing v w
+serves-keeps : (v : WorkerView) (submitter : ℕ) (r : Request) (reply : Reply) (w : WorkerView) → GivesReply v submitter r reply w → TakesNothing v w
 serves-keeps v submitter r reply w (refuses n a e) = subst (TakesNothing v) (sym e) (same v)
 serves-keeps v submitter r reply w (likes page a o p l e) =
     let c = counted-keeps v page in
@@ -53,7 +53,7 @@ turns-keeps v answer after (turns.waits sight here i w a x) = subst (TakesNothin
 turns-keeps v answer after (turns.works sight here i w x) =
     both v (turns.saw v sight) after (record { share = refl; marks = refl; taken = refl; left = refl; ended = refl }) (works-keeps (turns.saw v sight) sight.ending answer after x)
 
-takes-keeps : (v : WorkerView) (place : ℕ) (ask : Numbered) (answer : Turn) (after : WorkerView) → Takes v place ask answer after → TakesNothing (turns.with_taken v place ask) after
+takes-keeps : (v : WorkerView) (place : ℕ) (ask : Numbered) (answer : Turn) (after : WorkerView) → TakesAsk v place ask answer after → TakesNothing (turns.with_taken v place ask) after
 takes-keeps v place ask answer after (turns.stashes w a x) = subst (TakesNothing (turns.with_taken v place ask)) (sym x) (record { share = refl; marks = refl; taken = refl; left = refl; ended = refl })
 takes-keeps v place ask answer after (turns.runs w a run) = runs-keeps (turns.with_taken v place ask) (turns.held_from v place ask) false after run
 

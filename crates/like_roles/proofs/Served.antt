@@ -8,7 +8,7 @@ use Rattle.like_core.specs.Post.{PostView, RunsSome, added, phase_of, slices}
 use Rattle.like_roles.specs.declared.desk.Desk.{Desk}
 use Rattle.like_roles.specs.declared.reply.Reply.{Reply}
 use Rattle.like_roles.specs.Desk.{IsPlaced, IsStanding, view_of}
-use Rattle.like_roles.specs.Serve.{Serves, refuses, likes, looks, counted, liked, verdict_at}
+use Rattle.like_roles.specs.Serve.{GivesReply, refuses, likes, looks, counted, liked, verdict_at}
 use Rattle.like_roles.specs.WorkerView.{WorkerView}
 
 -- the numbers of the desk give the verdict
@@ -30,18 +30,18 @@ counted_by P v page in_slice on_board = by_test (slices v.post page) where
   by_test false = on_board
 
 -- what no like changes, no answer changes
-pub Serves-keeps : {X : Type 0} (f : WorkerView → X) (v : WorkerView) (submitter : ℕ) (r : Request) (reply : Reply) (w : WorkerView)
-    → ((user page : ℕ) → f (liked v user page) ≡ f v) → Serves v submitter r reply w → f w ≡ f v
-Serves-keeps f v submitter r reply w k (refuses n a e) = ap f e
-Serves-keeps f v submitter r reply w k (likes page a o p l e) = ap f e ∙ k r.user page
-Serves-keeps f v submitter r reply w k (looks page count a o p s n e) = ap f e
+pub GivesReply-keeps : {X : Type 0} (f : WorkerView → X) (v : WorkerView) (submitter : ℕ) (r : Request) (reply : Reply) (w : WorkerView)
+    → ((user page : ℕ) → f (liked v user page) ≡ f v) → GivesReply v submitter r reply w → f w ≡ f v
+GivesReply-keeps f v submitter r reply w k (refuses n a e) = ap f e
+GivesReply-keeps f v submitter r reply w k (likes page a o p l e) = ap f e ∙ k r.user page
+GivesReply-keeps f v submitter r reply w k (looks page count a o p s n e) = ap f e
 
 -- an answer changes no state, and no list of what was run
-pub Serves-state : (v : WorkerView) (submitter : ℕ) (r : Request) (reply : Reply) (w : WorkerView) → Serves v submitter r reply w → w.post.state ≡ v.post.state
-Serves-state v submitter r reply w s = Serves-keeps (λ x. x.post.state) v submitter r reply w (λ user page. counted_by (λ x. x.post.state ≡ v.post.state) v page refl refl) s
+pub GivesReply-state : (v : WorkerView) (submitter : ℕ) (r : Request) (reply : Reply) (w : WorkerView) → GivesReply v submitter r reply w → w.post.state ≡ v.post.state
+GivesReply-state v submitter r reply w s = GivesReply-keeps (λ x. x.post.state) v submitter r reply w (λ user page. counted_by (λ x. x.post.state ≡ v.post.state) v page refl refl) s
 
-pub Serves-ran : (v : WorkerView) (submitter : ℕ) (r : Request) (reply : Reply) (w : WorkerView) → Serves v submitter r reply w → w.ran ≡ v.ran
-Serves-ran v submitter r reply w s = Serves-keeps (λ x. x.ran) v submitter r reply w (λ user page. counted_by (λ x. x.ran ≡ v.ran) v page refl refl) s
+pub GivesReply-ran : (v : WorkerView) (submitter : ℕ) (r : Request) (reply : Reply) (w : WorkerView) → GivesReply v submitter r reply w → w.ran ≡ v.ran
+GivesReply-ran v submitter r reply w s = GivesReply-keeps (λ x. x.ran) v submitter r reply w (λ user page. counted_by (λ x. x.ran ≡ v.ran) v page refl refl) s
 
 -- a worker that is not gone has a state of its own
 pub not_gone : (s : WorkerState) (phase : ℕ) (gone : Bool) → IsStanding s phase gone → gone ≡ false → s ≢ state.Gone

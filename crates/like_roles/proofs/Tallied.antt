@@ -24,7 +24,7 @@ use Rattle.like_roles.specs.declared.reply.Reply.TheVariants as reply
 use Rattle.like_roles.specs.Follows.{IsAsked, IsServed, IsSized, IsTallied}
 use Rattle.like_roles.specs.Likes.{AcceptedLike, accepted_like, last_like, last_page, like_ran, likes_ran, page_likes}
 use Rattle.like_roles.specs.Replies.{Answers, HasRightAnswers, IsRightAnswer}
-use Rattle.like_roles.specs.Serve.{Serves, refuses, likes, looks, counted, liked, ran_now, verdict_at}
+use Rattle.like_roles.specs.Serve.{GivesReply, refuses, likes, looks, counted, liked, ran_now, verdict_at}
 use Rattle.like_roles.specs.Service.{Service, marks, request_of, submitters}
 use Rattle.like_roles.specs.WorkerView.{WorkerView, IsThere}
 use Rattle.like_roles.proofs.Lists.{last_of-push, slice_get-at_end, slice_get-before}
@@ -201,9 +201,9 @@ one_like service v h stashed page served sized t like right in_pages in_users =
     )
 
 -- whatever the answer is
-pub Serves-tallied : (service : Service) (v : WorkerView) (h : Held) (stashed : Bool) (answer : Reply) (w : WorkerView) → IsServed service v → IsSized v → IsTallied service v → IsAsked service h
-    → Serves v h.submitter h.ask.request answer w → IsAfter service v h stashed answer w
-Serves-tallied service v h stashed answer w served sized t asked (refuses n a e) =
+pub GivesReply-tallied : (service : Service) (v : WorkerView) (h : Held) (stashed : Bool) (answer : Reply) (w : WorkerView) → IsServed service v → IsSized v → IsTallied service v → IsAsked service h
+    → GivesReply v h.submitter h.ask.request answer w → IsAfter service v h stashed answer w
+GivesReply-tallied service v h stashed answer w served sized t asked (refuses n a e) =
     let r = h.ask.request in
     let V = verdict_at v h.submitter r in
     let V-is = verdict_at-served service v h.submitter r served in
@@ -212,7 +212,7 @@ Serves-tallied service v h stashed answer w served sized t asked (refuses n a e)
     let none : like_ran service x ≡ None = like_ran-is service x r asked.asked ∙ rw no refl in
     let right = right-by_request service v.ran x r asked.asked (subst (λ y. Answers y r.op (last_like service r.user v.ran) (reply.Refused V)) V-is (answers-refused V r.op _ n)) in
     subst (λ y. IsAfter service v h stashed answer y) (sym e) (subst (λ y. IsAfter service v h stashed y v) (sym a) (unchanged service v h stashed (reply.Refused V) served sized t none right))
-Serves-tallied service v h stashed answer w served sized t asked (likes page a o p l e) =
+GivesReply-tallied service v h stashed answer w served sized t asked (likes page a o p l e) =
     let r = h.ask.request in
     let V-is = sym (verdict_at-served service v h.submitter r served) ∙ a in
     let yes = accepted-true service.users (submitters service) h.submitter r V-is in
@@ -223,7 +223,7 @@ Serves-tallied service v h stashed answer w served sized t asked (likes page a o
     let in_pages : page < pages_of v.post = omega (arith, ap length served.marks_alike) in
     let in_users : r.user < v.last.share.users = omega (arith, accepted_user service.users (submitters service) h.submitter r yes, served.users) in
     subst (λ y. IsAfter service v h stashed answer y) (sym e) (subst (λ y. IsAfter service v h stashed y (liked v r.user page)) (sym l) (one_like service v h stashed page served sized t like right in_pages in_users))
-Serves-tallied service v h stashed answer w served sized t asked (looks page count a o p s n e) =
+GivesReply-tallied service v h stashed answer w served sized t asked (looks page count a o p s n e) =
     let r = h.ask.request in
     let V-is = sym (verdict_at-served service v h.submitter r served) ∙ a in
     let yes = accepted-true service.users (submitters service) h.submitter r V-is in

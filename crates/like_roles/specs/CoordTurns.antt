@@ -1,7 +1,7 @@
 -- The turns of the coordinator, case by case.
 use Rattle.std.specs.Prelude.{◌≡◌, ℕ, ◌-◌, ◌<◌, true, false, IsSomeAnd}
 use Rattle.like_core.specs.declared.sight.CoordSight.{CoordSight}
-use Rattle.like_core.specs.declared.view.CoordView.{CoordView}
+use Rattle.like_core.specs.declared.view.CoordSeatView.{CoordSeatView}
 use Rattle.like_core.specs.declared.event.Event.TheVariants.{CoordLook}
 use Rattle.like_core.specs.declared.shown.Shown.TheVariants.{Coord as CoordShown}
 use Rattle.like_core.specs.declared.view.View.TheVariants.{Coord}
@@ -16,14 +16,14 @@ use Rattle.like_roles.specs.declared.coord_turn.CoordTurn.TheVariants.{Counted, 
 -- many of them the present phase has left; and the phase of its last look
 pub record CoordinatorView : Type 0 where
   pub board : BoardId
-  pub seat : CoordView
+  pub seat : CoordSeatView
   pub turns : ℕ
   pub left : ℕ
   pub phase : ℕ
 
 -- what a look can show: the present phase, and whether it is ending; all in, once a look at this phase showed that; and
 -- all gone in a split phase only where the last sight before its release showed that
-pub record IsCoordSight (c : CoordView) (sight : CoordSight) : Type 0 where
+pub record IsCoordSight (c : CoordSeatView) (sight : CoordSight) : Type 0 where
   pub number : sight.number ≡ c.phase
   pub ending : sight.ending ≡ c.ending
   pub all_in : c.all_in ≡ true → sight.all_in ≡ true
@@ -48,8 +48,8 @@ pub data Acts (v : CoordinatorView) (sight : CoordSight) (answer : CoordTurn) (a
       → answer ≡ Waiting → after ≡ v → Acts v sight answer after
 
 -- a look of the seat at this word is the event of the core, and shows what the core shows
-pub data IsLook (c : CoordView) (word : ℕ) (sight : CoordSight) : Type 0 where
-  looks : IsStep c.setting CoordLook (CoordShown sight) (Coord c) (Coord (looked_coord c word sight)) → IsLook c word sight
+pub data IsLook (c : CoordSeatView) (word : ℕ) (sight : CoordSight) : Type 0 where
+  looks : IsStep c.opening CoordLook (CoordShown sight) (Coord c) (Coord (looked_coord c word sight)) → IsLook c word sight
 
 -- turn case of the coordinator: it looks, and does what the sight asks for; its answer, and the coordinator after
 pub record CoordTurns (v : CoordinatorView) (answer : CoordTurn) (after : CoordinatorView) : Type 0 where

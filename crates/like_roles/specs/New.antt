@@ -1,6 +1,6 @@
 -- A worker that was just made.
 use Rattle.std.specs.Prelude.{◌≡◌, ℕ, ◌+◌, ◌*◌, ◌<◌, ◌≤◌, ◌↔◌, Bool, false, List, [], length, map, replicate, slice_index, All, None}
-use Rattle.like_requests.specs.Pages.{Page}
+use Rattle.like_requests.specs.Pages.{Page, marks_of}
 use Rattle.like_requests.specs.declared.setup.Setup.{Setup}
 use Rattle.like_requests.specs.declared.setup.TheConstants.{MAX_WORKERS, MAX_SUBMITTERS, MAX_USERS, MAX_STASH, MAX_REQUESTS}
 use Rattle.like_core.specs.Post.{PostView, IsFresh}
@@ -18,10 +18,6 @@ pub record IsWithin (s : Setup) (sizes : List ℕ) : Type 0 where
   pub some_stash : 1 ≤ s.stash
   pub few_stash : s.stash ≤ MAX_STASH
   pub small : All (λ n. n ≤ MAX_REQUESTS) sizes
-
--- whether each page is marked as split
-abbrev pub marks_of : List Page → List Bool
-marks_of pages = map (λ p. p.split) pages
 
 -- the post is that worker's, at a board with these pages, and no call was made on it
 pub record IsPostOf (worker : ℕ) (pages : List Page) (post : PostView) : Type 0 where

@@ -7,12 +7,12 @@ use Rattle.like_requests.specs.declared.request.Request.{Request}
 use Rattle.like_roles.specs.declared.log.Ran.{Ran}
 use Rattle.like_roles.specs.declared.log.Took.{Took}
 use Rattle.like_roles.specs.Service.{Service, submitters, request_at, is_split_in}
-use Rattle.like_roles.specs.Replies.{looked_at}
+use Rattle.like_roles.specs.Replies.{page_looked_at}
 
 -- the request is an accepted look at a page that is sliced
 abbrev pub is_look_at_sliced : ℕ → ℕ → (ℕ → Bool) → ℕ → Request → Bool
 is_look_at_sliced users submitters is_sliced submitter r =
-    is_accepted users submitters submitter r && option_map_or is_sliced (looked_at r.op r.page) false
+    is_accepted users submitters submitter r && option_map_or is_sliced (page_looked_at r.op r.page) false
 
 -- waits: an accepted look at a page that is split in the phase cannot run in it
 abbrev pub waits : Service → ℕ → ℕ → Request → Bool

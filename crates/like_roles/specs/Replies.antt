@@ -38,15 +38,15 @@ IsRightAnswer service before e =
     IsSomeAnd (request_of service e) (λ r. Answers (verdict_of service.users (submitters service) e.submitter r) r.op (last_like service r.user before) e.reply)
 
 -- the page of a look
-abbrev pub looked_at : Op → PageRef → Option ℕ
-looked_at Like page = Option.None
-looked_at Look (Known page) = Some page
-looked_at Look Unknown = Option.None
+abbrev pub page_looked_at : Op → PageRef → Option ℕ
+page_looked_at Like page = Option.None
+page_looked_at Look (Known page) = Some page
+page_looked_at Look Unknown = Option.None
 
 -- right count: the count that an accepted look was answered lies between the bounds of its phase, and of the entries before and after it in its run list
 abbrev pub IsRightCount : Service → List (List Ran) → List Ran → Ran → List Ran → Type 0
 IsRightCount service runs before e after =
-    (r : Request) (page : ℕ) → request_of service e ≡ Some r → verdict_of service.users (submitters service) e.submitter r ≡ Accepted → looked_at r.op r.page ≡ Some page
+    (r : Request) (page : ℕ) → request_of service e ≡ Some r → verdict_of service.users (submitters service) e.submitter r ≡ Accepted → page_looked_at r.op r.page ≡ Some page
     → IsSeen e.reply (λ _. ⊤) (λ count. Between service runs e.phase page count (likes_within service page before e.phase) (likes_within service page after e.phase))
 
 -- each entry of a run list has the right answer

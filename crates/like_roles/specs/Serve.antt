@@ -28,11 +28,11 @@ abbrev pub liked : WorkerView → ℕ → ℕ → WorkerView
 liked v user page = let w = counted v page in record w { last = with_last v.last user page }
 
 -- a request of a submitter is answered, and this is what becomes of the worker: its list of what it ran aside
-pub data Serves (v : WorkerView) (submitter : ℕ) (r : Request) (reply : Reply) (after : WorkerView) : Type 0 where
-  refuses : verdict_at v submitter r ≢ Accepted → reply ≡ Refused (verdict_at v submitter r) → after ≡ v → Serves v submitter r reply after
-  likes : (page : ℕ) → verdict_at v submitter r ≡ Accepted → r.op ≡ Like → r.page ≡ Known page → reply ≡ Liked → after ≡ liked v r.user page → Serves v submitter r reply after
+pub data GivesReply (v : WorkerView) (submitter : ℕ) (r : Request) (reply : Reply) (after : WorkerView) : Type 0 where
+  refuses : verdict_at v submitter r ≢ Accepted → reply ≡ Refused (verdict_at v submitter r) → after ≡ v → GivesReply v submitter r reply after
+  likes : (page : ℕ) → verdict_at v submitter r ≡ Accepted → r.op ≡ Like → r.page ≡ Known page → reply ≡ Liked → after ≡ liked v r.user page → GivesReply v submitter r reply after
   looks : (page count : ℕ) → verdict_at v submitter r ≡ Accepted → r.op ≡ Look → r.page ≡ Known page → reply ≡ Seen (last_of v.last r.user) count
-      → additions_of v.post page ≤ count → after ≡ v → Serves v submitter r reply after
+      → additions_of v.post page ≤ count → after ≡ v → GivesReply v submitter r reply after
 
 -- the entry of a request that runs now
 abbrev pub ran_now : WorkerView → Held → Bool → Reply → Ran
@@ -42,5 +42,5 @@ ran_now v h stashed reply = record { phase = phase_at v; submitter = h.submitter
 pub record Runs (v : WorkerView) (h : Held) (stashed : Bool) (after : WorkerView) : Type 0 where
   pub reply : Reply
   pub served : WorkerView
-  pub serves : Serves v h.submitter h.ask.request reply served
+  pub serves : GivesReply v h.submitter h.ask.request reply served
   pub noted : after ≡ record served { ran = v.ran ++ ran_now v h stashed reply ∷ [] }

@@ -100,11 +100,11 @@ abbrev pub with_stashed : WorkerView → Held → WorkerView
 with_stashed v h = record v { held = record v.held { held = v.held.held ++ h ∷ [] } }
 
 -- what becomes of a request that is taken from the submitter at a place: the answer, and the worker after
-pub data Takes (v : WorkerView) (place : ℕ) (ask : Numbered) (answer : Turn) (after : WorkerView) : Type 0 where
+pub data TakesAsk (v : WorkerView) (place : ℕ) (ask : Numbered) (answer : Turn) (after : WorkerView) : Type 0 where
   stashes : has_to_wait v (submitter_at v place) ask.request ≡ true
-      → answer ≡ turn.Stashed → after ≡ with_stashed (with_taken v place ask) (held_from v place ask) → Takes v place ask answer after
+      → answer ≡ turn.Stashed → after ≡ with_stashed (with_taken v place ask) (held_from v place ask) → TakesAsk v place ask answer after
   runs : has_to_wait v (submitter_at v place) ask.request ≡ false
-      → answer ≡ turn.Ran → Runs (with_taken v place ask) (held_from v place ask) false after → Takes v place ask answer after
+      → answer ≡ turn.Ran → Runs (with_taken v place ask) (held_from v place ask) false after → TakesAsk v place ask answer after
 
 -- turn case, where something was taken from the submitter that is tried: what is done, the answer, and the worker after
 pub data Gives (v : WorkerView) (took : Taken) (answer : Turn) (after : WorkerView) : Type 0 where
@@ -112,7 +112,7 @@ pub data Gives (v : WorkerView) (took : Taken) (answer : Turn) (after : WorkerVi
   ends : (place : ℕ) → v.pending ≡ Some place → took ≡ taken.End
       → answer ≡ turn.TookEnd → after ≡ record (settled v) { ended = slice_set v.ended place true } → Gives v took answer after
   asks : (place : ℕ) (ask : Numbered) → v.pending ≡ Some place → took ≡ taken.Ask ask
-      → Takes (settled v) place ask answer after → Gives v took answer after
+      → TakesAsk (settled v) place ask answer after → Gives v took answer after
 
 -- a submitter is tried exactly after the answer that says so
 abbrev pub Pends : Turn → WorkerView → Type 0

@@ -20,26 +20,26 @@ board-acts v sight answer w (turns.announces g e l n a x) = ap (λ (y : Coordina
 board-acts v sight answer w (turns.releases g e i a x) = ap (λ (y : CoordinatorView). y.board) x
 board-acts v sight answer w (turns.waits g e i a x) = ap (λ (y : CoordinatorView). y.board) x
 
-setting-acts : (v : CoordinatorView) (sight : CoordSight) (answer : CoordTurn) (w : CoordinatorView) → Acts v sight answer w → w.seat.setting ≡ v.seat.setting
-setting-acts v sight answer w (turns.ends g a x) = ap (λ (y : CoordinatorView). y.seat.setting) x
-setting-acts v sight answer w (turns.counts g e l a x) = ap (λ (y : CoordinatorView). y.seat.setting) x
-setting-acts v sight answer w (turns.stays g e l n a x) = ap (λ (y : CoordinatorView). y.seat.setting) x
-setting-acts v sight answer w (turns.announces g e l n a x) = ap (λ (y : CoordinatorView). y.seat.setting) x
-setting-acts v sight answer w (turns.releases g e i a x) = ap (λ (y : CoordinatorView). y.seat.setting) x
-setting-acts v sight answer w (turns.waits g e i a x) = ap (λ (y : CoordinatorView). y.seat.setting) x
+opening-acts : (v : CoordinatorView) (sight : CoordSight) (answer : CoordTurn) (w : CoordinatorView) → Acts v sight answer w → w.seat.opening ≡ v.seat.opening
+opening-acts v sight answer w (turns.ends g a x) = ap (λ (y : CoordinatorView). y.seat.opening) x
+opening-acts v sight answer w (turns.counts g e l a x) = ap (λ (y : CoordinatorView). y.seat.opening) x
+opening-acts v sight answer w (turns.stays g e l n a x) = ap (λ (y : CoordinatorView). y.seat.opening) x
+opening-acts v sight answer w (turns.announces g e l n a x) = ap (λ (y : CoordinatorView). y.seat.opening) x
+opening-acts v sight answer w (turns.releases g e i a x) = ap (λ (y : CoordinatorView). y.seat.opening) x
+opening-acts v sight answer w (turns.waits g e i a x) = ap (λ (y : CoordinatorView). y.seat.opening) x
 
 pub coord-goes-on : (v : CoordinatorView) (answer : CoordTurn) (w : CoordinatorView) → CoordTurns v answer w → (IsBeforeEnd v → IsBeforeEnd w) → CoordGoesOn v w
 coord-goes-on v answer w t keeps = record {
   board = board-acts (surveyed v t.word t.sight) t.sight answer w t.acts;
-  setting = setting-acts (surveyed v t.word t.sight) t.sight answer w t.acts;
+  opening = opening-acts (surveyed v t.word t.sight) t.sight answer w t.acts;
   before_end = keeps;
 }
 
 pub coord-same : (v : CoordinatorView) → CoordGoesOn v v
-coord-same v = record { board = refl; setting = refl; before_end = λ h. h }
+coord-same v = record { board = refl; opening = refl; before_end = λ h. h }
 
 pub coord-further : (u v w : CoordinatorView) → CoordGoesOn u v → CoordGoesOn v w → CoordGoesOn u w
-coord-further u v w a b = record { board = b.board ∙ a.board; setting = b.setting ∙ a.setting; before_end = λ h. b.before_end (a.before_end h) }
+coord-further u v w a b = record { board = b.board ∙ a.board; opening = b.opening ∙ a.opening; before_end = λ h. b.before_end (a.before_end h) }
 
 -- what stands at a place stood there before
 was-at : (ss ts : List ServerView) (k : ℕ) (t : ServerView) → AllZip GoesOn ss ts → slice_get ts k ≡ Some t → (s : ServerView) × ((slice_get ss k ≡ Some s) × GoesOn s t)

@@ -6,14 +6,14 @@ use Rattle.std.proofs.lemmas.List.{length-map}
 use Rattle.std.proofs.lemmas.List.FromFn.{length-range_with_len}
 use Rattle.std.proofs.lemmas.Option.{slice_get-get_or, slice_get_within}
 use Rattle.like_requests.specs.Pages.{Page}
-use Rattle.like_core.specs.declared.setting.Setting.{Setting}
+use Rattle.like_core.specs.declared.opening.Opening.{Opening}
 use Rattle.like_core.specs.declared.worker_state.WorkerState.TheVariants.{Gone}
-use Rattle.like_core.specs.declared.view.WorkerView.{WorkerView as SeatView}
+use Rattle.like_core.specs.declared.view.WorkerSeatView.{WorkerSeatView as SeatView}
 use Rattle.like_board.specs.declared.worker_seat.WorkerSeat.{WorkerSeat}
 use Rattle.like_board.specs.Seats.{AreFresh, BoardId, board_numbers, coord_board, coord_view}
 use Rattle.like_tables.specs.Share.{Share}
 use Rattle.like_roles.specs.CoordTurns.{CoordinatorView, HasEndedJoined}
-use Rattle.like_roles.specs.New.{marks_of}
+use Rattle.like_requests.specs.Pages.{marks_of}
 use Rattle.like_roles.specs.Service.{Service, submitters}
 use Rattle.like_run.specs.declared.ended.Ended.{Ended}
 use Rattle.like_run.specs.declared.turned.Turned.{Turned}
@@ -63,30 +63,30 @@ can-make service workers board servers (Worker worker) are some there =
 can-make service workers board servers Coordinator are some there = tt
 
 -- fresh seats are new ones, of posts at a board with these pages
-pub new-seats : (board : BoardId) (z : Setting) (pages : List Page) (seats : List WorkerSeat) → z.marks ≡ marks_of pages → AreFresh board z seats → AreNewSeats board pages seats
+pub new-seats : (board : BoardId) (z : Opening) (pages : List Page) (seats : List WorkerSeat) → z.marks ≡ marks_of pages → AreFresh board z seats → AreNewSeats board pages seats
 new-seats board z pages seats marks fresh worker seat at =
     let f = fresh worker seat at in (
       f.0,
       record {
         is_his = ap (λ (v : SeatView). v.worker) f.1;
-        marks = ap (λ (v : SeatView). v.setting.marks) f.1 ∙ marks;
+        marks = ap (λ (v : SeatView). v.opening.marks) f.1 ∙ marks;
         fresh = f.2;
       },
     )
 
 -- the run has ended
-pub has-ended : (service : Service) (workers : ℕ) (board : BoardId) (z : Setting) (first servers : List ServerView) (e : Ended) (v w : CoordinatorView) → AreServers service workers (board_numbers board) first
+pub has-ended : (service : Service) (workers : ℕ) (board : BoardId) (z : Opening) (first servers : List ServerView) (e : Ended) (v w : CoordinatorView) → AreServers service workers (board_numbers board) first
     → AllZip GoesOn first servers → All (λ s. s.worker.post.state ≡ Gone) servers → AllZip IsLogOf servers e.logs.items → AllZip IsSeatOf servers e.seats.items
-    → v.board ≡ board → v.seat.setting ≡ z → CoordGoesOn v w → HasEndedJoined w → coord_board e.coord ≡ w.board → coord_view e.coord ≡ w.seat → e.phases ≡ w.phase
+    → v.board ≡ board → v.seat.opening ≡ z → CoordGoesOn v w → HasEndedJoined w → coord_board e.coord ≡ w.board → coord_view e.coord ≡ w.seat → e.phases ≡ w.phase
     → IsEnded service workers board z e
-has-ended service workers board z first servers e v w are later gone logs seats here setting on ended coord_here coord_is phases = record {
+has-ended service workers board z first servers e v w are later gone logs seats here opening on ended coord_here coord_is phases = record {
   servers = servers;
   are_servers = servers-later service workers (board_numbers board) first servers are later;
   gone = gone;
   logs = logs;
   seats = seats;
   coord = coord_here ∙ on.board ∙ here;
-  setting = ap (λ c. c.setting) coord_is ∙ on.setting ∙ setting;
+  opening = ap (λ c. c.opening) coord_is ∙ on.opening ∙ opening;
   phases = phases ∙ ended.phase ∙ ap (λ c. c.phase) (sym coord_is);
   joined = subst (λ n. n % 2 ≡ 0) (sym phases) ended.joined;
 }

@@ -16,7 +16,8 @@ use Rattle.like_core.specs.Post.{PostView}
 use Rattle.like_tables.specs.UserTable.{UserTable}
 use Rattle.like_tables.specs.Share.{share_of}
 use Rattle.like_roles.specs.declared.log.Took.{Took}
-use Rattle.like_roles.specs.New.{AreOwnSizes, IsNew, IsPostOf, marks_of}
+use Rattle.like_roles.specs.New.{AreOwnSizes, IsNew, IsPostOf}
+use Rattle.like_requests.specs.Pages.{marks_of}
 use Rattle.like_queue.specs.Inbox.{Inbox}
 use Rattle.like_tables.specs.Share.{Share, serves}
 use Rattle.like_roles.specs.declared.log.WorkerLog.{WorkerLog}

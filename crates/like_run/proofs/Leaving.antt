@@ -4,7 +4,7 @@ use Rattle.std.specs.List.{All, AllZip}
 use Rattle.std.proofs.lemmas.List.Elements.{All-append}
 use Rattle.like_board.specs.declared.worker_seat.WorkerSeat.{WorkerSeat}
 use Rattle.like_board.specs.Seats.{BoardId, board_numbers}
-use Rattle.like_core.specs.declared.setting.Setting.{Setting}
+use Rattle.like_core.specs.declared.opening.Opening.{Opening}
 use Rattle.like_core.specs.declared.worker_state.WorkerState.TheVariants.{Gone}
 use Rattle.like_roles.specs.declared.log.WorkerLog.{WorkerLog}
 use Rattle.like_roles.specs.CoordTurns.{CoordinatorView}
@@ -48,8 +48,8 @@ pub seats-left : (first : List ServerView) (logs : List WorkerLog) (seats : List
 seats-left first logs seats h = sym (pairs-length IsSeatOf h.servers seats h.seats_are) ∙ sym (pairs-length GoesOn first h.servers h.later)
 
 -- the run has ended
-pub threads-ended : (service : Service) (workers : ℕ) (board : BoardId) (z : Setting) (made first : List ServerView) (v : CoordinatorView) (e : Ended) → AreServers service workers (board_numbers board) made
-    → AllZip GoesOn made first → v.board ≡ board → v.seat.setting ≡ z → HasEnded first v e → IsEnded service workers board z e
-threads-ended service workers board z made first v e are later here setting h =
-    has-ended service workers board z made h.left.servers e v h.coordinator are (all-further-both made first h.left.servers later h.left.later) h.left.gone h.left.logs_are h.left.seats_are here setting
+pub threads-ended : (service : Service) (workers : ℕ) (board : BoardId) (z : Opening) (made first : List ServerView) (v : CoordinatorView) (e : Ended) → AreServers service workers (board_numbers board) made
+    → AllZip GoesOn made first → v.board ≡ board → v.seat.opening ≡ z → HasEnded first v e → IsEnded service workers board z e
+threads-ended service workers board z made first v e are later here opening h =
+    has-ended service workers board z made h.left.servers e v h.coordinator are (all-further-both made first h.left.servers later h.left.later) h.left.gone h.left.logs_are h.left.seats_are here opening
     h.later h.ended h.coord h.view h.phases

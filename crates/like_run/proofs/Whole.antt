@@ -13,7 +13,7 @@ use Rattle.like_requests.specs.Pages.{Page}
 use Rattle.like_requests.specs.Verdict.{home}
 use Rattle.like_requests.specs.declared.request.Request.{Request}
 use Rattle.like_core.specs.declared.sight.Sight.{Sight}
-use Rattle.like_core.specs.declared.setting.Setting.{Setting}
+use Rattle.like_core.specs.declared.opening.Opening.{Opening}
 use Rattle.like_core.specs.Post.{PostView, additions_of}
 use Rattle.like_board.specs.declared.worker_seat.WorkerSeat.{WorkerSeat}
 use Rattle.like_board.specs.Seats.{AreAll, BoardId, board_numbers, coord_view, last_count, seat_board, seat_meaning}
@@ -65,7 +65,7 @@ sum-of-map : {A B : Type 0} (f : B → ℕ) (g : A → B) (xs : List A) → sum_
 sum-of-map f g [] = refl
 sum-of-map f g (x ∷ xs) = sum_by-cons f (g x) (map g xs) ∙ ap (λ n. f (g x) + n) (sum-of-map f g xs) ∙ sym (sum_by-cons (λ y. f (g y)) x xs)
 
-module _ (service : Service) (workers : ℕ) (board : BoardId) (z : Setting) (e : Ended) (h : IsEnded service workers board z e) where
+module _ (service : Service) (workers : ℕ) (board : BoardId) (z : Opening) (e : Ended) (h : IsEnded service workers board z e) where
   -- the server of a worker
   server-at : (worker : ℕ) (s : ServerView) → slice_get h.servers worker ≡ Some s → IsServer service workers (board_numbers board) worker s
   server-at worker s at = subst (λ n. IsServer service workers (board_numbers board) n s) (zero-add worker) (pairs-at (IsServer service workers (board_numbers board)) 0 workers h.servers worker s h.are_servers at)
@@ -152,17 +152,17 @@ module _ (service : Service) (workers : ℕ) (board : BoardId) (z : Setting) (e 
   pub all-gone : All (λ seat. (seat_meaning seat).state ≡ Gone) e.seats.items
   all-gone = λ k d within. seat-gone k (get_or e.seats.items k d) (slice_get-get_or e.seats.items k d within)
 
-  pub are-all : z.workers ≡ workers → AreAll (coord_view e.coord).setting.workers e.seats.items
-  are-all same = subst (λ n. AreAll n e.seats.items) (sym (ap (λ (x : Setting). x.workers) h.setting ∙ same)) (all_in_order e.seats.items workers seats-size seat-worker)
+  pub are-all : z.workers ≡ workers → AreAll (coord_view e.coord).opening.workers e.seats.items
+  are-all same = subst (λ n. AreAll n e.seats.items) (sym (ap (λ (x : Opening). x.workers) h.opening ∙ same)) (all_in_order e.seats.items workers seats-size seat-worker)
 
   -- the final counts
   pub counts-are : (counts : List ℕ) → z.counts ≡ map (λ p. p.count) service.pages → length counts ≡ length service.pages
-      → ((page : ℕ) → page < length service.pages → get_or counts page 0 ≡ last_count (coord_view e.coord).setting e.seats.items page) → AreCounts service (runs_of e.logs.items) counts
+      → ((page : ℕ) → page < length service.pages → get_or counts page 0 ≡ last_count (coord_view e.coord).opening e.seats.items page) → AreCounts service (runs_of e.logs.items) counts
   counts-are counts initial sized told = record {
     pages = sized;
     each = λ page there.
         told page there
-        ∙ ap (λ x. last_count x e.seats.items page) h.setting
+        ∙ ap (λ x. last_count x e.seats.items page) h.opening
         ∙ ap (λ cs. get_or cs page 0 + sum_by (λ seat. additions_of (seat_meaning seat) page) e.seats.items) initial
         ∙ ap (λ n. n + sum_by (λ seat. additions_of (seat_meaning seat) page) e.seats.items) (initial-at page)
         ∙ ap (λ n. initial_count service.pages page + n) (all-likes page);

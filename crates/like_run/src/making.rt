@@ -3,7 +3,8 @@ ghost use Rattle.like_requests.specs.Pages.{ArePages};
 ghost use Rattle.like_requests.specs.Setup.{IsPlan};
 ghost use Rattle.like_requests.specs.declared.setup.TheConstants.{MAX_REQUESTS};
 ghost use Rattle.like_board.specs.Seats.{board_id, board_numbers};
-ghost use Rattle.like_roles.specs.New.{IsWithin, marks_of};
+ghost use Rattle.like_roles.specs.New.{IsWithin};
+ghost use Rattle.like_requests.specs.Pages.{marks_of};
 ghost use Rattle.like_run.specs.Made.{AreNewSeats, AreServers, service_of};
 
 use crate::dealing::deal;

@@ -88,7 +88,7 @@ fn run_on(
     requires coord_here { coord_board coord ≡ board_id board.now }
     requires coord_new { (coord_view coord).phase ≡ 0 }
     requires script { All (IsThere setup.now.workers (length plans.items)) script.now }
-    ensures ended { IfOk result (IsEnded (service_of setup.now (map (λ plan. plan.items) plans.items)) setup.now.workers (board_id board.now) (coord_view coord).setting) }
+    ensures ended { IfOk result (IsEnded (service_of setup.now (map (λ plan. plan.items) plans.items)) setup.now.workers (board_id board.now) (coord_view coord).opening) }
     ensures fault { IfErr result IsFaultUnderWay }
 {
     let mut servers = servers_of(alloc, setup, sizes, board, seats, plans)?;

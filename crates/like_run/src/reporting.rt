@@ -4,7 +4,7 @@ ghost use Rattle.like_board.specs.Seats.{AreAll, board_id, coord_board, coord_vi
 ghost use Rattle.like_core.specs.declared.worker_state.WorkerState.TheVariants.{Gone};
 ghost use Rattle.like_run.specs.EndToEnd.{IsEndToEnd};
 ghost use Rattle.like_run.specs.Made.{service_of};
-ghost use Rattle.like_run.specs.Prepared.{setting_of};
+ghost use Rattle.like_run.specs.Prepared.{opening_of};
 ghost use Rattle.like_run.specs.Stage.{IsEnded};
 
 use crate::ended::Ended;
@@ -27,8 +27,8 @@ pub(crate) fn report_of(
 ) -> Result<Report, AllocError>
     requires within { IsWithinLimits setup.now (map (λ plan. plan.items) plans.now.value.items) }
     requires sizes { sizes.now ≡ map (λ plan. length plan.items) plans.now.value.items }
-    requires counts { counts.items ≡ (setting_of setup.now).counts }
-    requires ended { IsEnded (service_of setup.now (map (λ plan. plan.items) plans.now.value.items)) setup.now.workers (board_id board) (setting_of setup.now) ended }
+    requires counts { counts.items ≡ (opening_of setup.now).counts }
+    requires ended { IsEnded (service_of setup.now (map (λ plan. plan.items) plans.now.value.items)) setup.now.workers (board_id board) (opening_of setup.now) ended }
     ensures { IfOk result (IsEndToEnd (service_of setup.now (map (λ plan. plan.items) plans.now.value.items)) setup.now.workers) }
 {
     let Ended {
@@ -58,11 +58,11 @@ fn final_counts(
 ) -> Vec<u64>
     requires coord_here { coord_board coord ≡ board_id board }
     requires seats_here { All (λ seat. seat_board seat ≡ board_id board) seats.items }
-    requires all { AreAll (coord_view coord).setting.workers seats.items }
+    requires all { AreAll (coord_view coord).opening.workers seats.items }
     requires gone { All (λ seat. (seat_meaning seat).state ≡ Gone) seats.items }
-    requires places { length initial.items ≡ length (coord_view coord).setting.counts }
+    requires places { length initial.items ≡ length (coord_view coord).opening.counts }
     ensures len { length result.items ≡ length initial.items }
-    ensures counts { (page : ℕ) → page < length initial.items → slice_index result.items page ≡ last_count (coord_view coord).setting seats.items page }
+    ensures counts { (page : ℕ) → page < length initial.items → slice_index result.items page ≡ last_count (coord_view coord).opening seats.items page }
     ensures phases { All (λ seat. IfSome (seat_meaning seat).last (λ sight. sight.number ≤ (coord_view coord).phase)) seats.items }
 {
     let mut counts = initial;

@@ -90,7 +90,7 @@ fn on_threads<R: Threads + Wait + Sync, G: Gate>(
     requires seats { AreNewSeats (board_id board.now) setup.now.pages seats.items }
     requires coord_here { coord_board coord ≡ board_id board.now }
     requires coord_new { (coord_view coord).phase ≡ 0 }
-    ensures ended { IfOk result (IsEnded (service_of setup.now (map (λ plan. plan.items) plans.items)) setup.now.workers (board_id board.now) (coord_view coord).setting) }
+    ensures ended { IfOk result (IsEnded (service_of setup.now (map (λ plan. plan.items) plans.items)) setup.now.workers (board_id board.now) (coord_view coord).opening) }
     ensures fault { IfErr result IsFaultUnderWay }
 {
     let mut servers = servers_of(alloc, setup, sizes, board, seats, plans)?;

@@ -1,6 +1,6 @@
 ghost use Rattle.std.specs.Prelude.{◌≡◌, ◌<◌, ◌≤◌, ◌+◌, ◌-◌, [], ◌∷◌, ◌++◌, length, slice_index, slice_set, vec_len, vec_capacity, None, IsSome};
 ghost use Rattle.like_roles.specs.Desk.{view_of, IsSound, IsTried};
-ghost use Rattle.like_roles.specs.Turns.{CanGive, Gives, IsNext, Takes};
+ghost use Rattle.like_roles.specs.Turns.{CanGive, Gives, IsNext, TakesAsk};
 
 use crate::desk::Desk;
 use crate::gate::Gate;
@@ -47,7 +47,7 @@ impl Desk {
         requires tried { IsTried (P.view post.old) self.old place }
         requires given { IsNext (view_of (P.view post.old) self.old) place ask }
         ensures sound { IsSound (P.view post.new) self.new }
-        ensures case { Takes (view_of (P.view post.old) self.old) place ask result (view_of (P.view post.new) self.new) }
+        ensures case { TakesAsk (view_of (P.view post.old) self.old) place ask result (view_of (P.view post.new) self.new) }
     {
         let held = Held {
             submitter: self.submitter_at(place),

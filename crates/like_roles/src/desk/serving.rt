@@ -5,7 +5,7 @@ ghost use Rattle.like_tables.specs.Share.{owns};
 ghost use Rattle.like_roles.specs.Desk.{view_of, CanServe, HasRoomForOne, HasRoomToNote, IsSound};
 ghost use Rattle.like_roles.specs.Order.{is_look_at_sliced};
 ghost use Rattle.like_roles.specs.WorkerView.{IsThere};
-ghost use Rattle.like_roles.specs.Serve.{liked, Runs, Serves};
+ghost use Rattle.like_roles.specs.Serve.{liked, Runs, GivesReply};
 
 use crate::desk::Desk;
 use crate::gate::Gate;
@@ -59,7 +59,7 @@ impl Desk {
         requires can { CanServe (P.view post.old) self.old submitter request.now }
         ensures sound { IsSound (P.view post.new) self.new }
         ensures room { HasRoomToNote self.new }
-        ensures serves { Serves (view_of (P.view post.old) self.old) submitter request.now result (view_of (P.view post.new) self.new) }
+        ensures serves { GivesReply (view_of (P.view post.old) self.old) submitter request.now result (view_of (P.view post.new) self.new) }
     {
         match judge(request, submitter, self.submitters, self.users) {
             Verdict::Accepted => {}

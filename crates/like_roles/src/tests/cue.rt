@@ -5,7 +5,8 @@ ghost use Rattle.like_core.specs.Table.{Permits, IsShown, next};
 ghost use Rattle.like_core.specs.Core.{numbers_of};
 ghost use Rattle.like_core.specs.Post.{IsRunning, SawEnding, IsSightOf, looked_at};
 ghost use Rattle.like_roles.specs.Cue.{IsCued, Likes, cue_view, merged_likes};
-ghost use Rattle.like_roles.specs.New.{IsPostOf, marks_of};
+ghost use Rattle.like_roles.specs.New.{IsPostOf};
+ghost use Rattle.like_requests.specs.Pages.{marks_of};
 
 use like_core::{Core, Event, Post, Shown, Sight};
 use like_requests::Pages;

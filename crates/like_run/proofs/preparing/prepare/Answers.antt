@@ -6,7 +6,7 @@ use Rattle.like_requests.specs.Setup.{IsPlan}
 use Rattle.like_requests.specs.declared.request.Request.{Request}
 use Rattle.like_requests.specs.declared.pages.TheConstants.{MAX_COUNT}
 use Rattle.like_requests.specs.declared.setup.TheConstants.{MAX_REQUESTS}
-use Rattle.like_core.specs.declared.view.CoordView.{CoordView}
+use Rattle.like_core.specs.declared.view.CoordSeatView.{CoordSeatView}
 use Rattle.like_board.specs.Seats.{board_id}
 use Rattle.like_run.proofs.Ending.{new-seats}
 use Rattle.like_run.proofs.Makings.{all-back, all-map, map-twice}
@@ -47,8 +47,8 @@ returns c =
       };
       counts = c.in_ok-counts.ensures.counts;
       coord = c.in_ok-board.ensures.coord_here;
-      start = ap (λ (v : CoordView). v.phase) c.in_ok-board.ensures.coord;
-      setting = ap (λ (v : CoordView). v.setting) c.in_ok-board.ensures.coord
+      start = ap (λ (v : CoordSeatView). v.phase) c.in_ok-board.ensures.coord;
+      opening = ap (λ (v : CoordSeatView). v.opening) c.in_ok-board.ensures.coord
           ∙ ap (λ (xs : List ℕ). record { workers = c.args.setup.now.workers; counts = xs; marks = c.deref-2.result.now }) counts
           ∙ ap (λ (xs : List Bool). record { workers = c.args.setup.now.workers; counts = map (λ (p : Page). p.count) c.args.setup.now.pages; marks = xs }) marks;
       workers = c.in_ok-board.ensures.seats;

@@ -24,8 +24,8 @@ play-requires-clause-can c = λ k d within.
 
 pub returns-clause-ended : goal.returns-clause-ended
 returns-clause-ended c =
-    has-ended (service_of c.args.setup.now (map requests_of c.args.plans.items)) c.args.setup.now.workers (board_id c.args.board.now) (coord_view c.args.coord).setting
+    has-ended (service_of c.args.setup.now (map requests_of c.args.plans.items)) c.args.setup.now.workers (board_id c.args.board.now) (coord_view c.args.coord).opening
     c.in_ok-servers.servers.items c.play.new.servers.items _ c.new-coordinator.result c.play.new.coordinator
     c.in_ok-servers.ensures c.play.ensures.servers c.in_ok-play.ensures.gone c.in_ok-logs.ensures.logs c.in_ok-logs.ensures.seats
-    (ap (λ (v : CoordinatorView). v.board) c.new-coordinator.ensures ∙ c.requires.coord_here) (ap (λ (v : CoordinatorView). v.seat.setting) c.new-coordinator.ensures)
+    (ap (λ (v : CoordinatorView). v.board) c.new-coordinator.ensures ∙ c.requires.coord_here) (ap (λ (v : CoordinatorView). v.seat.opening) c.new-coordinator.ensures)
     c.play.ensures.coordinator c.in_ok-play.ensures.ended c.finish.ensures.board c.finish.ensures.view c.phase.ensures

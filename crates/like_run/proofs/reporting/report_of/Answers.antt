@@ -3,7 +3,7 @@ use Rattle.std.proofs.lemmas.List.{length-map}
 use Rattle.like_requests.specs.Pages.{Page}
 use Rattle.like_requests.specs.Verdict.{home}
 use Rattle.like_requests.specs.declared.request.Request.{Request}
-use Rattle.like_core.specs.declared.setting.Setting.{Setting}
+use Rattle.like_core.specs.declared.opening.Opening.{Opening}
 use Rattle.like_board.specs.Seats.{board_id}
 use Rattle.like_replies.specs.Collected.{IsCollected, rows_of}
 use Rattle.like_replies.specs.Entries.{entries_in}
@@ -12,7 +12,7 @@ use Rattle.like_roles.specs.Service.{Service}
 use Rattle.like_tables.specs.Share.{worker_of}
 use Rattle.like_run.specs.Gathered.{AreTables, RunsOnce}
 use Rattle.like_run.specs.Made.{service_of}
-use Rattle.like_run.specs.Prepared.{setting_of}
+use Rattle.like_run.specs.Prepared.{opening_of}
 use Rattle.like_run.proofs.Makings.{map-twice}
 use Rattle.like_run.proofs.Whole.{all-gone, all-here, are-all, counts-are, last-likes-are, log-at, logs-are, logs-size, runs-once, tables}
 use Rattle.like_run.proofs.reporting.report_of.Goals as goal
@@ -22,18 +22,18 @@ requests_of plan = plan.items
 
 pub final_counts-counts-requires-clause-seats_here : goal.final_counts-counts-requires-clause-seats_here
 final_counts-counts-requires-clause-seats_here c =
-    all-here (service_of c.args.setup.now (map requests_of c.args.plans.now.value.items)) c.args.setup.now.workers (board_id c.args.board) (setting_of c.args.setup.now) c.args.ended c.requires.ended
+    all-here (service_of c.args.setup.now (map requests_of c.args.plans.now.value.items)) c.args.setup.now.workers (board_id c.args.board) (opening_of c.args.setup.now) c.args.ended c.requires.ended
 
 pub final_counts-counts-requires-clause-gone : goal.final_counts-counts-requires-clause-gone
 final_counts-counts-requires-clause-gone c =
-    all-gone (service_of c.args.setup.now (map requests_of c.args.plans.now.value.items)) c.args.setup.now.workers (board_id c.args.board) (setting_of c.args.setup.now) c.args.ended c.requires.ended
+    all-gone (service_of c.args.setup.now (map requests_of c.args.plans.now.value.items)) c.args.setup.now.workers (board_id c.args.board) (opening_of c.args.setup.now) c.args.ended c.requires.ended
 
 pub final_counts-counts-requires-clause-all : goal.final_counts-counts-requires-clause-all
 final_counts-counts-requires-clause-all c =
-    are-all (service_of c.args.setup.now (map requests_of c.args.plans.now.value.items)) c.args.setup.now.workers (board_id c.args.board) (setting_of c.args.setup.now) c.args.ended c.requires.ended refl
+    are-all (service_of c.args.setup.now (map requests_of c.args.plans.now.value.items)) c.args.setup.now.workers (board_id c.args.board) (opening_of c.args.setup.now) c.args.ended c.requires.ended refl
 
 pub final_counts-counts-requires-clause-places : goal.final_counts-counts-requires-clause-places
-final_counts-counts-requires-clause-places c = ap (λ (xs : List ℕ). length xs) (c.requires.counts ∙ sym (ap (λ (z : Setting). z.counts) c.requires.ended.setting))
+final_counts-counts-requires-clause-places c = ap (λ (xs : List ℕ). length xs) (c.requires.counts ∙ sym (ap (λ (z : Opening). z.counts) c.requires.ended.opening))
 
 pub replies_of-requires-clause-few : goal.replies_of-requires-clause-few
 replies_of-requires-clause-few c =
@@ -44,7 +44,7 @@ replies_of-requires-clause-once c =
     let service : Service = service_of c.args.setup.now (map requests_of c.args.plans.now.value.items) in
     let workers : ℕ = c.args.setup.now.workers in
     let e = c.args.ended in
-    let z : Setting = setting_of c.args.setup.now in
+    let z : Opening = opening_of c.args.setup.now in
     let sized : c.args.sizes.now ≡ map length (map requests_of c.args.plans.now.value.items) = c.requires.sizes ∙ map-twice requests_of length c.args.plans.now.value.items in
     subst (λ (logs : List WorkerLog). RunsOnce c.args.sizes.now (entries_in logs)) (sym c.deref.ensures.value)
     (runs-once service workers e.logs.items c.args.sizes.now sized (logs-size service workers (board_id c.args.board) z e c.requires.ended) c.requires.within.numbers.0.0
@@ -56,7 +56,7 @@ last_likes-requires-clause-submitters c =
 
 pub last_likes-requires-clause-logs : goal.last_likes-requires-clause-logs
 last_likes-requires-clause-logs c =
-    let size = logs-size (service_of c.args.setup.now (map requests_of c.args.plans.now.value.items)) c.args.setup.now.workers (board_id c.args.board) (setting_of c.args.setup.now) c.args.ended c.requires.ended in
+    let size = logs-size (service_of c.args.setup.now (map requests_of c.args.plans.now.value.items)) c.args.setup.now.workers (board_id c.args.board) (opening_of c.args.setup.now) c.args.ended c.requires.ended in
     let same : length c.deref-2.result.now ≡ c.args.setup.now.workers = ap (λ (xs : List WorkerLog). length xs) c.deref-2.ensures.value ∙ size in
     let some : 1 ≤ c.args.setup.now.workers = c.requires.within.numbers.0.0 in
     omega (arith, same, some)
@@ -71,14 +71,14 @@ last_likes-requires-clause-tables c =
     let many : length c.args.sizes.now ≡ length (map requests_of c.args.plans.now.value.items) = submitters-are c.args.sizes.now c.args.plans.now.value.items (length c.args.sizes.now) c.requires.sizes refl in
     subst (λ (logs : List WorkerLog). AreTables c.args.setup.now.users (length c.args.sizes.now) logs) (sym c.deref-2.ensures.value)
     (subst (λ n. AreTables c.args.setup.now.users n c.args.ended.logs.items) (sym many)
-    (tables service c.args.setup.now.workers (board_id c.args.board) (setting_of c.args.setup.now) c.args.ended c.requires.ended))
+    (tables service c.args.setup.now.workers (board_id c.args.board) (opening_of c.args.setup.now) c.args.ended c.requires.ended))
 
 pub returns : goal.returns
 returns c =
     let service : Service = service_of c.args.setup.now (map requests_of c.args.plans.now.value.items) in
     let workers : ℕ = c.args.setup.now.workers in
     let e = c.args.ended in
-    let z : Setting = setting_of c.args.setup.now in
+    let z : Opening = opening_of c.args.setup.now in
     let h = c.requires.ended in
     let size : length e.logs.items ≡ workers = logs-size service workers (board_id c.args.board) z e h in
     let sized : c.args.sizes.now ≡ map length (map requests_of c.args.plans.now.value.items) = c.requires.sizes ∙ map-twice requests_of length c.args.plans.now.value.items in

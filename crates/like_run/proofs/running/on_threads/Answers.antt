@@ -20,6 +20,6 @@ pub returns-clause-ended : goal.returns-clause-ended
 returns-clause-ended g c =
     if-ok _ _ c.scoped.result
     (λ e ended.
-    threads-ended (service_of c.args.setup.now (map requests_of c.args.plans.items)) c.args.setup.now.workers (board_id c.args.board.now) (coord_view c.args.coord).setting c.in_ok-servers.servers.items c.open_all.new.servers.items
+    threads-ended (service_of c.args.setup.now (map requests_of c.args.plans.items)) c.args.setup.now.workers (board_id c.args.board.now) (coord_view c.args.coord).opening c.in_ok-servers.servers.items c.open_all.new.servers.items
     c.new-coordinator.result e c.in_ok-servers.ensures c.open_all.ensures (ap (λ (v : CoordinatorView). v.board) c.new-coordinator.ensures ∙ c.requires.coord_here)
-    (ap (λ (v : CoordinatorView). v.seat.setting) c.new-coordinator.ensures) ended) c.scoped.ensures.1.0
+    (ap (λ (v : CoordinatorView). v.seat.opening) c.new-coordinator.ensures) ended) c.scoped.ensures.1.0

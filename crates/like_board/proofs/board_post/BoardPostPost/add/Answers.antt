@@ -1,5 +1,5 @@
 use Rattle.std.proofs.Common.{ap, ◌∙◌, arith}
-use Rattle.like_core.specs.declared.view.WorkerView.{WorkerView}
+use Rattle.like_core.specs.declared.view.WorkerSeatView.{WorkerSeatView}
 use Rattle.like_core.specs.Post.{PostView, added}
 use Rattle.like_core.specs.Views.{post_of}
 use Rattle.like_core.proofs.Posts.{additions_at, post_added}
@@ -10,7 +10,7 @@ use Rattle.like_board.proofs.board_post.BoardPostPost.add.Goals as goal
 pub returns-clause-view : goal.returns-clause-view
 returns-clause-view c =
     let old = post_view c.args.self.now in
-    ap (λ (w : WorkerView). at_board (board_numbers (seat_board c.add.new.self)) (post_of w)) c.add.ensures.view
+    ap (λ (w : WorkerSeatView). at_board (board_numbers (seat_board c.add.new.self)) (post_of w)) c.add.ensures.view
     ∙ ap (λ (v : PostView). at_board (board_numbers (seat_board c.add.new.self)) v) (post_added old c.args.page c.args.n c.requires.there)
     ∙ ap (λ id. at_board (board_numbers id) (added (post_of old) c.args.page c.args.n)) c.add.ensures.board
 

@@ -1,5 +1,5 @@
 use Rattle.std.proofs.Common.{◌≡◌, take}
-use Rattle.like_roles.specs.New.{marks_of}
+use Rattle.like_requests.specs.Pages.{marks_of}
 use Rattle.like_roles.proofs.desk.making.marks.Given as goal
 
 abbrev pub invariant-loop-page : goal.invariant-loop-page

@@ -1,7 +1,7 @@
 use std::collections::LinkedList;
 
 /// What a core or a board was made with, as contracts see it: no value of it is made.
-pub struct Setting {
+pub struct Opening {
     pub workers: u32,
     /// Each page's count at the start.
     pub counts: LinkedList<u64>,
