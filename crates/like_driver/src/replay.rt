@@ -1,5 +1,5 @@
 ghost use Rattle.std.specs.Prelude.{◌≡◌, ◌≤◌, IfErr, IfOk, MatchResult, OnOk, is_some, length, map, option_map};
-ghost use Rattle.like_run.specs.declared.script_file.TheConstants.{MAX_ENTRIES};
+ghost use Rattle.like_run.specs.Limits.{max_entries};
 ghost use Rattle.like_driver.specs.Inputs.{GivesScript, Inputs, RefusesScript};
 ghost use Rattle.like_driver.specs.Replayed.{IsBeforeOutput, IsReplayFault, IsReplayed};
 
@@ -48,7 +48,7 @@ pub fn replay_files<R: Read + Drop, W: Write>(
 
 // The entries of the script, and none where there is no script.
 fn read_turns<R: Read + Drop>(alloc: Global, script: Option<R>) -> Result<Vec<Turned>, ScriptFault>
-    ensures few { IfOk result (λ entries. length entries.items ≤ MAX_ENTRIES) }
+    ensures few { IfOk result (λ entries. length entries.items ≤ max_entries) }
     ensures given { MatchResult result
         (λ entries. GivesScript (option_map R.remaining script) entries.items)
         (RefusesScript (option_map R.remaining script)) }

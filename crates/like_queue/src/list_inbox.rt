@@ -1,6 +1,6 @@
 ghost use Rattle.std.specs.Prelude.{◌≡◌, ◌+◌, ◌<◌, ◌≤◌, length, min, nat_lt};
 ghost use Rattle.like_queue.specs.Inbox.{Takes, item_count};
-ghost use Rattle.like_requests.specs.declared.setup.TheConstants.{MAX_REQUESTS};
+ghost use Rattle.like_requests.specs.Limits.{max_requests};
 
 use like_requests::{Numbered, Request, Taken};
 use std::marker::Model;
@@ -17,20 +17,20 @@ pub struct ListInbox {
 
 impl Model for ListInbox {
     ghost use Rattle.std.specs.Prelude.{◌≤◌, ◌+◌, length};
-    ghost use Rattle.like_requests.specs.declared.setup.TheConstants.{MAX_REQUESTS};
+    ghost use Rattle.like_requests.specs.Limits.{max_requests};
     ghost use Rattle.like_queue.specs.Inbox.{Inbox, item_count};
 
     ghost Value = { Inbox };
 
     ghost view = { λ i. record { plan = i.plan.items; opened = i.opened; taken = i.taken } };
 
-    ghost invariant = { λ i. (length i.plan.items ≤ MAX_REQUESTS) × (i.taken ≤ i.opened) × (i.opened ≤ item_count i.plan.items) };
+    ghost invariant = { λ i. (length i.plan.items ≤ max_requests) × (i.taken ≤ i.opened) × (i.opened ≤ item_count i.plan.items) };
 }
 
 impl ListInbox {
     /// The inbox of a plan, of which nothing is open.
     pub fn new(plan: Vec<Request>) -> Self
-        requires { length plan.items ≤ MAX_REQUESTS }
+        requires { length plan.items ≤ max_requests }
         ensures { result ≡ record { plan = plan.items; opened = 0; taken = 0 } }
     {
         ListInbox {

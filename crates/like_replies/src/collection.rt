@@ -1,5 +1,5 @@
 ghost use Rattle.std.specs.Prelude.{◌≤◌, MatchResult, length};
-ghost use Rattle.like_requests.specs.declared.setup.TheConstants.{MAX_SUBMITTERS};
+ghost use Rattle.like_requests.specs.Limits.{max_submitters};
 ghost use Rattle.like_replies.specs.Collected.{IsCollectFault, IsCollected, rows_of};
 ghost use Rattle.like_replies.specs.Entries.{entries_in};
 
@@ -14,7 +14,7 @@ use std::alloc::Global;
 /// Entries are tested in the order of the logs and of their lists, each first for `Stranger` and then for `Double`;
 /// then the least request without an entry is `Missing`. It takes as many steps as there are entries and requests.
 pub fn collect(alloc: Global, sizes: &[u32], logs: &[WorkerLog]) -> Result<Replies, CollectFault>
-    requires { length sizes.now ≤ MAX_SUBMITTERS }
+    requires { length sizes.now ≤ max_submitters }
     ensures { MatchResult result
         (λ replies. IsCollected sizes.now (entries_in logs.now) (rows_of replies))
         (IsCollectFault sizes.now (entries_in logs.now)) }

@@ -11,7 +11,7 @@ use Rattle.std.proofs.lemmas.List.Elements.{All-push}
 use Rattle.like_requests.specs.declared.entries.Initial.{Initial}
 use Rattle.like_requests.specs.Entries.{page_of_entry, pages_of}
 use Rattle.like_requests.specs.Pages.{AreEntries, IsName, Page, names}
-use Rattle.like_requests.specs.declared.pages.TheConstants.{MAX_PAGES, MAX_COUNT}
+use Rattle.like_requests.specs.Limits.{max_pages, max_count}
 
 -- an entry with a new name goes last
 pub insert_entry-other : (es : List (String Global × Initial)) (name : String Global) (initial : Initial)
@@ -40,11 +40,11 @@ IsDistinct-names [] h = tt
 IsDistinct-names (e ∷ es) h = (differs e.0 es h.0, IsDistinct-names es h.1)
 
 -- the entries with one more page
-pub AreEntries-push : (pages : List Page) (page : Page) → AreEntries pages → length pages < MAX_PAGES → IsName page.name → page.count ≤ MAX_COUNT
+pub AreEntries-push : (pages : List Page) (page : Page) → AreEntries pages → length pages < max_pages → IsName page.name → page.count ≤ max_count
     → IsDistinct bytes_eq (names (pages ++ page ∷ [])) → AreEntries (pages ++ page ∷ [])
 AreEntries-push pages page old room named counted distinct = record {
   few = omega (arith, length_push pages page);
   named = All-push (λ p. IsName p.name) pages page old.named named;
-  counted = All-push (λ p. p.count ≤ MAX_COUNT) pages page old.counted counted;
+  counted = All-push (λ p. p.count ≤ max_count) pages page old.counted counted;
   distinct = distinct;
 }

@@ -1,3 +1,4 @@
+pub mod Limits
 pub mod Entries
 pub mod First
 pub mod Pages

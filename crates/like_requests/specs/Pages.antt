@@ -1,7 +1,7 @@
 -- The pages of the service, as the pages file lists them.
 use Rattle.std.specs.Prelude.{ℕ, Bool, ◌<◌, ◌≤◌, List, length, map, position, bytes_eq, Option, All, IsUtf8}
 use Rattle.std.specs.List.{IsDistinct}
-use Rattle.like_requests.specs.declared.pages.TheConstants.{MAX_PAGES, MAX_NAME, MAX_COUNT}
+use Rattle.like_requests.specs.Limits.{max_pages, max_name, max_count}
 
 -- a page: its name in bytes, its initial count, and whether it is marked split
 pub record Page : Type 0 where
@@ -28,14 +28,14 @@ counts_of pages = map (λ p. p.count) pages
 -- a page's name is 1 to 64 bytes of UTF-8
 pub record IsName (name : List ℕ) : Type 0 where
   pub some : 0 < length name
-  pub short : length name ≤ MAX_NAME
+  pub short : length name ≤ max_name
   pub text : IsUtf8 name
 
 -- there are at most 1,024 pages, with distinct names and counts of at most 10^18
 pub record AreEntries (pages : List Page) : Type 0 where
-  pub few : length pages ≤ MAX_PAGES
+  pub few : length pages ≤ max_pages
   pub named : All (λ p. IsName p.name) pages
-  pub counted : All (λ p. p.count ≤ MAX_COUNT) pages
+  pub counted : All (λ p. p.count ≤ max_count) pages
   pub distinct : IsDistinct bytes_eq (names pages)
 
 -- the same, and there is one at least

@@ -5,7 +5,7 @@ use Rattle.like_records.specs.declared.fault.RecordsFault.{RecordsFault}
 use Rattle.like_records.specs.declared.fault.RecordsFault.TheVariants as records
 use Rattle.like_requests.specs.Pages.{IsName, Page}
 use Rattle.like_requests.specs.Rows.{IsFirstFailed, PassAll, Record, field}
-use Rattle.like_requests.specs.declared.pages.TheConstants.{MAX_PAGES, MAX_COUNT}
+use Rattle.like_requests.specs.Limits.{max_pages, max_count}
 use Rattle.like_requests.specs.declared.pages_file.PagesFault.{PagesFault}
 use Rattle.like_requests.specs.declared.pages_file.PagesFault.TheVariants.{Read, Header, Fields, Name, Duplicate, Count, Split, TooMany, Empty, Memory}
 
@@ -25,9 +25,9 @@ abbrev pub AsksPage : List (List ℕ) → Record → PagesFault → Type 0
 AsksPage earlier r (Fields row) = length r ≡ 3
 AsksPage earlier r (Name row) = IsName (field r 0)
 AsksPage earlier r (Duplicate row) = ¬ Contains earlier (field r 0)
-AsksPage earlier r (Count row) = IsDecimal 19 MAX_COUNT (field r 1)
+AsksPage earlier r (Count row) = IsDecimal 19 max_count (field r 1)
 AsksPage earlier r (Split row) = IsSplitMark (field r 2)
-AsksPage earlier r TooMany = length earlier < MAX_PAGES
+AsksPage earlier r TooMany = length earlier < max_pages
 AsksPage earlier r Read = ⊤
 AsksPage earlier r Header = ⊤
 AsksPage earlier r Empty = ⊤

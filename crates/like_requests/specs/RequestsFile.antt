@@ -10,8 +10,8 @@ use Rattle.like_requests.specs.declared.request.Op.TheVariants.{Like, Look}
 use Rattle.like_requests.specs.declared.request.PageRef.{PageRef}
 use Rattle.like_requests.specs.declared.request.PageRef.TheVariants.{Known, Unknown}
 use Rattle.like_requests.specs.declared.request.Request.{Request}
-use Rattle.like_requests.specs.declared.setup.TheConstants.{MAX_REQUESTS}
-use Rattle.like_requests.specs.declared.requests_file.TheConstants.{MAX_USER}
+use Rattle.like_requests.specs.Limits.{max_requests}
+use Rattle.like_requests.specs.Limits.{max_user}
 use Rattle.like_requests.specs.declared.requests_file.RequestsFault.{RequestsFault}
 use Rattle.like_requests.specs.declared.requests_file.RequestsFault.TheVariants as fault
 
@@ -39,8 +39,8 @@ request_of pages r = record { op = op_of (field r 0); user = decimal_value (fiel
 abbrev pub AsksRequest : ℕ → Record → RequestsFault → Type 0
 AsksRequest earlier r (fault.Fields row) = length r ≡ 3
 AsksRequest earlier r (fault.Op row) = IsOp (field r 0)
-AsksRequest earlier r (fault.User row) = IsDecimal 10 MAX_USER (field r 1)
-AsksRequest earlier r fault.TooMany = earlier < MAX_REQUESTS
+AsksRequest earlier r (fault.User row) = IsDecimal 10 max_user (field r 1)
+AsksRequest earlier r fault.TooMany = earlier < max_requests
 AsksRequest earlier r fault.Read = ⊤
 AsksRequest earlier r fault.Header = ⊤
 AsksRequest earlier r fault.Memory = ⊤

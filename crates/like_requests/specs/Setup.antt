@@ -6,7 +6,7 @@ use Rattle.like_requests.specs.Pages.{Page}
 use Rattle.like_requests.specs.declared.request.PageRef.{PageRef}
 use Rattle.like_requests.specs.declared.request.PageRef.TheVariants.{Known, Unknown}
 use Rattle.like_requests.specs.declared.request.Request.{Request}
-use Rattle.like_requests.specs.declared.setup.TheConstants.{MAX_WORKERS, MAX_SUBMITTERS, MAX_USERS, MAX_STASH, MAX_TURNS, MAX_REQUESTS}
+use Rattle.like_requests.specs.Limits.{max_workers, max_submitters, max_users, max_stash, max_turns, max_requests}
 use Rattle.like_requests.specs.declared.setup.Setup.{Setup}
 use Rattle.like_requests.specs.declared.setup.SettingsFault.{SettingsFault}
 use Rattle.like_requests.specs.declared.setup.SettingsFault.TheVariants.{Workers, Submitters, Users, Stash, Turns, Plan, Script}
@@ -18,16 +18,16 @@ IsThere pages Unknown = ⊤
 
 -- a submitter's list is not too long, and knows no page that is not there
 pub record IsPlan (pages : List Page) (plan : List Request) : Type 0 where
-  pub few : length plan ≤ MAX_REQUESTS
+  pub few : length plan ≤ max_requests
   pub there : All (λ r. IsThere pages r.page) plan
 
 -- what the limit asks that is named by the fault of breaking it
 abbrev pub Holds : Setup → List (List Request) → SettingsFault → Type 0
-Holds s plans Workers = (1 ≤ s.workers) × (s.workers ≤ MAX_WORKERS)
-Holds s plans Submitters = (1 ≤ length plans) × (length plans ≤ MAX_SUBMITTERS)
-Holds s plans Users = (1 ≤ s.users) × (s.users ≤ MAX_USERS)
-Holds s plans Stash = (1 ≤ s.stash) × (s.stash ≤ MAX_STASH)
-Holds s plans Turns = s.turns ≤ MAX_TURNS
+Holds s plans Workers = (1 ≤ s.workers) × (s.workers ≤ max_workers)
+Holds s plans Submitters = (1 ≤ length plans) × (length plans ≤ max_submitters)
+Holds s plans Users = (1 ≤ s.users) × (s.users ≤ max_users)
+Holds s plans Stash = (1 ≤ s.stash) × (s.stash ≤ max_stash)
+Holds s plans Turns = s.turns ≤ max_turns
 Holds s plans (Plan submitter) = ⊤
 Holds s plans (Script at) = ⊤
 

@@ -1,7 +1,7 @@
 ghost use Rattle.std.specs.Prelude.{◌≡◌, ◌<◌, ◌≤◌, [], ◌∷◌, ◌++◌, Contains, IfErr, OnOk, length, option_map, slice_get, string_bytes};
+ghost use Rattle.like_requests.specs.Limits.{max_count, max_pages};
 ghost use Rattle.like_requests.specs.Pages.{AreEntries, IsName, names, number_of};
 
-use crate::pages::{MAX_COUNT, MAX_PAGES};
 use indexmap::IndexMap;
 use std::alloc::{AllocError, Global};
 use std::marker::Model;
@@ -80,9 +80,9 @@ impl Entries {
     }
 
     pub fn add(&mut self, name: String, initial: Initial) -> Result<(), AllocError>
-        requires room { length self.old < MAX_PAGES }
+        requires room { length self.old < max_pages }
         requires named { IsName (string_bytes name) }
-        requires counted { initial.count ≤ MAX_COUNT }
+        requires counted { initial.count ≤ max_count }
         requires other { ¬ Contains (names self.old) (string_bytes name) }
         ensures added { OnOk result (self.new
             ≡ self.old ++ (record { name = string_bytes name; count = initial.count; split = initial.split }) ∷ []) }

@@ -1,5 +1,6 @@
 ghost use Rattle.std.specs.Prelude.{◌≡◌, ◌≤◌, ◌↔◌, List, IsTrue, IfNone, MatchOption, MatchResult, length, map};
 ghost use Rattle.like_requests.specs.First.{FailsFirst};
+ghost use Rattle.like_requests.specs.Limits.{max_submitters};
 ghost use Rattle.like_requests.specs.Pages.{Page};
 ghost use Rattle.like_requests.specs.Setup.{AreNumbersWithin, Holds, IsFirstBroken, IsPlan, IsWithinLimits, number_limits};
 ghost use Rattle.like_requests.specs.declared.request.Request.{Request};
@@ -81,7 +82,7 @@ pub fn check_setup(setup: &Setup, plans: &[Vec<Request>]) -> Result<(), Settings
 
 // The first limit on a number that is broken, where there are this many submitters.
 fn broken_number(setup: &Setup, submitters: usize) -> Option<SettingsFault>
-    ensures few { IfNone result (submitters ≤ MAX_SUBMITTERS) }
+    ensures few { IfNone result (submitters ≤ max_submitters) }
     ensures broken { (plans : List (List Request)) → length plans ≡ submitters
         → MatchOption result (AreNumbersWithin setup.now plans) (FailsFirst (Holds setup.now plans) number_limits) }
 {

@@ -1,7 +1,7 @@
 -- What a worker keeps, beside its post.
 use Rattle.std.specs.Prelude.{◌≡◌, ℕ, ◌+◌, ◌*◌, ◌<◌, ◌≤◌, Bool, true, false, List, [], length, sum, All, Some, None, replicate, vec_len, vec_capacity}
 use Rattle.like_requests.specs.declared.request.Request.{Request}
-use Rattle.like_requests.specs.declared.pages.TheConstants.{MAX_PAGES}
+use Rattle.like_requests.specs.Limits.{max_pages}
 use Rattle.like_core.specs.declared.worker_state.WorkerState.{WorkerState}
 use Rattle.like_core.specs.declared.worker_state.WorkerState.TheVariants.{Runs, Answered, Gone}
 use Rattle.like_core.specs.Phase.{IsJoined, IsSplit}
@@ -55,7 +55,7 @@ pub record IsPlaced (post : PostView) (d : Desk) : Type 0 where
   pub some : 1 ≤ d.submitters
   pub is_worker : d.worker < d.workers
   pub marks : post.marks ≡ d.marks.items
-  pub few_pages : vec_len d.marks ≤ MAX_PAGES
+  pub few_pages : vec_len d.marks ≤ max_pages
   pub additions : length post.additions ≡ vec_len d.marks
   pub slice : length d.slice ≡ vec_len d.marks
   pub standing : IsStanding post.state d.phase d.gone
@@ -105,7 +105,7 @@ pub record IsNewDesk (s : Setup) (sizes : List ℕ) (worker : ℕ) (d : Desk) : 
   pub workers : d.workers ≡ s.workers
   pub is_worker : d.worker ≡ worker
   pub marks : d.marks.items ≡ marks_of s.pages
-  pub few_pages : length s.pages ≤ MAX_PAGES
+  pub few_pages : length s.pages ≤ max_pages
   pub phase : d.phase ≡ 0
   pub here : d.gone ≡ false
   pub held : d.held ≡ record { held = []; capacity = s.stash }

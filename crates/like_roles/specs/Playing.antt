@@ -3,7 +3,7 @@ use Rattle.std.specs.Prelude.{◌≡◌, ℕ, ◌+◌, ◌≤◌, ◌==◌, List
 use Rattle.like_requests.specs.declared.request.Request.{Request}
 use Rattle.like_requests.specs.declared.request.Taken.{Taken}
 use Rattle.like_requests.specs.declared.request.Taken.TheVariants.{Ask, End, Nothing}
-use Rattle.like_requests.specs.declared.setup.TheConstants.{MAX_REQUESTS}
+use Rattle.like_requests.specs.Limits.{max_requests}
 use Rattle.like_core.specs.Post.{pages_of}
 use Rattle.like_requests.specs.Pages.{Page}
 use Rattle.like_board.specs.declared.worker_seat.WorkerSeat.{WorkerSeat}
@@ -16,7 +16,7 @@ pub record IsAt (plan : List Request) (next : ℕ) (v : WorkerView) : Type 0 whe
   pub one : length v.ended ≡ 1
   pub taken : count_by (λ t. t.submitter == submitter_at v 0) v.taken ≡ next
   pub left : next + slice_index v.left 0 ≡ length plan
-  pub few : length plan ≤ MAX_REQUESTS
+  pub few : length plan ≤ max_requests
   pub there : All (λ r. IsThere (pages_of v.post) r.page) plan
 
 -- and no submitter is tried

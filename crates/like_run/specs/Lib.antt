@@ -1,3 +1,4 @@
+pub mod Limits
 pub mod Dealt
 pub mod EndToEnd
 pub mod Gathered

@@ -4,7 +4,7 @@ use Rattle.like_records.specs.Decimal.{IsDecimal, decimal_value}
 use Rattle.like_records.specs.declared.fault.RecordsFault.{RecordsFault}
 use Rattle.like_records.specs.declared.fault.RecordsFault.TheVariants as records
 use Rattle.like_requests.specs.Rows.{IsFirstFailed, PassAll, Record, field}
-use Rattle.like_run.specs.declared.script_file.TheConstants.{MAX_ENTRIES, MAX_INDEX}
+use Rattle.like_run.specs.Limits.{max_entries, max_index}
 use Rattle.like_run.specs.declared.script_file.ScriptFault.{ScriptFault}
 use Rattle.like_run.specs.declared.script_file.ScriptFault.TheVariants as fault
 use Rattle.like_run.specs.declared.turned.Turned.{Turned}
@@ -15,7 +15,7 @@ script_header = codes "turn" ∷ codes "index" ∷ []
 
 -- a text writes the number of a submitter or a worker
 abbrev pub IsIndex : List ℕ → Type 0
-IsIndex text = IsDecimal 10 MAX_INDEX text
+IsIndex text = IsDecimal 10 max_index text
 
 -- two fields name an entry: `open` and a submitter, `worker` and a worker, or `coordinator` and 0
 abbrev pub Names : List ℕ → List ℕ → Type 0
@@ -39,7 +39,7 @@ entry_of r = named (field r 0) (field r 1)
 -- what the test asks that is named by its fault, of a record after so many others
 abbrev pub AsksEntry : ℕ → Record → ScriptFault → Type 0
 AsksEntry earlier r (fault.Line row) = IsEntry r
-AsksEntry earlier r fault.TooMany = earlier < MAX_ENTRIES
+AsksEntry earlier r fault.TooMany = earlier < max_entries
 AsksEntry earlier r fault.Read = ⊤
 AsksEntry earlier r fault.Memory = ⊤
 

@@ -1,5 +1,5 @@
 ghost use Rattle.std.specs.Prelude.{◌≡◌, ◌<◌, ◌≤◌, ℕ, [], All, IfOk, length, map, slice_index_or};
-ghost use Rattle.like_requests.specs.declared.setup.TheConstants.{MAX_REQUESTS};
+ghost use Rattle.like_requests.specs.Limits.{max_requests};
 ghost use Rattle.like_run.specs.Dealt.{AreDealt};
 
 use like_queue::ListInbox;
@@ -13,7 +13,7 @@ pub fn deal(
     workers: u32,
 ) -> Result<Vec<Vec<ListInbox>>, AllocError>
     requires some { 0 < workers }
-    requires small { All (λ plan. length plan.items ≤ MAX_REQUESTS) plans.items }
+    requires small { All (λ plan. length plan.items ≤ max_requests) plans.items }
     ensures len { IfOk result (λ hands. length hands.items ≡ workers) }
     ensures dealt { IfOk result (λ hands. (worker : ℕ) → worker < workers
         → AreDealt (map (λ plan. plan.items) plans.items) workers worker (slice_index_or (map (λ hand. hand.items) hands.items) worker [])) }

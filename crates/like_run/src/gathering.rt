@@ -1,6 +1,6 @@
 ghost use Rattle.std.specs.Prelude.{◌≡◌, ◌<◌, ◌≤◌, ℕ, IfOk, Some, length, slice_get};
 ghost use Rattle.like_requests.specs.Verdict.{home};
-ghost use Rattle.like_requests.specs.declared.setup.TheConstants.{MAX_SUBMITTERS};
+ghost use Rattle.like_requests.specs.Limits.{max_submitters};
 ghost use Rattle.like_replies.specs.Collected.{IsCollected, rows_of};
 ghost use Rattle.like_replies.specs.Entries.{entries_in};
 ghost use Rattle.like_roles.specs.declared.log.WorkerLog.{WorkerLog as Log};
@@ -14,7 +14,7 @@ use std::alloc::{AllocError, Global};
 
 /// The replies, where the logs have one entry for each request and no other.
 pub fn replies_of(alloc: Global, sizes: &[u32], logs: &[WorkerLog]) -> Result<Replies, AllocError>
-    requires few { length sizes.now ≤ MAX_SUBMITTERS }
+    requires few { length sizes.now ≤ max_submitters }
     requires once { RunsOnce sizes.now (entries_in logs.now) }
     ensures { IfOk result (λ replies. IsCollected sizes.now (entries_in logs.now) (rows_of replies)) }
 {

@@ -1,7 +1,7 @@
 ghost use Rattle.std.specs.Prelude.{◌≡◌, ◌≤◌, All, IfOk, length, map};
 ghost use Rattle.like_requests.specs.Pages.{ArePages};
 ghost use Rattle.like_requests.specs.Setup.{IsPlan};
-ghost use Rattle.like_requests.specs.declared.setup.TheConstants.{MAX_REQUESTS};
+ghost use Rattle.like_requests.specs.Limits.{max_requests};
 ghost use Rattle.like_board.specs.Seats.{board_id, board_numbers};
 ghost use Rattle.like_roles.specs.New.{IsWithin};
 ghost use Rattle.like_requests.specs.Pages.{marks_of};
@@ -15,7 +15,7 @@ use std::alloc::{AllocError, Global};
 
 /// How many requests each submitter has.
 pub fn sizes_of(alloc: Global, plans: &[Vec<Request>]) -> Result<Vec<u32>, AllocError>
-    requires { All (λ plan. length plan.items ≤ MAX_REQUESTS) plans.now }
+    requires { All (λ plan. length plan.items ≤ max_requests) plans.now }
     ensures { IfOk result (λ sizes. sizes.items ≡ map (λ plan. length plan.items) plans.now) }
 {
     let mut sizes = Vec::new(alloc);

@@ -2,7 +2,7 @@ ghost use Rattle.std.specs.Prelude.{◌≡◌, ◌≤◌, All, IfErr, IfOk, OnOk
 ghost use Rattle.like_requests.specs.Setup.{IsPlan, IsWithinLimits};
 ghost use Rattle.like_board.specs.Seats.{board_id, coord_board, coord_view};
 ghost use Rattle.like_roles.specs.New.{IsWithin};
-ghost use Rattle.like_run.specs.declared.script_file.TheConstants.{MAX_ENTRIES};
+ghost use Rattle.like_run.specs.Limits.{max_entries};
 ghost use Rattle.like_run.specs.EndToEnd.{IsEndToEnd};
 ghost use Rattle.like_run.specs.Made.{AreNewSeats, service_of};
 ghost use Rattle.like_run.specs.Replayed.{Fits, IsReplayFault, IsFaultUnderWay};
@@ -35,7 +35,7 @@ pub fn replay(
     plans: Vec<Vec<Request>>,
     script: &[Turned],
 ) -> Result<Report, ReplayFault>
-    requires { length script.now ≤ MAX_ENTRIES }
+    requires { length script.now ≤ max_entries }
     ensures report { IfOk result (IsEndToEnd (service_of setup.now (map (λ plan. plan.items) plans.items)) setup.now.workers) }
     ensures fits { OnOk result (Fits setup.now (map (λ plan. plan.items) plans.items) script.now) }
     ensures fault { IfErr result (IsReplayFault setup.now (map (λ plan. plan.items) plans.items) script.now) }

@@ -4,7 +4,7 @@ ghost use Rattle.like_records.specs.Decimal.{decimal_value};
 ghost use Rattle.like_records.specs.Reading.{records_of};
 ghost use Rattle.like_requests.specs.First.{FailsFirst};
 ghost use Rattle.like_requests.specs.Rows.{PassAll, Record};
-ghost use Rattle.like_run.specs.declared.script_file.TheConstants.{MAX_ENTRIES};
+ghost use Rattle.like_run.specs.Limits.{max_entries};
 ghost use Rattle.like_run.specs.ScriptFile.{AsksEntry, AsksEntryRecord, IsEntry, IsIndex, IsScriptFault, IsScriptFile, Names, entry_of, entry_tests, named, script_header};
 
 use crate::turned::Turned;
@@ -64,7 +64,7 @@ impl From<AllocFailed<Turned>> for ScriptFault {
 /// Reads a script file: CSV by the default settings, the header `turn,index`, and a record for each entry. The first
 /// record that is no entry ends it, or else the 1,000,001st.
 pub fn read_script<R: Read + Drop>(alloc: Global, reader: R) -> Result<Vec<Turned>, ScriptFault>
-    ensures few { IfOk result (λ entries. length entries.items ≤ MAX_ENTRIES) }
+    ensures few { IfOk result (λ entries. length entries.items ≤ max_entries) }
     ensures file { (rows : List Record) → option_map records_of (R.remaining reader) ≡ Some rows
         → MatchResult result (λ entries. IsScriptFile rows entries.items) (IsScriptFault rows) }
 {
@@ -80,7 +80,7 @@ fn read_entries<R: Read>(
     alloc: Global,
     records: &mut Records<R>,
 ) -> Result<Vec<Turned>, ScriptFault>
-    ensures few { IfOk result (λ entries. length entries.items ≤ MAX_ENTRIES) }
+    ensures few { IfOk result (λ entries. length entries.items ≤ max_entries) }
     ensures body { (body : List Record) → records.old.left ≡ Some body
         → MatchResult result
         (λ entries. PassAll AsksEntryRecord entry_tests body × (entries.items ≡ map entry_of body))

@@ -1,5 +1,5 @@
 ghost use Rattle.std.specs.Prelude.{◌≤◌, All, IsTrue, ◌↔◌, MatchResult, length};
-ghost use Rattle.like_run.specs.declared.script_file.TheConstants.{MAX_ENTRIES};
+ghost use Rattle.like_run.specs.Limits.{max_entries};
 ghost use Rattle.like_run.specs.Scripted.{IsFirstAway, IsThere};
 
 use crate::turned::Turned;
@@ -7,7 +7,7 @@ use like_requests::SettingsFault;
 
 /// Names the first entry of a script whose submitter or worker is not there.
 pub fn check_script(script: &[Turned], workers: u32, submitters: usize) -> Result<(), SettingsFault>
-    requires { length script.now ≤ MAX_ENTRIES }
+    requires { length script.now ≤ max_entries }
     ensures { MatchResult result (λ _. All (IsThere workers submitters) script.now) (IsFirstAway workers submitters script.now) }
 {
     for (at, entry) in script.iter().enumerate() {

@@ -1,5 +1,5 @@
 ghost use Rattle.std.specs.Prelude.{◌≡◌, ◌<◌, ◌≤◌, ◌↔◌, [], ◌∷◌, ◌++◌, IfOk, IsTrue, drop, length, slice_get};
-ghost use Rattle.like_requests.specs.declared.setup.TheConstants.{MAX_STASH};
+ghost use Rattle.like_requests.specs.Limits.{max_stash};
 ghost use Rattle.like_tables.specs.Waiting.{IsWaiting};
 
 use crate::held::Held;
@@ -29,7 +29,7 @@ impl Stash {
     /// A stash that holds nothing. Its room, for `capacity` requests, is made here.
     pub fn new(alloc: Global, capacity: u32) -> Result<Self, AllocError>
         requires some { 1 ≤ capacity }
-        requires few { capacity ≤ MAX_STASH }
+        requires few { capacity ≤ max_stash }
         ensures { IfOk result (λ stash. stash ≡ record { held = []; capacity = capacity }) }
     {
         Ok(Stash {

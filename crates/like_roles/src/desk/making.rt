@@ -1,5 +1,5 @@
 ghost use Rattle.std.specs.Prelude.{◌≡◌, ◌<◌, ◌≤◌, ◌^◌, All, IfOk, length, replicate, sum, vec_len, vec_capacity, false, [], None};
-ghost use Rattle.like_requests.specs.declared.setup.TheConstants.{MAX_REQUESTS, MAX_SUBMITTERS};
+ghost use Rattle.like_requests.specs.Limits.{max_requests, max_submitters};
 ghost use Rattle.like_requests.specs.Pages.{ArePages};
 ghost use Rattle.like_tables.specs.Share.{share_of};
 ghost use Rattle.like_tables.specs.UserTable.{table_without_likes};
@@ -53,9 +53,9 @@ fn own_sizes(
 ) -> Result<Vec<u32>, AllocError>
     requires some { 1 ≤ workers }
     requires few_workers { workers ≤ 16 }
-    requires few_submitters { length sizes.now ≤ MAX_SUBMITTERS }
+    requires few_submitters { length sizes.now ≤ max_submitters }
     requires is_worker { worker < workers }
-    requires small { All (λ n. n ≤ MAX_REQUESTS) sizes.now }
+    requires small { All (λ n. n ≤ max_requests) sizes.now }
     ensures sizes { IfOk result (λ own. AreOwnSizes sizes.now workers worker own.items) }
     ensures few { IfOk result (λ own. sum own.items ≤ 64000000) }
 {

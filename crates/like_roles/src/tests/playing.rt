@@ -1,6 +1,6 @@
 ghost use Rattle.std.specs.Prelude.{◌≡◌, ◌≤◌, [], ◌∷◌, IfOk, None, length, map};
 ghost use Rattle.like_requests.specs.Setup.{IsWithinLimits};
-ghost use Rattle.like_requests.specs.declared.setup.TheConstants.{MAX_REQUESTS};
+ghost use Rattle.like_requests.specs.Limits.{max_requests};
 ghost use Rattle.like_roles.specs.New.{IsPostOf};
 ghost use Rattle.like_roles.specs.Playing.{IsGiven, IsPlaying};
 
@@ -53,7 +53,7 @@ pub fn worker_at<P: Post + Drop>(
 
 /// What is there for a worker that takes: the next request of the plan, and after the last one the end mark.
 fn next_of(plan: &[Request], next: &mut usize) -> Taken
-    requires { length plan.now ≤ MAX_REQUESTS }
+    requires { length plan.now ≤ max_requests }
     ensures { IsGiven plan.now next.old result next.new }
 {
     let Some(request) = plan.get(*next) else {

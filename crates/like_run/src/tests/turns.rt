@@ -4,7 +4,7 @@ ghost use Rattle.std.specs.List.{AllZip};
 ghost use Rattle.like_requests.specs.Setup.{IsPlan, IsWithinLimits};
 ghost use Rattle.like_board.specs.Seats.{board_id, coord_board};
 ghost use Rattle.like_roles.specs.New.{IsWithin};
-ghost use Rattle.like_run.specs.declared.script_file.TheConstants.{MAX_ENTRIES};
+ghost use Rattle.like_run.specs.Limits.{max_entries};
 ghost use Rattle.like_run.specs.Made.{AreNewSeats};
 ghost use Rattle.like_run.specs.Scripted.{IsThere};
 ghost use Rattle.like_run.specs.Server.{GoesOn};
@@ -127,7 +127,7 @@ fn answers(
     plans: Vec<Vec<Request>>,
     script: &[Turned],
 ) -> Result<Vec<Answer>, ReplayFault>
-    requires { length script.now ≤ MAX_ENTRIES }
+    requires { length script.now ≤ max_entries }
 {
     check_setup(setup, &plans)?;
     check_script(script, setup.workers, plans.len())?;

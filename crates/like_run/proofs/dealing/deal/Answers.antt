@@ -2,7 +2,7 @@ use Rattle.std.proofs.Common.{◌++◌, ◌∷◌, [], List, Vec, Global, length
 use Rattle.std.proofs.lemmas.List.{length-map, length-set, length_push, map-append, map-id}
 use Rattle.std.proofs.lemmas.Iterator.Adapters.{YieldsList-from_vec}
 use Rattle.std.proofs.lemmas.Iterator.Consumers.{YieldsList-end, YieldsList-turn}
-use Rattle.like_requests.specs.declared.setup.TheConstants.{MAX_REQUESTS}
+use Rattle.like_requests.specs.Limits.{max_requests}
 use Rattle.like_requests.specs.declared.request.Request.{Request}
 use Rattle.like_queue.specs.Inbox.{Inbox}
 use Rattle.like_run.proofs.Deals.{AllDealt, deal-none, deal-pushed}
@@ -39,7 +39,7 @@ new-requires c =
     let from = c.into_iter-plan-iterator.ensures.into_iter_gives in
     let all = YieldsList-from_vec {s = c.into_iter-plan-iterator.result} c.args.plans.items from.0 (from.1 ∙ c.args.plans.ok.0) in
     let turn = YieldsList-turn all c.loop-plan.yielded _ c.loop-plan.yielded_by _ c.next.new.self c.in-Some.plan c.in-Some.is c.next.ensures.steps in
-    subst (λ (p : Vec Request Global). length p.items ≤ MAX_REQUESTS) (sym turn.1) (c.requires.small (length c.loop-plan.yielded) c.in-Some.plan turn.0)
+    subst (λ (p : Vec Request Global). length p.items ≤ max_requests) (sym turn.1) (c.requires.small (length c.loop-plan.yielded) c.in-Some.plan turn.0)
 
 pub returns-clause-dealt : goal.returns-clause-dealt
 returns-clause-dealt c =

@@ -4,8 +4,8 @@ use Rattle.std.proofs.lemmas.List.{length-map}
 use Rattle.like_requests.specs.Pages.{Page}
 use Rattle.like_requests.specs.Setup.{IsPlan}
 use Rattle.like_requests.specs.declared.request.Request.{Request}
-use Rattle.like_requests.specs.declared.pages.TheConstants.{MAX_COUNT}
-use Rattle.like_requests.specs.declared.setup.TheConstants.{MAX_REQUESTS}
+use Rattle.like_requests.specs.Limits.{max_count}
+use Rattle.like_requests.specs.Limits.{max_requests}
 use Rattle.like_core.specs.declared.view.CoordSeatView.{CoordSeatView}
 use Rattle.like_board.specs.Seats.{board_id}
 use Rattle.like_run.proofs.Ending.{new-seats}
@@ -20,8 +20,8 @@ sizes_of-requires c = λ k d within. (all-back requests_of (IsPlan c.args.setup.
 
 pub new-requires-clause-counts : goal.new-requires-clause-counts
 new-requires-clause-counts c =
-    subst (λ (xs : List ℕ). All (λ n. n ≤ MAX_COUNT) xs) (sym (c.deref.ensures.value ∙ c.in_ok-counts.ensures.counts))
-    (all-map (λ (p : Page). p.count) (λ n. n ≤ MAX_COUNT) c.args.setup.now.pages c.counts_of.ensures.pages.entries.counted)
+    subst (λ (xs : List ℕ). All (λ n. n ≤ max_count) xs) (sym (c.deref.ensures.value ∙ c.in_ok-counts.ensures.counts))
+    (all-map (λ (p : Page). p.count) (λ n. n ≤ max_count) c.args.setup.now.pages c.counts_of.ensures.pages.entries.counted)
 
 pub returns : goal.returns
 returns c =
@@ -41,8 +41,8 @@ returns c =
         users = n.1.1.0.1;
         some_stash = n.1.1.1.0.0;
         few_stash = n.1.1.1.0.1;
-        small = subst (λ (xs : List ℕ). All (λ m. m ≤ MAX_REQUESTS) xs) (sym sized)
-            (all-map (λ (p : Vec Request Global). length p.items) (λ m. m ≤ MAX_REQUESTS) c.args.plans.now
+        small = subst (λ (xs : List ℕ). All (λ m. m ≤ max_requests) xs) (sym sized)
+            (all-map (λ (p : Vec Request Global). length p.items) (λ m. m ≤ max_requests) c.args.plans.now
             (λ k d within. (all-back requests_of (IsPlan c.args.setup.now.pages) c.args.plans.now c.requires.lists k d within).few));
       };
       counts = c.in_ok-counts.ensures.counts;

@@ -1,0 +1,42 @@
+-- The limits of a run and of its files, as numbers: each constant of the code is tied to its own here by the contracts.
+use Rattle.std.specs.Prelude.{ℕ, ◌^◌}
+
+-- the most pages of a service
+abbrev pub max_pages : ℕ
+max_pages = 1024
+
+-- the most bytes of a page's name
+abbrev pub max_name : ℕ
+max_name = 64
+
+-- the greatest initial count of a page
+abbrev pub max_count : ℕ
+max_count = 10 ^ 18
+
+-- the greatest number of a user that a file may name
+abbrev pub max_user : ℕ
+max_user = 4294967295
+
+-- the most workers of a run
+abbrev pub max_workers : ℕ
+max_workers = 16
+
+-- the most submitters of a run
+abbrev pub max_submitters : ℕ
+max_submitters = 64
+
+-- the most users of a run
+abbrev pub max_users : ℕ
+max_users = 1000000
+
+-- the most looks that a worker's stash may hold
+abbrev pub max_stash : ℕ
+max_stash = 4096
+
+-- the most turns that the coordinator may count in a phase
+abbrev pub max_turns : ℕ
+max_turns = 1000000
+
+-- the most requests of a submitter
+abbrev pub max_requests : ℕ
+max_requests = 1000000
