@@ -17,7 +17,8 @@ use Rattle.like_core.specs.Phase.{split}
 use Rattle.like_core.specs.Table.{IsShown}
 use Rattle.like_core.specs.State.{CoreState, Label, labelled, marked, after, numbers}
 use Rattle.like_core.specs.Reachable.{Reachable, after_all}
-use Rattle.like_core.specs.Post.{MayAdd, slices, phase_of}
+use Rattle.like_core.specs.WorkerState.{phase_of}
+use Rattle.like_core.specs.Post.{MayAdd, slices}
 use Rattle.like_core.specs.Views.{added_to, added_in, added_view, post_of, likes_merged, adding}
 use Rattle.like_core.specs.Tallies.{Tallied, paged, room}
 use Rattle.like_core.specs.Shows.{Shows, ShowsSome, FitsWorker, IsSteps}

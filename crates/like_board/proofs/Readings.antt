@@ -12,7 +12,8 @@ use Rattle.like_core.specs.declared.view.View.TheVariants.{Worker}
 use Rattle.like_core.specs.Phase.{split}
 use Rattle.like_core.specs.Table.{Permits}
 use Rattle.like_core.specs.State.{marked, numbers}
-use Rattle.like_core.specs.Post.{MayRead, slices, phase_of}
+use Rattle.like_core.specs.WorkerState.{phase_of}
+use Rattle.like_core.specs.Post.{MayRead, slices}
 use Rattle.like_core.specs.Views.{added_to, post_of}
 use Rattle.like_core.specs.Tallies.{paged}
 use Rattle.like_core.specs.Shows.{Shows, ShowsSome, FitsWorker, IsStep}

@@ -14,7 +14,7 @@ use Rattle.like_core.specs.declared.view.View.{View}
 use Rattle.like_core.specs.declared.view.View.TheVariants.{Worker}
 use Rattle.like_core.specs.Functions.{times}
 use Rattle.like_core.specs.Phase.{IsJoined, IsSplit}
-use Rattle.like_core.specs.WorkerState.{IsIn, looked}
+use Rattle.like_core.specs.WorkerState.{IsIn, looked, RunsSome, IsSightOf, seen, phase_of, IsRunning, RunsJoined, RunsSplit, SawEnding}
 use Rattle.like_core.specs.Word.{Fields, packed}
 use Rattle.like_core.specs.Numbers.{Sees}
 use Rattle.like_core.specs.Table.{Permits}
@@ -22,8 +22,7 @@ use Rattle.like_core.specs.State.{CoreState, numbers}
 use Rattle.like_core.specs.Reachable.{Reachable}
 use Rattle.like_core.specs.Sights.{sight_of}
 use Rattle.like_core.specs.ShownWord.{shown_fields}
-use Rattle.like_core.specs.Post.{RunsSome, IsSightOf, seen, phase_of}
-use Rattle.like_core.specs.Views.{ViewRuns, ViewRunsJoined, ViewRunsSplit, ViewSawEnding, looked_view, answered_view, retired_view}
+use Rattle.like_core.specs.Views.{looked_view, answered_view, retired_view}
 use Rattle.like_core.specs.Shows.{Shows, ShowsSome, FitsWorker, IsStep}
 use Rattle.like_core.proofs.Updates.{update-same}
 use Rattle.like_core.proofs.Reached.{goes_on_by}
@@ -41,7 +40,7 @@ running_is P (Answered phase) h = absurd h
 running_is P Gone h = absurd h
 
 -- a view whose worker runs a phase
-pub runs_view : (v : WorkerSeatView) (phase : ℕ) → v.state ≡ Runs phase → ViewRuns v
+pub runs_view : (v : WorkerSeatView) (phase : ℕ) → v.state ≡ Runs phase → IsRunning v.state
 runs_view v phase is = subst (RunsSome (λ _. Unit {0})) (sym is) tt
 
 not_true : (b : Bool) → (IsTrue b → ⊥) → b ≡ false
@@ -188,7 +187,7 @@ answers z s words views place v phase reached sh at runs present =
     (λ _ gone. absurd (cc))
 
 -- an acknowledgement is the event
-pub acknowledges : (z : Opening) (words : List ℕ) (views : List View) (place : ℕ) (v : WorkerSeatView) → ShowsSome z words views → get_elem? views place ≡ some (Worker v) → ViewRunsJoined v → ViewSawEnding v → IsStep z (Acknowledge v.worker) Done (Worker v) (Worker (answered_view v)) × ShowsSome z (set words 0 (bit_or (get_or words 0 0) (2 ^ (8 + v.worker)))) (set views place (Worker (answered_view v)))
+pub acknowledges : (z : Opening) (words : List ℕ) (views : List View) (place : ℕ) (v : WorkerSeatView) → ShowsSome z words views → get_elem? views place ≡ some (Worker v) → RunsJoined v.state → SawEnding v.last → IsStep z (Acknowledge v.worker) Done (Worker v) (Worker (answered_view v)) × ShowsSome z (set words 0 (bit_or (get_or words 0 0) (2 ^ (8 + v.worker)))) (set views place (Worker (answered_view v)))
 acknowledges z words views place v some_state at joined saw =
     let s = some_state.state in
     let sh = some_state.shows in
@@ -232,7 +231,7 @@ acknowledges z words views place v some_state at joined saw =
     )
 
 -- a report is the event
-pub reports : (z : Opening) (words : List ℕ) (views : List View) (place : ℕ) (v : WorkerSeatView) → ShowsSome z words views → get_elem? views place ≡ some (Worker v) → ViewRunsSplit v → ViewSawEnding v → IsStep z (Report v.worker) Done (Worker v) (Worker (answered_view v)) × ShowsSome z (set words 0 (bit_or (get_or words 0 0) (2 ^ (8 + v.worker)))) (set views place (Worker (answered_view v)))
+pub reports : (z : Opening) (words : List ℕ) (views : List View) (place : ℕ) (v : WorkerSeatView) → ShowsSome z words views → get_elem? views place ≡ some (Worker v) → RunsSplit v.state → SawEnding v.last → IsStep z (Report v.worker) Done (Worker v) (Worker (answered_view v)) × ShowsSome z (set words 0 (bit_or (get_or words 0 0) (2 ^ (8 + v.worker)))) (set views place (Worker (answered_view v)))
 reports z words views place v some_state at split saw =
     let s = some_state.state in
     let sh = some_state.shows in
@@ -276,7 +275,7 @@ reports z words views place v some_state at split saw =
     )
 
 -- a retirement is the event
-pub retires : (z : Opening) (words : List ℕ) (views : List View) (place : ℕ) (v : WorkerSeatView) → ShowsSome z words views → get_elem? views place ≡ some (Worker v) → ViewRunsJoined v → IsStep z (Retire v.worker) Done (Worker v) (Worker (retired_view v)) × ShowsSome z (set words 0 (bit_or (get_or words 0 0) (2 ^ (24 + v.worker)))) (set views place (Worker (retired_view v)))
+pub retires : (z : Opening) (words : List ℕ) (views : List View) (place : ℕ) (v : WorkerSeatView) → ShowsSome z words views → get_elem? views place ≡ some (Worker v) → RunsJoined v.state → IsStep z (Retire v.worker) Done (Worker v) (Worker (retired_view v)) × ShowsSome z (set words 0 (bit_or (get_or words 0 0) (2 ^ (24 + v.worker)))) (set views place (Worker (retired_view v)))
 retires z words views place v some_state at joined =
     let s = some_state.state in
     let sh = some_state.shows in

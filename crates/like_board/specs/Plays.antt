@@ -10,8 +10,8 @@ use Rattle.like_core.specs.declared.view.View.TheVariants.{Coord, Worker}
 use Rattle.like_core.specs.Phase.{IsSplit}
 use Rattle.like_core.specs.Word.{Fields, packed, IsLawful}
 use Rattle.like_core.specs.Sights.{sight_of, coord_sight_of}
-use Rattle.like_core.specs.Post.{IsSightOf}
-use Rattle.like_core.specs.Views.{ViewRuns, ViewSawEnding, added_to, looked_view, added_view, likes_merged, adding, looked_coord}
+use Rattle.like_core.specs.WorkerState.{IsSightOf, IsRunning, SawEnding}
+use Rattle.like_core.specs.Views.{added_to, looked_view, added_view, likes_merged, adding, looked_coord}
 use Rattle.like_core.specs.Shows.{IsStep, IsSteps}
 use Rattle.like_board.specs.Known.{worker_view_of, coord_view_of}
 
@@ -21,7 +21,7 @@ pub record Looked (z : Opening) (found : ℕ) (v : WorkerSeatView) : Type 0 wher
   pub lawful : IsLawful fields
   pub found_is : found ≡ packed fields
   pub can : IsSightOf v.state (sight_of fields v.worker)
-  pub ending : ViewRuns v → ViewSawEnding v → (sight_of fields v.worker).ending ≡ true
+  pub ending : IsRunning v.state → SawEnding v.last → (sight_of fields v.worker).ending ≡ true
   pub step : IsStep z (Look v.worker) (Seen (sight_of fields v.worker)) (Worker v) (Worker (looked_view v (sight_of fields v.worker)))
 
 -- what the coordinator's look finds and shows

@@ -31,7 +31,8 @@ impl Post for BoardPost<'_> {
     ghost use Rattle.like_core.specs.declared.shown.Shown.TheVariants.{Seen, Done, Old, Count};
     ghost use Rattle.like_core.specs.declared.view.View.TheVariants.{Worker};
     ghost use Rattle.like_core.specs.declared.worker_state.WorkerState.TheVariants.{Gone};
-    ghost use Rattle.like_core.specs.Post.{IsRunning, RunsJoined, RunsSplit, SawEnding, IsSightOf, looked_at, answered, retired, added, additions_of, MayAdd, MayRead};
+    ghost use Rattle.like_core.specs.WorkerState.{IsRunning, RunsJoined, RunsSplit, SawEnding, IsSightOf};
+    ghost use Rattle.like_core.specs.Post.{looked_at, answered, retired, added, additions_of, MayAdd, MayRead};
     ghost use Rattle.like_core.specs.Views.{looked_view, answered_view, retired_view, added_view, likes_merged, adding};
     ghost use Rattle.like_core.specs.Shows.{IsStep, IsSteps};
     ghost use Rattle.like_board.specs.Seats.{post_board, post_view, post_meaning};
@@ -42,7 +43,7 @@ impl Post for BoardPost<'_> {
         requires { (post_meaning self.old).state ≢ Gone }
         ensures sight { IsSightOf (post_meaning self.old).state result }
         ensures view { post_meaning self.new ≡ looked_at (post_meaning self.old) result }
-        ensures ending { IsRunning (post_meaning self.old) → SawEnding (post_meaning self.old) → result.ending ≡ true }
+        ensures ending { IsRunning (post_meaning self.old).state → SawEnding (post_meaning self.old).last → result.ending ≡ true }
         ensures board { post_board self.new ≡ post_board self.old }
         ensures known { post_view self.new ≡ looked_view (post_view self.old) result }
         ensures event { IsStep (post_view self.old).opening (Look (post_view self.old).worker) (Seen result) (Worker (post_view self.old)) (Worker (post_view self.new)) }
@@ -52,8 +53,8 @@ impl Post for BoardPost<'_> {
     }
 
     fn acknowledge(&mut self)
-        requires runs { RunsJoined (post_meaning self.old) }
-        requires ending { SawEnding (post_meaning self.old) }
+        requires runs { RunsJoined (post_meaning self.old).state }
+        requires ending { SawEnding (post_meaning self.old).last }
         ensures view { post_meaning self.new ≡ answered (post_meaning self.old) }
         ensures board { post_board self.new ≡ post_board self.old }
         ensures known { post_view self.new ≡ answered_view (post_view self.old) }
@@ -64,8 +65,8 @@ impl Post for BoardPost<'_> {
     }
 
     fn report(&mut self)
-        requires runs { RunsSplit (post_meaning self.old) }
-        requires ending { SawEnding (post_meaning self.old) }
+        requires runs { RunsSplit (post_meaning self.old).state }
+        requires ending { SawEnding (post_meaning self.old).last }
         ensures view { post_meaning self.new ≡ answered (post_meaning self.old) }
         ensures board { post_board self.new ≡ post_board self.old }
         ensures known { post_view self.new ≡ answered_view (post_view self.old) }
@@ -76,7 +77,7 @@ impl Post for BoardPost<'_> {
     }
 
     fn retire(&mut self)
-        requires { RunsJoined (post_meaning self.old) }
+        requires { RunsJoined (post_meaning self.old).state }
         ensures view { post_meaning self.new ≡ retired (post_meaning self.old) }
         ensures board { post_board self.new ≡ post_board self.old }
         ensures known { post_view self.new ≡ retired_view (post_view self.old) }

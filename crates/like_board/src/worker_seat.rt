@@ -29,8 +29,9 @@ impl WorkerSeat {
     ghost use Rattle.like_core.specs.declared.event.Event.TheVariants.{Look, Acknowledge, Report, Retire, Read};
     ghost use Rattle.like_core.specs.declared.shown.Shown.TheVariants.{Seen, Done, Old, Count};
     ghost use Rattle.like_core.specs.declared.worker_state.WorkerState.TheVariants.{Gone};
-    ghost use Rattle.like_core.specs.Post.{IsSightOf, MayAdd, MayRead};
-    ghost use Rattle.like_core.specs.Views.{ViewRuns, ViewRunsJoined, ViewRunsSplit, ViewSawEnding, added_to, looked_view, answered_view, retired_view, added_view, likes_merged, adding};
+    ghost use Rattle.like_core.specs.WorkerState.{IsSightOf, IsRunning, RunsJoined, RunsSplit, SawEnding};
+    ghost use Rattle.like_core.specs.Post.{MayAdd, MayRead};
+    ghost use Rattle.like_core.specs.Views.{added_to, looked_view, answered_view, retired_view, added_view, likes_merged, adding};
     ghost use Rattle.like_core.specs.Shows.{IsStep, IsSteps};
     ghost use Rattle.like_board.specs.Seats.{board_id, seat_board, seat_view, seat_meaning, post_board, post_view, post_meaning};
 
@@ -50,7 +51,7 @@ impl WorkerSeat {
         ensures board { seat_board self.new ≡ seat_board self.old }
         ensures view { seat_view self.new ≡ looked_view (seat_view self.old) result }
         ensures sight { IsSightOf (seat_view self.old).state result }
-        ensures ending { ViewRuns (seat_view self.old) → ViewSawEnding (seat_view self.old) → result.ending ≡ true }
+        ensures ending { IsRunning (seat_view self.old).state → SawEnding (seat_view self.old).last → result.ending ≡ true }
         ensures event { IsStep (seat_view self.old).opening (Look (seat_view self.old).worker) (Seen result) (Worker (seat_view self.old)) (Worker (seat_view self.new)) }
     {
         let word = board.table.shared.load::<Looking>(&mut self.seat, 0);
@@ -59,8 +60,8 @@ impl WorkerSeat {
 
     pub(crate) fn acknowledge(&mut self, board: &Board)
         requires here { seat_board self.old ≡ board_id board.now }
-        requires runs { ViewRunsJoined (seat_view self.old) }
-        requires ending { ViewSawEnding (seat_view self.old) }
+        requires runs { RunsJoined (seat_view self.old).state }
+        requires ending { SawEnding (seat_view self.old).last }
         ensures board { seat_board self.new ≡ seat_board self.old }
         ensures view { seat_view self.new ≡ answered_view (seat_view self.old) }
         ensures event { IsStep (seat_view self.old).opening (Acknowledge (seat_view self.old).worker) Done (Worker (seat_view self.old)) (Worker (seat_view self.new)) }
@@ -74,8 +75,8 @@ impl WorkerSeat {
 
     pub(crate) fn report(&mut self, board: &Board)
         requires here { seat_board self.old ≡ board_id board.now }
-        requires runs { ViewRunsSplit (seat_view self.old) }
-        requires ending { ViewSawEnding (seat_view self.old) }
+        requires runs { RunsSplit (seat_view self.old).state }
+        requires ending { SawEnding (seat_view self.old).last }
         ensures board { seat_board self.new ≡ seat_board self.old }
         ensures view { seat_view self.new ≡ answered_view (seat_view self.old) }
         ensures event { IsStep (seat_view self.old).opening (Report (seat_view self.old).worker) Done (Worker (seat_view self.old)) (Worker (seat_view self.new)) }
@@ -89,7 +90,7 @@ impl WorkerSeat {
 
     pub(crate) fn retire(&mut self, board: &Board)
         requires here { seat_board self.old ≡ board_id board.now }
-        requires runs { ViewRunsJoined (seat_view self.old) }
+        requires runs { RunsJoined (seat_view self.old).state }
         ensures board { seat_board self.new ≡ seat_board self.old }
         ensures view { seat_view self.new ≡ retired_view (seat_view self.old) }
         ensures event { IsStep (seat_view self.old).opening (Retire (seat_view self.old).worker) Done (Worker (seat_view self.old)) (Worker (seat_view self.new)) }

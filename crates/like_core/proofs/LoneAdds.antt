@@ -11,7 +11,8 @@ use Rattle.like_core.specs.Functions.{update, sum_below}
 use Rattle.like_core.specs.Phase.{split}
 use Rattle.like_core.specs.Numbers.{Numbers, with_unmerged, with_count, sliced, total}
 use Rattle.like_core.specs.Table.{Permits, next}
-use Rattle.like_core.specs.Post.{PostView, RunsSome, IsRunning, SawEnding, phase_of, slices, added, additions_of, is_marked, pages_of, MayAdd}
+use Rattle.like_core.specs.WorkerState.{RunsSome, IsRunning, SawEnding, phase_of}
+use Rattle.like_core.specs.Post.{PostView, slices, added, additions_of, is_marked, pages_of, MayAdd}
 use Rattle.like_core.specs.State.{start}
 use Rattle.like_core.specs.Lone.{lone_view, IsLone, Likes}
 use Rattle.like_core.proofs.KeptWrites.{total-with_unmerged}
@@ -120,7 +121,7 @@ after_merge n k =
     ap (λ (m : Numbers). with_count m 0 (n.count 0 + (n.unmerged 0 0 + k))) (with_unmerged-twice n (n.unmerged 0 0 + k) 0)
 
 -- the post's slices are the core's
-slices_are : (n : Numbers) (start : ℕ) (last : Option Sight) (page : ℕ) → IsLone n start last → IsRunning (lone_view n start last) → page < pages_of (lone_view n start last) → slices (lone_view n start last) page ≡ sliced n 0
+slices_are : (n : Numbers) (start : ℕ) (last : Option Sight) (page : ℕ) → IsLone n start last → IsRunning (lone_view n start last).state → page < pages_of (lone_view n start last) → slices (lone_view n start last) page ≡ sliced n 0
 slices_are n start last page l runs there =
     let phase : phase_of (n.state 0) ≡ n.phase = ap phase_of (runs_present (λ _. Unit {0}) n start last l runs).0 in
     ap (λ q. slices (lone_view n start last) q) (first_page n start last page l there) ∙
@@ -215,7 +216,7 @@ may_like v runs there nothing =
     }
 
 -- a post that has added nothing may merge its first slice in phase 1
-pub may_merge : (v : PostView) (likes : ℕ) → v.state ≡ Runs 1 → 0 < pages_of v → is_marked v 0 ≡ true → v.additions ≡ replicate (pages_of v) 0 → 1 ≤ likes → likes ≤ 64000000 → SawEnding v → MayAdd v 0 likes
+pub may_merge : (v : PostView) (likes : ℕ) → v.state ≡ Runs 1 → 0 < pages_of v → is_marked v 0 ≡ true → v.additions ≡ replicate (pages_of v) 0 → 1 ≤ likes → likes ≤ 64000000 → SawEnding v.last → MayAdd v 0 likes
 may_merge v likes runs there marked nothing some few saw =
     let is_sliced : slices v 0 ≡ true = ap (λ (state : WorkerState). split (is_marked v) (phase_of state) 0) runs ∙ marked in
     let none : sum v.additions ≡ 0 = ap sum nothing ∙ sum_zeros (pages_of v) in

@@ -5,10 +5,10 @@ use Rattle.like_core.specs.declared.worker_state.WorkerState.TheVariants.{Runs, 
 use Rattle.like_core.specs.declared.event.Event.TheVariants.{Look}
 use Rattle.like_core.specs.declared.shown.Shown.TheVariants.{Seen}
 use Rattle.like_core.specs.declared.sight.Sight.{Sight}
-use Rattle.like_core.specs.WorkerState.{looked}
+use Rattle.like_core.specs.WorkerState.{looked, IsRunning, SawEnding, IsSightOf, seen}
 use Rattle.like_core.specs.Numbers.{Numbers, Sees}
 use Rattle.like_core.specs.Table.{next}
-use Rattle.like_core.specs.Post.{IsRunning, SawEnding, IsSightOf, seen, looked_at}
+use Rattle.like_core.specs.Post.{looked_at}
 use Rattle.like_core.specs.State.{start}
 use Rattle.like_core.specs.Lone.{lone_view, IsLone}
 
@@ -76,7 +76,7 @@ looked_answered phase Gone near k is = cc
 pub record LooksWell (n : Numbers) (start : ℕ) (last : Option Sight) (sight : Sight) : Type 0 where
   pub shows : IsSightOf (n.state 0) sight
   pub view : lone_view (next n (Look 0)) start (Some sight) ≡ looked_at (lone_view n start last) sight
-  pub still : IsRunning (lone_view n start last) → SawEnding (lone_view n start last) → sight.ending ≡ true
+  pub still : IsRunning (lone_view n start last).state → SawEnding (lone_view n start last).last → sight.ending ≡ true
   pub lone : IsLone (next n (Look 0)) start (Some sight)
 
 pub looks_well : (n : Numbers) (start : ℕ) (last : Option Sight) (sight : Sight) → IsLone n start last → n.state 0 ≢ Gone → Sees n 0 sight → LooksWell n start last sight

@@ -8,10 +8,10 @@ use Rattle.like_core.specs.declared.pure_core.Core.{Core}
 use Rattle.like_core.specs.declared.event.Event.TheVariants.{Announce, Release}
 use Rattle.like_core.specs.declared.shown.Shown.{Shown}
 use Rattle.like_core.specs.declared.sight.Sight.{Sight}
-use Rattle.like_core.specs.WorkerState.{IsIn}
+use Rattle.like_core.specs.WorkerState.{IsIn, RunsSome, phase_of}
 use Rattle.like_core.specs.Numbers.{Numbers, with_state}
 use Rattle.like_core.specs.Table.{Permits, next}
-use Rattle.like_core.specs.Post.{IsFresh, RunsSome, phase_of, answered}
+use Rattle.like_core.specs.Post.{IsFresh, answered}
 use Rattle.like_core.specs.State.{start, numbers}
 use Rattle.like_core.specs.Core.{numbers_of}
 use Rattle.like_core.specs.Lone.{lone_view, IsLone}

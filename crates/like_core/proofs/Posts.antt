@@ -8,7 +8,8 @@ use Rattle.std.proofs.lemmas.List.FromFn.{length-map-range_with_len, get_or-map-
 use Rattle.std.proofs.lemmas.List.Sums.{get_or-le-sum_by}
 use Rattle.like_core.specs.declared.opening.Opening.{Opening}
 use Rattle.like_core.specs.declared.view.WorkerSeatView.{WorkerSeatView}
-use Rattle.like_core.specs.Post.{additions_of, added, phase_of, IsFresh}
+use Rattle.like_core.specs.WorkerState.{phase_of}
+use Rattle.like_core.specs.Post.{additions_of, added, IsFresh}
 use Rattle.like_core.specs.Views.{added_to, fresh, added_view, post_of}
 use Rattle.like_core.proofs.Labels.{added_to_here, added_to_else}
 

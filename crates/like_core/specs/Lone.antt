@@ -1,8 +1,9 @@
-use Rattle.std.specs.Prelude.{◌≡◌, ℕ, ◌+◌, ◌-◌, ◌^◌, ◌<◌, ◌≤◌, [], ◌∷◌, Option, IsSomeAnd, true}
+use Rattle.std.specs.Prelude.{◌≡◌, ℕ, ◌+◌, ◌-◌, ◌^◌, ◌<◌, ◌≤◌, [], ◌∷◌, Option, true}
 use Rattle.like_core.specs.declared.worker_state.WorkerState.TheVariants.{Runs, Answered}
 use Rattle.like_core.specs.declared.sight.Sight.{Sight}
 use Rattle.like_core.specs.Numbers.{Numbers, with_unmerged, with_count, sliced, total}
-use Rattle.like_core.specs.Post.{PostView, RunsSome}
+use Rattle.like_core.specs.WorkerState.{IsRunning, SawEnding}
+use Rattle.like_core.specs.Post.{PostView}
 
 -- a post over a core of one worker and one page, which had this count at the start
 abbrev pub lone_view : Numbers → ℕ → Option Sight → PostView
@@ -21,7 +22,7 @@ pub record IsLone (n : Numbers) (start : ℕ) (last : Option Sight) : Type 0 whe
   pub pages : n.pages ≡ 1
   pub runs : (phase : ℕ) → n.state 0 ≡ Runs phase → phase ≡ n.phase
   pub answered : (phase : ℕ) → n.state 0 ≡ Answered phase → (phase ≤ n.phase) × (n.phase ≤ phase + 1)
-  pub saw : RunsSome (λ _. Unit {0}) (n.state 0) → IsSomeAnd last (λ sight. sight.ending ≡ true) → n.ending ≡ true
+  pub saw : IsRunning (n.state 0) → SawEnding last → n.ending ≡ true
   pub merged : (page : ℕ) → n.unmerged 0 page ≡ 0
   pub started : start ≤ n.count 0
   pub small : start ≤ 10 ^ 18

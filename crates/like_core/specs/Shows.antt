@@ -16,7 +16,8 @@ use Rattle.like_core.specs.Table.{Permits, IsShown}
 use Rattle.like_core.specs.State.{CoreState, labelled, after, numbers}
 use Rattle.like_core.specs.Reachable.{Reachable, after_all, PermitsAll}
 use Rattle.like_core.specs.ShownWord.{shown_word}
-use Rattle.like_core.specs.Views.{ViewRuns, ViewSawEnding, added_in, seats_of}
+use Rattle.like_core.specs.WorkerState.{IsRunning, SawEnding}
+use Rattle.like_core.specs.Views.{added_in, seats_of}
 use Rattle.like_core.specs.Tallies.{Tallied}
 
 -- a opening that a board may have: there are 1 to 16 workers and at most 1,024 pages, each with a mark and a count of
@@ -35,7 +36,7 @@ pub record FitsWorker (z : Opening) (s : CoreState) (v : WorkerSeatView) : Type 
   pub there : v.worker < z.workers
   pub state : s.state v.worker ≡ v.state
   pub number : IfSome v.last (λ sight. sight.number ≤ s.phase)
-  pub ending : ViewRuns v → ViewSawEnding v → s.ending ≡ true
+  pub ending : IsRunning v.state → SawEnding v.last → s.ending ≡ true
   pub labels : (phase page : ℕ) → labelled v.worker phase (s.applied page) ≡ added_in phase page v.additions
 
 -- the coordinator's view of a state: its phase, and whether that is ending; who has no seat yet runs phase 0 and added

@@ -11,8 +11,9 @@ use Rattle.like_core.specs.declared.view.WorkerSeatView.{WorkerSeatView}
 use Rattle.like_core.specs.declared.view.CoordSeatView.{CoordSeatView}
 use Rattle.like_core.specs.declared.view.View.{View}
 use Rattle.like_core.specs.declared.view.View.TheVariants.{Coord, Worker, Spent}
-use Rattle.like_core.specs.Phase.{last_phase, IsJoined, IsSplit}
-use Rattle.like_core.specs.Post.{PostView, RunsSome, phase_of, seen, slices}
+use Rattle.like_core.specs.Phase.{last_phase}
+use Rattle.like_core.specs.WorkerState.{phase_of, seen}
+use Rattle.like_core.specs.Post.{PostView, slices}
 
 -- how many likes were added to a page
 abbrev pub added_to : ℕ → List Addition → ℕ
@@ -47,22 +48,6 @@ fresh_coord z word = record {
   gone = false;
   joined = [];
 }
-
--- the worker of the view runs a phase
-abbrev pub ViewRuns : WorkerSeatView → Type 0
-ViewRuns v = RunsSome (λ _. Unit {0}) v.state
-
--- it runs a joined phase
-abbrev pub ViewRunsJoined : WorkerSeatView → Type 0
-ViewRunsJoined v = RunsSome IsJoined v.state
-
--- it runs a split phase
-abbrev pub ViewRunsSplit : WorkerSeatView → Type 0
-ViewRunsSplit v = RunsSome IsSplit v.state
-
--- its last look showed that the end of the phase was announced
-abbrev pub ViewSawEnding : WorkerSeatView → Type 0
-ViewSawEnding v = IsSomeAnd v.last (λ sight. sight.ending ≡ true)
 
 -- a worker's view after a look
 abbrev pub looked_view : WorkerSeatView → Sight → WorkerSeatView

@@ -1,6 +1,8 @@
-use Rattle.std.specs.Prelude.{◌≡◌, ℕ, nat_lt, if◌then◌else◌}
+use Rattle.std.specs.Prelude.{◌≡◌, ℕ, ◌+◌, nat_lt, true, false, if◌then◌else◌, Option, IsSomeAnd, MatchBool}
 use Rattle.like_core.specs.declared.worker_state.WorkerState.{WorkerState}
 use Rattle.like_core.specs.declared.worker_state.WorkerState.TheVariants.{Runs, Answered, Gone}
+use Rattle.like_core.specs.declared.sight.Sight.{Sight}
+use Rattle.like_core.specs.Phase.{IsJoined, IsSplit}
 
 -- the worker has answered this phase, or is gone
 abbrev pub IsIn : ℕ → WorkerState → Type 0
@@ -13,3 +15,44 @@ abbrev pub looked : ℕ → WorkerState → WorkerState
 looked phase (Runs j) = Runs j
 looked phase (Answered j) = (if nat_lt j phase then Runs phase else Answered j)
 looked phase Gone = Gone
+
+-- the worker runs a phase of which P holds
+abbrev pub RunsSome : (ℕ → Type 0) → WorkerState → Type 0
+RunsSome P (Runs phase) = P phase
+RunsSome P (Answered phase) = ⊥
+RunsSome P Gone = ⊥
+
+-- the worker runs a phase
+abbrev pub IsRunning : WorkerState → Type 0
+IsRunning s = RunsSome (λ _. Unit {0}) s
+
+-- the worker runs a joined phase
+abbrev pub RunsJoined : WorkerState → Type 0
+RunsJoined s = RunsSome IsJoined s
+
+-- the worker runs a split phase
+abbrev pub RunsSplit : WorkerState → Type 0
+RunsSplit s = RunsSome IsSplit s
+
+-- the phase that the worker runs or has answered
+abbrev pub phase_of : WorkerState → ℕ
+phase_of (Runs phase) = phase
+phase_of (Answered phase) = phase
+phase_of Gone = 0
+
+-- what a worker in this state can see: one that runs a phase sees that phase; one that has answered a phase sees that
+-- phase and waits, or the next, and runs it
+abbrev pub IsSightOf : WorkerState → Sight → Type 0
+IsSightOf (Runs phase) sight = (sight.number ≡ phase) × (sight.waits ≡ false)
+IsSightOf (Answered phase) sight = MatchBool sight.waits (sight.number ≡ phase) (sight.number ≡ phase + 1)
+IsSightOf Gone sight = ⊥
+
+-- the worker's state after a sight
+abbrev pub seen : WorkerState → Sight → WorkerState
+seen (Runs phase) sight = Runs phase
+seen (Answered phase) sight = (if sight.waits then Answered phase else Runs (phase + 1))
+seen Gone sight = Gone
+
+-- there was a look, and the last showed that the end of the phase was announced
+abbrev pub SawEnding : Option Sight → Type 0
+SawEnding last = IsSomeAnd last (λ sight. sight.ending ≡ true)

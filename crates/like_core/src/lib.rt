@@ -8,13 +8,13 @@
 mod event;
 mod kind;
 pub mod laws;
+mod opening;
 mod page_numbers;
 mod phase_word;
 mod post;
 mod pure_core;
 mod refusal;
 mod sequence;
-mod opening;
 mod shown;
 mod sight;
 #[cfg(test)]
@@ -26,12 +26,12 @@ mod worker_state;
 
 pub use event::Event;
 pub use kind::Kind;
+pub use opening::Opening;
 pub use phase_word::{LAST_PHASE, PhaseWord};
 pub use post::Post;
 pub use pure_core::Core;
 pub use refusal::{NotNow, Wrong};
 pub use sequence::check_events;
-pub use opening::Opening;
 pub use shown::Shown;
 pub use sight::{CoordSight, Sight};
 pub use view::{Addition, CoordSeatView, PageRead, View, WorkerSeatView};

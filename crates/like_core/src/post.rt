@@ -1,6 +1,7 @@
 ghost use Rattle.std.specs.Prelude.{◌≡◌, ◌≢◌, ◌≤◌, true};
 ghost use Rattle.like_core.specs.declared.worker_state.WorkerState.TheVariants.{Gone};
-ghost use Rattle.like_core.specs.Post.{PostView, IsRunning, RunsJoined, RunsSplit, SawEnding, IsSightOf, looked_at, answered, retired, added, additions_of, MayAdd, MayRead};
+ghost use Rattle.like_core.specs.WorkerState.{IsRunning, RunsJoined, RunsSplit, SawEnding, IsSightOf};
+ghost use Rattle.like_core.specs.Post.{PostView, looked_at, answered, retired, added, additions_of, MayAdd, MayRead};
 
 use crate::sight::Sight;
 
@@ -17,24 +18,24 @@ pub trait Post {
         requires { (view self.old).state ≢ Gone }
         ensures sight { IsSightOf (view self.old).state result }
         ensures view { view self.new ≡ looked_at (view self.old) result }
-        ensures ending { IsRunning (view self.old) → SawEnding (view self.old) → result.ending ≡ true };
+        ensures ending { IsRunning (view self.old).state → SawEnding (view self.old).last → result.ending ≡ true };
 
     /// Stops at the end of a joined phase, and waits for the release of the next.
     fn acknowledge(&mut self)
-        requires runs { RunsJoined (view self.old) }
-        requires ending { SawEnding (view self.old) }
+        requires runs { RunsJoined (view self.old).state }
+        requires ending { SawEnding (view self.old).last }
         ensures { view self.new ≡ answered (view self.old) };
 
     /// Stops at the end of a split phase, and waits for the release of the next. That the worker's slices are merged by
     /// then is kept by the worker.
     fn report(&mut self)
-        requires runs { RunsSplit (view self.old) }
-        requires ending { SawEnding (view self.old) }
+        requires runs { RunsSplit (view self.old).state }
+        requires ending { SawEnding (view self.old).last }
         ensures { view self.new ≡ answered (view self.old) };
 
     /// Ends the worker's part, in a joined phase. No call may follow.
     fn retire(&mut self)
-        requires { RunsJoined (view self.old) }
+        requires { RunsJoined (view self.old).state }
         ensures { view self.new ≡ retired (view self.old) };
 
     /// Adds to a page's count, and returns the count before: a like of a page that is not sliced, or the merge of a

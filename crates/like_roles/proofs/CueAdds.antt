@@ -10,7 +10,8 @@ use Rattle.like_core.specs.Functions.{update, sum_below}
 use Rattle.like_core.specs.Phase.{split}
 use Rattle.like_core.specs.Numbers.{Numbers, with_unmerged, with_count, sliced, total}
 use Rattle.like_core.specs.Table.{Permits, next}
-use Rattle.like_core.specs.Post.{MayAdd, MayRead, IsRunning, phase_of, slices, added, additions_of, pages_of}
+use Rattle.like_core.specs.WorkerState.{IsRunning, phase_of}
+use Rattle.like_core.specs.Post.{MayAdd, MayRead, slices, added, additions_of, pages_of}
 use Rattle.like_core.proofs.KeptWrites.{total-with_unmerged}
 use Rattle.like_core.proofs.LoneSteps.{runs_present}
 use Rattle.like_core.proofs.Updates.{update_cases, update-same, update-other}
@@ -31,7 +32,7 @@ additions_are n initial last page there =
     get_or-map-range_with_len (λ q. n.count q - get_or initial q 0) 0 n.pages page page 0 there (omega arith)
 
 -- the post's slices are the core's
-slices_are : (n : Numbers) (initial : List ℕ) (last : Option Sight) (page : ℕ) → IsCued n initial last → IsRunning (cue_view n initial last) → page < n.pages → slices (cue_view n initial last) page ≡ sliced n page
+slices_are : (n : Numbers) (initial : List ℕ) (last : Option Sight) (page : ℕ) → IsCued n initial last → IsRunning (cue_view n initial last).state → page < n.pages → slices (cue_view n initial last) page ≡ sliced n page
 slices_are n initial last page c runs there =
     let phase : phase_of (n.state 0) ≡ n.phase = ap phase_of (runs_present (λ _. Unit {0}) (without_pages n) 0 last c.lone runs).0 in
     let marked = get_or-map-range_with_len n.marked 0 n.pages page page false there (omega arith) in

@@ -6,7 +6,8 @@ use Rattle.like_core.specs.declared.sight.Sight.{Sight}
 use Rattle.like_core.specs.declared.worker_state.WorkerState.TheVariants.{Answered, Gone}
 use Rattle.like_core.specs.Core.{numbers_of}
 use Rattle.like_core.specs.Numbers.{Numbers, Sees, with_state}
-use Rattle.like_core.specs.Post.{IsRunning, IsSightOf, PostView, RunsSome, SawEnding, answered, looked_at, phase_of}
+use Rattle.like_core.specs.WorkerState.{IsRunning, IsSightOf, RunsSome, SawEnding, phase_of}
+use Rattle.like_core.specs.Post.{PostView, answered, looked_at}
 use Rattle.like_core.specs.Table.{Permits, next}
 use Rattle.like_core.proofs.LoneLooks.{looks_well}
 use Rattle.like_core.proofs.LoneSteps.{lone_announced, lone_answered, lone_released, lone_retired, runs_present}
@@ -62,7 +63,7 @@ cued_may_release old new initial last c happened =
 pub record CueLooks (n : Numbers) (initial : List ℕ) (last : Option Sight) (sight : Sight) : Type 0 where
   pub shows : IsSightOf (n.state 0) sight
   pub view : cue_view (next n (Look 0)) initial (Some sight) ≡ looked_at (cue_view n initial last) sight
-  pub still : IsRunning (cue_view n initial last) → SawEnding (cue_view n initial last) → sight.ending ≡ true
+  pub still : IsRunning (cue_view n initial last).state → SawEnding (cue_view n initial last).last → sight.ending ≡ true
   pub cued : IsCued (next n (Look 0)) initial (Some sight)
 
 pub cue_looks : (n : Numbers) (initial : List ℕ) (last : Option Sight) (sight : Sight) → IsCued n initial last → n.state 0 ≢ Gone → Sees n 0 sight → CueLooks n initial last sight

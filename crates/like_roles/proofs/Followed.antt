@@ -13,7 +13,8 @@ use Rattle.like_core.specs.declared.sight.Sight.{Sight}
 use Rattle.like_core.specs.declared.worker_state.WorkerState.{WorkerState}
 use Rattle.like_core.specs.declared.worker_state.WorkerState.TheVariants as state
 use Rattle.like_core.specs.Phase.{IsJoined, IsSplit, split}
-use Rattle.like_core.specs.Post.{IsRunning, RunsJoined, RunsSome, additions_of, answered, pages_of, phase_of, seen}
+use Rattle.like_core.specs.WorkerState.{IsRunning, RunsJoined, RunsSome, phase_of, seen}
+use Rattle.like_core.specs.Post.{additions_of, answered, pages_of}
 use Rattle.like_tables.specs.declared.held.Held.{Held}
 use Rattle.like_roles.specs.declared.log.Took.{Took}
 use Rattle.like_roles.specs.declared.turn.Turn.{Turn}
@@ -30,8 +31,8 @@ use Rattle.like_roles.proofs.InBlocks.{before-next, blocks-of_running, order-of_
 use Rattle.like_roles.proofs.Tallied.{GivesReply-tallied}
 
 -- a worker that runs a phase and is in its blocks follows the plans
-follows-running : (service : Service) (v : WorkerView) → IsRunning v.post → IsServed service v → IsSized v → IsTallied service v → All (IsAsked service) v.held.held
-    → IsInBlocks service v (phase_at v) → ((place : ℕ) → v.pending ≡ Some place → RunsJoined v.post → v.held.held ≡ []) → Follows service v
+follows-running : (service : Service) (v : WorkerView) → IsRunning v.post.state → IsServed service v → IsSized v → IsTallied service v → All (IsAsked service) v.held.held
+    → IsInBlocks service v (phase_at v) → ((place : ℕ) → v.pending ≡ Some place → RunsJoined v.post.state → v.held.held ≡ []) → Follows service v
 follows-running service v run served sized t held b trying = record {
   served = served;
   sized = sized;
@@ -43,7 +44,7 @@ follows-running service v run served sized t held b trying = record {
 }
 
 -- what a run does to a worker that follows the plans, where the blocks after it are known
-follows-run : (service : Service) (v after : WorkerView) (h : Held) (stashed : Bool) → Runs v h stashed after → IsRunning v.post → v.pending ≡ None → IsServed service v → IsSized v → IsTallied service v
+follows-run : (service : Service) (v after : WorkerView) (h : Held) (stashed : Bool) → Runs v h stashed after → IsRunning v.post.state → v.pending ≡ None → IsServed service v → IsSized v → IsTallied service v
     → IsAsked service h → All (IsAsked service) v.held.held → ((e : HasRun v h stashed after) → IsInBlocks service (record v { ran = after.ran }) (phase_at v)) → Follows service after
 follows-run service v after h stashed run here none served sized t asked held blocks =
     let e = Runs-effects v h stashed after run in
@@ -55,7 +56,7 @@ follows-run service v after h stashed run here none served sized t asked held bl
       done.2,
     ) in
     let b = blocks e in
-    let runs : IsRunning after.post = subst (λ s. RunsSome (λ _. Unit {0}) s) (sym e.state) here in
+    let runs : IsRunning after.post.state = subst (λ s. RunsSome (λ _. Unit {0}) s) (sym e.state) here in
     let phase : phase_at v ≡ phase_at after = ap phase_of (sym e.state) in
     let b' : IsInBlocks service after (phase_at v) = record {
       within = subst (λ xs. All (λ t. t.phase ≤ phase_at v) xs) (sym e.taken) b.within;
@@ -126,7 +127,7 @@ follows-saw service v sight f here none = record {
 }
 
 -- the first of what is held runs in a joined phase
-follows-held : (service : Service) (v : WorkerView) (first : Held) (rest : List Held) (after : WorkerView) → v.pending ≡ None → Follows service v → RunsJoined v.post → v.held.held ≡ first ∷ rest
+follows-held : (service : Service) (v : WorkerView) (first : Held) (rest : List Held) (after : WorkerView) → v.pending ≡ None → Follows service v → RunsJoined v.post.state → v.held.held ≡ first ∷ rest
     → Runs (without_first v rest) first true after → Follows service after
 follows-held service v first rest after none f j e run =
     let b = blocks-of_running service v IsJoined v.post.state j f.stands in
@@ -166,7 +167,7 @@ merged-likes v s page =
     ]
 
 -- a submitter is tried
-follows-trying : (service : Service) (v : WorkerView) (place : ℕ) → Follows service v → IsRunning v.post → (RunsJoined v.post → v.held.held ≡ []) → Follows service (trying v place)
+follows-trying : (service : Service) (v : WorkerView) (place : ℕ) → Follows service v → IsRunning v.post.state → (RunsJoined v.post.state → v.held.held ≡ []) → Follows service (trying v place)
 follows-trying service v place f run empty =
     let b = blocks-of_running service v (λ _. Unit {0}) v.post.state run f.stands in
     follows-running service (trying v place) run
@@ -262,8 +263,8 @@ waits-alike service v submitter r s =
     ∙ ap (λ xs. is_look_at_sliced v.last.share.users v.last.share.submitters (λ page. split (λ p. get_or xs p false) (phase_at v) page) submitter r) s.marks_alike
 
 -- a request that is taken from the submitter at a place
-follows-takes : (service : Service) (v : WorkerView) (place : ℕ) (ask : Numbered) (answer : Turn) (after : WorkerView) → v.pending ≡ None → Follows service v → IsRunning v.post
-    → (RunsJoined v.post → v.held.held ≡ []) → request_at service (submitter_at v place) ask.number ≡ Some ask.request → IsThere (length (marks service)) ask.request.page
+follows-takes : (service : Service) (v : WorkerView) (place : ℕ) (ask : Numbered) (answer : Turn) (after : WorkerView) → v.pending ≡ None → Follows service v → IsRunning v.post.state
+    → (RunsJoined v.post.state → v.held.held ≡ []) → request_at service (submitter_at v place) ask.number ≡ Some ask.request → IsThere (length (marks service)) ask.request.page
     → TakesAsk v place ask answer after → Follows service after
 follows-takes service v place ask answer after none f run empty asked there (turns.stashes w a x) =
     let b = blocks-of_running service v (λ _. Unit {0}) v.post.state run f.stands in

@@ -13,7 +13,8 @@ use Rattle.like_requests.specs.declared.request.Numbered.{Numbered}
 use Rattle.like_requests.specs.declared.request.PageRef.{PageRef}
 use Rattle.like_requests.specs.declared.request.Request.{Request}
 use Rattle.like_core.specs.Phase.{split}
-use Rattle.like_core.specs.Post.{PostView, IsRunning, phase_of}
+use Rattle.like_core.specs.WorkerState.{IsRunning, phase_of}
+use Rattle.like_core.specs.Post.{PostView}
 use Rattle.like_tables.specs.Waiting.{Waiting}
 use Rattle.like_tables.specs.declared.held.Held.{Held}
 use Rattle.like_roles.specs.declared.desk.Desk.{Desk}
@@ -81,7 +82,7 @@ IsSound-push post d h pushed s room fits own n e =
     })
 
 -- the desk's numbers say whether a request has to wait
-pub has_to_wait-is : (post : PostView) (d : Desk) (submitter : ℕ) (r : Request) → IsPlaced post d → IsRunning post
+pub has_to_wait-is : (post : PostView) (d : Desk) (submitter : ℕ) (r : Request) → IsPlaced post d → IsRunning post.state
     → has_to_wait (view_of post d) submitter r ≡ is_look_at_sliced d.users d.submitters (λ page. split (λ p. get_or d.marks.items p false) d.phase page) submitter r
 has_to_wait-is post d submitter r p run =
     let phase = running_phase (λ _. Unit {0}) post.state d.phase d.gone p.standing run in
@@ -148,7 +149,7 @@ IsOwn-taken post d n place submitter ask p rest s there =
 
 -- and may be answered now, where it need not wait
 pub CanServe-taken : (post : PostView) (d n : Desk) (place submitter : ℕ) (r : Request) → IsPlaced post d → n ≡ record d { left = n.left; taken = n.taken }
-    → submitter ≡ d.worker + d.workers * place → IsThere (length post.marks) r.page → IsRunning post
+    → submitter ≡ d.worker + d.workers * place → IsThere (length post.marks) r.page → IsRunning post.state
     → is_look_at_sliced d.users d.submitters (λ page. split (λ p. get_or d.marks.items p false) d.phase page) submitter r ≡ false → CanServe post n submitter r
 CanServe-taken post d n place submitter r p rest s there run prompt =
     subst (λ x. CanServe post x submitter r) (sym rest)

@@ -4,7 +4,7 @@ use Rattle.std.proofs.lemmas.List.Elements.{All-head, All-tail}
 use Rattle.std.specs.List.{All, AllByRecursion}
 use Rattle.like_core.specs.declared.worker_state.WorkerState.{WorkerState}
 use Rattle.like_core.specs.declared.worker_state.WorkerState.TheVariants as state
-use Rattle.like_core.specs.Post.{RunsSome, phase_of}
+use Rattle.like_core.specs.WorkerState.{RunsSome, phase_of}
 use Rattle.like_roles.specs.declared.log.Took.{Took}
 use Rattle.like_roles.specs.Follows.{IsInBlocks, IsInOrder, Stands, entry_held, next_joined}
 use Rattle.like_roles.specs.Order.{block, entry_of, order, order_below}

@@ -4,7 +4,8 @@ use Rattle.like_requests.specs.Verdict.{verdict_of}
 use Rattle.like_requests.specs.declared.request.Request.{Request}
 use Rattle.like_core.specs.declared.worker_state.WorkerState.{WorkerState}
 use Rattle.like_core.specs.declared.worker_state.WorkerState.TheVariants as state
-use Rattle.like_core.specs.Post.{PostView, RunsSome, added, phase_of, slices}
+use Rattle.like_core.specs.WorkerState.{RunsSome, phase_of}
+use Rattle.like_core.specs.Post.{PostView, added, slices}
 use Rattle.like_roles.specs.declared.desk.Desk.{Desk}
 use Rattle.like_roles.specs.declared.reply.Reply.{Reply}
 use Rattle.like_roles.specs.Desk.{IsPlaced, IsStanding, view_of}

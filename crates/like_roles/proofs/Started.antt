@@ -5,7 +5,8 @@ use Rattle.std.proofs.lemmas.List.{get_or_past, get_or-replicate, length-map, le
 use Rattle.like_requests.specs.declared.setup.Setup.{Setup}
 use Rattle.like_core.specs.declared.worker_state.WorkerState.{WorkerState}
 use Rattle.like_core.specs.declared.worker_state.WorkerState.TheVariants as state
-use Rattle.like_core.specs.Post.{PostView, RunsSplit, pages_of}
+use Rattle.like_core.specs.WorkerState.{RunsSplit}
+use Rattle.like_core.specs.Post.{PostView, pages_of}
 use Rattle.like_tables.specs.UserTable.{last_of}
 use Rattle.like_roles.specs.declared.turn.Turn.{Turn}
 use Rattle.like_roles.specs.declared.turn.Turn.TheVariants as turn
@@ -72,7 +73,7 @@ empty-gone v gone s page =
       | inl none ↦ none
       | inr some ↦ absurd (no_split v.post.state gone (s page some).0)
     ] where
-      no_split : (x : WorkerState) → x ≡ state.Gone → RunsSplit (record v.post { state = x }) → ⊥
+      no_split : (x : WorkerState) → x ≡ state.Gone → RunsSplit x → ⊥
       no_split (state.Runs k) e r = cc e
       no_split (state.Answered k) e r = r
       no_split state.Gone e r = r

@@ -5,7 +5,8 @@ use Rattle.like_requests.specs.Limits.{max_pages}
 use Rattle.like_core.specs.declared.worker_state.WorkerState.{WorkerState}
 use Rattle.like_core.specs.declared.worker_state.WorkerState.TheVariants.{Runs, Answered, Gone}
 use Rattle.like_core.specs.Phase.{IsJoined, IsSplit}
-use Rattle.like_core.specs.Post.{PostView, IsRunning}
+use Rattle.like_core.specs.WorkerState.{IsRunning}
+use Rattle.like_core.specs.Post.{PostView}
 use Rattle.like_tables.specs.Waiting.{IsWaiting}
 use Rattle.like_tables.specs.declared.held.Held.{Held}
 use Rattle.like_roles.specs.declared.desk.Desk.{Desk}
@@ -45,7 +46,7 @@ pub record IsOwn (d : Desk) (h : Held) : Type 0 where
 -- the submitter at a place is tried: it has not ended, and there is room for a look that waits
 pub record IsTried (post : PostView) (d : Desk) (place : ℕ) : Type 0 where
   pub there : place < vec_len d.ended
-  pub running : IsRunning post
+  pub running : IsRunning post.state
   pub joined : IsJoined d.phase → d.held.held ≡ []
   pub split : IsSplit d.phase → length d.held.held < d.held.capacity
 
@@ -93,7 +94,7 @@ pub record IsSound (post : PostView) (d : Desk) : Type 0 where
 
 -- a request of the worker that may be answered now
 pub record CanServe (post : PostView) (d : Desk) (submitter : ℕ) (r : Request) : Type 0 where
-  pub running : IsRunning post
+  pub running : IsRunning post.state
   pub served : worker_of d.workers submitter ≡ d.worker
   pub there : IsThere (vec_len d.marks) r.page
   pub prompt : has_to_wait (view_of post d) submitter r ≡ false

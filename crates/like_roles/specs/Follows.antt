@@ -6,7 +6,8 @@ use Rattle.like_requests.specs.declared.request.Taken.TheVariants as taken
 use Rattle.like_core.specs.declared.worker_state.WorkerState.{WorkerState}
 use Rattle.like_core.specs.declared.worker_state.WorkerState.TheVariants.{Runs, Answered, Gone}
 use Rattle.like_core.specs.Phase.{IsJoined, IsSplit}
-use Rattle.like_core.specs.Post.{IsRunning, RunsJoined, additions_of, pages_of}
+use Rattle.like_core.specs.WorkerState.{IsRunning, RunsJoined}
+use Rattle.like_core.specs.Post.{additions_of, pages_of}
 use Rattle.like_tables.specs.UserTable.{last_of}
 use Rattle.like_tables.specs.declared.held.Held.{Held}
 use Rattle.like_roles.specs.Likes.{last_like, likes_among}
@@ -74,7 +75,7 @@ pub record Follows (service : Service) (v : WorkerView) : Type 0 where
   pub in_order : IsInOrder service v
   pub held : All (IsAsked service) v.held.held
   pub stands : Stands service v v.post.state
-  pub trying : (place : ℕ) → v.pending ≡ Some place → IsRunning v.post × (RunsJoined v.post → v.held.held ≡ [])
+  pub trying : (place : ℕ) → v.pending ≡ Some place → IsRunning v.post.state × (RunsJoined v.post.state → v.held.held ≡ [])
 
 -- what is given is asked by the plan of the submitter that is tried
 abbrev pub IsAskedBy : Service → WorkerView → Taken → Type 0

@@ -6,7 +6,8 @@ use Rattle.like_requests.specs.declared.request.Taken.{Taken}
 use Rattle.like_requests.specs.declared.request.Taken.TheVariants as taken
 use Rattle.like_core.specs.declared.sight.Sight.{Sight}
 use Rattle.like_core.specs.declared.worker_state.WorkerState.TheVariants.{Gone}
-use Rattle.like_core.specs.Post.{IsSightOf, RunsJoined, RunsSplit, looked_at, answered, retired, pages_of, additions_of}
+use Rattle.like_core.specs.WorkerState.{IsSightOf, RunsJoined, RunsSplit}
+use Rattle.like_core.specs.Post.{looked_at, answered, retired, pages_of, additions_of}
 use Rattle.like_tables.specs.declared.held.Held.{Held}
 use Rattle.like_roles.specs.declared.turn.Turn.{Turn}
 use Rattle.like_roles.specs.declared.turn.Turn.TheVariants as turn
@@ -45,19 +46,19 @@ IsStuck v = HasEnded v ⊎ (length v.held.held ≡ v.held.capacity)
 
 -- what a worker does that has looked and runs a phase: the answer, and the worker after
 pub data Works (v : WorkerView) (ending : Bool) (answer : Turn) (after : WorkerView) : Type 0 where
-  runs_held : (first : Held) (rest : List Held) → RunsJoined v.post → v.held.held ≡ first ∷ rest
+  runs_held : (first : Held) (rest : List Held) → RunsJoined v.post.state → v.held.held ≡ first ∷ rest
       → answer ≡ turn.Ran → Runs (without_first v rest) first true after → Works v ending answer after
-  retires : RunsJoined v.post → v.held.held ≡ [] → HasEnded v
+  retires : RunsJoined v.post.state → v.held.held ≡ [] → HasEnded v
       → answer ≡ turn.Retired → after ≡ record v { post = retired v.post } → Works v ending answer after
-  acknowledges : RunsJoined v.post → v.held.held ≡ [] → ¬ HasEnded v → ending ≡ true
+  acknowledges : RunsJoined v.post.state → v.held.held ≡ [] → ¬ HasEnded v → ending ≡ true
       → answer ≡ turn.Acknowledged → after ≡ record v { post = answered v.post } → Works v ending answer after
-  tries_joined : (place : ℕ) → RunsJoined v.post → v.held.held ≡ [] → IsNextPlace v.ended v.cursor place → ending ≡ false
+  tries_joined : (place : ℕ) → RunsJoined v.post.state → v.held.held ≡ [] → IsNextPlace v.ended v.cursor place → ending ≡ false
       → answer ≡ turn.Try (submitter_at v place) → after ≡ trying v place → Works v ending answer after
-  reports : RunsSplit v.post → ending ≡ true
+  reports : RunsSplit v.post.state → ending ≡ true
       → answer ≡ turn.Reported → after ≡ record (merged v) { post = answered (merged v).post } → Works v ending answer after
-  idles : RunsSplit v.post → ending ≡ false → IsStuck v
+  idles : RunsSplit v.post.state → ending ≡ false → IsStuck v
       → answer ≡ turn.Idle → after ≡ v → Works v ending answer after
-  tries_split : (place : ℕ) → RunsSplit v.post → ending ≡ false → length v.held.held ≢ v.held.capacity → IsNextPlace v.ended v.cursor place
+  tries_split : (place : ℕ) → RunsSplit v.post.state → ending ≡ false → length v.held.held ≢ v.held.capacity → IsNextPlace v.ended v.cursor place
       → answer ≡ turn.Try (submitter_at v place) → after ≡ trying v place → Works v ending answer after
 
 -- turn case: what a turn does, its answer, and the worker after

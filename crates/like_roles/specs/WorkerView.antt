@@ -3,7 +3,8 @@ use Rattle.std.specs.Prelude.{◌≡◌, ◌≢◌, ℕ, ◌+◌, ◌-◌, ◌*�
 use Rattle.like_requests.specs.declared.request.PageRef.{PageRef}
 use Rattle.like_requests.specs.declared.request.PageRef.TheVariants.{Known, Unknown}
 use Rattle.like_requests.specs.declared.request.Request.{Request}
-use Rattle.like_core.specs.Post.{PostView, RunsSplit, is_marked, phase_of, slices}
+use Rattle.like_core.specs.WorkerState.{RunsSplit, phase_of}
+use Rattle.like_core.specs.Post.{PostView, is_marked, slices}
 use Rattle.like_tables.specs.UserTable.{UserTable}
 use Rattle.like_tables.specs.Waiting.{Waiting}
 use Rattle.like_roles.specs.declared.log.Ran.{Ran}
@@ -60,4 +61,4 @@ IsThere pages Unknown = ⊤
 
 -- a slice that is not empty belongs to a worker that runs a split phase, and has pages that are marked as split alone
 abbrev pub IsSliceInSplit : PostView → List ℕ → Type 0
-IsSliceInSplit post slice = (page : ℕ) → slice_index slice page ≢ 0 → RunsSplit post × (is_marked post page ≡ true)
+IsSliceInSplit post slice = (page : ℕ) → slice_index slice page ≢ 0 → RunsSplit post.state × (is_marked post page ≡ true)

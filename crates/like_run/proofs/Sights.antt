@@ -11,7 +11,8 @@ use Rattle.like_core.specs.declared.sight.Sight.{Sight}
 use Rattle.like_core.specs.declared.worker_state.WorkerState.{WorkerState}
 use Rattle.like_core.specs.declared.worker_state.WorkerState.TheVariants as state
 use Rattle.like_core.specs.Phase.{IsJoined, IsSplit}
-use Rattle.like_core.specs.Post.{IsSightOf, RunsSome, added, phase_of, seen, slices}
+use Rattle.like_core.specs.WorkerState.{IsSightOf, RunsSome, phase_of, seen}
+use Rattle.like_core.specs.Post.{added, slices}
 use Rattle.like_tables.specs.declared.held.Held.{Held}
 use Rattle.like_roles.specs.declared.log.Took.{Took}
 use Rattle.like_roles.specs.declared.reply.Reply.{Reply}

@@ -1,6 +1,6 @@
 ghost use Rattle.std.specs.Prelude.{◌≡◌, ◌<◌, ◌≤◌, false, IsTrue, slice_index_or, length};
 ghost use Rattle.like_core.specs.Phase.{split};
-ghost use Rattle.like_core.specs.Post.{IsRunning};
+ghost use Rattle.like_core.specs.WorkerState.{IsRunning};
 ghost use Rattle.like_tables.specs.Share.{owns};
 ghost use Rattle.like_roles.specs.Desk.{view_of, CanServe, HasRoomForOne, HasRoomToNote, IsSound};
 ghost use Rattle.like_roles.specs.Order.{is_look_at_sliced};
@@ -37,7 +37,7 @@ impl Desk {
     fn like<P: Post>(&mut self, post: &mut P, user: u32, page: u32)
         requires sound { IsSound (P.view post.old) self.old }
         requires room { HasRoomForOne (P.view post.old) self.old }
-        requires running { IsRunning (P.view post.old) }
+        requires running { IsRunning (P.view post.old).state }
         requires there { page < length self.old.marks.items }
         requires owned { IsTrue (owns self.old.last.share user) }
         ensures sound { IsSound (P.view post.new) self.new }

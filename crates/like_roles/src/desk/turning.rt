@@ -1,6 +1,6 @@
 ghost use Rattle.std.specs.Prelude.{◌≡◌, ◌≢◌, ◌<◌, ◌+◌, ◌*◌, ◌%◌, true, length, None, Some};
 ghost use Rattle.like_core.specs.declared.worker_state.WorkerState.TheVariants.{Gone};
-ghost use Rattle.like_core.specs.Post.{IsSightOf, RunsJoined, RunsSplit, SawEnding};
+ghost use Rattle.like_core.specs.WorkerState.{IsSightOf, RunsJoined, RunsSplit, SawEnding};
 ghost use Rattle.like_roles.specs.Desk.{view_of, ArePlaces, IsSound};
 ghost use Rattle.like_roles.specs.Turns.{Turns, Works, saw};
 
@@ -55,8 +55,8 @@ impl Desk {
     fn joined_turn<P: Post, G: Gate>(&mut self, post: &mut P, gate: &G, ending: bool) -> Turn
         requires sound { IsSound (P.view post.old) self.old }
         requires settled { self.old.pending ≡ None }
-        requires joined { RunsJoined (P.view post.old) }
-        requires ending { ending ≡ true → SawEnding (P.view post.old) }
+        requires joined { RunsJoined (P.view post.old).state }
+        requires ending { ending ≡ true → SawEnding (P.view post.old).last }
         ensures sound { IsSound (P.view post.new) self.new }
         ensures works { Works (view_of (P.view post.old) self.old) ending result (view_of (P.view post.new) self.new) }
     {
@@ -80,8 +80,8 @@ impl Desk {
     fn split_turn<P: Post>(&mut self, post: &mut P, ending: bool) -> Turn
         requires sound { IsSound (P.view post.old) self.old }
         requires settled { self.old.pending ≡ None }
-        requires split { RunsSplit (P.view post.old) }
-        requires ending { ending ≡ true → SawEnding (P.view post.old) }
+        requires split { RunsSplit (P.view post.old).state }
+        requires ending { ending ≡ true → SawEnding (P.view post.old).last }
         ensures sound { IsSound (P.view post.new) self.new }
         ensures works { Works (view_of (P.view post.old) self.old) ending result (view_of (P.view post.new) self.new) }
     {

@@ -3,7 +3,8 @@ ghost use Rattle.like_requests.specs.Pages.{ArePages};
 ghost use Rattle.like_core.specs.declared.worker_state.WorkerState.TheVariants.{Gone};
 ghost use Rattle.like_core.specs.Table.{Permits, IsShown, next};
 ghost use Rattle.like_core.specs.Core.{numbers_of};
-ghost use Rattle.like_core.specs.Post.{IsRunning, SawEnding, IsSightOf, looked_at};
+ghost use Rattle.like_core.specs.WorkerState.{IsRunning, SawEnding, IsSightOf};
+ghost use Rattle.like_core.specs.Post.{looked_at};
 ghost use Rattle.like_roles.specs.Cue.{IsCued, Likes, cue_view, merged_likes};
 ghost use Rattle.like_roles.specs.New.{IsPostOf};
 ghost use Rattle.like_requests.specs.Pages.{marks_of};
@@ -106,7 +107,7 @@ impl Cue {
         requires { (cue_view (numbers_of self.old.core) self.old.initial.items self.old.last).state ≢ Gone }
         ensures sight { IsSightOf (cue_view (numbers_of self.old.core) self.old.initial.items self.old.last).state result }
         ensures view { cue_view (numbers_of self.new.core) self.new.initial.items self.new.last ≡ looked_at (cue_view (numbers_of self.old.core) self.old.initial.items self.old.last) result }
-        ensures ending { IsRunning (cue_view (numbers_of self.old.core) self.old.initial.items self.old.last) → SawEnding (cue_view (numbers_of self.old.core) self.old.initial.items self.old.last) → result.ending ≡ true }
+        ensures ending { IsRunning (cue_view (numbers_of self.old.core) self.old.initial.items self.old.last).state → SawEnding (cue_view (numbers_of self.old.core) self.old.initial.items self.old.last).last → result.ending ≡ true }
     {
         match make(&mut self.core, Event::Look(0)) {
             Shown::Seen(sight) => {

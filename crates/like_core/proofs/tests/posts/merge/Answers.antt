@@ -1,6 +1,7 @@
 use Rattle.std.proofs.Common.{subst, sym, ap}
 use Rattle.like_core.specs.declared.worker_state.WorkerState.{WorkerState}
-use Rattle.like_core.specs.Post.{PostView, MayAdd, looked_at, seen}
+use Rattle.like_core.specs.WorkerState.{seen}
+use Rattle.like_core.specs.Post.{PostView, MayAdd, looked_at}
 use Rattle.like_core.proofs.LoneAdds.{may_merge, not_false}
 use Rattle.like_core.proofs.tests.posts.merge.Goals as goal
 
