@@ -7,9 +7,9 @@ use Rattle.like_core.specs.Post.{added, slices}
 use Rattle.like_tables.specs.declared.held.Held.{Held}
 use Rattle.like_roles.specs.declared.reply.Reply.{Reply}
 use Rattle.like_roles.specs.declared.turn.Turn.{Turn}
-use Rattle.like_roles.specs.Serve.{Runs, Serves, refuses, likes, looks, liked}
+use Rattle.like_roles.specs.Serve.{Runs, GivesReply, refuses, likes, looks, liked}
 use Rattle.like_roles.specs.Turns as turns
-use Rattle.like_roles.specs.Turns.{Gives, Takes, Turns, Works, saw, settled, with_taken, without_first}
+use Rattle.like_roles.specs.Turns.{Gives, TakesAsk, Turns, Works, saw, settled, with_taken, without_first}
 use Rattle.like_roles.specs.WorkerView.{WorkerView}
 
 -- whose post it is, and at which board
@@ -22,7 +22,7 @@ liked-whose v user page = by_test (slices v.post page) where
   by_test true = refl
   by_test false = refl
 
-serves-whose : (v : WorkerView) (submitter : ℕ) (r : Request) (reply : Reply) (w : WorkerView) → Serves v submitter r reply w → whose w ≡ whose v
+serves-whose : (v : WorkerView) (submitter : ℕ) (r : Request) (reply : Reply) (w : WorkerView) → GivesReply v submitter r reply w → whose w ≡ whose v
 serves-whose v submitter r reply w (refuses n a e) = ap whose e
 serves-whose v submitter r reply w (likes page a o p l e) = ap whose e ∙ liked-whose v r.user page
 serves-whose v submitter r reply w (looks page count a o p s n e) = ap whose e
@@ -44,7 +44,7 @@ turns-whose v answer after (turns.is_gone gone a x) = ap whose x
 turns-whose v answer after (turns.waits sight here i w a x) = ap whose x
 turns-whose v answer after (turns.works sight here i w x) = works-whose (saw v sight) sight.ending answer after x
 
-takes-whose : (v : WorkerView) (place : ℕ) (ask : Numbered) (answer : Turn) (after : WorkerView) → Takes v place ask answer after → whose after ≡ whose v
+takes-whose : (v : WorkerView) (place : ℕ) (ask : Numbered) (answer : Turn) (after : WorkerView) → TakesAsk v place ask answer after → whose after ≡ whose v
 takes-whose v place ask answer after (turns.stashes w a x) = ap whose x
 takes-whose v place ask answer after (turns.runs w a run) = runs-whose (with_taken v place ask) (turns.held_from v place ask) false after run
 

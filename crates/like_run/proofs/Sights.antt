@@ -18,9 +18,9 @@ use Rattle.like_roles.specs.declared.log.Took.{Took}
 use Rattle.like_roles.specs.declared.reply.Reply.{Reply}
 use Rattle.like_roles.specs.declared.turn.Turn.{Turn}
 use Rattle.like_roles.specs.declared.turn.Turn.TheVariants as turn
-use Rattle.like_roles.specs.Serve.{Runs, Serves, refuses, likes, looks, liked}
+use Rattle.like_roles.specs.Serve.{Runs, GivesReply, refuses, likes, looks, liked}
 use Rattle.like_roles.specs.Turns as turns
-use Rattle.like_roles.specs.Turns.{Gives, Takes, Turns, Works, saw, settled, with_taken, without_first}
+use Rattle.like_roles.specs.Turns.{Gives, TakesAsk, Turns, Works, saw, settled, with_taken, without_first}
 use Rattle.like_roles.specs.WorkerView.{WorkerView, phase_at, submitter_at}
 use Rattle.like_roles.proofs.Effects.{Runs-effects}
 use Rattle.like_run.specs.Log.{IsRising, NoneAbove}
@@ -90,7 +90,7 @@ liked-last v user page = by_test (slices v.post page) where
   by_test true = refl
   by_test false = refl
 
-serves-last : (v : WorkerView) (submitter : ℕ) (r : Request) (reply : Reply) (w : WorkerView) → Serves v submitter r reply w → w.post.last ≡ v.post.last
+serves-last : (v : WorkerView) (submitter : ℕ) (r : Request) (reply : Reply) (w : WorkerView) → GivesReply v submitter r reply w → w.post.last ≡ v.post.last
 serves-last v submitter r reply w (refuses n a e) = ap (λ x. x.post.last) e
 serves-last v submitter r reply w (likes page a o p l e) = ap (λ x. x.post.last) e ∙ liked-last v r.user page
 serves-last v submitter r reply w (looks page count a o p s n e) = ap (λ x. x.post.last) e
@@ -161,7 +161,7 @@ pub taken-rising : (v : WorkerView) (place : ℕ) (ask : Numbered) → IsTrying 
 taken-rising v place ask t h rising =
     all_pairs_push (λ (s u : Took). s.phase ≤ u.phase) v.taken (record { phase = phase_at v; submitter = submitter_at v place; number = ask.number }) rising (earlier v t h)
 
-takes-seen : (v : WorkerView) (place : ℕ) (ask : Numbered) (answer : Turn) (after : WorkerView) → Takes v place ask answer after → IsTrying v → HasSeen v → HasSeen after
+takes-seen : (v : WorkerView) (place : ℕ) (ask : Numbered) (answer : Turn) (after : WorkerView) → TakesAsk v place ask answer after → IsTrying v → HasSeen v → HasSeen after
 takes-seen v place ask answer after (turns.stashes w a x) t h = subst HasSeen (sym x) (taken-seen v place ask t h)
 takes-seen v place ask answer after (turns.runs w a run) t h = runs-seen (with_taken v place ask) (turns.held_from v place ask) false after run (taken-seen v place ask t h)
 
