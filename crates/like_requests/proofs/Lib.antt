@@ -1,5 +1,6 @@
 pub mod Added
 pub mod Found
+pub mod Fronts
 pub mod Names
 pub mod PagesRead
 pub mod Reading

@@ -1,7 +1,8 @@
-ghost use Rattle.std.specs.Prelude.{◌≡◌, ◌≢◌, ◌<◌, [], MatchOption, length, option_map, slice_get};
-ghost use Rattle.like_requests.specs.Pages.{ArePages, number_of};
+ghost use Rattle.std.specs.Prelude.{◌≡◌, ◌≢◌, ◌<◌, [], IfOk, MatchOption, length, option_map, slice_get};
+ghost use Rattle.like_requests.specs.Pages.{ArePages, counts_of, marks_of, number_of};
 
 use crate::entries::Entries;
+use std::alloc::{AllocError, Global};
 use std::marker::Model;
 
 /// The most pages of a service.
@@ -71,6 +72,30 @@ impl Pages {
         ensures { option_map (λ p. p.split) (slice_get self.now i) ≡ Some result }
     {
         self.entries.split(i)
+    }
+
+    /// The initial count of each page.
+    pub fn counts(&self, alloc: Global) -> Result<Vec<u64>, AllocError>
+        ensures counts { IfOk result (λ counts. counts.items ≡ counts_of self.now) }
+        ensures pages { ArePages self.now }
+    {
+        let mut counts = Vec::with_capacity(alloc, self.len() as usize)?;
+        for page in 0..self.len() {
+            counts.push(self.count(page))?;
+        }
+        Ok(counts)
+    }
+
+    /// Whether each page is marked split.
+    pub fn marks(&self, alloc: Global) -> Result<Vec<bool>, AllocError>
+        ensures marks { IfOk result (λ marks. marks.items ≡ marks_of self.now) }
+        ensures pages { ArePages self.now }
+    {
+        let mut marks = Vec::with_capacity(alloc, self.len() as usize)?;
+        for page in 0..self.len() {
+            marks.push(self.split(page))?;
+        }
+        Ok(marks)
     }
 
     /// The number of the page with this name, by one look-up in a hash table.

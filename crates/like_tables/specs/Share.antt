@@ -1,5 +1,5 @@
 -- Which users a worker serves.
-use Rattle.std.specs.Prelude.{ℕ, ◌≤◌, ◌%◌, ◌==◌, ◌&&◌, Bool, nat_lt, count_by}
+use Rattle.std.specs.Prelude.{ℕ, zero, suc, ◌+◌, ◌-◌, ◌*◌, ◌/◌, ◌%◌, ◌==◌, ◌&&◌, ◌≤◌, Bool, List, [], ◌∷◌, nat_lt, count_by}
 use Rattle.std.specs.List.{range_with_len}
 use Rattle.like_requests.specs.Verdict.{home}
 
@@ -22,6 +22,20 @@ pub record IsShare (s : Share) : Type 0 where
 -- the worker by whom a submitter is served
 abbrev pub worker_of : ℕ → ℕ → ℕ
 worker_of workers submitter = submitter % workers
+
+-- the place of a submitter among those of its worker
+abbrev pub place_of : ℕ → ℕ → ℕ
+place_of workers submitter = submitter / workers
+
+-- the submitter at a place of a worker: w, w + N, w + 2 N, .. for worker w of N
+abbrev pub submitter_of : ℕ → ℕ → ℕ → ℕ
+submitter_of workers worker place = worker + workers * place
+
+-- those of a list at k, k + n, k + 2 n, ..: what worker k of n has of what each submitter has one of
+abbrev pub dealt : {A : Type 0} → ℕ → ℕ → List A → List A
+dealt n k [] = []
+dealt n zero (x ∷ xs) = x ∷ dealt n (n - 1) xs
+dealt n (suc k) (x ∷ xs) = dealt n k xs
 
 -- whether the worker serves this submitter
 abbrev pub serves : Share → ℕ → Bool
