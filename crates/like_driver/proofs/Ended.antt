@@ -11,7 +11,7 @@ use Rattle.like_run.specs.declared.replay_fault.ReplayFault.TheVariants as why
 use Rattle.like_run.specs.Run as on_threads
 use Rattle.like_run.specs.declared.run_fault.RunFault.{RunFault}
 use Rattle.like_run.specs.declared.run_fault.RunFault.TheVariants as threads
-use Rattle.like_run.specs.declared.turned.Turned.{Turned}
+use Rattle.like_script.specs.declared.turned.Turned.{Turned}
 use Rattle.like_driver.specs.declared.options.Options.{Options}
 use Rattle.like_driver.specs.Faults.{fault_of, fault_of_replay, fault_of_run}
 use Rattle.like_driver.specs.Inputs.{Inputs}

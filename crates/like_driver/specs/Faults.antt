@@ -16,8 +16,8 @@ use Rattle.like_run.specs.declared.replay_fault.ReplayFault.{ReplayFault}
 use Rattle.like_run.specs.declared.replay_fault.ReplayFault.TheVariants as replay
 use Rattle.like_run.specs.declared.run_fault.RunFault.{RunFault}
 use Rattle.like_run.specs.declared.run_fault.RunFault.TheVariants as run
-use Rattle.like_run.specs.declared.script_file.ScriptFault.{ScriptFault}
-use Rattle.like_run.specs.declared.script_file.ScriptFault.TheVariants as script
+use Rattle.like_script.specs.declared.file.ScriptFault.{ScriptFault}
+use Rattle.like_script.specs.declared.file.ScriptFault.TheVariants as script
 
 -- the line of memory that ran out
 abbrev pub memory_line : List ℕ

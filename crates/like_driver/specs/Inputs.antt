@@ -9,9 +9,9 @@ use Rattle.like_requests.specs.Rows.{Record}
 use Rattle.like_requests.specs.declared.pages_file.PagesFault.{PagesFault}
 use Rattle.like_requests.specs.declared.request.Request.{Request}
 use Rattle.like_requests.specs.declared.requests_file.RequestsFault.{RequestsFault}
-use Rattle.like_run.specs.ScriptFile.{IsScriptFault, IsScriptFile}
-use Rattle.like_run.specs.declared.script_file.ScriptFault.{ScriptFault}
-use Rattle.like_run.specs.declared.turned.Turned.{Turned}
+use Rattle.like_script.specs.File.{IsScriptFault, IsScriptFile}
+use Rattle.like_script.specs.declared.file.ScriptFault.{ScriptFault}
+use Rattle.like_script.specs.declared.turned.Turned.{Turned}
 use Rattle.like_driver.specs.declared.fault.DriverFault.{DriverFault}
 use Rattle.like_driver.specs.declared.fault.DriverFault.TheVariants as driver
 

@@ -13,8 +13,8 @@ use Rattle.like_run.specs.Replayed.{Fits}
 use Rattle.like_run.specs.Replayed as run
 use Rattle.like_run.specs.declared.replay_fault.ReplayFault.{ReplayFault}
 use Rattle.like_run.specs.declared.replay_fault.ReplayFault.TheVariants as why
-use Rattle.like_run.specs.declared.script_file.ScriptFault.{ScriptFault}
-use Rattle.like_run.specs.declared.turned.Turned.{Turned}
+use Rattle.like_script.specs.declared.file.ScriptFault.{ScriptFault}
+use Rattle.like_script.specs.declared.turned.Turned.{Turned}
 use Rattle.like_driver.specs.declared.fault.DriverFault.{DriverFault}
 use Rattle.like_driver.specs.declared.fault.DriverFault.TheVariants.{Pages, Requests, Script, Settings, Start, Unfinished, Write, Memory}
 use Rattle.like_driver.specs.declared.options.Options.{Options}

@@ -1,5 +1,5 @@
 ghost use Rattle.std.specs.Prelude.{◌≡◌, ◌≤◌, IfErr, IfOk, MatchResult, OnOk, is_some, length, map, option_map};
-ghost use Rattle.like_run.specs.Limits.{max_entries};
+ghost use Rattle.like_script.specs.Limits.{max_entries};
 ghost use Rattle.like_driver.specs.Inputs.{GivesScript, Inputs, RefusesScript};
 ghost use Rattle.like_driver.specs.Replayed.{IsBeforeOutput, IsReplayFault, IsReplayed};
 

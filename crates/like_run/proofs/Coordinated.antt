@@ -6,8 +6,8 @@ use Rattle.like_tables.specs.Share.{Share}
 use Rattle.like_roles.specs.declared.coord_turn.CoordTurn.{CoordTurn}
 use Rattle.like_roles.specs.CoordTurns as turns
 use Rattle.like_roles.specs.CoordTurns.{Acts, CoordTurns, CoordinatorView, IsBeforeEnd, surveyed}
-use Rattle.like_run.specs.declared.turned.Turned.{Turned}
-use Rattle.like_run.specs.declared.turned.Turned.TheVariants.{OpenOne, Worker, Coordinator}
+use Rattle.like_script.specs.declared.turned.Turned.{Turned}
+use Rattle.like_script.specs.declared.turned.Turned.TheVariants.{OpenOne, Worker, Coordinator}
 use Rattle.like_run.specs.Server.{GoesOn, ServerView, place_of}
 use Rattle.like_run.specs.Stage.{CanMake, CoordGoesOn}
 use Rattle.like_run.proofs.Pairs.{pairs-length}

@@ -16,11 +16,11 @@ use Rattle.like_roles.specs.CoordTurns.{CoordinatorView, HasEndedJoined}
 use Rattle.like_requests.specs.Pages.{marks_of}
 use Rattle.like_roles.specs.Service.{Service, submitters}
 use Rattle.like_run.specs.declared.ended.Ended.{Ended}
-use Rattle.like_run.specs.declared.turned.Turned.{Turned}
-use Rattle.like_run.specs.declared.turned.Turned.TheVariants.{OpenOne, Worker, Coordinator}
+use Rattle.like_script.specs.declared.turned.Turned.{Turned}
+use Rattle.like_script.specs.declared.turned.Turned.TheVariants.{OpenOne, Worker, Coordinator}
 use Rattle.like_run.specs.Left.{IsLogOf, IsSeatOf}
 use Rattle.like_run.specs.Made.{AreNewSeats, AreServers, IsServer}
-use Rattle.like_run.specs.Scripted.{IsThere}
+use Rattle.like_script.specs.Fit.{IsInRun}
 use Rattle.like_run.specs.Server.{GoesOn, ServerView, place_of, plans_of}
 use Rattle.like_run.specs.Stage.{CanMake, CoordGoesOn, IsEnded}
 use Rattle.like_run.proofs.Pairs.{pairs-at, pairs-both, pairs-length}
@@ -37,7 +37,7 @@ servers-later service workers board ss ts are later =
     }) are later
 
 -- an entry whose submitter or worker is there can be made
-pub can-make : (service : Service) (workers : ℕ) (board : List ℕ) (servers : List ServerView) (entry : Turned) → AreServers service workers board servers → 0 < workers → IsThere workers (submitters service) entry
+pub can-make : (service : Service) (workers : ℕ) (board : List ℕ) (servers : List ServerView) (entry : Turned) → AreServers service workers board servers → 0 < workers → IsInRun workers (submitters service) entry
     → CanMake servers entry
 can-make service workers board servers (OpenOne submitter) are some there =
     let sized : workers ≡ length servers = sym (length-range_with_len 0 workers) ∙ pairs-length (IsServer service workers board) (range_with_len 0 workers) servers are in (

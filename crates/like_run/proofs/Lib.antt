@@ -8,13 +8,11 @@ pub mod Deals
 pub mod Opening
 pub mod Posts
 pub mod Later
-pub mod ScriptRead
 pub mod Pairs
 pub mod Coordinated
 pub mod Makings
 pub mod Whole
 pub mod Once
 pub mod Ending
-pub mod FirstAway
 pub mod Leaving
 pub mod Asked

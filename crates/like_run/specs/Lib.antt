@@ -1,4 +1,3 @@
-pub mod Limits
 pub mod Dealt
 pub mod EndToEnd
 pub mod Gathered
@@ -8,8 +7,6 @@ pub mod Made
 pub mod Prepared
 pub mod Replayed
 pub mod Run
-pub mod ScriptFile
-pub mod Scripted
 pub mod Served
 pub mod Server
 pub mod Stage

@@ -5,13 +5,13 @@ use Rattle.like_requests.specs.declared.request.Request.{Request}
 use Rattle.like_requests.specs.declared.setup.Setup.{Setup}
 use Rattle.like_run.specs.declared.replay_fault.ReplayFault.{ReplayFault}
 use Rattle.like_run.specs.declared.replay_fault.ReplayFault.TheVariants.{Settings, Memory, Unfinished}
-use Rattle.like_run.specs.declared.turned.Turned.{Turned}
-use Rattle.like_run.specs.Scripted.{IsFirstAway, IsThere}
+use Rattle.like_script.specs.declared.turned.Turned.{Turned}
+use Rattle.like_script.specs.Fit.{IsFirstAway, IsInRun}
 
 -- the settings and the lists are within their limits, and the script's submitters and workers are there
 pub record Fits (setup : Setup) (plans : List (List Request)) (script : List Turned) : Type 0 where
   pub within : IsWithinLimits setup plans
-  pub there : All (IsThere setup.workers (length plans)) script
+  pub there : All (IsInRun setup.workers (length plans)) script
 
 -- no fault of the settings, the lists or the script
 abbrev pub IsFaultUnderWay : ReplayFault → Type 0

@@ -8,8 +8,8 @@ use Rattle.like_board.specs.Seats.{BoardId, board_numbers, coord_board, coord_vi
 use Rattle.like_roles.specs.CoordTurns.{CoordinatorView, IsBeforeEnd}
 use Rattle.like_roles.specs.Service.{Service}
 use Rattle.like_run.specs.declared.ended.Ended.{Ended}
-use Rattle.like_run.specs.declared.turned.Turned.{Turned}
-use Rattle.like_run.specs.declared.turned.Turned.TheVariants.{OpenOne, Worker, Coordinator}
+use Rattle.like_script.specs.declared.turned.Turned.{Turned}
+use Rattle.like_script.specs.declared.turned.Turned.TheVariants.{OpenOne, Worker, Coordinator}
 use Rattle.like_run.specs.Left.{IsLogOf, IsSeatOf}
 use Rattle.like_run.specs.Made.{AreServers}
 use Rattle.like_run.specs.Server.{ServerView, place_of}

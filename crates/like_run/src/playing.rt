@@ -9,10 +9,10 @@ ghost use Rattle.like_run.specs.Stage.{CanMake, CoordGoesOn};
 use crate::replay_fault::ReplayFault;
 use crate::server::Server;
 use crate::servers::{open_all, open_one, turn_of, turns};
-use crate::turned::Turned;
 use like_board::Board;
 use like_core::Post;
 use like_roles::{CoordTurn, Coordinator};
+use like_script::Turned;
 
 /// The most rounds of a replay.
 pub const MAX_ROUNDS: u32 = 1_000_000;

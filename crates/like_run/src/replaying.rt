@@ -2,11 +2,11 @@ ghost use Rattle.std.specs.Prelude.{◌≡◌, ◌≤◌, All, IfErr, IfOk, OnOk
 ghost use Rattle.like_requests.specs.Setup.{IsPlan, IsWithinLimits};
 ghost use Rattle.like_board.specs.Seats.{board_id, coord_board, coord_view};
 ghost use Rattle.like_roles.specs.New.{IsWithin};
-ghost use Rattle.like_run.specs.Limits.{max_entries};
+ghost use Rattle.like_script.specs.Limits.{max_entries};
 ghost use Rattle.like_run.specs.EndToEnd.{IsEndToEnd};
 ghost use Rattle.like_run.specs.Made.{AreNewSeats, service_of};
 ghost use Rattle.like_run.specs.Replayed.{Fits, IsReplayFault, IsFaultUnderWay};
-ghost use Rattle.like_run.specs.Scripted.{IsThere};
+ghost use Rattle.like_script.specs.Fit.{IsInRun};
 ghost use Rattle.like_run.specs.Stage.{IsEnded};
 
 use crate::ended::Ended;
@@ -15,13 +15,12 @@ use crate::playing::play;
 use crate::preparing::{Prepared, prepare};
 use crate::replay_fault::ReplayFault;
 use crate::reporting::report_of;
-use crate::scripted::check_script;
 use crate::servers::finish_all;
-use crate::turned::Turned;
 use like_board::{Board, CoordSeat, WorkerSeat};
 use like_replies::Report;
 use like_requests::{Request, Setup, check_setup};
 use like_roles::Coordinator;
+use like_script::{Turned, check_script};
 use std::alloc::Global;
 use std::snapshot::Snapshot;
 
@@ -53,7 +52,7 @@ fn replay_within(
     script: &[Turned],
 ) -> Result<Report, ReplayFault>
     requires within { IsWithinLimits setup.now (map (λ plan. plan.items) plans.items) }
-    requires script { All (IsThere setup.now.workers (length plans.items)) script.now }
+    requires script { All (IsInRun setup.now.workers (length plans.items)) script.now }
     ensures report { IfOk result (IsEndToEnd (service_of setup.now (map (λ plan. plan.items) plans.items)) setup.now.workers) }
     ensures fault { IfErr result IsFaultUnderWay }
 {
@@ -87,7 +86,7 @@ fn run_on(
     requires seats { AreNewSeats (board_id board.now) setup.now.pages seats.items }
     requires coord_here { coord_board coord ≡ board_id board.now }
     requires coord_new { (coord_view coord).phase ≡ 0 }
-    requires script { All (IsThere setup.now.workers (length plans.items)) script.now }
+    requires script { All (IsInRun setup.now.workers (length plans.items)) script.now }
     ensures ended { IfOk result (IsEnded (service_of setup.now (map (λ plan. plan.items) plans.items)) setup.now.workers (board_id board.now) (coord_view coord).opening) }
     ensures fault { IfErr result IsFaultUnderWay }
 {

@@ -4,5 +4,4 @@ mod cases;
 mod drawn;
 mod replays;
 mod runs;
-mod scripts;
 mod turns;

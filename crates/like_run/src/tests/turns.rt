@@ -4,9 +4,9 @@ ghost use Rattle.std.specs.List.{AllZip};
 ghost use Rattle.like_requests.specs.Setup.{IsPlan, IsWithinLimits};
 ghost use Rattle.like_board.specs.Seats.{board_id, coord_board};
 ghost use Rattle.like_roles.specs.New.{IsWithin};
-ghost use Rattle.like_run.specs.Limits.{max_entries};
+ghost use Rattle.like_script.specs.Limits.{max_entries};
 ghost use Rattle.like_run.specs.Made.{AreNewSeats};
-ghost use Rattle.like_run.specs.Scripted.{IsThere};
+ghost use Rattle.like_script.specs.Fit.{IsInRun};
 ghost use Rattle.like_run.specs.Server.{GoesOn};
 ghost use Rattle.like_run.specs.Stage.{CanMake, CoordGoesOn};
 
@@ -16,7 +16,6 @@ use super::cases::{
 };
 use crate::making::servers_of;
 use crate::preparing::{Prepared, prepare};
-use crate::scripted::check_script;
 use crate::server::Server;
 use crate::servers::open_one;
 use crate::{MAX_ENTRIES, ReplayFault, Turned};
@@ -24,6 +23,7 @@ use like_board::{Board, CoordSeat, WorkerSeat};
 use like_core::Post;
 use like_requests::{Request, Setup, check_setup};
 use like_roles::{CoordTurn, Coordinator, NoGate, Turn};
+use like_script::check_script;
 use std::alloc::{AllocError, Global};
 use std::process::Abort;
 
@@ -93,7 +93,7 @@ fn answers_on(
     requires len { length seats.items ≡ setup.now.workers }
     requires seats { AreNewSeats (board_id board.now) setup.now.pages seats.items }
     requires coord_here { coord_board coord ≡ board_id board.now }
-    requires script { All (IsThere setup.now.workers (length plans.items)) script.now }
+    requires script { All (IsInRun setup.now.workers (length plans.items)) script.now }
 {
     let mut servers = servers_of(alloc, setup, sizes, board, seats, plans)?;
     let mut coordinator = Coordinator::new(coord, setup.turns);
@@ -108,7 +108,7 @@ fn answers_within(
     script: &[Turned],
 ) -> Result<Vec<Answer>, AllocError>
     requires within { IsWithinLimits setup.now (map (λ plan. plan.items) plans.items) }
-    requires script { All (IsThere setup.now.workers (length plans.items)) script.now }
+    requires script { All (IsInRun setup.now.workers (length plans.items)) script.now }
 {
     let Prepared {
         sizes,

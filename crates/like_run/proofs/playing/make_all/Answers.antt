@@ -1,7 +1,7 @@
 use Rattle.std.proofs.Common.{◌∙◌, get_or}
 use Rattle.like_run.proofs.Coordinated.{can-make-later, coord-further, coord-same}
 use Rattle.like_run.proofs.Later.{all-further-both, all-same}
-use Rattle.like_run.specs.declared.turned.Turned.TheVariants.{OpenOne}
+use Rattle.like_script.specs.declared.turned.Turned.TheVariants.{OpenOne}
 use Rattle.like_run.proofs.playing.make_all.Goals as goal
 
 pub loop-entry-init : goal.loop-entry-init

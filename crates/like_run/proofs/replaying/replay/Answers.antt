@@ -8,9 +8,9 @@ use Rattle.like_requests.specs.declared.setup.Setup.{Setup}
 use Rattle.like_replies.specs.declared.report.Report.{Report}
 use Rattle.like_run.specs.declared.replay_fault.ReplayFault.{ReplayFault}
 use Rattle.like_run.specs.declared.replay_fault.ReplayFault.TheVariants.{Settings, Memory, Unfinished}
-use Rattle.like_run.specs.declared.turned.Turned.{Turned}
+use Rattle.like_script.specs.declared.turned.Turned.{Turned}
 use Rattle.like_run.specs.Replayed.{Fits, IsReplayFault, IsFaultUnderWay}
-use Rattle.like_run.specs.Scripted.{IsFirstAway, IsThere}
+use Rattle.like_script.specs.Fit.{IsFirstAway, IsInRun}
 use Rattle.like_run.proofs.replaying.replay.Goals as goal
 
 abbrev requests_of : Vec Request Global → List Request
@@ -20,7 +20,7 @@ pub replay_within-requires-clause-within : goal.replay_within-requires-clause-wi
 replay_within-requires-clause-within c = subst (λ (xs : List (Vec Request Global)). IsWithinLimits c.args.setup.now (map requests_of xs)) c.deref.ensures.value c.in_ok-check_setup.ensures
 
 pub replay_within-requires-clause-script : goal.replay_within-requires-clause-script
-replay_within-requires-clause-script c = subst (λ n. All (IsThere c.args.setup.now.workers n) c.args.script.now) (c.len.ensures ∙ c.args.plans.ok.0) c.in_ok-check_script.ensures
+replay_within-requires-clause-script c = subst (λ n. All (IsInRun c.args.setup.now.workers n) c.args.script.now) (c.len.ensures ∙ c.args.plans.ok.0) c.in_ok-check_script.ensures
 
 pub returns-in_err-check_setup-clause-fault : goal.returns-in_err-check_setup-clause-fault
 returns-in_err-check_setup-clause-fault c =
@@ -48,11 +48,11 @@ run-fault setup plans script (Err Memory) fits h = fits
 run-fault setup plans script (Err Unfinished) fits h = fits
 
 -- what was tested fits
-tested : (setup : Setup) (plans : List (Vec Request Global)) (script : List Turned) (many : ℕ) → IsWithinLimits setup (map requests_of plans) → many ≡ length plans → All (IsThere setup.workers many) script
+tested : (setup : Setup) (plans : List (Vec Request Global)) (script : List Turned) (many : ℕ) → IsWithinLimits setup (map requests_of plans) → many ≡ length plans → All (IsInRun setup.workers many) script
     → Fits setup (map requests_of plans) script
 tested setup plans script many within sized there = record {
   within = within;
-  there = subst (λ n. All (IsThere setup.workers n) script) (sized ∙ sym (length-map plans requests_of)) there;
+  there = subst (λ n. All (IsInRun setup.workers n) script) (sized ∙ sym (length-map plans requests_of)) there;
 }
 
 pub returns-clause-fits : goal.returns-clause-fits

@@ -4,7 +4,7 @@ use Rattle.like_requests.specs.declared.request.Request.{Request}
 use Rattle.like_board.specs.Seats.{board_id, board_numbers, coord_view}
 use Rattle.like_roles.specs.CoordTurns.{CoordinatorView}
 use Rattle.like_run.specs.Made.{service_of}
-use Rattle.like_run.specs.Scripted.{IsThere}
+use Rattle.like_script.specs.Fit.{IsInRun}
 use Rattle.like_run.proofs.Ending.{can-make, has-ended}
 use Rattle.like_run.proofs.replaying.run_on.Goals as goal
 
@@ -20,7 +20,7 @@ pub play-requires-clause-can : goal.play-requires-clause-can
 play-requires-clause-can c = λ k d within.
     can-make (service_of c.args.setup.now (map requests_of c.args.plans.items)) c.args.setup.now.workers (board_numbers (board_id c.args.board.now)) c.in_ok-servers.servers.items (get_or c.args.script.now k d)
     c.in_ok-servers.ensures c.requires.within.some_workers
-    (subst (λ n. IsThere c.args.setup.now.workers n (get_or c.args.script.now k d)) (sym (length-map c.args.plans.items requests_of)) (c.requires.script k d within))
+    (subst (λ n. IsInRun c.args.setup.now.workers n (get_or c.args.script.now k d)) (sym (length-map c.args.plans.items requests_of)) (c.requires.script k d within))
 
 pub returns-clause-ended : goal.returns-clause-ended
 returns-clause-ended c =

@@ -3,7 +3,7 @@ use Rattle.std.proofs.lemmas.List.{length-map}
 use Rattle.like_requests.specs.declared.request.Request.{Request}
 use Rattle.like_board.specs.Seats.{board_id, board_numbers}
 use Rattle.like_run.specs.Made.{service_of}
-use Rattle.like_run.specs.Scripted.{IsThere}
+use Rattle.like_script.specs.Fit.{IsInRun}
 use Rattle.like_run.proofs.Ending.{can-make}
 use Rattle.like_run.proofs.tests.turns.answers_on.Goals as goal
 
@@ -14,4 +14,4 @@ pub answers_of-requires-clause-can : goal.answers_of-requires-clause-can
 answers_of-requires-clause-can c = λ k d within.
     can-make (service_of c.args.setup.now (map requests_of c.args.plans.items)) c.args.setup.now.workers (board_numbers (board_id c.args.board.now)) c.in_ok-servers.servers.items (get_or c.args.script.now k d)
     c.in_ok-servers.ensures c.requires.within.some_workers
-    (subst (λ n. IsThere c.args.setup.now.workers n (get_or c.args.script.now k d)) (sym (length-map c.args.plans.items requests_of)) (c.requires.script k d within))
+    (subst (λ n. IsInRun c.args.setup.now.workers n (get_or c.args.script.now k d)) (sym (length-map c.args.plans.items requests_of)) (c.requires.script k d within))

@@ -4,11 +4,11 @@ use Rattle.like_records.specs.Decimal.{IsDecimal, decimal_value}
 use Rattle.like_records.specs.declared.fault.RecordsFault.{RecordsFault}
 use Rattle.like_records.specs.declared.fault.RecordsFault.TheVariants as records
 use Rattle.like_requests.specs.Rows.{IsFirstFailed, PassAll, Record, field}
-use Rattle.like_run.specs.Limits.{max_entries, max_index}
-use Rattle.like_run.specs.declared.script_file.ScriptFault.{ScriptFault}
-use Rattle.like_run.specs.declared.script_file.ScriptFault.TheVariants as fault
-use Rattle.like_run.specs.declared.turned.Turned.{Turned}
-use Rattle.like_run.specs.declared.turned.Turned.TheVariants.{OpenOne, Worker, Coordinator}
+use Rattle.like_script.specs.Limits.{max_entries, max_index}
+use Rattle.like_script.specs.declared.file.ScriptFault.{ScriptFault}
+use Rattle.like_script.specs.declared.file.ScriptFault.TheVariants as fault
+use Rattle.like_script.specs.declared.turned.Turned.{Turned}
+use Rattle.like_script.specs.declared.turned.Turned.TheVariants.{OpenOne, Worker, Coordinator}
 
 abbrev pub script_header : Record
 script_header = codes "turn" ∷ codes "index" ∷ []

@@ -8,10 +8,10 @@ use Rattle.like_records.specs.declared.fault.RecordsFault.TheVariants as records
 use Rattle.like_requests.specs.First.{FailsFirst}
 use Rattle.like_requests.specs.Rows.{IsFirstFailed, Record}
 use Rattle.like_requests.proofs.Reading.{HasRead, among, reading_goes_on, reading_stops}
-use Rattle.like_run.specs.ScriptFile.{AsksEntry, AsksEntryRecord, IsScriptFault, fault_of, entry_of, entry_tests, script_header}
-use Rattle.like_run.specs.declared.turned.Turned.{Turned}
-use Rattle.like_run.specs.declared.script_file.ScriptFault.{ScriptFault}
-use Rattle.like_run.specs.declared.script_file.ScriptFault.TheVariants.{Read, Line, TooMany, Memory}
+use Rattle.like_script.specs.File.{AsksEntry, AsksEntryRecord, IsScriptFault, fault_of, entry_of, entry_tests, script_header}
+use Rattle.like_script.specs.declared.turned.Turned.{Turned}
+use Rattle.like_script.specs.declared.file.ScriptFault.{ScriptFault}
+use Rattle.like_script.specs.declared.file.ScriptFault.TheVariants.{Read, Line, TooMany, Memory}
 
 -- the file is stopped by a record, and not by its header
 abbrev StopsAtRecord : ScriptFault → Type 0

@@ -4,8 +4,8 @@ ghost use Rattle.like_records.specs.Decimal.{decimal_value};
 ghost use Rattle.like_records.specs.Reading.{records_of};
 ghost use Rattle.like_requests.specs.First.{FailsFirst};
 ghost use Rattle.like_requests.specs.Rows.{PassAll, Record};
-ghost use Rattle.like_run.specs.Limits.{max_entries};
-ghost use Rattle.like_run.specs.ScriptFile.{AsksEntry, AsksEntryRecord, IsEntry, IsIndex, IsScriptFault, IsScriptFile, Names, entry_of, entry_tests, named, script_header};
+ghost use Rattle.like_script.specs.Limits.{max_entries};
+ghost use Rattle.like_script.specs.File.{AsksEntry, AsksEntryRecord, IsEntry, IsIndex, IsScriptFault, IsScriptFile, Names, entry_of, entry_tests, named, script_header};
 
 use crate::turned::Turned;
 use like_records::{Records, RecordsFault, decimal};
@@ -38,7 +38,7 @@ pub enum ScriptFault {
 
 impl From<RecordsFault> for ScriptFault {
     ghost use Rattle.std.specs.Prelude.{◌≡◌};
-    ghost use Rattle.like_run.specs.ScriptFile.{fault_of};
+    ghost use Rattle.like_script.specs.File.{fault_of};
 
     ghost from_gives = { λ why fault. fault ≡ fault_of why };
 
@@ -52,7 +52,7 @@ impl From<RecordsFault> for ScriptFault {
 
 impl From<AllocFailed<Turned>> for ScriptFault {
     ghost use Rattle.std.specs.Prelude.{◌≡◌};
-    ghost use Rattle.like_run.specs.declared.script_file.ScriptFault.TheVariants.{Memory};
+    ghost use Rattle.like_script.specs.declared.file.ScriptFault.TheVariants.{Memory};
 
     ghost from_gives = { λ _ fault. fault ≡ Memory };
 

@@ -1,9 +1,9 @@
 use Rattle.std.proofs.Common.{◌≡◌, ◌+◌, ◌≤◌, List, Some, length}
-use Rattle.like_run.specs.ScriptFile.{AsksEntryRecord, entry_of, entry_tests}
+use Rattle.like_script.specs.File.{AsksEntryRecord, entry_of, entry_tests}
 use Rattle.like_requests.specs.Rows.{Record}
-use Rattle.like_run.specs.Limits.{max_entries}
+use Rattle.like_script.specs.Limits.{max_entries}
 use Rattle.like_requests.proofs.Reading.{HasRead}
-use Rattle.like_run.proofs.script_file.read_entries.Given as goal
+use Rattle.like_script.proofs.file.read_entries.Given as goal
 
 abbrev pub invariant-loop-row : goal.invariant-loop-row
 invariant-loop-row g l = record {

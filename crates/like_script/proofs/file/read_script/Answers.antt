@@ -1,10 +1,10 @@
 use Rattle.std.proofs.Common.{◌≡◌, ◌∙◌, ◌∷◌, ap, List, Vec, Result, Ok, Err, MatchResult, map, Global}
 use Rattle.like_records.specs.Reading.{Reading}
 use Rattle.like_requests.specs.Rows.{PassAll, Record}
-use Rattle.like_run.specs.ScriptFile.{AsksEntryRecord, IsScriptFault, IsScriptFile, entry_of, entry_tests, script_header}
-use Rattle.like_run.specs.declared.turned.Turned.{Turned}
-use Rattle.like_run.specs.declared.script_file.ScriptFault.{ScriptFault}
-use Rattle.like_run.proofs.script_file.read_script.Goals as goal
+use Rattle.like_script.specs.File.{AsksEntryRecord, IsScriptFault, IsScriptFile, entry_of, entry_tests, script_header}
+use Rattle.like_script.specs.declared.turned.Turned.{Turned}
+use Rattle.like_script.specs.declared.file.ScriptFault.{ScriptFault}
+use Rattle.like_script.proofs.file.read_script.Goals as goal
 
 -- what the records of a file's body make is what the file says
 of_body : (rows body : List Record) (r : Result (Vec Turned Global) ScriptFault) → rows ≡ script_header ∷ body

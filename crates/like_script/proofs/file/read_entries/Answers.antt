@@ -1,11 +1,11 @@
 use Rattle.std.proofs.Common.{◌≡◌, ◌∙◌, ap, arith, ◌+◌, length, List}
 use Rattle.std.proofs.lemmas.List.{length_push}
 use Rattle.std.proofs.lemmas.Result.{err_from_is_err_and}
-use Rattle.like_run.specs.declared.turned.Turned.{Turned}
-use Rattle.like_run.specs.ScriptFile.{AsksEntryRecord, entry_of, entry_tests}
+use Rattle.like_script.specs.declared.turned.Turned.{Turned}
+use Rattle.like_script.specs.File.{AsksEntryRecord, entry_of, entry_tests}
 use Rattle.like_requests.proofs.Reading.{reading_ends}
-use Rattle.like_run.proofs.ScriptRead.{entry_goes_on, entry_stops}
-use Rattle.like_run.proofs.script_file.read_entries.Goals as goal
+use Rattle.like_script.proofs.ScriptRead.{entry_goes_on, entry_stops}
+use Rattle.like_script.proofs.file.read_entries.Goals as goal
 
 pub returns-then-not-branch-clause-body : goal.returns-then-not-branch-clause-body
 returns-then-not-branch-clause-body g c = λ body known.

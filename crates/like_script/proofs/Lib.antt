@@ -1,0 +1,2 @@
+pub mod FirstAway
+pub mod ScriptRead

@@ -1,0 +1,3 @@
+pub mod File
+pub mod Fit
+pub mod Limits
