@@ -68,7 +68,7 @@ abbrev LikesThere : List Page → AcceptedLike → Type 0
 LikesThere pages l = l.page < length pages
 
 -- the like that a request makes is of a page that is there
-likes_there : (pages : List Page) (b : Bool) (o : Op) (user : ℕ) (p : PageRef) (rest : List AcceptedLike) → IsThere pages p → AllByRecursion (LikesThere pages) rest
+likes_there : (pages : List Page) (b : Bool) (o : Op) (user : ℕ) (p : PageRef) (rest : List AcceptedLike) → IsThere (length pages) p → AllByRecursion (LikesThere pages) rest
     → AllByRecursion (LikesThere pages) (cons_option (cond b (like_of o user p) None) rest)
 likes_there pages false o user p rest there all = all
 likes_there pages true Like user (Known q) rest there all = (there, all)
@@ -87,14 +87,14 @@ shows_there pages UnknownPage o last reply there is = subst (IsShowable pages) (
 
 module _ (service : Service) (planned : All (IsPlan service.pages) service.plans) where
   -- the page that a request of a plan knows is there
-  in_plan : (plan : List Request) (number : ℕ) (r : Request) → IsPlan service.pages plan → numbered_in plan number ≡ Some r → IsThere service.pages r.page
+  in_plan : (plan : List Request) (number : ℕ) (r : Request) → IsPlan service.pages plan → numbered_in plan number ≡ Some r → IsThere (length service.pages) r.page
   in_plan plan zero r is at = absurd (let no : None ≡ Some r = at in cc no)
   in_plan plan (suc n) r is at =
-      subst (λ (x : Request). IsThere service.pages x.page) (get_or_from_slice_get plan n r r at) (is.there n r (slice_get_within plan n r at))
+      subst (λ (x : Request). IsThere (length service.pages) x.page) (get_or_from_slice_get plan n r r at) (is.there n r (slice_get_within plan n r at))
 
-  asked_there : (submitter number : ℕ) (r : Request) → request_at service submitter number ≡ Some r → IsThere service.pages r.page
+  asked_there : (submitter number : ℕ) (r : Request) → request_at service submitter number ≡ Some r → IsThere (length service.pages) r.page
   asked_there submitter number r at = by_plan (slice_get service.plans submitter) refl at where
-    by_plan : (o : Option (List Request)) → slice_get service.plans submitter ≡ o → option_and_then (λ plan. numbered_in plan number) o ≡ Some r → IsThere service.pages r.page
+    by_plan : (o : Option (List Request)) → slice_get service.plans submitter ≡ o → option_and_then (λ plan. numbered_in plan number) o ≡ Some r → IsThere (length service.pages) r.page
     by_plan None is h = absurd (let no : None ≡ Some r = h in cc no)
     by_plan (Some plan) is h =
         in_plan plan number r (subst (IsPlan service.pages) (get_or_from_slice_get service.plans submitter plan plan is) (planned submitter plan (slice_get_within service.plans submitter plan is))) h
@@ -103,7 +103,7 @@ module _ (service : Service) (planned : All (IsPlan service.pages) service.plans
   ran_there : (entries : List Ran) → AllByRecursion (LikesThere service.pages) (likes_ran service entries)
   ran_there [] = tt
   ran_there (e ∷ rest) = by_request (request_of service e) (λ r at. asked_there e.submitter e.number r at) (ran_there rest) where
-    by_request : (o : Option Request) → ((r : Request) → o ≡ Some r → IsThere service.pages r.page) → AllByRecursion (LikesThere service.pages) (likes_ran service rest)
+    by_request : (o : Option Request) → ((r : Request) → o ≡ Some r → IsThere (length service.pages) r.page) → AllByRecursion (LikesThere service.pages) (likes_ran service rest)
         → AllByRecursion (LikesThere service.pages) (cons_option (option_and_then (accepted_like service.users (submitters service) e.submitter) o) (likes_ran service rest))
     by_request None there all = all
     by_request (Some r) there all =

@@ -3,5 +3,6 @@ pub mod Found
 pub mod Fronts
 pub mod Names
 pub mod PagesRead
+pub mod Planned
 pub mod Reading
 pub mod RequestsRead

@@ -3,7 +3,6 @@ ghost use Rattle.like_requests.specs.First.{FailsFirst};
 ghost use Rattle.like_requests.specs.Limits.{max_submitters};
 ghost use Rattle.like_requests.specs.Pages.{Page};
 ghost use Rattle.like_requests.specs.Setup.{AreNumbersWithin, Holds, IsFirstBroken, IsPlan, IsWithinLimits, number_limits};
-ghost use Rattle.like_requests.specs.declared.request.Request.{Request};
 
 use crate::pages::Pages;
 use crate::request::{PageRef, Request};
@@ -83,8 +82,9 @@ pub fn check_setup(setup: &Setup, plans: &[Vec<Request>]) -> Result<(), Settings
 // The first limit on a number that is broken, where there are this many submitters.
 fn broken_number(setup: &Setup, submitters: usize) -> Option<SettingsFault>
     ensures few { IfNone result (submitters ≤ max_submitters) }
-    ensures broken { (plans : List (List Request)) → length plans ≡ submitters
-        → MatchOption result (AreNumbersWithin setup.now plans) (FailsFirst (Holds setup.now plans) number_limits) }
+    ensures broken { MatchOption result
+        (AreNumbersWithin setup.now submitters)
+        (FailsFirst (Holds setup.now submitters) number_limits) }
 {
     if setup.workers < 1 || setup.workers > MAX_WORKERS {
         return Some(SettingsFault::Workers);

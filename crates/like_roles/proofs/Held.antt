@@ -20,7 +20,8 @@ use Rattle.like_tables.specs.declared.held.Held.{Held}
 use Rattle.like_roles.specs.declared.desk.Desk.{Desk}
 use Rattle.like_roles.specs.Desk.{ArePlaces, CanServe, IsPlaced, IsOwn, IsSound, HasRoomForOne, view_of}
 use Rattle.like_roles.specs.Order.{is_look_at_sliced}
-use Rattle.like_roles.specs.WorkerView.{IsThere, has_to_wait}
+use Rattle.like_requests.specs.Setup.{IsThere}
+use Rattle.like_roles.specs.WorkerView.{has_to_wait}
 use Rattle.like_roles.proofs.Served.{running_phase}
 
 -- a list whose first element is known

@@ -5,21 +5,20 @@ use Rattle.std.proofs.lemmas.List.{get_or-set_same, length-map, length-replicate
 use Rattle.std.proofs.lemmas.List.Sums.{sum_by_push}
 use Rattle.std.proofs.lemmas.Option.{get_or_from_slice_get, slice_get_within}
 use Rattle.like_requests.specs.Pages.{Page}
-use Rattle.like_requests.specs.Setup as setup
-use Rattle.like_requests.specs.declared.request.PageRef.{PageRef}
-use Rattle.like_requests.specs.declared.request.PageRef.TheVariants.{Known, Unknown}
 use Rattle.like_requests.specs.declared.request.Request.{Request}
 use Rattle.like_requests.specs.declared.request.Taken.{Taken}
 use Rattle.like_requests.specs.declared.request.Taken.TheVariants as taken
 use Rattle.like_requests.specs.declared.setup.Setup.{Setup}
 use Rattle.like_core.specs.Post.{PostView, pages_of}
+use Rattle.like_requests.proofs.Planned.{plans-within}
 use Rattle.like_roles.specs.declared.log.Took.{Took}
 use Rattle.like_roles.specs.declared.turn.Turn.{Turn}
 use Rattle.like_roles.specs.declared.turn.Turn.TheVariants as turn
-use Rattle.like_roles.specs.New.{AreOwnSizes, IsNew, IsPostOf, IsWithin}
+use Rattle.like_requests.specs.Setup.{IsThere, IsWithin, IsWithinLimits}
+use Rattle.like_roles.specs.New.{AreOwnSizes, IsNew, IsPostOf}
 use Rattle.like_roles.specs.Playing.{IsAt, IsGiven, IsPlaying}
 use Rattle.like_roles.specs.Turns.{CanGive, HasTaken, IsNext, Pends, TakesNothing, with_taken}
-use Rattle.like_roles.specs.WorkerView.{WorkerView, IsThere, phase_at, submitter_at}
+use Rattle.like_roles.specs.WorkerView.{WorkerView, phase_at, submitter_at}
 
 -- where nothing was taken, it is where it was
 pub stays_at : (plan : List Request) (next : ℕ) (old new : WorkerView) → IsAt plan next old → TakesNothing old new → IsAt plan next new
@@ -109,29 +108,9 @@ gave plan next then v new submitter taken.End p tries given took =
     subst (λ k. IsAt plan k new) (sym given) at
 gave plan next then v new submitter taken.Nothing p tries given took = absurd given
 
--- a page that is there by the pages is there by their number
-there_by_number : (pages : List Page) (n : ℕ) (page : PageRef) → n ≡ length pages → setup.IsThere pages page → IsThere n page
-there_by_number pages n (Known page) many there = omega arith
-there_by_number pages n Unknown many there = tt
-
 -- the settings and the plan are within the limits of a worker
-pub within_limits : (s : Setup) (plan : List Request) (n : ℕ) → setup.IsWithinLimits s (plan ∷ []) → n ≡ length plan → IsWithin s (n ∷ [])
-within_limits s plan n w many =
-    let few = (w.lists 0 plan (omega arith)).few in
-    record {
-      some_workers = w.numbers.0.0;
-      few_workers = w.numbers.0.1;
-      some_submitters = omega arith;
-      few_submitters = omega arith;
-      users = w.numbers.1.1.0.1;
-      some_stash = w.numbers.1.1.1.0.0;
-      few_stash = w.numbers.1.1.1.0.1;
-      small = small (omega arith);
-    }
-  where
-    small : n ≤ 1000000 → All (λ k. k ≤ 1000000) (n ∷ [])
-    small h zero d below = h
-    small h (suc k) d below = absurd (omega arith)
+pub within_limits : (s : Setup) (plan : List Request) (n : ℕ) → IsWithinLimits s (plan ∷ []) → n ≡ length plan → IsWithin s (n ∷ [])
+within_limits s plan n w many = subst (λ k. IsWithin s (k ∷ [])) (sym many) w.numbers
 
 -- the first worker has the one submitter
 own_one : (size workers : ℕ) (own : List ℕ) → 1 ≤ workers → AreOwnSizes (size ∷ []) workers 0 own → (length own ≡ 1) × (get_or own 0 0 ≡ size)
@@ -147,10 +126,10 @@ own_one size workers own some sizes =
     below_two (suc (suc n)) never = absurd (never (omega arith))
 
 -- a new worker may be played with
-pub plays_new : (s : Setup) (plan : List Request) (n : ℕ) (post : PostView) (v : WorkerView) → setup.IsWithinLimits s (plan ∷ []) → n ≡ length plan → IsPostOf 0 s.pages post → IsNew s (n ∷ []) 0 post v → IsPlaying plan 0 v
+pub plays_new : (s : Setup) (plan : List Request) (n : ℕ) (post : PostView) (v : WorkerView) → IsWithinLimits s (plan ∷ []) → n ≡ length plan → IsPostOf 0 s.pages post → IsNew s (n ∷ []) 0 post v → IsPlaying plan 0 v
 plays_new s plan n post v w many his new =
-    let own = own_one n s.workers v.left w.numbers.0.0 new.left in
-    let lists = w.lists 0 plan (omega arith) in
+    let own = own_one n s.workers v.left w.numbers.workers.0 new.left in
+    let lists = plans-within s (plan ∷ []) w 0 plan (omega arith) in
     let pages : pages_of v.post ≡ length s.pages = ap pages_of new.at_post ∙ (ap length his.marks ∙ length-map s.pages (λ (p : Page). p.split)) in
     record {
       settled = new.pending;
@@ -159,6 +138,6 @@ plays_new s plan n post v w many his new =
         taken = rw new.taken refl;
         left = (let left = own.1 in omega arith);
         few = lists.few;
-        there = λ k d below. there_by_number s.pages (pages_of v.post) (get_or plan k d).page pages (lists.there k d below);
+        there = λ k d below. subst (λ many. IsThere many (get_or plan k d).page) (sym pages) (lists.there k d below);
       };
     }

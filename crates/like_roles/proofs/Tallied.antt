@@ -26,7 +26,8 @@ use Rattle.like_roles.specs.Likes.{AcceptedLike, accepted_like, last_like, last_
 use Rattle.like_roles.specs.Replies.{Answers, HasRightAnswers, IsRightAnswer}
 use Rattle.like_roles.specs.Serve.{GivesReply, refuses, likes, looks, counted, liked, ran_now, verdict_at}
 use Rattle.like_roles.specs.Service.{Service, marks, request_of, submitters}
-use Rattle.like_roles.specs.WorkerView.{WorkerView, IsThere}
+use Rattle.like_requests.specs.Setup.{IsThere}
+use Rattle.like_roles.specs.WorkerView.{WorkerView}
 use Rattle.like_roles.proofs.Lists.{last_of-push, slice_get-at_end, slice_get-before}
 use Rattle.like_roles.proofs.Served.{counted_by}
 

@@ -15,7 +15,8 @@ use Rattle.like_tables.specs.Share.{share_of, worker_of}
 use Rattle.like_tables.specs.UserTable.{table_without_likes}
 use Rattle.like_roles.specs.New.{AreOwnSizes}
 use Rattle.like_requests.specs.Pages.{marks_of}
-use Rattle.like_roles.specs.WorkerView.{WorkerView, IsSliceInSplit, IsThere, has_to_wait}
+use Rattle.like_requests.specs.Setup.{IsThere}
+use Rattle.like_roles.specs.WorkerView.{WorkerView, IsSliceInSplit, has_to_wait}
 
 -- the worker of a post and what is kept beside it
 abbrev pub view_of : PostView → Desk → WorkerView

@@ -14,7 +14,8 @@ use Rattle.like_roles.specs.Likes.{last_like, likes_among}
 use Rattle.like_roles.specs.Order.{Entry, block, entry_of, order, order_below}
 use Rattle.like_roles.specs.Replies.{HasRightAnswers}
 use Rattle.like_roles.specs.Service.{Service, marks, request_at, submitters}
-use Rattle.like_roles.specs.WorkerView.{WorkerView, HasEnded, IsThere, phase_at, submitter_at}
+use Rattle.like_requests.specs.Setup.{IsThere}
+use Rattle.like_roles.specs.WorkerView.{WorkerView, HasEnded, phase_at, submitter_at}
 
 -- the service is the one that the worker serves
 pub record IsServed (service : Service) (v : WorkerView) : Type 0 where

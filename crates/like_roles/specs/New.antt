@@ -1,23 +1,11 @@
 -- A worker that was just made.
-use Rattle.std.specs.Prelude.{◌≡◌, ℕ, ◌+◌, ◌*◌, ◌<◌, ◌≤◌, ◌↔◌, Bool, false, List, [], length, map, replicate, slice_index, All, None}
+use Rattle.std.specs.Prelude.{◌≡◌, ℕ, ◌+◌, ◌*◌, ◌<◌, ◌↔◌, false, List, [], length, replicate, slice_index, None}
 use Rattle.like_requests.specs.Pages.{Page, marks_of}
 use Rattle.like_requests.specs.declared.setup.Setup.{Setup}
-use Rattle.like_requests.specs.Limits.{max_workers, max_submitters, max_users, max_stash, max_requests}
 use Rattle.like_core.specs.Post.{PostView, IsFresh}
 use Rattle.like_tables.specs.Share.{share_of}
 use Rattle.like_tables.specs.UserTable.{table_without_likes}
 use Rattle.like_roles.specs.WorkerView.{WorkerView}
-
--- the settings and the submitters' numbers of requests are within the limits of a run
-pub record IsWithin (s : Setup) (sizes : List ℕ) : Type 0 where
-  pub some_workers : 1 ≤ s.workers
-  pub few_workers : s.workers ≤ max_workers
-  pub some_submitters : 1 ≤ length sizes
-  pub few_submitters : length sizes ≤ max_submitters
-  pub users : s.users ≤ max_users
-  pub some_stash : 1 ≤ s.stash
-  pub few_stash : s.stash ≤ max_stash
-  pub small : All (λ n. n ≤ max_requests) sizes
 
 -- the post is that worker's, at a board with these pages, and no call was made on it
 pub record IsPostOf (worker : ℕ) (pages : List Page) (post : PostView) : Type 0 where

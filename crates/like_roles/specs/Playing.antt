@@ -9,7 +9,8 @@ use Rattle.like_requests.specs.Pages.{Page}
 use Rattle.like_board.specs.declared.worker_seat.WorkerSeat.{WorkerSeat}
 use Rattle.like_board.specs.Seats.{BoardId, seat_board, seat_meaning}
 use Rattle.like_roles.specs.New.{IsPostOf}
-use Rattle.like_roles.specs.WorkerView.{WorkerView, IsThere, submitter_at}
+use Rattle.like_requests.specs.Setup.{IsThere}
+use Rattle.like_roles.specs.WorkerView.{WorkerView, submitter_at}
 
 -- the first so many requests of the plan were taken from the worker's one submitter
 pub record IsAt (plan : List Request) (next : ℕ) (v : WorkerView) : Type 0 where

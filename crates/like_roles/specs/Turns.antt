@@ -11,7 +11,8 @@ use Rattle.like_core.specs.Post.{looked_at, answered, retired, pages_of, additio
 use Rattle.like_tables.specs.declared.held.Held.{Held}
 use Rattle.like_roles.specs.declared.turn.Turn.{Turn}
 use Rattle.like_roles.specs.declared.turn.Turn.TheVariants as turn
-use Rattle.like_roles.specs.WorkerView.{WorkerView, HasEnded, IsThere, IsNextPlace, phase_at, submitter_at, has_to_wait}
+use Rattle.like_requests.specs.Setup.{IsThere}
+use Rattle.like_roles.specs.WorkerView.{WorkerView, HasEnded, IsNextPlace, phase_at, submitter_at, has_to_wait}
 use Rattle.like_roles.specs.Serve.{Runs}
 
 -- the worker after a look

@@ -1,7 +1,5 @@
 -- What a worker is, as contracts see it.
-use Rattle.std.specs.Prelude.{◌≡◌, ◌≢◌, ℕ, ◌+◌, ◌-◌, ◌*◌, ◌<◌, nat_le, if◌then◌else◌, Bool, true, false, List, length, slice_index, slice_index_or, Option, ⊤}
-use Rattle.like_requests.specs.declared.request.PageRef.{PageRef}
-use Rattle.like_requests.specs.declared.request.PageRef.TheVariants.{Known, Unknown}
+use Rattle.std.specs.Prelude.{◌≡◌, ◌≢◌, ℕ, ◌+◌, ◌-◌, ◌*◌, ◌<◌, nat_le, if◌then◌else◌, Bool, true, false, List, length, slice_index, slice_index_or, Option}
 use Rattle.like_requests.specs.declared.request.Request.{Request}
 use Rattle.like_core.specs.WorkerState.{RunsSplit, phase_of}
 use Rattle.like_core.specs.Post.{PostView, is_marked, slices}
@@ -53,11 +51,6 @@ pub record IsNextPlace (ended : List Bool) (cursor place : ℕ) : Type 0 where
 -- whether a request of a submitter has to wait for the next joined phase
 abbrev pub has_to_wait : WorkerView → ℕ → Request → Bool
 has_to_wait v submitter r = is_look_at_sliced v.last.share.users v.last.share.submitters (slices v.post) submitter r
-
--- the page of a request is there, where it is known
-abbrev pub IsThere : ℕ → PageRef → Type 0
-IsThere pages (Known page) = page < pages
-IsThere pages Unknown = ⊤
 
 -- a slice that is not empty belongs to a worker that runs a split phase, and has pages that are marked as split alone
 abbrev pub IsSliceInSplit : PostView → List ℕ → Type 0

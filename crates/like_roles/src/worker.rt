@@ -1,6 +1,7 @@
 ghost use Rattle.std.specs.Prelude.{◌≡◌, ◌<◌, IfOk, IfErr, IsSome, None};
 ghost use Rattle.like_core.specs.declared.worker_state.WorkerState.TheVariants.{Gone};
-ghost use Rattle.like_roles.specs.New.{IsNew, IsPostOf, IsWithin};
+ghost use Rattle.like_requests.specs.Setup.{IsWithin};
+ghost use Rattle.like_roles.specs.New.{IsNew, IsPostOf};
 ghost use Rattle.like_roles.specs.Follows.{Follows, IsAskedBy, IsDone, IsServiceOf};
 ghost use Rattle.like_roles.specs.Service.{Service};
 ghost use Rattle.like_roles.specs.Turns.{CanGive, Gives, HasTaken, Pends, TakesNothing, Turns};

@@ -18,7 +18,8 @@ use Rattle.like_roles.specs.declared.turn.Turn.TheVariants as turn
 use Rattle.like_roles.specs.Follows.{Follows, IsAskedBy}
 use Rattle.like_roles.specs.Service.{Service, numbered_in, request_at}
 use Rattle.like_roles.specs.Turns.{CanGive, Gives, HasTaken, IsNext, Pends, TakesNothing, Turns, with_taken}
-use Rattle.like_roles.specs.WorkerView.{WorkerView, IsThere, phase_at, submitter_at}
+use Rattle.like_requests.specs.Setup.{IsThere}
+use Rattle.like_roles.specs.WorkerView.{WorkerView, phase_at, submitter_at}
 use Rattle.like_run.specs.Log.{IsRising, numbers_taken}
 use Rattle.like_run.specs.Server.{Agree, AgreesAt, AreOwnPlans, Serves, numbers_given, plans_of, requests_taken}
 use Rattle.like_run.proofs.Numbers.{count-taken, given-own, numbers-next, numbers-same, slice_get-set_other, slice_get-set_same}

@@ -6,10 +6,7 @@ use Rattle.std.proofs.lemmas.Bool.{cases_Bool, cases_lt, le-ltb, ltb-true}
 use Rattle.std.proofs.lemmas.List.{get_or-replicate, length-map, length-replicate}
 use Rattle.std.proofs.lemmas.Option.{slice_get-map, slice_get_within, get_or_from_slice_get, slice_get-get_or, slice_get_past, unwrap_or-slice_get}
 use Rattle.like_requests.specs.Pages.{Page}
-use Rattle.like_requests.specs.Setup as setup
-use Rattle.like_requests.specs.Setup.{IsPlan}
-use Rattle.like_requests.specs.declared.request.PageRef.{PageRef}
-use Rattle.like_requests.specs.declared.request.PageRef.TheVariants.{Known, Unknown}
+use Rattle.like_requests.specs.Setup.{IsPlan, IsThere}
 use Rattle.like_requests.specs.declared.request.Request.{Request}
 use Rattle.like_requests.specs.declared.setup.Setup.{Setup}
 use Rattle.like_core.specs.Post.{PostView}
@@ -23,7 +20,7 @@ use Rattle.like_tables.specs.Share.{Share, serves}
 use Rattle.like_roles.specs.declared.log.WorkerLog.{WorkerLog}
 use Rattle.like_roles.specs.Follows.{IsDone}
 use Rattle.like_roles.specs.Service.{Service}
-use Rattle.like_roles.specs.WorkerView.{WorkerView, IsThere, phase_at}
+use Rattle.like_roles.specs.WorkerView.{WorkerView, phase_at}
 use Rattle.like_run.specs.Log.{IsLog, NoneAbove, TakesPlans, numbers_taken, plan_of}
 use Rattle.like_run.specs.Server.{Agree, AreInboxesFor, Serves, ServerView, place_of, plans_of, requests_taken}
 use Rattle.like_run.proofs.Numbers.{own-place}
@@ -100,11 +97,8 @@ same-length own inboxes sizes number workers o sized =
       nobody = record { plan = []; opened = 0; taken = 0 }
 
 -- a page that is there is below the number of marks
-there-too : (pages : List Page) (marks : List Bool) → marks ≡ marks_of pages → (r : Request) → setup.IsThere pages r.page → IsThere (length marks) r.page
-there-too pages marks e r h = by_page r.page h where
-  by_page : (p : PageRef) → setup.IsThere pages p → IsThere (length marks) p
-  by_page (Known page) h = omega (arith, h, ap (λ (xs : List Bool). length xs) e, length-map pages (λ (p : Page). p.split))
-  by_page Unknown h = tt
+there-too : (pages : List Page) (marks : List Bool) → marks ≡ marks_of pages → (r : Request) → IsThere (length pages) r.page → IsThere (length marks) r.page
+there-too pages marks e r = subst (λ many. IsThere many r.page) (sym (ap (λ (xs : List Bool). length xs) e ∙ length-map pages (λ (p : Page). p.split)))
 
 -- a worker that has done nothing yet agrees with untouched inboxes
 pub agree-new : (s : Setup) (sizes : List ℕ) (number : ℕ) (post : PostView) (v : WorkerView) (inboxes : List Inbox) → number < s.workers → IsPostOf number s.pages post → AreInboxesFor s sizes number inboxes

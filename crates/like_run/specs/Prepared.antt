@@ -4,7 +4,7 @@ use Rattle.like_requests.specs.declared.request.Request.{Request}
 use Rattle.like_requests.specs.declared.setup.Setup.{Setup}
 use Rattle.like_core.specs.declared.opening.Opening.{Opening}
 use Rattle.like_board.specs.Seats.{board_id, coord_board, coord_view}
-use Rattle.like_roles.specs.New.{IsWithin}
+use Rattle.like_requests.specs.Setup.{IsWithin}
 use Rattle.like_requests.specs.Pages.{counts_of, marks_of}
 use Rattle.like_run.specs.declared.preparing.Prepared.{Prepared}
 use Rattle.like_run.specs.Made.{AreNewSeats}

@@ -2,7 +2,7 @@
 use Rattle.std.specs.Prelude.{◌≡◌, ◌≢◌, ℕ, ◌+◌, ◌*◌, ◌/◌, ◌<◌, min, nat_lt, if◌then◌else◌, true, List, [], length, map, slice_get, slice_index, slice_index_or, All, IfSome, Some}
 use Rattle.std.specs.List.{range_with_len}
 use Rattle.std.specs.Option.{option_map_or}
-use Rattle.like_requests.specs.Setup.{IsPlan}
+use Rattle.like_requests.specs.Setup.{IsPlan, IsThere}
 use Rattle.like_requests.specs.declared.setup.Setup.{Setup}
 use Rattle.like_requests.specs.declared.request.Request.{Request}
 use Rattle.like_core.specs.declared.worker_state.WorkerState.TheVariants.{Gone}
@@ -11,7 +11,7 @@ use Rattle.like_queue.specs.Inbox.{Inbox}
 use Rattle.like_tables.specs.Share.{Share, serves}
 use Rattle.like_roles.specs.Follows.{Follows}
 use Rattle.like_roles.specs.Service.{Service}
-use Rattle.like_roles.specs.WorkerView.{WorkerView, IsThere, phase_at}
+use Rattle.like_roles.specs.WorkerView.{WorkerView, phase_at}
 use Rattle.like_run.specs.Log.{IsRising, NoneAbove, numbers_taken}
 
 -- the worker, and the inboxes of its submitters by place

@@ -1,9 +1,8 @@
 ghost use Rattle.std.specs.Prelude.{◌≡◌, ◌≤◌, All, IfOk, length, map};
 ghost use Rattle.like_requests.specs.Pages.{ArePages};
-ghost use Rattle.like_requests.specs.Setup.{IsPlan};
+ghost use Rattle.like_requests.specs.Setup.{IsPlan, IsWithin};
 ghost use Rattle.like_requests.specs.Limits.{max_requests};
 ghost use Rattle.like_board.specs.Seats.{board_id, board_numbers};
-ghost use Rattle.like_roles.specs.New.{IsWithin};
 ghost use Rattle.like_requests.specs.Pages.{marks_of};
 ghost use Rattle.like_run.specs.Made.{AreNewSeats, AreServers, service_of};
 

@@ -1,7 +1,6 @@
 ghost use Rattle.std.specs.Prelude.{◌≡◌, ◌≤◌, All, IfErr, IfOk, OnOk, length, map};
-ghost use Rattle.like_requests.specs.Setup.{IsPlan, IsWithinLimits};
+ghost use Rattle.like_requests.specs.Setup.{IsPlan, IsWithin, IsWithinLimits};
 ghost use Rattle.like_board.specs.Seats.{board_id, coord_board, coord_view};
-ghost use Rattle.like_roles.specs.New.{IsWithin};
 ghost use Rattle.like_script.specs.Limits.{max_entries};
 ghost use Rattle.like_run.specs.EndToEnd.{IsEndToEnd};
 ghost use Rattle.like_run.specs.Made.{AreNewSeats, service_of};

@@ -3,7 +3,8 @@ ghost use Rattle.like_core.specs.declared.worker_state.WorkerState.TheVariants.{
 ghost use Rattle.like_core.specs.Post.{additions_of};
 ghost use Rattle.like_tables.specs.Share.{share_of};
 ghost use Rattle.like_roles.specs.Likes.{likes_among};
-ghost use Rattle.like_roles.specs.New.{IsPostOf, IsWithin};
+ghost use Rattle.like_requests.specs.Setup.{IsWithin};
+ghost use Rattle.like_roles.specs.New.{IsPostOf};
 ghost use Rattle.like_roles.specs.Service.{Service};
 ghost use Rattle.like_run.specs.Log.{IsLog, NoneAbove};
 ghost use Rattle.like_roles.specs.Follows.{IsServiceOf};

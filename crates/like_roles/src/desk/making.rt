@@ -3,7 +3,8 @@ ghost use Rattle.like_requests.specs.Limits.{max_requests, max_submitters};
 ghost use Rattle.like_requests.specs.Pages.{ArePages};
 ghost use Rattle.like_tables.specs.Share.{share_of};
 ghost use Rattle.like_tables.specs.UserTable.{table_without_likes};
-ghost use Rattle.like_roles.specs.New.{AreOwnSizes, IsWithin};
+ghost use Rattle.like_requests.specs.Setup.{IsWithin};
+ghost use Rattle.like_roles.specs.New.{AreOwnSizes};
 ghost use Rattle.like_requests.specs.Pages.{marks_of};
 ghost use Rattle.like_roles.specs.Desk.{IsNewDesk};
 

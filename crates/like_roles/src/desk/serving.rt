@@ -4,7 +4,7 @@ ghost use Rattle.like_core.specs.WorkerState.{IsRunning};
 ghost use Rattle.like_tables.specs.Share.{owns};
 ghost use Rattle.like_roles.specs.Desk.{view_of, CanServe, HasRoomForOne, HasRoomToNote, IsSound};
 ghost use Rattle.like_roles.specs.Order.{is_look_at_sliced};
-ghost use Rattle.like_roles.specs.WorkerView.{IsThere};
+ghost use Rattle.like_requests.specs.Setup.{IsThere};
 ghost use Rattle.like_roles.specs.Serve.{liked, Runs, GivesReply};
 
 use crate::desk::Desk;

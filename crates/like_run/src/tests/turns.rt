@@ -1,9 +1,8 @@
 //! The answers of each turn of a script.
 ghost use Rattle.std.specs.Prelude.{◌≡◌, ◌≤◌, All, length, map};
 ghost use Rattle.std.specs.List.{AllZip};
-ghost use Rattle.like_requests.specs.Setup.{IsPlan, IsWithinLimits};
+ghost use Rattle.like_requests.specs.Setup.{IsPlan, IsWithin, IsWithinLimits};
 ghost use Rattle.like_board.specs.Seats.{board_id, coord_board};
-ghost use Rattle.like_roles.specs.New.{IsWithin};
 ghost use Rattle.like_script.specs.Limits.{max_entries};
 ghost use Rattle.like_run.specs.Made.{AreNewSeats};
 ghost use Rattle.like_script.specs.Fit.{IsInRun};

@@ -1,6 +1,7 @@
 use Rattle.std.proofs.Common.{List, Vec, Global, None, map}
 use Rattle.std.proofs.lemmas.Result.{err_from_is_err_and}
 use Rattle.like_requests.specs.declared.request.Request.{Request}
+use Rattle.like_requests.proofs.Planned.{plans-within}
 use Rattle.like_run.specs.Made.{service_of}
 use Rattle.like_driver.specs.Inputs.{Inputs}
 use Rattle.like_driver.specs.Replayed.{GivesLists, setup_of}
@@ -13,7 +14,7 @@ requests_of plan = plan.items
 
 pub write_report-requires : goal.write_report-requires
 write_report-requires g c =
-    IsWritable-end_to_end (service_of (setup_of c.args.options.now c.in_ok-pages.pages) (map requests_of c.in_ok-plans.plans.items)) c.in_ok-report.ensures.within.lists
+    IsWritable-end_to_end (service_of (setup_of c.args.options.now c.in_ok-pages.pages) (map requests_of c.in_ok-plans.plans.items)) (plans-within _ _ c.in_ok-report.ensures.within)
     c.args.options.now.workers c.in_ok-report.report c.in_ok-report.ensures.report
 
 pub returns-in_err-report-clause-fault : goal.returns-in_err-report-clause-fault

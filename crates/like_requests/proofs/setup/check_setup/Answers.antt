@@ -1,7 +1,8 @@
-use Rattle.std.proofs.Common.{◌+◌, ◌<◌, ℕ, List, sym, arith, length, map, slice_index_or, below_more}
-use Rattle.std.proofs.lemmas.List.{get_or-map}
-use Rattle.like_requests.specs.Setup.{IsPlan}
+use Rattle.std.proofs.Common.{◌≡◌, ◌+◌, ◌<◌, ℕ, List, sym, subst, arith, length, map, slice_index_or, below_more}
+use Rattle.std.proofs.lemmas.List.{get_or-map, length-map}
+use Rattle.like_requests.specs.Setup.{AreNumbersWithin, IsPlan}
 use Rattle.like_requests.specs.declared.request.Request.{Request}
+use Rattle.like_requests.proofs.Planned.{limits-hold}
 use Rattle.like_requests.proofs.setup.check_setup.Goals as goal
 
 pub loop-submitter-preserved : goal.loop-submitter-preserved
@@ -21,3 +22,11 @@ loop-submitter-preserved c = λ k d below. kept k below d
         → IsPlan c.args.setup.now.pages (slice_index_or (map (λ plan. plan.items) c.args.plans.now) k d)
     kept = below_more (λ k. (d : List Request) → IsPlan c.args.setup.now.pages (slice_index_or (map (λ plan. plan.items) c.args.plans.now) k d))
         c.loop-submitter.submitter (λ k below d. c.loop-submitter.invariant k d below) here
+
+pub returns : goal.returns
+returns c =
+    let lists = map (λ plan. plan.items) c.args.plans.now in
+    let many : length lists ≡ length c.args.plans.now = length-map c.args.plans.now (λ plan. plan.items) in
+    limits-hold c.args.setup.now lists
+    (subst (AreNumbersWithin c.args.setup.now) (sym many) c.in_default.ensures.broken)
+    (λ k d h. c.loop-submitter.invariant k d (omega (arith, h, many)))

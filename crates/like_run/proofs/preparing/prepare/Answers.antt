@@ -1,8 +1,7 @@
-use Rattle.std.proofs.Common.{◌≡◌, ◌≤◌, ◌∙◌, ℕ, List, Vec, Global, Bool, length, map, sym, ap, subst, arith}
+use Rattle.std.proofs.Common.{◌≡◌, ◌≤◌, ◌∙◌, ℕ, List, Vec, Global, Bool, length, map, sym, ap, subst}
 use Rattle.std.specs.List.{All}
-use Rattle.std.proofs.lemmas.List.{length-map}
 use Rattle.like_requests.specs.Pages.{Page}
-use Rattle.like_requests.specs.Setup.{IsPlan}
+use Rattle.like_requests.specs.Setup.{IsWithin}
 use Rattle.like_requests.specs.declared.request.Request.{Request}
 use Rattle.like_requests.specs.Limits.{max_count}
 use Rattle.like_requests.specs.Limits.{max_requests}
@@ -16,7 +15,8 @@ abbrev requests_of : Vec Request Global → List Request
 requests_of plan = plan.items
 
 pub sizes_of-requires : goal.sizes_of-requires
-sizes_of-requires c = λ k d within. (all-back requests_of (IsPlan c.args.setup.now.pages) c.args.plans.now c.requires.lists k d within).few
+sizes_of-requires c =
+    all-back requests_of (λ plan. length plan ≤ max_requests) c.args.plans.now (all-back length (λ n. n ≤ max_requests) (map requests_of c.args.plans.now) c.requires.numbers.small)
 
 pub new-requires-clause-counts : goal.new-requires-clause-counts
 new-requires-clause-counts c =
@@ -25,26 +25,12 @@ new-requires-clause-counts c =
 
 pub returns : goal.returns
 returns c =
-    let n = c.requires.numbers in
-    let sized : c.in_ok-sizes.sizes.items ≡ map (λ (p : Vec Request Global). length p.items) c.args.plans.now = c.in_ok-sizes.ensures in
-    let len : length c.in_ok-sizes.sizes.items ≡ length (map requests_of c.args.plans.now) =
-    ap (λ (xs : List ℕ). length xs) sized ∙ length-map c.args.plans.now (λ (p : Vec Request Global). length p.items) ∙ sym (length-map c.args.plans.now requests_of) in
+    let sizes : c.in_ok-sizes.sizes.items ≡ map length (map requests_of c.args.plans.now) = c.in_ok-sizes.ensures ∙ map-twice requests_of length c.args.plans.now in
     let counts : c.deref.result.now ≡ map (λ (p : Page). p.count) c.args.setup.now.pages = c.deref.ensures.value ∙ c.in_ok-counts.ensures.counts in
     let marks : c.deref-2.result.now ≡ map (λ (p : Page). p.split) c.args.setup.now.pages = c.deref-2.ensures.value ∙ c.in_ok-marks.ensures in
     record {
-      sizes = sized ∙ map-twice requests_of length c.args.plans.now;
-      within = record {
-        some_workers = n.0.0;
-        few_workers = n.0.1;
-        some_submitters = omega (arith, len, n.1.0.0);
-        few_submitters = omega (arith, len, n.1.0.1);
-        users = n.1.1.0.1;
-        some_stash = n.1.1.1.0.0;
-        few_stash = n.1.1.1.0.1;
-        small = subst (λ (xs : List ℕ). All (λ m. m ≤ max_requests) xs) (sym sized)
-            (all-map (λ (p : Vec Request Global). length p.items) (λ m. m ≤ max_requests) c.args.plans.now
-            (λ k d within. (all-back requests_of (IsPlan c.args.setup.now.pages) c.args.plans.now c.requires.lists k d within).few));
-      };
+      sizes = sizes;
+      within = subst (IsWithin c.args.setup.now) (sym sizes) c.requires.numbers;
       counts = c.in_ok-counts.ensures.counts;
       coord = c.in_ok-board.ensures.coord_here;
       start = ap (λ (v : CoordSeatView). v.phase) c.in_ok-board.ensures.coord;

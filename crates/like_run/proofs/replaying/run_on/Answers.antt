@@ -19,7 +19,7 @@ play-requires-clause-before_end c =
 pub play-requires-clause-can : goal.play-requires-clause-can
 play-requires-clause-can c = λ k d within.
     can-make (service_of c.args.setup.now (map requests_of c.args.plans.items)) c.args.setup.now.workers (board_numbers (board_id c.args.board.now)) c.in_ok-servers.servers.items (get_or c.args.script.now k d)
-    c.in_ok-servers.ensures c.requires.within.some_workers
+    c.in_ok-servers.ensures c.requires.within.workers.0
     (subst (λ n. IsInRun c.args.setup.now.workers n (get_or c.args.script.now k d)) (sym (length-map c.args.plans.items requests_of)) (c.requires.script k d within))
 
 pub returns-clause-ended : goal.returns-clause-ended

@@ -37,7 +37,7 @@ final_counts-counts-requires-clause-places c = ap (λ (xs : List ℕ). length xs
 
 pub replies_of-requires-clause-few : goal.replies_of-requires-clause-few
 replies_of-requires-clause-few c =
-    omega (arith, ap (λ (xs : List ℕ). length xs) c.requires.sizes, length-map c.args.plans.now.value.items (λ (p : Vec Request Global). length p.items), length-map c.args.plans.now.value.items requests_of, c.requires.within.numbers.1.0.1)
+    omega (arith, ap (λ (xs : List ℕ). length xs) c.requires.sizes, length-map c.args.plans.now.value.items (λ (p : Vec Request Global). length p.items), length-map c.args.plans.now.value.items requests_of, length-map (map requests_of c.args.plans.now.value.items) length, c.requires.within.numbers.submitters.1)
 
 pub replies_of-requires-clause-once : goal.replies_of-requires-clause-once
 replies_of-requires-clause-once c =
@@ -47,18 +47,18 @@ replies_of-requires-clause-once c =
     let z : Opening = opening_of c.args.setup.now in
     let sized : c.args.sizes.now ≡ map length (map requests_of c.args.plans.now.value.items) = c.requires.sizes ∙ map-twice requests_of length c.args.plans.now.value.items in
     subst (λ (logs : List WorkerLog). RunsOnce c.args.sizes.now (entries_in logs)) (sym c.deref.ensures.value)
-    (runs-once service workers e.logs.items c.args.sizes.now sized (logs-size service workers (board_id c.args.board) z e c.requires.ended) c.requires.within.numbers.0.0
+    (runs-once service workers e.logs.items c.args.sizes.now sized (logs-size service workers (board_id c.args.board) z e c.requires.ended) c.requires.within.numbers.workers.0
     (log-at service workers (board_id c.args.board) z e c.requires.ended))
 
 pub last_likes-requires-clause-submitters : goal.last_likes-requires-clause-submitters
 last_likes-requires-clause-submitters c =
-    omega (arith, ap (λ (xs : List ℕ). length xs) c.requires.sizes, length-map c.args.plans.now.value.items (λ (p : Vec Request Global). length p.items), length-map c.args.plans.now.value.items requests_of, c.requires.within.numbers.1.0.0)
+    omega (arith, ap (λ (xs : List ℕ). length xs) c.requires.sizes, length-map c.args.plans.now.value.items (λ (p : Vec Request Global). length p.items), length-map c.args.plans.now.value.items requests_of, length-map (map requests_of c.args.plans.now.value.items) length, c.requires.within.numbers.submitters.0)
 
 pub last_likes-requires-clause-logs : goal.last_likes-requires-clause-logs
 last_likes-requires-clause-logs c =
     let size = logs-size (service_of c.args.setup.now (map requests_of c.args.plans.now.value.items)) c.args.setup.now.workers (board_id c.args.board) (opening_of c.args.setup.now) c.args.ended c.requires.ended in
     let same : length c.deref-2.result.now ≡ c.args.setup.now.workers = ap (λ (xs : List WorkerLog). length xs) c.deref-2.ensures.value ∙ size in
-    let some : 1 ≤ c.args.setup.now.workers = c.requires.within.numbers.0.0 in
+    let some : 1 ≤ c.args.setup.now.workers = c.requires.within.numbers.workers.0 in
     omega (arith, same, some)
 
 -- the number of submitters
@@ -91,7 +91,7 @@ returns c =
           (subst (λ (logs : List WorkerLog). IsCollected c.args.sizes.now (entries_in logs) (rows_of c.in_ok-replies.replies)) c.deref.ensures.value c.in_ok-replies.ensures);
       counts = counts-are service workers (board_id c.args.board) z e h c.final_counts-counts.result.items refl (c.final_counts-counts.ensures.len ∙ before)
           (λ page there. c.final_counts-counts.ensures.counts page (omega (arith, there, before)));
-      last = last-likes-are service workers e.logs.items c.in_ok-last.last.items size c.requires.within.numbers.0.0 (log-at service workers (board_id c.args.board) z e h) c.in_ok-last.ensures.len
+      last = last-likes-are service workers e.logs.items c.in_ok-last.last.items size c.requires.within.numbers.workers.0 (log-at service workers (board_id c.args.board) z e h) c.in_ok-last.ensures.len
           (λ user log there at.
           c.in_ok-last.ensures.last user log there
           (ap (λ (logs : List WorkerLog). slice_get logs (worker_of (length logs) (home (length c.args.sizes.now) user))) c.deref-2.ensures.value

@@ -13,5 +13,5 @@ requests_of plan = plan.items
 pub answers_of-requires-clause-can : goal.answers_of-requires-clause-can
 answers_of-requires-clause-can c = λ k d within.
     can-make (service_of c.args.setup.now (map requests_of c.args.plans.items)) c.args.setup.now.workers (board_numbers (board_id c.args.board.now)) c.in_ok-servers.servers.items (get_or c.args.script.now k d)
-    c.in_ok-servers.ensures c.requires.within.some_workers
+    c.in_ok-servers.ensures c.requires.within.workers.0
     (subst (λ n. IsInRun c.args.setup.now.workers n (get_or c.args.script.now k d)) (sym (length-map c.args.plans.items requests_of)) (c.requires.script k d within))
