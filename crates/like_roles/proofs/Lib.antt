@@ -11,8 +11,5 @@ pub mod Merging
 pub mod Served
 pub mod Started
 pub mod Tallied
-pub mod CueAdds
-pub mod CueSteps
-pub mod CueMade
-pub mod Played
+pub mod Testing
 pub mod Coordinating

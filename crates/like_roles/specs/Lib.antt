@@ -9,6 +9,5 @@ pub mod Desk
 pub mod Places
 pub mod New
 pub mod Follows
-pub mod Cue
-pub mod Playing
+pub mod Testing
 pub mod CoordTurns

@@ -1,8 +1,10 @@
 -- A worker that was just made.
-use Rattle.std.specs.Prelude.{◌≡◌, ℕ, ◌+◌, ◌*◌, ◌<◌, ◌↔◌, false, List, [], length, replicate, slice_index, None}
+use Rattle.std.specs.Prelude.{◌≡◌, ℕ, ◌+◌, ◌*◌, ◌<◌, ◌↔◌, false, List, [], length, replicate, slice_index, slice_get, Some, None}
 use Rattle.like_requests.specs.Pages.{Page, marks_of}
 use Rattle.like_requests.specs.declared.setup.Setup.{Setup}
 use Rattle.like_core.specs.Post.{PostView, IsFresh}
+use Rattle.like_board.specs.declared.worker_seat.WorkerSeat.{WorkerSeat}
+use Rattle.like_board.specs.Seats.{BoardId, seat_board, seat_meaning}
 use Rattle.like_tables.specs.Share.{share_of}
 use Rattle.like_tables.specs.UserTable.{table_without_likes}
 use Rattle.like_roles.specs.WorkerView.{WorkerView}
@@ -12,6 +14,12 @@ pub record IsPostOf (worker : ℕ) (pages : List Page) (post : PostView) : Type 
   pub is_his : post.worker ≡ worker
   pub marks : post.marks ≡ marks_of pages
   pub fresh : IsFresh post
+
+-- the seats of all workers at a board with these pages, in order; no call was made on them
+abbrev pub AreNewSeats : BoardId → List Page → List WorkerSeat → Type 0
+AreNewSeats board pages seats =
+    (worker : ℕ) (seat : WorkerSeat) → slice_get seats worker ≡ Some seat
+    → (seat_board seat ≡ board) × IsPostOf worker pages (seat_meaning seat)
 
 -- the numbers of requests of a worker's submitters, by place
 pub record AreOwnSizes (sizes : List ℕ) (workers worker : ℕ) (own : List ℕ) : Type 0 where

@@ -1,22 +1,28 @@
-//! The worker's turns of the worked examples, played over a core of one worker.
-mod boards;
-mod cue;
+//! The turns of the worked examples, of workers and the coordinator at one board.
 mod gates;
-mod playing;
+mod play;
+mod player;
 
-ghost use Rattle.std.specs.Prelude.{◌≡◌, [], ◌∷◌};
-ghost use Rattle.like_requests.specs.Setup.{IsWithinLimits};
-
-use crate::{Ran, Reply, Took, Turn, WorkerLog};
-use cue::Cued::{Announce, Release};
-use cue::{Cue, Cued};
+use crate::{CoordTurn, Ran, Reply, Took, Turn, WorkerLog};
 use gates::Call::{Phase, Run};
 use gates::{Call, Expecting};
-use like_requests::{Op, PageRef, Request, Setup};
-use playing::{play, setup_of, worker_at};
+use like_requests::{Op, PageRef, Request, Setup, check_setup, read_pages};
+use play::Step::{Coord, Worker};
+use play::{Play, Step, board_of};
 use std::alloc::Global;
 use std::process::Abort;
 use std::test::Fail;
+
+/// The settings of a run with two users, no counted turns and these pages.
+fn setup_of(alloc: Global, workers: u32, stash: u32, pages: &[u8]) -> Result<Setup, Fail> {
+    Ok(Setup {
+        workers,
+        users: 2,
+        stash,
+        turns: 0,
+        pages: read_pages(alloc, pages)?,
+    })
+}
 
 /// A request of user 0.
 fn ask(op: Op, page: u32) -> Request {
@@ -51,161 +57,121 @@ fn seen(last: Option<u32>, count: u64) -> Reply {
     Reply::Seen { last, count }
 }
 
-/// Plays a run of one worker and one submitter: the coordinator's steps before each look, the answer of each turn, and
-/// the calls of the gate.
-fn log_of(
+/// The last phase that the coordinator saw, and what the first worker has done, in a run with one submitter: the steps
+/// in their order with the answer of each, and the calls of the gate.
+fn end_of(
     rt: &impl Abort,
     alloc: Global,
-    setup: &Setup,
-    plan: &Vec<Request>,
-    cues: &[&[Cued]],
-    turns: &[Turn],
+    setup: Setup,
+    plan: Vec<Request>,
+    steps: &[Step],
     calls: &[Call],
-) -> Result<WorkerLog, Fail>
-    requires { IsWithinLimits setup.now (plan.now.items ∷ []) }
-{
+) -> Result<(u32, WorkerLog), Fail> {
+    let plans = [plan];
+    check_setup(&setup, &plans)?;
+    let (board, coord, seats) = board_of(alloc, &setup)?;
     let gate = Expecting::new(alloc, calls)?;
-    let cue = Cue::new(alloc, &setup.pages, cues)?;
-    let mut worker = worker_at(alloc, setup, plan, cue)?;
-    play(rt, &mut worker, &gate, plan, turns);
-    let again = worker.turn(&gate);
-    assert!(rt; again == Turn::Retired);
+    let mut play = Play::new(alloc, &setup, plans[0].as_slice(), &board, coord, seats)?;
+    play.make(rt, &gate, steps);
+    let end = play.finish(rt, &gate);
     assert!(rt; gate.is_content());
-    let (log, _) = worker.finish();
-    Ok(log)
+    Ok(end)
 }
 
-// The course of `split-and-stash` and `stash-then-like`, with these answers of the fourth and the fifth turn of the
-// script.
-fn play_both(
-    rt: &impl Abort,
-    alloc: Global,
-    setup: &Setup,
-    plan: &Vec<Request>,
-    first: Turn,
-    second: Turn,
-    numbers: (u32, u32),
-) -> Result<WorkerLog, Fail>
-    requires { IsWithinLimits setup.now (plan.now.items ∷ []) }
-{
-    let cues: [&[Cued]; 9] = [
-        &[Announce],
-        &[Release],
-        &[],
-        &[Announce],
-        &[Release],
-        &[Announce],
-        &[Release],
-        &[Announce],
-        &[Release],
-    ];
-    let turns = [
-        Turn::Acknowledged,
-        first,
-        second,
-        Turn::Reported,
-        Turn::Ran,
-        Turn::Acknowledged,
-        Turn::TookEnd,
-        Turn::Reported,
-        Turn::Retired,
-    ];
-    let calls = [
+/// The log says that these requests were taken and run, and that user 0 liked this page last.
+fn expect(rt: &impl Abort, log: &WorkerLog, taken: &[Took], ran: &[Ran], last: Option<u32>) {
+    assert_eq!(rt; log.taken.as_slice(), taken);
+    assert_eq!(rt; log.ran.as_slice(), ran);
+    assert!(rt; log.last.owns(0));
+    assert_eq!(rt; log.last.last(0), last);
+}
+
+/// The steps of `split-and-stash` and `stash-then-like`, whose turns in the first split phase are answered like this.
+fn steps_of(first: Turn, second: Turn) -> [Step; 18] {
+    [
+        Coord(CoordTurn::Announced),
+        Worker(0, Turn::Acknowledged),
+        Coord(CoordTurn::Released),
+        Worker(0, first),
+        Worker(0, second),
+        Coord(CoordTurn::Announced),
+        Worker(0, Turn::Reported),
+        Coord(CoordTurn::Released),
+        Worker(0, Turn::Ran),
+        Coord(CoordTurn::Announced),
+        Worker(0, Turn::Acknowledged),
+        Coord(CoordTurn::Released),
+        Worker(0, Turn::TookEnd),
+        Coord(CoordTurn::Announced),
+        Worker(0, Turn::Reported),
+        Coord(CoordTurn::Released),
+        Worker(0, Turn::Retired),
+        Coord(CoordTurn::Ended),
+    ]
+}
+
+/// The calls of the gate in these runs, in which the requests run in this order.
+fn calls_of(first: u32, second: u32) -> [Call; 7] {
+    [
         Phase(0, 0),
         Phase(0, 1),
-        Run(0, 0, numbers.0),
+        Run(0, 0, first),
         Phase(0, 2),
-        Run(0, 0, numbers.1),
+        Run(0, 0, second),
         Phase(0, 3),
         Phase(0, 4),
-    ];
-    log_of(rt, alloc, setup, plan, &cues, &turns, &calls)
+    ]
 }
 
 #[test]
 fn splits_and_stashes(rt: HostRuntime) -> Result<(), Fail> {
-    let plans = [vec![in rt.alloc(); ask(Op::Like, 0), ask(Op::Look, 0)]?];
-    let setup = setup_of(
-        rt.alloc(),
-        1,
-        b"name,count,split\na,10,yes\n",
-        2,
-        256,
-        &plans,
-    )?;
-    let log = play_both(
-        &rt,
-        rt.alloc(),
-        &setup,
-        &plans[0],
-        Turn::Ran,
-        Turn::Stashed,
-        (1, 2),
-    )?;
-    assert_eq!(rt; log.taken.as_slice(), [took(1, 1), took(1, 2)].as_slice());
+    let setup = setup_of(rt.alloc(), 1, 256, b"name,count,split\na,10,yes\n")?;
+    let plan = vec![in rt.alloc(); ask(Op::Like, 0), ask(Op::Look, 0)]?;
+    let steps = steps_of(Turn::Ran, Turn::Stashed);
+    let (phase, log) = end_of(&rt, rt.alloc(), setup, plan, &steps, &calls_of(1, 2))?;
+    assert_eq!(rt; phase, 4);
     let entries = [
         ran(1, 1, false, Reply::Liked),
         ran(2, 2, true, seen(Some(0), 11)),
     ];
-    assert_eq!(rt; log.ran.as_slice(), entries.as_slice());
-    assert!(rt; log.last.owns(0) && log.last.owns(1));
-    assert_eq!(rt; log.last.last(0), Some(0));
+    expect(&rt, &log, &[took(1, 1), took(1, 2)], &entries, Some(0));
+    assert!(rt; log.last.owns(1));
     assert_eq!(rt; log.last.last(1), None);
     Ok(())
 }
 
 #[test]
 fn stashes_and_then_likes(rt: HostRuntime) -> Result<(), Fail> {
-    let plans = [vec![in rt.alloc(); ask(Op::Look, 0), ask(Op::Like, 1)]?];
-    let text = b"name,count,split\na,5,yes\nb,0,no\n";
-    let setup = setup_of(rt.alloc(), 1, text, 1, 256, &plans)?;
-    let log = play_both(
-        &rt,
-        rt.alloc(),
-        &setup,
-        &plans[0],
-        Turn::Stashed,
-        Turn::Ran,
-        (2, 1),
-    )?;
-    assert_eq!(rt; log.taken.as_slice(), [took(1, 1), took(1, 2)].as_slice());
+    let setup = setup_of(rt.alloc(), 1, 256, b"name,count,split\na,5,yes\nb,0,no\n")?;
+    let plan = vec![in rt.alloc(); ask(Op::Look, 0), ask(Op::Like, 1)]?;
+    let steps = steps_of(Turn::Stashed, Turn::Ran);
+    let (_, log) = end_of(&rt, rt.alloc(), setup, plan, &steps, &calls_of(2, 1))?;
     let entries = [
         ran(1, 2, false, Reply::Liked),
         ran(2, 1, true, seen(Some(1), 5)),
     ];
-    assert_eq!(rt; log.ran.as_slice(), entries.as_slice());
-    assert!(rt; log.last.owns(0));
-    assert_eq!(rt; log.last.last(0), Some(1));
+    expect(&rt, &log, &[took(1, 1), took(1, 2)], &entries, Some(1));
     Ok(())
 }
 
 #[test]
 fn idles_with_a_full_stash(rt: HostRuntime) -> Result<(), Fail> {
-    let plans = [vec![in rt.alloc(); ask(Op::Look, 0), ask(Op::Look, 0)]?];
-    let setup = setup_of(rt.alloc(), 1, b"name,count,split\na,0,yes\n", 1, 1, &plans)?;
-    let cues: [&[Cued]; 10] = [
-        &[Announce],
-        &[Release],
-        &[],
-        &[Announce],
-        &[Release],
-        &[],
-        &[Announce],
-        &[Release],
-        &[Announce],
-        &[Release],
-    ];
-    let turns = [
-        Turn::Acknowledged,
-        Turn::Stashed,
-        Turn::Idle,
-        Turn::Reported,
-        Turn::Ran,
-        Turn::Ran,
-        Turn::Acknowledged,
-        Turn::TookEnd,
-        Turn::Reported,
-        Turn::Retired,
+    let setup = setup_of(rt.alloc(), 1, 1, b"name,count,split\na,0,yes\n")?;
+    let plan = vec![in rt.alloc(); ask(Op::Look, 0), ask(Op::Look, 0)]?;
+    let steps = [
+        Coord(CoordTurn::Announced),
+        Worker(0, Turn::Acknowledged),
+        Coord(CoordTurn::Released),
+        Worker(0, Turn::Stashed),
+        Worker(0, Turn::Idle),
+        Coord(CoordTurn::Announced),
+        Worker(0, Turn::Reported),
+        Coord(CoordTurn::Released),
+        Worker(0, Turn::Ran),
+        Worker(0, Turn::Ran),
+        Worker(0, Turn::TookEnd),
+        Worker(0, Turn::Retired),
+        Coord(CoordTurn::Ended),
     ];
     let calls = [
         Phase(0, 0),
@@ -213,40 +179,33 @@ fn idles_with_a_full_stash(rt: HostRuntime) -> Result<(), Fail> {
         Phase(0, 2),
         Run(0, 0, 1),
         Run(0, 0, 2),
-        Phase(0, 3),
-        Phase(0, 4),
     ];
-    let log = log_of(&rt, rt.alloc(), &setup, &plans[0], &cues, &turns, &calls)?;
-    assert_eq!(rt; log.taken.as_slice(), [took(1, 1), took(2, 2)].as_slice());
+    let (_, log) = end_of(&rt, rt.alloc(), setup, plan, &steps, &calls)?;
     let entries = [
         ran(2, 1, true, seen(None, 0)),
         ran(2, 2, false, seen(None, 0)),
     ];
-    assert_eq!(rt; log.ran.as_slice(), entries.as_slice());
-    assert!(rt; log.last.owns(0));
-    assert_eq!(rt; log.last.last(0), None);
+    expect(&rt, &log, &[took(1, 1), took(2, 2)], &entries, None);
     Ok(())
 }
 
 #[test]
 fn runs_unsplit_pages_in_a_split_phase(rt: HostRuntime) -> Result<(), Fail> {
-    let plans = [vec![in rt.alloc(); ask(Op::Like, 0), ask(Op::Look, 0)]?];
-    let setup = setup_of(rt.alloc(), 1, b"name,count,split\na,7,no\n", 1, 256, &plans)?;
-    let cues: [&[Cued]; 6] = [
-        &[Announce],
-        &[Release],
-        &[],
-        &[Announce],
-        &[Release],
-        &[Announce],
-    ];
-    let turns = [
-        Turn::Acknowledged,
-        Turn::Ran,
-        Turn::Ran,
-        Turn::Reported,
-        Turn::TookEnd,
-        Turn::Retired,
+    let setup = setup_of(rt.alloc(), 1, 256, b"name,count,split\na,7,no\n")?;
+    let plan = vec![in rt.alloc(); ask(Op::Like, 0), ask(Op::Look, 0)]?;
+    let steps = [
+        Coord(CoordTurn::Announced),
+        Worker(0, Turn::Acknowledged),
+        Coord(CoordTurn::Released),
+        Worker(0, Turn::Ran),
+        Worker(0, Turn::Ran),
+        Coord(CoordTurn::Announced),
+        Worker(0, Turn::Reported),
+        Coord(CoordTurn::Released),
+        Worker(0, Turn::TookEnd),
+        Coord(CoordTurn::Announced),
+        Worker(0, Turn::Retired),
+        Coord(CoordTurn::Ended),
     ];
     let calls = [
         Phase(0, 0),
@@ -255,14 +214,81 @@ fn runs_unsplit_pages_in_a_split_phase(rt: HostRuntime) -> Result<(), Fail> {
         Run(0, 0, 2),
         Phase(0, 2),
     ];
-    let log = log_of(&rt, rt.alloc(), &setup, &plans[0], &cues, &turns, &calls)?;
-    assert_eq!(rt; log.taken.as_slice(), [took(1, 1), took(1, 2)].as_slice());
+    let (phase, log) = end_of(&rt, rt.alloc(), setup, plan, &steps, &calls)?;
+    assert_eq!(rt; phase, 2);
     let entries = [
         ran(1, 1, false, Reply::Liked),
         ran(1, 2, false, seen(Some(0), 8)),
     ];
-    assert_eq!(rt; log.ran.as_slice(), entries.as_slice());
-    assert!(rt; log.last.owns(0));
-    assert_eq!(rt; log.last.last(0), Some(0));
+    expect(&rt, &log, &[took(1, 1), took(1, 2)], &entries, Some(0));
+    Ok(())
+}
+
+#[test]
+fn runs_beside_idle_workers(rt: HostRuntime) -> Result<(), Fail> {
+    let setup = setup_of(rt.alloc(), 4, 256, b"name,count,split\na,0,yes\n")?;
+    let plan = vec![in rt.alloc(); ask(Op::Like, 0)]?;
+    let steps = [
+        Coord(CoordTurn::Announced),
+        Worker(0, Turn::Acknowledged),
+        Worker(1, Turn::Retired),
+        Worker(2, Turn::Retired),
+        Worker(3, Turn::Retired),
+        Coord(CoordTurn::Released),
+        Worker(0, Turn::Ran),
+        Worker(1, Turn::Retired),
+        Coord(CoordTurn::Announced),
+        Worker(0, Turn::Reported),
+        Coord(CoordTurn::Released),
+        Worker(0, Turn::TookEnd),
+        Coord(CoordTurn::Announced),
+        Worker(0, Turn::Retired),
+        Coord(CoordTurn::Ended),
+    ];
+    let calls = [
+        Phase(0, 0),
+        Phase(1, 0),
+        Phase(2, 0),
+        Phase(3, 0),
+        Phase(0, 1),
+        Run(0, 0, 1),
+        Phase(0, 2),
+    ];
+    let (phase, log) = end_of(&rt, rt.alloc(), setup, plan, &steps, &calls)?;
+    assert_eq!(rt; phase, 2);
+    expect(
+        &rt,
+        &log,
+        &[took(1, 1)],
+        &[ran(1, 1, false, Reply::Liked)],
+        Some(0),
+    );
+    Ok(())
+}
+
+#[test]
+fn counts_turns_in_each_phase(rt: HostRuntime) -> Result<(), Fail> {
+    let mut setup = setup_of(rt.alloc(), 1, 256, b"name,count,split\na,0,yes\n")?;
+    setup.turns = 1;
+    let plan = vec![in rt.alloc(); ask(Op::Like, 0)]?;
+    let steps = [
+        Coord(CoordTurn::Counted),
+        Coord(CoordTurn::Announced),
+        Coord(CoordTurn::Waiting),
+        Worker(0, Turn::Acknowledged),
+        Worker(0, Turn::Waiting),
+        Coord(CoordTurn::Released),
+        Worker(0, Turn::Ran),
+        Coord(CoordTurn::Counted),
+        Coord(CoordTurn::Announced),
+        Worker(0, Turn::Reported),
+        Coord(CoordTurn::Released),
+        Worker(0, Turn::TookEnd),
+        Worker(0, Turn::Retired),
+        Coord(CoordTurn::Ended),
+    ];
+    let calls = [Phase(0, 0), Phase(0, 1), Run(0, 0, 1), Phase(0, 2)];
+    let (phase, _) = end_of(&rt, rt.alloc(), setup, plan, &steps, &calls)?;
+    assert_eq!(rt; phase, 2);
     Ok(())
 }

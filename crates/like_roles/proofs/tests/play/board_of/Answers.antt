@@ -1,6 +1,6 @@
 use Rattle.std.proofs.Common.{ℕ, ◌^◌, ◌<◌, ◌≤◌, List, length, get_or, sym, subst, ◌∙◌}
-use Rattle.like_roles.proofs.CueMade.{counts_small}
-use Rattle.like_roles.proofs.tests.boards.board_of.Goals as goal
+use Rattle.like_roles.proofs.Testing.{counts_small}
+use Rattle.like_roles.proofs.tests.play.board_of.Goals as goal
 
 pub new-requires-clause-counts : goal.new-requires-clause-counts
 new-requires-clause-counts c =

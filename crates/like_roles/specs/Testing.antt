@@ -1,22 +1,18 @@
--- A test that plays a worker's turns, with one submitter.
+-- What the tests know of a worker that they play with, in a run with one submitter.
 use Rattle.std.specs.Prelude.{◌≡◌, ℕ, ◌+◌, ◌≤◌, ◌==◌, List, length, count_by, All, slice_get, slice_index, Some, None}
 use Rattle.like_requests.specs.declared.request.Request.{Request}
 use Rattle.like_requests.specs.declared.request.Taken.{Taken}
 use Rattle.like_requests.specs.declared.request.Taken.TheVariants.{Ask, End, Nothing}
 use Rattle.like_requests.specs.Limits.{max_requests}
-use Rattle.like_core.specs.Post.{pages_of}
-use Rattle.like_requests.specs.Pages.{Page}
-use Rattle.like_board.specs.declared.worker_seat.WorkerSeat.{WorkerSeat}
-use Rattle.like_board.specs.Seats.{BoardId, seat_board, seat_meaning}
-use Rattle.like_roles.specs.New.{IsPostOf}
 use Rattle.like_requests.specs.Setup.{IsThere}
+use Rattle.like_core.specs.Post.{pages_of}
 use Rattle.like_roles.specs.WorkerView.{WorkerView, submitter_at}
 
--- the first so many requests of the plan were taken from the worker's one submitter
+-- the first so many requests of the plan were taken, and the rest are left where the submitter is the worker's
 pub record IsAt (plan : List Request) (next : ℕ) (v : WorkerView) : Type 0 where
-  pub one : length v.ended ≡ 1
+  pub one : length v.ended ≤ 1
   pub taken : count_by (λ t. t.submitter == submitter_at v 0) v.taken ≡ next
-  pub left : next + slice_index v.left 0 ≡ length plan
+  pub left : 1 ≤ length v.ended → next + slice_index v.left 0 ≡ length plan
   pub few : length plan ≤ max_requests
   pub there : All (λ r. IsThere (pages_of v.post) r.page) plan
 
@@ -30,8 +26,3 @@ abbrev pub IsGiven : List Request → ℕ → Taken → ℕ → Type 0
 IsGiven plan next (Ask ask) then = (slice_get plan next ≡ Some ask.request) × (ask.number ≡ next + 1) × (then ≡ next + 1)
 IsGiven plan next End then = then ≡ next
 IsGiven plan next Nothing then = ⊥
-
--- the seats of workers at a board with these pages, by number; no call was made on them
-abbrev pub ArePosts : BoardId → List Page → List WorkerSeat → Type 0
-ArePosts board pages seats =
-    (i : ℕ) (seat : WorkerSeat) → slice_get seats i ≡ Some seat → (seat_board seat ≡ board) × IsPostOf i pages (seat_meaning seat)

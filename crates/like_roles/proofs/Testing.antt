@@ -1,31 +1,35 @@
--- A test that plays a worker's turns.
-use Rattle.std.proofs.Common.{zero, suc, ◌≡◌, ℕ, ◌+◌, ◌-◌, ◌*◌, ◌<◌, ◌≤◌, ◌==◌, Bool, true, false, cond, List, [], ◌∷◌, ◌++◌, length, get_or, set, count_by, None, Some, All, subst, ap, sym, ◌∙◌, refl, arith}
+-- A worker that the tests play with.
+use Rattle.std.proofs.Common.{zero, suc, ◌≡◌, ℕ, ◌+◌, ◌-◌, ◌*◌, ◌^◌, ◌<◌, ◌≤◌, ◌==◌, Bool, true, false, cond, List, [], ◌∷◌, ◌++◌, length, get_or, set, count_by, None, Some, All, subst, ap, sym, ◌∙◌, refl, arith}
 use Rattle.std.proofs.lemmas.Bool.{eq-eqb}
-use Rattle.std.proofs.lemmas.List.{get_or-set_same, length-map, length-replicate, length-set}
+use Rattle.std.proofs.lemmas.List.{get_or-map, get_or-set_same, length-map, length-replicate, length-set}
 use Rattle.std.proofs.lemmas.List.Sums.{sum_by_push}
 use Rattle.std.proofs.lemmas.Option.{get_or_from_slice_get, slice_get_within}
-use Rattle.like_requests.specs.Pages.{Page}
+use Rattle.like_requests.specs.Pages.{ArePages, Page, counts_of, marks_of}
+use Rattle.like_requests.specs.Setup.{IsThere, IsWithin, IsWithinLimits}
+use Rattle.like_requests.proofs.Planned.{plans-within}
 use Rattle.like_requests.specs.declared.request.Request.{Request}
 use Rattle.like_requests.specs.declared.request.Taken.{Taken}
 use Rattle.like_requests.specs.declared.request.Taken.TheVariants as taken
 use Rattle.like_requests.specs.declared.setup.Setup.{Setup}
 use Rattle.like_core.specs.Post.{PostView, pages_of}
-use Rattle.like_requests.proofs.Planned.{plans-within}
+use Rattle.like_core.specs.declared.opening.Opening.{Opening}
+use Rattle.like_core.specs.declared.view.WorkerSeatView.{WorkerSeatView}
+use Rattle.like_board.specs.declared.worker_seat.WorkerSeat.{WorkerSeat}
+use Rattle.like_board.specs.Seats.{AreFresh, BoardId}
 use Rattle.like_roles.specs.declared.log.Took.{Took}
 use Rattle.like_roles.specs.declared.turn.Turn.{Turn}
 use Rattle.like_roles.specs.declared.turn.Turn.TheVariants as turn
-use Rattle.like_requests.specs.Setup.{IsThere, IsWithin, IsWithinLimits}
-use Rattle.like_roles.specs.New.{AreOwnSizes, IsNew, IsPostOf}
-use Rattle.like_roles.specs.Playing.{IsAt, IsGiven, IsPlaying}
+use Rattle.like_roles.specs.New.{AreNewSeats, AreOwnSizes, IsNew, IsPostOf}
+use Rattle.like_roles.specs.Testing.{IsAt, IsGiven, IsPlaying}
 use Rattle.like_roles.specs.Turns.{CanGive, HasTaken, IsNext, Pends, TakesNothing, with_taken}
 use Rattle.like_roles.specs.WorkerView.{WorkerView, phase_at, submitter_at}
 
 -- where nothing was taken, it is where it was
 pub stays_at : (plan : List Request) (next : ℕ) (old new : WorkerView) → IsAt plan next old → TakesNothing old new → IsAt plan next new
 stays_at plan next old new p same = record {
-  one = ap length same.ended ∙ p.one;
+  one = rw same.ended p.one;
   taken = rw (same.share, same.taken) p.taken;
-  left = rw same.left p.left;
+  left = rw (same.ended, same.left) p.left;
   few = p.few;
   there = rw same.marks p.there;
 }
@@ -55,7 +59,8 @@ only_place plan next v submitter place p tries is =
 pub may_give : (plan : List Request) (next then : ℕ) (v : WorkerView) (submitter : ℕ) (given : Taken) → IsAt plan next v → Pends (turn.Try submitter) v → IsGiven plan next given then → CanGive v given
 may_give plan next then v submitter (taken.Ask ask) p tries given = λ place is.
     let within = slice_get_within plan next ask.request given.0 in
-    let left = p.left in
+    let below = tries.1.2 in
+    let left = p.left (omega arith) in
     let first : IsNext v 0 ask =
     record {
       number = given.1 ∙ ap (λ n. n + 1) (sym p.taken);
@@ -82,7 +87,8 @@ gave plan next then v new submitter (taken.Ask ask) p tries given took =
     let first = sym (only_place plan next v submitter tries.0 p tries tries.1.0) in
     let same : TakesNothing (with_taken v 0 ask) new = took 0 (tries.1.0 ∙ ap Some first) in
     let within = slice_get_within plan next ask.request given.0 in
-    let left = p.left in
+    let below = tries.1.2 in
+    let left = p.left (omega arith) in
     let there = some_there v.left (omega arith) in
     let one_left = get_or-set_same v.left 0 (get_or v.left 0 0 - 1) 0 there in
     let more = count_by-push (λ (t : Took). t.submitter == submitter_at v 0) v.taken (record { phase = phase_at v; submitter = submitter_at v 0; number = ask.number }) (eq-eqb (submitter_at v 0) (submitter_at v 0) refl) in
@@ -90,7 +96,7 @@ gave plan next then v new submitter (taken.Ask ask) p tries given took =
     record {
       one = p.one;
       taken = more ∙ ap (λ n. n + 1) p.taken;
-      left = omega arith;
+      left = λ _. omega arith;
       few = p.few;
       there = p.there;
     }
@@ -99,9 +105,9 @@ gave plan next then v new submitter (taken.Ask ask) p tries given took =
 gave plan next then v new submitter taken.End p tries given took =
     let same = took tries.0 tries.1.0 in
     let at = stays_at plan next (record v { ended = set v.ended tries.0 true }) new (record {
-      one = length-set v.ended tries.0 true ∙ p.one;
+      one = rw (length-set v.ended tries.0 true) p.one;
       taken = p.taken;
-      left = p.left;
+      left = rw (length-set v.ended tries.0 true) p.left;
       few = p.few;
       there = p.there;
     }) same in
@@ -112,32 +118,55 @@ gave plan next then v new submitter taken.Nothing p tries given took = absurd gi
 pub within_limits : (s : Setup) (plan : List Request) (n : ℕ) → IsWithinLimits s (plan ∷ []) → n ≡ length plan → IsWithin s (n ∷ [])
 within_limits s plan n w many = subst (λ k. IsWithin s (k ∷ [])) (sym many) w.numbers
 
--- the first worker has the one submitter
-own_one : (size workers : ℕ) (own : List ℕ) → 1 ≤ workers → AreOwnSizes (size ∷ []) workers 0 own → (length own ≡ 1) × (get_or own 0 0 ≡ size)
-own_one size workers own some sizes =
-    let here = (sizes.all 0).1 (omega arith) in
-    let few : length own ≤ 1 = below_two (length own) (λ more. let e = (sizes.all 1).0 more in omega arith) in
-    let none : 0 + workers * 0 ≡ 0 = omega arith in
-    (omega arith, sizes.each 0 here ∙ ap (λ k. get_or (size ∷ []) k 0) none)
-  where
-    below_two : (n : ℕ) → (1 < n → ⊥) → n ≤ 1
-    below_two zero never = omega arith
-    below_two (suc zero) never = omega arith
-    below_two (suc (suc n)) never = absurd (never (omega arith))
+-- the one submitter is the first worker's
+own_one : (size workers worker : ℕ) (own : List ℕ) → 1 ≤ workers → AreOwnSizes (size ∷ []) workers worker own → (length own ≤ 1) × (1 ≤ length own → get_or own 0 0 ≡ size)
+own_one size workers worker own some sizes = (below_two (length own) (λ more. let e = (sizes.all 1).0 more in omega arith), λ here. here_is here) where
+  below_two : (n : ℕ) → (1 < n → ⊥) → n ≤ 1
+  below_two zero never = omega arith
+  below_two (suc zero) never = omega arith
+  below_two (suc (suc n)) never = absurd (never (omega arith))
+
+  here_is : 1 ≤ length own → get_or own 0 0 ≡ size
+  here_is here =
+      let below = (sizes.all 0).0 (omega arith) in
+      let none : worker + workers * 0 ≡ 0 = omega arith in
+      sizes.each 0 (omega arith) ∙ ap (λ k. get_or (size ∷ []) k 0) none
 
 -- a new worker may be played with
-pub plays_new : (s : Setup) (plan : List Request) (n : ℕ) (post : PostView) (v : WorkerView) → IsWithinLimits s (plan ∷ []) → n ≡ length plan → IsPostOf 0 s.pages post → IsNew s (n ∷ []) 0 post v → IsPlaying plan 0 v
-plays_new s plan n post v w many his new =
-    let own = own_one n s.workers v.left w.numbers.workers.0 new.left in
+pub plays_new : (s : Setup) (plan : List Request) (n worker : ℕ) (post : PostView) (v : WorkerView) → IsWithinLimits s (plan ∷ []) → n ≡ length plan → IsPostOf worker s.pages post → IsNew s (n ∷ []) worker post v → IsPlaying plan 0 v
+plays_new s plan n worker post v w many his new =
+    let own = own_one n s.workers worker v.left w.numbers.workers.0 new.left in
     let lists = plans-within s (plan ∷ []) w 0 plan (omega arith) in
+    let ended : length v.ended ≡ length v.left = ap length new.ended ∙ length-replicate (length v.left) false in
     let pages : pages_of v.post ≡ length s.pages = ap pages_of new.at_post ∙ (ap length his.marks ∙ length-map s.pages (λ (p : Page). p.split)) in
     record {
       settled = new.pending;
       at = record {
-        one = ap length new.ended ∙ (length-replicate (length v.left) false ∙ own.0);
+        one = rw ended own.0;
         taken = rw new.taken refl;
-        left = (let left = own.1 in omega arith);
+        left = λ some. (let left = own.1 (omega (arith, ended, some)) in omega arith);
         few = lists.few;
         there = λ k d below. subst (λ many. IsThere many (get_or plan k d).page) (sym pages) (lists.there k d below);
       };
     }
+
+-- fresh seats are new ones, of posts at a board with these pages
+pub new_seats : (board : BoardId) (z : Opening) (pages : List Page) (seats : List WorkerSeat) → z.marks ≡ marks_of pages → AreFresh board z seats → AreNewSeats board pages seats
+new_seats board z pages seats marks fresh worker seat at =
+    let f = fresh worker seat at in (
+      f.0,
+      record {
+        is_his = ap (λ (v : WorkerSeatView). v.worker) f.1;
+        marks = ap (λ (v : WorkerSeatView). v.opening.marks) f.1 ∙ marks;
+        fresh = f.2;
+      },
+    )
+
+-- each page's count is small
+pub counts_small : (pages : List Page) → ArePages pages → (k d : ℕ) → k < length (counts_of pages) → get_or (counts_of pages) k d ≤ 10 ^ 18
+counts_small pages are k d below =
+    let nobody : Page = record { name = []; count = 0; split = false } in
+    let within : k < length pages = omega (arith, length-map pages (λ (p : Page). p.count)) in
+    let at = get_or-map (λ (p : Page). p.count) pages k nobody d within in
+    let small = are.entries.counted k nobody within in
+    omega arith
