@@ -8,10 +8,9 @@ use Rattle.like_roles.specs.declared.log.WorkerLog.{WorkerLog}
 use Rattle.like_replies.specs.declared.answer.Answer.{Answer}
 use Rattle.like_replies.specs.declared.collect_fault.CollectFault.{CollectFault}
 use Rattle.like_replies.specs.declared.collect_fault.CollectFault.TheVariants.{Stranger, Double, Missing, Memory}
-use Rattle.like_replies.specs.Collected.{IsCollectFault, IsCollected, IsEntryFault}
+use Rattle.like_replies.specs.Collected.{IsCollectFault, IsCollected, IsEntryFault, IsFirstMissing}
 use Rattle.like_replies.specs.Entries.{IsRequest, entries_in, entries_of}
 use Rattle.like_replies.specs.Slots.{HoldsAll, IsSlotsFault, Refuses}
-use Rattle.like_replies.proofs.Empty.{IsSlot-empty, slot_at-before, slot_at-empty}
 use Rattle.like_replies.proofs.Holding.{AreGood-held, none-from_slot, slot-from_none}
 use Rattle.like_replies.proofs.Lists.{parts_at}
 use Rattle.like_replies.proofs.Places.{IsRequest-slot, IsSlot-request, sized-full, slot_at-full}
@@ -112,15 +111,16 @@ IsCollected-held sizes entries slots rows held full =
     }
 
 -- the first empty place is that of the least missing request
-pub IsCollectFault-empty : (sizes : List ℕ) (entries : List Ran) (slots : List (List (Option Answer))) (fault : CollectFault) → HoldsAll sizes entries slots → IsSlotsFault slots fault → IsCollectFault sizes entries fault
-IsCollectFault-empty sizes entries slots (Missing submitter number) held f =
-    record {
+pub IsCollectFault-empty : (sizes : List ℕ) (entries : List Ran) (slots : List (List (Option Answer))) (fault : CollectFault) → HoldsAll sizes entries slots → IsSlotsFault 0 slots fault → IsCollectFault sizes entries fault
+IsCollectFault-empty sizes entries slots (Missing submitter number) held (row, is, f) =
+    let at : row ≡ submitter = omega (arith, is) in
+    subst (λ s. IsFirstMissing sizes entries s number) at (record {
       good = AreGood-held sizes entries slots held;
-      request = IsRequest-slot sizes slots submitter number held.sized (IsSlot-empty slots submitter number f);
-      missing = none-from_slot sizes entries slots submitter number held (slot_at-empty slots submitter number f);
+      request = IsRequest-slot sizes slots row number held.sized f.slot;
+      missing = none-from_slot sizes entries slots row number held f.empty;
       least = λ s m request earlier none.
-          slot_at-before slots submitter number f s m (IsSlot-request sizes slots s m held.sized request) earlier (slot-from_none sizes entries slots s m held none);
-    }
+          f.first s m (IsSlot-request sizes slots s m held.sized request) earlier (slot-from_none sizes entries slots s m held none);
+    })
 IsCollectFault-empty sizes entries slots Memory held f = tt
 IsCollectFault-empty sizes entries slots (Stranger submitter number) held f = absurd f
 IsCollectFault-empty sizes entries slots (Double submitter number) held f = absurd f

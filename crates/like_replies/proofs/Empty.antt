@@ -1,102 +1,76 @@
 -- The first place that is empty.
-use Rattle.std.proofs.Common.{◌≡◌, ◌≢◌, ℕ, zero, suc, ◌+◌, ◌<◌, ◌≤◌, List, [], ◌∷◌, ◌++◌, length, map, get_or, take, drop, Option, Some, None, refl, sym, ap, ◌∙◌, inl, inr, subst, arith}
-use Rattle.std.proofs.lemmas.List.{get_or_append_left, get_or_at, get_or-map, length-append, length-map, length-take-le}
+use Rattle.std.proofs.Common.{◌≡◌, ◌≢◌, ℕ, zero, suc, ◌<◌, ◌≤◌, List, [], ◌∷◌, length, map, get_or, take, Option, Some, None, refl, sym, ap, ◌∙◌, inl, inr, arith}
+use Rattle.std.proofs.lemmas.List.{get_or-map, get_or-take, length-map, length-take-le}
+use Rattle.std.proofs.lemmas.Option.{get_or_from_slice_get, slice_get_read}
 use Rattle.like_replies.specs.declared.answer.Answer.{Answer}
 use Rattle.like_replies.specs.declared.collect_fault.CollectFault.{CollectFault}
 use Rattle.like_replies.specs.declared.collect_fault.CollectFault.TheVariants.{Stranger, Double, Missing, Memory}
-use Rattle.like_replies.specs.Collected.{Precedes}
-use Rattle.like_replies.specs.Slots.{IsFirstEmpty, IsFirstEmptyIn, IsRowFault, IsSlot, IsSlotsFault, slot_at}
-use Rattle.like_replies.proofs.Lists.{parts_at}
+use Rattle.like_replies.specs.Entries.{Precedes}
+use Rattle.like_replies.specs.Slots.{IsFirstEmpty, IsSlot, IsSlotsFault, slot_at}
 use Rattle.like_replies.proofs.Places.{not_empty}
 
+-- a place before the end of the answers is not empty
+answered : (row : List (Option Answer)) (n : ℕ) (answers : List Answer) → take n row ≡ map Some answers → n ≤ length row → (place : ℕ) → place < n → get_or row place None ≢ None
+answered row n answers full within place below e =
+    let size = length-take-le n row within in
+    let image = length-map answers (let g : Answer → Option Answer = Some in g) in
+    let inside : place < length answers = omega (arith, below, size, image, ap length full) in
+    not_empty answers place inside (sym (ap (λ (r : List (Option Answer)). get_or r place None) full) ∙ get_or-take n row place None below ∙ e)
+
+-- the place after the answers of a row is the first that is empty
+pub first_of_row : (row : List (Option Answer)) (place : ℕ) (answers : List Answer) → place < length row → get_or row place None ≡ None → take place row ≡ map Some answers
+    → IsFirstEmpty (row ∷ []) 0 (suc place)
+first_of_row row place answers within here full = record {
+  slot = record { there = omega arith; from_one = omega arith; within = omega (arith, within) };
+  empty = here;
+  first = before;
+} where
+  before : (s m : ℕ) → IsSlot (row ∷ []) s m → Precedes s m 0 (suc place) → slot_at (row ∷ []) s m ≢ None
+  before s m slot (inl below) e = absurd (omega (arith, below))
+  before zero zero slot (inr same) e = absurd (omega (arith, slot.from_one))
+  before zero (suc p) slot (inr same) e = answered row place answers full (omega (arith, within)) p (omega (arith, same.1)) e
+  before (suc s) m slot (inr same) e = absurd (omega (arith, same.0))
+
+-- a row's places are those of its submitter
+slot_at-row : (slots : List (List (Option Answer))) (i : ℕ) (row : List (Option Answer)) (number : ℕ) → get_or slots i [] ≡ row → slot_at slots i number ≡ slot_at (row ∷ []) 0 number
+slot_at-row slots i row zero same = refl
+slot_at-row slots i row (suc place) same = ap (λ (r : List (Option Answer)). get_or r place None) same
+
+-- a place of a full row is not empty
+full_before : (slots : List (List (Option Answer))) (i : ℕ) (rows : List (List Answer)) → i ≤ length slots → take i slots ≡ map (map Some) rows
+    → (s m : ℕ) → s < i → IsSlot slots s m → slot_at slots s m ≢ None
+full_before slots i rows within full s zero below slot e = absurd (omega (arith, slot.from_one))
+full_before slots i rows within full s (suc place) below slot e =
+    let size = length-take-le i slots within in
+    let image = length-map rows (map (let g : Answer → Option Answer = Some in g)) in
+    let inside : s < length rows = omega (arith, below, size, image, ap length full) in
+    let row : get_or slots s [] ≡ map Some (get_or rows s []) =
+    sym (get_or-take i slots s [] below) ∙ (ap (λ (x : List (List (Option Answer))). get_or x s []) full ∙ get_or-map (map Some) rows s [] [] inside) in
+    let many = length-map (get_or rows s []) (let g : Answer → Option Answer = Some in g) in
+    not_empty (get_or rows s []) place (omega (arith, slot.within, many, ap length row)) (sym (ap (λ (r : List (Option Answer)). get_or r place None) row) ∙ e)
+
 -- the first empty place of a row is the first of all, where the rows before it are full
-pub IsSlotsFault-row : (slots : List (List (Option Answer))) (i : ℕ) (row : List (Option Answer)) (rows : List (List Answer)) (fault : CollectFault)
-    → i < length slots → row ≡ get_or slots i row → take i slots ≡ map (map Some) rows → IsRowFault i row fault → IsSlotsFault slots fault
-IsSlotsFault-row slots i row rows (Missing submitter number) there is full f =
-    let a = length-map rows (map (let g : Answer → Option Answer = Some in g)) in
-    let b = length-take-le i slots (omega (arith, there)) in
-    let c = ap length full in
-    record {
-      rows = rows;
-      row = row;
-      rest = drop (i + 1) slots;
-      parts = parts_at slots i row there ∙ (ap (λ (r : List (Option Answer)). take i slots ++ r ∷ drop (i + 1) slots) (sym is) ∙ ap (λ (s : List (List (Option Answer))). s ++ row ∷ drop (i + 1) slots) full);
-      is_submitter = f.0 ∙ omega (arith, a, b, c);
-      empty = f.1;
-    }
-IsSlotsFault-row slots i row rows Memory there is full f = tt
-IsSlotsFault-row slots i row rows (Stranger submitter number) there is full f = absurd f
-IsSlotsFault-row slots i row rows (Double submitter number) there is full f = absurd f
+pub first_of_all : (slots : List (List (Option Answer))) (i : ℕ) (row : List (Option Answer)) (rows : List (List Answer)) (fault : CollectFault)
+    → i < length slots → row ≡ get_or slots i row → take i slots ≡ map (map Some) rows → IsSlotsFault i (row ∷ []) fault → IsSlotsFault 0 slots fault
+first_of_all slots i row rows (Missing submitter number) there is full (suc k, at, f) = absurd (omega (arith, f.slot.there))
+first_of_all slots i row rows (Missing submitter number) there is full (zero, at, f) = (
+  i,
+  omega (arith, at),
+  record {
+    slot = record { there = there; from_one = f.slot.from_one; within = omega (arith, f.slot.within, ap length same) };
+    empty = slot_at-row slots i row number same ∙ f.empty;
+    first = before;
+  },
+) where
+  same : get_or slots i [] ≡ row
+  same = get_or_from_slice_get slots i row [] (slice_get_read slots (length slots) i row refl there is)
 
--- the place of this number is in the row
-in_row : (row : List (Option Answer)) (number : ℕ) → IsFirstEmptyIn row number → (1 ≤ number) × (number ≤ length row)
-in_row row number f =
-    let a = length-map f.answers (let g : Answer → Option Answer = Some in g) in
-    let b = length-append (map Some f.answers) (None ∷ f.rest) in
-    let c = ap length f.parts in
-    let n = f.is_number in (omega (arith, n), omega (arith, a, b, c, n))
-
--- nothing stands there
-nothing_there : (row : List (Option Answer)) (number : ℕ) → IsFirstEmptyIn row number → (place : ℕ) → number ≡ suc place → get_or row place None ≡ None
-nothing_there row number f place is =
-    let a = length-map f.answers (let g : Answer → Option Answer = Some in g) in
-    let at : length (map Some f.answers) ≡ place = omega (arith, a, f.is_number, is) in
-    ap (λ (r : List (Option Answer)). get_or r place None) f.parts ∙ get_or_at (map Some f.answers) None f.rest None place at
-
--- something stands at the places before it
-something_before : (row : List (Option Answer)) (number : ℕ) → IsFirstEmptyIn row number → (place : ℕ) → suc place < number → get_or row place None ≢ None
-something_before row number f place below e =
-    let a = length-map f.answers (let g : Answer → Option Answer = Some in g) in
-    let inside : place < length f.answers = omega (arith, f.is_number, below) in
-    let within : place < length (map Some f.answers) = omega (arith, a, inside) in
-    not_empty f.answers place inside
-    (sym (ap (λ (r : List (Option Answer)). get_or r place None) f.parts ∙ get_or_append_left (map Some f.answers) (None ∷ f.rest) None place within) ∙ e)
-
--- its row stands at its submitter
-row_at : (slots : List (List (Option Answer))) (submitter number : ℕ) (f : IsFirstEmpty slots submitter number) → (submitter < length slots) × (get_or slots submitter [] ≡ f.row)
-row_at slots submitter number f =
-    let a = length-map f.rows (map (let g : Answer → Option Answer = Some in g)) in
-    let b = length-append (map (map Some) f.rows) (f.row ∷ f.rest) in
-    let c = ap length f.parts in
-    let at : length (map (map Some) f.rows) ≡ submitter = omega (arith, a, f.is_submitter) in (
-      omega (arith, a, b, c, f.is_submitter),
-      ap (λ (s : List (List (Option Answer))). get_or s submitter []) f.parts ∙ get_or_at (map (map Some) f.rows) f.row f.rest [] submitter at,
-    )
-
--- the rows before it are full
-full_before : (slots : List (List (Option Answer))) (submitter number : ℕ) (f : IsFirstEmpty slots submitter number) (s : ℕ) → s < submitter → get_or slots s [] ≡ map Some (get_or f.rows s [])
-full_before slots submitter number f s below =
-    let a = length-map f.rows (map (let g : Answer → Option Answer = Some in g)) in
-    let inside : s < length f.rows = omega (arith, f.is_submitter, below) in
-    let within : s < length (map (map Some) f.rows) = omega (arith, a, inside) in
-    ap (λ (x : List (List (Option Answer))). get_or x s []) f.parts ∙ (get_or_append_left (map (map Some) f.rows) (f.row ∷ f.rest) [] s within ∙ get_or-map (map Some) f.rows s [] [] inside)
-
--- it is a place
-pub IsSlot-empty : (slots : List (List (Option Answer))) (submitter number : ℕ) → IsFirstEmpty slots submitter number → IsSlot slots submitter number
-IsSlot-empty slots submitter number f =
-    let at = row_at slots submitter number f in
-    let inside = in_row f.row number f.empty in
-    let size = ap length at.1 in
-    record { there = at.0; from_one = inside.0; within = omega (arith, inside.1, size) }
-
--- that is empty
-pub slot_at-empty : (slots : List (List (Option Answer))) (submitter number : ℕ) → IsFirstEmpty slots submitter number → slot_at slots submitter number ≡ None
-slot_at-empty slots submitter zero f = refl
-slot_at-empty slots submitter (suc place) f =
-    ap (λ (r : List (Option Answer)). get_or r place None) (row_at slots submitter (suc place) f).1 ∙ nothing_there f.row (suc place) f.empty place refl
-
--- and those before it are not
-pub slot_at-before : (slots : List (List (Option Answer))) (submitter number : ℕ) → IsFirstEmpty slots submitter number → (s m : ℕ) → IsSlot slots s m → Precedes s m submitter number → slot_at slots s m ≢ None
-slot_at-before slots submitter number f s zero slot earlier e = absurd (omega (arith, slot.from_one))
-slot_at-before slots submitter number f s (suc place) slot earlier e =
-    elim earlier [
-      | inl below ↦
-          let row = full_before slots submitter number f s below in
-          let a = length-map (get_or f.rows s []) (let g : Answer → Option Answer = Some in g) in
-          let size = ap length row in
-          let inside : place < length (get_or f.rows s []) = omega (arith, slot.within, a, size) in
-          not_empty (get_or f.rows s []) place inside (sym (ap (λ (r : List (Option Answer)). get_or r place None) row) ∙ e)
-      | inr same ↦
-          let row = subst (λ (x : ℕ). get_or slots x [] ≡ f.row) (sym same.0) (row_at slots submitter number f).1 in
-          something_before f.row number f.empty place same.1 (sym (ap (λ (r : List (Option Answer)). get_or r place None) row) ∙ e)
-    ]
+  before : (s m : ℕ) → IsSlot slots s m → Precedes s m i number → slot_at slots s m ≢ None
+  before s m slot (inl below) e = full_before slots i rows (omega (arith, there)) full s m below slot e
+  before s m slot (inr earlier) e =
+      let at_row : get_or slots s [] ≡ row = ap (λ (x : ℕ). get_or slots x []) earlier.0 ∙ same in
+      let in_row : IsSlot (row ∷ []) 0 m = record { there = omega arith; from_one = slot.from_one; within = omega (arith, slot.within, ap length at_row) } in
+      f.first 0 m in_row (inr (refl, earlier.1)) (sym (slot_at-row slots s row m at_row) ∙ e)
+first_of_all slots i row rows Memory there is full f = tt
+first_of_all slots i row rows (Stranger submitter number) there is full f = absurd f
+first_of_all slots i row rows (Double submitter number) there is full f = absurd f

@@ -1,12 +1,12 @@
 -- What the entries of run lists are collected to: the answer of each request, or why there is not one of each.
-use Rattle.std.specs.Prelude.{◌≡◌, ◌≢◌, ◌⊎◌, ℕ, zero, suc, ◌<◌, List, [], ◌∷◌, ◌++◌, length, map, slice_get, slice_index_or, Option, None, ⊤}
+use Rattle.std.specs.Prelude.{◌≡◌, ◌≢◌, ℕ, zero, suc, List, [], ◌∷◌, ◌++◌, length, map, slice_get, slice_index_or, Option, None, ⊤}
 use Rattle.std.specs.Option.{option_to_list}
 use Rattle.like_roles.specs.declared.log.Ran.{Ran}
 use Rattle.like_replies.specs.declared.answer.Answer.{Answer}
 use Rattle.like_replies.specs.declared.collect_fault.CollectFault.{CollectFault}
 use Rattle.like_replies.specs.declared.collect_fault.CollectFault.TheVariants.{Stranger, Double, Missing, Memory}
 use Rattle.like_replies.specs.declared.replies.Replies.{Replies}
-use Rattle.like_replies.specs.Entries.{AreGood, IsRequest, answer_of, entries_of}
+use Rattle.like_replies.specs.Entries.{AreGood, IsRequest, Precedes, answer_of, entries_of}
 
 -- the answers by submitter and number, as lists
 abbrev pub rows_of : Replies → List (List Answer)
@@ -32,10 +32,6 @@ pub record IsFirstBad (sizes : List ℕ) (entries : List Ran) (submitter number 
   pub is_number : entry.number ≡ number
   pub good : AreGood sizes before
   pub bad : Bad before
-
--- a request comes before another: it is of an earlier submitter, or of the same one with a lower number
-abbrev pub Precedes : ℕ → ℕ → ℕ → ℕ → Type 0
-Precedes s m submitter number = (s < submitter) ⊎ ((s ≡ submitter) × (m < number))
 
 -- the entries are good, and the request is the least that has none
 pub record IsFirstMissing (sizes : List ℕ) (entries : List Ran) (submitter number : ℕ) : Type 0 where

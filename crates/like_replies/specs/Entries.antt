@@ -1,5 +1,5 @@
 -- The entries of run lists, and the requests that they are of.
-use Rattle.std.specs.Prelude.{ℕ, ◌<◌, ◌≤◌, ◌==◌, ◌&&◌, All, Bool, List, filter, length, slice_index}
+use Rattle.std.specs.Prelude.{◌≡◌, ◌⊎◌, ℕ, ◌<◌, ◌≤◌, ◌==◌, ◌&&◌, All, Bool, List, filter, length, slice_index}
 use Rattle.std.specs.List.{flat_map}
 use Rattle.like_roles.specs.declared.log.Ran.{Ran}
 use Rattle.like_roles.specs.declared.log.WorkerLog.{WorkerLog}
@@ -26,6 +26,10 @@ pub record IsRequest (sizes : List ℕ) (submitter number : ℕ) : Type 0 where
   pub there : submitter < length sizes
   pub from_one : 1 ≤ number
   pub within : number ≤ slice_index sizes submitter
+
+-- a request comes before another: it is of an earlier submitter, or of the same one with a lower number
+abbrev pub Precedes : ℕ → ℕ → ℕ → ℕ → Type 0
+Precedes s m submitter number = (s < submitter) ⊎ ((s ≡ submitter) × (m < number))
 
 -- each entry is of a request, and no two are of the same
 pub record AreGood (sizes : List ℕ) (entries : List Ran) : Type 0 where

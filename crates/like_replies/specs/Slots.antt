@@ -1,11 +1,11 @@
 -- How answers are gathered: a place for each request, empty or with its answer.
-use Rattle.std.specs.Prelude.{◌≡◌, ◌≢◌, ℕ, zero, suc, ◌-◌, ◌<◌, ◌≤◌, All, List, [], ◌∷◌, ◌++◌, length, map, slice_index_or, slice_set, Option, Some, None, ⊤}
+use Rattle.std.specs.Prelude.{◌≡◌, ◌≢◌, ℕ, zero, suc, ◌+◌, ◌-◌, ◌<◌, ◌≤◌, All, List, [], length, map, slice_index_or, slice_set, Option, Some, None, ⊤}
 use Rattle.std.specs.Option.{option_to_list}
 use Rattle.like_roles.specs.declared.log.Ran.{Ran}
 use Rattle.like_replies.specs.declared.answer.Answer.{Answer}
 use Rattle.like_replies.specs.declared.collect_fault.CollectFault.{CollectFault}
 use Rattle.like_replies.specs.declared.collect_fault.CollectFault.TheVariants.{Stranger, Double, Missing, Memory}
-use Rattle.like_replies.specs.Entries.{IsRequest, answer_of, entries_of}
+use Rattle.like_replies.specs.Entries.{IsRequest, Precedes, answer_of, entries_of}
 
 -- what is at the place of a request, if there is such a place
 abbrev pub slot_at : List (List (Option Answer)) → ℕ → ℕ → Option Answer
@@ -41,32 +41,15 @@ pub record HoldsAll (sizes : List ℕ) (entries : List Ran) (slots : List (List 
   pub known : All (λ e. IsRequest sizes e.submitter e.number) entries
   pub each : (submitter number : ℕ) → map answer_of (entries_of submitter number entries) ≡ option_to_list (slot_at slots submitter number)
 
--- the place of this number is the first of a row that is empty
-pub record IsFirstEmptyIn (row : List (Option Answer)) (number : ℕ) : Type 0 where
-  pub answers : List Answer
-  pub rest : List (Option Answer)
-  pub parts : row ≡ map Some answers ++ None ∷ rest
-  pub is_number : number ≡ suc (length answers)
-
--- why a submitter's row does not give its answers
-abbrev pub IsRowFault : ℕ → List (Option Answer) → CollectFault → Type 0
-IsRowFault of row (Missing submitter number) = (submitter ≡ of) × IsFirstEmptyIn row number
-IsRowFault of row Memory = ⊤
-IsRowFault of row (Stranger submitter number) = ⊥
-IsRowFault of row (Double submitter number) = ⊥
-
--- the place of this request is the first that is empty
+-- the place of this request is empty, and no place before it is
 pub record IsFirstEmpty (slots : List (List (Option Answer))) (submitter number : ℕ) : Type 0 where
-  pub rows : List (List Answer)
-  pub row : List (Option Answer)
-  pub rest : List (List (Option Answer))
-  pub parts : slots ≡ map (map Some) rows ++ row ∷ rest
-  pub is_submitter : submitter ≡ length rows
-  pub empty : IsFirstEmptyIn row number
+  pub slot : IsSlot slots submitter number
+  pub empty : slot_at slots submitter number ≡ None
+  pub first : (s m : ℕ) → IsSlot slots s m → Precedes s m submitter number → slot_at slots s m ≢ None
 
--- why the places do not give all answers
-abbrev pub IsSlotsFault : List (List (Option Answer)) → CollectFault → Type 0
-IsSlotsFault slots (Missing submitter number) = IsFirstEmpty slots submitter number
-IsSlotsFault slots Memory = ⊤
-IsSlotsFault slots (Stranger submitter number) = ⊥
-IsSlotsFault slots (Double submitter number) = ⊥
+-- why the places of the submitters from this one on do not give all answers
+abbrev pub IsSlotsFault : ℕ → List (List (Option Answer)) → CollectFault → Type 0
+IsSlotsFault from slots (Missing submitter number) = (row : ℕ) × (submitter ≡ from + row) × IsFirstEmpty slots row number
+IsSlotsFault from slots Memory = ⊤
+IsSlotsFault from slots (Stranger submitter number) = ⊥
+IsSlotsFault from slots (Double submitter number) = ⊥

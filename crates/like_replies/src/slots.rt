@@ -91,7 +91,7 @@ impl Slots {
     pub fn replies(&self, alloc: Global) -> Result<Replies, CollectFault>
         requires few { length self.now ≤ 64 }
         requires short { All (λ row. length row < 2 ^ 32) self.now }
-        ensures { MatchResult result (λ replies. self.now ≡ map (map Some) (rows_of replies)) (IsSlotsFault self.now) }
+        ensures { MatchResult result (λ replies. self.now ≡ map (map Some) (rows_of replies)) (IsSlotsFault 0 self.now) }
     {
         Ok(Replies {
             rows: answer_rows(alloc, &self.rows)?,
@@ -103,7 +103,7 @@ impl Slots {
 fn answer_rows(alloc: Global, slots: &[SlotRow]) -> Result<Vec<Vec<Answer>>, CollectFault>
     requires few { length slots.now ≤ 64 }
     requires short { All (λ row. length row < 2 ^ 32) slots.now }
-    ensures { MatchResult result (λ rows. slots.now ≡ map (map Some) (map (λ row. row.items) rows.items)) (IsSlotsFault slots.now) }
+    ensures { MatchResult result (λ rows. slots.now ≡ map (map Some) (map (λ row. row.items) rows.items)) (IsSlotsFault 0 slots.now) }
 {
     let mut rows = Vec::with_capacity(alloc, slots.len())?;
     for (submitter, row) in slots.iter().enumerate() {

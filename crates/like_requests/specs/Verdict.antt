@@ -1,5 +1,5 @@
 -- Which requests are accepted, and why the others are not.
-use Rattle.std.specs.Prelude.{ℕ, Bool, true, false, ◌&&◌, ◌%◌, ◌==◌, nat_lt, if◌then◌else◌}
+use Rattle.std.specs.Prelude.{ℕ, Bool, true, false, not, ◌&&◌, ◌%◌, ◌==◌, nat_lt, if◌then◌else◌}
 use Rattle.like_requests.specs.declared.request.PageRef.{PageRef}
 use Rattle.like_requests.specs.declared.request.PageRef.TheVariants.{Known, Unknown}
 use Rattle.like_requests.specs.declared.request.Request.{Request}
@@ -22,4 +22,7 @@ is_accepted users submitters submitter r =
 -- the first of the three that fails
 abbrev pub verdict_of : ℕ → ℕ → ℕ → Request → Verdict
 verdict_of users submitters submitter r =
-    if nat_lt r.user users then (if home submitters r.user == submitter then (if is_known r.page then Accepted else UnknownPage) else OtherHome) else UnknownUser
+    if not (nat_lt r.user users) then UnknownUser
+    else (if not (home submitters r.user == submitter) then OtherHome
+    else (if not (is_known r.page) then UnknownPage
+    else Accepted))

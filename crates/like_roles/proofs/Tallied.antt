@@ -1,5 +1,5 @@
 -- What running a request does to likes, replies and last likes.
-use Rattle.std.proofs.Common.{◌≡◌, ◌≢◌, ℕ, ◌+◌, ◌<◌, ◌≤◌, Bool, true, false, cond, eqb, ltb, ◌&&◌, List, [], ◌∷◌, ◌++◌, length, get_or, set, map, take, Option, Some, None, refl, sym, ap, ◌∙◌, inl, inr, arith, append-nil, subst}
+use Rattle.std.proofs.Common.{◌≡◌, ◌≢◌, ℕ, ◌+◌, ◌<◌, ◌≤◌, Bool, true, false, cond, not, eqb, ltb, ◌&&◌, List, [], ◌∷◌, ◌++◌, length, get_or, set, map, take, Option, Some, None, refl, sym, ap, ◌∙◌, inl, inr, arith, append-nil, subst}
 use Rattle.std.proofs.Math.Seq.{take-append_seam}
 use Rattle.std.proofs.lemmas.Bool.{and_parts, cases_eq, cases_lt, eq-eqb, ltb-true, ne_eqb}
 use Rattle.std.proofs.lemmas.List.{length-append, length-set, map-append, get_or-set_same, get_or-set_other, take-append-le}
@@ -60,7 +60,7 @@ verdict_at-served service v submitter r s =
 -- a request is accepted where its verdict says so
 pub accepted-true : (users submitters submitter : ℕ) (r : Request) → verdict_of users submitters submitter r ≡ verdict.Accepted → is_accepted users submitters submitter r ≡ true
 accepted-true users submitters submitter r h = by_tests (ltb r.user users) (eqb (home submitters r.user) submitter) (is_known r.page) h where
-  by_tests : (a b k : Bool) → cond a (cond b (cond k verdict.Accepted verdict.UnknownPage) verdict.OtherHome) verdict.UnknownUser ≡ verdict.Accepted → (a && b && k) ≡ true
+  by_tests : (a b k : Bool) → cond (not a) verdict.UnknownUser (cond (not b) verdict.OtherHome (cond (not k) verdict.UnknownPage verdict.Accepted)) ≡ verdict.Accepted → (a && b && k) ≡ true
   by_tests true true true e = refl
   by_tests true true false e = cc e
   by_tests true false k e = cc e
@@ -68,7 +68,7 @@ accepted-true users submitters submitter r h = by_tests (ltb r.user users) (eqb 
 
 pub accepted-false : (users submitters submitter : ℕ) (r : Request) → verdict_of users submitters submitter r ≢ verdict.Accepted → is_accepted users submitters submitter r ≡ false
 accepted-false users submitters submitter r h = by_tests (ltb r.user users) (eqb (home submitters r.user) submitter) (is_known r.page) h where
-  by_tests : (a b k : Bool) → cond a (cond b (cond k verdict.Accepted verdict.UnknownPage) verdict.OtherHome) verdict.UnknownUser ≢ verdict.Accepted → (a && b && k) ≡ false
+  by_tests : (a b k : Bool) → cond (not a) verdict.UnknownUser (cond (not b) verdict.OtherHome (cond (not k) verdict.UnknownPage verdict.Accepted)) ≢ verdict.Accepted → (a && b && k) ≡ false
   by_tests true true true e = absurd (e refl)
   by_tests true true false e = refl
   by_tests true false k e = refl

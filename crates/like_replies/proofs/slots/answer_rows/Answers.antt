@@ -1,7 +1,7 @@
 use Rattle.std.proofs.Common.{rules, List, Vec, Global, map}
 use Rattle.like_replies.specs.declared.answer.Answer.{Answer}
 use Rattle.like_replies.specs.Slots.{IsSlotsFault}
-use Rattle.like_replies.proofs.Empty.{IsSlotsFault-row}
+use Rattle.like_replies.proofs.Empty.{first_of_all}
 use Rattle.like_replies.proofs.slots.answer_rows.Goals as goal
 
 -- the answers in a submitter's vector
@@ -10,6 +10,6 @@ answers_of row = row.items
 
 pub returns-in_err-answers : goal.returns-in_err-answers
 returns-in_err-answers c =
-    let fault : IsSlotsFault c.args.slots.now c.in_err-answers.field-0.0 =
-    IsSlotsFault-row c.args.slots.now c.loop-submitter.submitter c.index-slots-submitter.result (map answers_of c.loop-submitter.rows.items) c.in_err-answers.field-0.0 c.loop-submitter-test.true c.index-slots-submitter.is c.loop-submitter.invariant c.in_err-answers.ensures
+    let fault : IsSlotsFault 0 c.args.slots.now c.in_err-answers.field-0.0 =
+    first_of_all c.args.slots.now c.loop-submitter.submitter c.index-slots-submitter.result (map answers_of c.loop-submitter.rows.items) c.in_err-answers.field-0.0 c.loop-submitter-test.true c.index-slots-submitter.is c.loop-submitter.invariant c.in_err-answers.ensures
     in search (rules, fault)
