@@ -1,5 +1,5 @@
 -- An addition to a page's word is its events, and keeps what the board shows.
-use Rattle.std.proofs.Common.{◌≡◌, ◌≢◌, ℕ, ◌+◌, ◌-◌, ◌%◌, ◌^◌, ◌<◌, ◌≤◌, ◌==◌, ◌&&◌, cond, inl, inr, List, ◌++◌, All, length, get_or, set, replicate, subst, ap, sym, ◌∙◌, refl, arith}
+use Rattle.std.proofs.Common.{◌≡◌, ◌≢◌, ℕ, ◌+◌, ◌*◌, ◌-◌, ◌%◌, ◌^◌, ◌<◌, ◌≤◌, ◌==◌, ◌&&◌, cond, inl, inr, List, ◌++◌, All, length, get_or, set, replicate, subst, ap, sym, ◌∙◌, refl, arith}
 use Rattle.std.specs.List.{sum_by}
 use Rattle.std.proofs.lemmas.Bool.{cases_eq}
 use Rattle.std.proofs.lemmas.List.{length-append, length-replicate}
@@ -12,6 +12,7 @@ use Rattle.like_core.specs.declared.opening.Opening.{Opening}
 use Rattle.like_core.specs.declared.view.WorkerSeatView.{WorkerSeatView}
 use Rattle.like_core.specs.declared.view.View.{View}
 use Rattle.like_core.specs.declared.view.View.TheVariants.{Worker}
+use Rattle.like_core.specs.Limits.{max_workers, max_count, max_likes}
 use Rattle.like_core.specs.Functions.{update}
 use Rattle.like_core.specs.Phase.{split}
 use Rattle.like_core.specs.Table.{IsShown}
@@ -83,7 +84,7 @@ applied_else s i page n q other =
     ap (λ (l : List Label). length l) (update-other s.applied page (s.applied page ++ replicate n (label i s.phase)) q other)
 
 -- what the views have added and may still add, after an addition
-tallied_added : (s : CoreState) (views : List View) (place : ℕ) (v : WorkerSeatView) (page n : ℕ) (rest : ℕ → List ℕ) → get_elem? views place ≡ some (Worker v) → added_to page v.additions + n ≤ 64000000 → Tallied s views → Tallied (record s { unmerged = rest; applied = applied_by s v.worker page n }) (set views place (Worker (added_view v page n)))
+tallied_added : (s : CoreState) (views : List View) (place : ℕ) (v : WorkerSeatView) (page n : ℕ) (rest : ℕ → List ℕ) → get_elem? views place ≡ some (Worker v) → added_to page v.additions + n ≤ max_likes → Tallied s views → Tallied (record s { unmerged = rest; applied = applied_by s v.worker page n }) (set views place (Worker (added_view v page n)))
 tallied_added s views place v page n rest at few old =
     let w : WorkerSeatView = added_view v page n in
     let sums_now : (q : ℕ) → length (applied_by s v.worker page n q) ≡ sum_by (paged q) (set views place (Worker w)) =
@@ -102,7 +103,7 @@ tallied_added s views place v page n rest at few old =
           sym (sum_set (paged q) views place (Worker v) (Worker w) at (added_to_else v.additions (phase_of v.state) page n q other)))
     ]
     in
-    let rooms_now : (q : ℕ) → length (applied_by s v.worker page n q) + sum_by (room q) (set views place (Worker w)) ≤ 1024000000 =
+    let rooms_now : (q : ℕ) → length (applied_by s v.worker page n q) + sum_by (room q) (set views place (Worker w)) ≤ max_likes * max_workers =
     λ q.
     elim (cases_eq q page) [
       | inl same ↦
@@ -117,7 +118,7 @@ tallied_added s views place v page n rest at few old =
           let long = applied_else s v.worker page n q other in
           let same =
           sum_set (room q) views place (Worker v) (Worker w) at
-          (ap (λ (k : ℕ). 64000000 - k) (added_to_else v.additions (phase_of v.state) page n q other))
+          (ap (λ (k : ℕ). max_likes - k) (added_to_else v.additions (phase_of v.state) page n q other))
           in
           omega arith
     ]
@@ -125,8 +126,8 @@ tallied_added s views place v page n rest at few old =
     record { sums = sums_now; rooms = rooms_now }
 
 -- a count is at most as large as counts may be at the start
-count_low : (counts : List ℕ) (page : ℕ) → page < length counts → All (λ n. n ≤ 10 ^ 18) counts → get_or counts page 0 ≤ 10 ^ 18
-count_low counts page on low = All-get_or (λ (n : ℕ). n ≤ 10 ^ 18) counts page 0 on low
+count_low : (counts : List ℕ) (page : ℕ) → page < length counts → All (λ n. n ≤ max_count) counts → get_or counts page 0 ≤ max_count
+count_low counts page on low = All-get_or (λ (n : ℕ). n ≤ max_count) counts page 0 on low
 
 -- an addition is its events
 pub adds : (z : Opening) (words : List ℕ) (views : List View) (place : ℕ) (v : WorkerSeatView) (page n : ℕ) → ShowsSome z words views → get_elem? views place ≡ some (Worker v) → MayAdd (post_of v) page n → IsSteps z (likes_merged v page n) (adding v page) (Old (get_or words (page + 1) 0)) (Worker v) (Worker (added_view v page n)) × ShowsSome z (set words (page + 1) ((get_or words (page + 1) 0 + n) % 2 ^ 64)) (set views place (Worker (added_view v page n))) × (added_to page v.additions ≤ get_or words (page + 1) 0)
@@ -144,7 +145,7 @@ adds z words views place v page n some_state at may =
     in
     let may_there = may.there in
     let on : page < length z.counts = omega arith in
-    let few : added_to page v.additions + n ≤ 64000000 =
+    let few : added_to page v.additions + n ≤ max_likes =
     (let part = additions-le-sum v page may.there in let all = may.few in omega arith)
     in
     let low = count_low z.counts page on sh.opening.counts in

@@ -11,7 +11,7 @@ use Rattle.like_core.specs.declared.view.WorkerSeatView.{WorkerSeatView}
 use Rattle.like_core.specs.declared.view.CoordSeatView.{CoordSeatView}
 use Rattle.like_core.specs.declared.view.View.{View}
 use Rattle.like_core.specs.declared.view.View.TheVariants.{Coord, Worker, Spent}
-use Rattle.like_core.specs.Word.{Fields, packed, IsLawful, released}
+use Rattle.like_core.specs.Word.{Fields, packed, IsLawful, released, answer_bit, retirement_bit}
 use Rattle.like_core.specs.Sights.{sight_of, coord_sight_of}
 use Rattle.like_core.specs.Post.{IsFresh, MayAdd, MayRead}
 use Rattle.like_core.specs.WorkerState.{RunsJoined, RunsSplit, SawEnding}
@@ -63,7 +63,7 @@ looking {S} key slots id me is there = λ st shows _ at _.
       ),
     )
 
-pub acknowledging : {S : Type 0} (key : Key) (slots id : ℕ) (me : Me S View) (bit : ℕ) → bit ≡ 2 ^ (8 + (worker_view_of me.0).worker) → me ≡ (Worker (worker_view_of me.0), []) → RunsJoined (worker_view_of me.0).state → SawEnding (worker_view_of me.0).last → Allows (IsShowing key) slots id me 0 (λ n. bit_or n bit) (λ found after. TellsWorker (λ v. Acknowledge v.worker) answered_view me.0 after.0 × (after.1 ≡ []))
+pub acknowledging : {S : Type 0} (key : Key) (slots id : ℕ) (me : Me S View) (bit : ℕ) → bit ≡ answer_bit (worker_view_of me.0).worker → me ≡ (Worker (worker_view_of me.0), []) → RunsJoined (worker_view_of me.0).state → SawEnding (worker_view_of me.0).last → Allows (IsShowing key) slots id me 0 (λ n. bit_or n bit) (λ found after. TellsWorker (λ v. Acknowledge v.worker) answered_view me.0 after.0 × (after.1 ≡ []))
 acknowledging {S} key slots id me bit bit_is is joined saw = λ st shows _ at _.
     let z = opening_of key in
     let v : WorkerSeatView = worker_view_of me.0 in
@@ -80,7 +80,7 @@ acknowledging {S} key slots id me bit bit_is is joined saw = λ st shows _ at _.
       ),
     )
 
-pub reporting : {S : Type 0} (key : Key) (slots id : ℕ) (me : Me S View) (bit : ℕ) → bit ≡ 2 ^ (8 + (worker_view_of me.0).worker) → me ≡ (Worker (worker_view_of me.0), []) → RunsSplit (worker_view_of me.0).state → SawEnding (worker_view_of me.0).last → Allows (IsShowing key) slots id me 0 (λ n. bit_or n bit) (λ found after. TellsWorker (λ v. Report v.worker) answered_view me.0 after.0 × (after.1 ≡ []))
+pub reporting : {S : Type 0} (key : Key) (slots id : ℕ) (me : Me S View) (bit : ℕ) → bit ≡ answer_bit (worker_view_of me.0).worker → me ≡ (Worker (worker_view_of me.0), []) → RunsSplit (worker_view_of me.0).state → SawEnding (worker_view_of me.0).last → Allows (IsShowing key) slots id me 0 (λ n. bit_or n bit) (λ found after. TellsWorker (λ v. Report v.worker) answered_view me.0 after.0 × (after.1 ≡ []))
 reporting {S} key slots id me bit bit_is is split saw = λ st shows _ at _.
     let z = opening_of key in
     let v : WorkerSeatView = worker_view_of me.0 in
@@ -97,7 +97,7 @@ reporting {S} key slots id me bit bit_is is split saw = λ st shows _ at _.
       ),
     )
 
-pub retiring : {S : Type 0} (key : Key) (slots id : ℕ) (me : Me S View) (bit : ℕ) → bit ≡ 2 ^ (24 + (worker_view_of me.0).worker) → me ≡ (Worker (worker_view_of me.0), []) → RunsJoined (worker_view_of me.0).state → Allows (IsShowing key) slots id me 0 (λ n. bit_or n bit) (λ found after. TellsWorker (λ v. Retire v.worker) retired_view me.0 after.0 × (after.1 ≡ []))
+pub retiring : {S : Type 0} (key : Key) (slots id : ℕ) (me : Me S View) (bit : ℕ) → bit ≡ retirement_bit (worker_view_of me.0).worker → me ≡ (Worker (worker_view_of me.0), []) → RunsJoined (worker_view_of me.0).state → Allows (IsShowing key) slots id me 0 (λ n. bit_or n bit) (λ found after. TellsWorker (λ v. Retire v.worker) retired_view me.0 after.0 × (after.1 ≡ []))
 retiring {S} key slots id me bit bit_is is joined = λ st shows _ at _.
     let z = opening_of key in
     let v : WorkerSeatView = worker_view_of me.0 in

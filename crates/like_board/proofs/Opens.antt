@@ -1,5 +1,5 @@
 -- What a new board shows.
-use Rattle.std.proofs.Common.{◌≡◌, ℕ, zero, suc, ◌^◌, ◌<◌, ◌≤◌, nat_lt, Bool, false, List, [], ◌∷◌, All, length, get_or, subst, ap, sym, ◌∙◌, refl, arith, add-one, add-zero}
+use Rattle.std.proofs.Common.{◌≡◌, ℕ, zero, suc, ◌<◌, ◌≤◌, nat_lt, Bool, false, List, [], ◌∷◌, All, length, get_or, subst, ap, sym, ◌∙◌, refl, arith, add-one, add-zero}
 use Rattle.std.proofs.lemmas.Bool.{cond-true, lt-ltb, le-ltb}
 use mathlib.Core.Option.{some, some-injective, some-ne-none}
 use lib.ListN.{get_elem?}
@@ -9,6 +9,7 @@ use Rattle.like_core.specs.declared.opening.Opening.{Opening}
 use Rattle.like_core.specs.declared.view.CoordSeatView.{CoordSeatView}
 use Rattle.like_core.specs.declared.view.View.{View}
 use Rattle.like_core.specs.declared.view.View.TheVariants.{Coord}
+use Rattle.like_core.specs.Limits.{max_workers, max_pages, max_count}
 use Rattle.like_core.specs.Word.{packed}
 use Rattle.like_core.specs.State.{start}
 use Rattle.like_core.specs.ShownWord.{mask, has_answered, is_gone, shown_fields}
@@ -81,7 +82,7 @@ opens z opening =
     each_first z c fits (suc place) v at = absurd (some-ne-none v (sym at))
 
 -- a table that is made with these words starts by the rule
-pub opens_key : (key : Key) (counts : List ℕ) (marks : List Bool) (word : ℕ) (words : List ℕ) → key.counts.items ≡ counts → key.marks.items ≡ marks → word ≡ packed (first_fields key.workers) → words ≡ word ∷ counts → 1 ≤ key.workers → key.workers ≤ 16 → length marks ≡ length counts → length counts ≤ 1024 → All (λ n. n ≤ 10 ^ 18) counts → ShowsSome (opening_of key) words (first_view key ∷ [])
+pub opens_key : (key : Key) (counts : List ℕ) (marks : List Bool) (word : ℕ) (words : List ℕ) → key.counts.items ≡ counts → key.marks.items ≡ marks → word ≡ packed (first_fields key.workers) → words ≡ word ∷ counts → 1 ≤ key.workers → key.workers ≤ max_workers → length marks ≡ length counts → length counts ≤ max_pages → All (λ n. n ≤ max_count) counts → ShowsSome (opening_of key) words (first_view key ∷ [])
 opens_key key counts marks word words counts_are marks_are word_is words_are some_worker few_workers same_pages few_pages low =
     let z : Opening = opening_of key in
     let sized : length key.counts.items ≡ length counts = ap length counts_are in
@@ -89,9 +90,9 @@ opens_key key counts marks word words counts_are marks_are word_is words_are som
     record {
       some_worker = some_worker;
       few_workers = few_workers;
-      few_pages = subst (λ (n : ℕ). n ≤ 1024) (sym sized) few_pages;
+      few_pages = subst (λ (n : ℕ). n ≤ max_pages) (sym sized) few_pages;
       marks = ap length marks_are ∙ (same_pages ∙ sym sized);
-      counts = subst (All (λ (n : ℕ). n ≤ 10 ^ 18)) (sym counts_are) low;
+      counts = subst (All (λ (n : ℕ). n ≤ max_count)) (sym counts_are) low;
     }
     in
     let same : words ≡ packed (first_fields key.workers) ∷ key.counts.items = words_are ∙ (λ m. word_is m ∷ sym counts_are m) in

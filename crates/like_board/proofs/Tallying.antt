@@ -7,6 +7,7 @@ use Rattle.like_core.specs.declared.opening.Opening.{Opening}
 use Rattle.like_core.specs.declared.view.CoordSeatView.{CoordSeatView}
 use Rattle.like_core.specs.declared.view.View.{View}
 use Rattle.like_core.specs.declared.view.View.TheVariants.{Coord, Worker}
+use Rattle.like_core.specs.Limits.{max_likes}
 use Rattle.like_core.specs.State.{CoreState, Label}
 use Rattle.like_core.specs.Views.{fresh, made_coord}
 use Rattle.like_core.specs.Tallies.{Tallied, paged, room}
@@ -42,6 +43,6 @@ tallied_made z s views place c at few old =
           let before = old.rooms page in
           let swap = sum_swap (room page) views place (Coord c) (Coord d) at in
           let more = sum_by_push (room page) changed new in
-          let all : room page new ≡ 64000000 = refl in
+          let all : room page new ≡ max_likes = refl in
           omega arith;
     }

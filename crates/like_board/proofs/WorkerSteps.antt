@@ -1,5 +1,5 @@
 -- Each step of a worker is the event, and keeps what the board shows.
-use Rattle.std.proofs.Common.{◌≡◌, ◌≢◌, ℕ, ◌+◌, ◌^◌, nat_lt, bit_or, Bool, true, false, cond, ◌⊎◌, inl, inr, IsTrue, ◌↔◌, MatchBool, List, get_or, set, subst, ap, sym, ◌∙◌, refl, arith}
+use Rattle.std.proofs.Common.{◌≡◌, ◌≢◌, ℕ, ◌+◌, nat_lt, bit_or, Bool, true, false, cond, ◌⊎◌, inl, inr, IsTrue, ◌↔◌, MatchBool, List, get_or, set, subst, ap, sym, ◌∙◌, refl, arith}
 use Rattle.std.proofs.lemmas.Bool.{cond-true, cond-false, lt-ltb, le-ltb}
 use mathlib.Core.Option.{some}
 use lib.ListN.{get_elem?}
@@ -15,7 +15,7 @@ use Rattle.like_core.specs.declared.view.View.TheVariants.{Worker}
 use Rattle.like_core.specs.Functions.{times}
 use Rattle.like_core.specs.Phase.{IsJoined, IsSplit}
 use Rattle.like_core.specs.WorkerState.{IsIn, looked, RunsSome, IsSightOf, seen, phase_of, IsRunning, RunsJoined, RunsSplit, SawEnding}
-use Rattle.like_core.specs.Word.{Fields, packed}
+use Rattle.like_core.specs.Word.{Fields, packed, answer_bit, retirement_bit}
 use Rattle.like_core.specs.Numbers.{Sees}
 use Rattle.like_core.specs.Table.{Permits}
 use Rattle.like_core.specs.State.{CoreState, numbers}
@@ -162,7 +162,7 @@ looks z words views place v some_state at there =
     )
 
 -- what a worker that runs the present phase makes of the board by its answer
-answers : (z : Opening) (s : CoreState) (words : List ℕ) (views : List View) (place : ℕ) (v : WorkerSeatView) (phase : ℕ) → Reachable z s → Shows z s words views → get_elem? views place ≡ some (Worker v) → v.state ≡ Runs phase → phase ≡ s.phase → Shows z (moved s v.worker (Answered s.phase)) (set words 0 (bit_or (get_or words 0 0) (2 ^ (8 + v.worker)))) (set views place (Worker (answered_view v)))
+answers : (z : Opening) (s : CoreState) (words : List ℕ) (views : List View) (place : ℕ) (v : WorkerSeatView) (phase : ℕ) → Reachable z s → Shows z s words views → get_elem? views place ≡ some (Worker v) → v.state ≡ Runs phase → phase ≡ s.phase → Shows z (moved s v.worker (Answered s.phase)) (set words 0 (bit_or (get_or words 0 0) (answer_bit v.worker))) (set views place (Worker (answered_view v)))
 answers z s words views place v phase reached sh at runs present =
     let i = v.worker in
     let p = reached_in_phase z s reached in
@@ -180,14 +180,14 @@ answers z s words views place v phase reached sh at runs present =
       labels = old.labels;
     }
     in
-    worker_moves z s words views place v (answered_view v) state (bit_or (get_or words 0 0) (2 ^ (8 + i))) sh at refl
-    (ap (λ n. bit_or n (2 ^ (8 + i))) sh.word ∙ word_answered z s i phase lawful old.there here)
+    worker_moves z s words views place v (answered_view v) state (bit_or (get_or words 0 0) (answer_bit i)) sh at refl
+    (ap (λ n. bit_or n (answer_bit i)) sh.word ∙ word_answered z s i phase lawful old.there here)
     fits
     (λ is. absurd (subst (IsIn s.phase) here is))
     (λ _ gone. absurd (cc))
 
 -- an acknowledgement is the event
-pub acknowledges : (z : Opening) (words : List ℕ) (views : List View) (place : ℕ) (v : WorkerSeatView) → ShowsSome z words views → get_elem? views place ≡ some (Worker v) → RunsJoined v.state → SawEnding v.last → IsStep z (Acknowledge v.worker) Done (Worker v) (Worker (answered_view v)) × ShowsSome z (set words 0 (bit_or (get_or words 0 0) (2 ^ (8 + v.worker)))) (set views place (Worker (answered_view v)))
+pub acknowledges : (z : Opening) (words : List ℕ) (views : List View) (place : ℕ) (v : WorkerSeatView) → ShowsSome z words views → get_elem? views place ≡ some (Worker v) → RunsJoined v.state → SawEnding v.last → IsStep z (Acknowledge v.worker) Done (Worker v) (Worker (answered_view v)) × ShowsSome z (set words 0 (bit_or (get_or words 0 0) (answer_bit v.worker))) (set views place (Worker (answered_view v)))
 acknowledges z words views place v some_state at joined saw =
     let s = some_state.state in
     let sh = some_state.shows in
@@ -217,7 +217,7 @@ acknowledges z words views place v some_state at joined saw =
         permits = permits;
         tells = refl;
         changed = 0;
-        word = bit_or (get_or words 0 0) (2 ^ (8 + v.worker));
+        word = bit_or (get_or words 0 0) (answer_bit v.worker);
         shows_after = after_it;
       },
       record {
@@ -231,7 +231,7 @@ acknowledges z words views place v some_state at joined saw =
     )
 
 -- a report is the event
-pub reports : (z : Opening) (words : List ℕ) (views : List View) (place : ℕ) (v : WorkerSeatView) → ShowsSome z words views → get_elem? views place ≡ some (Worker v) → RunsSplit v.state → SawEnding v.last → IsStep z (Report v.worker) Done (Worker v) (Worker (answered_view v)) × ShowsSome z (set words 0 (bit_or (get_or words 0 0) (2 ^ (8 + v.worker)))) (set views place (Worker (answered_view v)))
+pub reports : (z : Opening) (words : List ℕ) (views : List View) (place : ℕ) (v : WorkerSeatView) → ShowsSome z words views → get_elem? views place ≡ some (Worker v) → RunsSplit v.state → SawEnding v.last → IsStep z (Report v.worker) Done (Worker v) (Worker (answered_view v)) × ShowsSome z (set words 0 (bit_or (get_or words 0 0) (answer_bit v.worker))) (set views place (Worker (answered_view v)))
 reports z words views place v some_state at split saw =
     let s = some_state.state in
     let sh = some_state.shows in
@@ -261,7 +261,7 @@ reports z words views place v some_state at split saw =
         permits = permits;
         tells = refl;
         changed = 0;
-        word = bit_or (get_or words 0 0) (2 ^ (8 + v.worker));
+        word = bit_or (get_or words 0 0) (answer_bit v.worker);
         shows_after = after_it;
       },
       record {
@@ -275,7 +275,7 @@ reports z words views place v some_state at split saw =
     )
 
 -- a retirement is the event
-pub retires : (z : Opening) (words : List ℕ) (views : List View) (place : ℕ) (v : WorkerSeatView) → ShowsSome z words views → get_elem? views place ≡ some (Worker v) → RunsJoined v.state → IsStep z (Retire v.worker) Done (Worker v) (Worker (retired_view v)) × ShowsSome z (set words 0 (bit_or (get_or words 0 0) (2 ^ (24 + v.worker)))) (set views place (Worker (retired_view v)))
+pub retires : (z : Opening) (words : List ℕ) (views : List View) (place : ℕ) (v : WorkerSeatView) → ShowsSome z words views → get_elem? views place ≡ some (Worker v) → RunsJoined v.state → IsStep z (Retire v.worker) Done (Worker v) (Worker (retired_view v)) × ShowsSome z (set words 0 (bit_or (get_or words 0 0) (retirement_bit v.worker))) (set views place (Worker (retired_view v)))
 retires z words views place v some_state at joined =
     let s = some_state.state in
     let sh = some_state.shows in
@@ -297,9 +297,9 @@ retires z words views place v some_state at joined =
       labels = old.labels;
     }
     in
-    let after_it : Shows z (moved s i Gone) (set words 0 (bit_or (get_or words 0 0) (2 ^ (24 + i)))) (set views place (Worker (retired_view v))) =
-    worker_moves z s words views place v (retired_view v) Gone (bit_or (get_or words 0 0) (2 ^ (24 + i))) sh at refl
-    (ap (λ n. bit_or n (2 ^ (24 + i))) sh.word ∙ word_retired z s i runs.0 lawful old.there here)
+    let after_it : Shows z (moved s i Gone) (set words 0 (bit_or (get_or words 0 0) (retirement_bit i))) (set views place (Worker (retired_view v))) =
+    worker_moves z s words views place v (retired_view v) Gone (bit_or (get_or words 0 0) (retirement_bit i)) sh at refl
+    (ap (λ n. bit_or n (retirement_bit i)) sh.word ∙ word_retired z s i runs.0 lawful old.there here)
     fits
     (λ is. absurd (subst (IsIn s.phase) here is))
     (λ odd _. absurd (omega arith))
@@ -319,7 +319,7 @@ retires z words views place v some_state at joined =
         permits = permits;
         tells = refl;
         changed = 0;
-        word = bit_or (get_or words 0 0) (2 ^ (24 + i));
+        word = bit_or (get_or words 0 0) (retirement_bit i);
         shows_after = after_it;
       },
       record {

@@ -1,5 +1,6 @@
 ghost use Rattle.std.specs.Prelude.{◌≡◌, ◌^◌, ◌<◌, ◌≤◌, All, length, IfOk};
 ghost use Rattle.like_core.specs.declared.opening.Opening.{Opening};
+ghost use Rattle.like_core.specs.Limits.{max_workers, max_pages, max_count};
 
 use crate::coord_seat::CoordSeat;
 use crate::key::Key;
@@ -32,10 +33,10 @@ impl Board {
         split: &[bool],
     ) -> Result<(Board, CoordSeat, Vec<WorkerSeat>), AllocError>
         requires some_worker { 1 ≤ workers }
-        requires few_workers { workers ≤ 16 }
+        requires few_workers { workers ≤ max_workers }
         requires same_pages { length split.now ≡ length counts.now }
-        requires few_pages { length counts.now ≤ 1024 }
-        requires counts { All (λ count. count ≤ 10 ^ 18) counts.now }
+        requires few_pages { length counts.now ≤ max_pages }
+        requires counts { All (λ count. count ≤ max_count) counts.now }
         ensures coord_here { IfOk result (λ r. coord_board r.1 ≡ board_id r.0) }
         ensures coord { IfOk result (λ r. let z : Opening = record { workers = workers; counts = counts.now; marks = split.now } in coord_view r.1 ≡ record (fresh_coord z (first_word z)) { made = workers }) }
         ensures seats { IfOk result (λ r. length r.2.items ≡ workers) }

@@ -1,6 +1,7 @@
 //! How the seats of a board's workers are made.
 ghost use Rattle.std.specs.Prelude.{◌≡◌, ◌+◌, ◌<◌, ◌≤◌, [], length, IfOk, OnOk};
 ghost use Rattle.like_core.specs.declared.view.View.TheVariants.{Coord};
+ghost use Rattle.like_core.specs.Limits.{max_workers};
 ghost use Rattle.like_core.specs.Post.{IsFresh};
 ghost use Rattle.like_core.specs.Views.{fresh, made_coord};
 ghost use Rattle.like_board.specs.Known.{coord_view_of};
@@ -20,7 +21,7 @@ fn make_seat(board: &Board, coord: &mut Seat<(), View>, number: u32) -> WorkerSe
     requires sized { coord.old.table_id.words ≡ length (coord_view_of coord.old.me.0).opening.marks + 1 }
     requires next { number ≡ (coord_view_of coord.old.me.0).made }
     requires room { number < (coord_view_of coord.old.me.0).opening.workers }
-    requires few { number < 16 }
+    requires few { number < max_workers }
     ensures board { coord.new.table_id ≡ coord.old.table_id }
     ensures coord { coord.new.me ≡ (Coord (made_coord (coord_view_of coord.old.me.0)), []) }
     ensures seat_board { seat_board result ≡ coord.old.table_id }
@@ -43,7 +44,7 @@ pub(crate) fn make_seats(
     requires sized { coord.old.table_id.words ≡ length (coord_view_of coord.old.me.0).opening.marks + 1 }
     requires none { (coord_view_of coord.old.me.0).made ≡ 0 }
     requires all { workers ≡ (coord_view_of coord.old.me.0).opening.workers }
-    requires few { workers ≤ 16 }
+    requires few { workers ≤ max_workers }
     ensures board { OnOk result (coord.new.table_id ≡ coord.old.table_id) }
     ensures coord { OnOk result (coord.new.me ≡ (Coord (record (coord_view_of coord.old.me.0) { made = workers }), [])) }
     ensures len { IfOk result (λ seats. length seats.items ≡ workers) }

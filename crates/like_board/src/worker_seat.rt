@@ -1,5 +1,6 @@
 ghost use Rattle.std.specs.Prelude.{◌≡◌, ◌≢◌, ◌+◌, ◌<◌, ◌≤◌, true, [], length};
 ghost use Rattle.like_core.specs.declared.view.View.TheVariants.{Worker};
+ghost use Rattle.like_core.specs.Limits.{max_workers};
 ghost use Rattle.like_board.specs.Known.{worker_view_of};
 
 use crate::board::Board;
@@ -8,12 +9,6 @@ use crate::plays::{Acknowledging, Adding, Looking, Reading, Reporting, Retiring}
 use atomic_table::Seat;
 use like_core::{PhaseWord, Sight, View};
 
-/// The first bit of the phase word that says that a worker acknowledged or reported.
-const ANSWERED: u32 = 8;
-
-/// The first bit of the phase word that says that a worker retired.
-const RETIRED: u32 = 24;
-
 /// A worker's right to step on a board. It borrows nothing, so any thread may take it.
 #[derive(Drop)]
 pub struct WorkerSeat {
@@ -21,7 +16,7 @@ pub struct WorkerSeat {
     pub(crate) number: u32,
     ghost is_worker: { seat.me ≡ (Worker (worker_view_of seat.me.0), []) },
     ghost numbered: { number ≡ (worker_view_of seat.me.0).worker },
-    ghost few: { number < 16 },
+    ghost few: { number < max_workers },
     ghost sized: { seat.table_id.words ≡ length (worker_view_of seat.me.0).opening.marks + 1 },
 }
 
@@ -66,7 +61,7 @@ impl WorkerSeat {
         ensures view { seat_view self.new ≡ answered_view (seat_view self.old) }
         ensures event { IsStep (seat_view self.old).opening (Acknowledge (seat_view self.old).worker) Done (Worker (seat_view self.old)) (Worker (seat_view self.new)) }
     {
-        let bit = 1 << (ANSWERED + self.number);
+        let bit = PhaseWord::answer_bit(self.number);
         board
             .table
             .shared
@@ -81,7 +76,7 @@ impl WorkerSeat {
         ensures view { seat_view self.new ≡ answered_view (seat_view self.old) }
         ensures event { IsStep (seat_view self.old).opening (Report (seat_view self.old).worker) Done (Worker (seat_view self.old)) (Worker (seat_view self.new)) }
     {
-        let bit = 1 << (ANSWERED + self.number);
+        let bit = PhaseWord::answer_bit(self.number);
         board
             .table
             .shared
@@ -95,7 +90,7 @@ impl WorkerSeat {
         ensures view { seat_view self.new ≡ retired_view (seat_view self.old) }
         ensures event { IsStep (seat_view self.old).opening (Retire (seat_view self.old).worker) Done (Worker (seat_view self.old)) (Worker (seat_view self.new)) }
     {
-        let bit = 1 << (RETIRED + self.number);
+        let bit = PhaseWord::retirement_bit(self.number);
         board
             .table
             .shared

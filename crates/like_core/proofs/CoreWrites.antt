@@ -1,6 +1,7 @@
-use Rattle.std.proofs.Common.{◌≡◌, ℕ, ◌+◌, ◌^◌, ◌<◌, List, [], length, get_or, set, length-set, ap, subst, sym, ◌∙◌, arith}
+use Rattle.std.proofs.Common.{◌≡◌, ℕ, ◌+◌, ◌<◌, List, [], length, get_or, set, length-set, ap, subst, sym, ◌∙◌, arith}
 use Rattle.std.proofs.lemmas.List.{get_or_read}
 use Rattle.like_core.specs.declared.pure_core.Core.{Core}
+use Rattle.like_core.specs.Limits.{total_bound}
 use Rattle.like_core.specs.Numbers.{Numbers, with_unmerged, total}
 use Rattle.like_core.specs.Kept.{kept}
 use Rattle.like_core.specs.Core.{numbers_of}
@@ -35,7 +36,7 @@ written_sizes core i page likes borrowed row w =
     rows_sized-set core.unmerged.items (length core.counts) i row core.rows_sized w.has_worker size
 
 -- the totals stay bounded, where the page's total has room
-pub written_bounds : (core : Core) (i page likes : ℕ) (borrowed row : List ℕ) → WritesRow core i page likes borrowed row → total (numbers_of core) page + likes < 2 ^ 63 + (numbers_of core).unmerged i page → (q : ℕ) → q < length core.counts → total (kept core.phase core.ending core.states.items (set core.unmerged.items i row) core.counts core.marks.items) q < 2 ^ 63
+pub written_bounds : (core : Core) (i page likes : ℕ) (borrowed row : List ℕ) → WritesRow core i page likes borrowed row → total (numbers_of core) page + likes < total_bound + (numbers_of core).unmerged i page → (q : ℕ) → q < length core.counts → total (kept core.phase core.ending core.states.items (set core.unmerged.items i row) core.counts core.marks.items) q < total_bound
 written_bounds core i page likes borrowed row w room q there =
     let bounds = bounded-with_unmerged (numbers_of core) i page likes w.has_worker room core.bounded q there in
-    subst (λ (n : Numbers). total n q < 2 ^ 63) (sym (written_numbers core i page likes borrowed row w)) bounds
+    subst (λ (n : Numbers). total n q < total_bound) (sym (written_numbers core i page likes borrowed row w)) bounds

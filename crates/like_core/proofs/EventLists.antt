@@ -1,8 +1,8 @@
 use Rattle.std.proofs.Common.{◌≡◌, ℕ, zero, suc, List, [], ◌∷◌, take, Some, subst, ap, sym, ◌∙◌, refl}
 use Rattle.std.specs.Prelude.{slice_get}
 use Rattle.like_core.specs.declared.event.Event.{Event}
-use Rattle.like_core.specs.declared.refusal.NotNow.{NotNow}
-use Rattle.like_core.specs.declared.refusal.NotNow.TheVariants.{NoSuch, Phase, Last, Full}
+use Rattle.like_core.specs.declared.pure_core.refusal.NotNow.{NotNow}
+use Rattle.like_core.specs.declared.pure_core.refusal.NotNow.TheVariants.{NoSuch, Phase, Last, Full}
 use Rattle.like_core.specs.declared.opening.Opening.{Opening}
 use Rattle.like_core.specs.declared.pure_core.Core.{Core}
 use Rattle.like_core.specs.Numbers.{Numbers}

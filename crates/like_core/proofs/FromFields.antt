@@ -1,7 +1,7 @@
 use Rattle.std.proofs.Common.{◌≡◌, ℕ, ◌<◌, inl, inr, subst, sym, arith}
 use Rattle.std.proofs.lemmas.Bool.{cases_eq}
-use Rattle.like_core.specs.declared.kind.Kind.{Kind}
-use Rattle.like_core.specs.declared.kind.Kind.TheVariants.{JoinedRunning, JoinedEnding, SplitRunning, SplitEnding}
+use Rattle.like_core.specs.declared.phase_word.kind.Kind.{Kind}
+use Rattle.like_core.specs.declared.phase_word.kind.Kind.TheVariants.{JoinedRunning, JoinedEnding, SplitRunning, SplitEnding}
 use Rattle.like_core.specs.declared.phase_word.PhaseWord.{PhaseWord}
 use Rattle.like_core.specs.Kind.{code_of}
 use Rattle.like_core.specs.PhaseWord.{fields_of}

@@ -1,9 +1,10 @@
-use Rattle.std.proofs.Common.{◌≡◌, ℕ, zero, suc, ◌+◌, ◌^◌, ◌<◌, ◌≤◌, inl, inr, true, List, [], ◌∷◌, ◌++◌, length, append_assoc, subst, ap, sym, ◌∙◌, refl, arith}
+use Rattle.std.proofs.Common.{◌≡◌, ℕ, zero, suc, ◌+◌, ◌<◌, ◌≤◌, inl, inr, true, List, [], ◌∷◌, ◌++◌, length, append_assoc, subst, ap, sym, ◌∙◌, refl, arith}
 use Rattle.std.proofs.lemmas.Bool.{cases_lt, cases_eq, cond-true}
 use Rattle.std.proofs.lemmas.List.{append-nil}
 use Rattle.like_core.specs.declared.worker_state.WorkerState.TheVariants.{Runs}
 use Rattle.like_core.specs.declared.event.Event.TheVariants.{Like}
 use Rattle.like_core.specs.declared.opening.Opening.{Opening}
+use Rattle.like_core.specs.Limits.{total_bound}
 use Rattle.like_core.specs.Functions.{update, times}
 use Rattle.like_core.specs.Phase.{split}
 use Rattle.like_core.specs.Numbers.{total}
@@ -64,7 +65,7 @@ pub after-like : (z : Opening) (s : CoreState) (i page : ℕ) → split (marked 
 after-like z s i page sliced = cond-true (split (marked z) s.phase page) _ _ sliced
 
 -- the state stays reachable with likes for one worker
-pub reach_given_to : (z : Opening) (s : CoreState) (i : ℕ) (likes : List ℕ) → Reachable z s → ((page : ℕ) → 0 < times page likes → (s.state i ≡ Runs s.phase) × (page < length z.counts) × (split (marked z) s.phase page ≡ true)) → ((page : ℕ) → total (numbers z (given_to s i likes)) page < 2 ^ 63) → Reachable z (given_to s i likes)
+pub reach_given_to : (z : Opening) (s : CoreState) (i : ℕ) (likes : List ℕ) → Reachable z s → ((page : ℕ) → 0 < times page likes → (s.state i ≡ Runs s.phase) × (page < length z.counts) × (split (marked z) s.phase page ≡ true)) → ((page : ℕ) → total (numbers z (given_to s i likes)) page < total_bound) → Reachable z (given_to s i likes)
 reach_given_to z s i [] r pages totals = subst (Reachable z) (sym (given_to-nil s i)) r
 reach_given_to z s i (page ∷ likes) r pages totals =
     let more = times-cons_same page likes in
@@ -87,7 +88,7 @@ reach_given_to z s i (page ∷ likes) r pages totals =
     subst (Reachable z) all
     (reach_given_to z (given_to s i (page ∷ [])) i likes one
     (λ other stands. pages other (let step = times-cons other page likes in omega arith))
-    (λ other. subst (λ (t : CoreState). total (numbers z t) other < 2 ^ 63) (sym all) (totals other)))
+    (λ other. subst (λ (t : CoreState). total (numbers z t) other < total_bound) (sym all) (totals other)))
 
 -- fewer likes make smaller totals
 pub total-given-le : (z : Opening) (s : CoreState) (fewer more : ℕ → List ℕ) (page : ℕ) → ((i : ℕ) → times page (fewer i) ≤ times page (more i)) → total (numbers z (given s fewer)) page ≤ total (numbers z (given s more)) page
@@ -147,7 +148,7 @@ reach_given z s (suc n) more r may none =
     subst (Reachable z) same
     (reach_given_to z (given s fewer) n (more n) reached
     (λ page some. (may.runs n page some, may.there n page some, may.splits n page some))
-    (λ page. subst (λ (t : CoreState). total (numbers z t) page < 2 ^ 63) (sym same) (may.totals page)))
+    (λ page. subst (λ (t : CoreState). total (numbers z t) page < total_bound) (sym same) (may.totals page)))
 
 -- a state that can be reached can also be reached with more likes of pages that are split
 pub likes_stay_reachable : LikesStayReachable

@@ -1,7 +1,8 @@
-use Rattle.std.proofs.Common.{◌≡◌, ℕ, ◌+◌, ◌^◌, ◌<◌, ◌≤◌, inl, inr, Bool, List, [], length, get_or, set, slice_index, ap, sym, ◌∙◌, arith}
+use Rattle.std.proofs.Common.{◌≡◌, ℕ, ◌+◌, ◌<◌, ◌≤◌, inl, inr, Bool, List, [], length, get_or, set, slice_index, ap, sym, ◌∙◌, arith}
 use Rattle.std.proofs.Math.ListN.{length-set}
 use Rattle.std.proofs.lemmas.Bool.{cases_eq}
 use Rattle.like_core.specs.declared.worker_state.WorkerState.{WorkerState}
+use Rattle.like_core.specs.Limits.{total_bound}
 use Rattle.like_core.specs.Functions.{update}
 use Rattle.like_core.specs.Numbers.{Numbers, with_unmerged, total}
 use Rattle.like_core.specs.Kept.{kept}
@@ -57,7 +58,7 @@ unmerged-le-total n i page within =
     let without_it = sum_below-update (λ j. n.unmerged j page) i 0 n.workers within in omega arith
 
 -- totals stay bounded where a worker's unmerged likes of a page change and the page's total has room for it
-pub bounded-with_unmerged : (n : Numbers) (i page likes : ℕ) → i < n.workers → total n page + likes < 2 ^ 63 + n.unmerged i page → ((q : ℕ) → q < n.pages → total n q < 2 ^ 63) → (q : ℕ) → q < n.pages → total (with_unmerged n i page likes) q < 2 ^ 63
+pub bounded-with_unmerged : (n : Numbers) (i page likes : ℕ) → i < n.workers → total n page + likes < total_bound + n.unmerged i page → ((q : ℕ) → q < n.pages → total n q < total_bound) → (q : ℕ) → q < n.pages → total (with_unmerged n i page likes) q < total_bound
 bounded-with_unmerged n i page likes within room bounded q there =
     let changed = total-with_unmerged n i page likes q within in
     let before = bounded q there in

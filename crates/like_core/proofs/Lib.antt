@@ -16,6 +16,7 @@ pub mod CoreReached
 pub mod LoneLooks
 pub mod LoneSteps
 pub mod LoneAdds
+pub mod Below
 pub mod Masks
 pub mod Unanswered
 pub mod ShownEvents

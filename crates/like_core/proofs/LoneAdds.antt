@@ -7,6 +7,7 @@ use Rattle.like_core.specs.declared.event.Event.TheVariants.{Like, Merge}
 use Rattle.like_core.specs.declared.shown.Shown.{Shown}
 use Rattle.like_core.specs.declared.shown.Shown.TheVariants.{Sliced, Old}
 use Rattle.like_core.specs.declared.sight.Sight.{Sight}
+use Rattle.like_core.specs.Limits.{max_likes}
 use Rattle.like_core.specs.Functions.{update, sum_below}
 use Rattle.like_core.specs.Phase.{split}
 use Rattle.like_core.specs.Numbers.{Numbers, with_unmerged, with_count, sliced, total}
@@ -28,7 +29,7 @@ total_one n start last l =
     omega arith
 
 -- the page has room for what may be added
-pub room_to_add : (n : Numbers) (start : ℕ) (last : Option Sight) (page likes : ℕ) → IsLone n start last → MayAdd (lone_view n start last) page likes → n.count 0 + likes ≤ start + 64000000
+pub room_to_add : (n : Numbers) (start : ℕ) (last : Option Sight) (page likes : ℕ) → IsLone n start last → MayAdd (lone_view n start last) page likes → n.count 0 + likes ≤ start + max_likes
 room_to_add n start last page likes l may =
     let few = may.few in
     let started = l.started in
@@ -216,7 +217,7 @@ may_like v runs there nothing =
     }
 
 -- a post that has added nothing may merge its first slice in phase 1
-pub may_merge : (v : PostView) (likes : ℕ) → v.state ≡ Runs 1 → 0 < pages_of v → is_marked v 0 ≡ true → v.additions ≡ replicate (pages_of v) 0 → 1 ≤ likes → likes ≤ 64000000 → SawEnding v.last → MayAdd v 0 likes
+pub may_merge : (v : PostView) (likes : ℕ) → v.state ≡ Runs 1 → 0 < pages_of v → is_marked v 0 ≡ true → v.additions ≡ replicate (pages_of v) 0 → 1 ≤ likes → likes ≤ max_likes → SawEnding v.last → MayAdd v 0 likes
 may_merge v likes runs there marked nothing some few saw =
     let is_sliced : slices v 0 ≡ true = ap (λ (state : WorkerState). split (is_marked v) (phase_of state) 0) runs ∙ marked in
     let none : sum v.additions ≡ 0 = ap sum nothing ∙ sum_zeros (pages_of v) in

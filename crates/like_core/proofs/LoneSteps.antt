@@ -1,13 +1,14 @@
-use Rattle.std.proofs.Common.{◌≡◌, ℕ, ◌+◌, ◌-◌, ◌^◌, ◌≤◌, ◌↔◌, ◌⊎◌, inl, inr, Bool, true, [], ◌∷◌, Option, None, IsSomeAnd, Result, Ok, Err, IsOk, OnOk, OnErr, subst, ap, sym, ◌∙◌, refl, arith}
+use Rattle.std.proofs.Common.{◌≡◌, ℕ, ◌+◌, ◌-◌, ◌≤◌, ◌↔◌, ◌⊎◌, inl, inr, Bool, true, [], ◌∷◌, Option, None, IsSomeAnd, Result, Ok, Err, IsOk, OnOk, OnErr, subst, ap, sym, ◌∙◌, refl, arith}
 use Rattle.like_core.specs.declared.worker_state.WorkerState.{WorkerState}
 use Rattle.like_core.specs.declared.worker_state.WorkerState.TheVariants.{Runs, Answered, Gone}
 use Rattle.like_core.specs.declared.event.Event.{Event}
-use Rattle.like_core.specs.declared.refusal.NotNow.{NotNow}
+use Rattle.like_core.specs.declared.pure_core.refusal.NotNow.{NotNow}
 use Rattle.like_core.specs.declared.opening.Opening.{Opening}
 use Rattle.like_core.specs.declared.pure_core.Core.{Core}
 use Rattle.like_core.specs.declared.event.Event.TheVariants.{Announce, Release}
 use Rattle.like_core.specs.declared.shown.Shown.{Shown}
 use Rattle.like_core.specs.declared.sight.Sight.{Sight}
+use Rattle.like_core.specs.Limits.{max_count}
 use Rattle.like_core.specs.WorkerState.{IsIn, RunsSome, phase_of}
 use Rattle.like_core.specs.Numbers.{Numbers, with_state}
 use Rattle.like_core.specs.Table.{Permits, next}
@@ -138,7 +139,7 @@ abbrev pub lone_opening : ℕ → Bool → Opening
 lone_opening count is_marked = record { workers = 1; counts = count ∷ []; marks = is_marked ∷ [] }
 
 -- at the start
-pub lone_start : (count : ℕ) (is_marked : Bool) → count ≤ 10 ^ 18 → IsLone (numbers (lone_opening count is_marked) (start (lone_opening count is_marked))) count None
+pub lone_start : (count : ℕ) (is_marked : Bool) → count ≤ max_count → IsLone (numbers (lone_opening count is_marked) (start (lone_opening count is_marked))) count None
 lone_start count is_marked small = record {
   workers = refl;
   pages = refl;

@@ -1,8 +1,9 @@
-use Rattle.std.proofs.Common.{◌≡◌, ◌≢◌, ℕ, zero, suc, ◌+◌, ◌-◌, ◌*◌, ◌^◌, ◌<◌, ◌≤◌, bit_and, Bool, true, false, ◌||◌, inl, inr, sym, subst, ap, ◌∙◌, refl, arith, pow-suc, zero-mul, one-mul}
+use Rattle.std.proofs.Common.{◌≡◌, ◌≢◌, ℕ, zero, suc, ◌+◌, ◌-◌, ◌*◌, ◌^◌, ◌<◌, ◌≤◌, ◌==◌, bit_and, Bool, true, false, inl, inr, sym, subst, ap, ◌∙◌, refl, arith, pow-suc, zero-mul, one-mul}
 use Rattle.std.specs.Int.{bit_at}
 use Rattle.std.proofs.lemmas.Nat.{and_comm}
 use Rattle.std.proofs.lemmas.Nat.Bits.{bit_at_above, bit_at_cat_high, bit_at_cat_low, bit_at_lowest}
 use Rattle.std.proofs.lemmas.Bool.{cases_eq}
+use Rattle.like_core.specs.Sights.{has_bit}
 use Rattle.like_core.specs.ShownWord.{weight, mask}
 use Rattle.like_core.proofs.WordSteps.{more_bits-apart}
 
@@ -56,6 +57,13 @@ mask_bit f (suc n) i below =
           (bit_at_cat_low (weight (f n)) n (mask f n) i (omega arith) ∙ mask_bit f n i (omega arith))
     ]
 
+-- so a mask has a bit just where its test says yes
+pub mask-has_bit : (f : ℕ → Bool) (n i : ℕ) → i < n → has_bit (mask f n) i ≡ f i
+mask-has_bit f n i below =
+    let P : Bool → Type 0 = λ b. (weight b == 1) ≡ b in
+    let weighs : P (f i) = elim (f i) as P [ true ↦ refl | false ↦ refl ] in
+    ap (λ b. b == 1) (mask_bit f n i below) ∙ weighs
+
 -- a mask has no bit past its length
 pub mask_past : (f : ℕ → Bool) (n i : ℕ) → n ≤ i → bit_at (mask f n) i ≡ 0
 mask_past f n i past = bit_at_above (mask f n) n i (mask-lt f n) past
@@ -105,52 +113,3 @@ mask_apart f g (suc n) apart =
     ]
     in
     by_f (apart n)
-
--- then their masks add up to the mask of either
-pub mask_either : (f g : ℕ → Bool) (n : ℕ) → ((i : ℕ) → f i ≡ true → g i ≡ false) → mask f n + mask g n ≡ mask (λ i. f i || g i) n
-mask_either f g zero apart = refl
-mask_either f g (suc n) apart =
-    let rest = mask_either f g n apart in
-    let P : Bool → Bool → Type 0 = λ b c. weight b * 2 ^ n + weight c * 2 ^ n ≡ weight (b || c) * 2 ^ n in
-    let Q : Bool → Type 0 = λ b. (b ≡ true → g n ≡ false) → P b (g n) in
-    let by_f : Q (f n) =
-    elim (f n) as Q [
-      | true ↦ λ clash. subst (P true) (sym (clash refl)) (omega (arith, zero-mul (2 ^ n), one-mul (2 ^ n)))
-      | false ↦ λ _.
-          let R : Bool → Type 0 = P false in
-          elim (g n) as R [
-            | true ↦ omega (arith, zero-mul (2 ^ n), one-mul (2 ^ n))
-            | false ↦ omega (arith, zero-mul (2 ^ n), one-mul (2 ^ n))
-          ]
-    ]
-    in
-    let top = by_f (apart n) in
-    omega arith
-
--- a mask with every bit is full
-pub mask_all : (f : ℕ → Bool) (n : ℕ) → ((i : ℕ) → i < n → f i ≡ true) → mask f n + 1 ≡ 2 ^ n
-mask_all f zero each = refl
-mask_all f (suc n) each =
-    let rest = mask_all f n (λ i below. each i (omega arith)) in
-    let p : 2 ^ suc n ≡ 2 ^ n * 2 = pow-suc 2 n in
-    let here : weight (f n) * 2 ^ n ≡ 1 * 2 ^ n = ap (λ b. weight b * 2 ^ n) (each n (omega arith)) in
-    omega (arith, one-mul (2 ^ n))
-
--- a full mask has every bit
-pub mask_full : (f : ℕ → Bool) (n : ℕ) → mask f n + 1 ≡ 2 ^ n → (i : ℕ) → i < n → f i ≡ true
-mask_full f zero full i below = absurd (omega arith)
-mask_full f (suc n) full i below =
-    let p : 2 ^ suc n ≡ 2 ^ n * 2 = pow-suc 2 n in
-    let less = mask-lt f n in
-    let P : Bool → Type 0 = λ b. mask f n + weight b * 2 ^ n + 1 ≡ 2 ^ suc n → (b ≡ true) × (mask f n + 1 ≡ 2 ^ n) in
-    let at_top : P (f n) =
-    elim (f n) as P [
-      | true ↦ λ all. (refl, omega (arith, one-mul (2 ^ n)))
-      | false ↦ λ all. absurd (omega (arith, zero-mul (2 ^ n)))
-    ]
-    in
-    let top = at_top full in
-    elim (cases_eq i n) [
-      | inl same ↦ ap f same ∙ top.0
-      | inr other ↦ mask_full f n top.1 i (omega arith)
-    ]

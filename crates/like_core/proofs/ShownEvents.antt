@@ -8,16 +8,17 @@ use Rattle.like_core.specs.Functions.{update}
 use Rattle.like_core.specs.Phase.{last_phase}
 use Rattle.like_core.specs.WorkerState.{IsIn, looked}
 use Rattle.like_core.specs.Numbers.{AllIn, Sees, CoordSees}
-use Rattle.like_core.specs.Word.{Fields, packed, IsLawful, announced, answered_by, retired_by, released}
+use Rattle.like_core.specs.Word.{Fields, packed, IsLawful, announced, answered_by, retired_by, released, answer_bit, retirement_bit}
 use Rattle.like_core.specs.State.{CoreState, numbers}
 use Rattle.like_core.specs.Exclusive.{IsInPhase}
-use Rattle.like_core.specs.Sights.{sight_of, coord_sight_of}
+use Rattle.like_core.specs.Sights.{has_bit, sight_of, coord_sight_of}
 use Rattle.like_core.specs.ShownWord.{weight, mask, has_answered, is_gone, shown_fields, shown_word}
 use Rattle.like_core.specs.Shows.{IsOpening}
 use Rattle.like_core.proofs.Updates.{update-same, update-other}
 use Rattle.like_core.proofs.WordParts.{narrow, unpacked, unpacked-packed}
 use Rattle.like_core.proofs.WordSteps.{packed-answered_by, packed-retired_by}
-use Rattle.like_core.proofs.Masks.{mask-lt, mask_same, mask_none, mask_bit, mask_more, mask_apart, mask_either, mask_all, mask_full}
+use Rattle.like_core.proofs.Masks.{mask-lt, mask_same, mask_none, mask_bit, mask-has_bit, mask_more, mask_apart}
+use Rattle.like_core.proofs.Below.{below-each, each-below}
 use Rattle.like_core.proofs.Unanswered.{NoneAnswered, looked-has_answered, looked-is_gone}
 
 -- two lawful words that are equal have equal fields
@@ -179,13 +180,13 @@ fields_released z s ending all_in =
     refl
 
 -- the word after an acknowledgement or a report
-pub word_answered : (z : Opening) (s : CoreState) (i phase : ℕ) → IsLawful (shown_fields z s) → i < z.workers → s.state i ≡ Runs phase → bit_or (shown_word z s) (2 ^ (8 + i)) ≡ shown_word z (moved s i (Answered s.phase))
+pub word_answered : (z : Opening) (s : CoreState) (i phase : ℕ) → IsLawful (shown_fields z s) → i < z.workers → s.state i ≡ Runs phase → bit_or (shown_word z s) (answer_bit i) ≡ shown_word z (moved s i (Answered s.phase))
 word_answered z s i phase lawful there runs =
     packed-answered_by (shown_fields z s) i lawful there (runs_unset z s i phase there runs).0 ∙
     ap packed (sym (fields_answered z s i phase there runs))
 
 -- the word after a retirement
-pub word_retired : (z : Opening) (s : CoreState) (i phase : ℕ) → IsLawful (shown_fields z s) → i < z.workers → s.state i ≡ Runs phase → bit_or (shown_word z s) (2 ^ (24 + i)) ≡ shown_word z (moved s i Gone)
+pub word_retired : (z : Opening) (s : CoreState) (i phase : ℕ) → IsLawful (shown_fields z s) → i < z.workers → s.state i ≡ Runs phase → bit_or (shown_word z s) (retirement_bit i) ≡ shown_word z (moved s i Gone)
 word_retired z s i phase lawful there runs =
     packed-retired_by (shown_fields z s) i lawful there (runs_unset z s i phase there runs).1 ∙
     ap packed (sym (fields_retired z s i phase there runs))
@@ -223,21 +224,21 @@ pub coord_sees : (z : Opening) (s : CoreState) → CoordSees (numbers z s) (coor
 coord_sees z s =
     let a : ℕ → Bool = λ i. has_answered s.phase (s.state i) in
     let g : ℕ → Bool = λ i. is_gone (s.state i) in
-    let sums = mask_either a g z.workers (λ i. not_both s.phase (s.state i)) in
+    let answered : (i : ℕ) → i < z.workers → has_bit (mask a z.workers) i ≡ a i = mask-has_bit a z.workers in
+    let gone : (i : ℕ) → i < z.workers → has_bit (mask g z.workers) i ≡ g i = mask-has_bit g z.workers in
+    let both : (i : ℕ) → i < z.workers → (has_bit (mask a z.workers) i || has_bit (mask g z.workers) i) ≡ (a i || g i) =
+    λ i there m. answered i there m || gone i there m
+    in
     record {
       number = refl;
       ending = odd_weight s.ending (s.phase % 2);
       all_in = (
-        λ is.
-            let full : mask a z.workers + mask g z.workers + 1 ≡ 2 ^ z.workers = eqb-true _ _ is in
-            λ i there. in_test s.phase (s.state i) (mask_full (λ j. a j || g j) z.workers (ap (λ m. m + 1) (sym sums) ∙ full) i there),
-        λ all.
-            eq-eqb (mask a z.workers + mask g z.workers + 1) (2 ^ z.workers)
-            (ap (λ m. m + 1) sums ∙ mask_all (λ j. a j || g j) z.workers (λ i there. test_in s.phase (s.state i) (all i there))),
+        λ is i there. in_test s.phase (s.state i) (sym (both i there) ∙ below-each _ z.workers is i there),
+        λ all. each-below _ z.workers (λ i there. both i there ∙ test_in s.phase (s.state i) (all i there)),
       );
       all_gone = (
-        λ is i there. gone_test (s.state i) (mask_full g z.workers (eqb-true _ _ is) i there),
-        λ all. eq-eqb (mask g z.workers + 1) (2 ^ z.workers) (mask_all g z.workers (λ i there. ap is_gone (all i there))),
+        λ is i there. gone_test (s.state i) (sym (gone i there) ∙ below-each _ z.workers is i there),
+        λ all. each-below _ z.workers (λ i there. gone i there ∙ ap is_gone (all i there)),
       );
     }
 

@@ -1,9 +1,10 @@
-use Rattle.std.proofs.Common.{◌≡◌, ℕ, zero, suc, ◌+◌, ◌^◌, ◌<◌, inl, inr, Bool, false, cond, nat_lt, List, [], All, length, get_or, replicate, slice_index, ap, sym, ◌∙◌, refl, arith}
+use Rattle.std.proofs.Common.{◌≡◌, ℕ, zero, suc, ◌+◌, ◌<◌, inl, inr, Bool, false, cond, nat_lt, List, [], All, length, get_or, replicate, slice_index, ap, sym, ◌∙◌, refl, arith}
 use Rattle.std.proofs.lemmas.Bool.{cases_lt, cond-true, cond-false, lt-ltb, le-ltb}
 use Rattle.std.proofs.lemmas.List.{get_or-replicate, get_or_past, length-replicate}
 use Rattle.like_core.specs.declared.worker_state.WorkerState.{WorkerState}
 use Rattle.like_core.specs.declared.worker_state.WorkerState.TheVariants.{Runs, Gone}
 use Rattle.like_core.specs.declared.opening.Opening.{Opening}
+use Rattle.like_core.specs.Limits.{total_bound}
 use Rattle.like_core.specs.Functions.{sum_below}
 use Rattle.like_core.specs.Numbers.{total}
 use Rattle.like_core.specs.Kept.{kept}
@@ -43,7 +44,7 @@ start_sizes rows workers pages is i within =
     ap length row ∙ length-replicate pages 0
 
 -- at the start a page's total is its count
-pub start_bounds : (states : List WorkerState) (rows : List (List ℕ)) (counts given : List ℕ) (marks : List Bool) (workers pages : ℕ) → rows ≡ replicate workers (replicate pages 0) → counts ≡ given → All (λ count. count < 2 ^ 63) given → (page : ℕ) → page < length counts → total (kept 0 false states rows counts marks) page < 2 ^ 63
+pub start_bounds : (states : List WorkerState) (rows : List (List ℕ)) (counts given : List ℕ) (marks : List Bool) (workers pages : ℕ) → rows ≡ replicate workers (replicate pages 0) → counts ≡ given → All (λ count. count < total_bound) given → (page : ℕ) → page < length counts → total (kept 0 false states rows counts marks) page < total_bound
 start_bounds states rows counts given marks workers pages rows_are counts_are small page within =
     let zeros : (i : ℕ) → slice_index (get_or rows i []) page ≡ 0 =
     λ i. ap (λ (rs : List (List ℕ)). slice_index (get_or rs i []) page) rows_are ∙ empty_rows-get workers pages i page

@@ -3,7 +3,7 @@ use Rattle.std.specs.Int.{bit_at}
 use Rattle.std.proofs.lemmas.Nat.{or_disjoint, or_lt, and_or_apart, pow_below, and_comm}
 use Rattle.std.proofs.lemmas.Nat.Bits.{and_pow, bit_at_cat_high, bit_at_cat_low}
 use Rattle.std.proofs.lemmas.Nat.{pow-add}
-use Rattle.like_core.specs.Word.{Fields, packed, IsLawful, answered_by, retired_by}
+use Rattle.like_core.specs.Word.{Fields, packed, IsLawful, answer_bit, retirement_bit, answered_by, retired_by}
 use Rattle.like_core.proofs.WordParts.{narrow}
 
 -- a number has none of the bits of 2 ^ i, where its bit i is 0
@@ -21,7 +21,7 @@ or_unset_high high low k i below unset =
     (bit_at_cat_high high k low (k + i) below (omega arith) ∙ (ap (λ j. bit_at high j) (omega arith) ∙ unset))
 
 -- acknowledging or reporting sets one bit of `answered` and changes no other field
-pub packed-answered_by : (f : Fields) (i : ℕ) → IsLawful f → i < f.workers → bit_at f.answered i ≡ 0 → bit_or (packed f) (2 ^ (8 + i)) ≡ packed (answered_by f i)
+pub packed-answered_by : (f : Fields) (i : ℕ) → IsLawful f → i < f.workers → bit_at f.answered i ≡ 0 → bit_or (packed f) (answer_bit i) ≡ packed (answered_by f i)
 packed-answered_by f i lawful within unset =
     let narrow_answered : f.answered < 2 ^ 16 = narrow f f.answered lawful lawful.answered in
     let k = lawful.kind in
@@ -32,10 +32,10 @@ packed-answered_by f i lawful within unset =
     let at_high : bit_at high i ≡ 0 = bit_at_cat_low (f.retired + 2 ^ 16 * f.number) 16 f.answered i (omega arith) ∙ unset in
     let below : low < 2 ^ 8 = omega arith in
     let shifted : 2 ^ (8 + i) ≡ 2 ^ 8 * 2 ^ i = pow-add 2 8 i in
-    ap (λ w. bit_or w (2 ^ (8 + i))) parts ∙ (or_unset_high high low 8 i below at_high ∙ omega arith)
+    ap (λ w. bit_or w (answer_bit i)) parts ∙ (or_unset_high high low 8 i below at_high ∙ omega arith)
 
 -- retiring sets one bit of `retired` and changes no other field
-pub packed-retired_by : (f : Fields) (i : ℕ) → IsLawful f → i < f.workers → bit_at f.retired i ≡ 0 → bit_or (packed f) (2 ^ (24 + i)) ≡ packed (retired_by f i)
+pub packed-retired_by : (f : Fields) (i : ℕ) → IsLawful f → i < f.workers → bit_at f.retired i ≡ 0 → bit_or (packed f) (retirement_bit i) ≡ packed (retired_by f i)
 packed-retired_by f i lawful within unset =
     let narrow_answered : f.answered < 2 ^ 16 = narrow f f.answered lawful lawful.answered in
     let narrow_retired : f.retired < 2 ^ 16 = narrow f f.retired lawful lawful.retired in
@@ -47,7 +47,7 @@ packed-retired_by f i lawful within unset =
     let at_high : bit_at high i ≡ 0 = bit_at_cat_low f.number 16 f.retired i (omega arith) ∙ unset in
     let below : low < 2 ^ 24 = omega arith in
     let shifted : 2 ^ (24 + i) ≡ 2 ^ 24 * 2 ^ i = pow-add 2 24 i in
-    ap (λ w. bit_or w (2 ^ (24 + i))) parts ∙ (or_unset_high high low 24 i below at_high ∙ omega arith)
+    ap (λ w. bit_or w (retirement_bit i)) parts ∙ (or_unset_high high low 24 i below at_high ∙ omega arith)
 
 -- a mask with one more bit has no bit of no worker
 pub more_bits-lt : (n mask i : ℕ) → mask < 2 ^ n → i < n → bit_at mask i ≡ 0 → mask + 2 ^ i < 2 ^ n

@@ -1,4 +1,4 @@
-use Rattle.std.specs.Prelude.{ℕ, zero, suc, ◌+◌, ◌==◌, if◌then◌else◌, List, count_by}
+use Rattle.std.specs.Prelude.{ℕ, zero, suc, ◌+◌, ◌==◌, Bool, true, ◌&&◌, if◌then◌else◌, List, count_by}
 
 -- the function that is x at i, and f elsewhere
 abbrev pub update : {A : Type 0} → (ℕ → A) → ℕ → A → ℕ → A
@@ -8,6 +8,11 @@ update f i x j = (if j == i then x else f j)
 abbrev pub sum_below : (ℕ → ℕ) → ℕ → ℕ
 sum_below f zero = 0
 sum_below f (suc n) = sum_below f n + f n
+
+-- whether a test says yes of each number below n
+abbrev pub each_below : (ℕ → Bool) → ℕ → Bool
+each_below test zero = true
+each_below test (suc n) = each_below test n && test n
 
 -- how often x stands in a list
 abbrev pub times : ℕ → List ℕ → ℕ

@@ -1,6 +1,6 @@
 use Rattle.std.specs.Prelude.{ℕ}
-use Rattle.like_core.specs.declared.kind.Kind.{Kind}
-use Rattle.like_core.specs.declared.kind.Kind.TheVariants.{JoinedRunning, JoinedEnding, SplitRunning, SplitEnding}
+use Rattle.like_core.specs.declared.phase_word.kind.Kind.{Kind}
+use Rattle.like_core.specs.declared.phase_word.kind.Kind.TheVariants.{JoinedRunning, JoinedEnding, SplitRunning, SplitEnding}
 
 -- the two bits of a phase word that stand for a kind: the low one is set where the phase is ending, the high one
 -- where it is split

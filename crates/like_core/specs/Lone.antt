@@ -1,6 +1,7 @@
-use Rattle.std.specs.Prelude.{◌≡◌, ℕ, ◌+◌, ◌-◌, ◌^◌, ◌<◌, ◌≤◌, [], ◌∷◌, Option, true}
+use Rattle.std.specs.Prelude.{◌≡◌, ℕ, ◌+◌, ◌-◌, ◌<◌, ◌≤◌, [], ◌∷◌, Option, true}
 use Rattle.like_core.specs.declared.worker_state.WorkerState.TheVariants.{Runs, Answered}
 use Rattle.like_core.specs.declared.sight.Sight.{Sight}
+use Rattle.like_core.specs.Limits.{max_count, total_bound}
 use Rattle.like_core.specs.Numbers.{Numbers, with_unmerged, with_count, sliced, total}
 use Rattle.like_core.specs.WorkerState.{IsRunning, SawEnding}
 use Rattle.like_core.specs.Post.{PostView}
@@ -25,7 +26,7 @@ pub record IsLone (n : Numbers) (start : ℕ) (last : Option Sight) : Type 0 whe
   pub saw : IsRunning (n.state 0) → SawEnding last → n.ending ≡ true
   pub merged : (page : ℕ) → n.unmerged 0 page ≡ 0
   pub started : start ≤ n.count 0
-  pub small : start ≤ 10 ^ 18
+  pub small : start ≤ max_count
 
 -- the worker may like the page so many times in its slice, and then merge
 pub record Likes (n : Numbers) (likes : ℕ) : Type 0 where
@@ -34,7 +35,7 @@ pub record Likes (n : Numbers) (likes : ℕ) : Type 0 where
   pub runs : n.state 0 ≡ Runs n.phase
   pub is_sliced : sliced n 0 ≡ true
   pub ending : n.ending ≡ true
-  pub room : total n 0 + likes < 2 ^ 63
+  pub room : total n 0 + likes < total_bound
 
 -- the numbers after so many likes of the slice and its merge
 abbrev pub merged_likes : Numbers → ℕ → Numbers

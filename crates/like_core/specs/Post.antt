@@ -2,6 +2,7 @@ use Rattle.std.specs.Prelude.{◌≡◌, ℕ, ◌+◌, ◌<◌, ◌≤◌, Bool,
 use Rattle.like_core.specs.declared.worker_state.WorkerState.{WorkerState}
 use Rattle.like_core.specs.declared.worker_state.WorkerState.TheVariants.{Runs, Answered, Gone}
 use Rattle.like_core.specs.declared.sight.Sight.{Sight}
+use Rattle.like_core.specs.Limits.{max_likes}
 use Rattle.like_core.specs.Phase.{split}
 use Rattle.like_core.specs.WorkerState.{IsRunning, SawEnding, phase_of, seen}
 
@@ -60,7 +61,7 @@ pub record MayAdd (v : PostView) (page n : ℕ) : Type 0 where
   pub there : page < pages_of v
   pub like : slices v page ≡ false → n ≡ 1
   pub merge : slices v page ≡ true → (1 ≤ n) × SawEnding v.last
-  pub few : sum v.additions + n ≤ 64000000
+  pub few : sum v.additions + n ≤ max_likes
 
 -- the page may be read
 pub record MayRead (v : PostView) (page : ℕ) : Type 0 where

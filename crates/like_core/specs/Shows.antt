@@ -1,4 +1,4 @@
-use Rattle.std.specs.Prelude.{◌≡◌, ℕ, ◌+◌, ◌^◌, ◌<◌, ◌≤◌, All, nat_lt, true, if◌then◌else◌, List, [], length, slice_index, slice_set, IfSome}
+use Rattle.std.specs.Prelude.{◌≡◌, ℕ, ◌+◌, ◌<◌, ◌≤◌, All, nat_lt, true, if◌then◌else◌, List, [], length, slice_index, slice_set, IfSome}
 use Rattle.std.specs.List.{sum_by}
 use mathlib.Core.Option.{some}
 use lib.ListN.{get_elem?}
@@ -10,6 +10,7 @@ use Rattle.like_core.specs.declared.view.WorkerSeatView.{WorkerSeatView}
 use Rattle.like_core.specs.declared.view.CoordSeatView.{CoordSeatView}
 use Rattle.like_core.specs.declared.view.View.{View}
 use Rattle.like_core.specs.declared.view.View.TheVariants.{Coord, Worker, Spent}
+use Rattle.like_core.specs.Limits.{max_workers, max_pages, max_count}
 use Rattle.like_core.specs.Phase.{IsSplit}
 use Rattle.like_core.specs.Numbers.{AllIn, AllGone, CoordSees}
 use Rattle.like_core.specs.Table.{Permits, IsShown}
@@ -20,14 +21,14 @@ use Rattle.like_core.specs.WorkerState.{IsRunning, SawEnding}
 use Rattle.like_core.specs.Views.{added_in, seats_of}
 use Rattle.like_core.specs.Tallies.{Tallied}
 
--- a opening that a board may have: there are 1 to 16 workers and at most 1,024 pages, each with a mark and a count of
+-- an opening that a board may have: there are 1 to 16 workers and at most 1,024 pages, each with a mark and a count of
 -- at most 10 ^ 18
 pub record IsOpening (z : Opening) : Type 0 where
   pub some_worker : 1 ≤ z.workers
-  pub few_workers : z.workers ≤ 16
-  pub few_pages : length z.counts ≤ 1024
+  pub few_workers : z.workers ≤ max_workers
+  pub few_pages : length z.counts ≤ max_pages
   pub marks : length z.marks ≡ length z.counts
-  pub counts : All (λ n. n ≤ 10 ^ 18) z.counts
+  pub counts : All (λ n. n ≤ max_count) z.counts
 
 -- a worker's view of a state: its worker's state there; it saw no later phase; what it saw of the phase that it runs is
 -- still so; and of each page's likes as many have the label of its worker and a phase as it added to the page in the phase

@@ -1,4 +1,4 @@
-use Rattle.std.specs.Prelude.{List, [], ◌∷◌, take, slice_get, Some, ◌≡◌, ◌≢◌, ℕ, ◌+◌, ◌-◌, ◌^◌, ◌<◌, true, false, if◌then◌else◌}
+use Rattle.std.specs.Prelude.{List, [], ◌∷◌, take, slice_get, Some, ◌≡◌, ◌≢◌, ℕ, ◌+◌, ◌<◌, true, false, if◌then◌else◌}
 use Rattle.like_core.specs.declared.worker_state.WorkerState.TheVariants.{Runs, Answered, Gone}
 use Rattle.like_core.specs.declared.sight.Sight.{Sight}
 use Rattle.like_core.specs.declared.sight.CoordSight.{CoordSight}
@@ -6,9 +6,10 @@ use Rattle.like_core.specs.declared.event.Event.{Event}
 use Rattle.like_core.specs.declared.event.Event.TheVariants.{Look, Acknowledge, Report, Retire, Like, Read, Merge, CoordLook, Announce, Release}
 use Rattle.like_core.specs.declared.shown.Shown.{Shown}
 use Rattle.like_core.specs.declared.shown.Shown.TheVariants.{Seen, Coord, Done, Sliced, Old, Count}
-use Rattle.like_core.specs.declared.refusal.NotNow.{NotNow}
-use Rattle.like_core.specs.declared.refusal.Wrong.{Wrong}
-use Rattle.like_core.specs.declared.refusal.NotNow.TheVariants.{NoSuch, Phase, Last, Full}
+use Rattle.like_core.specs.declared.pure_core.refusal.NotNow.{NotNow}
+use Rattle.like_core.specs.declared.pure_core.refusal.Wrong.{Wrong}
+use Rattle.like_core.specs.declared.pure_core.refusal.NotNow.TheVariants.{NoSuch, Phase, Last, Full}
+use Rattle.like_core.specs.Limits.{total_bound}
 use Rattle.like_core.specs.Phase.{last_phase, IsJoined, IsSplit}
 use Rattle.like_core.specs.WorkerState.{looked}
 use Rattle.like_core.specs.Numbers.{Numbers, with_state, with_unmerged, with_count, sliced, total, AllIn, Sees, CoordSees}
@@ -45,9 +46,9 @@ abbrev pub LeavesLast : Numbers → Event → Type 0
 LeavesLast n Announce = n.phase < last_phase
 LeavesLast n _ = Unit {0}
 
--- the event does not take a page's total to 2 ^ 63
+-- the event does not take a page's total to its bound
 abbrev pub HasRoom : Numbers → Event → Type 0
-HasRoom n (Like i page) = total n page < 2 ^ 63 - 1
+HasRoom n (Like i page) = total n page + 1 < total_bound
 HasRoom n _ = Unit {0}
 
 -- the event may happen

@@ -3,6 +3,7 @@ use Rattle.std.specs.List.{sum_by}
 use Rattle.like_core.specs.declared.view.WorkerSeatView.{WorkerSeatView}
 use Rattle.like_core.specs.declared.view.View.{View}
 use Rattle.like_core.specs.declared.view.View.TheVariants.{Coord, Worker, Spent}
+use Rattle.like_core.specs.Limits.{max_workers, max_likes}
 use Rattle.like_core.specs.State.{CoreState}
 use Rattle.like_core.specs.Views.{added_to}
 
@@ -14,12 +15,12 @@ paged page Spent = 0
 
 -- how much a worker may still add to a page
 abbrev pub left_to : ℕ → WorkerSeatView → ℕ
-left_to page v = 64000000 - added_to page v.additions
+left_to page v = max_likes - added_to page v.additions
 
 -- how much may still be added to a page by a view's worker; by the coordinator's, by those that have no seat yet and
 -- those whose seat was given back
 abbrev pub room : ℕ → View → ℕ
-room page (Coord c) = 64000000 * (16 - c.made) + sum_by (λ v. left_to page v) c.joined
+room page (Coord c) = max_likes * (max_workers - c.made) + sum_by (λ v. left_to page v) c.joined
 room page (Worker v) = left_to page v
 room page Spent = 0
 
@@ -27,4 +28,4 @@ room page Spent = 0
 -- 16 workers may add
 pub record Tallied (s : CoreState) (views : List View) : Type 0 where
   pub sums : (page : ℕ) → length (s.applied page) ≡ sum_by (paged page) views
-  pub rooms : (page : ℕ) → length (s.applied page) + sum_by (room page) views ≤ 1024000000
+  pub rooms : (page : ℕ) → length (s.applied page) + sum_by (room page) views ≤ max_likes * max_workers

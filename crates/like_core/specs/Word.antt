@@ -1,5 +1,6 @@
 use Rattle.std.specs.Prelude.{◌≡◌, ℕ, ◌+◌, ◌*◌, ◌%◌, ◌^◌, ◌<◌, ◌≤◌, ◌↔◌, bit_and, ◌==◌, if◌then◌else◌}
-use Rattle.like_core.specs.declared.kind.Kind.{Kind}
+use Rattle.like_core.specs.declared.phase_word.kind.Kind.{Kind}
+use Rattle.like_core.specs.Limits.{max_workers}
 use Rattle.like_core.specs.Kind.{code_of}
 use Rattle.like_core.specs.Phase.{last_phase, IsJoined}
 
@@ -25,10 +26,18 @@ word_fields kind workers answered retired number = record {
 abbrev pub packed : Fields → ℕ
 packed f = f.kind + 4 * f.workers + 2 ^ 8 * f.answered + 2 ^ 24 * f.retired + 2 ^ 40 * f.number
 
+-- the bit of the word by which worker i acknowledges or reports
+abbrev pub answer_bit : ℕ → ℕ
+answer_bit i = 2 ^ (8 + i)
+
+-- the bit by which it retires
+abbrev pub retirement_bit : ℕ → ℕ
+retirement_bit i = 2 ^ (24 + i)
+
 -- the fields are those of a phase word
 pub record IsLawful (f : Fields) : Type 0 where
   pub some_worker : 1 ≤ f.workers
-  pub few_workers : f.workers ≤ 16
+  pub few_workers : f.workers ≤ max_workers
   pub answered : f.answered < 2 ^ f.workers
   pub retired : f.retired < 2 ^ f.workers
   pub apart : bit_and f.answered f.retired ≡ 0

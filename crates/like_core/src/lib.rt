@@ -6,32 +6,23 @@
 #![tactic(auto)]
 
 mod event;
-mod kind;
 pub mod laws;
 mod opening;
-mod page_numbers;
 mod phase_word;
 mod post;
 mod pure_core;
-mod refusal;
-mod sequence;
 mod shown;
 mod sight;
 #[cfg(test)]
 mod tests;
 mod view;
-mod word_sights;
-mod word_steps;
 mod worker_state;
 
 pub use event::Event;
-pub use kind::Kind;
 pub use opening::Opening;
-pub use phase_word::{LAST_PHASE, PhaseWord};
+pub use phase_word::{Kind, LAST_PHASE, PhaseWord};
 pub use post::Post;
-pub use pure_core::Core;
-pub use refusal::{NotNow, Wrong};
-pub use sequence::check_events;
+pub use pure_core::{Core, NotNow, Wrong, check_events};
 pub use shown::Shown;
 pub use sight::{CoordSight, Sight};
 pub use view::{Addition, CoordSeatView, PageRead, View, WorkerSeatView};

@@ -1,10 +1,26 @@
 ghost use Rattle.std.specs.Prelude.{◌≡◌, ◌↔◌, IsSome, IfSome, IsSomeAnd};
 ghost use Rattle.like_core.specs.Word.{word_fields, packed, IsLawful};
 
-use crate::kind::Kind;
+mod kind;
+mod sights;
+mod steps;
+
+pub use kind::Kind;
 
 /// The number of the last phase.
 pub const LAST_PHASE: u32 = 16_777_214;
+
+/// The most workers of a board.
+const MAX_WORKERS: u32 = 16;
+
+// Where each field begins in the one number that holds all, from its lowest bit; the kind begins at bit 0.
+const WORKERS_AT: u32 = 2;
+
+const ANSWERED_AT: u32 = 8;
+
+const RETIRED_AT: u32 = 24;
+
+const NUMBER_AT: u32 = 40;
 
 /// The phase word, unpacked. Bit `i` of `answered` says that worker `i` acknowledged or reported in this phase, bit
 /// `i` of `retired` that it retired.
@@ -34,7 +50,7 @@ impl PhaseWord {
         ensures lawful { IsSome result ↔ IsLawful (word_fields kind workers answered retired number) }
         ensures fields { IfSome result (λ p. fields_of p ≡ word_fields kind workers answered retired number) }
     {
-        if workers < 1 || workers > 16 || number > LAST_PHASE {
+        if workers < 1 || workers > MAX_WORKERS || number > LAST_PHASE {
             return None;
         }
         let full = 1u32 << workers;
@@ -64,10 +80,10 @@ impl PhaseWord {
         ensures { result ≡ packed (fields_of self) }
     {
         u64::from(self.kind.code())
-            + 4 * u64::from(self.workers)
-            + (u64::from(self.answered) << 8)
-            + (u64::from(self.retired) << 24)
-            + (u64::from(self.number) << 40)
+            + (u64::from(self.workers) << WORKERS_AT)
+            + (u64::from(self.answered) << ANSWERED_AT)
+            + (u64::from(self.retired) << RETIRED_AT)
+            + (u64::from(self.number) << NUMBER_AT)
     }
 
     /// The word that packs to this number, or `None` where none does.
@@ -77,10 +93,10 @@ impl PhaseWord {
     {
         PhaseWord::new(
             Kind::from_code((word & 3) as u8),
-            ((word >> 2) & 63) as u32,
-            ((word >> 8) & 0xffff) as u16,
-            ((word >> 24) & 0xffff) as u16,
-            (word >> 40) as u32,
+            ((word >> WORKERS_AT) & 63) as u32,
+            ((word >> ANSWERED_AT) & 0xffff) as u16,
+            ((word >> RETIRED_AT) & 0xffff) as u16,
+            (word >> NUMBER_AT) as u32,
         )
     }
 }

@@ -1,17 +1,23 @@
 ghost use Rattle.std.specs.Prelude.{◌≡◌, ℕ, ◌^◌, ◌<◌, ◌≤◌, ◌↔◌, true, [], length, replicate, slice_index_or, All, IsOk, IfOk, OnOk, IfErr, OnErr};
 ghost use Rattle.like_core.specs.Phase.{last_phase};
+ghost use Rattle.like_core.specs.Limits.{max_workers, max_pages, total_bound};
 ghost use Rattle.like_core.specs.Numbers.{total};
 ghost use Rattle.like_core.specs.Kept.{kept};
 
 use crate::event::Event;
-use crate::page_numbers::PageNumbers;
-use crate::refusal::NotNow;
 use crate::shown::Shown;
 use crate::worker_state::WorkerState;
 use std::alloc::{AllocError, Global};
 
 mod conditions;
 mod moves;
+mod page_numbers;
+mod refusal;
+mod sequence;
+
+use page_numbers::PageNumbers;
+pub use refusal::{NotNow, Wrong};
+pub use sequence::check_events;
 
 /// The core as a state machine over events: it keeps the phase, each worker's state, how many likes of each page each
 /// worker has not merged, and each page's count.
@@ -28,7 +34,7 @@ pub struct Core {
     ghost states_sized: { length states.items ≡ length unmerged.items },
     ghost marks_sized: { length marks.items ≡ length counts },
     ghost rows_sized: { (i : ℕ) → i < length unmerged.items → length (slice_index_or unmerged.items i []) ≡ length counts },
-    ghost bounded: { (page : ℕ) → page < length counts → total (kept phase ending states.items unmerged.items counts marks.items) page < 2 ^ 63 },
+    ghost bounded: { (page : ℕ) → page < length counts → total (kept phase ending states.items unmerged.items counts marks.items) page < total_bound },
     ghost within: { phase ≤ last_phase },
     ghost last: { ending ≡ true → phase < last_phase },
 }
@@ -58,10 +64,10 @@ impl Core {
         split: &[bool],
     ) -> Result<Core, AllocError>
         requires some_worker { 1 ≤ workers }
-        requires few_workers { workers ≤ 16 }
+        requires few_workers { workers ≤ max_workers }
         requires same_pages { length split.now ≡ length counts.now }
-        requires few_pages { length counts.now ≤ 1024 }
-        requires counts { All (λ count. count < 2 ^ 63) counts.now }
+        requires few_pages { length counts.now ≤ max_pages }
+        requires counts { All (λ count. count < total_bound) counts.now }
         ensures start { IfOk result (λ core. StandsForStart core (opening workers counts.now split.now)) }
         ensures reachable { IfOk result (λ core. IsReachable core (opening workers counts.now split.now)) }
         ensures exclusive { IfOk result IsCoreExclusive }

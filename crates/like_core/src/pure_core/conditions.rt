@@ -4,10 +4,9 @@ ghost use Rattle.like_core.specs.Numbers.{sliced, total, AllIn, AllGone};
 ghost use Rattle.like_core.specs.Table.{IsThere, Suits, LeavesLast, HasRoom, Permits, Refuses};
 ghost use Rattle.like_core.specs.Core.{numbers_of};
 
-use super::Core;
+use super::{Core, NotNow};
 use crate::event::Event;
 use crate::phase_word::LAST_PHASE;
-use crate::refusal::NotNow;
 use crate::worker_state::WorkerState;
 
 /// The largest total of a page.

@@ -1,4 +1,5 @@
 ghost use Rattle.std.specs.Prelude.{◌≡◌, ◌+◌, ◌-◌, ◌^◌, ◌<◌};
+ghost use Rattle.like_core.specs.Limits.{total_bound};
 ghost use Rattle.like_core.specs.Numbers.{with_state, with_unmerged, with_count, total, Sees, CoordSees};
 ghost use Rattle.like_core.specs.WorkerState.{looked};
 ghost use Rattle.like_core.specs.Table.{Permits, IsShown, next};
@@ -47,7 +48,7 @@ impl Core {
     fn add_unmerged(&mut self, worker: u32, page: u32)
         requires worker { worker < (numbers_of self.old).workers }
         requires page { page < (numbers_of self.old).pages }
-        requires room { total (numbers_of self.old) page < 2 ^ 63 - 1 }
+        requires room { total (numbers_of self.old) page + 1 < total_bound }
         ensures { numbers_of self.new ≡ with_unmerged (numbers_of self.old) worker page ((numbers_of self.old).unmerged worker page + 1) }
     {
         let row = &mut self.unmerged[worker as usize];
@@ -72,7 +73,7 @@ impl Core {
     /// Adds likes to a page's count, which it returns as it was.
     fn add_count(&mut self, page: u32, likes: u64) -> u64
         requires page { page < (numbers_of self.old).pages }
-        requires room { total (numbers_of self.old) page + likes < 2 ^ 63 }
+        requires room { total (numbers_of self.old) page + likes < total_bound }
         ensures old { result ≡ (numbers_of self.old).count page }
         ensures added { numbers_of self.new ≡ with_count (numbers_of self.old) page ((numbers_of self.old).count page + likes) }
     {

@@ -1,4 +1,5 @@
 ghost use Rattle.std.specs.Prelude.{◌≡◌, ◌-◌, ◌^◌, ◌<◌, ◌≤◌, true, None, IfOk};
+ghost use Rattle.like_core.specs.Limits.{max_count};
 ghost use Rattle.like_core.specs.Table.{Permits, IsShown, next};
 ghost use Rattle.like_core.specs.Core.{numbers_of};
 ghost use Rattle.like_core.specs.Lone.{IsLone, Likes, lone_view, merged_likes};
@@ -46,7 +47,7 @@ fn like_and_merge(core: &mut Core, likes: u64) -> u64
 
 impl Lone {
     pub fn new(alloc: Global, start: u64) -> Result<Lone, AllocError>
-        requires { start ≤ 10 ^ 18 }
+        requires { start ≤ max_count }
         ensures fresh { IfOk result (λ lone. IsFresh (lone_view (numbers_of lone.core) lone.start lone.last)) }
         ensures split { IfOk result (λ lone. (numbers_of lone.core).marked 0 ≡ true) }
     {

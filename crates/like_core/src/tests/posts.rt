@@ -1,6 +1,7 @@
 ghost use Rattle.std.specs.Prelude.{◌≡◌, replicate, ◌+◌, ◌<◌, ◌≤◌, true};
 ghost use Rattle.std.specs.Bool.{OnTrue, OnFalse};
 ghost use Rattle.like_core.specs.declared.worker_state.WorkerState.TheVariants.{Runs, Answered, Gone};
+ghost use Rattle.like_core.specs.Limits.{max_likes};
 ghost use Rattle.like_core.specs.Phase.{IsJoined};
 ghost use Rattle.like_core.specs.Post.{IsFresh, is_marked, pages_of};
 ghost use Rattle.like_core.specs.Lone.{KeepsBoard};
@@ -43,7 +44,7 @@ fn merge<P: Post>(post: &mut P, likes: u64) -> Option<u64>
     requires split { is_marked (P.view post.old) 0 ≡ true }
     requires added_nothing { (P.view post.old).additions ≡ replicate (pages_of (P.view post.old)) 0 }
     requires some { 1 ≤ likes }
-    requires few { likes ≤ 64000000 }
+    requires few { likes ≤ max_likes }
     ensures runs { (P.view post.new).state ≡ Runs 1 }
     ensures pages { pages_of (P.view post.new) ≡ pages_of (P.view post.old) }
 {

@@ -1,5 +1,5 @@
-use Rattle.std.proofs.Common.{ℕ, ◌+◌, ◌^◌, ap, ◌∙◌, arith}
-use Rattle.std.proofs.lemmas.Nat.{one_shl}
+use Rattle.std.proofs.Common.{ap, ◌∙◌}
+use Rattle.like_core.specs.Word.{retirement_bit}
 use Rattle.like_board.proofs.Allowed.{retiring}
 use Rattle.like_board.proofs.worker_seat.WorkerSeat.retire.Goals as goal
 
@@ -8,5 +8,5 @@ fetch_or-requires c =
     let seat = c.args.self.now in (
       c.requires.here,
       c.args.board.now.some_word,
-      retiring c.args.board.now.table.shared.key _ _ _ _ (one_shl (24 + seat.number) 64 (omega arith) ∙ ap (λ (n : ℕ). 2 ^ (24 + n)) seat.numbered) seat.is_worker c.requires.runs,
+      retiring c.args.board.now.table.shared.key _ _ _ _ (c.retirement_bit-bit.ensures ∙ ap retirement_bit seat.numbered) seat.is_worker c.requires.runs,
     )

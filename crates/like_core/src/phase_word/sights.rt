@@ -1,10 +1,10 @@
 ghost use Rattle.std.specs.Prelude.{◌≡◌, ◌<◌, ◌≤◌};
+ghost use Rattle.like_core.specs.Limits.{max_workers};
 ghost use Rattle.like_core.specs.Word.{Fields, packed, IsLawful};
 ghost use Rattle.like_core.specs.PhaseWord.{fields_of};
 ghost use Rattle.like_core.specs.Sights.{first_fields, sight_of, coord_sight_of};
 
-use crate::kind::Kind;
-use crate::phase_word::PhaseWord;
+use super::{Kind, PhaseWord};
 use crate::sight::{CoordSight, Sight};
 
 /// What a look at the phase word shows.
@@ -12,7 +12,7 @@ impl PhaseWord {
     /// The word at the start: so many workers run phase 0.
     pub fn first(workers: u32) -> PhaseWord
         requires some_worker { 1 ≤ workers }
-        requires few_workers { workers ≤ 16 }
+        requires few_workers { workers ≤ max_workers }
         ensures { fields_of result ≡ first_fields workers }
     {
         PhaseWord {
@@ -37,7 +37,7 @@ impl PhaseWord {
 
     /// What worker `worker` sees.
     pub fn sight(self, worker: u32) -> Sight
-        requires { worker < 16 }
+        requires { worker < max_workers }
         ensures { result ≡ sight_of (fields_of self) worker }
     {
         Sight {
@@ -52,13 +52,11 @@ impl PhaseWord {
         ensures { result ≡ coord_sight_of (fields_of self) }
     {
         let full = (1u32 << self.workers) - 1;
-        let answered = u32::from(self.answered);
-        let retired = u32::from(self.retired);
         CoordSight {
             number: self.number,
             ending: self.kind.is_ending(),
-            all_in: answered + retired == full,
-            all_gone: retired == full,
+            all_in: u32::from(self.answered | self.retired) == full,
+            all_gone: u32::from(self.retired) == full,
         }
     }
 }

@@ -8,7 +8,7 @@ use Rattle.like_core.specs.Table.{Permits, Refuses, next, next_all, PermitsEach}
 use Rattle.like_core.specs.Core.{numbers_of}
 use Rattle.like_core.proofs.EventLists.{Refuses-Permits, next_all-take, PermitsEach-take, PermitsEach-at, takes_states_all}
 use Rattle.like_core.proofs.CoreReached.{keeps_reachable_all, core_is_exclusive}
-use Rattle.like_core.proofs.sequence.check_events.Goals as goal
+use Rattle.like_core.proofs.pure_core.sequence.check_events.Goals as goal
 
 pub returns-in-Err-clause-permitted : goal.returns-in-Err-clause-permitted
 returns-in-Err-clause-permitted c =

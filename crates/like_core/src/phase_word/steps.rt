@@ -1,15 +1,16 @@
 ghost use Rattle.std.specs.Prelude.{◌≡◌, ◌+◌, ◌^◌, ◌<◌, ◌%◌, bit_or};
 ghost use Rattle.std.specs.Int.{bit_at};
 ghost use Rattle.like_core.specs.Kind.{code_of};
-ghost use Rattle.like_core.specs.Word.{packed, announced, answered_by, retired_by, released};
+ghost use Rattle.like_core.specs.Limits.{max_workers};
+ghost use Rattle.like_core.specs.Phase.{last_phase};
+ghost use Rattle.like_core.specs.Word.{packed, answer_bit, retirement_bit, announced, answered_by, retired_by, released};
 ghost use Rattle.like_core.specs.PhaseWord.{fields_of};
 
-use crate::kind::Kind;
-use crate::phase_word::{LAST_PHASE, PhaseWord};
+use super::{ANSWERED_AT, Kind, PhaseWord, RETIRED_AT};
 
 // The mask with one more bit.
 fn with_bit(mask: u16, i: u32) -> u16
-    requires within { i < 16 }
+    requires within { i < max_workers }
     requires unset { bit_at mask i ≡ 0 }
     ensures { result ≡ mask + 2 ^ i }
 {
@@ -18,10 +19,26 @@ fn with_bit(mask: u16, i: u32) -> u16
 
 /// What each atomic step makes of the phase word.
 impl PhaseWord {
+    /// The bit of the packed word that is set where worker `worker` acknowledges or reports.
+    pub fn answer_bit(worker: u32) -> u64
+        requires { worker < max_workers }
+        ensures { result ≡ answer_bit worker }
+    {
+        1 << (ANSWERED_AT + worker)
+    }
+
+    /// The bit of the packed word that is set where worker `worker` retires.
+    pub fn retirement_bit(worker: u32) -> u64
+        requires { worker < max_workers }
+        ensures { result ≡ retirement_bit worker }
+    {
+        1 << (RETIRED_AT + worker)
+    }
+
     /// The word after an announcement: a `fetch_add` of 1.
     pub fn announced(self) -> PhaseWord
         requires running { code_of self.kind % 2 ≡ 0 }
-        requires not_last { self.number < LAST_PHASE }
+        requires not_last { self.number < last_phase }
         ensures fields { fields_of result ≡ announced (fields_of self) }
         ensures word { packed (fields_of result) ≡ packed (fields_of self) + 1 }
     {
@@ -41,7 +58,7 @@ impl PhaseWord {
         requires runs { bit_at self.answered worker ≡ 0 }
         requires stays { bit_at self.retired worker ≡ 0 }
         ensures fields { fields_of result ≡ answered_by (fields_of self) worker }
-        ensures word { packed (fields_of result) ≡ bit_or (packed (fields_of self)) (2 ^ (8 + worker)) }
+        ensures word { packed (fields_of result) ≡ bit_or (packed (fields_of self)) (answer_bit worker) }
     {
         PhaseWord {
             kind: self.kind,
@@ -58,7 +75,7 @@ impl PhaseWord {
         requires runs { bit_at self.answered worker ≡ 0 }
         requires stays { bit_at self.retired worker ≡ 0 }
         ensures fields { fields_of result ≡ retired_by (fields_of self) worker }
-        ensures word { packed (fields_of result) ≡ bit_or (packed (fields_of self)) (2 ^ (24 + worker)) }
+        ensures word { packed (fields_of result) ≡ bit_or (packed (fields_of self)) (retirement_bit worker) }
     {
         PhaseWord {
             kind: self.kind,

@@ -2,9 +2,8 @@ ghost use Rattle.std.specs.Prelude.{◌≡◌, ◌↔◌, IsOk, OnOk, IfErr, tak
 ghost use Rattle.like_core.specs.Table.{PermitsEach, next_all, IsWrong};
 ghost use Rattle.like_core.specs.Core.{numbers_of, TakesStatesAll, KeepsReachable, IsCoreExclusive};
 
+use super::{Core, Wrong};
 use crate::event::Event;
-use crate::pure_core::Core;
-use crate::refusal::Wrong;
 
 /// Makes the events in order, up to the first that may not happen. The core then stands after the events before it.
 pub fn check_events(core: &mut Core, events: &[Event]) -> Result<(), Wrong>
