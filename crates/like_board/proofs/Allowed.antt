@@ -16,12 +16,13 @@ use Rattle.like_core.specs.Sights.{sight_of, coord_sight_of}
 use Rattle.like_core.specs.Post.{IsFresh, MayAdd, MayRead}
 use Rattle.like_core.specs.WorkerState.{RunsJoined, RunsSplit, SawEnding}
 use Rattle.like_core.specs.Views.{MayAnnounce, MayRelease, fresh, looked_view, answered_view, retired_view, added_view, post_of, likes_merged, adding, looked_coord, announced_coord, released_coord, made_coord, gathered_coord}
+use Rattle.like_core.specs.Actions.{Acknowledges, Reports, Retires, Announces, Releases}
 use Rattle.like_core.specs.Shows.{ShowsSome, FitsWorker, FitsCoord, IsStep, IsSteps}
 use Rattle.like_core.proofs.Posts.{post_fresh}
 use Rattle.like_board.specs.declared.key.Key.{Key}
 use Rattle.like_board.specs.Known.{worker_view_of, coord_view_of}
 use Rattle.like_board.specs.Rule.{opening_of, IsShowing}
-use Rattle.like_board.specs.Plays.{Looked, Surveyed, TellsLook, TellsSurvey, TellsWorker, TellsCoord, TellsAdd, TellsRead}
+use Rattle.like_board.specs.Plays.{Looked, Surveyed, TellsLook, TellsSurvey, TellsWorker, TellsCoord, TellsAdd, TellsRead, TellsAddAt, TellsReadAt}
 use Rattle.like_board.proofs.Leads.{splits}
 use Rattle.like_board.proofs.WorkerSteps.{looks, acknowledges, reports, retires}
 use Rattle.like_board.proofs.CoordSteps.{surveys, announces, releases}
@@ -63,7 +64,7 @@ looking {S} key slots id me is there = λ st shows _ at _.
       ),
     )
 
-pub acknowledging : {S : Type 0} (key : Key) (slots id : ℕ) (me : Me S View) (bit : ℕ) → bit ≡ answer_bit (worker_view_of me.0).worker → me ≡ (Worker (worker_view_of me.0), []) → RunsJoined (worker_view_of me.0).state → SawEnding (worker_view_of me.0).last → Allows (IsShowing key) slots id me 0 (λ n. bit_or n bit) (λ found after. TellsWorker (λ v. Acknowledge v.worker) answered_view me.0 after.0 × (after.1 ≡ []))
+pub acknowledging : {S : Type 0} (key : Key) (slots id : ℕ) (me : Me S View) (bit : ℕ) → bit ≡ answer_bit (worker_view_of me.0).worker → me ≡ (Worker (worker_view_of me.0), []) → RunsJoined (worker_view_of me.0).state → SawEnding (worker_view_of me.0).last → Allows (IsShowing key) slots id me 0 (λ n. bit_or n bit) (λ found after. TellsWorker Acknowledges answered_view me.0 after.0 × (after.1 ≡ []))
 acknowledging {S} key slots id me bit bit_is is joined saw = λ st shows _ at _.
     let z = opening_of key in
     let v : WorkerSeatView = worker_view_of me.0 in
@@ -80,7 +81,7 @@ acknowledging {S} key slots id me bit bit_is is joined saw = λ st shows _ at _.
       ),
     )
 
-pub reporting : {S : Type 0} (key : Key) (slots id : ℕ) (me : Me S View) (bit : ℕ) → bit ≡ answer_bit (worker_view_of me.0).worker → me ≡ (Worker (worker_view_of me.0), []) → RunsSplit (worker_view_of me.0).state → SawEnding (worker_view_of me.0).last → Allows (IsShowing key) slots id me 0 (λ n. bit_or n bit) (λ found after. TellsWorker (λ v. Report v.worker) answered_view me.0 after.0 × (after.1 ≡ []))
+pub reporting : {S : Type 0} (key : Key) (slots id : ℕ) (me : Me S View) (bit : ℕ) → bit ≡ answer_bit (worker_view_of me.0).worker → me ≡ (Worker (worker_view_of me.0), []) → RunsSplit (worker_view_of me.0).state → SawEnding (worker_view_of me.0).last → Allows (IsShowing key) slots id me 0 (λ n. bit_or n bit) (λ found after. TellsWorker Reports answered_view me.0 after.0 × (after.1 ≡ []))
 reporting {S} key slots id me bit bit_is is split saw = λ st shows _ at _.
     let z = opening_of key in
     let v : WorkerSeatView = worker_view_of me.0 in
@@ -97,7 +98,7 @@ reporting {S} key slots id me bit bit_is is split saw = λ st shows _ at _.
       ),
     )
 
-pub retiring : {S : Type 0} (key : Key) (slots id : ℕ) (me : Me S View) (bit : ℕ) → bit ≡ retirement_bit (worker_view_of me.0).worker → me ≡ (Worker (worker_view_of me.0), []) → RunsJoined (worker_view_of me.0).state → Allows (IsShowing key) slots id me 0 (λ n. bit_or n bit) (λ found after. TellsWorker (λ v. Retire v.worker) retired_view me.0 after.0 × (after.1 ≡ []))
+pub retiring : {S : Type 0} (key : Key) (slots id : ℕ) (me : Me S View) (bit : ℕ) → bit ≡ retirement_bit (worker_view_of me.0).worker → me ≡ (Worker (worker_view_of me.0), []) → RunsJoined (worker_view_of me.0).state → Allows (IsShowing key) slots id me 0 (λ n. bit_or n bit) (λ found after. TellsWorker Retires retired_view me.0 after.0 × (after.1 ≡ []))
 retiring {S} key slots id me bit bit_is is joined = λ st shows _ at _.
     let z = opening_of key in
     let v : WorkerSeatView = worker_view_of me.0 in
@@ -137,7 +138,7 @@ surveying {S} key slots id me is = λ st shows _ at _.
       ),
     )
 
-pub announcing : {S : Type 0} (key : Key) (slots id : ℕ) (me : Me S View) → me ≡ (Coord (coord_view_of me.0), []) → MayAnnounce (coord_view_of me.0) → Allows (IsShowing key) slots id me 0 (λ n. (n + 1) % 2 ^ 64) (λ found after. TellsCoord Announce announced_coord me.0 after.0 × (after.1 ≡ []))
+pub announcing : {S : Type 0} (key : Key) (slots id : ℕ) (me : Me S View) → me ≡ (Coord (coord_view_of me.0), []) → MayAnnounce (coord_view_of me.0) → Allows (IsShowing key) slots id me 0 (λ n. (n + 1) % 2 ^ 64) (λ found after. TellsCoord Announces announced_coord me.0 after.0 × (after.1 ≡ []))
 announcing {S} key slots id me is may = λ st shows _ at _.
     let z = opening_of key in
     let c : CoordSeatView = coord_view_of me.0 in
@@ -154,7 +155,7 @@ announcing {S} key slots id me is may = λ st shows _ at _.
       ),
     )
 
-pub releasing : {S : Type 0} (key : Key) (slots id : ℕ) (me : Me S View) (seen : Fields) (new : ℕ) → new ≡ packed (released seen) → IsLawful seen → packed seen ≡ (coord_view_of me.0).word → me ≡ (Coord (coord_view_of me.0), []) → MayRelease (coord_view_of me.0) → Allows (IsShowing key) slots id me 0 (λ _. new) (λ found after. TellsCoord Release released_coord me.0 after.0 × (after.1 ≡ []))
+pub releasing : {S : Type 0} (key : Key) (slots id : ℕ) (me : Me S View) (seen : Fields) (new : ℕ) → new ≡ packed (released seen) → IsLawful seen → packed seen ≡ (coord_view_of me.0).word → me ≡ (Coord (coord_view_of me.0), []) → MayRelease (coord_view_of me.0) → Allows (IsShowing key) slots id me 0 (λ _. new) (λ found after. TellsCoord Releases released_coord me.0 after.0 × (after.1 ≡ []))
 releasing {S} key slots id me seen new new_is lawful seen_is is may = λ st shows _ at _.
     let z = opening_of key in
     let c : CoordSeatView = coord_view_of me.0 in
@@ -188,7 +189,7 @@ making {S} key id v is room = λ st shows at.
       tallied = tallied_made z shows.state st.views id c here (omega arith) shows.tallied;
     })
 
-pub adding_to : {S : Type 0} (key : Key) (slots id : ℕ) (me : Me S View) (page n : ℕ) → me ≡ (Worker (worker_view_of me.0), []) → MayAdd (post_of (worker_view_of me.0)) page n → Allows (IsShowing key) slots id me (page + 1) (λ k. (k + n) % 2 ^ 64) (λ found after. ((q : ℕ) → page + 1 ≡ q + 1 → TellsAdd q n me.0 found after.0) × (after.1 ≡ []))
+pub adding_to : {S : Type 0} (key : Key) (slots id : ℕ) (me : Me S View) (page n : ℕ) → me ≡ (Worker (worker_view_of me.0), []) → MayAdd (post_of (worker_view_of me.0)) page n → Allows (IsShowing key) slots id me (page + 1) (λ k. (k + n) % 2 ^ 64) (λ found after. TellsAddAt (page + 1) n me.0 found after.0 × (after.1 ≡ []))
 adding_to {S} key slots id me page n is may = λ st shows _ at _.
     let z = opening_of key in
     let v : WorkerSeatView = worker_view_of me.0 in
@@ -214,7 +215,7 @@ adding_to {S} key slots id me page n is may = λ st shows _ at _.
       ),
     )
 
-pub reading : {S : Type 0} (key : Key) (slots id : ℕ) (me : Me S View) (page : ℕ) → me ≡ (Worker (worker_view_of me.0), []) → MayRead (post_of (worker_view_of me.0)) page → Allows (IsShowing key) slots id me (page + 1) (λ k. k) (λ found after. (after.0 ≡ Worker (worker_view_of me.0)) × ((q : ℕ) → page + 1 ≡ q + 1 → TellsRead q me.0 found) × (after.1 ≡ []))
+pub reading : {S : Type 0} (key : Key) (slots id : ℕ) (me : Me S View) (page : ℕ) → me ≡ (Worker (worker_view_of me.0), []) → MayRead (post_of (worker_view_of me.0)) page → Allows (IsShowing key) slots id me (page + 1) (λ k. k) (λ found after. (after.0 ≡ Worker (worker_view_of me.0)) × TellsReadAt (page + 1) me.0 found × (after.1 ≡ []))
 reading {S} key slots id me page is may = λ st shows _ at _.
     let z = opening_of key in
     let v : WorkerSeatView = worker_view_of me.0 in

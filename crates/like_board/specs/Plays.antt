@@ -1,7 +1,6 @@
-use Rattle.std.specs.Prelude.{◌≡◌, ℕ, ◌≤◌, true}
-use Rattle.like_core.specs.declared.event.Event.{Event}
-use Rattle.like_core.specs.declared.event.Event.TheVariants.{Look, Read, CoordLook}
-use Rattle.like_core.specs.declared.shown.Shown.TheVariants.{Seen, Done, Old, Count, Coord as CoordShown}
+use Rattle.std.specs.Prelude.{◌≡◌, ℕ, ◌+◌, ◌≤◌, true}
+use Rattle.like_core.specs.declared.event.Event.TheVariants.{Look, CoordLook}
+use Rattle.like_core.specs.declared.shown.Shown.TheVariants.{Seen, Coord as CoordShown}
 use Rattle.like_core.specs.declared.opening.Opening.{Opening}
 use Rattle.like_core.specs.declared.view.WorkerSeatView.{WorkerSeatView}
 use Rattle.like_core.specs.declared.view.CoordSeatView.{CoordSeatView}
@@ -10,9 +9,10 @@ use Rattle.like_core.specs.declared.view.View.TheVariants.{Coord, Worker}
 use Rattle.like_core.specs.Phase.{IsSplit}
 use Rattle.like_core.specs.Word.{Fields, packed, IsLawful}
 use Rattle.like_core.specs.Sights.{sight_of, coord_sight_of}
-use Rattle.like_core.specs.WorkerState.{IsSightOf, IsRunning, SawEnding}
-use Rattle.like_core.specs.Views.{added_to, looked_view, added_view, likes_merged, adding, looked_coord}
-use Rattle.like_core.specs.Shows.{IsStep, IsSteps}
+use Rattle.like_core.specs.WorkerState.{IsSightOf, SeesEndingStill}
+use Rattle.like_core.specs.Views.{added_to, looked_view, added_view, looked_coord}
+use Rattle.like_core.specs.Shows.{IsStep}
+use Rattle.like_core.specs.Actions.{Adds, Reads}
 use Rattle.like_board.specs.Known.{worker_view_of, coord_view_of}
 
 -- what a worker's look finds and shows
@@ -21,8 +21,9 @@ pub record Looked (z : Opening) (found : ℕ) (v : WorkerSeatView) : Type 0 wher
   pub lawful : IsLawful fields
   pub found_is : found ≡ packed fields
   pub can : IsSightOf v.state (sight_of fields v.worker)
-  pub ending : IsRunning v.state → SawEnding v.last → (sight_of fields v.worker).ending ≡ true
-  pub step : IsStep z (Look v.worker) (Seen (sight_of fields v.worker)) (Worker v) (Worker (looked_view v (sight_of fields v.worker)))
+  pub ending : SeesEndingStill v.state v.last (sight_of fields v.worker)
+  pub step : let sight = sight_of fields v.worker in
+      IsStep z (Look v.worker) (Seen sight) (Worker v) (Worker (looked_view v sight))
 
 -- what the coordinator's look finds and shows
 pub record Surveyed (z : Opening) (found : ℕ) (c : CoordSeatView) : Type 0 where
@@ -33,36 +34,54 @@ pub record Surveyed (z : Opening) (found : ℕ) (c : CoordSeatView) : Type 0 whe
   pub ending : (coord_sight_of fields).ending ≡ c.ending
   pub all_in : c.all_in ≡ true → (coord_sight_of fields).all_in ≡ true
   pub gone : IsSplit c.phase → (coord_sight_of fields).all_gone ≡ true → c.gone ≡ true
-  pub step : IsStep z CoordLook (CoordShown (coord_sight_of fields)) (Coord c) (Coord (looked_coord c found (coord_sight_of fields)))
+  pub step : let sight = coord_sight_of fields in
+      IsStep z CoordLook (CoordShown sight) (Coord c) (Coord (looked_coord c found sight))
 
 -- what a worker's look tells: of the view before, the word found and the view after
 pub record TellsLook (v : View) (found : ℕ) (w : View) : Type 0 where
   pub looked : Looked (worker_view_of v).opening found (worker_view_of v)
-  pub view : w ≡ Worker (looked_view (worker_view_of v) (sight_of looked.fields (worker_view_of v).worker))
+  pub view : let me = worker_view_of v in w ≡ Worker (looked_view me (sight_of looked.fields me.worker))
 
 -- what the coordinator's look tells
 pub record TellsSurvey (v : View) (found : ℕ) (w : View) : Type 0 where
   pub surveyed : Surveyed (coord_view_of v).opening found (coord_view_of v)
   pub view : w ≡ Coord (looked_coord (coord_view_of v) found (coord_sight_of surveyed.fields))
 
--- what another step of a worker tells: it is the event, and the view after is this
-pub record TellsWorker (event : WorkerSeatView → Event) (next : WorkerSeatView → WorkerSeatView) (v w : View) : Type 0 where
+-- what a worker does, as a relation of its views
+abbrev pub WorkerAct : Type 1
+WorkerAct = WorkerSeatView → WorkerSeatView → Type 0
+
+-- what the coordinator does
+abbrev pub CoordAct : Type 1
+CoordAct = CoordSeatView → CoordSeatView → Type 0
+
+-- what another step of a worker tells: it is this action, and the view after is this
+pub record TellsWorker (does : WorkerAct) (next : WorkerSeatView → WorkerSeatView) (v w : View) : Type 0 where
   pub view : w ≡ Worker (next (worker_view_of v))
-  pub step : IsStep (worker_view_of v).opening (event (worker_view_of v)) Done (Worker (worker_view_of v)) (Worker (next (worker_view_of v)))
+  pub step : does (worker_view_of v) (next (worker_view_of v))
 
 -- what another step of the coordinator tells
-pub record TellsCoord (event : Event) (next : CoordSeatView → CoordSeatView) (v w : View) : Type 0 where
+pub record TellsCoord (does : CoordAct) (next : CoordSeatView → CoordSeatView) (v w : View) : Type 0 where
   pub view : w ≡ Coord (next (coord_view_of v))
-  pub step : IsStep (coord_view_of v).opening event Done (Coord (coord_view_of v)) (Coord (next (coord_view_of v)))
+  pub step : does (coord_view_of v) (next (coord_view_of v))
 
--- what an addition of n to a page tells: the view after has it, the worker's own additions are in the count that it found,
--- and it is its events
+-- what an addition of n to a page tells: the view after has it, the worker's own additions are in the count that it
+-- found, and it is the action
 pub record TellsAdd (page n : ℕ) (v : View) (found : ℕ) (w : View) : Type 0 where
   pub view : w ≡ Worker (added_view (worker_view_of v) page n)
   pub own : added_to page (worker_view_of v).additions ≤ found
-  pub step : IsSteps (worker_view_of v).opening (likes_merged (worker_view_of v) page n) (adding (worker_view_of v) page) (Old found) (Worker (worker_view_of v)) (Worker (added_view (worker_view_of v) page n))
+  pub step : let me = worker_view_of v in Adds me page n found (added_view me page n)
 
--- what a read of a page tells beside that the view stays: the worker's own additions are in the count, and it is the event
+-- the same of a word: the word after the phase word is page 0's
+abbrev pub TellsAddAt : ℕ → ℕ → View → ℕ → View → Type 0
+TellsAddAt word n v found w = (page : ℕ) → word ≡ page + 1 → TellsAdd page n v found w
+
+-- what a read of a page tells beside that the view stays: the worker's own additions are in the count, and it is the
+-- action
 pub record TellsRead (page : ℕ) (v : View) (found : ℕ) : Type 0 where
   pub own : added_to page (worker_view_of v).additions ≤ found
-  pub step : IsStep (worker_view_of v).opening (Read (worker_view_of v).worker page) (Count found) (Worker (worker_view_of v)) (Worker (worker_view_of v))
+  pub step : Reads (worker_view_of v) page found (worker_view_of v)
+
+-- the same of a word
+abbrev pub TellsReadAt : ℕ → View → ℕ → Type 0
+TellsReadAt word v found = (page : ℕ) → word ≡ page + 1 → TellsRead page v found

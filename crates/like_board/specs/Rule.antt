@@ -1,6 +1,7 @@
 use Rattle.std.specs.Prelude.{ℕ}
 use Rattle.atomic_table.specs.Table.{State}
 use Rattle.like_core.specs.declared.opening.Opening.{Opening}
+use Rattle.like_core.specs.declared.view.CoordSeatView.{CoordSeatView}
 use Rattle.like_core.specs.declared.view.View.{View}
 use Rattle.like_core.specs.declared.view.View.TheVariants.{Coord}
 use Rattle.like_core.specs.Word.{packed}
@@ -21,6 +22,10 @@ IsShowing key s = ShowsSome (opening_of key) s.words s.views
 -- the phase word of a new board
 abbrev pub first_word : Opening → ℕ
 first_word z = packed (first_fields z.workers)
+
+-- the coordinator's view of a new board, once it made each worker's seat
+abbrev pub opened_coord : Opening → CoordSeatView
+opened_coord z = record (fresh_coord z (first_word z)) { made = z.workers }
 
 -- the first seat's view: the coordinator's
 abbrev pub first_view : Key → View

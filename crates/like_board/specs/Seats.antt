@@ -59,7 +59,8 @@ post_meaning post = seat_meaning post.seat
 -- the seats of the workers of a board in order, none of which made a step yet
 abbrev pub AreFresh : TableId → Opening → List WorkerSeat → Type 0
 AreFresh board z seats =
-    (i : ℕ) (seat : WorkerSeat) → slice_get seats i ≡ Some seat → (seat_board seat ≡ board) × (seat_view seat ≡ fresh z i) × IsFresh (seat_meaning seat)
+    (i : ℕ) (seat : WorkerSeat) → slice_get seats i ≡ Some seat
+    → (seat_board seat ≡ board) × (seat_view seat ≡ fresh z i) × IsFresh (seat_meaning seat)
 
 -- each worker's seat stands in the list once
 abbrev pub AreAll : ℕ → List WorkerSeat → Type 0

@@ -1,5 +1,7 @@
-use Rattle.std.specs.Prelude.{◌≡◌, ℕ, true, List, [], ◌∷◌}
+use Rattle.std.specs.Prelude.{◌≡◌, ℕ, Bool, true, List, [], ◌∷◌}
 use Rattle.like_core.specs.declared.worker_state.WorkerState.{WorkerState}
+use Rattle.like_core.specs.declared.sight.Sight.{Sight}
+use Rattle.like_core.specs.declared.sight.CoordSight.{CoordSight}
 use Rattle.like_core.specs.declared.opening.Opening.{Opening}
 use Rattle.like_core.specs.declared.view.Addition.{Addition}
 use Rattle.like_core.specs.declared.view.WorkerSeatView.{WorkerSeatView}
@@ -7,6 +9,15 @@ use Rattle.like_core.specs.declared.view.WorkerSeatView.{WorkerSeatView}
 -- a board of two workers and one page, which is split and begins at 10
 abbrev pub walk : Opening
 walk = record { workers = 2; counts = 10 ∷ []; marks = true ∷ [] }
+
+-- what a worker may see
+abbrev pub sight : ℕ → Bool → Bool → Sight
+sight number ending waits = record { number = number; ending = ending; waits = waits }
+
+-- what the coordinator may see
+abbrev pub coord_sight : ℕ → Bool → Bool → Bool → CoordSight
+coord_sight number ending all_in all_gone =
+    record { number = number; ending = ending; all_in = all_in; all_gone = all_gone }
 
 -- likes that were added to a page in a phase
 abbrev pub addition : ℕ → ℕ → ℕ → Addition

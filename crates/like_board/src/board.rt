@@ -1,5 +1,4 @@
 ghost use Rattle.std.specs.Prelude.{◌≡◌, ◌^◌, ◌<◌, ◌≤◌, All, length, IfOk};
-ghost use Rattle.like_core.specs.declared.opening.Opening.{Opening};
 ghost use Rattle.like_core.specs.Limits.{max_workers, max_pages, max_count};
 
 use crate::coord_seat::CoordSeat;
@@ -20,8 +19,8 @@ pub struct Board {
 }
 
 impl Board {
-    ghost use Rattle.like_core.specs.Views.{fresh_coord};
-    ghost use Rattle.like_board.specs.Rule.{first_word};
+    ghost use Rattle.like_core.specs.State.{opening};
+    ghost use Rattle.like_board.specs.Rule.{opened_coord};
     ghost use Rattle.like_board.specs.Seats.{board_id, coord_board, coord_view, AreFresh};
 
     /// A board in phase 0, running, with these counts by page, the coordinator's seat and each worker's seat in order.
@@ -38,9 +37,9 @@ impl Board {
         requires few_pages { length counts.now ≤ max_pages }
         requires counts { All (λ count. count ≤ max_count) counts.now }
         ensures coord_here { IfOk result (λ r. coord_board r.1 ≡ board_id r.0) }
-        ensures coord { IfOk result (λ r. let z : Opening = record { workers = workers; counts = counts.now; marks = split.now } in coord_view r.1 ≡ record (fresh_coord z (first_word z)) { made = workers }) }
+        ensures coord { IfOk result (λ r. let z = opening workers counts.now split.now in coord_view r.1 ≡ opened_coord z) }
         ensures seats { IfOk result (λ r. length r.2.items ≡ workers) }
-        ensures views { IfOk result (λ r. let z : Opening = record { workers = workers; counts = counts.now; marks = split.now } in AreFresh (board_id r.0) z r.2.items) }
+        ensures views { IfOk result (λ r. let z = opening workers counts.now split.now in AreFresh (board_id r.0) z r.2.items) }
     {
         let first = PhaseWord::first(workers);
         let mut words = Vec::with_capacity(alloc, counts.len() + 1)?;

@@ -1,4 +1,4 @@
-ghost use Rattle.std.specs.Prelude.{◌≡◌, ◌≢◌, ◌≤◌, true};
+ghost use Rattle.std.specs.Prelude.{◌≡◌, ◌≢◌, ◌≤◌};
 
 use crate::board::Board;
 use crate::worker_seat::WorkerSeat;
@@ -27,14 +27,11 @@ impl BoardPost<'_> {
 }
 
 impl Post for BoardPost<'_> {
-    ghost use Rattle.like_core.specs.declared.event.Event.TheVariants.{Look, Acknowledge, Report, Retire, Read};
-    ghost use Rattle.like_core.specs.declared.shown.Shown.TheVariants.{Seen, Done, Old, Count};
-    ghost use Rattle.like_core.specs.declared.view.View.TheVariants.{Worker};
     ghost use Rattle.like_core.specs.declared.worker_state.WorkerState.TheVariants.{Gone};
-    ghost use Rattle.like_core.specs.WorkerState.{IsRunning, RunsJoined, RunsSplit, SawEnding, IsSightOf};
+    ghost use Rattle.like_core.specs.WorkerState.{RunsJoined, RunsSplit, SawEnding, IsSightOf, SeesEndingStill};
     ghost use Rattle.like_core.specs.Post.{looked_at, answered, retired, added, additions_of, MayAdd, MayRead};
-    ghost use Rattle.like_core.specs.Views.{looked_view, answered_view, retired_view, added_view, likes_merged, adding};
-    ghost use Rattle.like_core.specs.Shows.{IsStep, IsSteps};
+    ghost use Rattle.like_core.specs.Views.{looked_view, answered_view, retired_view, added_view};
+    ghost use Rattle.like_core.specs.Actions.{Looks, Acknowledges, Reports, Retires, Adds, Reads};
     ghost use Rattle.like_board.specs.Seats.{post_board, post_view, post_meaning};
 
     ghost view = { post_meaning };
@@ -43,10 +40,10 @@ impl Post for BoardPost<'_> {
         requires { (post_meaning self.old).state ≢ Gone }
         ensures sight { IsSightOf (post_meaning self.old).state result }
         ensures view { post_meaning self.new ≡ looked_at (post_meaning self.old) result }
-        ensures ending { IsRunning (post_meaning self.old).state → SawEnding (post_meaning self.old).last → result.ending ≡ true }
+        ensures ending { SeesEndingStill (post_meaning self.old).state (post_meaning self.old).last result }
         ensures board { post_board self.new ≡ post_board self.old }
         ensures known { post_view self.new ≡ looked_view (post_view self.old) result }
-        ensures event { IsStep (post_view self.old).opening (Look (post_view self.old).worker) (Seen result) (Worker (post_view self.old)) (Worker (post_view self.new)) }
+        ensures event { Looks (post_view self.old) result (post_view self.new) }
     {
         let board = self.board;
         self.seat.look(board)
@@ -58,7 +55,7 @@ impl Post for BoardPost<'_> {
         ensures view { post_meaning self.new ≡ answered (post_meaning self.old) }
         ensures board { post_board self.new ≡ post_board self.old }
         ensures known { post_view self.new ≡ answered_view (post_view self.old) }
-        ensures event { IsStep (post_view self.old).opening (Acknowledge (post_view self.old).worker) Done (Worker (post_view self.old)) (Worker (post_view self.new)) }
+        ensures event { Acknowledges (post_view self.old) (post_view self.new) }
     {
         let board = self.board;
         self.seat.acknowledge(board);
@@ -70,7 +67,7 @@ impl Post for BoardPost<'_> {
         ensures view { post_meaning self.new ≡ answered (post_meaning self.old) }
         ensures board { post_board self.new ≡ post_board self.old }
         ensures known { post_view self.new ≡ answered_view (post_view self.old) }
-        ensures event { IsStep (post_view self.old).opening (Report (post_view self.old).worker) Done (Worker (post_view self.old)) (Worker (post_view self.new)) }
+        ensures event { Reports (post_view self.old) (post_view self.new) }
     {
         let board = self.board;
         self.seat.report(board);
@@ -81,7 +78,7 @@ impl Post for BoardPost<'_> {
         ensures view { post_meaning self.new ≡ retired (post_meaning self.old) }
         ensures board { post_board self.new ≡ post_board self.old }
         ensures known { post_view self.new ≡ retired_view (post_view self.old) }
-        ensures event { IsStep (post_view self.old).opening (Retire (post_view self.old).worker) Done (Worker (post_view self.old)) (Worker (post_view self.new)) }
+        ensures event { Retires (post_view self.old) (post_view self.new) }
     {
         let board = self.board;
         self.seat.retire(board);
@@ -93,7 +90,7 @@ impl Post for BoardPost<'_> {
         ensures own { additions_of (post_meaning self.old) page ≤ result }
         ensures board { post_board self.new ≡ post_board self.old }
         ensures known { post_view self.new ≡ added_view (post_view self.old) page n }
-        ensures event { IsSteps (post_view self.old).opening (likes_merged (post_view self.old) page n) (adding (post_view self.old) page) (Old result) (Worker (post_view self.old)) (Worker (post_view self.new)) }
+        ensures event { Adds (post_view self.old) page n result (post_view self.new) }
     {
         let board = self.board;
         self.seat.add(board, page, n)
@@ -105,7 +102,7 @@ impl Post for BoardPost<'_> {
         ensures own { additions_of (post_meaning self.old) page ≤ result }
         ensures board { post_board self.new ≡ post_board self.old }
         ensures known { post_view self.new ≡ post_view self.old }
-        ensures event { IsStep (post_view self.old).opening (Read (post_view self.old).worker page) (Count result) (Worker (post_view self.old)) (Worker (post_view self.new)) }
+        ensures event { Reads (post_view self.old) page result (post_view self.new) }
     {
         let board = self.board;
         self.seat.read(board, page)

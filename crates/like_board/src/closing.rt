@@ -1,10 +1,12 @@
 //! How a board ends: all seats are given back, and the words are the last counts.
-ghost use Rattle.std.specs.Prelude.{◌≡◌, ℕ, ◌+◌, ◌<◌, ◌≤◌, ◌++◌, [], All, length, map, slice_index, IfSome};
+ghost use Rattle.std.specs.Prelude.{◌≡◌, ℕ, ◌+◌, ◌<◌, [], All, length, map, slice_index};
 ghost use Rattle.std.specs.Slots.{IsFull, slots_items, slots_len};
 ghost use mathlib.Core.Option.{some};
 ghost use lib.ListN.{get_elem?};
 ghost use Rattle.like_core.specs.declared.view.View.TheVariants.{Coord};
 ghost use Rattle.like_core.specs.declared.worker_state.WorkerState.TheVariants.{Gone};
+ghost use Rattle.like_core.specs.WorkerState.{SawNoLater};
+ghost use Rattle.like_core.specs.Views.{gathered_all};
 ghost use Rattle.like_board.specs.Known.{coord_view_of};
 ghost use Rattle.like_board.specs.Seats.{board_id, coord_board, coord_view, seat_board, seat_view, seat_meaning, AreAll, last_count};
 
@@ -22,7 +24,7 @@ fn gather(board: &Board, coord: &mut Seat<(), View>, mut seats: Vec<WorkerSeat>)
     requires coord { coord.old.me ≡ (Coord (coord_view_of coord.old.me.0), []) }
     requires seats { All (λ seat. seat_board seat ≡ board_id board.now) seats.items }
     ensures board { coord.new.table_id ≡ coord.old.table_id }
-    ensures coord { coord.new.me ≡ (Coord (record (coord_view_of coord.old.me.0) { joined = map seat_view seats.items ++ (coord_view_of coord.old.me.0).joined }), []) }
+    ensures coord { coord.new.me ≡ (Coord (gathered_all (coord_view_of coord.old.me.0) (map seat_view seats.items)), []) }
 {
     while let Some(seat) = seats.pop() {
         let WorkerSeat { seat, number: _ } = seat;
@@ -35,7 +37,8 @@ fn write_counts(closed: &Closed<(), Global>, counts: &mut [u64])
     requires full { IsFull closed.now.words }
     requires sized { slots_len closed.now.words ≡ length counts.old + 1 }
     ensures len { length counts.new ≡ length counts.old }
-    ensures words { (page : ℕ) → page < length counts.old → get_elem? (slots_items closed.now.words) (page + 1) ≡ some (slice_index counts.new page) }
+    ensures words { (page : ℕ) → page < length counts.old →
+        get_elem? (slots_items closed.now.words) (page + 1) ≡ some (slice_index counts.new page) }
 {
     for (page, count) in counts.iter_mut().enumerate() {
         *count = closed.word(page + 1);
@@ -52,8 +55,9 @@ impl Board {
         requires gone { All (λ seat. (seat_meaning seat).state ≡ Gone) seats.items }
         requires places { length counts.old ≡ length (coord_view coord).opening.counts }
         ensures len { length counts.new ≡ length counts.old }
-        ensures counts { (page : ℕ) → page < length counts.old → slice_index counts.new page ≡ last_count (coord_view coord).opening seats.items page }
-        ensures phases { All (λ seat. IfSome (seat_meaning seat).last (λ sight. sight.number ≤ (coord_view coord).phase)) seats.items }
+        ensures counts { (page : ℕ) → page < length counts.old →
+            slice_index counts.new page ≡ last_count (coord_view coord).opening seats.items page }
+        ensures phases { All (λ seat. SawNoLater (coord_view coord).phase (seat_meaning seat).last) seats.items }
     {
         let CoordSeat {
             seat: mut coord,

@@ -22,15 +22,14 @@ pub struct CoordSeat {
     ghost sized: { seat.table_id.words ≡ length (coord_view_of seat.me.0).opening.counts + 1 },
     ghost made_all: { (coord_view_of seat.me.0).made ≡ (coord_view_of seat.me.0).opening.workers },
     ghost none_back: { (coord_view_of seat.me.0).joined ≡ [] },
-    ghost showed: { option_map (λ _. coord_sight_of (fields_of seen)) (coord_view_of seat.me.0).last ≡ (coord_view_of seat.me.0).last },
+    ghost showed: { let last = (coord_view_of seat.me.0).last in
+        option_map (λ _. coord_sight_of (fields_of seen)) last ≡ last },
 }
 
 impl CoordSeat {
-    ghost use Rattle.like_core.specs.declared.event.Event.TheVariants.{CoordLook, Announce, Release};
-    ghost use Rattle.like_core.specs.declared.shown.Shown.TheVariants.{Done, Coord as CoordShown};
     ghost use Rattle.like_core.specs.Phase.{IsSplit};
     ghost use Rattle.like_core.specs.Views.{looked_coord, announced_coord, released_coord, MayAnnounce, MayRelease};
-    ghost use Rattle.like_core.specs.Shows.{IsStep};
+    ghost use Rattle.like_core.specs.Actions.{Surveys, Announces, Releases};
     ghost use Rattle.like_board.specs.Seats.{board_id, coord_board, coord_view};
 
     /// Looks at the phase word. Once it showed all workers in, it shows that until the release.
@@ -41,8 +40,8 @@ impl CoordSeat {
         ensures number { result.number ≡ (coord_view self.old).phase }
         ensures ending { result.ending ≡ (coord_view self.old).ending }
         ensures all_in { (coord_view self.old).all_in ≡ true → result.all_in ≡ true }
-        ensures all_gone { IsSplit (coord_view self.old).phase → result.all_gone ≡ true → (coord_view self.old).gone ≡ true }
-        ensures event { IsStep (coord_view self.old).opening CoordLook (CoordShown result) (Coord (coord_view self.old)) (Coord (coord_view self.new)) }
+        ensures all_gone { let c = coord_view self.old in IsSplit c.phase → result.all_gone ≡ true → c.gone ≡ true }
+        ensures event { Surveys (coord_view self.old) result (coord_view self.new) }
     {
         let word = board.table.shared.load::<Surveying>(&mut self.seat, 0);
         self.seen = PhaseWord::of_packed(word);
@@ -55,7 +54,7 @@ impl CoordSeat {
         requires running { MayAnnounce (coord_view self.old) }
         ensures board { coord_board self.new ≡ coord_board self.old }
         ensures view { coord_view self.new ≡ announced_coord (coord_view self.old) }
-        ensures event { IsStep (coord_view self.old).opening Announce Done (Coord (coord_view self.old)) (Coord (coord_view self.new)) }
+        ensures event { Announces (coord_view self.old) (coord_view self.new) }
     {
         board
             .table
@@ -69,7 +68,7 @@ impl CoordSeat {
         requires all_in { MayRelease (coord_view self.old) }
         ensures board { coord_board self.new ≡ coord_board self.old }
         ensures view { coord_view self.new ≡ released_coord (coord_view self.old) }
-        ensures event { IsStep (coord_view self.old).opening Release Done (Coord (coord_view self.old)) (Coord (coord_view self.new)) }
+        ensures event { Releases (coord_view self.old) (coord_view self.new) }
     {
         let next = self.seen.released();
         board

@@ -46,9 +46,11 @@ pub(crate) fn make_seats(
     requires all { workers ≡ (coord_view_of coord.old.me.0).opening.workers }
     requires few { workers ≤ max_workers }
     ensures board { OnOk result (coord.new.table_id ≡ coord.old.table_id) }
-    ensures coord { OnOk result (coord.new.me ≡ (Coord (record (coord_view_of coord.old.me.0) { made = workers }), [])) }
+    ensures coord { OnOk result (
+        coord.new.me ≡ (Coord (record (coord_view_of coord.old.me.0) { made = workers }), [])) }
     ensures len { IfOk result (λ seats. length seats.items ≡ workers) }
-    ensures seats { IfOk result (λ seats. AreFresh coord.old.table_id (coord_view_of coord.old.me.0).opening seats.items) }
+    ensures seats { IfOk result (λ seats.
+        AreFresh coord.old.table_id (coord_view_of coord.old.me.0).opening seats.items) }
 {
     let mut seats = Vec::with_capacity(alloc, workers as usize)?;
     for number in 0..workers {

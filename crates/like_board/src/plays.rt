@@ -1,10 +1,10 @@
 //! What each kind of step tells the seat that makes it, and how a worker's seat is made and given back.
-ghost use Rattle.std.specs.Prelude.{◌≡◌, ℕ, ◌+◌, []};
-ghost use Rattle.like_core.specs.declared.event.Event.TheVariants.{Acknowledge, Report, Retire, Announce, Release};
+ghost use Rattle.std.specs.Prelude.{◌≡◌, []};
 ghost use Rattle.like_core.specs.declared.view.View.TheVariants.{Coord, Worker, Spent};
 ghost use Rattle.like_core.specs.Views.{fresh, answered_view, retired_view, announced_coord, released_coord, made_coord, gathered_coord};
+ghost use Rattle.like_core.specs.Actions.{Acknowledges, Reports, Retires, Announces, Releases};
 ghost use Rattle.like_board.specs.Known.{coord_view_of, worker_view_of};
-ghost use Rattle.like_board.specs.Plays.{TellsLook, TellsSurvey, TellsWorker, TellsCoord, TellsAdd, TellsRead};
+ghost use Rattle.like_board.specs.Plays.{TellsLook, TellsSurvey, TellsWorker, TellsCoord, TellsAddAt, TellsReadAt};
 
 use atomic_table::{Join, Play, Split};
 use like_core::View;
@@ -20,35 +20,36 @@ impl Play<(), View> for Looking {
 pub struct Acknowledging;
 
 impl Play<(), View> for Acknowledging {
-    ghost then = { λ _ me _ after. TellsWorker (λ v. Acknowledge v.worker) answered_view me.0 after.0 × (after.1 ≡ []) };
+    ghost then = { λ _ me _ after. TellsWorker Acknowledges answered_view me.0 after.0 × (after.1 ≡ []) };
 }
 
 /// A report.
 pub struct Reporting;
 
 impl Play<(), View> for Reporting {
-    ghost then = { λ _ me _ after. TellsWorker (λ v. Report v.worker) answered_view me.0 after.0 × (after.1 ≡ []) };
+    ghost then = { λ _ me _ after. TellsWorker Reports answered_view me.0 after.0 × (after.1 ≡ []) };
 }
 
 /// A retirement.
 pub struct Retiring;
 
 impl Play<(), View> for Retiring {
-    ghost then = { λ _ me _ after. TellsWorker (λ v. Retire v.worker) retired_view me.0 after.0 × (after.1 ≡ []) };
+    ghost then = { λ _ me _ after. TellsWorker Retires retired_view me.0 after.0 × (after.1 ≡ []) };
 }
 
-/// An addition to the count of the page whose word it steps on: the word after the phase word is page 0's.
+/// An addition to the count of the page whose word it steps on.
 pub struct Adding;
 
 impl Play<(), View> for Adding {
-    ghost then = { λ step me found after. ((page : ℕ) → step.word ≡ page + 1 → TellsAdd page step.first me.0 found after.0) × (after.1 ≡ []) };
+    ghost then = { λ step me found after. TellsAddAt step.word step.first me.0 found after.0 × (after.1 ≡ []) };
 }
 
 /// A read of such a count.
 pub struct Reading;
 
 impl Play<(), View> for Reading {
-    ghost then = { λ step me found after. (after.0 ≡ Worker (worker_view_of me.0)) × ((page : ℕ) → step.word ≡ page + 1 → TellsRead page me.0 found) × (after.1 ≡ []) };
+    ghost then = { λ step me found after.
+        (after.0 ≡ Worker (worker_view_of me.0)) × TellsReadAt step.word me.0 found × (after.1 ≡ []) };
 }
 
 /// The coordinator's look.
@@ -62,14 +63,14 @@ impl Play<(), View> for Surveying {
 pub struct Announcing;
 
 impl Play<(), View> for Announcing {
-    ghost then = { λ _ me _ after. TellsCoord Announce announced_coord me.0 after.0 × (after.1 ≡ []) };
+    ghost then = { λ _ me _ after. TellsCoord Announces announced_coord me.0 after.0 × (after.1 ≡ []) };
 }
 
 /// A release.
 pub struct Releasing;
 
 impl Play<(), View> for Releasing {
-    ghost then = { λ _ me _ after. TellsCoord Release released_coord me.0 after.0 × (after.1 ≡ []) };
+    ghost then = { λ _ me _ after. TellsCoord Releases released_coord me.0 after.0 × (after.1 ≡ []) };
 }
 
 /// The coordinator's seat makes the seat of the next worker.

@@ -3,7 +3,7 @@ ghost use Rattle.like_core.specs.declared.worker_state.WorkerState.TheVariants.{
 ghost use Rattle.like_core.specs.Post.{IsFresh, pages_of};
 ghost use Rattle.like_core.specs.Views.{looked_view, looked_coord};
 ghost use Rattle.like_board.specs.Seats.{board_id, coord_board, coord_view, seat_board, seat_view, post_board, post_view, post_meaning, AreFresh};
-ghost use Rattle.like_board.specs.Walk.{walk, addition, Walks};
+ghost use Rattle.like_board.specs.Walk.{walk, addition, sight, coord_sight, Walks};
 
 use crate::{Board, BoardPost, CoordSeat, WorkerSeat};
 use like_core::Post;
@@ -15,7 +15,7 @@ use std::test::Fail;
 fn sees(rt: &impl Abort, post: &mut BoardPost<'_>, number: u32, ending: bool, waits: bool)
     requires { (post_view post.old).state ≢ Gone }
     ensures board { post_board post.new ≡ post_board post.old }
-    ensures view { post_view post.new ≡ looked_view (post_view post.old) (record { number = number; ending = ending; waits = waits }) }
+    ensures view { post_view post.new ≡ looked_view (post_view post.old) (sight number ending waits) }
 {
     let sight = post.look();
     assert!(rt; sight.number == number);
@@ -35,7 +35,8 @@ fn surveys(
 )
     requires { coord_board coord.old ≡ board_id board.now }
     ensures board { coord_board coord.new ≡ coord_board coord.old }
-    ensures view { coord_view coord.new ≡ looked_coord (coord_view coord.old) (coord_view coord.new).word (record { number = number; ending = ending; all_in = all_in; all_gone = all_gone }) }
+    ensures view { let seen = coord_sight number ending all_in all_gone in
+        coord_view coord.new ≡ looked_coord (coord_view coord.old) (coord_view coord.new).word seen }
 {
     let sight = coord.look(board);
     assert!(rt; sight.number == number);

@@ -1,4 +1,4 @@
-ghost use Rattle.std.specs.Prelude.{◌≡◌, ◌≢◌, ◌+◌, ◌<◌, ◌≤◌, true, [], length};
+ghost use Rattle.std.specs.Prelude.{◌≡◌, ◌≢◌, ◌+◌, ◌<◌, ◌≤◌, [], length};
 ghost use Rattle.like_core.specs.declared.view.View.TheVariants.{Worker};
 ghost use Rattle.like_core.specs.Limits.{max_workers};
 ghost use Rattle.like_board.specs.Known.{worker_view_of};
@@ -21,13 +21,11 @@ pub struct WorkerSeat {
 }
 
 impl WorkerSeat {
-    ghost use Rattle.like_core.specs.declared.event.Event.TheVariants.{Look, Acknowledge, Report, Retire, Read};
-    ghost use Rattle.like_core.specs.declared.shown.Shown.TheVariants.{Seen, Done, Old, Count};
     ghost use Rattle.like_core.specs.declared.worker_state.WorkerState.TheVariants.{Gone};
-    ghost use Rattle.like_core.specs.WorkerState.{IsSightOf, IsRunning, RunsJoined, RunsSplit, SawEnding};
+    ghost use Rattle.like_core.specs.WorkerState.{IsSightOf, RunsJoined, RunsSplit, SawEnding, SeesEndingStill};
     ghost use Rattle.like_core.specs.Post.{MayAdd, MayRead};
-    ghost use Rattle.like_core.specs.Views.{added_to, looked_view, answered_view, retired_view, added_view, likes_merged, adding};
-    ghost use Rattle.like_core.specs.Shows.{IsStep, IsSteps};
+    ghost use Rattle.like_core.specs.Views.{added_to, looked_view, answered_view, retired_view, added_view};
+    ghost use Rattle.like_core.specs.Actions.{Looks, Acknowledges, Reports, Retires, Adds, Reads};
     ghost use Rattle.like_board.specs.Seats.{board_id, seat_board, seat_view, seat_meaning, post_board, post_view, post_meaning};
 
     /// Takes the seat to its board.
@@ -46,8 +44,8 @@ impl WorkerSeat {
         ensures board { seat_board self.new ≡ seat_board self.old }
         ensures view { seat_view self.new ≡ looked_view (seat_view self.old) result }
         ensures sight { IsSightOf (seat_view self.old).state result }
-        ensures ending { IsRunning (seat_view self.old).state → SawEnding (seat_view self.old).last → result.ending ≡ true }
-        ensures event { IsStep (seat_view self.old).opening (Look (seat_view self.old).worker) (Seen result) (Worker (seat_view self.old)) (Worker (seat_view self.new)) }
+        ensures ending { SeesEndingStill (seat_view self.old).state (seat_view self.old).last result }
+        ensures event { Looks (seat_view self.old) result (seat_view self.new) }
     {
         let word = board.table.shared.load::<Looking>(&mut self.seat, 0);
         PhaseWord::of_packed(word).sight(self.number)
@@ -59,7 +57,7 @@ impl WorkerSeat {
         requires ending { SawEnding (seat_view self.old).last }
         ensures board { seat_board self.new ≡ seat_board self.old }
         ensures view { seat_view self.new ≡ answered_view (seat_view self.old) }
-        ensures event { IsStep (seat_view self.old).opening (Acknowledge (seat_view self.old).worker) Done (Worker (seat_view self.old)) (Worker (seat_view self.new)) }
+        ensures event { Acknowledges (seat_view self.old) (seat_view self.new) }
     {
         let bit = PhaseWord::answer_bit(self.number);
         board
@@ -74,7 +72,7 @@ impl WorkerSeat {
         requires ending { SawEnding (seat_view self.old).last }
         ensures board { seat_board self.new ≡ seat_board self.old }
         ensures view { seat_view self.new ≡ answered_view (seat_view self.old) }
-        ensures event { IsStep (seat_view self.old).opening (Report (seat_view self.old).worker) Done (Worker (seat_view self.old)) (Worker (seat_view self.new)) }
+        ensures event { Reports (seat_view self.old) (seat_view self.new) }
     {
         let bit = PhaseWord::answer_bit(self.number);
         board
@@ -88,7 +86,7 @@ impl WorkerSeat {
         requires runs { RunsJoined (seat_view self.old).state }
         ensures board { seat_board self.new ≡ seat_board self.old }
         ensures view { seat_view self.new ≡ retired_view (seat_view self.old) }
-        ensures event { IsStep (seat_view self.old).opening (Retire (seat_view self.old).worker) Done (Worker (seat_view self.old)) (Worker (seat_view self.new)) }
+        ensures event { Retires (seat_view self.old) (seat_view self.new) }
     {
         let bit = PhaseWord::retirement_bit(self.number);
         board
@@ -103,7 +101,7 @@ impl WorkerSeat {
         ensures board { seat_board self.new ≡ seat_board self.old }
         ensures view { seat_view self.new ≡ added_view (seat_view self.old) page n }
         ensures own { added_to page (seat_view self.old).additions ≤ result }
-        ensures event { IsSteps (seat_view self.old).opening (likes_merged (seat_view self.old) page n) (adding (seat_view self.old) page) (Old result) (Worker (seat_view self.old)) (Worker (seat_view self.new)) }
+        ensures event { Adds (seat_view self.old) page n result (seat_view self.new) }
     {
         let word = page as usize + 1;
         board
@@ -118,7 +116,7 @@ impl WorkerSeat {
         ensures board { seat_board self.new ≡ seat_board self.old }
         ensures view { seat_view self.new ≡ seat_view self.old }
         ensures own { added_to page (seat_view self.old).additions ≤ result }
-        ensures event { IsStep (seat_view self.old).opening (Read (seat_view self.old).worker page) (Count result) (Worker (seat_view self.old)) (Worker (seat_view self.new)) }
+        ensures event { Reads (seat_view self.old) page result (seat_view self.new) }
     {
         let word = page as usize + 1;
         board.table.shared.load::<Reading>(&mut self.seat, word)

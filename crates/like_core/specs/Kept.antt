@@ -1,7 +1,11 @@
-use Rattle.std.specs.Prelude.{ℕ, Bool, false, List, [], length, slice_index, slice_index_or}
+use Rattle.std.specs.Prelude.{◌≡◌, ℕ, ◌<◌, Bool, false, List, [], length, slice_index, slice_index_or}
 use Rattle.like_core.specs.declared.worker_state.WorkerState.{WorkerState}
 use Rattle.like_core.specs.declared.worker_state.WorkerState.TheVariants.{Gone}
 use Rattle.like_core.specs.Numbers.{Numbers}
+
+-- each of the rows has so many numbers
+abbrev pub AreRowsOf : ℕ → List (List ℕ) → Type 0
+AreRowsOf pages rows = (i : ℕ) → i < length rows → length (slice_index_or rows i []) ≡ pages
 
 -- the numbers that lists by worker and page keep; who is no worker is gone
 abbrev pub kept : ℕ → Bool → List WorkerState → List (List ℕ) → List ℕ → List Bool → Numbers

@@ -18,5 +18,6 @@ pub mod ShownWord
 pub mod Views
 pub mod Tallies
 pub mod Shows
+pub mod Actions
 pub mod Post
 pub mod Lone

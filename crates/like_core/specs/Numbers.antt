@@ -3,9 +3,10 @@ use Rattle.like_core.specs.declared.worker_state.WorkerState.{WorkerState}
 use Rattle.like_core.specs.declared.worker_state.WorkerState.TheVariants.{Answered, Gone}
 use Rattle.like_core.specs.declared.sight.Sight.{Sight}
 use Rattle.like_core.specs.declared.sight.CoordSight.{CoordSight}
+use Rattle.like_core.specs.Limits.{total_bound}
 use Rattle.like_core.specs.Functions.{sum_below, update}
 use Rattle.like_core.specs.Phase.{split}
-use Rattle.like_core.specs.WorkerState.{IsIn}
+use Rattle.like_core.specs.WorkerState.{IsIn, looked}
 
 -- what the table of events speaks of: how many workers and pages there are and which pages are marked as split; the
 -- phase and whether its end was announced; each worker's state; how many likes of a page a worker has not merged; and
@@ -32,6 +33,18 @@ with_unmerged n i page likes = record n { unmerged = update n.unmerged i (update
 abbrev pub with_count : Numbers → ℕ → ℕ → Numbers
 with_count n page count = record n { count = update n.count page count }
 
+-- worker i has looked, and all else is the same
+abbrev pub with_look : Numbers → ℕ → Numbers
+with_look n i = with_state n i (looked n.phase (n.state i))
+
+-- worker i has not merged one like more of the page, and all else is the same
+abbrev pub with_like : Numbers → ℕ → ℕ → Numbers
+with_like n i page = with_unmerged n i page (n.unmerged i page + 1)
+
+-- the page has so many likes more in its count, and all else is the same
+abbrev pub with_more : Numbers → ℕ → ℕ → Numbers
+with_more n page likes = with_count n page (n.count page + likes)
+
 -- whether likes of the page go into slices in the present phase
 abbrev pub sliced : Numbers → ℕ → Bool
 sliced n page = split n.marked n.phase page
@@ -39,6 +52,10 @@ sliced n page = split n.marked n.phase page
 -- the page's count and all its unmerged likes
 abbrev pub total : Numbers → ℕ → ℕ
 total n page = n.count page + sum_below (λ i. n.unmerged i page) n.workers
+
+-- each page's total is below its bound
+abbrev pub AreBounded : Numbers → Type 0
+AreBounded n = (page : ℕ) → page < n.pages → total n page < total_bound
 
 -- each worker has answered the present phase or is gone
 abbrev pub AllIn : Numbers → Type 0

@@ -17,7 +17,7 @@ use Rattle.like_core.specs.Table.{Permits, IsShown}
 use Rattle.like_core.specs.State.{CoreState, labelled, after, numbers}
 use Rattle.like_core.specs.Reachable.{Reachable, after_all, PermitsAll}
 use Rattle.like_core.specs.ShownWord.{shown_word}
-use Rattle.like_core.specs.WorkerState.{IsRunning, SawEnding}
+use Rattle.like_core.specs.WorkerState.{IsRunning, SawEnding, SawNoLater}
 use Rattle.like_core.specs.Views.{added_in, seats_of}
 use Rattle.like_core.specs.Tallies.{Tallied}
 
@@ -36,7 +36,7 @@ pub record FitsWorker (z : Opening) (s : CoreState) (v : WorkerSeatView) : Type 
   pub opening : v.opening ≡ z
   pub there : v.worker < z.workers
   pub state : s.state v.worker ≡ v.state
-  pub number : IfSome v.last (λ sight. sight.number ≤ s.phase)
+  pub number : SawNoLater s.phase v.last
   pub ending : IsRunning v.state → SawEnding v.last → s.ending ≡ true
   pub labels : (phase page : ℕ) → labelled v.worker phase (s.applied page) ≡ added_in phase page v.additions
 
@@ -68,7 +68,8 @@ pub record Shows (z : Opening) (s : CoreState) (words : List ℕ) (views : List 
   pub opening : IsOpening z
   pub width : length words ≡ length z.counts + 1
   pub word : slice_index words 0 ≡ shown_word z s
-  pub pages : (page : ℕ) → page < length z.counts → slice_index words (page + 1) ≡ slice_index z.counts page + length (s.applied page)
+  pub pages : (page : ℕ) → page < length z.counts
+      → slice_index words (page + 1) ≡ slice_index z.counts page + length (s.applied page)
   pub merged : (i : ℕ) → s.unmerged i ≡ []
   pub coord : CoordSeatView
   pub first : get_elem? views 0 ≡ some (Coord coord)
@@ -99,7 +100,8 @@ pub record IsSteps (z : Opening) (events : List Event) (event : Event) (shown : 
   pub tells : IsShown (numbers z (after_all z state events)) event shown
   pub changed : ℕ
   pub word : ℕ
-  pub shows_after : Shows z (after z (after_all z state events) event) (slice_set words changed word) (slice_set views place w)
+  pub shows_after :
+      Shows z (after z (after_all z state events) event) (slice_set words changed word) (slice_set views place w)
 
 -- one step of a seat is this event
 abbrev pub IsStep : Opening → Event → Shown → View → View → Type 0

@@ -11,8 +11,7 @@ use Rattle.like_core.specs.declared.pure_core.refusal.Wrong.{Wrong}
 use Rattle.like_core.specs.declared.pure_core.refusal.NotNow.TheVariants.{NoSuch, Phase, Last, Full}
 use Rattle.like_core.specs.Limits.{total_bound}
 use Rattle.like_core.specs.Phase.{last_phase, IsJoined, IsSplit}
-use Rattle.like_core.specs.WorkerState.{looked}
-use Rattle.like_core.specs.Numbers.{Numbers, with_state, with_unmerged, with_count, sliced, total, AllIn, Sees, CoordSees}
+use Rattle.like_core.specs.Numbers.{Numbers, with_state, with_unmerged, sliced, total, AllIn, Sees, CoordSees, with_look, with_like, with_more}
 
 -- the worker and the page that the event names are there
 abbrev pub IsThere : Numbers → Event → Type 0
@@ -80,17 +79,14 @@ IsShown n Release shown = shown ≡ Done
 
 -- the numbers after the event
 abbrev pub next : Numbers → Event → Numbers
-next n (Look i) = with_state n i (looked n.phase (n.state i))
+next n (Look i) = with_look n i
 next n (Acknowledge i) = with_state n i (Answered n.phase)
 next n (Report i) = with_state n i (Answered n.phase)
 next n (Retire i) = with_state n i Gone
 next n (Like i page) =
-    (if sliced n page then
-    with_unmerged n i page (n.unmerged i page + 1)
-    else
-    with_count n page (n.count page + 1))
+    (if sliced n page then with_like n i page else with_more n page 1)
 next n (Read i page) = n
-next n (Merge i page) = with_count (with_unmerged n i page 0) page (n.count page + n.unmerged i page)
+next n (Merge i page) = with_more (with_unmerged n i page 0) page (n.unmerged i page)
 next n CoordLook = n
 next n Announce = record n { ending = true }
 next n Release = record n { phase = n.phase + 1; ending = false }

@@ -111,6 +111,10 @@ made_coord c = record c { made = c.made + 1 }
 abbrev pub gathered_coord : CoordSeatView → WorkerSeatView → CoordSeatView
 gathered_coord c v = record c { joined = v ∷ c.joined }
 
+-- the coordinator's view after all these were given back to it, the last of them first
+abbrev pub gathered_all : CoordSeatView → List WorkerSeatView → CoordSeatView
+gathered_all c vs = record c { joined = vs ++ c.joined }
+
 -- the coordinator may announce: the last look, since which it made no step, showed a running phase that is not the last
 abbrev pub MayAnnounce : CoordSeatView → Type 0
 MayAnnounce c = IsSomeAnd c.last (λ sight. (sight.ending ≡ false) × (sight.number < last_phase))

@@ -1,4 +1,4 @@
-use Rattle.std.specs.Prelude.{◌≡◌, ℕ, ◌+◌, nat_lt, true, false, if◌then◌else◌, Option, IsSomeAnd, MatchBool}
+use Rattle.std.specs.Prelude.{◌≡◌, ℕ, ◌+◌, ◌≤◌, nat_lt, true, false, if◌then◌else◌, Option, IfSome, IsSomeAnd, MatchBool}
 use Rattle.like_core.specs.declared.worker_state.WorkerState.{WorkerState}
 use Rattle.like_core.specs.declared.worker_state.WorkerState.TheVariants.{Runs, Answered, Gone}
 use Rattle.like_core.specs.declared.sight.Sight.{Sight}
@@ -53,6 +53,14 @@ seen (Runs phase) sight = Runs phase
 seen (Answered phase) sight = (if sight.waits then Answered phase else Runs (phase + 1))
 seen Gone sight = Gone
 
+-- no look showed a later phase than this
+abbrev pub SawNoLater : ℕ → Option Sight → Type 0
+SawNoLater phase last = IfSome last (λ sight. sight.number ≤ phase)
+
 -- there was a look, and the last showed that the end of the phase was announced
 abbrev pub SawEnding : Option Sight → Type 0
 SawEnding last = IsSomeAnd last (λ sight. sight.ending ≡ true)
+
+-- the end of a phase that the worker runs stays announced: who saw it sees it again
+abbrev pub SeesEndingStill : WorkerState → Option Sight → Sight → Type 0
+SeesEndingStill state last sight = IsRunning state → SawEnding last → sight.ending ≡ true

@@ -89,7 +89,8 @@ impl PhaseWord {
     /// The word that packs to this number, or `None` where none does.
     pub fn unpack(word: u64) -> Option<PhaseWord>
         ensures packed { IfSome result (λ p. packed (fields_of p) ≡ word) }
-        ensures found { (p : PhaseWord) → packed (fields_of p) ≡ word → IsSomeAnd result (λ q. fields_of q ≡ fields_of p) }
+        ensures found { (p : PhaseWord) → packed (fields_of p) ≡ word →
+            IsSomeAnd result (λ q. fields_of q ≡ fields_of p) }
     {
         PhaseWord::new(
             Kind::from_code((word & 3) as u8),

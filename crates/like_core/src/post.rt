@@ -1,6 +1,6 @@
 ghost use Rattle.std.specs.Prelude.{◌≡◌, ◌≢◌, ◌≤◌, true};
 ghost use Rattle.like_core.specs.declared.worker_state.WorkerState.TheVariants.{Gone};
-ghost use Rattle.like_core.specs.WorkerState.{IsRunning, RunsJoined, RunsSplit, SawEnding, IsSightOf};
+ghost use Rattle.like_core.specs.WorkerState.{RunsJoined, RunsSplit, SawEnding, IsSightOf, SeesEndingStill};
 ghost use Rattle.like_core.specs.Post.{PostView, looked_at, answered, retired, added, additions_of, MayAdd, MayRead};
 
 use crate::sight::Sight;
@@ -18,7 +18,7 @@ pub trait Post {
         requires { (view self.old).state ≢ Gone }
         ensures sight { IsSightOf (view self.old).state result }
         ensures view { view self.new ≡ looked_at (view self.old) result }
-        ensures ending { IsRunning (view self.old).state → SawEnding (view self.old).last → result.ending ≡ true };
+        ensures ending { SeesEndingStill (view self.old).state (view self.old).last result };
 
     /// Stops at the end of a joined phase, and waits for the release of the next.
     fn acknowledge(&mut self)

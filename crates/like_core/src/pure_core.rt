@@ -1,8 +1,8 @@
 ghost use Rattle.std.specs.Prelude.{◌≡◌, ℕ, ◌^◌, ◌<◌, ◌≤◌, ◌↔◌, true, [], length, replicate, slice_index_or, All, IsOk, IfOk, OnOk, IfErr, OnErr};
 ghost use Rattle.like_core.specs.Phase.{last_phase};
 ghost use Rattle.like_core.specs.Limits.{max_workers, max_pages, total_bound};
-ghost use Rattle.like_core.specs.Numbers.{total};
-ghost use Rattle.like_core.specs.Kept.{kept};
+ghost use Rattle.like_core.specs.Numbers.{AreBounded};
+ghost use Rattle.like_core.specs.Kept.{kept, AreRowsOf};
 
 use crate::event::Event;
 use crate::shown::Shown;
@@ -33,8 +33,8 @@ pub struct Core {
     marks: Vec<bool>,
     ghost states_sized: { length states.items ≡ length unmerged.items },
     ghost marks_sized: { length marks.items ≡ length counts },
-    ghost rows_sized: { (i : ℕ) → i < length unmerged.items → length (slice_index_or unmerged.items i []) ≡ length counts },
-    ghost bounded: { (page : ℕ) → page < length counts → total (kept phase ending states.items unmerged.items counts marks.items) page < total_bound },
+    ghost rows_sized: { AreRowsOf (length counts) unmerged.items },
+    ghost bounded: { AreBounded (kept phase ending states.items unmerged.items counts marks.items) },
     ghost within: { phase ≤ last_phase },
     ghost last: { ending ≡ true → phase < last_phase },
 }

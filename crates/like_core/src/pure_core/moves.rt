@@ -1,6 +1,6 @@
 ghost use Rattle.std.specs.Prelude.{◌≡◌, ◌+◌, ◌-◌, ◌^◌, ◌<◌};
 ghost use Rattle.like_core.specs.Limits.{total_bound};
-ghost use Rattle.like_core.specs.Numbers.{with_state, with_unmerged, with_count, total, Sees, CoordSees};
+ghost use Rattle.like_core.specs.Numbers.{with_state, with_unmerged, with_count, total, Sees, CoordSees, with_look, with_like, with_more};
 ghost use Rattle.like_core.specs.WorkerState.{looked};
 ghost use Rattle.like_core.specs.Table.{Permits, IsShown, next};
 ghost use Rattle.like_core.specs.Core.{numbers_of};
@@ -22,7 +22,7 @@ impl Core {
     fn look(&mut self, worker: u32) -> Sight
         requires { worker < (numbers_of self.old).workers }
         ensures sees { Sees (numbers_of self.old) worker result }
-        ensures looked { numbers_of self.new ≡ with_state (numbers_of self.old) worker (looked self.old.phase ((numbers_of self.old).state worker)) }
+        ensures looked { numbers_of self.new ≡ with_look (numbers_of self.old) worker }
     {
         let state = self.states[worker as usize];
         self.set_state(worker, state.looked(self.phase));
@@ -49,7 +49,7 @@ impl Core {
         requires worker { worker < (numbers_of self.old).workers }
         requires page { page < (numbers_of self.old).pages }
         requires room { total (numbers_of self.old) page + 1 < total_bound }
-        ensures { numbers_of self.new ≡ with_unmerged (numbers_of self.old) worker page ((numbers_of self.old).unmerged worker page + 1) }
+        ensures { numbers_of self.new ≡ with_like (numbers_of self.old) worker page }
     {
         let row = &mut self.unmerged[worker as usize];
         let likes = row.get(page);
@@ -75,7 +75,7 @@ impl Core {
         requires page { page < (numbers_of self.old).pages }
         requires room { total (numbers_of self.old) page + likes < total_bound }
         ensures old { result ≡ (numbers_of self.old).count page }
-        ensures added { numbers_of self.new ≡ with_count (numbers_of self.old) page ((numbers_of self.old).count page + likes) }
+        ensures added { numbers_of self.new ≡ with_more (numbers_of self.old) page likes }
     {
         let count = self.counts.get(page);
         self.counts.set(page, count + likes);
