@@ -1,5 +1,5 @@
-//! The service as a plain Rust program, to measure `likes` against: a thread for each request file, which reads the file
-//! and runs its requests, and then the report as `likes` prints it of a run in phase 0. Nothing of it is proved.
+//! The service as a plain Rust program, to measure `likes` against: a thread for each request file, which reads the
+//! file and runs its requests, and then the report as `likes` prints it of a run in phase 0. Nothing of it is proved.
 //!
 //! usage: peer atomics|mutex USERS PAGES REQUESTS...
 //!   atomics   a page's count is an atomic number of its own
@@ -93,7 +93,9 @@ fn records<'a>(
     Ok(lines.enumerate().map(move |(place, line)| {
         let row = place + 1;
         if line.iter().any(|byte| matches!(byte, b'"' | b'\r')) {
-            return Err(format!("{file}: row {row}: no quotes or carriage returns are read here"));
+            return Err(format!(
+                "{file}: row {row}: no quotes or carriage returns are read here"
+            ));
         }
         let mut fields = line.split(|byte| *byte == b',');
         match (fields.next(), fields.next(), fields.next(), fields.next()) {
@@ -109,7 +111,8 @@ fn decimal(text: &[u8], digits: usize) -> Option<u64> {
         return None;
     }
     text.iter().try_fold(0, |value, byte| {
-        byte.is_ascii_digit().then(|| 10 * value + u64::from(byte - b'0'))
+        byte.is_ascii_digit()
+            .then(|| 10 * value + u64::from(byte - b'0'))
     })
 }
 
@@ -133,7 +136,9 @@ fn read_pages(file: &str) -> Result<Pages, String> {
         }
         let name = String::from_utf8(name.to_vec()).map_err(|_| bad("page name is not UTF-8"))?;
         pages.names.push(name);
-        pages.initial.push(decimal(count, 19).ok_or_else(|| bad("count is not a whole number"))?);
+        pages
+            .initial
+            .push(decimal(count, 19).ok_or_else(|| bad("count is not a whole number"))?);
     }
     Ok(pages)
 }
@@ -190,7 +195,12 @@ fn answer<C: Counts>(
 }
 
 /// Runs all request files, each on a thread of its own.
-fn serve_all<C: Counts>(users: u64, pages: &Pages, files: &[String], counts: &C) -> Result<Vec<Done>, String> {
+fn serve_all<C: Counts>(
+    users: u64,
+    pages: &Pages,
+    files: &[String],
+    counts: &C,
+) -> Result<Vec<Done>, String> {
     thread::scope(|scope| {
         let threads: Vec<_> = files
             .iter()
@@ -204,7 +214,10 @@ fn serve_all<C: Counts>(users: u64, pages: &Pages, files: &[String], counts: &C)
                 scope.spawn(move || serve(file, &place, pages, counts))
             })
             .collect();
-        threads.into_iter().map(|thread| thread.join().unwrap()).collect()
+        threads
+            .into_iter()
+            .map(|thread| thread.join().unwrap())
+            .collect()
     })
 }
 
