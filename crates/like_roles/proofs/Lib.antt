@@ -8,6 +8,7 @@ pub mod Keeps
 pub mod Lists
 pub mod Made
 pub mod Merging
+pub mod Seats
 pub mod Served
 pub mod Started
 pub mod Tallied

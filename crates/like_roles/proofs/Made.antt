@@ -1,18 +1,13 @@
 -- Lists that a worker is made with.
-use Rattle.std.proofs.Common.{◌≡◌, ℕ, zero, suc, ◌+◌, ◌*◌, ◌<◌, List, [], ◌∷◌, ◌++◌, length, get_or, map, take, Some, ap, ◌∙◌, inl, inr, arith, subst, option_map}
-use Rattle.std.proofs.Math.Nat.{mul-add, mul-one}
-use Rattle.std.proofs.lemmas.Bool.{cases_lt}
+use Rattle.std.proofs.Common.{◌≡◌, ℕ, ◌+◌, ◌*◌, ◌<◌, ◌≤◌, List, [], ◌∷◌, ◌++◌, length, get_or, Some, ap, sym, ◌∙◌, inl, inr, arith, subst}
+use Rattle.std.proofs.Math.Nat.{mul-add, mul-le-mul_left, mul-one}
 use Rattle.std.proofs.Math.Seq.{get_or-append_seam}
+use Rattle.std.proofs.lemmas.Bool.{cases_lt}
 use Rattle.std.proofs.lemmas.List.{get_or_append_left, length-append}
+use Rattle.std.proofs.lemmas.Option.{slice_get-get_or, slice_get_past}
 use Rattle.std.specs.List.{slice_get}
-use Rattle.like_requests.specs.Pages.{Page}
-
--- one more page of a list
-pub map-more : {X : Type 0} (f : Page → X) (pages : List Page) (i : ℕ) (x : X) → option_map f (slice_get pages i) ≡ Some x → map f (take (suc i) pages) ≡ map f (take i pages) ++ x ∷ []
-map-more f [] zero x h = cc
-map-more f [] (suc i) x h = cc
-map-more f (p ∷ ps) zero x h = let e : f p ≡ x = cc h in ap (λ y. y ∷ []) e
-map-more f (p ∷ ps) (suc i) x h = ap (λ xs. f p ∷ xs) (map-more f ps i x h)
+use Rattle.like_tables.specs.Share.{dealt}
+use Rattle.like_tables.proofs.Dealt.{is-dealt}
 
 -- one more of the worker's submitters
 pub own-each : (sizes own : List ℕ) (workers worker submitter : ℕ) → submitter ≡ worker + workers * length own
@@ -42,3 +37,20 @@ own-there sizes own workers worker submitter x at inside there place h =
 
 pub own-at : (workers worker submitter n : ℕ) → submitter ≡ worker + workers * n → submitter + workers ≡ worker + workers * (n + 1)
 own-at workers worker submitter n at = rw (mul-add, mul-one) (omega arith)
+
+-- where no more are there, they are what was dealt
+pub own-dealt : (sizes own : List ℕ) (workers worker : ℕ) → 1 ≤ workers
+    → ((place : ℕ) → place < length own → get_or own place 0 ≡ get_or sizes (worker + workers * place) 0)
+    → ((place : ℕ) → place < length own → worker + workers * place < length sizes)
+    → length sizes ≤ worker + workers * length own → own ≡ dealt workers worker sizes
+own-dealt sizes own workers worker some each there past = is-dealt workers worker sizes own some at_place where
+  at_place : (place : ℕ) → slice_get own place ≡ slice_get sizes (worker + workers * place)
+  at_place place =
+      elim (cases_lt place (length own)) [
+        | inl inside ↦
+            slice_get-get_or own place 0 inside ∙ ap Some (each place inside)
+            ∙ sym (slice_get-get_or sizes (worker + workers * place) 0 (there place inside))
+        | inr outside ↦
+            let more = mul-le-mul_left workers outside in
+            slice_get_past own place outside ∙ sym (slice_get_past sizes (worker + workers * place) (omega (arith, past, more)))
+      ]

@@ -12,14 +12,11 @@ use Rattle.like_requests.specs.declared.request.Taken.{Taken}
 use Rattle.like_requests.specs.declared.request.Taken.TheVariants as taken
 use Rattle.like_requests.specs.declared.setup.Setup.{Setup}
 use Rattle.like_core.specs.Post.{PostView, pages_of}
-use Rattle.like_core.specs.declared.opening.Opening.{Opening}
-use Rattle.like_core.specs.declared.view.WorkerSeatView.{WorkerSeatView}
-use Rattle.like_board.specs.declared.worker_seat.WorkerSeat.{WorkerSeat}
-use Rattle.like_board.specs.Seats.{AreFresh, BoardId}
+use Rattle.like_tables.specs.Share.{dealt}
 use Rattle.like_roles.specs.declared.log.Took.{Took}
 use Rattle.like_roles.specs.declared.turn.Turn.{Turn}
 use Rattle.like_roles.specs.declared.turn.Turn.TheVariants as turn
-use Rattle.like_roles.specs.New.{AreNewSeats, AreOwnSizes, IsNew, IsPostOf}
+use Rattle.like_roles.specs.New.{IsNew, IsPostOf}
 use Rattle.like_roles.specs.Testing.{IsAt, IsGiven, IsPlaying}
 use Rattle.like_roles.specs.Turns.{CanGive, HasTaken, IsNext, Pends, TakesNothing, with_taken}
 use Rattle.like_roles.specs.WorkerView.{WorkerView, phase_at, submitter_at}
@@ -119,18 +116,9 @@ pub within_limits : (s : Setup) (plan : List Request) (n : ℕ) → IsWithinLimi
 within_limits s plan n w many = subst (λ k. IsWithin s (k ∷ [])) (sym many) w.numbers
 
 -- the one submitter is the first worker's
-own_one : (size workers worker : ℕ) (own : List ℕ) → 1 ≤ workers → AreOwnSizes (size ∷ []) workers worker own → (length own ≤ 1) × (1 ≤ length own → get_or own 0 0 ≡ size)
-own_one size workers worker own some sizes = (below_two (length own) (λ more. let e = (sizes.all 1).0 more in omega arith), λ here. here_is here) where
-  below_two : (n : ℕ) → (1 < n → ⊥) → n ≤ 1
-  below_two zero never = omega arith
-  below_two (suc zero) never = omega arith
-  below_two (suc (suc n)) never = absurd (never (omega arith))
-
-  here_is : 1 ≤ length own → get_or own 0 0 ≡ size
-  here_is here =
-      let below = (sizes.all 0).0 (omega arith) in
-      let none : worker + workers * 0 ≡ 0 = omega arith in
-      sizes.each 0 (omega arith) ∙ ap (λ k. get_or (size ∷ []) k 0) none
+own_one : (size workers worker : ℕ) (own : List ℕ) → 1 ≤ workers → own ≡ dealt workers worker (size ∷ []) → (length own ≤ 1) × (1 ≤ length own → get_or own 0 0 ≡ size)
+own_one size workers zero own some is = (rw is (omega arith), λ here. rw is refl)
+own_one size workers (suc worker) own some is = (rw is (omega arith), λ here. absurd (let none : length own ≡ 0 = ap length is in omega (arith, none, here)))
 
 -- a new worker may be played with
 pub plays_new : (s : Setup) (plan : List Request) (n worker : ℕ) (post : PostView) (v : WorkerView) → IsWithinLimits s (plan ∷ []) → n ≡ length plan → IsPostOf worker s.pages post → IsNew s (n ∷ []) worker post v → IsPlaying plan 0 v
@@ -149,18 +137,6 @@ plays_new s plan n worker post v w many his new =
         there = λ k d below. subst (λ many. IsThere many (get_or plan k d).page) (sym pages) (lists.there k d below);
       };
     }
-
--- fresh seats are new ones, of posts at a board with these pages
-pub new_seats : (board : BoardId) (z : Opening) (pages : List Page) (seats : List WorkerSeat) → z.marks ≡ marks_of pages → AreFresh board z seats → AreNewSeats board pages seats
-new_seats board z pages seats marks fresh worker seat at =
-    let f = fresh worker seat at in (
-      f.0,
-      record {
-        is_his = ap (λ (v : WorkerSeatView). v.worker) f.1;
-        marks = ap (λ (v : WorkerSeatView). v.opening.marks) f.1 ∙ marks;
-        fresh = f.2;
-      },
-    )
 
 -- each page's count is small
 pub counts_small : (pages : List Page) → ArePages pages → (k d : ℕ) → k < length (counts_of pages) → get_or (counts_of pages) k d ≤ 10 ^ 18

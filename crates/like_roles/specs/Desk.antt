@@ -11,9 +11,8 @@ use Rattle.like_tables.specs.Waiting.{IsWaiting}
 use Rattle.like_tables.specs.declared.held.Held.{Held}
 use Rattle.like_roles.specs.declared.desk.Desk.{Desk}
 use Rattle.like_requests.specs.declared.setup.Setup.{Setup}
-use Rattle.like_tables.specs.Share.{share_of, worker_of}
+use Rattle.like_tables.specs.Share.{dealt, share_of, submitter_of, worker_of}
 use Rattle.like_tables.specs.UserTable.{table_without_likes}
-use Rattle.like_roles.specs.New.{AreOwnSizes}
 use Rattle.like_requests.specs.Pages.{marks_of}
 use Rattle.like_requests.specs.Setup.{IsThere}
 use Rattle.like_roles.specs.WorkerView.{WorkerView, IsSliceInSplit, has_to_wait}
@@ -113,7 +112,8 @@ pub record IsNewDesk (s : Setup) (sizes : List ℕ) (worker : ℕ) (d : Desk) : 
   pub held : d.held ≡ record { held = []; capacity = s.stash }
   pub slice : d.slice ≡ replicate (length s.pages) 0
   pub ended : d.ended.items ≡ replicate (length d.left.items) false
-  pub left : AreOwnSizes sizes s.workers worker d.left.items
+  pub left : d.left.items ≡ dealt s.workers worker sizes
+  pub there : (place : ℕ) → place < length d.left.items → submitter_of s.workers worker place < length sizes
   pub few : sum d.left.items ≤ 64000000
   pub cursor : d.cursor ≡ 0
   pub pending : d.pending ≡ None

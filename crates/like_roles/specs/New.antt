@@ -1,11 +1,11 @@
 -- A worker that was just made.
-use Rattle.std.specs.Prelude.{◌≡◌, ℕ, ◌+◌, ◌*◌, ◌<◌, ◌↔◌, false, List, [], length, replicate, slice_index, slice_get, Some, None}
+use Rattle.std.specs.Prelude.{◌≡◌, ℕ, false, List, [], length, replicate, slice_get, Some, None}
 use Rattle.like_requests.specs.Pages.{Page, marks_of}
 use Rattle.like_requests.specs.declared.setup.Setup.{Setup}
 use Rattle.like_core.specs.Post.{PostView, IsFresh}
 use Rattle.like_board.specs.declared.worker_seat.WorkerSeat.{WorkerSeat}
 use Rattle.like_board.specs.Seats.{BoardId, seat_board, seat_meaning}
-use Rattle.like_tables.specs.Share.{share_of}
+use Rattle.like_tables.specs.Share.{dealt, share_of}
 use Rattle.like_tables.specs.UserTable.{table_without_likes}
 use Rattle.like_roles.specs.WorkerView.{WorkerView}
 
@@ -21,17 +21,12 @@ AreNewSeats board pages seats =
     (worker : ℕ) (seat : WorkerSeat) → slice_get seats worker ≡ Some seat
     → (seat_board seat ≡ board) × IsPostOf worker pages (seat_meaning seat)
 
--- the numbers of requests of a worker's submitters, by place
-pub record AreOwnSizes (sizes : List ℕ) (workers worker : ℕ) (own : List ℕ) : Type 0 where
-  pub each : (place : ℕ) → place < length own → slice_index own place ≡ slice_index sizes (worker + workers * place)
-  pub all : (place : ℕ) → (place < length own) ↔ (worker + workers * place < length sizes)
-
 -- a worker that has done nothing yet
 pub record IsNew (s : Setup) (sizes : List ℕ) (worker : ℕ) (post : PostView) (v : WorkerView) : Type 0 where
   pub at_post : v.post ≡ post
   pub held : v.held ≡ record { held = []; capacity = s.stash }
   pub slice : v.slice ≡ replicate (length s.pages) 0
-  pub left : AreOwnSizes sizes s.workers worker v.left
+  pub left : v.left ≡ dealt s.workers worker sizes
   pub ended : v.ended ≡ replicate (length v.left) false
   pub cursor : v.cursor ≡ 0
   pub pending : v.pending ≡ None

@@ -93,6 +93,13 @@ impl<P: Post> Worker<P> {
         self.desk.give(&mut self.post, gate, taken)
     }
 
+    /// Leaves the post, whatever is left to do.
+    pub fn leave(self) -> P
+        ensures { P.view result ≡ self.post }
+    {
+        self.post
+    }
+
     /// Takes a worker that is gone apart: what it has done, and its post.
     pub fn finish(self) -> (WorkerLog, P)
         requires { self.post.state ≡ Gone }

@@ -1,5 +1,5 @@
 -- What a worker and its inboxes leave when the worker is gone, and how they begin.
-use Rattle.std.proofs.Common.{◌≡◌, ℕ, ◌+◌, ◌*◌, ◌<◌, Bool, true, false, cond, List, [], length, get_or, slice_get, Option, Some, None, refl, sym, ap, ◌∙◌, subst, arith, inl, inr, option_map, IfSome}
+use Rattle.std.proofs.Common.{◌≡◌, ◌↔◌, ℕ, ◌+◌, ◌*◌, ◌<◌, ◌≤◌, Bool, true, false, cond, List, [], length, get_or, slice_get, Option, Some, None, refl, sym, ap, ◌∙◌, subst, arith, inl, inr, option_map, IfSome}
 use Rattle.std.specs.List.{All, range_with_len}
 use Rattle.std.specs.Option.{option_map_or, unwrap_or}
 use Rattle.std.proofs.lemmas.Bool.{cases_Bool, cases_lt, le-ltb, ltb-true}
@@ -11,9 +11,10 @@ use Rattle.like_requests.specs.declared.request.Request.{Request}
 use Rattle.like_requests.specs.declared.setup.Setup.{Setup}
 use Rattle.like_core.specs.Post.{PostView}
 use Rattle.like_tables.specs.UserTable.{UserTable}
-use Rattle.like_tables.specs.Share.{share_of}
+use Rattle.like_tables.specs.Share.{dealt, share_of}
+use Rattle.like_tables.proofs.Dealt.{get-dealt, there-dealt}
 use Rattle.like_roles.specs.declared.log.Took.{Took}
-use Rattle.like_roles.specs.New.{AreOwnSizes, IsNew, IsPostOf}
+use Rattle.like_roles.specs.New.{IsNew, IsPostOf}
 use Rattle.like_requests.specs.Pages.{marks_of}
 use Rattle.like_queue.specs.Inbox.{Inbox}
 use Rattle.like_tables.specs.Share.{Share, serves}
@@ -76,18 +77,20 @@ nothing-given s inboxes untouched place = by_inbox (slice_get inboxes place) ref
       omega (arith, none)
 
 -- there are as many numbers of requests as inboxes
-same-length : (own : List ℕ) (inboxes : List Inbox) (sizes : List ℕ) (number workers : ℕ) → AreOwnSizes sizes workers number own
+same-length : (own : List ℕ) (inboxes : List Inbox) (sizes : List ℕ) (number workers : ℕ) → 1 ≤ workers → own ≡ dealt workers number sizes
     → ((place : ℕ) → option_map length (option_map (λ (x : Inbox). x.plan) (slice_get inboxes place)) ≡ slice_get sizes (number + workers * place)) → length own ≡ length inboxes
-same-length own inboxes sizes number workers o sized =
+same-length own inboxes sizes number workers positive is sized =
+    let all : (place : ℕ) → (place < length own) ↔ (number + workers * place < length sizes) =
+    λ place. subst (λ (xs : List ℕ). (place < length xs) ↔ (number + workers * place < length sizes)) (sym is) (there-dealt workers number sizes place positive) in
     elim (cases_lt (length own) (length inboxes)) [
       | inl more ↦
           let some : slice_get inboxes (length own) ≡ Some (get_or inboxes (length own) nobody) = slice_get-get_or inboxes (length own) nobody more in
           let size = slice_get_within sizes (number + workers * length own) _ (sym (sized (length own)) ∙ ap (λ i. option_map length (option_map (λ (x : Inbox). x.plan) i)) some) in
-          absurd (omega (arith, (o.all (length own)).1 size))
+          absurd (omega (arith, (all (length own)).1 size))
       | inr less ↦
           elim (cases_lt (length inboxes) (length own)) [
             | inl fewer ↦
-                let there : number + workers * length inboxes < length sizes = (o.all (length inboxes)).0 fewer in
+                let there : number + workers * length inboxes < length sizes = (all (length inboxes)).0 fewer in
                 let some : slice_get sizes (number + workers * length inboxes) ≡ Some (get_or sizes (number + workers * length inboxes) 0) = slice_get-get_or sizes (number + workers * length inboxes) 0 there in
                 absurd (cc (ap (λ i. option_map length (option_map (λ (x : Inbox). x.plan) i)) (slice_get_past inboxes (length inboxes) (omega arith)), sized (length inboxes), some))
             | inr same ↦ omega (arith, less, same)
@@ -108,7 +111,8 @@ agree-new s sizes number post v inboxes is_worker fresh i new =
     let marks : v.post.marks ≡ marks_of s.pages = ap (λ (x : PostView). x.marks) new.at_post ∙ fresh.marks in
     let sized : (place : ℕ) → option_map length (option_map (λ (x : Inbox). x.plan) (slice_get inboxes place)) ≡ slice_get sizes (number + s.workers * place) =
     λ place. sym (ap (option_map length) (slice_get-map (λ (x : Inbox). x.plan) inboxes place)) ∙ sym (slice_get-map length (plans_of inboxes) place) ∙ i.sized place in
-    let lefts : length v.left ≡ length inboxes = same-length v.left inboxes sizes number s.workers new.left sized in
+    let positive : 1 ≤ s.workers = omega (arith, is_worker) in
+    let lefts : length v.left ≡ length inboxes = same-length v.left inboxes sizes number s.workers positive new.left sized in
     let places : length v.ended ≡ length inboxes = ap (λ (xs : List Bool). length xs) new.ended ∙ length-replicate (length v.left) false ∙ lefts in
     record {
       is_worker = rw share is_worker;
@@ -120,7 +124,7 @@ agree-new s sizes number post v inboxes is_worker fresh i new =
           let plan : IsPlan s.pages j.plan = subst (λ (x : Inbox). IsPlan s.pages x.plan) (get_or_from_slice_get inboxes place j j e) (i.plans place j within) in
           let size : slice_get sizes (number + s.workers * place) ≡ Some (length j.plan) = sym (sized place) ∙ ap (λ o. option_map length (option_map (λ (x : Inbox). x.plan) o)) e in
           let left : get_or v.left place 0 ≡ length j.plan =
-          new.left.each place (omega (arith, within, lefts)) ∙ get_or_from_slice_get sizes (number + s.workers * place) (length j.plan) 0 size in
+          get_or_from_slice_get v.left place (length j.plan) 0 (ap (λ (xs : List ℕ). slice_get xs place) new.left ∙ (get-dealt s.workers number sizes place positive ∙ size)) in
           record {
             left = omega (arith, left, none);
             ended = ap (λ xs. get_or xs place true) new.ended ∙ get_or-replicate (length v.left) place false true (omega (arith, within, lefts)) ∙ sym (le-ltb (length j.plan) j.taken (omega (arith, none)));

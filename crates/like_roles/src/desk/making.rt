@@ -1,15 +1,11 @@
-ghost use Rattle.std.specs.Prelude.{◌≡◌, ◌<◌, ◌≤◌, ◌^◌, All, IfOk, length, replicate, sum, vec_len, vec_capacity, false, [], None};
+ghost use Rattle.std.specs.Prelude.{◌≡◌, ℕ, ◌<◌, ◌≤◌, ◌^◌, All, IfOk, length, replicate, sum, vec_len, vec_capacity, false, [], None};
 ghost use Rattle.like_requests.specs.Limits.{max_requests, max_submitters};
-ghost use Rattle.like_requests.specs.Pages.{ArePages};
-ghost use Rattle.like_tables.specs.Share.{share_of};
-ghost use Rattle.like_tables.specs.UserTable.{table_without_likes};
+ghost use Rattle.like_tables.specs.Share.{dealt, submitter_of};
 ghost use Rattle.like_requests.specs.Setup.{IsWithin};
-ghost use Rattle.like_roles.specs.New.{AreOwnSizes};
-ghost use Rattle.like_requests.specs.Pages.{marks_of};
 ghost use Rattle.like_roles.specs.Desk.{IsNewDesk};
 
 use crate::desk::Desk;
-use like_requests::{Pages, Setup};
+use like_requests::Setup;
 use like_tables::{Slice, Stash, Users};
 use std::alloc::{AllocError, Global};
 
@@ -28,7 +24,7 @@ impl Desk {
             submitters,
             workers: setup.workers,
             worker,
-            marks: marks(alloc, &setup.pages)?,
+            marks: setup.pages.marks(alloc)?,
             phase: 0,
             started: false,
             gone: false,
@@ -57,7 +53,8 @@ fn own_sizes(
     requires few_submitters { length sizes.now ≤ max_submitters }
     requires is_worker { worker < workers }
     requires small { All (λ n. n ≤ max_requests) sizes.now }
-    ensures sizes { IfOk result (λ own. AreOwnSizes sizes.now workers worker own.items) }
+    ensures sizes { IfOk result (λ own. own.items ≡ dealt workers worker sizes.now) }
+    ensures there { IfOk result (λ own. (place : ℕ) → place < length own.items → submitter_of workers worker place < length sizes.now) }
     ensures few { IfOk result (λ own. sum own.items ≤ 64000000) }
 {
     let mut own = Vec::new(alloc);
@@ -67,16 +64,4 @@ fn own_sizes(
         submitter += workers as usize;
     }
     Ok(own)
-}
-
-// Whether each page is marked as split.
-fn marks(alloc: Global, pages: &Pages) -> Result<Vec<bool>, AllocError>
-    ensures marks { IfOk result (λ marks. marks.items ≡ marks_of pages.now) }
-    ensures pages { ArePages pages.now }
-{
-    let mut marks = Vec::with_capacity(alloc, pages.len() as usize)?;
-    for page in 0..pages.len() {
-        marks.push(pages.split(page))?;
-    }
-    Ok(marks)
 }

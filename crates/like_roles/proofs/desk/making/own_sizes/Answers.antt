@@ -1,7 +1,7 @@
 use Rattle.std.proofs.Common.{◌≡◌, ◌+◌, ◌∷◌, [], ◌++◌, length, get_or, sum, ◌∙◌, arith, mul-le-mul_right}
 use Rattle.std.proofs.lemmas.List.{length-append}
 use Rattle.std.proofs.lemmas.List.Sums.{sum_by-append}
-use Rattle.like_roles.proofs.Made.{own-at, own-each, own-there}
+use Rattle.like_roles.proofs.Made.{own-at, own-dealt, own-each, own-there}
 use Rattle.like_roles.proofs.desk.making.own_sizes.Goals as goal
 
 pub loop-submitter-preserved : goal.loop-submitter-preserved
@@ -23,3 +23,9 @@ loop-submitter-preserved c =
       short = omega (arith, i.at);
       few = omega (arith, i.few);
     })
+
+pub returns-clause-sizes : goal.returns-clause-sizes
+returns-clause-sizes c =
+    let i = c.loop-submitter.invariant in
+    own-dealt c.args.sizes.now c.loop-submitter.own.items c.args.workers c.args.worker c.requires.some i.each i.there
+    (omega (arith, i.at, c.loop-submitter-test.false))
