@@ -1,1 +1,3 @@
 pub mod Inbox
+pub mod Line
+pub mod Rule

@@ -1,9 +1,24 @@
-//! How requests reach the workers.
+//! How requests reach the workers: as a list that is opened by and by, or through a queue between two threads.
 #![tactic(auto)]
 
+mod inbox;
+mod known;
+mod line;
 mod list_inbox;
-
-pub use list_inbox::ListInbox;
-
+mod refused;
+mod rule;
+mod send_end;
+mod send_pass;
+mod take_end;
+mod take_pass;
 #[cfg(test)]
 mod tests;
+
+pub use inbox::{Inbox, TakeWith};
+pub use line::Line;
+pub use list_inbox::ListInbox;
+pub use refused::{EndRefused, PushRefused};
+pub use send_end::SendEnd;
+pub use send_pass::SendPass;
+pub use take_end::TakeEnd;
+pub use take_pass::TakePass;

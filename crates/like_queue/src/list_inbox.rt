@@ -2,6 +2,7 @@ ghost use Rattle.std.specs.Prelude.{◌≡◌, ◌+◌, ◌<◌, ◌≤◌, leng
 ghost use Rattle.like_queue.specs.Inbox.{Takes, item_count};
 ghost use Rattle.like_requests.specs.Limits.{max_requests};
 
+use crate::inbox::{Inbox, TakeWith};
 use like_requests::{Numbered, Request, Taken};
 use std::marker::Model;
 
@@ -24,7 +25,8 @@ impl Model for ListInbox {
 
     ghost view = { λ i. record { plan = i.plan.items; opened = i.opened; taken = i.taken } };
 
-    ghost invariant = { λ i. (length i.plan.items ≤ max_requests) × (i.taken ≤ i.opened) × (i.opened ≤ item_count i.plan.items) };
+    ghost invariant = { λ i. let plan = i.plan.items in
+        (length plan ≤ max_requests) × (i.taken ≤ i.opened) × (i.opened ≤ item_count plan) };
 }
 
 impl ListInbox {
@@ -78,5 +80,17 @@ impl ListInbox {
             }),
             None => Taken::End,
         }
+    }
+}
+
+impl Inbox for ListInbox {
+    ghost use Rattle.like_queue.specs.Inbox.{view_of};
+
+    ghost view = { view_of };
+}
+
+impl<R> TakeWith<R> for ListInbox {
+    fn take_with(&mut self, _rt: &R) -> Taken {
+        self.take()
     }
 }
