@@ -13,3 +13,4 @@ pub mod InOrder
 pub mod Meanings
 pub mod Opens
 pub mod Allowed
+mod FirstAdds

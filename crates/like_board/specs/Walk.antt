@@ -5,6 +5,7 @@ use Rattle.like_core.specs.declared.sight.CoordSight.{CoordSight}
 use Rattle.like_core.specs.declared.opening.Opening.{Opening}
 use Rattle.like_core.specs.declared.view.Addition.{Addition}
 use Rattle.like_core.specs.declared.view.WorkerSeatView.{WorkerSeatView}
+use Rattle.like_core.specs.Post.{PostView}
 
 -- a board of two workers and one page, which is split and begins at 10
 abbrev pub walk : Opening
@@ -29,3 +30,8 @@ pub record Walks (v : WorkerSeatView) (worker : ℕ) (state : WorkerState) (addi
   pub state_is : v.state ≡ state
   pub opening_is : v.opening ≡ walk
   pub additions_are : v.additions ≡ additions
+
+-- all but the state and the last sight of a post is as before
+pub record KeepsBoard (old new : PostView) : Type 0 where
+  pub marks : new.marks ≡ old.marks
+  pub additions : new.additions ≡ old.additions

@@ -1,9 +1,11 @@
 ghost use Rattle.std.specs.Prelude.{◌≡◌, ◌≢◌, ◌+◌, ◌<◌, [], ◌∷◌, IfOk, vec_len};
 ghost use Rattle.like_core.specs.declared.worker_state.WorkerState.TheVariants.{Runs, Answered, Gone};
-ghost use Rattle.like_core.specs.Post.{IsFresh, pages_of};
+ghost use Rattle.like_core.specs.Post.{IsFresh};
 ghost use Rattle.like_core.specs.Views.{looked_view, looked_coord};
 ghost use Rattle.like_board.specs.Seats.{board_id, coord_board, coord_view, seat_board, seat_view, post_board, post_view, post_meaning, AreFresh};
 ghost use Rattle.like_board.specs.Walk.{walk, addition, sight, coord_sight, Walks};
+
+mod posts;
 
 use crate::{Board, BoardPost, CoordSeat, WorkerSeat};
 use like_core::Post;
@@ -168,14 +170,6 @@ fn last_post<'a>(
     seats.pop().expect(rt, "a seat is there").at(board)
 }
 
-// Runs the first like of a post, of which it knows the trait alone. Returns the count before.
-fn like<P: Post>(post: &mut P) -> u64
-    requires fresh { IsFresh (P.view post.old) }
-    requires page { 0 < pages_of (P.view post.old) }
-{
-    post.add(0, 1)
-}
-
 // All seats are given back. What the page has at the end is its count at the start and the three likes.
 fn ends(
     alloc: Global,
@@ -213,15 +207,5 @@ fn walks_through_three_phases(rt: HostRuntime) -> Result<(), Fail> {
     let first = first.back();
     let second = second.back();
     assert_eq!(rt; ends(rt.alloc(), board, coord, first, second)?, 13);
-    Ok(())
-}
-
-#[test]
-fn likes_through_the_trait(rt: HostRuntime) -> Result<(), Fail> {
-    let (board, _coord, mut seats) = Board::new(rt.alloc(), 2, &[10], &[true])?;
-    let mut second = last_post(&rt, &mut seats, &board, 1);
-    let mut first = last_post(&rt, &mut seats, &board, 0);
-    assert_eq!(rt; like(&mut first), 10);
-    assert_eq!(rt; like(&mut second), 11);
     Ok(())
 }

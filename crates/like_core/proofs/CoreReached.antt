@@ -42,10 +42,6 @@ keeps_reachable_all old new events may now z r =
 pub keeps_reachable : (old new : Core) (event : Event) → Permits (numbers_of old) event → numbers_of new ≡ next (numbers_of old) event → KeepsReachable old new
 keeps_reachable old new event may now = keeps_reachable_all old new (event ∷ []) (may, tt) now
 
--- a core that is as before stays reachable
-pub stays_reachable : (old new : Core) → new ≡ old → KeepsReachable old new
-stays_reachable old new same z r = subst (λ (core : Core). IsReachable core z) (sym same) r
-
 -- each state for which a reachable core stands is exclusive
 pub core_is_exclusive : (core : Core) → IsCoreExclusive core
 core_is_exclusive core z s r stands =

@@ -13,9 +13,6 @@ pub mod Reached
 pub mod InPhase
 pub mod GivenLikes
 pub mod CoreReached
-pub mod LoneLooks
-pub mod LoneSteps
-pub mod LoneAdds
 pub mod Below
 pub mod Masks
 pub mod Unanswered

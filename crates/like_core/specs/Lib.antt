@@ -20,4 +20,3 @@ pub mod Tallies
 pub mod Shows
 pub mod Actions
 pub mod Post
-pub mod Lone

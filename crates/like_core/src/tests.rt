@@ -1,6 +1,3 @@
-mod lone;
-mod posts;
-
 use crate::{CoordSight, Core, Event, Kind, NotNow, PhaseWord, Shown, Sight, Wrong, check_events};
 use std::test::Fail;
 
@@ -55,6 +52,16 @@ fn refuses_retirement_in_split_phase(rt: HostRuntime) -> Result<(), Fail> {
 fn refuses_like_of_full_page(rt: HostRuntime) -> Result<(), Fail> {
     let mut core = Core::new(rt.alloc(), 1, &[9_223_372_036_854_775_807], &[false])?;
     assert_eq!(rt; core.step(Event::Like(0, 0)), Err(NotNow::Full));
+    Ok(())
+}
+
+#[test]
+fn holds_the_most_workers_and_pages(rt: HostRuntime) -> Result<(), Fail> {
+    let mut core = Core::new(rt.alloc(), 16, &[7; 1_024], &[false; 1_024])?;
+    assert_eq!(rt; core.step(Event::Like(15, 1_023)), Ok(Shown::Old(7)));
+    assert_eq!(rt; core.step(Event::Read(15, 1_023)), Ok(Shown::Count(8)));
+    assert_eq!(rt; core.step(Event::Look(16)), Err(NotNow::NoSuch));
+    assert_eq!(rt; core.step(Event::Read(15, 1_024)), Err(NotNow::NoSuch));
     Ok(())
 }
 

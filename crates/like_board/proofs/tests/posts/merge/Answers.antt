@@ -2,8 +2,8 @@ use Rattle.std.proofs.Common.{subst, sym, ap}
 use Rattle.like_core.specs.declared.worker_state.WorkerState.{WorkerState}
 use Rattle.like_core.specs.WorkerState.{seen}
 use Rattle.like_core.specs.Post.{PostView, MayAdd, looked_at}
-use Rattle.like_core.proofs.LoneAdds.{may_merge, not_false}
-use Rattle.like_core.proofs.tests.posts.merge.Goals as goal
+use Rattle.like_board.proofs.FirstAdds.{may_merge, not_false}
+use Rattle.like_board.proofs.tests.posts.merge.Goals as goal
 
 pub add-requires : goal.add-requires
 add-requires g c =
