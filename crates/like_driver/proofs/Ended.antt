@@ -5,12 +5,12 @@ use Rattle.like_requests.specs.Setup.{IsWithinLimits}
 use Rattle.like_requests.specs.declared.request.Request.{Request}
 use Rattle.like_replies.specs.declared.write_fault.WriteFault.{WriteFault}
 use Rattle.like_replies.specs.declared.write_fault.WriteFault.TheVariants as write
-use Rattle.like_run.specs.Replayed as run
-use Rattle.like_run.specs.declared.replay_fault.ReplayFault.{ReplayFault}
-use Rattle.like_run.specs.declared.replay_fault.ReplayFault.TheVariants as why
-use Rattle.like_run.specs.Run as on_threads
-use Rattle.like_run.specs.declared.run_fault.RunFault.{RunFault}
-use Rattle.like_run.specs.declared.run_fault.RunFault.TheVariants as threads
+use Rattle.like_run.specs.Rounds as run
+use Rattle.like_run.specs.declared.rounds.fault.ReplayFault.{ReplayFault}
+use Rattle.like_run.specs.declared.rounds.fault.ReplayFault.TheVariants as why
+use Rattle.like_run.specs.Threads as on_threads
+use Rattle.like_run.specs.declared.threads.fault.RunFault.{RunFault}
+use Rattle.like_run.specs.declared.threads.fault.RunFault.TheVariants as threads
 use Rattle.like_script.specs.declared.turned.Turned.{Turned}
 use Rattle.like_driver.specs.declared.options.Options.{Options}
 use Rattle.like_driver.specs.Faults.{fault_of, fault_of_replay, fault_of_run}

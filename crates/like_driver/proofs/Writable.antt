@@ -29,7 +29,7 @@ use Rattle.like_replies.specs.Entries.{answer_of, entries_in, entries_of, is_of}
 use Rattle.like_replies.specs.Reported.{reported}
 use Rattle.like_replies.specs.Rows.{IsShowable, IsWritable}
 use Rattle.like_tables.specs.Share.{worker_of}
-use Rattle.like_run.specs.EndToEnd.{IsEndToEnd, run_of}
+use Rattle.like_crew.specs.EndToEnd.{IsEndToEnd, run_of}
 
 -- what holds of each element by its place holds of all
 all_from_get : {X : Type 0} (P : X → Type 0) (xs : List X) → ((i : ℕ) (x : X) → slice_get xs i ≡ Some x → P x) → AllByRecursion P xs

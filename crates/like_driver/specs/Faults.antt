@@ -12,10 +12,10 @@ use Rattle.like_driver.specs.declared.parse_fault.ParseFault.{ParseFault}
 use Rattle.like_driver.specs.declared.parse_fault.ParseFault.TheVariants as parse
 use Rattle.like_replies.specs.declared.write_fault.WriteFault.{WriteFault}
 use Rattle.like_replies.specs.declared.write_fault.WriteFault.TheVariants as write
-use Rattle.like_run.specs.declared.replay_fault.ReplayFault.{ReplayFault}
-use Rattle.like_run.specs.declared.replay_fault.ReplayFault.TheVariants as replay
-use Rattle.like_run.specs.declared.run_fault.RunFault.{RunFault}
-use Rattle.like_run.specs.declared.run_fault.RunFault.TheVariants as run
+use Rattle.like_run.specs.declared.rounds.fault.ReplayFault.{ReplayFault}
+use Rattle.like_run.specs.declared.rounds.fault.ReplayFault.TheVariants as replay
+use Rattle.like_run.specs.declared.threads.fault.RunFault.{RunFault}
+use Rattle.like_run.specs.declared.threads.fault.RunFault.TheVariants as run
 use Rattle.like_script.specs.declared.file.ScriptFault.{ScriptFault}
 use Rattle.like_script.specs.declared.file.ScriptFault.TheVariants as script
 

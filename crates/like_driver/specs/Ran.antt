@@ -7,11 +7,11 @@ use Rattle.like_requests.specs.declared.request.Request.{Request}
 use Rattle.like_replies.specs.Reported.{reported}
 use Rattle.like_replies.specs.Rows.{report_text}
 use Rattle.like_replies.specs.declared.report.Report.{Report}
-use Rattle.like_run.specs.EndToEnd.{IsEndToEnd}
-use Rattle.like_run.specs.Made.{service_of}
-use Rattle.like_run.specs.Run as run
-use Rattle.like_run.specs.declared.run_fault.RunFault.{RunFault}
-use Rattle.like_run.specs.declared.run_fault.RunFault.TheVariants as why
+use Rattle.like_crew.specs.EndToEnd.{IsEndToEnd}
+use Rattle.like_crew.specs.Asked.{service_of}
+use Rattle.like_run.specs.Threads as run
+use Rattle.like_run.specs.declared.threads.fault.RunFault.{RunFault}
+use Rattle.like_run.specs.declared.threads.fault.RunFault.TheVariants as why
 use Rattle.like_driver.specs.declared.fault.DriverFault.{DriverFault}
 use Rattle.like_driver.specs.declared.fault.DriverFault.TheVariants.{Pages, Requests, Script, Settings, Start, Unfinished, Write, Memory}
 use Rattle.like_driver.specs.declared.options.Options.{Options}

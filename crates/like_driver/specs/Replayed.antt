@@ -7,12 +7,12 @@ use Rattle.like_requests.specs.declared.setup.Setup.{Setup}
 use Rattle.like_replies.specs.Reported.{reported}
 use Rattle.like_replies.specs.Rows.{report_text}
 use Rattle.like_replies.specs.declared.report.Report.{Report}
-use Rattle.like_run.specs.EndToEnd.{IsEndToEnd}
-use Rattle.like_run.specs.Made.{service_of}
-use Rattle.like_run.specs.Replayed.{Fits}
-use Rattle.like_run.specs.Replayed as run
-use Rattle.like_run.specs.declared.replay_fault.ReplayFault.{ReplayFault}
-use Rattle.like_run.specs.declared.replay_fault.ReplayFault.TheVariants as why
+use Rattle.like_crew.specs.EndToEnd.{IsEndToEnd}
+use Rattle.like_crew.specs.Asked.{service_of}
+use Rattle.like_run.specs.Rounds.{Fits}
+use Rattle.like_run.specs.Rounds as run
+use Rattle.like_run.specs.declared.rounds.fault.ReplayFault.{ReplayFault}
+use Rattle.like_run.specs.declared.rounds.fault.ReplayFault.TheVariants as why
 use Rattle.like_script.specs.declared.file.ScriptFault.{ScriptFault}
 use Rattle.like_script.specs.declared.turned.Turned.{Turned}
 use Rattle.like_driver.specs.declared.fault.DriverFault.{DriverFault}

@@ -1,12 +1,2 @@
-pub mod Dealt
-pub mod EndToEnd
-pub mod Gathered
-pub mod Left
-pub mod Log
-pub mod Made
-pub mod Prepared
-pub mod Replayed
-pub mod Run
-pub mod Served
-pub mod Server
-pub mod Stage
+pub mod Rounds
+pub mod Threads

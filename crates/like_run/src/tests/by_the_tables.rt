@@ -36,13 +36,13 @@ impl List<'_> {
     }
 }
 
-// What a run has beside its workers: its settings, how many submitters there are, the one page that is split in odd
-// phases, the core, the coordinator's turns left, and the lists.
+// What a run has beside its workers: its settings, how many submitters there are, which pages are split in odd phases,
+// the core, the coordinator's turns left, and the lists.
 #[derive(Drop)]
 struct Shared<'a> {
     setup: &'a Setup,
     submitters: u32,
-    split: u32,
+    split: [bool; 4],
     core: Core,
     turns_left: u32,
     lists: Vec<List<'a>>,
@@ -66,6 +66,13 @@ impl Shared<'_> {
             self.turns_left = self.setup.turns;
         }
         Ok(None)
+    }
+
+    fn is_split(&self, page: PageRef) -> bool {
+        match page {
+            PageRef::Known(page) => self.split.get(page as usize) == Some(&true),
+            PageRef::Unknown => false,
+        }
     }
 
     fn verdict(&self, held: &Held) -> Verdict {
@@ -163,7 +170,11 @@ impl Player {
     // The core keeps the worker's slice, and refuses a report before it is merged.
     fn split_turn(&mut self, shared: &mut Shared<'_>, ending: bool) -> Result<(), Fail> {
         if ending {
-            shared.core.step(Event::Merge(self.worker, shared.split))?;
+            for page in 0..4 {
+                if shared.is_split(PageRef::Known(page)) {
+                    shared.core.step(Event::Merge(self.worker, page))?;
+                }
+            }
             shared.core.step(Event::Report(self.worker))?;
             self.answered = true;
         } else if self.stash.len() < shared.setup.stash as usize {
@@ -194,7 +205,7 @@ impl Player {
             number: held.ask.number,
         })?;
         let request = held.ask.request;
-        let split = request.page == PageRef::Known(shared.split) && self.phase % 2 == 1;
+        let split = self.phase % 2 == 1 && shared.is_split(request.page);
         if split && request.op == Op::Look && shared.verdict(&held) == Verdict::Accepted {
             self.stash.push_back(held)?;
             return Ok(());
@@ -290,12 +301,12 @@ fn lists_of(alloc: Global, plans: &[Vec<Request>]) -> Result<Vec<List<'_>>, Allo
     Ok(lists)
 }
 
-/// Plays a script, and then rounds, with two pages of 10 and 20 likes of which one is split. Gives the workers, and the
-/// phase in which the run ended.
+/// Plays a script, and then rounds, with four pages of 10, 20, 30 and 40 likes of which these are split. Gives the
+/// workers, and the phase in which the run ended.
 pub fn play(
     alloc: Global,
     setup: &Setup,
-    split: u32,
+    split: [bool; 4],
     plans: &[Vec<Request>],
     script: &[Turned],
 ) -> Result<(Vec<Player>, u32), Fail>
@@ -307,7 +318,7 @@ pub fn play(
         setup,
         submitters,
         split,
-        core: Core::new(alloc, setup.workers, &[10, 20], &[split == 0, split == 1])?,
+        core: Core::new(alloc, setup.workers, &[10, 20, 30, 40], &split)?,
         turns_left: setup.turns,
         lists: lists_of(alloc, plans)?,
     };

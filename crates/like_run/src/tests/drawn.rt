@@ -26,18 +26,33 @@ impl Draws {
     }
 }
 
-// The settings of a run with two pages, of which this one is split.
-fn draw_setup(alloc: Global, draws: &mut Draws, split: u32) -> Result<Setup, Fail>
+fn yes_or_no(yes: bool) -> &'static str {
+    if yes { "yes" } else { "no" }
+}
+
+fn draw_marks(draws: &mut Draws) -> [bool; 4] {
+    let a = draws.below(3) == 0;
+    let b = draws.below(3) == 0;
+    let c = draws.below(3) == 0;
+    [a, b, c, draws.below(3) == 0]
+}
+
+// The settings of a run with four pages, of which these are split.
+fn draw_setup(alloc: Global, draws: &mut Draws, split: [bool; 4]) -> Result<Setup, Fail>
     ensures some { IfOk result (λ setup. 1 ≤ setup.workers) }
-    ensures few { IfOk result (λ setup. setup.workers ≤ 3) }
+    ensures few { IfOk result (λ setup. setup.workers ≤ 5) }
 {
-    let text = match split {
-        0 => "name,count,split\na,10,yes\nb,20,no\n",
-        _ => "name,count,split\na,10,no\nb,20,yes\n",
-    };
+    let [a, b, c, d] = split;
+    let text = format!(in alloc;
+        "name,count,split\na,10,{}\nb,20,{}\nc,30,{}\nd,40,{}\n",
+        yes_or_no(a),
+        yes_or_no(b),
+        yes_or_no(c),
+        yes_or_no(d)
+    )?;
     Ok(Setup {
-        workers: 1 + draws.below(3),
-        users: 6,
+        workers: 1 + draws.below(5),
+        users: 12,
         stash: 1 + draws.below(2),
         turns: draws.below(3),
         pages: read_pages(alloc, text.as_bytes())?,
@@ -53,13 +68,13 @@ fn draw_request(draws: &mut Draws, submitter: u32, submitters: u32) -> Request
         _ => Op::Look,
     };
     let user = match draws.below(4) {
-        0 => draws.below(8),
+        0 => draws.below(14),
         1 => submitter,
         _ => submitter + submitters,
     };
     let page = match draws.below(8) {
         0 => PageRef::Unknown,
-        other => PageRef::Known(other % 2),
+        other => PageRef::Known(other % 4),
     };
     Request { op, user, page }
 }
@@ -69,7 +84,7 @@ fn draw_plans(
     draws: &mut Draws,
     submitters: u32,
 ) -> Result<Vec<Vec<Request>>, AllocError>
-    requires { submitters ≤ 3 }
+    requires { submitters ≤ 7 }
 {
     let mut plans = Vec::new(alloc);
     for submitter in 0..submitters {
@@ -92,7 +107,7 @@ fn draw_script(
     requires submitters { 0 < submitters }
 {
     let mut script = Vec::new(alloc);
-    for _ in 0..draws.below(61) {
+    for _ in 0..draws.below(161) {
         script.push(match draws.below(4) {
             0 => Turned::OpenOne(draws.below(submitters)),
             1 => Turned::Coordinator,
@@ -106,9 +121,9 @@ fn draw_script(
 fn replays_by_the_tables(rt: HostRuntime) -> Result<(), Fail> {
     let mut draws = Draws { state: 1 };
     for case in 0..1_000 {
-        let split = draws.below(2);
+        let split = draw_marks(&mut draws);
         let setup = draw_setup(rt.alloc(), &mut draws, split)?;
-        let submitters = 1 + draws.below(3);
+        let submitters = 1 + draws.below(7);
         let plans = draw_plans(rt.alloc(), &mut draws, submitters)?;
         let script = draw_script(rt.alloc(), &mut draws, setup.workers, submitters)?;
         let (players, phases) = play(rt.alloc(), &setup, split, &plans, &script)?;

@@ -1,30 +1,11 @@
-//! Replays of scripts.
-use super::cases::{
-    Case, FULL_STASH, IDLE_WORKERS, LATE_WORKER, PLAIN_LIKES, SPLIT_AND_STASH, STASH_THEN_LIKE,
-    TWO_SLICES,
-};
+//! Replays of scripts: what the workers took and ran, refused scripts, and how long a replay may last.
+use super::cases::{Case, FULL_STASH, LATE_WORKER, SPLIT_AND_STASH, STASH_THEN_LIKE, TWO_SLICES};
 use crate::{ReplayFault, replay};
-use like_replies::{Answer, Report};
-use like_requests::{Op, PageRef, Request, SettingsFault, Setup, Verdict, read_pages};
-use like_roles::{Reply, Took};
+use like_replies::Report;
+use like_requests::{Op, PageRef, Request, SettingsFault, Setup, read_pages};
+use like_roles::Took;
 use std::alloc::Global;
 use std::process::Abort;
-
-fn answer(phase: u32, stashed: bool, reply: Reply) -> Answer {
-    Answer {
-        phase,
-        stashed,
-        reply,
-    }
-}
-
-fn liked(phase: u32) -> Answer {
-    answer(phase, false, Reply::Liked)
-}
-
-fn seen(phase: u32, stashed: bool, last: Option<u32>, count: u64) -> Answer {
-    answer(phase, stashed, Reply::Seen { last, count })
-}
 
 fn took(phase: u32, submitter: u32, number: u32) -> Took {
     Took {
@@ -32,27 +13,6 @@ fn took(phase: u32, submitter: u32, number: u32) -> Took {
         submitter,
         number,
     }
-}
-
-// Asserts that a replay ends in this phase, with these answers by submitter, counts and last likes.
-fn assert_report(
-    rt: &impl Abort,
-    alloc: Global,
-    case: &Case,
-    phases: u32,
-    rows: &[&[Answer]],
-    counts: &[u64],
-    last: &[Option<u32>],
-) -> Report {
-    let report = case.replay(rt, alloc).expect(rt, "a report");
-    assert_eq!(rt; report.phases, phases);
-    assert_eq!(rt; report.replies.rows.len(), rows.len());
-    for (shown, wanted) in report.replies.rows.iter().zip(rows) {
-        assert_eq!(rt; shown.as_slice(), *wanted);
-    }
-    assert_eq!(rt; report.counts.as_slice(), counts);
-    assert_eq!(rt; report.last.as_slice(), last);
-    report
 }
 
 // Asserts what a worker took, and in which order it ran that: phase, submitter, number and stashed.
@@ -75,99 +35,10 @@ fn assert_log(
 }
 
 #[test]
-fn plain_likes(rt: HostRuntime) {
-    assert_report(
-        &rt,
-        rt.alloc(),
-        &PLAIN_LIKES,
-        0,
-        &[&[liked(0), liked(0), liked(0)]],
-        &[13],
-        &[Some(0), Some(0)],
-    );
-}
-
-#[test]
-fn no_requests(rt: HostRuntime) {
-    let case = Case {
-        workers: 1,
-        users: 2,
-        stash: 256,
-        turns: 1_000,
-        pages: "a,10,no\n",
-        requests: &[""],
-        script: "",
-    };
-    assert_report(&rt, rt.alloc(), &case, 0, &[&[]], &[10], &[None, None]);
-}
-
-#[test]
-fn high_count(rt: HostRuntime) {
-    let case = Case {
-        workers: 1,
-        users: 1,
-        stash: 256,
-        turns: 1_000,
-        pages: "a,1000000000000000000,no\n",
-        requests: &["like,0,a\nlike,0,a\nlook,0,a\n"],
-        script: "",
-    };
-    assert_report(
-        &rt,
-        rt.alloc(),
-        &case,
-        0,
-        &[&[
-            liked(0),
-            liked(0),
-            seen(0, false, Some(0), 1_000_000_000_000_000_002),
-        ]],
-        &[1_000_000_000_000_000_002],
-        &[Some(0)],
-    );
-}
-
-#[test]
-fn verdicts(rt: HostRuntime) {
-    let case = Case {
-        workers: 1,
-        users: 2,
-        stash: 256,
-        turns: 1_000,
-        pages: "a,10,no\n",
-        requests: &["like,2,a\nlook,1,a\nlike,0,zz\nlike,3,zz\n", ""],
-        script: "",
-    };
-    assert_report(
-        &rt,
-        rt.alloc(),
-        &case,
-        0,
-        &[
-            &[
-                answer(0, false, Reply::Refused(Verdict::UnknownUser)),
-                answer(0, false, Reply::Refused(Verdict::OtherHome)),
-                answer(0, false, Reply::Refused(Verdict::UnknownPage)),
-                answer(0, false, Reply::Refused(Verdict::UnknownUser)),
-            ],
-            &[],
-        ],
-        &[10],
-        &[None, None],
-    );
-}
-
-#[test]
-fn split_and_stash(rt: HostRuntime) {
-    let report = assert_report(
-        &rt,
-        rt.alloc(),
-        &SPLIT_AND_STASH,
-        4,
-        &[&[liked(1), seen(2, true, Some(0), 11)]],
-        &[11],
-        &[Some(0), None],
-    );
+fn log_of_split_and_stash(rt: HostRuntime) {
+    let report = SPLIT_AND_STASH
+        .replay(&rt, rt.alloc())
+        .expect(&rt, "a report");
     assert_log(
         &rt,
         &report,
@@ -178,16 +49,8 @@ fn split_and_stash(rt: HostRuntime) {
 }
 
 #[test]
-fn late_worker(rt: HostRuntime) {
-    let report = assert_report(
-        &rt,
-        rt.alloc(),
-        &LATE_WORKER,
-        4,
-        &[&[], &[seen(2, true, None, 0), seen(2, true, None, 0)]],
-        &[0],
-        &[None, None],
-    );
+fn logs_of_late_worker(rt: HostRuntime) {
+    let report = LATE_WORKER.replay(&rt, rt.alloc()).expect(&rt, "a report");
     assert_log(&rt, &report, 0, &[], &[]);
     assert_log(
         &rt,
@@ -199,16 +62,10 @@ fn late_worker(rt: HostRuntime) {
 }
 
 #[test]
-fn stash_then_like(rt: HostRuntime) {
-    let report = assert_report(
-        &rt,
-        rt.alloc(),
-        &STASH_THEN_LIKE,
-        4,
-        &[&[seen(2, true, Some(1), 5), liked(1)]],
-        &[5, 1],
-        &[Some(1)],
-    );
+fn log_of_stash_then_like(rt: HostRuntime) {
+    let report = STASH_THEN_LIKE
+        .replay(&rt, rt.alloc())
+        .expect(&rt, "a report");
     assert_log(
         &rt,
         &report,
@@ -219,16 +76,8 @@ fn stash_then_like(rt: HostRuntime) {
 }
 
 #[test]
-fn full_stash(rt: HostRuntime) {
-    let report = assert_report(
-        &rt,
-        rt.alloc(),
-        &FULL_STASH,
-        4,
-        &[&[seen(2, true, None, 0), seen(2, false, None, 0)]],
-        &[0],
-        &[None],
-    );
+fn log_of_full_stash(rt: HostRuntime) {
+    let report = FULL_STASH.replay(&rt, rt.alloc()).expect(&rt, "a report");
     assert_log(
         &rt,
         &report,
@@ -239,38 +88,8 @@ fn full_stash(rt: HostRuntime) {
 }
 
 #[test]
-fn unsplit_in_split_phase(rt: HostRuntime) {
-    let case = Case {
-        workers: 1,
-        users: 1,
-        stash: 256,
-        turns: 0,
-        pages: "a,7,no\n",
-        requests: &["like,0,a\nlook,0,a\n"],
-        script: "o0 o0 c0 w0 c0 w0 w0",
-    };
-    assert_report(
-        &rt,
-        rt.alloc(),
-        &case,
-        2,
-        &[&[liked(1), seen(1, false, Some(0), 8)]],
-        &[8],
-        &[Some(0)],
-    );
-}
-
-#[test]
-fn two_slices(rt: HostRuntime) {
-    let report = assert_report(
-        &rt,
-        rt.alloc(),
-        &TWO_SLICES,
-        4,
-        &[&[liked(1), seen(2, true, Some(0), 102)], &[liked(1)]],
-        &[102],
-        &[Some(0), Some(0)],
-    );
+fn logs_of_two_slices(rt: HostRuntime) {
+    let report = TWO_SLICES.replay(&rt, rt.alloc()).expect(&rt, "a report");
     assert_log(
         &rt,
         &report,
@@ -279,19 +98,6 @@ fn two_slices(rt: HostRuntime) {
         &[(1, 0, 1, false), (2, 0, 2, true)],
     );
     assert_log(&rt, &report, 1, &[took(1, 1, 1)], &[(1, 1, 1, false)]);
-}
-
-#[test]
-fn idle_workers(rt: HostRuntime) {
-    assert_report(
-        &rt,
-        rt.alloc(),
-        &IDLE_WORKERS,
-        2,
-        &[&[liked(1)]],
-        &[1],
-        &[Some(0)],
-    );
 }
 
 #[test]

@@ -131,6 +131,63 @@ fn runs_workers_side_by_side(rt: HostRuntime) {
     assert_liked(&rt, &report, 2, 1, 2, 2);
 }
 
+// A gate that records the greatest phase that a worker enters, and holds each worker in phase 0 for so many looks.
+#[derive(Drop)]
+struct Record {
+    greatest: AtomicU32,
+    held: u32,
+}
+
+impl Gate for Record {
+    fn push(&self, _s: u32, _n: u32) {}
+
+    fn run(&self, _w: u32, _s: u32, _n: u32) {}
+
+    fn phase(&self, _w: u32, k: u32) {
+        self.greatest.fetch_max(k, Ordering::SeqCst);
+        if k > 0 {
+            return;
+        }
+        for _ in 0..self.held {
+            yield_now();
+        }
+    }
+}
+
+#[test]
+fn runs_phases_of_no_turns(rt: HostRuntime) {
+    let case = Case {
+        turns: 0,
+        ..ONE_PAGE
+    };
+    let setup = case.setup(&rt, rt.alloc());
+    let plans = likes(&rt, rt.alloc(), 2, 100);
+    let gate = Record {
+        greatest: AtomicU32::new(0),
+        held: 1 << 16,
+    };
+    let report = run(&rt, rt.alloc(), &setup, plans, &gate).expect(&rt, "a report");
+    assert!(rt; report.phases > 0);
+    assert_eq!(rt; report.phases, gate.greatest.load(Ordering::SeqCst));
+}
+
+#[test]
+fn runs_phases_of_many_turns(rt: HostRuntime) {
+    let case = Case {
+        turns: 1_000_000,
+        ..ONE_PAGE
+    };
+    let setup = case.setup(&rt, rt.alloc());
+    let plans = likes(&rt, rt.alloc(), 2, 3);
+    let gate = Record {
+        greatest: AtomicU32::new(0),
+        held: 0,
+    };
+    let report = run(&rt, rt.alloc(), &setup, plans, &gate).expect(&rt, "a report");
+    assert_eq!(rt; report.phases, 0);
+    assert_eq!(rt; gate.greatest.load(Ordering::SeqCst), 0);
+}
+
 #[test]
 fn names_the_limit_that_a_run_breaks(rt: HostRuntime) {
     let case = Case {

@@ -1,27 +1,20 @@
 //! The answers of each turn of a script.
-ghost use Rattle.std.specs.Prelude.{◌≡◌, ◌≤◌, All, length, map};
-ghost use Rattle.std.specs.List.{AllZip};
-ghost use Rattle.like_requests.specs.Setup.{IsPlan, IsWithin, IsWithinLimits};
-ghost use Rattle.like_board.specs.Seats.{board_id, coord_board};
-ghost use Rattle.like_script.specs.Limits.{max_entries};
-ghost use Rattle.like_run.specs.Made.{AreNewSeats};
+ghost use Rattle.std.specs.Prelude.{◌≤◌, All, length};
+ghost use Rattle.like_requests.specs.Setup.{IsWithinLimits};
 ghost use Rattle.like_script.specs.Fit.{IsInRun};
-ghost use Rattle.like_run.specs.Server.{GoesOn};
-ghost use Rattle.like_run.specs.Stage.{CanMake, CoordGoesOn};
+ghost use Rattle.like_script.specs.Limits.{max_entries};
+ghost use Rattle.like_crew.specs.Asked.{lists_of};
+ghost use Rattle.like_crew.specs.Crew.{GoesOn};
+ghost use Rattle.like_run.specs.Rounds.{CanMake};
 
 use super::cases::{
     Case, FULL_STASH, IDLE_WORKERS, LATE_WORKER, PLAIN_LIKES, SPLIT_AND_STASH, STASH_THEN_LIKE,
     TWO_SLICES, turns,
 };
-use crate::making::servers_of;
-use crate::preparing::{Prepared, prepare};
-use crate::server::Server;
-use crate::servers::open_one;
 use crate::{MAX_ENTRIES, ReplayFault, Turned};
-use like_board::{Board, CoordSeat, WorkerSeat};
-use like_core::Post;
+use like_crew::{Crew, Site};
 use like_requests::{Request, Setup, check_setup};
-use like_roles::{CoordTurn, Coordinator, NoGate, Turn};
+use like_roles::{CoordTurn, Turn};
 use like_script::check_script;
 use std::alloc::{AllocError, Global};
 use std::process::Abort;
@@ -34,69 +27,35 @@ enum Answer {
 }
 
 // Makes one entry of a script, and gives what it answers where it is a turn.
-fn answer_of<P: Post>(
-    board: &Board,
-    coordinator: &mut Coordinator,
-    servers: &mut Vec<Server<P>>,
-    entry: &Turned,
-) -> Option<Answer>
-    requires here { coordinator.old.board ≡ board_id board.now }
-    requires can { CanMake servers.old.items entry.now }
-    ensures coordinator { CoordGoesOn coordinator.old coordinator.new }
-    ensures servers { AllZip GoesOn servers.old.items servers.new.items }
+fn answer_of(crew: &mut Crew<'_>, entry: &Turned) -> Option<Answer>
+    requires { CanMake crew.old.servers.items entry.now }
+    ensures { GoesOn crew.old crew.new }
 {
     match *entry {
         Turned::OpenOne(submitter) => {
-            open_one(servers, submitter);
+            crew.open_one(submitter);
             None
         }
-        Turned::Worker(worker) => Some(Answer::Did(servers[worker as usize].turn(&NoGate))),
-        Turned::Coordinator => Some(Answer::Led(coordinator.turn(board))),
+        Turned::Worker(worker) => Some(Answer::Did(crew.turn_of(worker))),
+        Turned::Coordinator => Some(Answer::Led(crew.turn())),
     }
 }
 
 // Makes a script's entries in their order, and gives what the turns among them answer.
-fn answers_of<P: Post>(
+fn answers_of(
     alloc: Global,
-    board: &Board,
-    coordinator: &mut Coordinator,
-    servers: &mut Vec<Server<P>>,
+    crew: &mut Crew<'_>,
     script: &[Turned],
 ) -> Result<Vec<Answer>, AllocError>
-    requires here { coordinator.old.board ≡ board_id board.now }
-    requires can { All (CanMake servers.old.items) script.now }
+    requires { All (CanMake crew.old.servers.items) script.now }
 {
     let mut answers = Vec::new(alloc);
     for entry in script {
-        if let Some(answer) = answer_of(board, coordinator, servers, entry) {
+        if let Some(answer) = answer_of(crew, entry) {
             answers.push(answer)?;
         }
     }
     Ok(answers)
-}
-
-// The answers of a script's turns on a board.
-fn answers_on(
-    alloc: Global,
-    setup: &Setup,
-    sizes: &[u32],
-    board: &Board,
-    coord: CoordSeat,
-    seats: Vec<WorkerSeat>,
-    plans: Vec<Vec<Request>>,
-    script: &[Turned],
-) -> Result<Vec<Answer>, AllocError>
-    requires within { IsWithin setup.now sizes.now }
-    requires sizes { sizes.now ≡ map (λ plan. length plan.items) plans.items }
-    requires plans { All (λ plan. IsPlan setup.now.pages plan.items) plans.items }
-    requires len { length seats.items ≡ setup.now.workers }
-    requires seats { AreNewSeats (board_id board.now) setup.now.pages seats.items }
-    requires coord_here { coord_board coord ≡ board_id board.now }
-    requires script { All (IsInRun setup.now.workers (length plans.items)) script.now }
-{
-    let mut servers = servers_of(alloc, setup, sizes, board, seats, plans)?;
-    let mut coordinator = Coordinator::new(coord, setup.turns);
-    answers_of(alloc, board, &mut coordinator, &mut servers, script)
 }
 
 // The answers of a script's turns, in a run within the limits.
@@ -106,17 +65,12 @@ fn answers_within(
     plans: Vec<Vec<Request>>,
     script: &[Turned],
 ) -> Result<Vec<Answer>, AllocError>
-    requires within { IsWithinLimits setup.now (map (λ plan. plan.items) plans.items) }
+    requires within { IsWithinLimits setup.now (lists_of plans.items) }
     requires script { All (IsInRun setup.now.workers (length plans.items)) script.now }
 {
-    let Prepared {
-        sizes,
-        board,
-        coord,
-        seats,
-        ..
-    } = prepare(alloc, setup, &plans)?;
-    answers_on(alloc, setup, &sizes, &board, coord, seats, plans, script)
+    let (site, seats) = Site::new(alloc, setup, &plans)?;
+    let mut crew = Crew::new(alloc, setup, &site, seats, plans)?;
+    answers_of(alloc, &mut crew, script)
 }
 
 // The answers of a script's turns.
@@ -280,43 +234,41 @@ fn answers_of_two_slices(rt: HostRuntime) {
     );
 }
 
+// The answers of four workers of which three have no submitter.
+const IDLE: [Answer; 26] = [
+    Answer::Led(CoordTurn::Announced),
+    Answer::Did(Turn::Acknowledged),
+    Answer::Did(Turn::Retired),
+    Answer::Did(Turn::Retired),
+    Answer::Did(Turn::Retired),
+    Answer::Led(CoordTurn::Released),
+    Answer::Did(Turn::Ran),
+    Answer::Did(Turn::Retired),
+    Answer::Did(Turn::Retired),
+    Answer::Did(Turn::Retired),
+    Answer::Led(CoordTurn::Announced),
+    Answer::Did(Turn::Reported),
+    Answer::Did(Turn::Retired),
+    Answer::Did(Turn::Retired),
+    Answer::Did(Turn::Retired),
+    Answer::Led(CoordTurn::Released),
+    Answer::Did(Turn::TookEnd),
+    Answer::Did(Turn::Retired),
+    Answer::Did(Turn::Retired),
+    Answer::Did(Turn::Retired),
+    Answer::Led(CoordTurn::Announced),
+    Answer::Did(Turn::Retired),
+    Answer::Did(Turn::Retired),
+    Answer::Did(Turn::Retired),
+    Answer::Did(Turn::Retired),
+    Answer::Led(CoordTurn::Ended),
+];
+
 #[test]
 fn answers_of_idle_workers(rt: HostRuntime) {
     let case = Case {
         script: "o0 o0 c0 w0 w1 w2 w3 c0 w0 w1 w2 w3 c0 w0 w1 w2 w3 c0 w0 w1 w2 w3 c0 w0 w1 w2 w3 c0",
         ..IDLE_WORKERS
     };
-    assert_answers(
-        &rt,
-        rt.alloc(),
-        &case,
-        &[
-            Answer::Led(CoordTurn::Announced),
-            Answer::Did(Turn::Acknowledged),
-            Answer::Did(Turn::Retired),
-            Answer::Did(Turn::Retired),
-            Answer::Did(Turn::Retired),
-            Answer::Led(CoordTurn::Released),
-            Answer::Did(Turn::Ran),
-            Answer::Did(Turn::Retired),
-            Answer::Did(Turn::Retired),
-            Answer::Did(Turn::Retired),
-            Answer::Led(CoordTurn::Announced),
-            Answer::Did(Turn::Reported),
-            Answer::Did(Turn::Retired),
-            Answer::Did(Turn::Retired),
-            Answer::Did(Turn::Retired),
-            Answer::Led(CoordTurn::Released),
-            Answer::Did(Turn::TookEnd),
-            Answer::Did(Turn::Retired),
-            Answer::Did(Turn::Retired),
-            Answer::Did(Turn::Retired),
-            Answer::Led(CoordTurn::Announced),
-            Answer::Did(Turn::Retired),
-            Answer::Did(Turn::Retired),
-            Answer::Did(Turn::Retired),
-            Answer::Did(Turn::Retired),
-            Answer::Led(CoordTurn::Ended),
-        ],
-    );
+    assert_answers(&rt, rt.alloc(), &case, &IDLE);
 }

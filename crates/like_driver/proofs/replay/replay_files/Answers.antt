@@ -2,7 +2,7 @@ use Rattle.std.proofs.Common.{List, Vec, Global, map, option_map}
 use Rattle.std.proofs.lemmas.Result.{err_from_is_err_and}
 use Rattle.like_requests.specs.declared.request.Request.{Request}
 use Rattle.like_requests.proofs.Planned.{plans-within}
-use Rattle.like_run.specs.Made.{service_of}
+use Rattle.like_crew.specs.Asked.{service_of}
 use Rattle.like_driver.specs.Inputs.{Inputs}
 use Rattle.like_driver.specs.Replayed.{GivesAll, setup_of}
 use Rattle.like_driver.proofs.Ended.{replay-refused, write-refused}

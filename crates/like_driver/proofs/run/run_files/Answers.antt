@@ -2,7 +2,7 @@ use Rattle.std.proofs.Common.{List, Vec, Global, None, map}
 use Rattle.std.proofs.lemmas.Result.{err_from_is_err_and}
 use Rattle.like_requests.specs.declared.request.Request.{Request}
 use Rattle.like_requests.proofs.Planned.{plans-within}
-use Rattle.like_run.specs.Made.{service_of}
+use Rattle.like_crew.specs.Asked.{service_of}
 use Rattle.like_driver.specs.Inputs.{Inputs}
 use Rattle.like_driver.specs.Replayed.{GivesLists, setup_of}
 use Rattle.like_driver.proofs.Ended.{run-refused, run-unwritten}

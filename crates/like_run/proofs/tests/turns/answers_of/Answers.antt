@@ -1,27 +1,16 @@
-use Rattle.std.proofs.Common.{◌∙◌, get_or}
-use Rattle.like_run.proofs.Coordinated.{can-make-later, coord-further, coord-same}
-use Rattle.like_run.proofs.Later.{all-further-both, all-same}
+use Rattle.std.proofs.Common.{get_or}
 use Rattle.like_script.specs.declared.turned.Turned.TheVariants.{OpenOne}
+use Rattle.like_crew.proofs.Coordinated.{crew-further, crew-same}
+use Rattle.like_run.proofs.Entries.{can-make-later}
 use Rattle.like_run.proofs.tests.turns.answers_of.Goals as goal
 
 pub loop-entry-init : goal.loop-entry-init
-loop-entry-init g c = record {
-  coordinator = coord-same c.args.coordinator.now;
-  servers = all-same c.args.servers.now.items;
-}
+loop-entry-init c = crew-same c.args.crew.now
 
 pub loop-entry-preserved : goal.loop-entry-preserved
-loop-entry-preserved g c =
-    let l = c.loop-entry in
-    record {
-      coordinator = coord-further _ l.coordinator c.answer_of.new.coordinator l.invariant.coordinator c.answer_of.ensures.coordinator;
-      servers = all-further-both _ l.servers.items c.answer_of.new.servers.items l.invariant.servers c.answer_of.ensures.servers;
-    }
+loop-entry-preserved c = crew-further _ c.loop-entry.crew c.answer_of.new.crew c.loop-entry.invariant c.answer_of.ensures
 
-pub answer_of-requires-clause-here : goal.answer_of-requires-clause-here
-answer_of-requires-clause-here g c = c.loop-entry.invariant.coordinator.board ∙ c.requires.here
-
-pub answer_of-requires-clause-can : goal.answer_of-requires-clause-can
-answer_of-requires-clause-can g c =
-    can-make-later c.args.servers.now.items c.loop-entry.servers.items (get_or c.args.script.now c.loop-entry.entry-index (OpenOne 0)) c.loop-entry.invariant.servers
-    (c.requires.can c.loop-entry.entry-index (OpenOne 0) c.loop-entry-test.true)
+pub answer_of-requires : goal.answer_of-requires
+answer_of-requires c =
+    can-make-later c.args.crew.now.servers.items c.loop-entry.crew.servers.items (get_or c.args.script.now c.loop-entry.entry-index (OpenOne 0)) c.loop-entry.invariant.servers
+    (c.requires c.loop-entry.entry-index (OpenOne 0) c.loop-entry-test.true)

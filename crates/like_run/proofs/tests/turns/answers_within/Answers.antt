@@ -1,11 +1,17 @@
-use Rattle.like_requests.specs.Setup.{IsPlan}
-use Rattle.like_requests.proofs.Planned.{plans-within}
-use Rattle.like_run.proofs.Asked.{requests_of, sizes-are}
-use Rattle.like_run.proofs.Makings.{all-back}
+use Rattle.std.proofs.Common.{List, Vec, Global, get_or, sym, ◌∙◌, subst}
+use Rattle.std.proofs.lemmas.List.{length-map}
+use Rattle.like_requests.specs.Setup.{IsWithinLimits}
+use Rattle.like_requests.specs.declared.request.Request.{Request}
+use Rattle.like_script.specs.Fit.{IsInRun}
+use Rattle.like_crew.specs.Asked.{lists_of}
+use Rattle.like_crew.proofs.Asked.{requests_of}
+use Rattle.like_run.proofs.Entries.{can-make}
 use Rattle.like_run.proofs.tests.turns.answers_within.Goals as goal
 
-pub answers_on-requires-clause-sizes : goal.answers_on-requires-clause-sizes
-answers_on-requires-clause-sizes c = sizes-are c.deref-2.result.now c.in_ok-sizes.field-0.sizes.items c.deref.result.now c.args.plans.items c.deref-2.ensures.value c.in_ok-sizes.ensures.sizes c.deref.ensures.value
+pub new-requires : goal.new-requires
+new-requires c = subst (λ (xs : List (Vec Request Global)). IsWithinLimits c.args.setup.now (lists_of xs)) (sym c.deref.ensures.value) c.requires.within
 
-pub answers_on-requires-clause-plans : goal.answers_on-requires-clause-plans
-answers_on-requires-clause-plans c = all-back requests_of (IsPlan c.args.setup.now.pages) c.args.plans.items (plans-within _ _ c.requires.within)
+pub answers_of-requires : goal.answers_of-requires
+answers_of-requires c = λ k d within.
+    can-make c.args.setup.now (lists_of c.args.plans.items) c.in_ok-site.site c.in_ok-crew.crew (get_or c.args.script.now k d) c.in_ok-crew.ensures c.requires.within.numbers.workers.0
+    (subst (λ n. IsInRun c.args.setup.now.workers n (get_or c.args.script.now k d)) (sym (length-map c.args.plans.items requests_of)) (c.requires.script k d within))

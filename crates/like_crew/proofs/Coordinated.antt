@@ -1,0 +1,71 @@
+-- The same coordinator, and the same crew, later.
+use Rattle.std.proofs.Common.{◌≡◌, ℕ, zero, suc, ◌%◌, ◌<◌, List, [], ◌∷◌, length, slice_get, Some, refl, ap, ◌∙◌, subst, arith}
+use Rattle.std.specs.List.{AllZip}
+use Rattle.like_core.specs.declared.sight.CoordSight.{CoordSight}
+use Rattle.like_tables.specs.Share.{Share}
+use Rattle.like_roles.specs.declared.coord_turn.CoordTurn.{CoordTurn}
+use Rattle.like_roles.specs.CoordTurns as turns
+use Rattle.like_roles.specs.CoordTurns.{Acts, CoordTurns, CoordinatorView, surveyed}
+use Rattle.like_crew.specs.Server.{ServerGoesOn, ServerView, place_of}
+use Rattle.like_crew.specs.declared.crew.Crew.{Crew}
+use Rattle.like_crew.specs.Crew.{GoesOn, HasInbox, LeadGoesOn}
+use Rattle.like_crew.proofs.Later.{all-further-both, all-same}
+use Rattle.like_crew.proofs.Pairs.{pairs-length}
+
+board-acts : (v : CoordinatorView) (sight : CoordSight) (answer : CoordTurn) (w : CoordinatorView) → Acts v sight answer w → w.board ≡ v.board
+board-acts v sight answer w (turns.ends g a x) = ap (λ (y : CoordinatorView). y.board) x
+board-acts v sight answer w (turns.counts g e l a x) = ap (λ (y : CoordinatorView). y.board) x
+board-acts v sight answer w (turns.stays g e l n a x) = ap (λ (y : CoordinatorView). y.board) x
+board-acts v sight answer w (turns.announces g e l n a x) = ap (λ (y : CoordinatorView). y.board) x
+board-acts v sight answer w (turns.releases g e i a x) = ap (λ (y : CoordinatorView). y.board) x
+board-acts v sight answer w (turns.waits g e i a x) = ap (λ (y : CoordinatorView). y.board) x
+
+opening-acts : (v : CoordinatorView) (sight : CoordSight) (answer : CoordTurn) (w : CoordinatorView) → Acts v sight answer w → w.seat.opening ≡ v.seat.opening
+opening-acts v sight answer w (turns.ends g a x) = ap (λ (y : CoordinatorView). y.seat.opening) x
+opening-acts v sight answer w (turns.counts g e l a x) = ap (λ (y : CoordinatorView). y.seat.opening) x
+opening-acts v sight answer w (turns.stays g e l n a x) = ap (λ (y : CoordinatorView). y.seat.opening) x
+opening-acts v sight answer w (turns.announces g e l n a x) = ap (λ (y : CoordinatorView). y.seat.opening) x
+opening-acts v sight answer w (turns.releases g e i a x) = ap (λ (y : CoordinatorView). y.seat.opening) x
+opening-acts v sight answer w (turns.waits g e i a x) = ap (λ (y : CoordinatorView). y.seat.opening) x
+
+pub lead-goes-on : (v : CoordinatorView) (answer : CoordTurn) (w : CoordinatorView) → CoordTurns v answer w → LeadGoesOn v w
+lead-goes-on v answer w t = record {
+  board = board-acts (surveyed v t.word t.sight) t.sight answer w t.acts;
+  opening = opening-acts (surveyed v t.word t.sight) t.sight answer w t.acts;
+}
+
+pub lead-same : (v : CoordinatorView) → LeadGoesOn v v
+lead-same v = record { board = refl; opening = refl }
+
+pub lead-further : (u v w : CoordinatorView) → LeadGoesOn u v → LeadGoesOn v w → LeadGoesOn u w
+lead-further u v w a b = record { board = b.board ∙ a.board; opening = b.opening ∙ a.opening }
+
+-- the crew
+pub crew-same : (c : Crew) → GoesOn c c
+crew-same c = record { lead = lead-same c.lead; servers = all-same c.servers.items }
+
+pub crew-further : (b c d : Crew) → GoesOn b c → GoesOn c d → GoesOn b d
+crew-further b c d e f = record {
+  lead = lead-further b.lead c.lead d.lead e.lead f.lead;
+  servers = all-further-both b.servers.items c.servers.items d.servers.items e.servers f.servers;
+}
+
+-- what stands at a place stood there before
+was-at : (ss ts : List ServerView) (k : ℕ) (t : ServerView) → AllZip ServerGoesOn ss ts → slice_get ts k ≡ Some t → (s : ServerView) × ((slice_get ss k ≡ Some s) × ServerGoesOn s t)
+was-at [] [] k t all e = absurd (cc e)
+was-at [] (y ∷ ts) k t all e = absurd all
+was-at (s ∷ ss) [] k t all e = absurd all
+was-at (s ∷ ss) (y ∷ ts) zero t all e = let same : y ≡ t = cc e in (s, (refl, subst (ServerGoesOn s) same all.0))
+was-at (s ∷ ss) (y ∷ ts) (suc k) t all e = was-at ss ts k t all.1 e
+
+-- a submitter that has an inbox has it later
+pub inbox-later : (ss ts : List ServerView) (submitter : ℕ) → AllZip ServerGoesOn ss ts → HasInbox ss submitter → HasInbox ts submitter
+inbox-later ss ts submitter all has =
+    let same : length ss ≡ length ts = pairs-length ServerGoesOn ss ts all in (
+      omega (arith, has.0, same),
+      λ t e.
+          let was = was-at ss ts (submitter % length ts) t all e in
+          let there : place_of was.0.worker.last.share submitter < length was.0.inboxes = has.1 was.0 (ap (λ n. slice_get ss (submitter % n)) same ∙ was.1.0) in
+          let place : place_of t.worker.last.share submitter ≡ place_of was.0.worker.last.share submitter = ap (λ (x : Share). place_of x submitter) was.1.1.share in
+          omega (arith, there, place, was.1.1.inboxes),
+    )

@@ -1,0 +1,112 @@
+-- How a run comes to its end.
+use Rattle.std.proofs.Common.{◌≡◌, ℕ, ◌+◌, ◌*◌, ◌/◌, ◌%◌, ◌<◌, List, [], length, get_or, slice_get, Some, sym, ap, ◌∙◌, subst, arith, zero-add}
+use Rattle.std.specs.List.{All, AllZip, range_with_len}
+use Rattle.std.proofs.Math.Nat.{div-add-mod}
+use Rattle.std.proofs.lemmas.List.{length-map}
+use Rattle.std.proofs.lemmas.List.FromFn.{length-range_with_len}
+use Rattle.std.proofs.lemmas.Option.{slice_get-get_or, slice_get_within}
+use Rattle.like_requests.specs.Pages.{Page}
+use Rattle.like_core.specs.declared.opening.Opening.{Opening}
+use Rattle.like_core.specs.declared.worker_state.WorkerState.TheVariants.{Gone}
+use Rattle.like_core.specs.declared.view.WorkerSeatView.{WorkerSeatView as SeatView}
+use Rattle.like_board.specs.declared.worker_seat.WorkerSeat.{WorkerSeat}
+use Rattle.like_board.specs.Seats.{AreFresh, BoardId, board_id, board_numbers}
+use Rattle.like_tables.specs.Share.{Share}
+use Rattle.like_requests.specs.Pages.{marks_of}
+use Rattle.like_roles.specs.Service.{Service, submitters}
+use Rattle.like_roles.specs.New.{AreNewSeats}
+use Rattle.like_crew.specs.declared.ended.Ended.{Ended}
+use Rattle.like_crew.specs.declared.crew.Crew.{Crew}
+use Rattle.like_crew.specs.declared.site.Site.{Site}
+use Rattle.like_crew.specs.Asked.{service_of}
+use Rattle.like_crew.specs.Crew.{GoesOn, HasInbox, IsCrew}
+use Rattle.like_crew.specs.Ended.{HasEnded, IsEnded}
+use Rattle.like_crew.specs.Site.{opening_of}
+use Rattle.like_requests.specs.declared.request.Request.{Request}
+use Rattle.like_requests.specs.declared.setup.Setup.{Setup}
+use Rattle.like_core.specs.declared.view.CoordSeatView.{CoordSeatView}
+use Rattle.like_crew.specs.Servers.{AreServers, IsServer}
+use Rattle.like_crew.specs.Server.{ServerGoesOn, ServerView, place_of, plans_of}
+use Rattle.like_crew.proofs.Coordinated.{lead-further}
+use Rattle.like_crew.proofs.Later.{all-further-both}
+use Rattle.like_crew.proofs.Pairs.{pairs-at, pairs-both, pairs-length}
+
+-- the servers of a run, later
+pub servers-later : (service : Service) (workers : ℕ) (board : List ℕ) (ss ts : List ServerView) → AreServers service workers board ss → AllZip ServerGoesOn ss ts → AreServers service workers board ts
+servers-later service workers board ss ts are later =
+    pairs-both (IsServer service workers board) ServerGoesOn (IsServer service workers board) (range_with_len 0 workers) ss ts
+    (λ worker s t is on. record {
+      share = on.share ∙ is.share;
+      whose = on.whose ∙ is.whose;
+      board_is = on.board ∙ is.board_is;
+      works = on.works service is.works;
+    }) are later
+
+-- there are as many servers as workers
+pub as-many : (service : Service) (workers : ℕ) (board : List ℕ) (servers : List ServerView) → AreServers service workers board servers → length servers ≡ workers
+as-many service workers board servers are =
+    sym (pairs-length (IsServer service workers board) (range_with_len 0 workers) servers are) ∙ length-range_with_len 0 workers
+
+-- each submitter of the run has an inbox
+pub has-inbox : (service : Service) (workers : ℕ) (board : List ℕ) (servers : List ServerView) (submitter : ℕ) → AreServers service workers board servers → 0 < workers → submitter < submitters service
+    → HasInbox servers submitter
+has-inbox service workers board servers submitter are some there =
+    let sized : workers ≡ length servers = sym (as-many service workers board servers are) in (
+      omega (arith, some, sized),
+      λ s at.
+          let worker : ℕ = submitter % length servers in
+          let is : IsServer service workers board worker s = subst (λ n. IsServer service workers board n s) (zero-add worker) (pairs-at (IsServer service workers board) 0 workers servers worker s are at) in
+          let share : Share = s.worker.last.share in
+          let by : share.workers ≡ length servers = ap (λ (x : Share). x.workers) is.share ∙ sized in
+          let mine : share.worker ≡ worker = ap (λ (x : Share). x.worker) is.share in
+          let place : ℕ = place_of share submitter in
+          let whole : share.worker + share.workers * place ≡ submitter = by_place submitter share.worker share.workers (length servers) by mine in
+          let plan : slice_get (plans_of s.inboxes) place ≡ slice_get service.plans submitter = is.works.plans place ∙ ap (slice_get service.plans) whole in
+          let found : slice_get (plans_of s.inboxes) place ≡ Some (get_or service.plans submitter []) = plan ∙ slice_get-get_or service.plans submitter [] there in
+          omega (arith, slice_get_within (plans_of s.inboxes) place (get_or service.plans submitter []) found, length-map s.inboxes (λ i. i.plan)),
+    ) where
+      by_place : (n w a b : ℕ) → a ≡ b → w ≡ n % b → w + a * (n / a) ≡ n
+      by_place n w a b same mine =
+          ap (λ x. w + x * (n / x)) same ∙ (let d : b * (n / b) + n % b ≡ n = div-add-mod n b in omega (arith, d, mine))
+
+-- fresh seats are new ones, of posts at a board with these pages
+pub new-seats : (board : BoardId) (z : Opening) (pages : List Page) (seats : List WorkerSeat) → z.marks ≡ marks_of pages → AreFresh board z seats → AreNewSeats board pages seats
+new-seats board z pages seats marks fresh worker seat at =
+    let f = fresh worker seat at in (
+      f.0,
+      record {
+        is_his = ap (λ (v : SeatView). v.worker) f.1;
+        marks = ap (λ (v : SeatView). v.opening.marks) f.1 ∙ marks;
+        fresh = f.2;
+      },
+    )
+
+-- a crew of this run that went on until its run had ended leaves an ended run
+pub has-ended : (setup : Setup) (plans : List (List Request)) (site : Site) (c : Crew) (e : Ended) → IsCrew setup plans site c → HasEnded c e
+    → IsEnded (service_of setup plans) setup.workers (board_id site.board) (opening_of setup) e
+has-ended setup plans site c e is h = record {
+  servers = h.left.servers;
+  are_servers = servers-later (service_of setup plans) setup.workers (board_numbers (board_id site.board)) c.servers.items h.left.servers is.servers h.left.later;
+  gone = h.left.gone;
+  logs = h.left.logs_are;
+  seats = h.left.seats_are;
+  coord = h.lead_is.coord ∙ h.later.board ∙ is.board;
+  opening = ap (λ (v : CoordSeatView). v.opening) h.lead_is.view ∙ h.later.opening ∙ is.opening;
+  phases = h.lead_is.phases ∙ h.lead_is.ended.phase ∙ ap (λ (v : CoordSeatView). v.phase) (sym h.lead_is.view);
+  joined = subst (λ n. n % 2 ≡ 0) (sym h.lead_is.phases) h.lead_is.ended.joined;
+}
+
+-- what is left of a crew later is left of the crew
+pub ended-later : (c d : Crew) (e : Ended) → GoesOn c d → HasEnded d e → HasEnded c e
+ended-later c d e on h = record {
+  left = record {
+    servers = h.left.servers;
+    later = all-further-both c.servers.items d.servers.items h.left.servers on.servers h.left.later;
+    gone = h.left.gone;
+    logs_are = h.left.logs_are;
+    seats_are = h.left.seats_are;
+  };
+  lead = h.lead;
+  later = lead-further c.lead d.lead h.lead on.lead h.later;
+  lead_is = h.lead_is;
+}

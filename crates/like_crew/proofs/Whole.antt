@@ -1,0 +1,254 @@
+-- What a run that has ended reports, end to end.
+use Rattle.std.proofs.Common.{◌≡◌, ℕ, zero, suc, ◌+◌, ◌<◌, ◌≤◌, ◌&&◌, eqb, List, [], ◌∷◌, length, map, get_or, slice_get, Option, Some, None, option_map, IfSome, refl, sym, ap, ◌∙◌, subst, arith, inl, inr, zero-add}
+use Rattle.std.specs.List.{All, AllZip, range_with_len, sum_by}
+use Rattle.std.specs.Option.{option_map_or, unwrap_or}
+use Rattle.std.proofs.Math.Nat.{mod-lt}
+use Rattle.std.proofs.lemmas.List.{get_or_past}
+use Rattle.std.proofs.lemmas.List.FromFn.{length-range_with_len}
+use Rattle.std.proofs.lemmas.List.Sums.{length-filter, sum_by-cons}
+use Rattle.std.proofs.lemmas.Bool.Decides.{leb_tells}
+use Rattle.std.proofs.lemmas.Bool.{cases_lt, le-ltb, lt-ltb}
+use Rattle.std.proofs.lemmas.Option.{get_or_from_slice_get, slice_get-get_or, slice_get-map, slice_get_within, unwrap_or-slice_get}
+use Rattle.like_requests.specs.Pages.{Page}
+use Rattle.like_requests.specs.Verdict.{home}
+use Rattle.like_requests.specs.declared.request.Request.{Request}
+use Rattle.like_core.specs.declared.sight.Sight.{Sight}
+use Rattle.like_core.specs.declared.opening.Opening.{Opening}
+use Rattle.like_core.specs.Post.{PostView, additions_of}
+use Rattle.like_board.specs.declared.worker_seat.WorkerSeat.{WorkerSeat}
+use Rattle.like_board.specs.Seats.{AreAll, BoardId, board_numbers, coord_view, last_count, seat_board, seat_meaning}
+use Rattle.like_board.proofs.InOrder.{all_in_order}
+use Rattle.like_board.proofs.Meanings.{same_board}
+use Rattle.like_core.specs.declared.worker_state.WorkerState.TheVariants.{Gone}
+use Rattle.like_tables.specs.Share.{Share, share_of, worker_of}
+use Rattle.like_tables.specs.UserTable.{last_of}
+use Rattle.like_roles.specs.declared.log.Ran.{Ran}
+use Rattle.like_roles.specs.declared.log.Took.{Took}
+use Rattle.like_roles.specs.declared.log.WorkerLog.{WorkerLog}
+use Rattle.like_roles.specs.Likes.{initial_count, last_like, likes, likes_among}
+use Rattle.like_roles.specs.Service.{Service, submitters}
+use Rattle.like_replies.specs.Entries.{IsRequest, entries_in, entries_of}
+use Rattle.like_crew.specs.declared.ended.Ended.{Ended}
+use Rattle.like_crew.specs.EndToEnd.{AreCounts, AreLastLikes, AreLogs, run_of, runs_of}
+use Rattle.like_crew.specs.Gathered.{AreTables, RunsOnce}
+use Rattle.like_crew.specs.Log.{IsLog, NoneAbove, plan_of}
+use Rattle.like_crew.specs.Server.{ServerView}
+use Rattle.like_crew.specs.Ended.{IsEnded, IsLogOf, IsSeatOf}
+use Rattle.like_crew.specs.Servers.{IsServer}
+use Rattle.like_crew.proofs.Counted.{count-in-all, in_range}
+use Rattle.like_crew.proofs.Pairs.{pairs-at, pairs-length, pairs-sum}
+
+-- what matches an element that stands at a place
+left-at : {A B : Type 0} (R : A → B → Type 0) (xs : List A) (ys : List B) (k : ℕ) (y : B) → AllZip R xs ys → slice_get ys k ≡ Some y → (x : A) × ((slice_get xs k ≡ Some x) × R x y)
+left-at R [] [] k y all e = absurd (cc e)
+left-at R [] (b ∷ ys) k y all e = absurd all
+left-at R (a ∷ xs) [] k y all e = absurd all
+left-at R (a ∷ xs) (b ∷ ys) zero y all e = let same : b ≡ y = cc e in (a, (refl, subst (R a) same all.0))
+left-at R (a ∷ xs) (b ∷ ys) (suc k) y all e = left-at R xs ys k y all.1 e
+
+right-at : {A B : Type 0} (R : A → B → Type 0) (xs : List A) (ys : List B) (k : ℕ) (x : A) → AllZip R xs ys → slice_get xs k ≡ Some x → (y : B) × ((slice_get ys k ≡ Some y) × R x y)
+right-at R [] [] k x all e = absurd (cc e)
+right-at R [] (b ∷ ys) k x all e = absurd all
+right-at R (a ∷ xs) [] k x all e = absurd all
+right-at R (a ∷ xs) (b ∷ ys) zero x all e = let same : a ≡ x = cc e in (b, (refl, subst (λ z. R z b) same all.0))
+right-at R (a ∷ xs) (b ∷ ys) (suc k) x all e = right-at R xs ys k x all.1 e
+
+-- a fact of each element of the first list stands beside the match
+with-fact : {A B : Type 0} (R : A → B → Type 0) (P : A → Type 0) (xs : List A) (ys : List B) → ((k : ℕ) (x : A) → slice_get xs k ≡ Some x → P x) → AllZip R xs ys → AllZip (λ x y. P x × R x y) xs ys
+with-fact R P [] [] each all = tt
+with-fact R P [] (b ∷ ys) each all = absurd all
+with-fact R P (a ∷ xs) [] each all = absurd all
+with-fact R P (a ∷ xs) (b ∷ ys) each all = ((each zero a refl, all.0), with-fact R P xs ys (λ k x e. each (suc k) x e) all.1)
+
+sum-of-map : {A B : Type 0} (f : B → ℕ) (g : A → B) (xs : List A) → sum_by f (map g xs) ≡ sum_by (λ x. f (g x)) xs
+sum-of-map f g [] = refl
+sum-of-map f g (x ∷ xs) = sum_by-cons f (g x) (map g xs) ∙ ap (λ n. f (g x) + n) (sum-of-map f g xs) ∙ sym (sum_by-cons (λ y. f (g y)) x xs)
+
+module _ (service : Service) (workers : ℕ) (board : BoardId) (z : Opening) (e : Ended) (h : IsEnded service workers board z e) where
+  -- the server of a worker
+  server-at : (worker : ℕ) (s : ServerView) → slice_get h.servers worker ≡ Some s → IsServer service workers (board_numbers board) worker s
+  server-at worker s at = subst (λ n. IsServer service workers (board_numbers board) n s) (zero-add worker) (pairs-at (IsServer service workers (board_numbers board)) 0 workers h.servers worker s h.are_servers at)
+
+  servers-size : length h.servers ≡ workers
+  servers-size = sym (pairs-length (IsServer service workers (board_numbers board)) (range_with_len 0 workers) h.servers h.are_servers) ∙ length-range_with_len 0 workers
+
+  pub logs-size : length e.logs.items ≡ workers
+  logs-size = sym (pairs-length IsLogOf h.servers e.logs.items h.logs) ∙ servers-size
+
+  pub seats-size : length e.seats.items ≡ workers
+  seats-size = sym (pairs-length IsSeatOf h.servers e.seats.items h.seats) ∙ servers-size
+
+  pub log-at : (worker : ℕ) (log : WorkerLog) → slice_get e.logs.items worker ≡ Some log → IsLog service workers worker log
+  log-at worker log at =
+      let s = left-at IsLogOf h.servers e.logs.items worker log h.logs at in
+      let is = server-at worker s.0 s.1.0 in
+      subst (λ (x : Share). IsLog service x.workers x.worker log) is.share (s.1.1.log_is service is.works)
+
+  pub tables : AreTables service.users (submitters service) e.logs.items
+  tables worker log at =
+      let s = left-at IsLogOf h.servers e.logs.items worker log h.logs at in
+      let is = server-at worker s.0 s.1.0 in
+      s.1.1.share ∙ is.share ∙ ap (λ n. share_of service.users (submitters service) n worker) (sym logs-size)
+
+  -- nothing was taken after the phase in which the run ended
+  below : (last : Option Sight) (taken : List Took) (phase : ℕ) → NoneAbove last taken → IfSome last (λ sight. sight.number ≤ phase) → All (λ t. t.phase ≤ phase) taken
+  below None taken phase none le = λ k d within. absurd (omega (arith, within, ap (λ (xs : List Took). length xs) none))
+  below (Some sight) taken phase all le = λ k d within. omega (arith, all k d within, le)
+
+  pub logs-are : All (λ seat. IfSome (seat_meaning seat).last (λ sight. sight.number ≤ (coord_view e.coord).phase)) e.seats.items → AreLogs service workers e.phases e.logs.items
+  logs-are phases worker log at =
+      let s = left-at IsLogOf h.servers e.logs.items worker log h.logs at in
+      let seat = right-at IsSeatOf h.servers e.seats.items worker s.0 h.seats s.1.0 in
+      let seen : IfSome (seat_meaning seat.0).last (λ sight. sight.number ≤ (coord_view e.coord).phase) =
+      subst (λ (x : WorkerSeat). IfSome (seat_meaning x).last (λ sight. sight.number ≤ (coord_view e.coord).phase)) (get_or_from_slice_get e.seats.items worker seat.0 seat.0 seat.1.0)
+      (phases worker seat.0 (slice_get_within e.seats.items worker seat.0 seat.1.0)) in
+      let saw : IfSome s.0.worker.post.last (λ sight. sight.number ≤ e.phases) =
+      subst (λ n. IfSome s.0.worker.post.last (λ sight. sight.number ≤ n)) (sym h.phases) (subst (λ (p : PostView). IfSome p.last (λ sight. sight.number ≤ (coord_view e.coord).phase)) seat.1.1 seen) in
+      (log-at worker log at, below s.0.worker.post.last log.taken.items e.phases s.1.1.above saw)
+
+  -- the additions of all seats are the accepted likes of all logs
+  pub all-likes : (page : ℕ) → sum_by (λ seat. additions_of (seat_meaning seat) page) e.seats.items ≡ likes service page (runs_of e.logs.items)
+  all-likes page =
+      sym (pairs-sum IsSeatOf (λ (s : ServerView). additions_of s.worker.post page) (λ (seat : WorkerSeat). additions_of (seat_meaning seat) page) h.servers e.seats.items
+      (λ s seat m. ap (λ (p : PostView). additions_of p page) (sym m)) h.seats)
+      ∙ pairs-sum (λ (s : ServerView) (log : WorkerLog). ((page : ℕ) → likes_among service page log.ran.items ≡ additions_of s.worker.post page))
+      (λ (s : ServerView). additions_of s.worker.post page) (λ (log : WorkerLog). likes_among service page log.ran.items) h.servers e.logs.items (λ s log m. sym (m page)) matched
+      ∙ sym (sum-of-map (likes_among service page) (λ (log : WorkerLog). log.ran.items) e.logs.items) where
+        both : (ss : List ServerView) (logs : List WorkerLog) → ((k : ℕ) (s : ServerView) → slice_get ss k ≡ Some s → (w : ℕ) × IsServer service workers (board_numbers board) w s) → AllZip IsLogOf ss logs
+            → AllZip (λ (s : ServerView) (log : WorkerLog). ((page : ℕ) → likes_among service page log.ran.items ≡ additions_of s.worker.post page)) ss logs
+        both [] [] each all = tt
+        both [] (log ∷ logs) each all = absurd all
+        both (s ∷ ss) [] each all = absurd all
+        both (s ∷ ss) (log ∷ logs) each all = (all.0.additions service (each zero s refl).1.works, both ss logs (λ k t x. each (suc k) t x) all.1)
+
+        matched : AllZip (λ (s : ServerView) (log : WorkerLog). ((page : ℕ) → likes_among service page log.ran.items ≡ additions_of s.worker.post page)) h.servers e.logs.items
+        matched = both h.servers e.logs.items (λ k s at. (k, server-at k s at)) h.logs
+
+  -- the seats that were left
+  seat-at : (k : ℕ) (seat : WorkerSeat) → slice_get e.seats.items k ≡ Some seat → (s : ServerView) × ((slice_get h.servers k ≡ Some s) × IsSeatOf s seat)
+  seat-at k seat at = left-at IsSeatOf h.servers e.seats.items k seat h.seats at
+
+  seat-here : (k : ℕ) (seat : WorkerSeat) → slice_get e.seats.items k ≡ Some seat → seat_board seat ≡ board
+  seat-here k seat at =
+      let s = seat-at k seat at in
+      same_board (seat_board seat) board (ap (λ (p : PostView). p.board) s.1.1 ∙ (server-at k s.0 s.1.0).board_is)
+
+  seat-worker : (k : ℕ) (seat : WorkerSeat) → slice_get e.seats.items k ≡ Some seat → (seat_meaning seat).worker ≡ k
+  seat-worker k seat at =
+      let s = seat-at k seat at in
+      ap (λ (p : PostView). p.worker) s.1.1 ∙ (server-at k s.0 s.1.0).whose
+
+  seat-gone : (k : ℕ) (seat : WorkerSeat) → slice_get e.seats.items k ≡ Some seat → (seat_meaning seat).state ≡ Gone
+  seat-gone k seat at =
+      let s = seat-at k seat at in
+      let gone : s.0.worker.post.state ≡ Gone =
+      subst (λ (x : ServerView). x.worker.post.state ≡ Gone) (get_or_from_slice_get h.servers k s.0 s.0 s.1.0) (h.gone k s.0 (slice_get_within h.servers k s.0 s.1.0)) in
+      ap (λ (p : PostView). p.state) s.1.1 ∙ gone
+
+  pub all-here : All (λ seat. seat_board seat ≡ board) e.seats.items
+  all-here = λ k d within. seat-here k (get_or e.seats.items k d) (slice_get-get_or e.seats.items k d within)
+
+  pub all-gone : All (λ seat. (seat_meaning seat).state ≡ Gone) e.seats.items
+  all-gone = λ k d within. seat-gone k (get_or e.seats.items k d) (slice_get-get_or e.seats.items k d within)
+
+  pub are-all : z.workers ≡ workers → AreAll (coord_view e.coord).opening.workers e.seats.items
+  are-all same = subst (λ n. AreAll n e.seats.items) (sym (ap (λ (x : Opening). x.workers) h.opening ∙ same)) (all_in_order e.seats.items workers seats-size seat-worker)
+
+  -- the final counts
+  pub counts-are : (counts : List ℕ) → z.counts ≡ map (λ p. p.count) service.pages → length counts ≡ length service.pages
+      → ((page : ℕ) → page < length service.pages → get_or counts page 0 ≡ last_count (coord_view e.coord).opening e.seats.items page) → AreCounts service (runs_of e.logs.items) counts
+  counts-are counts initial sized told = record {
+    pages = sized;
+    each = λ page there.
+        told page there
+        ∙ ap (λ x. last_count x e.seats.items page) h.opening
+        ∙ ap (λ cs. get_or cs page 0 + sum_by (λ seat. additions_of (seat_meaning seat) page) e.seats.items) initial
+        ∙ ap (λ n. n + sum_by (λ seat. additions_of (seat_meaning seat) page) e.seats.items) (initial-at page)
+        ∙ ap (λ n. initial_count service.pages page + n) (all-likes page);
+  } where
+    by_page : (o : Option Page) → unwrap_or (option_map (λ (p : Page). p.count) o) 0 ≡ option_map_or (λ (p : Page). p.count) o 0
+    by_page None = refl
+    by_page (Some p) = refl
+
+    initial-at : (page : ℕ) → get_or (map (λ (p : Page). p.count) service.pages) page 0 ≡ initial_count service.pages page
+    initial-at page =
+        sym (unwrap_or-slice_get (map (λ (p : Page). p.count) service.pages) page 0) ∙ ap (λ o. unwrap_or o 0) (slice_get-map (λ (p : Page). p.count) service.pages page)
+        ∙ by_page (slice_get service.pages page)
+
+-- the last likes of all users
+pub last-likes-are : (service : Service) (workers : ℕ) (logs : List WorkerLog) (last : List (Option ℕ)) → length logs ≡ workers → 0 < workers
+    → ((worker : ℕ) (log : WorkerLog) → slice_get logs worker ≡ Some log → IsLog service workers worker log) → length last ≡ service.users
+    → ((user : ℕ) (log : WorkerLog) → user < service.users → slice_get logs (worker_of (length logs) (home (submitters service) user)) ≡ Some log → slice_get last user ≡ Some (last_of log.last user))
+    → AreLastLikes service workers logs last
+last-likes-are service workers logs last sized some each users told = record {
+  users = users;
+  each = λ user there.
+      let worker : ℕ = worker_of workers (home (submitters service) user) in
+      let within : worker < length logs = omega (arith, mod-lt (home (submitters service) user) some, sized) in
+      by_log user there (slice_get logs worker) refl (cases_of logs worker within);
+} where
+  cases_of : (xs : List WorkerLog) (k : ℕ) → k < length xs → (x : WorkerLog) × (slice_get xs k ≡ Some x)
+  cases_of [] k h = absurd (omega (arith, h))
+  cases_of (x ∷ xs) zero h = (x, refl)
+  cases_of (x ∷ xs) (suc k) h = cases_of xs k (omega (arith, h))
+
+  by_log : (user : ℕ) → user < service.users → (o : Option WorkerLog) → slice_get logs (worker_of workers (home (submitters service) user)) ≡ o
+      → ((x : WorkerLog) × (slice_get logs (worker_of workers (home (submitters service) user)) ≡ Some x))
+      → slice_get last user ≡ Some (last_like service user (run_of logs (worker_of workers (home (submitters service) user))))
+  by_log user there o e found =
+      told user found.0 there (ap (λ n. slice_get logs (worker_of n (home (submitters service) user))) sized ∙ found.1)
+      ∙ ap Some ((each (worker_of workers (home (submitters service) user)) found.0 found.1).last user
+      ∙ ap (λ o. last_like service user (option_map_or (λ (log : WorkerLog). log.ran.items) o [])) (sym found.1))
+
+-- each request has one entry
+range-in : (m k : ℕ) → 1 ≤ m → m ≤ k → in_range 1 (1 + k) m 1 ≡ 1
+range-in m k low high =
+    elim (leb_tells 1 m) [
+      | inl below ↦ rw (below.0, lt-ltb m (1 + k) (omega (arith, high))) refl
+      | inr other ↦ absurd (omega (arith, low, other.1))
+    ]
+
+range-out : (m k : ℕ) → ¬ ((1 ≤ m) × (m ≤ k)) → in_range 1 (1 + k) m 1 ≡ 0
+range-out m k out =
+    elim (leb_tells 1 m) [
+      | inl below ↦
+          elim (cases_lt m (1 + k)) [
+            | inl within ↦ absurd (out (below.1, omega (arith, within)))
+            | inr past ↦ rw (below.0, le-ltb m (1 + k) past) refl
+          ]
+      | inr other ↦ rw other.0 refl
+    ]
+
+pub runs-once : (service : Service) (workers : ℕ) (logs : List WorkerLog) (sizes : List ℕ) → sizes ≡ map length service.plans → length logs ≡ workers → 0 < workers
+    → ((worker : ℕ) (log : WorkerLog) → slice_get logs worker ≡ Some log → IsLog service workers worker log) → RunsOnce sizes (entries_in logs)
+runs-once service workers logs sizes sized size some each = record {
+  requests = λ submitter number r.
+      let r' : IsRequest sizes submitter number = r in
+      counted submitter number ∙ range-in number (length (plan_of service submitter)) r'.from_one (omega (arith, r'.within, size-at submitter));
+  others = λ submitter number no_request.
+      counted submitter number ∙ range-out number (length (plan_of service submitter)) (λ within.
+      no_request (record {
+        there = there submitter (omega (arith, within.0, within.1, size-at submitter));
+        from_one = within.0;
+        within = omega (arith, within.1, size-at submitter);
+      }));
+} where
+  counted : (submitter number : ℕ) → length (entries_of submitter number (entries_in logs)) ≡ in_range 1 (1 + length (plan_of service submitter)) number 1
+  counted submitter number =
+      length-filter (λ (e : Ran). eqb e.submitter submitter && eqb e.number number) (entries_in logs)
+      ∙ count-in-all submitter number service workers logs size some each
+
+  size-at : (submitter : ℕ) → get_or sizes submitter 0 ≡ length (plan_of service submitter)
+  size-at submitter =
+      ap (λ xs. get_or xs submitter 0) sized ∙ sym (unwrap_or-slice_get (map length service.plans) submitter 0) ∙ ap (λ o. unwrap_or o 0) (slice_get-map length service.plans submitter)
+      ∙ by_plan (slice_get service.plans submitter) ∙ ap (λ (xs : List Request). length xs) (unwrap_or-slice_get service.plans submitter []) where
+        by_plan : (o : Option (List Request)) → unwrap_or (option_map length o) 0 ≡ length (unwrap_or o [])
+        by_plan None = refl
+        by_plan (Some plan) = refl
+
+  there : (submitter : ℕ) → 1 ≤ get_or sizes submitter 0 → submitter < length sizes
+  there submitter some_left =
+      elim (cases_lt submitter (length sizes)) [
+        | inl within ↦ within
+        | inr past ↦ absurd (omega (arith, some_left, get_or_past sizes submitter 0 past))
+      ]

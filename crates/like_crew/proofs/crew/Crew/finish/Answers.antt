@@ -1,0 +1,24 @@
+use Rattle.std.proofs.Common.{Vec, Global, sym, subst}
+use Rattle.std.specs.List.{AllZip}
+use Rattle.like_board.specs.declared.worker_seat.WorkerSeat.{WorkerSeat}
+use Rattle.like_roles.specs.declared.log.WorkerLog.{WorkerLog}
+use Rattle.like_crew.specs.Ended.{IsLogOf, IsSeatOf}
+use Rattle.like_crew.proofs.Coordinated.{lead-same}
+use Rattle.like_crew.proofs.Later.{all-same}
+use Rattle.like_crew.proofs.crew.Crew.finish.Goals as goal
+
+pub returns : goal.returns
+returns c =
+    let servers = c.args.self.servers.items in
+    record {
+      left = record {
+        servers = servers;
+        later = all-same servers;
+        gone = c.requires.gone;
+        logs_are = subst (λ (logs : Vec WorkerLog Global). AllZip IsLogOf servers logs.items) (sym c.new.ensures.logs) c.in_ok-logs.ensures.logs;
+        seats_are = subst (λ (seats : Vec WorkerSeat Global). AllZip IsSeatOf servers seats.items) (sym c.new.ensures.seats) c.in_ok-logs.ensures.seats;
+      };
+      lead = c.args.self.lead;
+      later = lead-same c.args.self.lead;
+      lead_is = c.new.ensures.lead;
+    }

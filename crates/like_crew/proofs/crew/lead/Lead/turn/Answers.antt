@@ -1,0 +1,8 @@
+use Rattle.std.proofs.Common.{subst}
+use Rattle.like_crew.specs.Crew.{LeadGoesOn}
+use Rattle.like_crew.proofs.Coordinated.{lead-goes-on}
+use Rattle.like_crew.proofs.crew.lead.Lead.turn.Goals as goal
+
+pub returns-clause-goes_on : goal.returns-clause-goes_on
+returns-clause-goes_on c =
+    subst (λ v. LeadGoesOn v c.turn.new.self) c.self.view_is (lead-goes-on c.self.inside.coordinator c.turn.result c.turn.new.self c.turn.ensures.case)

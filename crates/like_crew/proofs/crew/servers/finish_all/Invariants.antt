@@ -1,0 +1,9 @@
+use Rattle.std.specs.List.{AllZip}
+use Rattle.like_crew.specs.Ended.{IsLogOf, IsSeatOf}
+use Rattle.like_crew.proofs.crew.servers.finish_all.Given as goal
+
+abbrev pub invariant-loop-server : goal.invariant-loop-server
+invariant-loop-server l = record {
+  logs : AllZip IsLogOf l.yielded l.logs.items;
+  seats : AllZip IsSeatOf l.yielded l.seats.items;
+}

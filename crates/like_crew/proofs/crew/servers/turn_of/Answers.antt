@@ -1,0 +1,10 @@
+use Rattle.std.proofs.Common.{length, refl}
+use Rattle.std.proofs.lemmas.Option.{slice_get_read}
+use Rattle.like_crew.proofs.Later.{all-further, all-same}
+use Rattle.like_crew.proofs.crew.servers.turn_of.Goals as goal
+
+pub returns : goal.returns
+returns g c =
+    let servers = c.args.servers.now.items in
+    all-further servers servers c.args.worker c.index_mut.result.now c.turn.new.self (all-same servers)
+    (slice_get_read servers (length servers) c.args.worker c.index_mut.result.now refl c.requires c.index_mut.ensures.value) c.turn.ensures.goes_on

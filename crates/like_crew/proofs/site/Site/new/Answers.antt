@@ -1,0 +1,43 @@
+use Rattle.std.proofs.Common.{◌≡◌, ◌≤◌, ◌∙◌, ℕ, List, Vec, Global, Bool, length, map, sym, ap, subst}
+use Rattle.std.specs.List.{All}
+use Rattle.like_requests.specs.Pages.{Page}
+use Rattle.like_requests.specs.declared.request.Request.{Request}
+use Rattle.like_requests.specs.Limits.{max_count, max_requests}
+use Rattle.like_core.specs.declared.view.CoordSeatView.{CoordSeatView}
+use Rattle.like_board.specs.Seats.{board_id}
+use Rattle.like_crew.proofs.Ending.{new-seats}
+use Rattle.like_crew.proofs.Makings.{all-back, all-map, map-twice}
+use Rattle.like_crew.proofs.site.Site.new.Goals as goal
+
+abbrev requests_of : Vec Request Global → List Request
+requests_of plan = plan.items
+
+pub sizes_of-requires : goal.sizes_of-requires
+sizes_of-requires c =
+    all-back requests_of (λ plan. length plan ≤ max_requests) c.args.plans.now (all-back length (λ n. n ≤ max_requests) (map requests_of c.args.plans.now) c.requires.numbers.small)
+
+pub new-requires-clause-counts : goal.new-requires-clause-counts
+new-requires-clause-counts c =
+    subst (λ (xs : List ℕ). All (λ n. n ≤ max_count) xs) (sym (c.deref.ensures.value ∙ c.in_ok-counts.ensures.counts))
+    (all-map (λ (p : Page). p.count) (λ n. n ≤ max_count) c.args.setup.now.pages c.counts.ensures.pages.entries.counted)
+
+pub returns-clause-site : goal.returns-clause-site
+returns-clause-site c = record {
+  sizes = c.in_ok-sizes.ensures ∙ map-twice requests_of length c.args.plans.now;
+  counts = c.in_ok-counts.ensures.counts;
+}
+
+pub returns-clause-seats : goal.returns-clause-seats
+returns-clause-seats c =
+    let counts : c.deref.result.now ≡ map (λ (p : Page). p.count) c.args.setup.now.pages = c.deref.ensures.value ∙ c.in_ok-counts.ensures.counts in
+    let marks : c.deref-2.result.now ≡ map (λ (p : Page). p.split) c.args.setup.now.pages = c.deref-2.ensures.value ∙ c.in_ok-marks.ensures.marks in
+    record {
+      board = c.in_ok-board.ensures.coord_here;
+      start = ap (λ (v : CoordSeatView). v.phase) c.in_ok-board.ensures.coord;
+      opening = ap (λ (v : CoordSeatView). v.opening) c.in_ok-board.ensures.coord
+          ∙ ap (λ (xs : List ℕ). record { workers = c.args.setup.now.workers; counts = xs; marks = c.deref-2.result.now }) counts
+          ∙ ap (λ (xs : List Bool). record { workers = c.args.setup.now.workers; counts = map (λ (p : Page). p.count) c.args.setup.now.pages; marks = xs }) marks;
+      workers = c.in_ok-board.ensures.seats;
+      new = new-seats (board_id c.in_ok-board.board) (record { workers = c.args.setup.now.workers; counts = c.deref.result.now; marks = c.deref-2.result.now }) c.args.setup.now.pages c.in_ok-board.workers.items marks
+          c.in_ok-board.ensures.views;
+    }

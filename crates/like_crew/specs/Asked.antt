@@ -1,0 +1,18 @@
+-- The run that settings and plans ask for.
+use Rattle.std.specs.Prelude.{List, Vec, map}
+use Rattle.std.specs.declared.alloc.Global.{Global}
+use Rattle.like_requests.specs.declared.request.Request.{Request}
+use Rattle.like_requests.specs.declared.setup.Setup.{Setup}
+use Rattle.like_roles.specs.Service.{Service}
+
+-- the run of these users and pages, and of these lists of requests
+abbrev pub service_of : Setup → List (List Request) → Service
+service_of setup plans = record { users = setup.users; pages = setup.pages; plans = plans }
+
+-- the requests of plans
+abbrev pub lists_of : List (Vec Request Global) → List (List Request)
+lists_of plans = map (λ plan. plan.items) plans
+
+-- the run that settings and plans ask for
+abbrev pub asked : Setup → List (Vec Request Global) → Service
+asked setup plans = service_of setup (lists_of plans)

@@ -1,0 +1,39 @@
+-- The crew of a run: the coordinator at its board, and the servers of the workers.
+use Rattle.std.specs.Prelude.{◌≡◌, ◌%◌, ◌<◌, ℕ, List, Some, length, slice_get, All}
+use Rattle.std.specs.List.{AllZip}
+use Rattle.like_requests.specs.declared.request.Request.{Request}
+use Rattle.like_requests.specs.declared.setup.Setup.{Setup}
+use Rattle.like_core.specs.declared.worker_state.WorkerState.TheVariants.{Gone}
+use Rattle.like_board.specs.Seats.{board_id, board_numbers}
+use Rattle.like_roles.specs.CoordTurns.{CoordinatorView}
+use Rattle.like_crew.specs.declared.crew.Crew.{Crew}
+use Rattle.like_crew.specs.declared.site.Site.{Site}
+use Rattle.like_crew.specs.Asked.{service_of}
+use Rattle.like_crew.specs.Server.{ServerGoesOn, ServerView, place_of}
+use Rattle.like_crew.specs.Servers.{AreServers}
+use Rattle.like_crew.specs.Site.{opening_of}
+
+-- the same coordinator, later: of the same board, which opened in the same way
+pub record LeadGoesOn (v w : CoordinatorView) : Type 0 where
+  pub board : w.board ≡ v.board
+  pub opening : w.seat.opening ≡ v.seat.opening
+
+-- the same crew, later
+pub record GoesOn (c d : Crew) : Type 0 where
+  pub lead : LeadGoesOn c.lead d.lead
+  pub servers : AllZip ServerGoesOn c.servers.items d.servers.items
+
+-- the crew of a run of these plans, at the board of this site
+pub record IsCrew (setup : Setup) (plans : List (List Request)) (site : Site) (c : Crew) : Type 0 where
+  pub board : c.lead.board ≡ board_id site.board
+  pub opening : c.lead.seat.opening ≡ opening_of setup
+  pub servers : AreServers (service_of setup plans) setup.workers (board_numbers (board_id site.board)) c.servers.items
+
+-- among these servers a submitter has an inbox: that of its worker has it
+abbrev pub HasInbox : List ServerView → ℕ → Type 0
+HasInbox servers submitter = (0 < length servers)
+    × ((s : ServerView) → slice_get servers (submitter % length servers) ≡ Some s → place_of s.worker.last.share submitter < length s.inboxes)
+
+-- the workers of these servers are gone
+abbrev pub AllGone : List ServerView → Type 0
+AllGone servers = All (λ s. s.worker.post.state ≡ Gone) servers

@@ -1,0 +1,73 @@
+-- What a crew leaves when its run has ended.
+use Rattle.std.specs.Prelude.{◌≡◌, ℕ, List}
+use Rattle.std.specs.List.{AllZip}
+use Rattle.like_core.specs.Phase.{IsJoined}
+use Rattle.like_core.specs.Post.{additions_of}
+use Rattle.like_core.specs.declared.worker_state.WorkerState.TheVariants.{Gone}
+use Rattle.like_core.specs.declared.opening.Opening.{Opening}
+use Rattle.like_board.specs.declared.worker_seat.WorkerSeat.{WorkerSeat}
+use Rattle.like_board.specs.Seats.{BoardId, board_numbers, coord_board, coord_view, seat_meaning}
+use Rattle.like_roles.specs.CoordTurns.{CoordinatorView, HasEndedJoined}
+use Rattle.like_roles.specs.declared.log.WorkerLog.{WorkerLog}
+use Rattle.like_roles.specs.Likes.{likes_among}
+use Rattle.like_roles.specs.Service.{Service}
+use Rattle.like_crew.specs.declared.crew.Crew.{Crew}
+use Rattle.like_crew.specs.declared.ended.Ended.{Ended}
+use Rattle.like_crew.specs.Crew.{AllGone, LeadGoesOn}
+use Rattle.like_crew.specs.Log.{IsLog, NoneAbove}
+use Rattle.like_crew.specs.Server.{ServerGoesOn, ServerView, WorksFor}
+use Rattle.like_crew.specs.Servers.{AreServers}
+
+-- the log that a server leaves
+pub record IsLogOf (s : ServerView) (log : WorkerLog) : Type 0 where
+  pub share : log.last.share ≡ s.worker.last.share
+  pub log_is : (service : Service) → WorksFor service s → IsLog service s.worker.last.share.workers s.worker.last.share.worker log
+  pub additions : (service : Service) → WorksFor service s → (page : ℕ) → likes_among service page log.ran.items ≡ additions_of s.worker.post page
+  pub above : NoneAbove s.worker.post.last log.taken.items
+
+-- the seat that a server leaves
+abbrev pub IsSeatOf : ServerView → WorkerSeat → Type 0
+IsSeatOf s seat = seat_meaning seat ≡ s.worker.post
+
+-- a server went on from this one until its worker was gone, and left this log and this seat
+pub record HasLeft (first : ServerView) (log : WorkerLog) (seat : WorkerSeat) : Type 0 where
+  pub server : ServerView
+  pub later : ServerGoesOn first server
+  pub gone : server.worker.post.state ≡ Gone
+  pub log_is : IsLogOf server log
+  pub seat_is : IsSeatOf server seat
+
+-- all servers went on from these until their workers were gone, and left these logs and these seats
+pub record HaveLeft (first : List ServerView) (logs : List WorkerLog) (seats : List WorkerSeat) : Type 0 where
+  pub servers : List ServerView
+  pub later : AllZip ServerGoesOn first servers
+  pub gone : AllGone servers
+  pub logs_are : AllZip IsLogOf servers logs
+  pub seats_are : AllZip IsSeatOf servers seats
+
+-- the coordinator found the run ended, in a joined phase, and left this phase and this seat
+pub record IsLeadOf (v : CoordinatorView) (e : Ended) : Type 0 where
+  pub ended : HasEndedJoined v
+  pub coord : coord_board e.coord ≡ v.board
+  pub view : coord_view e.coord ≡ v.seat
+  pub phases : e.phases ≡ v.phase
+
+-- a crew went on from this one until its run had ended, and left this
+pub record HasEnded (c : Crew) (e : Ended) : Type 0 where
+  pub left : HaveLeft c.servers.items e.logs.items e.seats.items
+  pub lead : CoordinatorView
+  pub later : LeadGoesOn c.lead lead
+  pub lead_is : IsLeadOf lead e
+
+-- a run that has ended: its workers are gone, and their servers left these logs and seats; and it ended in a joined
+-- phase, which is the last one that the coordinator's seat knows
+pub record IsEnded (service : Service) (workers : ℕ) (board : BoardId) (z : Opening) (e : Ended) : Type 0 where
+  pub servers : List ServerView
+  pub are_servers : AreServers service workers (board_numbers board) servers
+  pub gone : AllGone servers
+  pub logs : AllZip IsLogOf servers e.logs.items
+  pub seats : AllZip IsSeatOf servers e.seats.items
+  pub coord : coord_board e.coord ≡ board
+  pub opening : (coord_view e.coord).opening ≡ z
+  pub phases : e.phases ≡ (coord_view e.coord).phase
+  pub joined : IsJoined e.phases

@@ -1,0 +1,9 @@
+pub mod Asked
+pub mod Crew
+pub mod EndToEnd
+pub mod Ended
+pub mod Gathered
+pub mod Log
+pub mod Server
+pub mod Servers
+pub mod Site

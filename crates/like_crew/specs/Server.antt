@@ -1,0 +1,84 @@
+-- A worker with the inboxes of its submitters.
+use Rattle.std.specs.Prelude.{◌≡◌, ◌≢◌, ℕ, ◌+◌, ◌*◌, ◌/◌, ◌<◌, min, nat_lt, if◌then◌else◌, true, List, [], length, map, slice_get, slice_index, slice_index_or, All, IfSome, Some}
+use Rattle.std.specs.List.{range_with_len}
+use Rattle.std.specs.Option.{option_map_or}
+use Rattle.like_requests.specs.Setup.{IsPlan, IsThere}
+use Rattle.like_requests.specs.declared.setup.Setup.{Setup}
+use Rattle.like_requests.specs.declared.request.Request.{Request}
+use Rattle.like_core.specs.declared.worker_state.WorkerState.TheVariants.{Gone}
+use Rattle.like_core.specs.Post.{pages_of}
+use Rattle.like_queue.specs.Inbox.{Inbox}
+use Rattle.like_tables.specs.Share.{Share, serves}
+use Rattle.like_roles.specs.Follows.{Follows}
+use Rattle.like_roles.specs.Service.{Service}
+use Rattle.like_roles.specs.WorkerView.{WorkerView, phase_at}
+use Rattle.like_crew.specs.Log.{IsRising, NoneAbove, numbers_taken}
+
+-- the worker, and the inboxes of its submitters by place
+pub record ServerView : Type 0 where
+  pub worker : WorkerView
+  pub inboxes : List Inbox
+
+-- the plans of inboxes
+abbrev pub plans_of : List Inbox → List (List Request)
+plans_of inboxes = map (λ i. i.plan) inboxes
+
+-- an inbox, where it does not matter how much of it is open
+abbrev pub without_opened : Inbox → Inbox
+without_opened i = record i { opened = 0 }
+
+-- how many requests were taken from an inbox, the end mark aside
+abbrev pub requests_taken : Inbox → ℕ
+requests_taken i = min i.taken (length i.plan)
+
+-- the place of a submitter among those of its worker
+abbrev pub place_of : Share → ℕ → ℕ
+place_of share submitter = submitter / share.workers
+
+-- the numbers of the requests that the inboxes have handed over from a submitter: 1, 2, .. as far as its inbox was taken,
+-- and none of a submitter that another worker serves
+abbrev pub numbers_given : Share → List Inbox → ℕ → List ℕ
+numbers_given share inboxes submitter =
+    if serves share submitter then range_with_len 1 (option_map_or requests_taken (slice_get inboxes (place_of share submitter)) 0) else []
+
+-- what a worker keeps of the submitter at a place agrees with its inbox: how many requests are left, and whether the end
+-- mark was taken; and the pages of its plan are there
+pub record AgreesAt (v : WorkerView) (place : ℕ) (i : Inbox) : Type 0 where
+  pub left : slice_index v.left place + requests_taken i ≡ length i.plan
+  pub ended : slice_index_or v.ended place true ≡ nat_lt (length i.plan) i.taken
+  pub there : All (λ r. IsThere (pages_of v.post) r.page) i.plan
+
+-- the inboxes have the plans of a worker's submitters
+abbrev pub AreOwnPlans : Service → ℕ → ℕ → List Inbox → Type 0
+AreOwnPlans service workers worker inboxes = (place : ℕ) → slice_get (plans_of inboxes) place ≡ slice_get service.plans (worker + workers * place)
+
+-- a server works for a service: its inboxes have the plans of its submitters, and its worker does as they say
+pub record WorksFor (service : Service) (s : ServerView) : Type 0 where
+  pub plans : AreOwnPlans service s.worker.last.share.workers s.worker.last.share.worker s.inboxes
+  pub follows : Follows service s.worker
+
+-- a worker and its inboxes agree: it took from each submitter what the inbox handed over; and the phases in which it took
+-- never fell, and none is above the phase that it saw last, which is the one that it runs or has answered
+pub record Agree (v : WorkerView) (inboxes : List Inbox) : Type 0 where
+  pub is_worker : v.last.share.worker < v.last.share.workers
+  pub lefts : length v.left ≡ length inboxes
+  pub places : length v.ended ≡ length inboxes
+  pub each : (place : ℕ) (i : Inbox) → slice_get inboxes place ≡ Some i → AgreesAt v place i
+  pub taken : (submitter : ℕ) → numbers_taken submitter v.taken ≡ numbers_given v.last.share inboxes submitter
+  pub rising : IsRising v.taken
+  pub above : NoneAbove v.post.last v.taken
+  pub present : v.post.state ≢ Gone → IfSome v.post.last (λ sight. sight.number ≡ phase_at v)
+
+-- untouched inboxes for a worker's submitters, whose numbers of requests these are
+pub record AreInboxesFor (s : Setup) (sizes : List ℕ) (worker : ℕ) (inboxes : List Inbox) : Type 0 where
+  pub sized : (place : ℕ) → slice_get (map length (plans_of inboxes)) place ≡ slice_get sizes (worker + s.workers * place)
+  pub untouched : All (λ i. i.taken ≡ 0) inboxes
+  pub plans : All (λ i. IsPlan s.pages i.plan) inboxes
+
+-- the same server, later: at the same place of the same board, and at work for the same services
+pub record ServerGoesOn (s t : ServerView) : Type 0 where
+  pub share : t.worker.last.share ≡ s.worker.last.share
+  pub whose : t.worker.post.worker ≡ s.worker.post.worker
+  pub board : t.worker.post.board ≡ s.worker.post.board
+  pub inboxes : length t.inboxes ≡ length s.inboxes
+  pub works : (service : Service) → WorksFor service s → WorksFor service t

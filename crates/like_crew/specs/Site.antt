@@ -1,0 +1,27 @@
+-- What a run stands on.
+use Rattle.std.specs.Prelude.{◌≡◌, List, length, map}
+use Rattle.like_requests.specs.Pages.{counts_of, marks_of}
+use Rattle.like_requests.specs.declared.request.Request.{Request}
+use Rattle.like_requests.specs.declared.setup.Setup.{Setup}
+use Rattle.like_core.specs.declared.opening.Opening.{Opening}
+use Rattle.like_board.specs.Seats.{board_id, coord_board, coord_view}
+use Rattle.like_roles.specs.New.{AreNewSeats}
+use Rattle.like_crew.specs.declared.site.Seats.{Seats}
+use Rattle.like_crew.specs.declared.site.Site.{Site}
+
+-- the opening of the board of a run
+abbrev pub opening_of : Setup → Opening
+opening_of setup = record { workers = setup.workers; counts = counts_of setup.pages; marks = marks_of setup.pages }
+
+-- the numbers that a run of these plans goes by
+pub record IsSite (setup : Setup) (plans : List (List Request)) (site : Site) : Type 0 where
+  pub sizes : site.sizes.items ≡ map length plans
+  pub counts : site.counts.items ≡ (opening_of setup).counts
+
+-- the seats of the coordinator and of each worker of a site's board, none of which made a step yet
+pub record AreSeats (setup : Setup) (site : Site) (seats : Seats) : Type 0 where
+  pub board : coord_board seats.coord ≡ board_id site.board
+  pub start : (coord_view seats.coord).phase ≡ 0
+  pub opening : (coord_view seats.coord).opening ≡ opening_of setup
+  pub workers : length seats.workers.items ≡ setup.workers
+  pub new : AreNewSeats (board_id site.board) setup.pages seats.workers.items

@@ -1,0 +1,107 @@
+ghost use Rattle.std.specs.Prelude.{◌≡◌, ◌<◌, IfOk, length, true};
+ghost use Rattle.like_requests.specs.Setup.{IsWithinLimits};
+ghost use Rattle.like_roles.specs.CoordTurns.{HasEndedJoined};
+ghost use Rattle.like_crew.specs.Asked.{lists_of};
+ghost use Rattle.like_crew.specs.Crew.{AllGone, GoesOn, HasInbox, IsCrew};
+ghost use Rattle.like_crew.specs.Ended.{HasEnded};
+ghost use Rattle.like_crew.specs.Site.{AreSeats, IsSite};
+
+use crate::crew::making::servers_of;
+use crate::crew::servers::{finish_all, open_all, open_one, turn_of, turns};
+use crate::ended::Ended;
+use crate::site::{Seats, Site};
+use like_board::BoardPost;
+use like_requests::{Request, Setup};
+use like_roles::{CoordTurn, Turn};
+use std::alloc::{AllocError, Global};
+
+mod hands;
+mod lead;
+mod making;
+mod server;
+mod servers;
+
+pub use lead::Lead;
+pub use server::Server;
+
+/// The crew of a run: the coordinator at its board, and for each worker, in order, its server.
+#[derive(Drop)]
+pub struct Crew<'a> {
+    pub lead: Lead<'a>,
+    pub servers: Vec<Server<BoardPost<'a>>>,
+}
+
+impl<'a> Crew<'a> {
+    /// The crew of a run within the limits, at a new board. Of the lists nothing is open.
+    pub fn new(
+        alloc: Global,
+        setup: &Setup,
+        site: &'a Site,
+        seats: Seats,
+        plans: Vec<Vec<Request>>,
+    ) -> Result<Crew<'a>, AllocError>
+        requires within { IsWithinLimits setup.now (lists_of plans.items) }
+        requires site { IsSite setup.now (lists_of plans.items) site.now }
+        requires seats { AreSeats setup.now site.now seats }
+        ensures { IfOk result (IsCrew setup.now (lists_of plans.items) site.now) }
+    {
+        let Seats { coord, workers } = seats;
+        let servers = servers_of(alloc, setup, &site.sizes, &site.board, workers, plans)?;
+        Ok(Crew {
+            lead: Lead::new(&site.board, coord, setup.turns),
+            servers,
+        })
+    }
+
+    /// Makes one turn of the coordinator and one of each worker, in order, and says whether the run ended with it.
+    pub fn round(&mut self) -> bool
+        ensures goes_on { GoesOn self.old self.new }
+        ensures ended { result ≡ true → HasEndedJoined self.new.lead }
+        ensures gone { result ≡ true → AllGone self.new.servers.items }
+    {
+        let ended = self.lead.ends();
+        let gone = turns(&mut self.servers);
+        ended && gone
+    }
+
+    /// Makes one turn of the coordinator.
+    pub fn turn(&mut self) -> CoordTurn
+        ensures { GoesOn self.old self.new }
+    {
+        self.lead.turn()
+    }
+
+    /// Makes one turn of a worker.
+    pub fn turn_of(&mut self, worker: u32) -> Turn
+        requires { worker < length self.old.servers.items }
+        ensures { GoesOn self.old self.new }
+    {
+        turn_of(&mut self.servers, worker)
+    }
+
+    /// Opens one item more of a submitter's list.
+    pub fn open_one(&mut self, submitter: u32)
+        requires { HasInbox self.old.servers.items submitter }
+        ensures { GoesOn self.old self.new }
+    {
+        open_one(&mut self.servers, submitter);
+    }
+
+    /// Opens all lists.
+    pub fn open_all(&mut self)
+        ensures { GoesOn self.old self.new }
+    {
+        open_all(&mut self.servers);
+    }
+
+    /// Takes a crew apart whose run has ended.
+    pub fn finish(self, alloc: Global) -> Result<Ended, AllocError>
+        requires ended { HasEndedJoined self.lead }
+        requires gone { AllGone self.servers.items }
+        ensures { IfOk result (HasEnded self.entry) }
+    {
+        let Crew { lead, servers } = self;
+        let (logs, seats) = finish_all(alloc, servers)?;
+        Ok(Ended::new(lead, logs, seats))
+    }
+}

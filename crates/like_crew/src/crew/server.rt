@@ -1,0 +1,125 @@
+ghost use Rattle.std.specs.Prelude.{◌≡◌, ◌<◌, ℕ, IfOk, IfErr, length};
+ghost use Rattle.like_core.specs.declared.worker_state.WorkerState.TheVariants.{Gone};
+ghost use Rattle.like_core.specs.Post.{additions_of};
+ghost use Rattle.like_tables.specs.Share.{share_of};
+ghost use Rattle.like_roles.specs.Likes.{likes_among};
+ghost use Rattle.like_requests.specs.Setup.{IsWithin};
+ghost use Rattle.like_roles.specs.New.{IsPostOf};
+ghost use Rattle.like_roles.specs.Service.{Service};
+ghost use Rattle.like_crew.specs.Log.{IsLog, NoneAbove};
+ghost use Rattle.like_roles.specs.Follows.{IsServiceOf};
+ghost use Rattle.like_crew.specs.Server.{AreInboxesFor, AreOwnPlans, ServerGoesOn, WorksFor, place_of};
+
+use like_core::Post;
+use like_queue::ListInbox;
+use like_requests::Setup;
+use like_roles::{Gate, NoWorker, Turn, Worker, WorkerLog};
+use std::alloc::Global;
+use std::marker::Model;
+
+/// A worker with the inboxes of the submitters that it serves: the inbox at place `j` is that of submitter `w + j N`,
+/// for worker `w` of `N`.
+#[derive(Drop)]
+pub struct Server<P: Post> {
+    worker: Worker<P>,
+    // How many workers there are.
+    workers: u32,
+    inboxes: Vec<ListInbox>,
+}
+
+impl<P: Post> Model for Server<P> {
+    ghost use Rattle.std.specs.Prelude.{◌≡◌, None};
+    ghost use Rattle.like_crew.specs.Server.{ServerView, Agree};
+
+    ghost Value = { ServerView };
+
+    ghost view = { λ s. record { worker = s.worker; inboxes = s.inboxes.items } };
+
+    ghost invariant = { λ s. (s.worker.pending ≡ None) × (s.workers ≡ s.worker.last.share.workers) × Agree s.worker s.inboxes.items };
+}
+
+impl<P: Post> Server<P> {
+    /// Worker `number` at its post, with the inboxes of its submitters. All its room is made here: its turns take no
+    /// memory.
+    pub fn new(
+        alloc: Global,
+        setup: &Setup,
+        sizes: &[u32],
+        number: u32,
+        post: P,
+        inboxes: Vec<ListInbox>,
+    ) -> Result<Server<P>, NoWorker<P>>
+        requires within { IsWithin setup.now sizes.now }
+        requires is_worker { number < setup.now.workers }
+        requires post { IsPostOf number setup.now.pages (P.view post) }
+        requires inboxes { AreInboxesFor setup.now sizes.now number inboxes.items }
+        ensures share { IfOk result (λ server. server.worker.last.share ≡ share_of setup.now.users (length sizes.now) setup.now.workers number) }
+        ensures at_post { IfOk result (λ server. server.worker.post ≡ P.view post) }
+        ensures works { IfOk result (λ server. (service : Service) → IsServiceOf setup.now.users setup.now.pages sizes.now service
+            → AreOwnPlans service setup.now.workers number inboxes.items → WorksFor service server) }
+        ensures post { IfErr result (λ refused. refused.post ≡ post) }
+    {
+        let worker = Worker::new(alloc, setup, sizes, number, post)?;
+        Ok(Server {
+            worker,
+            workers: setup.workers,
+            inboxes,
+        })
+    }
+
+    /// Opens one item more of a submitter's list.
+    pub fn open_one(&mut self, submitter: u32)
+        requires { place_of self.old.worker.last.share submitter < length self.old.inboxes }
+        ensures { ServerGoesOn self.old self.new }
+    {
+        let place = (submitter / self.workers) as usize;
+        self.inboxes[place].open_one();
+    }
+
+    /// Opens all lists.
+    pub fn open_all(&mut self)
+        ensures { ServerGoesOn self.old self.new }
+    {
+        let places = self.inboxes.len();
+        for place in 0..places {
+            self.open_whole(place);
+        }
+    }
+
+    // Opens the list at a place.
+    fn open_whole(&mut self, place: usize)
+        requires { place < length self.old.inboxes }
+        ensures { ServerGoesOn self.old self.new }
+    {
+        self.inboxes[place].open_all();
+    }
+
+    /// Makes one whole turn of the worker: where it tries a submitter, it is given what that one's inbox has.
+    pub fn turn<G: Gate>(&mut self, gate: &G) -> Turn
+        ensures goes_on { ServerGoesOn self.old self.new }
+        ensures retired { result ≡ Turn.Retired → self.new.worker.post.state ≡ Gone }
+    {
+        match self.worker.turn(gate) {
+            Turn::Try { submitter } => {
+                let place = (submitter / self.workers) as usize;
+                let taken = self.inboxes[place].take();
+                self.worker.give(gate, taken)
+            }
+            turn => turn,
+        }
+    }
+
+    /// Takes it apart when its worker is gone: what the worker has done, and its post.
+    pub fn finish(self) -> (WorkerLog, P)
+        requires { self.worker.post.state ≡ Gone }
+        ensures log { (service : Service) → WorksFor service self
+            → IsLog service self.worker.last.share.workers self.worker.last.share.worker result.0 }
+        ensures additions { (service : Service) → WorksFor service self
+            → (page : ℕ) → likes_among service page result.0.ran.items ≡ additions_of self.worker.post page }
+        ensures share { result.0.last.share ≡ self.worker.last.share }
+        ensures seen { NoneAbove self.worker.post.last result.0.taken.items }
+        ensures post { P.view result.1 ≡ self.worker.post }
+    {
+        self.worker.finish()
+    }
+}

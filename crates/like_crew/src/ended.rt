@@ -1,0 +1,35 @@
+ghost use Rattle.std.specs.Prelude.{◌≡◌};
+ghost use Rattle.like_roles.specs.CoordTurns.{HasEndedJoined};
+ghost use Rattle.like_crew.specs.Ended.{IsLeadOf};
+
+use crate::crew::Lead;
+use like_board::{CoordSeat, WorkerSeat};
+use like_roles::WorkerLog;
+
+/// What a crew leaves when its run has ended.
+#[derive(Drop)]
+pub struct Ended {
+    pub(crate) logs: Vec<WorkerLog>,
+    pub(crate) seats: Vec<WorkerSeat>,
+    /// The phase in which it ended.
+    pub(crate) phases: u32,
+    pub(crate) coord: CoordSeat,
+}
+
+impl Ended {
+    /// What a coordinator leaves, with the logs and the seats of the workers.
+    pub fn new(lead: Lead<'_>, logs: Vec<WorkerLog>, seats: Vec<WorkerSeat>) -> Ended
+        requires { HasEndedJoined lead }
+        ensures lead { IsLeadOf lead.entry result }
+        ensures logs { result.logs ≡ logs }
+        ensures seats { result.seats ≡ seats }
+    {
+        let coordinator = lead.coordinator;
+        Ended {
+            logs,
+            seats,
+            phases: coordinator.phase(),
+            coord: coordinator.finish(),
+        }
+    }
+}

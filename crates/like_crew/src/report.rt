@@ -1,0 +1,79 @@
+ghost use Rattle.std.specs.Prelude.{◌≡◌, ◌<◌, ◌≤◌, ℕ, All, IfOk, IfSome, length, slice_index};
+ghost use Rattle.like_requests.specs.Setup.{IsWithinLimits};
+ghost use Rattle.like_board.specs.Seats.{AreAll, board_id, coord_board, coord_view, last_count, seat_board, seat_meaning};
+ghost use Rattle.like_core.specs.declared.worker_state.WorkerState.TheVariants.{Gone};
+ghost use Rattle.like_crew.specs.Asked.{asked, lists_of};
+ghost use Rattle.like_crew.specs.EndToEnd.{IsEndToEnd};
+ghost use Rattle.like_crew.specs.Ended.{IsEnded};
+ghost use Rattle.like_crew.specs.Site.{IsSite, opening_of};
+
+use crate::ended::Ended;
+use crate::report::gathered::{last_likes, replies_of};
+use crate::site::Site;
+use like_board::{Board, CoordSeat, WorkerSeat};
+use like_replies::Report;
+use like_requests::{Request, Setup};
+use std::alloc::{AllocError, Global};
+use std::snapshot::Snapshot;
+
+mod gathered;
+
+/// The report of a run of these plans that has ended.
+pub fn report_of(
+    alloc: Global,
+    setup: &Setup,
+    plans: &Snapshot<Vec<Vec<Request>>>,
+    site: Site,
+    ended: Ended,
+) -> Result<Report, AllocError>
+    requires within { IsWithinLimits setup.now (lists_of plans.now.value.items) }
+    requires site { IsSite setup.now (lists_of plans.now.value.items) site }
+    requires ended { let service = asked setup.now plans.now.value.items in
+        IsEnded service setup.now.workers (board_id site.board) (opening_of setup.now) ended }
+    ensures { IfOk result (IsEndToEnd (asked setup.now plans.now.value.items) setup.now.workers) }
+{
+    let Site {
+        sizes,
+        counts,
+        board,
+    } = site;
+    let Ended {
+        logs,
+        seats,
+        phases,
+        coord,
+    } = ended;
+    let counts = final_counts(board, coord, seats, counts);
+    let replies = replies_of(alloc, &sizes, &logs)?;
+    let last = last_likes(alloc, setup.users, sizes.len() as u32, &logs)?;
+    Ok(Report {
+        logs,
+        replies,
+        counts,
+        last,
+        phases,
+    })
+}
+
+// Ends the board, and gives the final counts in place of the initial ones.
+fn final_counts(
+    board: Board,
+    coord: CoordSeat,
+    seats: Vec<WorkerSeat>,
+    initial: Vec<u64>,
+) -> Vec<u64>
+    requires coord_here { coord_board coord ≡ board_id board }
+    requires seats_here { All (λ seat. seat_board seat ≡ board_id board) seats.items }
+    requires all { AreAll (coord_view coord).opening.workers seats.items }
+    requires gone { All (λ seat. (seat_meaning seat).state ≡ Gone) seats.items }
+    requires places { length initial.items ≡ length (coord_view coord).opening.counts }
+    ensures len { length result.items ≡ length initial.items }
+    ensures counts { (page : ℕ) → page < length initial.items
+        → slice_index result.items page ≡ last_count (coord_view coord).opening seats.items page }
+    ensures phases { All (λ seat. IfSome (seat_meaning seat).last (λ sight. sight.number ≤ (coord_view coord).phase))
+        seats.items }
+{
+    let mut counts = initial;
+    board.close(coord, seats, &mut counts);
+    counts
+}

@@ -1,0 +1,51 @@
+ghost use Rattle.std.specs.Prelude.{◌≡◌, ◌<◌, ◌≤◌, ℕ, IfOk, Some, length, slice_get};
+ghost use Rattle.like_requests.specs.Verdict.{home};
+ghost use Rattle.like_requests.specs.Limits.{max_submitters};
+ghost use Rattle.like_replies.specs.Collected.{IsCollected, rows_of};
+ghost use Rattle.like_replies.specs.Entries.{entries_in};
+ghost use Rattle.like_roles.specs.declared.log.WorkerLog.{WorkerLog as Log};
+ghost use Rattle.like_tables.specs.Share.{worker_of};
+ghost use Rattle.like_tables.specs.UserTable.{last_of};
+ghost use Rattle.like_crew.specs.Gathered.{AreTables, RunsOnce};
+
+use like_replies::{CollectFault, Replies, collect};
+use like_roles::WorkerLog;
+use std::alloc::{AllocError, Global};
+
+/// The replies, where the logs have one entry for each request and no other.
+pub fn replies_of(alloc: Global, sizes: &[u32], logs: &[WorkerLog]) -> Result<Replies, AllocError>
+    requires few { length sizes.now ≤ max_submitters }
+    requires once { RunsOnce sizes.now (entries_in logs.now) }
+    ensures { IfOk result (λ replies. IsCollected sizes.now (entries_in logs.now) (rows_of replies)) }
+{
+    let fault = match collect(alloc, sizes, logs) {
+        Ok(replies) => return Ok(replies),
+        Err(fault) => fault,
+    };
+    match fault {
+        CollectFault::Memory => Err(AllocError),
+        _ => unreachable!(),
+    }
+}
+
+/// The last like of each user, as the log of its worker has it.
+pub fn last_likes(
+    alloc: Global,
+    users: u32,
+    submitters: u32,
+    logs: &[WorkerLog],
+) -> Result<Vec<Option<u32>>, AllocError>
+    requires submitters { 1 ≤ submitters }
+    requires logs { 1 ≤ length logs.now }
+    requires tables { AreTables users submitters logs.now }
+    ensures len { IfOk result (λ last. length last.items ≡ users) }
+    ensures last { IfOk result (λ last. (user : ℕ) (log : Log) → user < users → slice_get logs.now (worker_of (length logs.now) (home submitters user)) ≡ Some log
+        → slice_get last.items user ≡ Some (last_of log.last user)) }
+{
+    let mut last = Vec::new(alloc);
+    for user in 0..users {
+        let worker = (user % submitters) as usize % logs.len();
+        last.push(logs[worker].last.last(user))?;
+    }
+    Ok(last)
+}

@@ -1,5 +1,0 @@
-use Rattle.std.proofs.Common.{◌≡◌, length, map, take}
-use Rattle.like_run.proofs.making.sizes_of.Given as goal
-
-abbrev pub invariant-loop-plan : goal.invariant-loop-plan
-invariant-loop-plan l = l.sizes.items ≡ map (λ plan. length plan.items) (take l.plan-index l.plans)

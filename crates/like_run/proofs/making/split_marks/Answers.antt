@@ -1,9 +1,0 @@
-use Rattle.std.proofs.Common.{refl, add-one}
-use Rattle.like_requests.specs.Pages.{Page}
-use Rattle.like_run.proofs.Makings.{map-more}
-use Rattle.like_run.proofs.making.split_marks.Goals as goal
-
-pub loop-page-preserved : goal.loop-page-preserved
-loop-page-preserved c =
-    let more = map-more (λ (p : Page). p.split) c.args.pages.now c.loop-page.page c.split.result c.split.ensures in
-    rw (c.in_ok-push.ensures.items, add-one, more, c.loop-page.invariant) refl

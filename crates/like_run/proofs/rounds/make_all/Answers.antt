@@ -1,0 +1,16 @@
+use Rattle.std.proofs.Common.{get_or}
+use Rattle.like_script.specs.declared.turned.Turned.TheVariants.{OpenOne}
+use Rattle.like_crew.proofs.Coordinated.{crew-further, crew-same}
+use Rattle.like_run.proofs.Entries.{can-make-later}
+use Rattle.like_run.proofs.rounds.make_all.Goals as goal
+
+pub loop-entry-init : goal.loop-entry-init
+loop-entry-init c = crew-same c.args.crew.now
+
+pub loop-entry-preserved : goal.loop-entry-preserved
+loop-entry-preserved c = crew-further _ c.loop-entry.crew c.make.new.crew c.loop-entry.invariant c.make.ensures
+
+pub make-requires : goal.make-requires
+make-requires c =
+    can-make-later c.args.crew.now.servers.items c.loop-entry.crew.servers.items (get_or c.args.script.now c.loop-entry.entry-index (OpenOne 0)) c.loop-entry.invariant.servers
+    (c.requires c.loop-entry.entry-index (OpenOne 0) c.loop-entry-test.true)

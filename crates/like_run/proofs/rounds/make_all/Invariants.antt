@@ -1,0 +1,5 @@
+use Rattle.like_crew.specs.Crew.{GoesOn}
+use Rattle.like_run.proofs.rounds.make_all.Given as goal
+
+abbrev pub invariant-loop-entry : goal.invariant-loop-entry
+invariant-loop-entry l = GoesOn l.initial.crew l.crew

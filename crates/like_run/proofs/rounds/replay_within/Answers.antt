@@ -1,0 +1,31 @@
+use Rattle.std.proofs.Common.{List, Vec, Global, get_or, sym, ◌∙◌, subst}
+use Rattle.std.proofs.lemmas.List.{length-map}
+use Rattle.like_requests.specs.Setup.{IsWithinLimits}
+use Rattle.like_requests.specs.declared.request.Request.{Request}
+use Rattle.like_script.specs.Fit.{IsInRun}
+use Rattle.like_board.specs.Seats.{board_id}
+use Rattle.like_crew.specs.Asked.{asked, lists_of}
+use Rattle.like_crew.specs.Ended.{IsEnded}
+use Rattle.like_crew.specs.Site.{IsSite, opening_of}
+use Rattle.like_crew.proofs.Ending.{has-ended}
+use Rattle.like_crew.proofs.Asked.{requests_of}
+use Rattle.like_run.proofs.Entries.{can-make}
+use Rattle.like_run.proofs.rounds.replay_within.Goals as goal
+
+pub new-requires : goal.new-requires
+new-requires c = subst (λ (xs : List (Vec Request Global)). IsWithinLimits c.args.setup.now (lists_of xs)) (sym c.deref.ensures.value) c.requires.within
+
+pub play-requires : goal.play-requires
+play-requires c = λ k d within.
+    can-make c.args.setup.now (lists_of c.args.plans.items) c.in_ok-site.site c.in_ok-crew.crew (get_or c.args.script.now k d) c.in_ok-crew.ensures c.requires.within.numbers.workers.0
+    (subst (λ n. IsInRun c.args.setup.now.workers n (get_or c.args.script.now k d)) (sym (length-map c.args.plans.items requests_of)) (c.requires.script k d within))
+
+pub report_of-requires-clause-site : goal.report_of-requires-clause-site
+report_of-requires-clause-site c =
+    subst (λ (v : Vec (Vec Request Global) Global). IsSite c.args.setup.now (lists_of v.items) c.in_ok-site.site) (sym c.of-lists.ensures)
+    (subst (λ (xs : List (Vec Request Global)). IsSite c.args.setup.now (lists_of xs) c.in_ok-site.site) c.deref.ensures.value c.in_ok-site.ensures.site)
+
+pub report_of-requires-clause-ended : goal.report_of-requires-clause-ended
+report_of-requires-clause-ended c =
+    subst (λ (v : Vec (Vec Request Global) Global). IsEnded (asked c.args.setup.now v.items) c.args.setup.now.workers (board_id c.in_ok-site.site.board) (opening_of c.args.setup.now) c.in_ok-ended.ended) (sym c.of-lists.ensures)
+    (has-ended c.args.setup.now (lists_of c.args.plans.items) c.in_ok-site.site c.in_ok-crew.crew c.in_ok-ended.ended c.in_ok-crew.ensures c.in_ok-ended.ensures.ended)

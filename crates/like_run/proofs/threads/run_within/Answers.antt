@@ -1,0 +1,22 @@
+use Rattle.std.proofs.Common.{List, Vec, Global, sym, subst}
+use Rattle.like_requests.specs.Setup.{IsWithinLimits}
+use Rattle.like_requests.specs.declared.request.Request.{Request}
+use Rattle.like_board.specs.Seats.{board_id}
+use Rattle.like_crew.specs.Asked.{asked, lists_of}
+use Rattle.like_crew.specs.Ended.{IsEnded}
+use Rattle.like_crew.specs.Site.{IsSite, opening_of}
+use Rattle.like_crew.proofs.Ending.{has-ended}
+use Rattle.like_run.proofs.threads.run_within.Goals as goal
+
+pub new-requires : goal.new-requires
+new-requires g c = subst (λ (xs : List (Vec Request Global)). IsWithinLimits c.args.setup.now (lists_of xs)) (sym c.deref.ensures.value) c.requires
+
+pub report_of-requires-clause-site : goal.report_of-requires-clause-site
+report_of-requires-clause-site g c =
+    subst (λ (v : Vec (Vec Request Global) Global). IsSite c.args.setup.now (lists_of v.items) c.in_ok-site.site) (sym c.of-lists.ensures)
+    (subst (λ (xs : List (Vec Request Global)). IsSite c.args.setup.now (lists_of xs) c.in_ok-site.site) c.deref.ensures.value c.in_ok-site.ensures.site)
+
+pub report_of-requires-clause-ended : goal.report_of-requires-clause-ended
+report_of-requires-clause-ended g c =
+    subst (λ (v : Vec (Vec Request Global) Global). IsEnded (asked c.args.setup.now v.items) c.args.setup.now.workers (board_id c.in_ok-site.site.board) (opening_of c.args.setup.now) c.in_ok-ended.ended) (sym c.of-lists.ensures)
+    (has-ended c.args.setup.now (lists_of c.args.plans.items) c.in_ok-site.site c.in_ok-crew.crew c.in_ok-ended.ended c.in_ok-crew.ensures c.in_ok-ended.ensures.ended)

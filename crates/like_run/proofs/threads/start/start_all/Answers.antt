@@ -1,0 +1,31 @@
+use Rattle.std.proofs.Common.{◌≡◌, ◌∙◌, ◌++◌, ◌∷◌, [], ℕ, map, subst, sym, ap}
+use Rattle.std.specs.List.{All}
+use Rattle.std.proofs.lemmas.List.{map_push}
+use Rattle.std.proofs.lemmas.List.Elements.{All-append}
+use Rattle.std.specs.declared.thread.PromisedHandle.{PromisedHandle}
+use Rattle.like_run.specs.declared.threads.worker.Owes.{Owes}
+use Rattle.like_run.specs.declared.threads.worker.Served.{Served}
+use Rattle.like_crew.specs.Server.{ServerView}
+use Rattle.like_crew.proofs.Leaving.{all-one}
+use Rattle.like_run.proofs.threads.start.start_all.Goals as goal
+
+abbrev first_of : PromisedHandle Served Owes → ServerView
+first_of thread = thread.promise.server.value
+
+abbrev start_of : PromisedHandle Served Owes → ℕ
+start_of thread = thread.promise.start.now.id
+
+pub loop-server-preserved : goal.loop-server-preserved
+loop-server-preserved g c =
+    let l = c.loop-server in
+    let thread : PromisedHandle Served Owes = c.in-Ok.thread in
+    let pushed : c.push_reserved.new.self.items ≡ l.threads.items ++ thread ∷ [] = c.push_reserved.ensures.items in
+    let whose : thread.promise ≡ record { server = c.of.result; start = c.args.start } = c.in-Ok.ensures.ok in
+    let told : start_of thread ≡ c.args.start.now.id = ap (λ (p : Owes). p.start.now.id) whose in
+    let first : first_of thread ≡ c.in-Some.server = ap (λ (p : Owes). p.server.value) whose ∙ c.of.ensures in
+    let Told : PromisedHandle Served Owes → Type 0 = λ t. start_of t ≡ c.args.start.now.id in
+    record {
+      room = c.push_reserved.ensures.capacity ∙ l.invariant.room;
+      told = subst (All Told) (sym pushed) (All-append Told l.threads.items (thread ∷ []) l.invariant.told (all-one Told thread told));
+      servers = ap (map first_of) pushed ∙ map_push first_of l.threads.items thread ∙ ap (λ xs. xs ++ first_of thread ∷ []) l.invariant.servers ∙ ap (λ s. l.yielded ++ s ∷ []) first;
+    }

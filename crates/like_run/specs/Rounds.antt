@@ -1,0 +1,37 @@
+-- A replay: which entries a crew can make, and why there is no report.
+use Rattle.std.specs.Prelude.{◌⊎◌, ◌<◌, List, length, All, ⊤}
+use Rattle.like_requests.specs.Setup.{IsFirstBroken, IsWithinLimits}
+use Rattle.like_requests.specs.declared.request.Request.{Request}
+use Rattle.like_requests.specs.declared.setup.Setup.{Setup}
+use Rattle.like_run.specs.declared.rounds.fault.ReplayFault.{ReplayFault}
+use Rattle.like_run.specs.declared.rounds.fault.ReplayFault.TheVariants.{Settings, Memory, Unfinished}
+use Rattle.like_script.specs.declared.turned.Turned.{Turned}
+use Rattle.like_script.specs.declared.turned.Turned.TheVariants.{OpenOne, Worker, Coordinator}
+use Rattle.like_crew.specs.Crew.{HasInbox}
+use Rattle.like_crew.specs.Server.{ServerView}
+use Rattle.like_script.specs.Fit.{IsFirstAway, IsInRun}
+
+-- a crew with these servers can make an entry: its submitter has an inbox, or its worker is there
+abbrev pub CanMake : List ServerView → Turned → Type 0
+CanMake servers (OpenOne submitter) = HasInbox servers submitter
+CanMake servers (Worker worker) = worker < length servers
+CanMake servers Coordinator = ⊤
+
+-- the settings and the lists are within their limits, and the script's submitters and workers are there
+pub record Fits (setup : Setup) (plans : List (List Request)) (script : List Turned) : Type 0 where
+  pub within : IsWithinLimits setup plans
+  pub there : All (IsInRun setup.workers (length plans)) script
+
+-- no fault of the settings, the lists or the script
+abbrev pub IsFaultUnderWay : ReplayFault → Type 0
+IsFaultUnderWay (Settings why) = ⊥
+IsFaultUnderWay Memory = ⊤
+IsFaultUnderWay Unfinished = ⊤
+
+-- the first limit that the settings and the lists break, or else the first entry of the script that is away; or else
+-- memory ran out, or the run did not end
+abbrev pub IsReplayFault : Setup → List (List Request) → List Turned → ReplayFault → Type 0
+IsReplayFault setup plans script (Settings why) =
+    IsFirstBroken setup plans why ⊎ (IsWithinLimits setup plans × IsFirstAway setup.workers (length plans) script why)
+IsReplayFault setup plans script Memory = Fits setup plans script
+IsReplayFault setup plans script Unfinished = Fits setup plans script

@@ -1,0 +1,28 @@
+-- A run on threads: what the threads of its workers end with, and why it gives no report.
+use Rattle.std.specs.Prelude.{◌≡◌, ℕ, List, ⊤, false}
+use Rattle.like_requests.specs.Setup.{IsFirstBroken, IsWithinLimits}
+use Rattle.like_requests.specs.declared.request.Request.{Request}
+use Rattle.like_requests.specs.declared.setup.Setup.{Setup}
+use Rattle.like_crew.specs.Ended.{HasLeft}
+use Rattle.like_crew.specs.Server.{ServerView}
+use Rattle.like_run.specs.declared.threads.fault.RunFault.{RunFault}
+use Rattle.like_run.specs.declared.threads.fault.RunFault.TheVariants.{Settings, Memory, Start}
+use Rattle.like_run.specs.declared.threads.worker.Served.{Served}
+use Rattle.like_run.specs.declared.threads.worker.Served.TheVariants.{Left, Stopped}
+
+-- what a thread ends with that began with this server: what the server left; or the word that no thread goes on
+abbrev pub Keeps : ℕ → ServerView → Served → Type 0
+Keeps start first (Left log seat) = HasLeft first log seat
+Keeps start first (Stopped token) = (token.of ≡ start) × (token.value ≡ false)
+
+-- no fault of the settings or the lists
+abbrev pub IsFaultUnderWay : RunFault → Type 0
+IsFaultUnderWay (Settings why) = ⊥
+IsFaultUnderWay Memory = ⊤
+IsFaultUnderWay Start = ⊤
+
+-- the first limit that the settings and the lists break; or else memory ran out, or a thread could not be started
+abbrev pub IsRunFault : Setup → List (List Request) → RunFault → Type 0
+IsRunFault setup plans (Settings why) = IsFirstBroken setup plans why
+IsRunFault setup plans Memory = IsWithinLimits setup plans
+IsRunFault setup plans Start = IsWithinLimits setup plans

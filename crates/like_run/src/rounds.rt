@@ -1,0 +1,117 @@
+ghost use Rattle.std.specs.Prelude.{◌≡◌, ◌≤◌, All, IfErr, IfOk, OnOk, length, true};
+ghost use Rattle.like_requests.specs.Setup.{IsWithinLimits};
+ghost use Rattle.like_roles.specs.CoordTurns.{HasEndedJoined};
+ghost use Rattle.like_script.specs.Fit.{IsInRun};
+ghost use Rattle.like_script.specs.Limits.{max_entries};
+ghost use Rattle.like_crew.specs.Asked.{asked, lists_of};
+ghost use Rattle.like_crew.specs.Crew.{AllGone, GoesOn};
+ghost use Rattle.like_crew.specs.EndToEnd.{IsEndToEnd};
+ghost use Rattle.like_crew.specs.Ended.{HasEnded};
+ghost use Rattle.like_run.specs.Rounds.{CanMake, Fits, IsFaultUnderWay, IsReplayFault};
+
+use like_crew::{Crew, Ended, Site, report_of};
+use like_replies::Report;
+use like_requests::{Request, Setup, check_setup};
+use like_script::{Turned, check_script};
+use std::alloc::Global;
+use std::snapshot::Snapshot;
+
+mod fault;
+
+pub use fault::ReplayFault;
+
+/// The most rounds of a replay.
+pub const MAX_ROUNDS: u32 = 1_000_000;
+
+/// Replays a run on one thread. First the script's entries are made in their order; then all lists are opened, and
+/// rounds follow: one turn of the coordinator, and one of each worker in order. It ends with the round in which the
+/// coordinator finds the run ended and every worker is gone; where 1,000,000 rounds were made without that, it is
+/// `Unfinished`. On a fault the lists are given up.
+pub fn replay(
+    alloc: Global,
+    setup: &Setup,
+    plans: Vec<Vec<Request>>,
+    script: &[Turned],
+) -> Result<Report, ReplayFault>
+    requires { length script.now ≤ max_entries }
+    ensures report { IfOk result (IsEndToEnd (asked setup.now plans.items) setup.now.workers) }
+    ensures fits { OnOk result (Fits setup.now (lists_of plans.items) script.now) }
+    ensures fault { IfErr result (IsReplayFault setup.now (lists_of plans.items) script.now) }
+{
+    check_setup(setup, &plans)?;
+    check_script(script, setup.workers, plans.len())?;
+    replay_within(alloc, setup, plans, script)
+}
+
+// Replays a run within the limits.
+fn replay_within(
+    alloc: Global,
+    setup: &Setup,
+    plans: Vec<Vec<Request>>,
+    script: &[Turned],
+) -> Result<Report, ReplayFault>
+    requires within { IsWithinLimits setup.now (lists_of plans.items) }
+    requires script { All (IsInRun setup.now.workers (length plans.items)) script.now }
+    ensures report { IfOk result (IsEndToEnd (asked setup.now plans.items) setup.now.workers) }
+    ensures fault { IfErr result IsFaultUnderWay }
+{
+    let (site, seats) = Site::new(alloc, setup, &plans)?;
+    let lists = Snapshot::of(&plans);
+    let crew = Crew::new(alloc, setup, &site, seats, plans)?;
+    let ended = play(alloc, crew, script)?;
+    Ok(report_of(alloc, setup, &lists, site, ended)?)
+}
+
+// Makes a script's entries in their order, opens all lists, makes rounds until the run ended, and takes the crew apart.
+fn play(alloc: Global, crew: Crew<'_>, script: &[Turned]) -> Result<Ended, ReplayFault>
+    requires { All (CanMake crew.servers.items) script.now }
+    ensures ended { IfOk result (HasEnded crew.entry) }
+    ensures fault { IfErr result IsFaultUnderWay }
+{
+    let mut crew = crew;
+    make_all(&mut crew, script);
+    crew.open_all();
+    make_rounds(&mut crew)?;
+    Ok(crew.finish(alloc)?)
+}
+
+// Makes a script's entries in their order.
+fn make_all(crew: &mut Crew<'_>, script: &[Turned])
+    requires { All (CanMake crew.old.servers.items) script.now }
+    ensures { GoesOn crew.old crew.new }
+{
+    for entry in script {
+        make(crew, entry);
+    }
+}
+
+// Makes one entry of a script.
+fn make(crew: &mut Crew<'_>, entry: &Turned)
+    requires { CanMake crew.old.servers.items entry.now }
+    ensures { GoesOn crew.old crew.new }
+{
+    match *entry {
+        Turned::OpenOne(submitter) => crew.open_one(submitter),
+        Turned::Worker(worker) => {
+            crew.turn_of(worker);
+        }
+        Turned::Coordinator => {
+            crew.turn();
+        }
+    }
+}
+
+// Makes rounds until the run ended.
+fn make_rounds(crew: &mut Crew<'_>) -> Result<(), ReplayFault>
+    ensures goes_on { GoesOn crew.old crew.new }
+    ensures ended { OnOk result (HasEndedJoined crew.new.lead) }
+    ensures gone { OnOk result (AllGone crew.new.servers.items) }
+    ensures fault { IfErr result (λ fault. fault ≡ ReplayFault.Unfinished) }
+{
+    for _ in 0..MAX_ROUNDS {
+        if crew.round() {
+            return Ok(());
+        }
+    }
+    Err(ReplayFault::Unfinished)
+}

@@ -1,0 +1,111 @@
+ghost use Rattle.std.specs.Prelude.{◌≡◌, IfErr, IfOk, OnOk};
+ghost use Rattle.like_requests.specs.Setup.{IsWithinLimits};
+ghost use Rattle.like_crew.specs.Asked.{asked, lists_of};
+ghost use Rattle.like_crew.specs.EndToEnd.{IsEndToEnd};
+ghost use Rattle.like_crew.specs.Ended.{HasEnded};
+ghost use Rattle.like_run.specs.Threads.{IsFaultUnderWay, IsRunFault};
+
+use crate::threads::end::{coordinate, join_all};
+use crate::threads::start::{start_all, tell};
+use like_crew::{Crew, Ended, Site, report_of};
+use like_replies::Report;
+use like_requests::{Request, Setup, check_setup};
+use like_roles::Gate;
+use std::alloc::Global;
+use std::snapshot::Snapshot;
+use std::sync::{OnceLock, Wait};
+use std::thread;
+use std::thread::{Scope, Threads};
+
+mod end;
+mod fault;
+mod start;
+mod worker;
+
+pub use fault::RunFault;
+
+/// Makes a run: each worker has a thread of its own, and the coordinator's turns are made on the calling thread. Every
+/// list is open from the start. No worker makes a turn before all threads were started; where one could not be, the
+/// others end, and no request was taken. On a fault the lists are given up.
+pub fn run<R: Threads + Wait + Sync, G: Gate>(
+    rt: &R,
+    alloc: Global,
+    setup: &Setup,
+    plans: Vec<Vec<Request>>,
+    gate: &G,
+) -> Result<Report, RunFault>
+    ensures report { IfOk result (IsEndToEnd (asked setup.now plans.items) setup.now.workers) }
+    ensures within { OnOk result (IsWithinLimits setup.now (lists_of plans.items)) }
+    ensures fault { IfErr result (IsRunFault setup.now (lists_of plans.items)) }
+{
+    check_setup(setup, &plans)?;
+    run_within(rt, alloc, setup, plans, gate)
+}
+
+// Makes a run within the limits.
+fn run_within<R: Threads + Wait + Sync, G: Gate>(
+    rt: &R,
+    alloc: Global,
+    setup: &Setup,
+    plans: Vec<Vec<Request>>,
+    gate: &G,
+) -> Result<Report, RunFault>
+    requires { IsWithinLimits setup.now (lists_of plans.items) }
+    ensures report { IfOk result (IsEndToEnd (asked setup.now plans.items) setup.now.workers) }
+    ensures fault { IfErr result IsFaultUnderWay }
+{
+    let (site, seats) = Site::new(alloc, setup, &plans)?;
+    let lists = Snapshot::of(&plans);
+    let crew = Crew::new(alloc, setup, &site, seats, plans)?;
+    let ended = on_threads(rt, alloc, crew, gate)?;
+    Ok(report_of(alloc, setup, &lists, site, ended)?)
+}
+
+// Runs the workers of a crew on threads, with all lists open, and takes it apart.
+fn on_threads<R: Threads + Wait + Sync, G: Gate>(
+    rt: &R,
+    alloc: Global,
+    crew: Crew<'_>,
+    gate: &G,
+) -> Result<Ended, RunFault>
+    ensures ended { IfOk result (HasEnded crew.entry) }
+    ensures fault { IfErr result IsFaultUnderWay }
+{
+    let mut crew = crew;
+    crew.open_all();
+    let start = OnceLock::new();
+    let signal = &start;
+    thread::scope(
+        thread::scope_env(),
+        rt,
+        move |scope| -> Result<Ended, RunFault>
+            ensures ended { IfOk result (HasEnded crew.entry) }
+            ensures fault { IfErr result IsFaultUnderWay }
+        { in_scope(scope, rt, alloc, signal, crew, gate) },
+    )
+}
+
+// Starts the threads, makes the coordinator's turns, and takes everything apart.
+fn in_scope<'s, E, R: Threads + Wait + Sync, G: Gate>(
+    scope: &Scope<'s, E>,
+    rt: &'s R,
+    alloc: Global,
+    start: &'s OnceLock<bool>,
+    crew: Crew<'s>,
+    gate: &'s G,
+) -> Result<Ended, RunFault>
+    ensures ended { IfOk result (HasEnded crew.entry) }
+    ensures fault { IfErr result IsFaultUnderWay }
+{
+    let Crew { mut lead, servers } = crew;
+    let mut logs = Vec::with_capacity(alloc, servers.len())?;
+    let mut seats = Vec::with_capacity(alloc, servers.len())?;
+    let mut threads = Vec::with_capacity(alloc, servers.len())?;
+    let all = start_all(scope, rt, gate, start, servers, &mut threads);
+    let Some(go) = tell(rt, start, all) else {
+        return Err(RunFault::Start);
+    };
+    coordinate(rt, &mut lead);
+    join_all(rt, threads, &go, &mut logs, &mut seats);
+    Ok(Ended::new(lead, logs, seats))
+}

@@ -1,0 +1,81 @@
+ghost use Rattle.std.specs.Prelude.{◌≡◌};
+ghost use Rattle.like_core.specs.declared.worker_state.WorkerState.TheVariants.{Gone};
+ghost use Rattle.like_crew.specs.Server.{ServerGoesOn};
+ghost use Rattle.like_run.specs.Threads.{Keeps};
+
+use like_board::{BoardPost, WorkerSeat};
+use like_core::Post;
+use like_crew::Server;
+use like_roles::{Gate, Turn, WorkerLog};
+use std::snapshot::Snapshot;
+use std::sync::{OnceLock, OnceToken, Wait};
+use std::thread::{Promise, yield_now};
+
+/// What a worker's thread ends with.
+#[derive(Drop)]
+pub enum Served<'a> {
+    /// The worker is gone: what it has done, and its seat.
+    Left(WorkerLog, WorkerSeat),
+    /// It was told to end, and took no request.
+    Stopped(OnceToken<'a, bool>),
+}
+
+/// What is promised of that: the server that the thread begins with, and the lock that tells it to go on or to end.
+#[derive(Drop)]
+pub struct Owes<'a> {
+    pub server: Snapshot<Server<BoardPost<'a>>>,
+    pub start: &'a OnceLock<bool>,
+}
+
+impl<'a> Promise<Served<'a>> for Owes<'a> {
+    ghost use Rattle.like_run.specs.Threads.{Keeps};
+
+    ghost kept_by = { λ p served. Keeps p.start.now.id p.server.value served };
+}
+
+/// A worker's thread: it waits until all threads were started, and then makes the worker's turns until it is gone.
+pub fn serve<'a, R: Wait, G: Gate>(
+    rt: &R,
+    gate: &G,
+    start: &'a OnceLock<bool>,
+    server: Server<BoardPost<'_>>,
+) -> Served<'a>
+    ensures { Keeps start.now.id server.entry result }
+{
+    let token = signal(rt, start);
+    if !*start.value(&token) {
+        return Served::Stopped(token);
+    }
+    let mut server = server;
+    make_turns(rt, gate, &mut server);
+    let (log, post) = server.finish();
+    Served::Left(log, post.back())
+}
+
+// Waits until all threads were started, or are told to end.
+fn signal<'a, R: Wait>(rt: &R, start: &'a OnceLock<bool>) -> OnceToken<'a, bool>
+    ensures { result.of ≡ start.now.id }
+{
+    for _ in rt.forever() {
+        start.wait(rt);
+        if let Some(token) = start.witness() {
+            return token;
+        }
+    }
+    unreachable!()
+}
+
+// Makes turns until the worker is gone.
+fn make_turns<R: Wait, G: Gate, P: Post>(rt: &R, gate: &G, server: &mut Server<P>)
+    ensures goes_on { ServerGoesOn server.old server.new }
+    ensures gone { server.new.worker.post.state ≡ Gone }
+{
+    for _ in rt.forever() {
+        match server.turn(gate) {
+            Turn::Retired => return,
+            Turn::Waiting | Turn::Idle | Turn::Nothing => yield_now(),
+            _ => {}
+        }
+    }
+    unreachable!()
+}
