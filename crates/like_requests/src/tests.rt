@@ -1,3 +1,6 @@
+//! Each public call once, and the faults of files and settings.
+mod limits;
+
 use crate::{
     Op, PageRef, Pages, PagesFault, Request, RequestsFault, SettingsFault, Setup, Verdict,
     check_setup, judge, read_pages, read_requests,
@@ -76,10 +79,6 @@ fn names_the_fault_of_a_pages_file(rt: HostRuntime) {
             b"name,count,split\na,1,no\na,2,no\n",
             PagesFault::Duplicate { row: 2 },
         ),
-        (
-            b"name,count,split\na,1000000000000000001,no\n",
-            PagesFault::Count { row: 1 },
-        ),
         (b"name,count,split\na,+1,no\n", PagesFault::Count { row: 1 }),
         (b"name,count,split\na,1\n", PagesFault::Fields { row: 1 }),
         (
@@ -126,10 +125,7 @@ fn names_the_fault_of_a_requests_file(rt: HostRuntime) {
             RequestsFault::Fields { row: 2 },
         ),
         (b"op,user,page\npush,0,a\n", RequestsFault::Op { row: 1 }),
-        (
-            b"op,user,page\nlike,4294967296,a\n",
-            RequestsFault::User { row: 1 },
-        ),
+        (b"op,user,page\nlike,-1,a\n", RequestsFault::User { row: 1 }),
     ] {
         assert_eq!(rt; read_requests(rt.alloc(), text, &pages).err(), Some(fault));
     }
@@ -175,7 +171,7 @@ fn checks_the_settings(rt: HostRuntime) -> Result<(), Fail> {
     let alloc = rt.alloc();
     let mut plans = Vec::new(alloc);
     plans.push(Vec::from_slice(alloc, &[request(Op::Like, 0, PageRef::Known(0))])?)?;
-    let mut setup = Setup {
+    let setup = Setup {
         workers: 1,
         users: 2,
         stash: 256,
@@ -183,17 +179,6 @@ fn checks_the_settings(rt: HostRuntime) -> Result<(), Fail> {
         pages: one_page(&rt, alloc),
     };
     assert_eq!(rt; check_setup(&setup, &plans), Ok(()));
-    for workers in [0, 17] {
-        setup.workers = workers;
-        assert_eq!(rt; check_setup(&setup, &plans), Err(SettingsFault::Workers));
-    }
-    setup.workers = 16;
-    assert_eq!(rt; check_setup(&setup, &[]), Err(SettingsFault::Submitters));
-    for _ in 1..65 {
-        plans.push(Vec::new(alloc))?;
-    }
-    assert_eq!(rt; check_setup(&setup, &plans), Err(SettingsFault::Submitters));
-    plans.truncate(1);
     plans.push(Vec::from_slice(alloc, &[request(Op::Like, 0, PageRef::Known(1))])?)?;
     assert_eq!(rt;
         check_setup(&setup, &plans),

@@ -9,7 +9,7 @@ mod stash;
 mod users;
 
 pub use held::Held;
-pub use slice::{MAX_LIKES, Slice};
+pub use slice::Slice;
 pub use stash::Stash;
 pub use users::Users;
 

@@ -1,10 +1,8 @@
 ghost use Rattle.std.specs.Prelude.{◌≡◌, ◌+◌, ◌<◌, ◌↔◌, ℕ, List, All, IfOk, IsTrue, length, replicate, slice_index, slice_set, sum};
+ghost use Rattle.like_tables.specs.Limits.{max_likes};
 
 use std::alloc::{AllocError, Global};
 use std::marker::Model;
-
-/// The most likes that a worker adds: 1,000,000 of each of 64 submitters.
-pub const MAX_LIKES: u64 = 64_000_000;
 
 /// A worker's slice of the split pages: how many likes of each page it has counted and not merged yet.
 ///
@@ -37,7 +35,7 @@ impl Slice {
     /// Counts a like of the page.
     pub fn add(&mut self, page: u32)
         requires there { page < length self.old }
-        requires below { sum self.old < MAX_LIKES }
+        requires below { sum self.old < max_likes }
         ensures counted { self.new ≡ slice_set self.old page (slice_index self.old page + 1) }
         ensures total { sum self.new ≡ sum self.old + 1 }
     {

@@ -1,6 +1,22 @@
 use crate::{Held, Slice, Stash, Users};
 use like_requests::{Numbered, Op, PageRef, Request};
+use std::alloc::{AllocError, Global};
 use std::test::Fail;
+
+// A look of user 0.
+fn held() -> Held {
+    Held {
+        submitter: 0,
+        ask: Numbered {
+            number: 1,
+            request: Request {
+                op: Op::Look,
+                user: 0,
+                page: PageRef::Known(0),
+            },
+        },
+    }
+}
 
 #[test]
 fn a_slice_gives_what_was_added(rt: HostRuntime) -> Result<(), Fail> {
@@ -18,23 +34,12 @@ fn a_slice_gives_what_was_added(rt: HostRuntime) -> Result<(), Fail> {
 
 #[test]
 fn a_stash_gives_what_was_pushed(rt: HostRuntime) -> Result<(), Fail> {
-    let held = Held {
-        submitter: 0,
-        ask: Numbered {
-            number: 1,
-            request: Request {
-                op: Op::Look,
-                user: 0,
-                page: PageRef::Known(0),
-            },
-        },
-    };
     let mut stash = Stash::new(rt.alloc(), 1)?;
     assert!(rt; !stash.is_full());
-    stash.push(held);
+    stash.push(held());
     assert!(rt; stash.is_full());
     assert_eq!(rt; stash.len(), 1);
-    assert_eq!(rt; stash.pop_front(), Some(held));
+    assert_eq!(rt; stash.pop_front(), Some(held()));
     assert_eq!(rt; stash.pop_front(), None);
     Ok(())
 }
@@ -49,5 +54,31 @@ fn users_are_those_of_the_worker(rt: HostRuntime) -> Result<(), Fail> {
     users.set(3, 7);
     assert_eq!(rt; users.last(3), Some(7));
     assert_eq!(rt; users.last(1), None);
+    Ok(())
+}
+
+// The table of the only worker.
+fn all_users(alloc: Global, users: u32) -> Result<Users, AllocError> {
+    Users::new(alloc, users, 1, 1, 0)
+}
+
+#[test]
+fn there_is_room_at_the_limits(rt: HostRuntime) -> Result<(), Fail> {
+    let mut slice = Slice::new(rt.alloc(), 1_024)?;
+    assert!(rt; slice.is_empty());
+    slice.add(1_023);
+    assert_eq!(rt; slice.take(1_023), 1);
+    let mut stash = Stash::new(rt.alloc(), 4_096)?;
+    for _ in 0..4_096 {
+        assert!(rt; !stash.is_full());
+        stash.push(held());
+    }
+    assert!(rt; stash.is_full());
+    assert_eq!(rt; stash.len(), 4_096);
+    let mut users = all_users(rt.alloc(), 1_000_000)?;
+    assert!(rt; users.owns(999_999));
+    users.set(999_999, 1_023);
+    assert!(rt; users.owns(999_999));
+    assert_eq!(rt; users.last(999_999), Some(1_023));
     Ok(())
 }
