@@ -24,7 +24,8 @@ fn gather(board: &Board, coord: &mut Seat<(), View>, mut seats: Vec<WorkerSeat>)
     requires coord { coord.old.me ≡ (Coord (coord_view_of coord.old.me.0), []) }
     requires seats { All (λ seat. seat_board seat ≡ board_id board.now) seats.items }
     ensures board { coord.new.table_id ≡ coord.old.table_id }
-    ensures coord { coord.new.me ≡ (Coord (gathered_all (coord_view_of coord.old.me.0) (map seat_view seats.items)), []) }
+    ensures coord { coord.new.me ≡
+        (Coord (gathered_all (coord_view_of coord.old.me.0) (map seat_view seats.items)), []) }
 {
     while let Some(seat) = seats.pop() {
         let WorkerSeat { seat, number: _ } = seat;

@@ -27,6 +27,10 @@ pub record CoreState : Type 0 where
   pub unmerged : ℕ → List ℕ
   pub applied : ℕ → List Label
 
+-- the label of a like that the worker runs now
+abbrev pub label_now : CoreState → ℕ → Label
+label_now s i = record { worker = i; phase = s.phase }
+
 -- the opening with these workers, counts and marks
 abbrev pub opening : ℕ → List ℕ → List Bool → Opening
 opening workers counts marks = record { workers = workers; counts = counts; marks = marks }
@@ -59,11 +63,11 @@ after z s (Like i page) =
     (if split (marked z) s.phase page then
     record s { unmerged = update s.unmerged i (s.unmerged i ++ page ∷ []) }
     else
-    record s { applied = update s.applied page (s.applied page ++ record { worker = i; phase = s.phase } ∷ []) })
+    record s { applied = update s.applied page (s.applied page ++ label_now s i ∷ []) })
 after z s (Read i page) = s
 after z s (Merge i page) = record s {
   unmerged = update s.unmerged i (without page (s.unmerged i));
-  applied = update s.applied page (s.applied page ++ replicate (times page (s.unmerged i)) (record { worker = i; phase = s.phase }));
+  applied = update s.applied page (s.applied page ++ replicate (times page (s.unmerged i)) (label_now s i));
 }
 after z s CoordLook = s
 after z s Announce = record s { ending = true }
