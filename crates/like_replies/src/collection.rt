@@ -3,9 +3,12 @@ ghost use Rattle.like_requests.specs.Limits.{max_submitters};
 ghost use Rattle.like_replies.specs.Collected.{IsCollectFault, IsCollected, rows_of};
 ghost use Rattle.like_replies.specs.Entries.{entries_in};
 
+mod slot_row;
+mod slots;
+
+use self::slots::Slots;
 use crate::collect_fault::CollectFault;
 use crate::replies::Replies;
-use crate::slots::Slots;
 use like_roles::WorkerLog;
 use std::alloc::Global;
 

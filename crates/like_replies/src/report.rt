@@ -1,3 +1,8 @@
+mod row;
+mod rows;
+mod sheet;
+pub(crate) mod text;
+
 use crate::replies::Replies;
 use like_roles::WorkerLog;
 

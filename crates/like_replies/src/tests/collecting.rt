@@ -90,6 +90,17 @@ fn entries_in_any_order(rt: HostRuntime) -> Result<(), Fail> {
 }
 
 #[test]
+fn as_many_submitters_as_there_may_be(rt: HostRuntime) -> Result<(), Fail> {
+    let mut ran = Vec::new(rt.alloc());
+    for submitter in 0..64 {
+        ran.push(like(submitter, 1))?;
+    }
+    let replies = collected(rt.alloc(), &[1; 64], &ran, &[])?;
+    assert_eq!(rt; replies.rows.len(), 64);
+    Ok(())
+}
+
+#[test]
 fn no_submitter(rt: HostRuntime) -> Result<(), Fail> {
     let replies = collected(rt.alloc(), &[], &[], &[])?;
     assert!(rt; replies.rows.is_empty());

@@ -9,8 +9,6 @@ use crate::{Answer, Replies, Report, WriteFault, write_report};
 use like_requests::{Pages, Verdict, read_pages};
 use like_roles::Reply;
 use std::alloc::{AllocError, Global};
-use std::io;
-use std::io::{ErrorKind, Write};
 use std::process::Abort;
 use std::test::Fail;
 
@@ -179,39 +177,18 @@ fn appends(rt: HostRuntime) -> Result<(), Fail> {
     Ok(())
 }
 
-// A writer of up to ten bytes a write, which fails once it was written to so many times.
-#[derive(Drop)]
-struct Full {
-    writes_left: usize,
-}
-
-impl Write for Full {
-    fn write(&mut self, buf: &[u8]) -> io::Result<usize> {
-        if self.writes_left == 0 {
-            return Err(io::Error::from(ErrorKind::Other));
-        }
-        self.writes_left -= 1;
-        Ok(buf.len().min(10))
-    }
-
-    fn flush(&mut self) -> io::Result<()> {
-        Ok(())
-    }
-}
-
-// The report has 108 bytes, which take 11 writes of up to ten.
+// The report has 108 bytes.
 #[test]
 fn failing_writes(rt: HostRuntime) -> Result<(), Fail> {
     let pages = one_page(&rt, rt.alloc(), "name,count,split\na,10,yes\n");
     let report = stashed_report(rt.alloc())?;
-    for writes in 0..11 {
-        let mut out = Full {
-            writes_left: writes,
-        };
+    let mut room = [0; 108];
+    for bytes in 0..108 {
+        let mut out = &mut room[..bytes];
         let result = write_report(rt.alloc(), &report, &pages, &mut out);
-        assert_eq!(rt; result, Err(WriteFault::Write), "after {writes} writes");
+        assert_eq!(rt; result, Err(WriteFault::Write), "where {bytes} bytes fit");
     }
-    let mut out = Full { writes_left: 11 };
+    let mut out = room.as_mut_slice();
     assert_eq!(rt; write_report(rt.alloc(), &report, &pages, &mut out), Ok(()));
     Ok(())
 }

@@ -1,0 +1,113 @@
+ghost use Rattle.std.specs.Prelude.{◌≡◌, ◌<◌, ◌≤◌, ◌^◌, ◌↔◌, ℕ, List, ◌∷◌, [], ◌++◌, All, IfOk, IsTrue, MatchResult, Some, None, length, map, replicate};
+ghost use Rattle.like_roles.specs.declared.log.Ran.{Ran};
+ghost use Rattle.like_replies.specs.Collected.{IsEntryFault, rows_of};
+ghost use Rattle.like_replies.specs.Slots.{HoldsAll, IsSlot, IsSlotsFault, Puts, Refuses};
+
+use crate::answer::Answer;
+use crate::collect_fault::CollectFault;
+use crate::collection::slot_row::SlotRow;
+use crate::replies::Replies;
+use like_roles::Ran;
+use std::alloc::{AllocError, Global};
+use std::marker::Model;
+
+/// A place for the answer of each request, by submitter and number.
+#[derive(Drop)]
+pub(crate) struct Slots {
+    rows: Vec<SlotRow>,
+}
+
+impl Model for Slots {
+    ghost use Rattle.std.specs.Prelude.{List, Option};
+    ghost use Rattle.like_replies.specs.declared.answer.Answer.{Answer};
+
+    ghost Value = { List (List (Option Answer)) };
+
+    ghost view = { λ s. s.rows.items };
+}
+
+impl Slots {
+    /// A place for each request of submitters with so many requests, all empty.
+    pub fn new(alloc: Global, sizes: &[u32]) -> Result<Self, AllocError>
+        ensures { IfOk result (λ slots. slots ≡ map (λ size. replicate size None) sizes.now) }
+    {
+        let mut rows = Vec::with_capacity(alloc, sizes.len())?;
+        for size in sizes {
+            rows.push(SlotRow::new(alloc, *size)?)?;
+        }
+        Ok(Slots { rows })
+    }
+
+    // Whether there is a place for this request.
+    fn has_slot(&self, submitter: u32, number: u32) -> bool
+        ensures { IsTrue result ↔ IsSlot self.now submitter number }
+    {
+        let submitter = submitter as usize;
+        submitter < self.rows.len() && number >= 1 && number as usize <= self.rows[submitter].len()
+    }
+
+    // Puts the answer of an entry at its place.
+    fn put(&mut self, entry: &Ran) -> Result<(), CollectFault>
+        ensures { MatchResult result (λ _. Puts self.old entry.now self.new) (Refuses self.old entry.now) }
+    {
+        let Ran {
+            phase,
+            submitter,
+            number,
+            stashed,
+            reply,
+        } = *entry;
+        if !self.has_slot(submitter, number) {
+            return Err(CollectFault::Stranger { submitter, number });
+        }
+        let row = &mut self.rows[submitter as usize];
+        let place = number as usize - 1;
+        if row.has(place) {
+            return Err(CollectFault::Double { submitter, number });
+        }
+        row.put(
+            place,
+            Answer {
+                phase,
+                stashed,
+                reply,
+            },
+        );
+        Ok(())
+    }
+
+    /// Puts the answers of all entries of a run list at their places.
+    pub fn put_all(&mut self, ran: &[Ran]) -> Result<(), CollectFault>
+        ensures { (sizes : List ℕ) (before : List Ran) → HoldsAll sizes before self.old
+            → MatchResult result (λ _. HoldsAll sizes (before ++ ran.now) self.new) (IsEntryFault sizes (before ++ ran.now)) }
+    {
+        for entry in ran {
+            self.put(entry)?;
+        }
+        Ok(())
+    }
+
+    /// The answers of all requests; `Missing` at the first place that is empty.
+    pub fn replies(&self, alloc: Global) -> Result<Replies, CollectFault>
+        requires few { length self.now ≤ 64 }
+        requires short { All (λ row. length row < 2 ^ 32) self.now }
+        ensures { MatchResult result (λ replies. self.now ≡ map (map Some) (rows_of replies)) (IsSlotsFault 0 self.now) }
+    {
+        Ok(Replies {
+            rows: answer_rows(alloc, &self.rows)?,
+        })
+    }
+}
+
+// The answers of all submitters.
+fn answer_rows(alloc: Global, slots: &[SlotRow]) -> Result<Vec<Vec<Answer>>, CollectFault>
+    requires few { length slots.now ≤ 64 }
+    requires short { All (λ row. length row < 2 ^ 32) slots.now }
+    ensures { MatchResult result (λ rows. slots.now ≡ map (map Some) (map (λ row. row.items) rows.items)) (IsSlotsFault 0 slots.now) }
+{
+    let mut rows = Vec::with_capacity(alloc, slots.len())?;
+    for (submitter, row) in slots.iter().enumerate() {
+        rows.push(row.answers(alloc, submitter as u32)?)?;
+    }
+    Ok(rows)
+}
