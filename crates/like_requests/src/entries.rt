@@ -85,7 +85,8 @@ impl Entries {
         requires counted { initial.count ≤ max_count }
         requires other { ¬ Contains (names self.old) (string_bytes name) }
         ensures added { OnOk result (self.new
-            ≡ self.old ++ (record { name = string_bytes name; count = initial.count; split = initial.split }) ∷ []) }
+            ≡ self.old
+            ++ (record { name = string_bytes name; count = initial.count; split = initial.split }) ∷ []) }
     {
         self.by_name.insert(name, initial)?;
         Ok(())

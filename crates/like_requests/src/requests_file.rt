@@ -91,7 +91,8 @@ fn read_plan<R: Read>(
 ) -> Result<Vec<Request>, RequestsFault>
     ensures { (body : List Record) → records.old.left ≡ Some body
         → MatchResult result
-        (λ requests. PassAll AsksRequestRecord request_tests body × (requests.items ≡ map (request_of pages.now) body))
+        (λ requests. PassAll AsksRequestRecord request_tests body
+        × (requests.items ≡ map (request_of pages.now) body))
         (IsRequestsFault (requests_header ∷ body)) }
 {
     let mut requests = Vec::new(alloc);

@@ -57,7 +57,9 @@ impl SlotRow {
     /// The answers at all places, which are those of this submitter; `Missing` at the first that is empty.
     pub fn answers(&self, alloc: Global, submitter: u32) -> Result<Vec<Answer>, CollectFault>
         requires { length self.now < 2 ^ 32 }
-        ensures { MatchResult result (λ answers. self.now ≡ map Some answers.items) (IsSlotsFault submitter (self.now ∷ [])) }
+        ensures { MatchResult result
+            (λ answers. self.now ≡ map Some answers.items)
+            (IsSlotsFault submitter (self.now ∷ [])) }
     {
         answers_in(alloc, submitter, &self.slots)
     }
@@ -70,7 +72,9 @@ fn answers_in(
     slots: &[Option<Answer>],
 ) -> Result<Vec<Answer>, CollectFault>
     requires { length slots.now < 2 ^ 32 }
-    ensures { MatchResult result (λ answers. slots.now ≡ map Some answers.items) (IsSlotsFault submitter (slots.now ∷ [])) }
+    ensures { MatchResult result
+        (λ answers. slots.now ≡ map Some answers.items)
+        (IsSlotsFault submitter (slots.now ∷ [])) }
 {
     let mut answers = Vec::with_capacity(alloc, slots.len())?;
     for (place, answer) in slots.iter().enumerate() {

@@ -79,7 +79,9 @@ impl Slots {
     /// Puts the answers of all entries of a run list at their places.
     pub fn put_all(&mut self, ran: &[Ran]) -> Result<(), CollectFault>
         ensures { (sizes : List ℕ) (before : List Ran) → HoldsAll sizes before self.old
-            → MatchResult result (λ _. HoldsAll sizes (before ++ ran.now) self.new) (IsEntryFault sizes (before ++ ran.now)) }
+            → MatchResult result
+            (λ _. HoldsAll sizes (before ++ ran.now) self.new)
+            (IsEntryFault sizes (before ++ ran.now)) }
     {
         for entry in ran {
             self.put(entry)?;
@@ -91,7 +93,9 @@ impl Slots {
     pub fn replies(&self, alloc: Global) -> Result<Replies, CollectFault>
         requires few { length self.now ≤ 64 }
         requires short { All (λ row. length row < 2 ^ 32) self.now }
-        ensures { MatchResult result (λ replies. self.now ≡ map (map Some) (rows_of replies)) (IsSlotsFault 0 self.now) }
+        ensures { MatchResult result
+            (λ replies. self.now ≡ map (map Some) (rows_of replies))
+            (IsSlotsFault 0 self.now) }
     {
         Ok(Replies {
             rows: answer_rows(alloc, &self.rows)?,
@@ -103,7 +107,9 @@ impl Slots {
 fn answer_rows(alloc: Global, slots: &[SlotRow]) -> Result<Vec<Vec<Answer>>, CollectFault>
     requires few { length slots.now ≤ 64 }
     requires short { All (λ row. length row < 2 ^ 32) slots.now }
-    ensures { MatchResult result (λ rows. slots.now ≡ map (map Some) (map (λ row. row.items) rows.items)) (IsSlotsFault 0 slots.now) }
+    ensures { MatchResult result
+        (λ rows. slots.now ≡ map (map Some) (map (λ row. row.items) rows.items))
+        (IsSlotsFault 0 slots.now) }
 {
     let mut rows = Vec::with_capacity(alloc, slots.len())?;
     for (submitter, row) in slots.iter().enumerate() {

@@ -28,7 +28,9 @@ impl Model for Sheet {
 
     ghost view = { λ s. (writer_under s.rows).items ++ writer_pending s.rows };
 
-    ghost invariant = { λ s. (writer_setup s.rows ≡ default_writer) × (fields_written s.rows ≡ 0) × (has_written s.rows ≡ false) };
+    ghost invariant = { λ s. (writer_setup s.rows ≡ default_writer)
+        × (fields_written s.rows ≡ 0)
+        × (has_written s.rows ≡ false) };
 }
 
 impl Sheet {
@@ -72,7 +74,10 @@ impl Sheet {
 
     /// Adds the text of a row, and hands all the text on where there is enough of it.
     pub fn put<W: Write>(&mut self, row: &Row, out: &mut W) -> Result<(), WriteFault>
-        ensures { OnOk result (Appends (append_known (W.contents out.old) self.old) (append_known (W.contents out.new) self.new) (row_text default_writer row.now)) }
+        ensures { OnOk result (Appends
+            (append_known (W.contents out.old) self.old)
+            (append_known (W.contents out.new) self.new)
+            (row_text default_writer row.now)) }
     {
         self.add(row)?;
         if self.rows.get_ref().len() < ENOUGH {

@@ -22,7 +22,10 @@ pub fn write_report<W: Write>(
     out: &mut W,
 ) -> Result<(), WriteFault>
     requires { IsWritable pages.now (reported report.now) }
-    ensures { OnOk result (Appends (W.contents out.old) (W.contents out.new) (report_text pages.now (reported report.now))) }
+    ensures { OnOk result (Appends
+        (W.contents out.old)
+        (W.contents out.new)
+        (report_text pages.now (reported report.now))) }
 {
     let mut row = Row::new(alloc);
     let mut sheet = Sheet::new(alloc);
@@ -50,7 +53,10 @@ fn write_answers<W: Write>(
     answers: &[Answer],
 ) -> Result<(), WriteFault>
     requires { All (λ a. IsShowable pages.now a.reply) answers.now }
-    ensures { OnOk result (Appends (append_known (W.contents out.old) sheet.old) (append_known (W.contents out.new) sheet.new) (rows_text (submitter_rows pages.now submitter answers.now))) }
+    ensures { OnOk result (Appends
+        (append_known (W.contents out.old) sheet.old)
+        (append_known (W.contents out.new) sheet.new)
+        (rows_text (submitter_rows pages.now submitter answers.now))) }
 {
     for (place, answer) in answers.iter().enumerate() {
         fill_reply(row, pages, submitter, place as u64 + 1, answer)?;
@@ -68,7 +74,10 @@ fn write_pages<W: Write>(
     counts: &[u64],
 ) -> Result<(), WriteFault>
     requires { length counts.now ≡ length pages.now }
-    ensures { OnOk result (Appends (append_known (W.contents out.old) sheet.old) (append_known (W.contents out.new) sheet.new) (rows_text (page_rows pages.now counts.now))) }
+    ensures { OnOk result (Appends
+        (append_known (W.contents out.old) sheet.old)
+        (append_known (W.contents out.new) sheet.new)
+        (rows_text (page_rows pages.now counts.now))) }
 {
     for page in 0..pages.len() {
         fill_page(row, pages, page, counts[page as usize])?;
@@ -86,7 +95,10 @@ fn write_users<W: Write>(
     last: &[Option<u32>],
 ) -> Result<(), WriteFault>
     requires { All (λ page. ForSome page (λ p. p < length pages.now)) last.now }
-    ensures { OnOk result (Appends (append_known (W.contents out.old) sheet.old) (append_known (W.contents out.new) sheet.new) (rows_text (user_rows pages.now last.now))) }
+    ensures { OnOk result (Appends
+        (append_known (W.contents out.old) sheet.old)
+        (append_known (W.contents out.new) sheet.new)
+        (rows_text (user_rows pages.now last.now))) }
 {
     for (user, page) in last.iter().enumerate() {
         let Some(page) = *page else {

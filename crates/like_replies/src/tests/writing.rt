@@ -31,7 +31,9 @@ fn report(
     last: Vec<Option<u32>>,
     phases: u32,
 ) -> Result<Report, AllocError>
-    ensures { IfOk result (λ r. let shown : Reported = record { replies = map (λ row. row.items) rows.items; counts = count ∷ []; last = last.items } in reported r ≡ shown) }
+    ensures { let replies = map (λ row. row.items) rows.items in
+        let shown : Reported = record { replies = replies; counts = count ∷ []; last = last.items } in
+        IfOk result (λ r. reported r ≡ shown) }
 {
     Ok(Report {
         logs: Vec::new(alloc),
