@@ -7,7 +7,7 @@ use Rattle.like_roles.specs.WorkerView.{WorkerView}
 use Rattle.like_roles.proofs.Served.{GivesReply-keeps, GivesReply-state, counted_by}
 
 -- a request that ran: its entry is the last that was run, and all else of these is as before
-pub record HasRun (v : WorkerView) (h : Held) (stashed : Bool) (after : WorkerView) : Type 0 where
+pub record HasRunOne (v : WorkerView) (h : Held) (stashed : Bool) (after : WorkerView) : Type 0 where
   pub reply : Reply
   pub ran : after.ran ≡ v.ran ++ ran_now v h stashed reply ∷ []
   pub state : after.post.state ≡ v.post.state
@@ -15,7 +15,7 @@ pub record HasRun (v : WorkerView) (h : Held) (stashed : Bool) (after : WorkerVi
   pub taken : after.taken ≡ v.taken
   pub pending : after.pending ≡ v.pending
 
-pub Runs-effects : (v : WorkerView) (h : Held) (stashed : Bool) (after : WorkerView) → Runs v h stashed after → HasRun v h stashed after
+pub Runs-effects : (v : WorkerView) (h : Held) (stashed : Bool) (after : WorkerView) → Runs v h stashed after → HasRunOne v h stashed after
 Runs-effects v h stashed after run = record {
   reply = run.reply;
   ran = ap (λ x. x.ran) run.noted;

@@ -27,7 +27,7 @@ use Rattle.like_roles.specs.Turns.{CanGive, Gives, TakesAsk, Turns, Works, held_
 use Rattle.like_requests.specs.Setup.{IsThere}
 use Rattle.like_roles.specs.WorkerView.{WorkerView, has_to_wait, phase_at, submitter_at}
 use Rattle.like_roles.proofs.Blocks.{block-after_joined, block-later, order_below-more, block-next-prompt, block-next-waits, order_below-prompt, order_below-waits, waits-joined}
-use Rattle.like_roles.proofs.Effects.{HasRun, Runs-effects}
+use Rattle.like_roles.proofs.Effects.{HasRunOne, Runs-effects}
 use Rattle.like_roles.proofs.InBlocks.{before-next, blocks-of_running, order-of_blocks, parity, running-of_blocks, runs-phase, runs-weaker}
 use Rattle.like_roles.proofs.Tallied.{GivesReply-tallied}
 
@@ -46,7 +46,7 @@ follows-running service v run served sized t held b trying = record {
 
 -- what a run does to a worker that follows the plans, where the blocks after it are known
 follows-run : (service : Service) (v after : WorkerView) (h : Held) (stashed : Bool) → Runs v h stashed after → IsRunning v.post.state → v.pending ≡ None → IsServed service v → IsSized v → IsTallied service v
-    → IsAsked service h → All (IsAsked service) v.held.held → ((e : HasRun v h stashed after) → IsInBlocks service (record v { ran = after.ran }) (phase_at v)) → Follows service after
+    → IsAsked service h → All (IsAsked service) v.held.held → ((e : HasRunOne v h stashed after) → IsInBlocks service (record v { ran = after.ran }) (phase_at v)) → Follows service after
 follows-run service v after h stashed run here none served sized t asked held blocks =
     let e = Runs-effects v h stashed after run in
     let done = GivesReply-tallied service v h stashed run.reply run.served served sized t asked run.serves in

@@ -12,13 +12,17 @@ use Rattle.like_roles.specs.Replies.{page_looked_at}
 use Rattle.like_requests.specs.declared.request.Numbered.{Numbered}
 use Rattle.like_requests.specs.declared.request.PageRef.{PageRef}
 use Rattle.like_requests.specs.declared.request.Request.{Request}
+use Rattle.like_requests.specs.declared.verdict.Verdict.{Verdict}
+use Rattle.like_requests.specs.declared.verdict.Verdict.TheVariants.{Accepted}
+use Rattle.like_tables.specs.Share.{submitter_of}
+use Rattle.like_tables.specs.UserTable.{UserTable}
 use Rattle.like_core.specs.Phase.{split}
 use Rattle.like_core.specs.WorkerState.{IsRunning, phase_of}
 use Rattle.like_core.specs.Post.{PostView}
 use Rattle.like_tables.specs.Waiting.{Waiting}
 use Rattle.like_tables.specs.declared.held.Held.{Held}
-use Rattle.like_roles.specs.declared.desk.Desk.{Desk}
-use Rattle.like_roles.specs.Desk.{ArePlaces, CanServe, IsPlaced, IsOwn, IsSound, HasRoomForOne, view_of}
+use Rattle.like_roles.specs.declared.worker.desk.Desk.{Desk}
+use Rattle.like_roles.specs.Desk.{ArePlaces, CanServe, IsJudged, IsPlaced, IsOwn, IsSound, HasRoomForOne, view_of}
 use Rattle.like_roles.specs.Order.{is_look_at_sliced}
 use Rattle.like_requests.specs.Setup.{IsThere}
 use Rattle.like_roles.specs.WorkerView.{has_to_wait}
@@ -37,8 +41,6 @@ none_first (y ∷ ys) h = cc
 -- what is held is no part of the numbers
 IsPlaced-held : (post : PostView) (d : Desk) (w : Waiting) → IsPlaced post d → IsPlaced post (record d { held = w })
 IsPlaced-held post d w p = record {
-  share = p.share;
-  some = p.some;
   is_worker = p.is_worker;
   marks = p.marks;
   few_pages = p.few_pages;
@@ -51,7 +53,7 @@ ArePlaces-held : (d : Desk) (w : Waiting) → ArePlaces d → ArePlaces (record 
 ArePlaces-held d w a = record { sized = a.sized; submitters = a.submitters; cursor = a.cursor }
 
 AreOwn-held : (d : Desk) (w : Waiting) (hs : List Held) → All (IsOwn d) hs → All (IsOwn (record d { held = w })) hs
-AreOwn-held d w hs own = λ i y k. let o = own i y k in record { served = o.served; there = o.there }
+AreOwn-held d w hs own = λ i y k. let o = own i y k in record { served = o.served; there = o.there; judged = o.judged }
 
 -- the first request that is held is taken out
 pub IsSound-pop : (post : PostView) (d : Desk) (popped : Waiting) → IsSound post d → popped ≡ record d.held { held = drop 1 d.held.held } → d.pending ≡ None → IsSound post (record d { held = popped })
@@ -84,12 +86,13 @@ IsSound-push post d h pushed s room fits own n e =
 
 -- the desk's numbers say whether a request has to wait
 pub has_to_wait-is : (post : PostView) (d : Desk) (submitter : ℕ) (r : Request) → IsPlaced post d → IsRunning post.state
-    → has_to_wait (view_of post d) submitter r ≡ is_look_at_sliced d.users d.submitters (λ page. split (λ p. get_or d.marks.items p false) d.phase page) submitter r
+    → has_to_wait (view_of post d) submitter r
+    ≡ is_look_at_sliced d.last.share.users d.last.share.submitters (λ page. split (λ p. get_or d.marks.items p false) d.phase page) submitter r
 has_to_wait-is post d submitter r p run =
     let phase = running_phase (λ _. Unit {0}) post.state d.phase d.gone p.standing run in
-    ap (λ x. has_to_wait (view_of post (record d { last = record d.last { share = x } })) submitter r) p.share
-    ∙ ap (λ xs. is_look_at_sliced d.users d.submitters (λ page. split (λ q. get_or xs q false) (phase_of post.state) page) submitter r) p.marks
-    ∙ ap (λ k. is_look_at_sliced d.users d.submitters (λ page. split (λ q. get_or d.marks.items q false) k page) submitter r) phase
+    let s = d.last.share in
+    ap (λ xs. is_look_at_sliced s.users s.submitters (λ page. split (λ q. get_or xs q false) (phase_of post.state) page) submitter r) p.marks
+    ∙ ap (λ k. is_look_at_sliced s.users s.submitters (λ page. split (λ q. get_or d.marks.items q false) k page) submitter r) phase
 
 -- one request less is left
 sum-less : (xs : List ℕ) (i : ℕ) → i < length xs → 1 ≤ get_or xs i 0 → sum (set xs i (get_or xs i 0 - 1)) + 1 ≡ sum xs
@@ -106,8 +109,6 @@ IsSound-taken post d n place s none there some left taken capacity rest =
     subst (λ x. IsSound post x × HasRoomForOne post x) (sym rest) (
       record {
         placed = let p = s.placed in record {
-          share = p.share;
-          some = p.some;
           is_worker = p.is_worker;
           marks = p.marks;
           few_pages = p.few_pages;
@@ -118,7 +119,7 @@ IsSound-taken post d n place s none there some left taken capacity rest =
         places = record { sized = omega (arith, n.left.ok.0, d.left.ok.0, s.places.sized); submitters = s.places.submitters; cursor = s.places.cursor };
         room = record { taken = omega (arith, s.room.taken); ran = omega (arith, s.room.ran); few = omega (arith, s.room.few) };
         slice = s.slice;
-        held = λ i y k. let o = s.held i y k in record { served = o.served; there = o.there };
+        held = λ i y k. let o = s.held i y k in record { served = o.served; there = o.there; judged = o.judged };
         waiting = s.waiting;
         tried = λ p t. cc (none, t);
       },
@@ -126,9 +127,10 @@ IsSound-taken post d n place s none there some left taken capacity rest =
     )
 
 -- a request that waits was taken in a split phase
-pub waits-split : (users submitters submitter phase : ℕ) (marked : ℕ → Bool) (r : Request) → is_look_at_sliced users submitters (λ page. split marked phase page) submitter r ≡ true → phase % 2 ≡ 1
-waits-split users submitters submitter phase marked r h =
-    of_page (page_looked_at r.op r.page) (and_parts (is_accepted users submitters submitter r) _ h).1 where
+pub waits-split : (users submitters submitter phase : ℕ) (marked : ℕ → Bool) (r : Request) (waits : Bool)
+    → waits ≡ is_look_at_sliced users submitters (λ page. split marked phase page) submitter r → waits ≡ true → phase % 2 ≡ 1
+waits-split users submitters submitter phase marked r waits is h =
+    of_page (page_looked_at r.op r.page) (and_parts (is_accepted users submitters submitter r) _ (sym is ∙ h)).1 where
       of_page : (o : Option ℕ) → option_map_or (λ page. split marked phase page) o false ≡ true → phase % 2 ≡ 1
       of_page None e = cc
       of_page (Some page) e = eqb-true (phase % 2) 1 (and_parts (eqb (phase % 2) 1) (marked page) e).0
@@ -143,20 +145,49 @@ there-by_marks post d page p h = let P : ℕ → Type 0 = λ n. IsThere n page i
 
 -- what was taken from the submitter at a place is the worker's
 pub IsOwn-taken : (post : PostView) (d n : Desk) (place submitter : ℕ) (ask : Numbered) → IsPlaced post d → n ≡ record d { left = n.left; taken = n.taken }
-    → submitter ≡ d.worker + d.workers * place → IsThere (length post.marks) ask.request.page → IsOwn n (record { submitter = submitter; ask = ask })
-IsOwn-taken post d n place submitter ask p rest s there =
-    subst (λ x. IsOwn x (record { submitter = submitter; ask = ask })) (sym rest)
-    (record { served = ap (λ y. y % d.workers) s ∙ place-served d.worker d.workers place p.is_worker; there = there-by_marks post d ask.request.page p there })
+    → submitter ≡ submitter_of d.last.share.workers d.last.share.worker place → IsThere (length post.marks) ask.request.page
+    → IsJudged d.last.share (record { submitter = submitter; ask = ask }) Accepted → IsOwn n (record { submitter = submitter; ask = ask })
+IsOwn-taken post d n place submitter ask p rest s there judged =
+    let t = d.last.share in
+    subst (λ x. IsOwn x (record { submitter = submitter; ask = ask })) (sym rest) (record {
+      served = ap (λ y. y % t.workers) s ∙ place-served t.worker t.workers place p.is_worker;
+      there = there-by_marks post d ask.request.page p there;
+      judged = judged;
+    })
 
 -- and may be answered now, where it need not wait
-pub CanServe-taken : (post : PostView) (d n : Desk) (place submitter : ℕ) (r : Request) → IsPlaced post d → n ≡ record d { left = n.left; taken = n.taken }
-    → submitter ≡ d.worker + d.workers * place → IsThere (length post.marks) r.page → IsRunning post.state
-    → is_look_at_sliced d.users d.submitters (λ page. split (λ p. get_or d.marks.items p false) d.phase page) submitter r ≡ false → CanServe post n submitter r
-CanServe-taken post d n place submitter r p rest s there run prompt =
-    subst (λ x. CanServe post x submitter r) (sym rest)
+pub CanServe-taken : (post : PostView) (d n : Desk) (place : ℕ) (h : Held) (verdict : Verdict) (waits : Bool) → IsPlaced post d → n ≡ record d { left = n.left; taken = n.taken }
+    → h.submitter ≡ submitter_of d.last.share.workers d.last.share.worker place → IsThere (length post.marks) h.ask.request.page
+    → IsJudged d.last.share h verdict → IsRunning post.state
+    → waits ≡ is_look_at_sliced d.last.share.users d.last.share.submitters (λ page. split (λ p. get_or d.marks.items p false) d.phase page) h.submitter h.ask.request
+    → waits ≡ false
+    → CanServe post n h verdict
+CanServe-taken post d n place h verdict waits p rest s there judged run is prompt =
+    let t = d.last.share in
+    subst (λ x. CanServe post x h verdict) (sym rest)
     (record {
       running = run;
-      served = ap (λ y. y % d.workers) s ∙ place-served d.worker d.workers place p.is_worker;
-      there = there-by_marks post d r.page p there;
-      prompt = has_to_wait-is post d submitter r p run ∙ prompt;
+      served = ap (λ y. y % t.workers) s ∙ place-served t.worker t.workers place p.is_worker;
+      there = there-by_marks post d h.ask.request.page p there;
+      judged = judged;
+      prompt = has_to_wait-is post d h.submitter h.ask.request p run ∙ (sym is ∙ prompt);
     })
+
+-- a user's last like is noted, in the same share
+pub IsSound-last : (post : PostView) (d : Desk) (t : UserTable) → IsSound post d → t.share ≡ d.last.share → IsSound post (record d { last = t })
+IsSound-last post d t s same = record {
+  placed = let p = s.placed in record {
+    is_worker = rw same p.is_worker;
+    marks = p.marks;
+    few_pages = p.few_pages;
+    additions = p.additions;
+    slice = p.slice;
+    standing = p.standing;
+  };
+  places = record { sized = s.places.sized; submitters = λ place h. rw same (s.places.submitters place h); cursor = s.places.cursor };
+  room = record { taken = s.room.taken; ran = s.room.ran; few = s.room.few };
+  slice = s.slice;
+  held = λ i y k. let o = s.held i y k in record { served = rw same o.served; there = o.there; judged = rw same o.judged };
+  waiting = s.waiting;
+  tried = λ place is. let o = s.tried place is in record { there = o.there; running = o.running; joined = o.joined; split = o.split };
+}

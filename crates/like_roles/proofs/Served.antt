@@ -1,20 +1,16 @@
 -- What running a request leaves as it is.
-use Rattle.std.proofs.Common.{◌≡◌, ◌≢◌, ℕ, ◌+◌, Bool, true, false, cond, refl, ap, ◌∙◌, slice_index, slice_set}
-use Rattle.like_requests.specs.Verdict.{verdict_of}
+use Rattle.std.proofs.Common.{◌≡◌, ◌≢◌, ℕ, ◌+◌, Bool, true, false, cond, List, [], ◌∷◌, ◌++◌, refl, ap, ◌∙◌, slice_index, slice_set}
 use Rattle.like_requests.specs.declared.request.Request.{Request}
 use Rattle.like_core.specs.declared.worker_state.WorkerState.{WorkerState}
 use Rattle.like_core.specs.declared.worker_state.WorkerState.TheVariants as state
 use Rattle.like_core.specs.WorkerState.{RunsSome, phase_of}
-use Rattle.like_core.specs.Post.{PostView, added, slices}
-use Rattle.like_roles.specs.declared.desk.Desk.{Desk}
+use Rattle.like_core.specs.Post.{added, slices}
+use Rattle.like_tables.specs.declared.held.Held.{Held}
+use Rattle.like_roles.specs.declared.log.Ran.{Ran}
 use Rattle.like_roles.specs.declared.reply.Reply.{Reply}
-use Rattle.like_roles.specs.Desk.{IsPlaced, IsStanding, view_of}
-use Rattle.like_roles.specs.Serve.{GivesReply, refuses, likes, looks, counted, liked, verdict_at}
-use Rattle.like_roles.specs.WorkerView.{WorkerView}
-
--- the numbers of the desk give the verdict
-pub verdict_at-is : (post : PostView) (d : Desk) (submitter : ℕ) (r : Request) → IsPlaced post d → verdict_at (view_of post d) submitter r ≡ verdict_of d.users d.submitters submitter r
-verdict_at-is post d submitter r p = ap (λ x. verdict_of x.users x.submitters submitter r) p.share
+use Rattle.like_roles.specs.Desk.{IsStanding}
+use Rattle.like_roles.specs.Serve.{GivesReply, refuses, likes, looks, counted, liked, ran_now, Runs}
+use Rattle.like_roles.specs.WorkerView.{WorkerView, phase_at}
 
 -- a worker that runs a phase has its number
 pub running_phase : (P : ℕ → Type 0) (s : WorkerState) (phase : ℕ) (gone : Bool) → IsStanding s phase gone → RunsSome P s → phase_of s ≡ phase
@@ -49,3 +45,18 @@ pub not_gone : (s : WorkerState) (phase : ℕ) (gone : Bool) → IsStanding s ph
 not_gone (state.Runs j) phase gone s e n = cc n
 not_gone (state.Answered j) phase gone s e n = cc n
 not_gone state.Gone phase gone s e n = absurd (cc (s, e))
+
+-- a request is answered, and its entry is put at the end of what was run
+pub Runs-noted : (v w : WorkerView) (h : Held) (stashed : Bool) (reply : Reply) (phase : ℕ) (ran : List Ran)
+    → GivesReply v h.submitter h.ask.request reply w → phase_at v ≡ phase
+    → ran ≡ w.ran ++ (record { phase = phase; submitter = h.submitter; number = h.ask.number; stashed = stashed; reply = reply }) ∷ []
+    → Runs v h stashed (record w { ran = ran })
+Runs-noted v w h stashed reply phase ran gives now is =
+    let noted : List Ran = v.ran ++ ran_now v h stashed reply ∷ [] in
+    let same : ran ≡ noted = rw (is, GivesReply-ran v h.submitter h.ask.request reply w gives, ← now) refl in
+    record {
+      reply = reply;
+      served = w;
+      serves = gives;
+      noted = ap (λ (xs : List Ran). record w { ran = xs }) {x = ran} {y = noted} same;
+    }

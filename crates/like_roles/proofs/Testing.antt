@@ -1,10 +1,10 @@
 -- A worker that the tests play with.
-use Rattle.std.proofs.Common.{zero, suc, ◌≡◌, ℕ, ◌+◌, ◌-◌, ◌*◌, ◌^◌, ◌<◌, ◌≤◌, ◌==◌, Bool, true, false, cond, List, [], ◌∷◌, ◌++◌, length, get_or, set, count_by, None, Some, All, subst, ap, sym, ◌∙◌, refl, arith}
+use Rattle.std.proofs.Common.{zero, suc, ◌≡◌, ℕ, ◌+◌, ◌-◌, ◌^◌, ◌<◌, ◌≤◌, ◌==◌, Bool, true, false, cond, List, [], ◌∷◌, ◌++◌, length, get_or, set, count_by, None, Some, subst, ap, sym, ◌∙◌, refl, arith}
 use Rattle.std.proofs.lemmas.Bool.{eq-eqb}
 use Rattle.std.proofs.lemmas.List.{get_or-map, get_or-set_same, length-map, length-replicate, length-set}
 use Rattle.std.proofs.lemmas.List.Sums.{sum_by_push}
 use Rattle.std.proofs.lemmas.Option.{get_or_from_slice_get, slice_get_within}
-use Rattle.like_requests.specs.Pages.{ArePages, Page, counts_of, marks_of}
+use Rattle.like_requests.specs.Pages.{ArePages, Page, counts_of}
 use Rattle.like_requests.specs.Setup.{IsThere, IsWithin, IsWithinLimits}
 use Rattle.like_requests.proofs.Planned.{plans-within}
 use Rattle.like_requests.specs.declared.request.Request.{Request}

@@ -2,11 +2,8 @@
 use Rattle.std.specs.Prelude.{◌≡◌, ℕ, ◌-◌, ◌<◌, true, false, IsSomeAnd}
 use Rattle.like_core.specs.declared.sight.CoordSight.{CoordSight}
 use Rattle.like_core.specs.declared.view.CoordSeatView.{CoordSeatView}
-use Rattle.like_core.specs.declared.event.Event.TheVariants.{CoordLook}
-use Rattle.like_core.specs.declared.shown.Shown.TheVariants.{Coord as CoordShown}
-use Rattle.like_core.specs.declared.view.View.TheVariants.{Coord}
 use Rattle.like_core.specs.Phase.{last_phase, IsJoined, IsSplit}
-use Rattle.like_core.specs.Shows.{IsStep}
+use Rattle.like_core.specs.Actions.{Surveys}
 use Rattle.like_core.specs.Views.{announced_coord, looked_coord, released_coord}
 use Rattle.like_board.specs.Seats.{BoardId}
 use Rattle.like_roles.specs.declared.coord_turn.CoordTurn.{CoordTurn}
@@ -41,15 +38,17 @@ pub data Acts (v : CoordinatorView) (sight : CoordSight) (answer : CoordTurn) (a
   stays : sight.all_gone ≡ false → sight.ending ≡ false → v.left ≡ 0 → sight.number ≡ last_phase
       → answer ≡ Stays → after ≡ v → Acts v sight answer after
   announces : sight.all_gone ≡ false → sight.ending ≡ false → v.left ≡ 0 → sight.number < last_phase
-      → answer ≡ Announced → after ≡ record v { seat = announced_coord v.seat } → Acts v sight answer after
+      → answer ≡ Announced → after ≡ record v { seat = announced_coord v.seat }
+      → Acts v sight answer after
   releases : sight.all_gone ≡ false → sight.ending ≡ true → sight.all_in ≡ true
-      → answer ≡ Released → after ≡ record v { seat = released_coord v.seat; left = v.turns } → Acts v sight answer after
+      → answer ≡ Released → after ≡ record v { seat = released_coord v.seat; left = v.turns }
+      → Acts v sight answer after
   waits : sight.all_gone ≡ false → sight.ending ≡ true → sight.all_in ≡ false
       → answer ≡ Waiting → after ≡ v → Acts v sight answer after
 
 -- a look of the seat at this word is the event of the core, and shows what the core shows
 pub data IsLook (c : CoordSeatView) (word : ℕ) (sight : CoordSight) : Type 0 where
-  looks : IsStep c.opening CoordLook (CoordShown sight) (Coord c) (Coord (looked_coord c word sight)) → IsLook c word sight
+  looks : Surveys c sight (looked_coord c word sight) → IsLook c word sight
 
 -- turn case of the coordinator: it looks, and does what the sight asks for; its answer, and the coordinator after
 pub record CoordTurns (v : CoordinatorView) (answer : CoordTurn) (after : CoordinatorView) : Type 0 where

@@ -1,6 +1,8 @@
 -- What a worker keeps, beside its post.
-use Rattle.std.specs.Prelude.{◌≡◌, ℕ, ◌+◌, ◌*◌, ◌<◌, ◌≤◌, Bool, true, false, List, [], length, sum, All, Some, None, replicate, vec_len, vec_capacity}
-use Rattle.like_requests.specs.declared.request.Request.{Request}
+use Rattle.std.specs.Prelude.{◌≡◌, ◌↔◌, IsTrue, ℕ, ◌+◌, ◌<◌, ◌≤◌, Bool, true, false, List, [], length, sum, All, Some, None, replicate, vec_len, vec_capacity}
+use Rattle.like_requests.specs.Verdict.{is_accepted, verdict_of}
+use Rattle.like_requests.specs.declared.verdict.Verdict.{Verdict}
+use Rattle.like_requests.specs.declared.verdict.Verdict.TheVariants.{Accepted}
 use Rattle.like_requests.specs.Limits.{max_pages}
 use Rattle.like_core.specs.declared.worker_state.WorkerState.{WorkerState}
 use Rattle.like_core.specs.declared.worker_state.WorkerState.TheVariants.{Runs, Answered, Gone}
@@ -9,9 +11,9 @@ use Rattle.like_core.specs.WorkerState.{IsRunning}
 use Rattle.like_core.specs.Post.{PostView}
 use Rattle.like_tables.specs.Waiting.{IsWaiting}
 use Rattle.like_tables.specs.declared.held.Held.{Held}
-use Rattle.like_roles.specs.declared.desk.Desk.{Desk}
+use Rattle.like_roles.specs.declared.worker.desk.Desk.{Desk}
 use Rattle.like_requests.specs.declared.setup.Setup.{Setup}
-use Rattle.like_tables.specs.Share.{dealt, share_of, submitter_of, worker_of}
+use Rattle.like_tables.specs.Share.{Share, dealt, share_of, submitter_of, worker_of}
 use Rattle.like_tables.specs.UserTable.{table_without_likes}
 use Rattle.like_requests.specs.Pages.{marks_of}
 use Rattle.like_requests.specs.Setup.{IsThere}
@@ -38,10 +40,16 @@ IsStanding (Runs j) phase gone = (j ≡ phase) × (gone ≡ false)
 IsStanding (Answered j) phase gone = (j ≡ phase) × (gone ≡ false)
 IsStanding Gone phase gone = gone ≡ true
 
--- a request that the worker may hold: of one of its submitters, and of a page that is there
+-- the verdict is that on the request
+pub record IsJudged (s : Share) (h : Held) (verdict : Verdict) : Type 0 where
+  pub is : verdict ≡ verdict_of s.users s.submitters h.submitter h.ask.request
+  pub accepted : (verdict ≡ Accepted) ↔ IsTrue (is_accepted s.users s.submitters h.submitter h.ask.request)
+
+-- a request that the worker may hold: of one of its submitters, of a page that is there, and accepted
 pub record IsOwn (d : Desk) (h : Held) : Type 0 where
-  pub served : worker_of d.workers h.submitter ≡ d.worker
+  pub served : worker_of d.last.share.workers h.submitter ≡ d.last.share.worker
   pub there : IsThere (vec_len d.marks) h.ask.request.page
+  pub judged : IsJudged d.last.share h Accepted
 
 -- the submitter at a place is tried: it has not ended, and there is room for a look that waits
 pub record IsTried (post : PostView) (d : Desk) (place : ℕ) : Type 0 where
@@ -52,9 +60,7 @@ pub record IsTried (post : PostView) (d : Desk) (place : ℕ) : Type 0 where
 
 -- the numbers of the run and of the worker's post
 pub record IsPlaced (post : PostView) (d : Desk) : Type 0 where
-  pub share : d.last.share ≡ record { users = d.users; submitters = d.submitters; workers = d.workers; worker = d.worker }
-  pub some : 1 ≤ d.submitters
-  pub is_worker : d.worker < d.workers
+  pub is_worker : d.last.share.worker < d.last.share.workers
   pub marks : post.marks ≡ d.marks.items
   pub few_pages : vec_len d.marks ≤ max_pages
   pub additions : length post.additions ≡ vec_len d.marks
@@ -64,7 +70,8 @@ pub record IsPlaced (post : PostView) (d : Desk) : Type 0 where
 -- the submitters by place
 pub record ArePlaces (d : Desk) : Type 0 where
   pub sized : vec_len d.left ≡ vec_len d.ended
-  pub submitters : (place : ℕ) → place < vec_len d.ended → d.worker + d.workers * place < d.submitters
+  pub submitters : (place : ℕ) → place < vec_len d.ended
+      → submitter_of d.last.share.workers d.last.share.worker place < d.last.share.submitters
   pub cursor : d.cursor ≤ vec_len d.ended
 
 -- there is room to take and to run what was not taken yet, and to run what is held
@@ -92,19 +99,16 @@ pub record IsSound (post : PostView) (d : Desk) : Type 0 where
   pub waiting : IsWaiting d.held
   pub tried : (place : ℕ) → d.pending ≡ Some place → IsTried post d place
 
--- a request of the worker that may be answered now
-pub record CanServe (post : PostView) (d : Desk) (submitter : ℕ) (r : Request) : Type 0 where
+-- a request of the worker, with its verdict, that may be answered now
+pub record CanServe (post : PostView) (d : Desk) (h : Held) (verdict : Verdict) : Type 0 where
   pub running : IsRunning post.state
-  pub served : worker_of d.workers submitter ≡ d.worker
-  pub there : IsThere (vec_len d.marks) r.page
-  pub prompt : has_to_wait (view_of post d) submitter r ≡ false
+  pub served : worker_of d.last.share.workers h.submitter ≡ d.last.share.worker
+  pub there : IsThere (vec_len d.marks) h.ask.request.page
+  pub judged : IsJudged d.last.share h verdict
+  pub prompt : has_to_wait (view_of post d) h.submitter h.ask.request ≡ false
 
 -- what a worker keeps at first
 pub record IsNewDesk (s : Setup) (sizes : List ℕ) (worker : ℕ) (d : Desk) : Type 0 where
-  pub users : d.users ≡ s.users
-  pub submitters : d.submitters ≡ length sizes
-  pub workers : d.workers ≡ s.workers
-  pub is_worker : d.worker ≡ worker
   pub marks : d.marks.items ≡ marks_of s.pages
   pub few_pages : length s.pages ≤ max_pages
   pub phase : d.phase ≡ 0

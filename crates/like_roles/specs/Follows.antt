@@ -53,11 +53,12 @@ next_joined v = phase_at v + phase_at v % 2
 abbrev pub IsInOrder : Service → WorkerView → Type 0
 IsInOrder service v = map entry_of v.ran ++ map (entry_held (next_joined v)) v.held.held ≡ order service v.taken
 
--- the same, by the blocks of phases, for a worker that runs a phase: in a split phase what it holds is the whole part of
--- the next block that is known
+-- the same, by the blocks of phases, for a worker that runs a phase: in a split phase what it holds is the whole part
+-- of the next block that is known
 pub record IsInBlocks (service : Service) (v : WorkerView) (phase : ℕ) : Type 0 where
   pub within : All (λ t. t.phase ≤ phase) v.taken
-  pub joined : IsJoined phase → order_below service v.taken (phase + 1) ≡ map entry_of v.ran ++ map (entry_held phase) v.held.held
+  pub joined : IsJoined phase
+      → order_below service v.taken (phase + 1) ≡ map entry_of v.ran ++ map (entry_held phase) v.held.held
   pub split_ran : IsSplit phase → order_below service v.taken (phase + 1) ≡ map entry_of v.ran
   pub split_held : IsSplit phase → block service v.taken (phase + 1) ≡ map (entry_held (phase + 1)) v.held.held
 
@@ -76,11 +77,13 @@ pub record Follows (service : Service) (v : WorkerView) : Type 0 where
   pub in_order : IsInOrder service v
   pub held : All (IsAsked service) v.held.held
   pub stands : Stands service v v.post.state
-  pub trying : (place : ℕ) → v.pending ≡ Some place → IsRunning v.post.state × (RunsJoined v.post.state → v.held.held ≡ [])
+  pub trying : (place : ℕ) → v.pending ≡ Some place
+      → IsRunning v.post.state × (RunsJoined v.post.state → v.held.held ≡ [])
 
 -- what is given is asked by the plan of the submitter that is tried
 abbrev pub IsAskedBy : Service → WorkerView → Taken → Type 0
-IsAskedBy service v (taken.Ask ask) = (place : ℕ) → v.pending ≡ Some place → request_at service (submitter_at v place) ask.number ≡ Some ask.request
+IsAskedBy service v (taken.Ask ask) =
+    (place : ℕ) → v.pending ≡ Some place → request_at service (submitter_at v place) ask.number ≡ Some ask.request
 IsAskedBy service v taken.End = ⊤
 IsAskedBy service v taken.Nothing = ⊤
 
@@ -90,9 +93,9 @@ pub record IsServiceOf (users : ℕ) (pages : List Page) (sizes : List ℕ) (ser
   pub pages_are : service.pages ≡ pages
   pub sizes_are : map length service.plans ≡ sizes
 
--- what a worker that is gone has done: it ran what it took in run order; its post's additions are the accepted likes that
--- it ran; each reply is right, save that nothing is said of counts; its table has each user's last like; and the end mark
--- of each of its submitters was taken
+-- what a worker that is gone has done: it ran what it took in run order; its post's additions are the accepted likes
+-- that it ran; each reply is right, save that nothing is said of counts; its table has each user's last like; and the
+-- end mark of each of its submitters was taken
 pub record IsDone (service : Service) (v : WorkerView) : Type 0 where
   pub in_order : map entry_of v.ran ≡ order service v.taken
   pub likes : (page : ℕ) → likes_among service page v.ran ≡ additions_of v.post page

@@ -30,7 +30,8 @@ accepted_like users submitters submitter r =
 
 -- the accepted like that an entry ran, if it ran one
 abbrev pub like_ran : Service → Ran → Option AcceptedLike
-like_ran service e = option_and_then (accepted_like service.users (submitters service) e.submitter) (request_of service e)
+like_ran service e =
+    option_and_then (accepted_like service.users (submitters service) e.submitter) (request_of service e)
 
 -- the accepted likes among entries, in their order
 abbrev pub likes_ran : Service → List Ran → List AcceptedLike
@@ -62,11 +63,13 @@ likes service page runs = sum_by (likes_among service page) runs
 
 -- how many of them ran in an earlier phase
 abbrev pub likes_below : Service → ℕ → List (List Ran) → ℕ → ℕ
-likes_below service page runs phase = sum_by (λ ran. likes_among service page (filter (λ e. nat_lt e.phase phase) ran)) runs
+likes_below service page runs phase =
+    sum_by (λ ran. likes_among service page (filter (λ e. nat_lt e.phase phase) ran)) runs
 
 -- how many of them ran in this phase or an earlier one
 abbrev pub likes_up_to : Service → ℕ → List (List Ran) → ℕ → ℕ
-likes_up_to service page runs phase = sum_by (λ ran. likes_among service page (filter (λ e. nat_le e.phase phase) ran)) runs
+likes_up_to service page runs phase =
+    sum_by (λ ran. likes_among service page (filter (λ e. nat_le e.phase phase) ran)) runs
 
 -- how many accepted likes of the page are among entries of this phase
 abbrev pub likes_within : Service → ℕ → List Ran → ℕ → ℕ
@@ -76,7 +79,8 @@ likes_within service page entries phase = likes_among service page (filter (λ e
 abbrev pub initial_count : List Page → ℕ → ℕ
 initial_count pages page = option_map_or (λ p. p.count) (slice_get pages page) 0
 
--- a count that may be seen in a phase: at least all likes of earlier phases and `before` more, at most all likes up to the phase but for `after`
+-- a count that may be seen in a phase: at least all likes of earlier phases and `before` more, at most all likes up to
+-- the phase but for `after`
 pub record Between (service : Service) (runs : List (List Ran)) (phase page count before after : ℕ) : Type 0 where
   pub lower : initial_count service.pages page + likes_below service page runs phase + before ≤ count
   pub upper : count + after ≤ initial_count service.pages page + likes_up_to service page runs phase

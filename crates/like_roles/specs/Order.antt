@@ -16,11 +16,13 @@ is_look_at_sliced users submitters is_sliced submitter r =
 
 -- waits: an accepted look at a page that is split in the phase cannot run in it
 abbrev pub waits : Service → ℕ → ℕ → Request → Bool
-waits service phase submitter r = is_look_at_sliced service.users (submitters service) (is_split_in service phase) submitter r
+waits service phase submitter r =
+    is_look_at_sliced service.users (submitters service) (is_split_in service phase) submitter r
 
 -- whether what was taken had to wait
 abbrev pub took_to_wait : Service → Took → Bool
-took_to_wait service t = option_map_or (waits service t.phase t.submitter) (request_at service t.submitter t.number) false
+took_to_wait service t =
+    option_map_or (waits service t.phase t.submitter) (request_at service t.submitter t.number) false
 
 -- a place in the run order: which request runs in which phase, and whether it comes out of the stash
 pub record Entry : Type 0 where
@@ -49,7 +51,8 @@ is_prompt service phase t = (t.phase == phase) && not (took_to_wait service t)
 -- need not wait; in an even phase nothing has to wait, as no page is split
 abbrev pub block : Service → List Took → ℕ → List Entry
 block service taken phase =
-    map (entry_in phase true) (filter (is_due service phase) taken) ++ map (entry_in phase false) (filter (is_prompt service phase) taken)
+    map (entry_in phase true) (filter (is_due service phase) taken)
+    ++ map (entry_in phase false) (filter (is_prompt service phase) taken)
 
 -- the blocks of the first phases, 0, 1, 2, .., so many of them, joined end to end
 abbrev pub order_below : Service → List Took → ℕ → List Entry

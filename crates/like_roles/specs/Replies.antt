@@ -35,7 +35,9 @@ Answers UnknownPage op last reply = reply ≡ Refused UnknownPage
 -- right answer: the entry's reply is that of its request, after the entries before it in its run list
 abbrev pub IsRightAnswer : Service → List Ran → Ran → Type 0
 IsRightAnswer service before e =
-    IsSomeAnd (request_of service e) (λ r. Answers (verdict_of service.users (submitters service) e.submitter r) r.op (last_like service r.user before) e.reply)
+    IsSomeAnd (request_of service e)
+    (λ r. Answers (verdict_of service.users (submitters service) e.submitter r) r.op
+    (last_like service r.user before) e.reply)
 
 -- the page of a look
 abbrev pub page_looked_at : Op → PageRef → Option ℕ
@@ -43,16 +45,22 @@ page_looked_at Like page = Option.None
 page_looked_at Look (Known page) = Some page
 page_looked_at Look Unknown = Option.None
 
--- right count: the count that an accepted look was answered lies between the bounds of its phase, and of the entries before and after it in its run list
+-- right count: the count that an accepted look was answered lies between the bounds of its phase, and of the entries
+-- before and after it in its run list
 abbrev pub IsRightCount : Service → List (List Ran) → List Ran → Ran → List Ran → Type 0
 IsRightCount service runs before e after =
-    (r : Request) (page : ℕ) → request_of service e ≡ Some r → verdict_of service.users (submitters service) e.submitter r ≡ Accepted → page_looked_at r.op r.page ≡ Some page
-    → IsSeen e.reply (λ _. ⊤) (λ count. Between service runs e.phase page count (likes_within service page before e.phase) (likes_within service page after e.phase))
+    (r : Request) (page : ℕ) → request_of service e ≡ Some r
+    → verdict_of service.users (submitters service) e.submitter r ≡ Accepted
+    → page_looked_at r.op r.page ≡ Some page
+    → IsSeen e.reply (λ _. ⊤) (λ count. Between service runs e.phase page count
+    (likes_within service page before e.phase) (likes_within service page after e.phase))
 
 -- each entry of a run list has the right answer
 abbrev pub HasRightAnswers : Service → List Ran → Type 0
-HasRightAnswers service ran = (i : ℕ) (e : Ran) → slice_get ran i ≡ Some e → IsRightAnswer service (take i ran) e
+HasRightAnswers service ran =
+    (i : ℕ) (e : Ran) → slice_get ran i ≡ Some e → IsRightAnswer service (take i ran) e
 
 -- each look of a run list has the right count
 abbrev pub HasRightCounts : Service → List (List Ran) → List Ran → Type 0
-HasRightCounts service runs ran = (i : ℕ) (e : Ran) → slice_get ran i ≡ Some e → IsRightCount service runs (take i ran) e (drop (suc i) ran)
+HasRightCounts service runs ran =
+    (i : ℕ) (e : Ran) → slice_get ran i ≡ Some e → IsRightCount service runs (take i ran) e (drop (suc i) ran)

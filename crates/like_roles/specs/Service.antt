@@ -22,7 +22,8 @@ numbered_in plan (suc n) = slice_get plan n
 
 -- the request of a submitter with this number
 abbrev pub request_at : Service → ℕ → ℕ → Option Request
-request_at service submitter number = option_and_then (λ plan. numbered_in plan number) (slice_get service.plans submitter)
+request_at service submitter number =
+    option_and_then (λ plan. numbered_in plan number) (slice_get service.plans submitter)
 
 -- the request that an entry ran
 abbrev pub request_of : Service → Ran → Option Request

@@ -30,14 +30,18 @@ trying v place = record v { pending = Some place; cursor = (place + 1) % length 
 -- the slice is added to the board and emptied
 abbrev pub merged : WorkerView → WorkerView
 merged v = record v {
-  post = record v.post { additions = map (λ page. additions_of v.post page + slice_index v.slice page) (range_with_len 0 (pages_of v.post)) };
+  post = record v.post {
+    additions = map (λ page. additions_of v.post page + slice_index v.slice page) (range_with_len 0 (pages_of v.post));
+  };
   slice = replicate (pages_of v.post) 0;
 }
 
 -- a page's slice is added to the board and emptied
 abbrev pub merged_page : WorkerView → ℕ → WorkerView
 merged_page v page = record v {
-  post = record v.post { additions = slice_set v.post.additions page (additions_of v.post page + slice_index v.slice page) };
+  post = record v.post {
+    additions = slice_set v.post.additions page (additions_of v.post page + slice_index v.slice page);
+  };
   slice = slice_set v.slice page 0;
 }
 
@@ -53,13 +57,16 @@ pub data Works (v : WorkerView) (ending : Bool) (answer : Turn) (after : WorkerV
       → answer ≡ turn.Retired → after ≡ record v { post = retired v.post } → Works v ending answer after
   acknowledges : RunsJoined v.post.state → v.held.held ≡ [] → ¬ HasEnded v → ending ≡ true
       → answer ≡ turn.Acknowledged → after ≡ record v { post = answered v.post } → Works v ending answer after
-  tries_joined : (place : ℕ) → RunsJoined v.post.state → v.held.held ≡ [] → IsNextPlace v.ended v.cursor place → ending ≡ false
+  tries_joined : (place : ℕ) → RunsJoined v.post.state → v.held.held ≡ []
+      → IsNextPlace v.ended v.cursor place → ending ≡ false
       → answer ≡ turn.Try (submitter_at v place) → after ≡ trying v place → Works v ending answer after
   reports : RunsSplit v.post.state → ending ≡ true
-      → answer ≡ turn.Reported → after ≡ record (merged v) { post = answered (merged v).post } → Works v ending answer after
+      → answer ≡ turn.Reported → after ≡ record (merged v) { post = answered (merged v).post }
+      → Works v ending answer after
   idles : RunsSplit v.post.state → ending ≡ false → IsStuck v
       → answer ≡ turn.Idle → after ≡ v → Works v ending answer after
-  tries_split : (place : ℕ) → RunsSplit v.post.state → ending ≡ false → length v.held.held ≢ v.held.capacity → IsNextPlace v.ended v.cursor place
+  tries_split : (place : ℕ) → RunsSplit v.post.state → ending ≡ false
+      → length v.held.held ≢ v.held.capacity → IsNextPlace v.ended v.cursor place
       → answer ≡ turn.Try (submitter_at v place) → after ≡ trying v place → Works v ending answer after
 
 -- turn case: what a turn does, its answer, and the worker after
@@ -104,21 +111,26 @@ with_stashed v h = record v { held = record v.held { held = v.held.held ++ h ∷
 -- what becomes of a request that is taken from the submitter at a place: the answer, and the worker after
 pub data TakesAsk (v : WorkerView) (place : ℕ) (ask : Numbered) (answer : Turn) (after : WorkerView) : Type 0 where
   stashes : has_to_wait v (submitter_at v place) ask.request ≡ true
-      → answer ≡ turn.Stashed → after ≡ with_stashed (with_taken v place ask) (held_from v place ask) → TakesAsk v place ask answer after
+      → answer ≡ turn.Stashed → after ≡ with_stashed (with_taken v place ask) (held_from v place ask)
+      → TakesAsk v place ask answer after
   runs : has_to_wait v (submitter_at v place) ask.request ≡ false
-      → answer ≡ turn.Ran → Runs (with_taken v place ask) (held_from v place ask) false after → TakesAsk v place ask answer after
+      → answer ≡ turn.Ran → Runs (with_taken v place ask) (held_from v place ask) false after
+      → TakesAsk v place ask answer after
 
 -- turn case, where something was taken from the submitter that is tried: what is done, the answer, and the worker after
 pub data Gives (v : WorkerView) (took : Taken) (answer : Turn) (after : WorkerView) : Type 0 where
   nothing : took ≡ taken.Nothing → answer ≡ turn.Nothing → after ≡ settled v → Gives v took answer after
   ends : (place : ℕ) → v.pending ≡ Some place → took ≡ taken.End
-      → answer ≡ turn.TookEnd → after ≡ record (settled v) { ended = slice_set v.ended place true } → Gives v took answer after
+      → answer ≡ turn.TookEnd → after ≡ record (settled v) { ended = slice_set v.ended place true }
+      → Gives v took answer after
   asks : (place : ℕ) (ask : Numbered) → v.pending ≡ Some place → took ≡ taken.Ask ask
       → TakesAsk (settled v) place ask answer after → Gives v took answer after
 
 -- a submitter is tried exactly after the answer that says so
 abbrev pub Pends : Turn → WorkerView → Type 0
-Pends (turn.Try submitter) v = (place : ℕ) × ((v.pending ≡ Some place) × (submitter_at v place ≡ submitter) × (place < length v.ended) × (slice_index_or v.ended place true ≡ false))
+Pends (turn.Try submitter) v =
+    (place : ℕ) × ((v.pending ≡ Some place) × (submitter_at v place ≡ submitter)
+    × (place < length v.ended) × (slice_index_or v.ended place true ≡ false))
 Pends answer v = v.pending ≡ None
 
 -- the run and the board are the same, and what was taken from the submitters is
@@ -131,6 +143,8 @@ pub record TakesNothing (old new : WorkerView) : Type 0 where
 
 -- this alone was taken from the submitter that was tried
 abbrev pub HasTaken : WorkerView → Taken → WorkerView → Type 0
-HasTaken old (taken.Ask ask) new = (place : ℕ) → old.pending ≡ Some place → TakesNothing (with_taken old place ask) new
-HasTaken old taken.End new = (place : ℕ) → old.pending ≡ Some place → TakesNothing (record old { ended = slice_set old.ended place true }) new
+HasTaken old (taken.Ask ask) new =
+    (place : ℕ) → old.pending ≡ Some place → TakesNothing (with_taken old place ask) new
+HasTaken old taken.End new =
+    (place : ℕ) → old.pending ≡ Some place → TakesNothing (record old { ended = slice_set old.ended place true }) new
 HasTaken old taken.Nothing new = TakesNothing old new

@@ -1,8 +1,9 @@
 -- What a worker is, as contracts see it.
-use Rattle.std.specs.Prelude.{◌≡◌, ◌≢◌, ℕ, ◌+◌, ◌-◌, ◌*◌, ◌<◌, nat_le, if◌then◌else◌, Bool, true, false, List, length, slice_index, slice_index_or, Option}
+use Rattle.std.specs.Prelude.{◌≡◌, ◌≢◌, ℕ, ◌+◌, ◌-◌, ◌<◌, nat_le, if◌then◌else◌, Bool, true, false, List, length, slice_index, slice_index_or, Option}
 use Rattle.like_requests.specs.declared.request.Request.{Request}
 use Rattle.like_core.specs.WorkerState.{RunsSplit, phase_of}
 use Rattle.like_core.specs.Post.{PostView, is_marked, slices}
+use Rattle.like_tables.specs.Share.{submitter_of}
 use Rattle.like_tables.specs.UserTable.{UserTable}
 use Rattle.like_tables.specs.Waiting.{Waiting}
 use Rattle.like_roles.specs.declared.log.Ran.{Ran}
@@ -31,7 +32,7 @@ phase_at v = phase_of v.post.state
 
 -- the submitter at a place: w, w + N, w + 2 N, .. for worker w of N
 abbrev pub submitter_at : WorkerView → ℕ → ℕ
-submitter_at v place = v.last.share.worker + v.last.share.workers * place
+submitter_at v place = submitter_of v.last.share.workers v.last.share.worker place
 
 -- it took the end mark of each of its submitters
 abbrev pub HasEnded : WorkerView → Type 0
@@ -46,7 +47,8 @@ pub record IsNextPlace (ended : List Bool) (cursor place : ℕ) : Type 0 where
   pub there : place < length ended
   pub not_ended : slice_index_or ended place true ≡ false
   pub first : (other : ℕ) → other < length ended
-      → steps_between (length ended) cursor other < steps_between (length ended) cursor place → slice_index_or ended other true ≡ true
+      → steps_between (length ended) cursor other < steps_between (length ended) cursor place
+      → slice_index_or ended other true ≡ true
 
 -- whether a request of a submitter has to wait for the next joined phase
 abbrev pub has_to_wait : WorkerView → ℕ → Request → Bool
@@ -54,4 +56,5 @@ has_to_wait v submitter r = is_look_at_sliced v.last.share.users v.last.share.su
 
 -- a slice that is not empty belongs to a worker that runs a split phase, and has pages that are marked as split alone
 abbrev pub IsSliceInSplit : PostView → List ℕ → Type 0
-IsSliceInSplit post slice = (page : ℕ) → slice_index slice page ≢ 0 → RunsSplit post.state × (is_marked post page ≡ true)
+IsSliceInSplit post slice =
+    (page : ℕ) → slice_index slice page ≢ 0 → RunsSplit post.state × (is_marked post page ≡ true)

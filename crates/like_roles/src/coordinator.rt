@@ -25,13 +25,25 @@ impl Model for Coordinator {
 
     ghost Value = { CoordinatorView };
 
-    ghost view = { λ c. record { board = coord_board c.seat; seat = coord_view c.seat; turns = c.turns; left = c.left; phase = c.phase } };
+    ghost view = { λ c. record {
+      board = coord_board c.seat;
+      seat = coord_view c.seat;
+      turns = c.turns;
+      left = c.left;
+      phase = c.phase;
+    } };
 }
 
 impl Coordinator {
     /// The coordinator that counts so many turns in each phase.
     pub fn new(seat: CoordSeat, turns: u32) -> Coordinator
-        ensures { result ≡ record { board = coord_board seat; seat = coord_view seat; turns = turns; left = turns; phase = 0 } }
+        ensures { result ≡ record {
+          board = coord_board seat;
+          seat = coord_view seat;
+          turns = turns;
+          left = turns;
+          phase = 0;
+        } }
     {
         Coordinator {
             seat,

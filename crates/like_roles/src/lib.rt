@@ -7,10 +7,8 @@
 
 mod coord_turn;
 mod coordinator;
-mod desk;
 mod gate;
 mod log;
-mod places;
 mod reply;
 #[cfg(test)]
 mod tests;

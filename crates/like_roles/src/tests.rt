@@ -58,13 +58,14 @@ fn seen(last: Option<u32>, count: u64) -> Reply {
 }
 
 /// The last phase that the coordinator saw, and what the first worker has done, in a run with one submitter: the steps
-/// in their order with the answer of each, and the calls of the gate.
+/// and then the rounds, with the answer of each, and the calls of the gate.
 fn end_of(
     rt: &impl Abort,
     alloc: Global,
     setup: Setup,
     plan: Vec<Request>,
     steps: &[Step],
+    rounds: &[Step],
     calls: &[Call],
 ) -> Result<(u32, WorkerLog), Fail> {
     let plans = [plan];
@@ -73,6 +74,7 @@ fn end_of(
     let gate = Expecting::new(alloc, calls)?;
     let mut play = Play::new(alloc, &setup, plans[0].as_slice(), &board, coord, seats)?;
     play.make(rt, &gate, steps);
+    play.make(rt, &gate, rounds);
     let end = play.finish(rt, &gate);
     assert!(rt; gate.is_content());
     Ok(end)
@@ -87,7 +89,7 @@ fn expect(rt: &impl Abort, log: &WorkerLog, taken: &[Took], ran: &[Ran], last: O
 }
 
 /// The steps of `split-and-stash` and `stash-then-like`, whose turns in the first split phase are answered like this.
-fn steps_of(first: Turn, second: Turn) -> [Step; 18] {
+fn steps_of(first: Turn, second: Turn) -> [Step; 9] {
     [
         Coord(CoordTurn::Announced),
         Worker(0, Turn::Acknowledged),
@@ -98,6 +100,12 @@ fn steps_of(first: Turn, second: Turn) -> [Step; 18] {
         Worker(0, Turn::Reported),
         Coord(CoordTurn::Released),
         Worker(0, Turn::Ran),
+    ]
+}
+
+/// The rounds after phase 2, in which everything was run.
+fn rounds() -> [Step; 9] {
+    [
         Coord(CoordTurn::Announced),
         Worker(0, Turn::Acknowledged),
         Coord(CoordTurn::Released),
@@ -128,7 +136,15 @@ fn splits_and_stashes(rt: HostRuntime) -> Result<(), Fail> {
     let setup = setup_of(rt.alloc(), 1, 256, b"name,count,split\na,10,yes\n")?;
     let plan = vec![in rt.alloc(); ask(Op::Like, 0), ask(Op::Look, 0)]?;
     let steps = steps_of(Turn::Ran, Turn::Stashed);
-    let (phase, log) = end_of(&rt, rt.alloc(), setup, plan, &steps, &calls_of(1, 2))?;
+    let (phase, log) = end_of(
+        &rt,
+        rt.alloc(),
+        setup,
+        plan,
+        &steps,
+        &rounds(),
+        &calls_of(1, 2),
+    )?;
     assert_eq!(rt; phase, 4);
     let entries = [
         ran(1, 1, false, Reply::Liked),
@@ -145,7 +161,15 @@ fn stashes_and_then_likes(rt: HostRuntime) -> Result<(), Fail> {
     let setup = setup_of(rt.alloc(), 1, 256, b"name,count,split\na,5,yes\nb,0,no\n")?;
     let plan = vec![in rt.alloc(); ask(Op::Look, 0), ask(Op::Like, 1)]?;
     let steps = steps_of(Turn::Stashed, Turn::Ran);
-    let (_, log) = end_of(&rt, rt.alloc(), setup, plan, &steps, &calls_of(2, 1))?;
+    let (_, log) = end_of(
+        &rt,
+        rt.alloc(),
+        setup,
+        plan,
+        &steps,
+        &rounds(),
+        &calls_of(2, 1),
+    )?;
     let entries = [
         ran(1, 2, false, Reply::Liked),
         ran(2, 1, true, seen(Some(1), 5)),
@@ -169,9 +193,6 @@ fn idles_with_a_full_stash(rt: HostRuntime) -> Result<(), Fail> {
         Coord(CoordTurn::Released),
         Worker(0, Turn::Ran),
         Worker(0, Turn::Ran),
-        Worker(0, Turn::TookEnd),
-        Worker(0, Turn::Retired),
-        Coord(CoordTurn::Ended),
     ];
     let calls = [
         Phase(0, 0),
@@ -179,8 +200,10 @@ fn idles_with_a_full_stash(rt: HostRuntime) -> Result<(), Fail> {
         Phase(0, 2),
         Run(0, 0, 1),
         Run(0, 0, 2),
+        Phase(0, 3),
+        Phase(0, 4),
     ];
-    let (_, log) = end_of(&rt, rt.alloc(), setup, plan, &steps, &calls)?;
+    let (_, log) = end_of(&rt, rt.alloc(), setup, plan, &steps, &rounds(), &calls)?;
     let entries = [
         ran(2, 1, true, seen(None, 0)),
         ran(2, 2, false, seen(None, 0)),
@@ -214,7 +237,7 @@ fn runs_unsplit_pages_in_a_split_phase(rt: HostRuntime) -> Result<(), Fail> {
         Run(0, 0, 2),
         Phase(0, 2),
     ];
-    let (phase, log) = end_of(&rt, rt.alloc(), setup, plan, &steps, &calls)?;
+    let (phase, log) = end_of(&rt, rt.alloc(), setup, plan, &steps, &[], &calls)?;
     assert_eq!(rt; phase, 2);
     let entries = [
         ran(1, 1, false, Reply::Liked),
@@ -254,15 +277,10 @@ fn runs_beside_idle_workers(rt: HostRuntime) -> Result<(), Fail> {
         Run(0, 0, 1),
         Phase(0, 2),
     ];
-    let (phase, log) = end_of(&rt, rt.alloc(), setup, plan, &steps, &calls)?;
+    let (phase, log) = end_of(&rt, rt.alloc(), setup, plan, &steps, &[], &calls)?;
     assert_eq!(rt; phase, 2);
-    expect(
-        &rt,
-        &log,
-        &[took(1, 1)],
-        &[ran(1, 1, false, Reply::Liked)],
-        Some(0),
-    );
+    let entries = [ran(1, 1, false, Reply::Liked)];
+    expect(&rt, &log, &[took(1, 1)], &entries, Some(0));
     Ok(())
 }
 
@@ -288,7 +306,7 @@ fn counts_turns_in_each_phase(rt: HostRuntime) -> Result<(), Fail> {
         Coord(CoordTurn::Ended),
     ];
     let calls = [Phase(0, 0), Phase(0, 1), Run(0, 0, 1), Phase(0, 2)];
-    let (phase, _) = end_of(&rt, rt.alloc(), setup, plan, &steps, &calls)?;
+    let (phase, _) = end_of(&rt, rt.alloc(), setup, plan, &steps, &[], &calls)?;
     assert_eq!(rt; phase, 2);
     Ok(())
 }

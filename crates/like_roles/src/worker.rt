@@ -7,7 +7,10 @@ ghost use Rattle.like_roles.specs.Service.{Service};
 ghost use Rattle.like_roles.specs.Turns.{CanGive, Gives, HasTaken, Pends, TakesNothing, Turns};
 ghost use Rattle.like_roles.specs.WorkerView.{IsSliceInSplit};
 
-use crate::desk::Desk;
+mod desk;
+mod places;
+
+use self::desk::Desk;
 use crate::gate::Gate;
 use crate::log::WorkerLog;
 use crate::turn::Turn;
@@ -58,7 +61,8 @@ impl<P: Post> Worker<P> {
         requires post { IsPostOf worker setup.now.pages (P.view post) }
         ensures new { IfOk result (IsNew setup.now sizes.now worker (P.view post)) }
         ensures follows { IfOk result
-            (λ worker. (service : Service) → IsServiceOf setup.now.users setup.now.pages sizes.now service → Follows service worker) }
+            (λ worker. (service : Service) → IsServiceOf setup.now.users setup.now.pages sizes.now service
+            → Follows service worker) }
         ensures post { IfErr result (λ refused. refused.post ≡ post) }
     {
         match Desk::new(alloc, setup, sizes, worker) {
@@ -85,7 +89,8 @@ impl<P: Post> Worker<P> {
         requires tries { IsSome self.old.pending }
         requires next { CanGive self.old taken }
         ensures case { Gives self.old taken result self.new }
-        ensures follows { (service : Service) → IsAskedBy service self.old taken → Follows service self.old → Follows service self.new }
+        ensures follows { (service : Service) → IsAskedBy service self.old taken
+            → Follows service self.old → Follows service self.new }
         ensures takes { HasTaken self.old taken self.new }
         ensures settled { self.new.pending ≡ None }
         ensures slice { IsSliceInSplit self.new.post self.new.slice }
@@ -97,7 +102,8 @@ impl<P: Post> Worker<P> {
     pub fn leave(self) -> P
         ensures { P.view result ≡ self.post }
     {
-        self.post
+        let Worker { post, .. } = self;
+        post
     }
 
     /// Takes a worker that is gone apart: what it has done, and its post.

@@ -1,5 +1,5 @@
-ghost use Rattle.std.specs.Prelude.{◌≡◌};
-ghost use Rattle.like_tables.specs.Share.{homes_below, owned_below, owns};
+ghost use Rattle.std.specs.Prelude.{◌≡◌, ◌<◌};
+ghost use Rattle.like_tables.specs.Share.{homes_below, owned_below, owns, submitter_of};
 
 use std::marker::Model;
 
@@ -27,6 +27,14 @@ impl UserShare {
         ensures { result ≡ owns self.now user }
     {
         user < self.users && user % self.submitters % self.workers == self.worker
+    }
+
+    // The submitter at a place of the worker.
+    pub fn submitter_at(&self, place: usize) -> u32
+        requires { submitter_of self.now.workers self.now.worker place < self.now.submitters }
+        ensures { result ≡ submitter_of self.now.workers self.now.worker place }
+    {
+        self.worker + self.workers * place as u32
     }
 
     // How many of the users below this one have their home with this worker.

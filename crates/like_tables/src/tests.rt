@@ -1,5 +1,5 @@
 use crate::{Held, Slice, Stash, Users};
-use like_requests::{Numbered, Op, PageRef, Request};
+use like_requests::{Numbered, Op, PageRef, Request, Verdict};
 use std::alloc::{AllocError, Global};
 use std::test::Fail;
 
@@ -54,6 +54,14 @@ fn users_are_those_of_the_worker(rt: HostRuntime) -> Result<(), Fail> {
     users.set(3, 7);
     assert_eq!(rt; users.last(3), Some(7));
     assert_eq!(rt; users.last(1), None);
+    assert_eq!(rt; users.worker(), 1);
+    assert_eq!(rt; users.submitter_at(0), 1);
+    let home = Request {
+        op: Op::Like,
+        user: 3,
+        page: PageRef::Unknown,
+    };
+    assert_eq!(rt; users.judge(1, &home), Verdict::UnknownPage);
     Ok(())
 }
 

@@ -1,8 +1,10 @@
-ghost use Rattle.std.specs.Prelude.{◌≡◌, ◌≢◌, ◌≤◌, ℕ, Some, IfOk, IsTrue};
-ghost use Rattle.like_tables.specs.Share.{owns, share_of};
+ghost use Rattle.std.specs.Prelude.{◌≡◌, ◌≢◌, ◌<◌, ◌≤◌, ◌↔◌, ℕ, Some, IfOk, IsTrue};
+ghost use Rattle.like_requests.specs.Verdict.{is_accepted, verdict_of};
+ghost use Rattle.like_tables.specs.Share.{owns, share_of, submitter_of};
 ghost use Rattle.like_tables.specs.UserTable.{IsUserTable, last_of, table_without_likes, with_last};
 
 use crate::share::UserShare;
+use like_requests::{Request, Verdict, judge};
 use std::alloc::{AllocError, Global};
 use std::marker::Model;
 
@@ -61,6 +63,30 @@ impl Users {
         ensures table { IsUserTable self.now }
     {
         self.share.owns(user)
+    }
+
+    /// Which worker it is.
+    pub fn worker(&self) -> u32
+        ensures { result ≡ self.now.share.worker }
+    {
+        self.share.worker
+    }
+
+    /// The submitter at a place of the worker.
+    pub fn submitter_at(&self, place: usize) -> u32
+        requires { submitter_of self.now.share.workers self.now.share.worker place < self.now.share.submitters }
+        ensures { result ≡ submitter_of self.now.share.workers self.now.share.worker place }
+    {
+        self.share.submitter_at(place)
+    }
+
+    /// Judges a request of `submitter`.
+    pub fn judge(&self, submitter: u32, request: &Request) -> Verdict
+        ensures verdict { result ≡ verdict_of self.now.share.users self.now.share.submitters submitter request.now }
+        ensures accepted { (result ≡ Verdict.Accepted)
+            ↔ IsTrue (is_accepted self.now.share.users self.now.share.submitters submitter request.now) }
+    {
+        judge(request, submitter, self.share.submitters, self.share.users)
     }
 
     /// The page of the user's last like, if any.

@@ -1,0 +1,16 @@
+use Rattle.std.proofs.Common.{refl, subst}
+use Rattle.like_roles.specs.Desk.{view_of}
+use Rattle.like_roles.specs.Turns.{CanGive, ends, asks}
+use Rattle.like_roles.proofs.worker.desk.Desk.give.Goals as goal
+
+pub take-requires-clause-given : goal.take-requires-clause-given
+take-requires-clause-given g c κs within =
+    let v = view_of (g.P.Post.view c.args.post.now) c.args.self.now in
+    let next = (subst (λ t. CanGive v t) c.in-Ask.is c.requires.given) c.in-Some.place c.in-Some.is in
+    record { number = next.number; some = next.some; there = next.there }
+
+pub returns-in-End-clause-case : goal.returns-in-End-clause-case
+returns-in-End-clause-case g c = ends c.in-Some.place c.in-Some.is c.in-End.is refl refl
+
+pub returns-in-Ask-clause-case : goal.returns-in-Ask-clause-case
+returns-in-Ask-clause-case g c = asks c.in-Some.place c.in-Ask.ask c.in-Some.is c.in-Ask.is c.take.ensures.case

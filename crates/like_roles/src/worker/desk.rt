@@ -1,0 +1,48 @@
+ghost use Rattle.std.specs.Prelude.{◌≡◌, ◌<◌, false, slice_index_or, length};
+ghost use Rattle.like_core.specs.Phase.{split};
+
+mod giving;
+mod making;
+mod merging;
+mod serving;
+mod turning;
+
+use crate::log::{Ran, Took};
+use like_tables::{Slice, Stash, Users};
+
+/// What a worker keeps, beside its post.
+#[derive(Drop)]
+pub(crate) struct Desk {
+    /// Whether each page is marked as split.
+    pub marks: Vec<bool>,
+    /// The phase that the worker runs or has answered.
+    pub phase: u32,
+    /// Whether it has entered phase 0.
+    pub started: bool,
+    pub gone: bool,
+    /// The stash in a split phase, the backlog in a joined one.
+    pub held: Stash,
+    pub slice: Slice,
+    /// By place: how many requests of each submitter were not taken yet.
+    pub left: Vec<u32>,
+    /// By place: whether the submitter's end mark was taken.
+    pub ended: Vec<bool>,
+    /// The place at which the next submitter to try is looked for.
+    pub cursor: usize,
+    /// The place of the submitter that is tried.
+    pub pending: Option<usize>,
+    /// The last likes of its users, and with them its share of the run.
+    pub last: Users,
+    pub taken: Vec<Took>,
+    pub ran: Vec<Ran>,
+}
+
+impl Desk {
+    // Whether the page is split in the phase that the worker runs.
+    pub fn is_sliced(&self, page: u32) -> bool
+        requires { page < length self.now.marks.items }
+        ensures { result ≡ split (λ p. slice_index_or self.now.marks.items p false) self.now.phase page }
+    {
+        self.phase % 2 == 1 && self.marks[page as usize]
+    }
+}

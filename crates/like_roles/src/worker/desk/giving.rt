@@ -1,0 +1,88 @@
+ghost use Rattle.std.specs.Prelude.{◌≡◌, ◌<◌, ◌≤◌, ◌+◌, ◌-◌, [], ◌∷◌, ◌++◌, length, slice_index, slice_set, vec_len, vec_capacity, None, IsSome};
+ghost use Rattle.like_roles.specs.Desk.{view_of, IsSound, IsTried};
+ghost use Rattle.like_roles.specs.Turns.{CanGive, Gives, IsNext, TakesAsk};
+
+use crate::gate::Gate;
+use crate::log::Took;
+use crate::turn::Turn;
+use crate::worker::desk::Desk;
+use like_core::Post;
+use like_requests::{Numbered, Taken};
+use like_tables::Held;
+
+impl Desk {
+    /// Completes a turn by what was taken from the submitter that was tried.
+    pub fn give<P: Post, G: Gate>(&mut self, post: &mut P, gate: &G, taken: Taken) -> Turn
+        requires sound { IsSound (P.view post.old) self.old }
+        requires tried { IsSome self.old.pending }
+        requires given { CanGive (view_of (P.view post.old) self.old) taken }
+        ensures sound { IsSound (P.view post.new) self.new }
+        ensures settled { self.new.pending ≡ None }
+        ensures case { Gives (view_of (P.view post.old) self.old) taken result (view_of (P.view post.new) self.new) }
+    {
+        let Some(place) = self.pending else {
+            unreachable!();
+        };
+        self.pending = None;
+        match taken {
+            Taken::Nothing => Turn::Nothing,
+            Taken::End => {
+                self.ended[place] = true;
+                Turn::TookEnd
+            }
+            Taken::Ask(ask) => self.take(post, gate, place, ask),
+        }
+    }
+
+    // Takes a request, and runs it or puts it into the stash.
+    fn take<P: Post, G: Gate>(
+        &mut self,
+        post: &mut P,
+        gate: &G,
+        place: usize,
+        ask: Numbered,
+    ) -> Turn
+        requires sound { IsSound (P.view post.old) self.old }
+        requires settled { self.old.pending ≡ None }
+        requires tried { IsTried (P.view post.old) self.old place }
+        requires given { IsNext (view_of (P.view post.old) self.old) place ask }
+        ensures sound { IsSound (P.view post.new) self.new }
+        ensures case { let v = view_of (P.view post.old) self.old in
+            TakesAsk v place ask result (view_of (P.view post.new) self.new) }
+    {
+        let held = Held {
+            submitter: self.last.submitter_at(place),
+            ask,
+        };
+        let verdict = self.last.judge(held.submitter, &ask.request);
+        let waits = self.waits(&held, verdict);
+        self.note_taken(place, held);
+        if waits {
+            self.held.push(held);
+            return Turn::Stashed;
+        }
+        self.run(post, gate, held, verdict, false);
+        Turn::Ran
+    }
+
+    // Notes that a request was taken from the submitter at a place.
+    fn note_taken(&mut self, place: usize, held: Held)
+        requires there { place < length self.old.left.items }
+        requires some { 1 ≤ slice_index self.old.left.items place }
+        requires room { vec_len self.old.taken < vec_capacity self.old.taken }
+        ensures left { self.new.left.items
+            ≡ slice_set self.old.left.items place (slice_index self.old.left.items place - 1) }
+        ensures taken { self.new.taken.items ≡ self.old.taken.items
+            ++ (record { phase = self.old.phase; submitter = held.submitter; number = held.ask.number }) ∷ [] }
+        ensures len { vec_len self.new.taken ≡ vec_len self.old.taken + 1 }
+        ensures capacity { vec_capacity self.new.taken ≡ vec_capacity self.old.taken }
+        ensures rest { self.new ≡ record self.old { left = self.new.left; taken = self.new.taken } }
+    {
+        self.left[place] -= 1;
+        self.taken.push_reserved(Took {
+            phase: self.phase,
+            submitter: held.submitter,
+            number: held.ask.number,
+        });
+    }
+}

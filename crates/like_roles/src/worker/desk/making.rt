@@ -1,0 +1,69 @@
+ghost use Rattle.std.specs.Prelude.{◌≡◌, ℕ, ◌<◌, ◌≤◌, ◌^◌, All, IfOk, length, replicate, sum, vec_len, vec_capacity, false, [], None};
+ghost use Rattle.like_requests.specs.Limits.{max_requests, max_submitters};
+ghost use Rattle.like_tables.specs.Share.{dealt, submitter_of};
+ghost use Rattle.like_requests.specs.Setup.{IsWithin};
+ghost use Rattle.like_roles.specs.Desk.{IsNewDesk};
+
+use crate::worker::desk::Desk;
+use like_requests::Setup;
+use like_tables::{Slice, Stash, Users};
+use std::alloc::{AllocError, Global};
+
+impl Desk {
+    /// What a worker keeps at first. All its room is made here.
+    pub fn new(alloc: Global, setup: &Setup, sizes: &[u32], worker: u32) -> Result<Desk, AllocError>
+        requires within { IsWithin setup.now sizes.now }
+        requires is_worker { worker < setup.now.workers }
+        ensures { IfOk result (IsNewDesk setup.now sizes.now worker) }
+    {
+        let left = own_sizes(alloc, sizes, setup.workers, worker)?;
+        let room = left.iter().sum::<u32>() as usize;
+        Ok(Desk {
+            marks: setup.pages.marks(alloc)?,
+            phase: 0,
+            started: false,
+            gone: false,
+            held: Stash::new(alloc, setup.stash)?,
+            slice: Slice::new(alloc, setup.pages.len())?,
+            ended: vec![in alloc; false; left.len()]?,
+            left,
+            cursor: 0,
+            pending: None,
+            last: Users::new(
+                alloc,
+                setup.users,
+                sizes.len() as u32,
+                setup.workers,
+                worker,
+            )?,
+            taken: Vec::with_capacity(alloc, room)?,
+            ran: Vec::with_capacity(alloc, room)?,
+        })
+    }
+}
+
+// The numbers of requests of a worker's submitters, by place.
+fn own_sizes(
+    alloc: Global,
+    sizes: &[u32],
+    workers: u32,
+    worker: u32,
+) -> Result<Vec<u32>, AllocError>
+    requires some { 1 ≤ workers }
+    requires few_workers { workers ≤ 16 }
+    requires few_submitters { length sizes.now ≤ max_submitters }
+    requires is_worker { worker < workers }
+    requires small { All (λ n. n ≤ max_requests) sizes.now }
+    ensures sizes { IfOk result (λ own. own.items ≡ dealt workers worker sizes.now) }
+    ensures there { IfOk result (λ own. (place : ℕ) → place < length own.items
+        → submitter_of workers worker place < length sizes.now) }
+    ensures few { IfOk result (λ own. sum own.items ≤ 64000000) }
+{
+    let mut own = Vec::new(alloc);
+    let mut submitter = worker as usize;
+    while submitter < sizes.len() {
+        own.push(sizes[submitter])?;
+        submitter += workers as usize;
+    }
+    Ok(own)
+}

@@ -1,0 +1,39 @@
+ghost use Rattle.std.specs.Prelude.{◌≡◌, ◌<◌, length};
+ghost use Rattle.like_core.specs.WorkerState.{RunsSplit, SawEnding};
+ghost use Rattle.like_roles.specs.Desk.{view_of, IsSound};
+ghost use Rattle.like_roles.specs.Turns.{merged, merged_page};
+
+use crate::worker::desk::Desk;
+use like_core::Post;
+
+impl Desk {
+    // Adds each page's slice that is not empty to the page's count on the board, in page order, and empties it.
+    pub fn merge<P: Post>(&mut self, post: &mut P)
+        requires sound { IsSound (P.view post.old) self.old }
+        requires split { RunsSplit (P.view post.old).state }
+        requires ending { SawEnding (P.view post.old).last }
+        ensures sound { IsSound (P.view post.new) self.new }
+        ensures merged { view_of (P.view post.new) self.new ≡ merged (view_of (P.view post.old) self.old) }
+    {
+        for page in 0..self.marks.len() as u32 {
+            self.merge_page(post, page);
+        }
+    }
+
+    // The same of one page.
+    fn merge_page<P: Post>(&mut self, post: &mut P, page: u32)
+        requires sound { IsSound (P.view post.old) self.old }
+        requires split { RunsSplit (P.view post.old).state }
+        requires ending { SawEnding (P.view post.old).last }
+        requires there { page < length self.old.marks.items }
+        ensures sound { IsSound (P.view post.new) self.new }
+        ensures merged { view_of (P.view post.new) self.new ≡ merged_page (view_of (P.view post.old) self.old) page }
+        ensures marks { self.new.marks ≡ self.old.marks }
+    {
+        let likes = self.slice.take(page);
+        if likes == 0 {
+            return;
+        }
+        post.add(page, likes);
+    }
+}

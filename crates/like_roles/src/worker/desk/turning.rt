@@ -1,0 +1,121 @@
+ghost use Rattle.std.specs.Prelude.{◌≡◌, ◌≢◌, ◌<◌, ◌+◌, ◌*◌, ◌%◌, true, length, None, Some};
+ghost use Rattle.like_core.specs.declared.worker_state.WorkerState.TheVariants.{Gone};
+ghost use Rattle.like_core.specs.WorkerState.{IsSightOf, RunsJoined, RunsSplit, SawEnding};
+ghost use Rattle.like_tables.specs.Share.{submitter_of};
+ghost use Rattle.like_roles.specs.Desk.{view_of, ArePlaces, IsSound};
+ghost use Rattle.like_roles.specs.Turns.{Turns, Works, saw};
+
+use crate::gate::Gate;
+use crate::turn::Turn;
+use crate::worker::desk::Desk;
+use crate::worker::places::next_place;
+use like_core::{Post, Sight};
+use like_requests::Verdict;
+
+impl Desk {
+    /// Makes the next turn, or the part of it up to the take.
+    pub fn turn<P: Post, G: Gate>(&mut self, post: &mut P, gate: &G) -> Turn
+        requires sound { IsSound (P.view post.old) self.old }
+        requires settled { self.old.pending ≡ None }
+        ensures sound { IsSound (P.view post.new) self.new }
+        ensures case { Turns (view_of (P.view post.old) self.old) result (view_of (P.view post.new) self.new) }
+    {
+        if self.gone {
+            return Turn::Retired;
+        }
+        let sight = self.look(post, gate);
+        if sight.waits {
+            return Turn::Waiting;
+        }
+        if sight.number % 2 == 0 {
+            self.joined_turn(post, gate, sight.ending)
+        } else {
+            self.split_turn(post, sight.ending)
+        }
+    }
+
+    // Looks at the phase word, and enters the next phase where it was released.
+    fn look<P: Post, G: Gate>(&mut self, post: &mut P, gate: &G) -> Sight
+        requires sound { IsSound (P.view post.old) self.old }
+        requires settled { self.old.pending ≡ None }
+        requires there { (P.view post.old).state ≢ Gone }
+        ensures sound { IsSound (P.view post.new) self.new }
+        ensures sight { IsSightOf (P.view post.old).state result }
+        ensures saw { view_of (P.view post.new) self.new ≡ saw (view_of (P.view post.old) self.old) result }
+    {
+        let sight = post.look();
+        if sight.waits || (self.started && sight.number == self.phase) {
+            return sight;
+        }
+        self.started = true;
+        self.phase = sight.number;
+        gate.phase(self.last.worker(), sight.number);
+        sight
+    }
+
+    // The turn of a worker that runs a joined phase.
+    fn joined_turn<P: Post, G: Gate>(&mut self, post: &mut P, gate: &G, ending: bool) -> Turn
+        requires sound { IsSound (P.view post.old) self.old }
+        requires settled { self.old.pending ≡ None }
+        requires joined { RunsJoined (P.view post.old).state }
+        requires ending { ending ≡ true → SawEnding (P.view post.old).last }
+        ensures sound { IsSound (P.view post.new) self.new }
+        ensures works { Works (view_of (P.view post.old) self.old) ending result (view_of (P.view post.new) self.new) }
+    {
+        if let Some(first) = self.held.pop_front() {
+            self.run(post, gate, first, Verdict::Accepted, true);
+            return Turn::Ran;
+        }
+        let Some(place) = next_place(&self.ended, self.cursor) else {
+            post.retire();
+            self.gone = true;
+            return Turn::Retired;
+        };
+        if ending {
+            post.acknowledge();
+            return Turn::Acknowledged;
+        }
+        self.try_next(place)
+    }
+
+    // The turn of a worker that runs a split phase.
+    fn split_turn<P: Post>(&mut self, post: &mut P, ending: bool) -> Turn
+        requires sound { IsSound (P.view post.old) self.old }
+        requires settled { self.old.pending ≡ None }
+        requires split { RunsSplit (P.view post.old).state }
+        requires ending { ending ≡ true → SawEnding (P.view post.old).last }
+        ensures sound { IsSound (P.view post.new) self.new }
+        ensures works { Works (view_of (P.view post.old) self.old) ending result (view_of (P.view post.new) self.new) }
+    {
+        if ending {
+            self.merge(post);
+            post.report();
+            return Turn::Reported;
+        }
+        if self.held.is_full() {
+            return Turn::Idle;
+        }
+        match next_place(&self.ended, self.cursor) {
+            Some(place) => self.try_next(place),
+            None => Turn::Idle,
+        }
+    }
+
+    // Tries the submitter at a place. The next one is looked for after it.
+    fn try_next(&mut self, place: usize) -> Turn
+        requires places { ArePlaces self.old }
+        requires there { place < length self.old.ended.items }
+        ensures tried { self.new ≡ record self.old {
+          pending = Some place;
+          cursor = (place + 1) % length self.old.ended.items;
+        } }
+        ensures answer { result
+            ≡ Turn.Try (submitter_of self.old.last.share.workers self.old.last.share.worker place) }
+    {
+        self.pending = Some(place);
+        self.cursor = (place + 1) % self.ended.len();
+        Turn::Try {
+            submitter: self.last.submitter_at(place),
+        }
+    }
+}
