@@ -11,7 +11,7 @@ use Rattle.like_requests.specs.declared.request.Taken.{Taken}
 use Rattle.like_requests.specs.declared.request.Taken.TheVariants as taken
 use Rattle.like_core.specs.Post.{pages_of}
 use Rattle.like_queue.specs.Inbox.{Inbox, Takes, item_count}
-use Rattle.like_tables.specs.Share.{Share}
+use Rattle.like_tables.specs.Share.{Share, dealt}
 use Rattle.like_roles.specs.declared.log.Took.{Took}
 use Rattle.like_roles.specs.declared.turn.Turn.{Turn}
 use Rattle.like_roles.specs.declared.turn.Turn.TheVariants as turn
@@ -23,6 +23,7 @@ use Rattle.like_roles.specs.WorkerView.{WorkerView, phase_at, submitter_at}
 use Rattle.like_crew.specs.Log.{IsRising, numbers_taken}
 use Rattle.like_crew.specs.Server.{Agree, AgreesAt, AreOwnPlans, WorksFor, numbers_given, plans_of, requests_taken}
 use Rattle.like_crew.proofs.Numbers.{count-taken, given-own, numbers-next, numbers-same, slice_get-set_other, slice_get-set_same}
+use Rattle.like_crew.proofs.Shares.{plan-at}
 use Rattle.like_crew.proofs.Sights.{HasSeen, IsTrying, gives-seen, taken-rising, turns-seen}
 
 -- a turn that takes nothing
@@ -50,7 +51,7 @@ agree-turn v w inboxes answer turns k a =
 serves-on : (service : Service) (v w : WorkerView) (before after : List Inbox) → w.last.share ≡ v.last.share → plans_of after ≡ plans_of before → Follows service w
     → WorksFor service (record { worker = v; inboxes = before }) → WorksFor service (record { worker = w; inboxes = after })
 serves-on service v w before after share plans follows h = record {
-  plans = λ place. ap (λ xs. slice_get xs place) plans ∙ h.plans place ∙ ap (λ (s : Share). slice_get service.plans (s.worker + s.workers * place)) (sym share);
+  plans = plans ∙ h.plans ∙ ap (λ (s : Share). dealt s.workers s.worker service.plans) (sym share);
   follows = follows;
 }
 
@@ -117,11 +118,11 @@ plan-taken i j taken.Nothing t = ap (λ (x : Inbox). x.plan) t.2
 
 -- the request that the inbox hands over is asked by the plan
 asked : (service : Service) (v : WorkerView) (inboxes : List Inbox) (place : ℕ) (i : Inbox) (ask : Numbered) → slice_get inboxes place ≡ Some i
-    → slice_get i.plan i.taken ≡ Some ask.request → ask.number ≡ i.taken + 1 → AreOwnPlans service v.last.share.workers v.last.share.worker inboxes
+    → slice_get i.plan i.taken ≡ Some ask.request → ask.number ≡ i.taken + 1 → 1 ≤ v.last.share.workers → AreOwnPlans service v.last.share.workers v.last.share.worker inboxes
     → request_at service (submitter_at v place) ask.number ≡ Some ask.request
-asked service v inboxes place i ask here get number h =
+asked service v inboxes place i ask here get number some h =
     let plan : slice_get service.plans (submitter_at v place) ≡ Some i.plan =
-    sym (h place) ∙ slice_get-map (λ (x : Inbox). x.plan) inboxes place ∙ ap (option_map (λ (x : Inbox). x.plan)) here in
+    sym (plan-at service v.last.share.workers v.last.share.worker inboxes place some h) ∙ slice_get-map (λ (x : Inbox). x.plan) inboxes place ∙ ap (option_map (λ (x : Inbox). x.plan)) here in
     ap (λ o. option_and_then (λ p. numbered_in p ask.number) o) plan ∙ ap (numbered_in i.plan) (number ∙ add-one i.taken) ∙ get
 
 module _ (v : WorkerView) (inboxes : List Inbox) (place : ℕ) (i j : Inbox) (a : Agree v inboxes) (trying : v.pending ≡ Some place)
@@ -204,7 +205,7 @@ module _ (v : WorkerView) (inboxes : List Inbox) (place : ℕ) (i j : Inbox) (a 
       serves-on service v w inboxes (set inboxes place j) (share-given v w place took trying has) plans (follows (asks took t) h.follows) h where
         asks : (x : Taken) → Takes i x j → IsAskedBy service v x
         asks (taken.Ask ask) u = λ p e.
-            subst (λ q. request_at service (submitter_at v q) ask.number ≡ Some ask.request) (same_Some _ _ (sym trying ∙ e)) (asked service v inboxes place i ask here u.1 u.2 h.plans)
+            subst (λ q. request_at service (submitter_at v q) ask.number ≡ Some ask.request) (same_Some _ _ (sym trying ∙ e)) (asked service v inboxes place i ask here u.1 u.2 (omega (arith, a.is_worker)) h.plans)
         asks taken.End u = tt
         asks taken.Nothing u = tt
 

@@ -2,11 +2,11 @@
 use Rattle.std.proofs.Common.{◌≡◌, ℕ, zero, suc, ◌%◌, ◌<◌, List, [], ◌∷◌, length, slice_get, Some, refl, ap, ◌∙◌, subst, arith}
 use Rattle.std.specs.List.{AllZip}
 use Rattle.like_core.specs.declared.sight.CoordSight.{CoordSight}
-use Rattle.like_tables.specs.Share.{Share}
+use Rattle.like_tables.specs.Share.{Share, place_of}
 use Rattle.like_roles.specs.declared.coord_turn.CoordTurn.{CoordTurn}
 use Rattle.like_roles.specs.CoordTurns as turns
 use Rattle.like_roles.specs.CoordTurns.{Acts, CoordTurns, CoordinatorView, surveyed}
-use Rattle.like_crew.specs.Server.{ServerGoesOn, ServerView, place_of}
+use Rattle.like_crew.specs.Server.{ServerGoesOn, ServerView}
 use Rattle.like_crew.specs.declared.crew.Crew.{Crew}
 use Rattle.like_crew.specs.Crew.{GoesOn, HasInbox, LeadGoesOn}
 use Rattle.like_crew.proofs.Later.{all-further-both, all-same}
@@ -65,7 +65,7 @@ inbox-later ss ts submitter all has =
       omega (arith, has.0, same),
       λ t e.
           let was = was-at ss ts (submitter % length ts) t all e in
-          let there : place_of was.0.worker.last.share submitter < length was.0.inboxes = has.1 was.0 (ap (λ n. slice_get ss (submitter % n)) same ∙ was.1.0) in
-          let place : place_of t.worker.last.share submitter ≡ place_of was.0.worker.last.share submitter = ap (λ (x : Share). place_of x submitter) was.1.1.share in
+          let there : place_of was.0.worker.last.share.workers submitter < length was.0.inboxes = has.1 was.0 (ap (λ n. slice_get ss (submitter % n)) same ∙ was.1.0) in
+          let place : place_of t.worker.last.share.workers submitter ≡ place_of was.0.worker.last.share.workers submitter = ap (λ (x : Share). place_of x.workers submitter) was.1.1.share in
           omega (arith, there, place, was.1.1.inboxes),
     )

@@ -10,7 +10,7 @@ use Rattle.std.proofs.lemmas.Option.{get_or_from_slice_get, slice_get-get_or, sl
 use Rattle.like_requests.specs.declared.request.Request.{Request}
 use Rattle.like_queue.specs.Inbox.{Inbox}
 use Rattle.like_roles.proofs.Lists.{slice_get-at_end}
-use Rattle.like_crew.specs.Servers.{AreDealt, untouched}
+use Rattle.like_crew.specs.Servers.{untouched}
 
 -- another place than the end has what it had before the push
 snoc-other : {X : Type 0} (xs : List X) (y : X) (i : ℕ) → i ≢ length xs → slice_get (xs ++ y ∷ []) i ≡ slice_get xs i
@@ -19,9 +19,10 @@ snoc-other [] y (suc i) other = refl
 snoc-other (x ∷ xs) y zero other = refl
 snoc-other (x ∷ xs) y (suc i) other = snoc-other xs y i (λ e. other (ap suc e))
 
--- each worker has the inboxes of its submitters' plans
+-- each worker has at each place the inbox of its submitter's plan
 abbrev pub AllDealt : List (List Request) → ℕ → List (List Inbox) → Type 0
-AllDealt plans workers hands = (worker : ℕ) → worker < workers → AreDealt plans workers worker (get_or hands worker [])
+AllDealt plans workers hands = (worker : ℕ) → worker < workers
+    → (place : ℕ) → slice_get (get_or hands worker []) place ≡ option_map untouched (slice_get plans (worker + workers * place))
 
 module _ (plans : List (List Request)) (workers : ℕ) (hands : List (List Inbox)) (some : 0 < workers) (sized : length hands ≡ workers) (dealt : AllDealt plans workers hands)
     (plan : List Request) where

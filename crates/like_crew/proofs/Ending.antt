@@ -11,7 +11,7 @@ use Rattle.like_core.specs.declared.worker_state.WorkerState.TheVariants.{Gone}
 use Rattle.like_core.specs.declared.view.WorkerSeatView.{WorkerSeatView as SeatView}
 use Rattle.like_board.specs.declared.worker_seat.WorkerSeat.{WorkerSeat}
 use Rattle.like_board.specs.Seats.{AreFresh, BoardId, board_id, board_numbers}
-use Rattle.like_tables.specs.Share.{Share}
+use Rattle.like_tables.specs.Share.{Share, place_of}
 use Rattle.like_requests.specs.Pages.{marks_of}
 use Rattle.like_roles.specs.Service.{Service, submitters}
 use Rattle.like_roles.specs.New.{AreNewSeats}
@@ -26,9 +26,10 @@ use Rattle.like_requests.specs.declared.request.Request.{Request}
 use Rattle.like_requests.specs.declared.setup.Setup.{Setup}
 use Rattle.like_core.specs.declared.view.CoordSeatView.{CoordSeatView}
 use Rattle.like_crew.specs.Servers.{AreServers, IsServer}
-use Rattle.like_crew.specs.Server.{ServerGoesOn, ServerView, place_of, plans_of}
+use Rattle.like_crew.specs.Server.{ServerGoesOn, ServerView, plans_of}
 use Rattle.like_crew.proofs.Coordinated.{lead-further}
 use Rattle.like_crew.proofs.Later.{all-further-both}
+use Rattle.like_crew.proofs.Shares.{plan-at}
 use Rattle.like_crew.proofs.Pairs.{pairs-at, pairs-both, pairs-length}
 
 -- the servers of a run, later
@@ -59,9 +60,9 @@ has-inbox service workers board servers submitter are some there =
           let share : Share = s.worker.last.share in
           let by : share.workers ≡ length servers = ap (λ (x : Share). x.workers) is.share ∙ sized in
           let mine : share.worker ≡ worker = ap (λ (x : Share). x.worker) is.share in
-          let place : ℕ = place_of share submitter in
+          let place : ℕ = place_of share.workers submitter in
           let whole : share.worker + share.workers * place ≡ submitter = by_place submitter share.worker share.workers (length servers) by mine in
-          let plan : slice_get (plans_of s.inboxes) place ≡ slice_get service.plans submitter = is.works.plans place ∙ ap (slice_get service.plans) whole in
+          let plan : slice_get (plans_of s.inboxes) place ≡ slice_get service.plans submitter = plan-at service share.workers share.worker s.inboxes place (omega (arith, some, sized, by)) is.works.plans ∙ ap (slice_get service.plans) whole in
           let found : slice_get (plans_of s.inboxes) place ≡ Some (get_or service.plans submitter []) = plan ∙ slice_get-get_or service.plans submitter [] there in
           omega (arith, slice_get_within (plans_of s.inboxes) place (get_or service.plans submitter []) found, length-map s.inboxes (λ i. i.plan)),
     ) where

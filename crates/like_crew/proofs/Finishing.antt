@@ -1,5 +1,5 @@
 -- What a worker and its inboxes leave when the worker is gone, and how they begin.
-use Rattle.std.proofs.Common.{◌≡◌, ◌↔◌, ℕ, ◌+◌, ◌*◌, ◌<◌, ◌≤◌, Bool, true, false, cond, List, [], length, get_or, slice_get, Option, Some, None, refl, sym, ap, ◌∙◌, subst, arith, inl, inr, option_map, IfSome}
+use Rattle.std.proofs.Common.{◌≡◌, ◌↔◌, ℕ, ◌+◌, ◌*◌, ◌<◌, ◌≤◌, Bool, true, false, cond, List, [], length, map, get_or, slice_get, Option, Some, None, refl, sym, ap, ◌∙◌, subst, arith, inl, inr, option_map, IfSome}
 use Rattle.std.specs.List.{All, range_with_len}
 use Rattle.std.specs.Option.{option_map_or, unwrap_or}
 use Rattle.std.proofs.lemmas.Bool.{cases_Bool, cases_lt, le-ltb, ltb-true}
@@ -11,36 +11,36 @@ use Rattle.like_requests.specs.declared.request.Request.{Request}
 use Rattle.like_requests.specs.declared.setup.Setup.{Setup}
 use Rattle.like_core.specs.Post.{PostView}
 use Rattle.like_tables.specs.UserTable.{UserTable}
-use Rattle.like_tables.specs.Share.{dealt, share_of}
-use Rattle.like_tables.proofs.Dealt.{get-dealt, there-dealt}
+use Rattle.like_tables.specs.Share.{share_of}
 use Rattle.like_roles.specs.declared.log.Took.{Took}
 use Rattle.like_roles.specs.New.{IsNew, IsPostOf}
 use Rattle.like_requests.specs.Pages.{marks_of}
 use Rattle.like_queue.specs.Inbox.{Inbox}
-use Rattle.like_tables.specs.Share.{Share, serves}
+use Rattle.like_tables.specs.Share.{Share, place_of, serves}
 use Rattle.like_roles.specs.declared.log.WorkerLog.{WorkerLog}
 use Rattle.like_roles.specs.Follows.{IsDone}
 use Rattle.like_roles.specs.Service.{Service}
 use Rattle.like_roles.specs.WorkerView.{WorkerView, phase_at}
 use Rattle.like_crew.specs.Log.{IsLog, NoneAbove, TakesPlans, numbers_taken, plan_of}
-use Rattle.like_crew.specs.Server.{Agree, AreInboxesFor, WorksFor, ServerView, place_of, plans_of, requests_taken}
+use Rattle.like_crew.specs.Server.{Agree, AreInboxesFor, WorksFor, ServerView, plans_of, requests_taken}
+use Rattle.like_crew.proofs.Shares.{plan-at}
 use Rattle.like_crew.proofs.Numbers.{own-place}
 
 -- the whole plan of a submitter was taken
 whole-plan : (service : Service) (s : ServerView) (submitter : ℕ) → Agree s.worker s.inboxes → WorksFor service s → IsDone service s.worker → serves s.worker.last.share submitter ≡ true
-    → option_map_or requests_taken (slice_get s.inboxes (place_of s.worker.last.share submitter)) 0 ≡ length (plan_of service submitter)
+    → option_map_or requests_taken (slice_get s.inboxes (place_of s.worker.last.share.workers submitter)) 0 ≡ length (plan_of service submitter)
 whole-plan service s submitter a h done mine =
     let share : Share = s.worker.last.share in
-    let place : ℕ = place_of share submitter in
+    let place : ℕ = place_of share.workers submitter in
     let it : submitter ≡ share.worker + share.workers * place = own-place share a.is_worker submitter mine in
     let plan : slice_get service.plans submitter ≡ option_map (λ (i : Inbox). i.plan) (slice_get s.inboxes place) =
-    ap (slice_get service.plans) it ∙ sym (h.plans place) ∙ slice_get-map (λ (i : Inbox). i.plan) s.inboxes place in
+    ap (slice_get service.plans) it ∙ sym (plan-at service share.workers share.worker s.inboxes place (omega (arith, a.is_worker)) h.plans) ∙ slice_get-map (λ (i : Inbox). i.plan) s.inboxes place in
     by_inbox (slice_get s.inboxes place) refl plan where
-      by_inbox : (o : Option Inbox) → slice_get s.inboxes (place_of s.worker.last.share submitter) ≡ o → slice_get service.plans submitter ≡ option_map (λ (i : Inbox). i.plan) o
+      by_inbox : (o : Option Inbox) → slice_get s.inboxes (place_of s.worker.last.share.workers submitter) ≡ o → slice_get service.plans submitter ≡ option_map (λ (i : Inbox). i.plan) o
           → option_map_or requests_taken o 0 ≡ length (plan_of service submitter)
       by_inbox None e p = ap (λ (xs : List Request). length xs) (ap (λ o. unwrap_or o []) (sym p) ∙ unwrap_or-slice_get service.plans submitter [])
       by_inbox (Some i) e p =
-          let place : ℕ = place_of s.worker.last.share submitter in
+          let place : ℕ = place_of s.worker.last.share.workers submitter in
           let within : place < length s.inboxes = slice_get_within s.inboxes place i e in
           let over : length i.plan < i.taken = ltb-true (length i.plan) i.taken (sym (a.each place i e).ended ∙ done.ended place (omega (arith, within, a.places))) in
           let all : requests_taken i ≡ length i.plan = omega (arith, over) in
@@ -50,7 +50,7 @@ takes-plans : (service : Service) (s : ServerView) → Agree s.worker s.inboxes 
     → TakesPlans service s.worker.last.share.workers s.worker.last.share.worker s.worker.taken
 takes-plans service s a h done submitter =
     let share : Share = s.worker.last.share in
-    let given : ℕ = option_map_or requests_taken (slice_get s.inboxes (place_of share submitter)) 0 in
+    let given : ℕ = option_map_or requests_taken (slice_get s.inboxes (place_of share.workers submitter)) 0 in
     a.taken submitter ∙ elim (cases_Bool (serves share submitter)) [
       | inl mine ↦ ap (λ n. cond (serves share submitter) (range_with_len 1 n) []) (whole-plan service s submitter a h done mine)
       | inr other ↦ ap (λ b. cond b (range_with_len 1 given) []) other ∙ sym (ap (λ b. cond b (range_with_len 1 (length (plan_of service submitter))) []) other)
@@ -76,29 +76,6 @@ nothing-given s inboxes untouched place = by_inbox (slice_get inboxes place) ref
       let none : i.taken ≡ 0 = subst (λ (x : Inbox). x.taken ≡ 0) (get_or_from_slice_get inboxes place i i e) (untouched place i (slice_get_within inboxes place i e)) in
       omega (arith, none)
 
--- there are as many numbers of requests as inboxes
-same-length : (own : List ℕ) (inboxes : List Inbox) (sizes : List ℕ) (number workers : ℕ) → 1 ≤ workers → own ≡ dealt workers number sizes
-    → ((place : ℕ) → option_map length (option_map (λ (x : Inbox). x.plan) (slice_get inboxes place)) ≡ slice_get sizes (number + workers * place)) → length own ≡ length inboxes
-same-length own inboxes sizes number workers positive is sized =
-    let all : (place : ℕ) → (place < length own) ↔ (number + workers * place < length sizes) =
-    λ place. subst (λ (xs : List ℕ). (place < length xs) ↔ (number + workers * place < length sizes)) (sym is) (there-dealt workers number sizes place positive) in
-    elim (cases_lt (length own) (length inboxes)) [
-      | inl more ↦
-          let some : slice_get inboxes (length own) ≡ Some (get_or inboxes (length own) nobody) = slice_get-get_or inboxes (length own) nobody more in
-          let size = slice_get_within sizes (number + workers * length own) _ (sym (sized (length own)) ∙ ap (λ i. option_map length (option_map (λ (x : Inbox). x.plan) i)) some) in
-          absurd (omega (arith, (all (length own)).1 size))
-      | inr less ↦
-          elim (cases_lt (length inboxes) (length own)) [
-            | inl fewer ↦
-                let there : number + workers * length inboxes < length sizes = (all (length inboxes)).0 fewer in
-                let some : slice_get sizes (number + workers * length inboxes) ≡ Some (get_or sizes (number + workers * length inboxes) 0) = slice_get-get_or sizes (number + workers * length inboxes) 0 there in
-                absurd (cc (ap (λ i. option_map length (option_map (λ (x : Inbox). x.plan) i)) (slice_get_past inboxes (length inboxes) (omega arith)), sized (length inboxes), some))
-            | inr same ↦ omega (arith, less, same)
-          ]
-    ] where
-      nobody : Inbox
-      nobody = record { plan = []; opened = 0; taken = 0 }
-
 -- a page that is there is below the number of marks
 there-too : (pages : List Page) (marks : List Bool) → marks ≡ marks_of pages → (r : Request) → IsThere (length pages) r.page → IsThere (length marks) r.page
 there-too pages marks e r = subst (λ many. IsThere many r.page) (sym (ap (λ (xs : List Bool). length xs) e ∙ length-map pages (λ (p : Page). p.split)))
@@ -109,10 +86,8 @@ pub agree-new : (s : Setup) (sizes : List ℕ) (number : ℕ) (post : PostView) 
 agree-new s sizes number post v inboxes is_worker fresh i new =
     let share : v.last.share ≡ share_of s.users (length sizes) s.workers number = ap (λ (x : UserTable). x.share) new.last in
     let marks : v.post.marks ≡ marks_of s.pages = ap (λ (x : PostView). x.marks) new.at_post ∙ fresh.marks in
-    let sized : (place : ℕ) → option_map length (option_map (λ (x : Inbox). x.plan) (slice_get inboxes place)) ≡ slice_get sizes (number + s.workers * place) =
-    λ place. sym (ap (option_map length) (slice_get-map (λ (x : Inbox). x.plan) inboxes place)) ∙ sym (slice_get-map length (plans_of inboxes) place) ∙ i.sized place in
-    let positive : 1 ≤ s.workers = omega (arith, is_worker) in
-    let lefts : length v.left ≡ length inboxes = same-length v.left inboxes sizes number s.workers positive new.left sized in
+    let sizes_are : v.left ≡ map length (plans_of inboxes) = new.left ∙ sym i.sized in
+    let lefts : length v.left ≡ length inboxes = ap (λ (xs : List ℕ). length xs) sizes_are ∙ length-map (plans_of inboxes) length ∙ length-map inboxes (λ (x : Inbox). x.plan) in
     let places : length v.ended ≡ length inboxes = ap (λ (xs : List Bool). length xs) new.ended ∙ length-replicate (length v.left) false ∙ lefts in
     record {
       is_worker = rw share is_worker;
@@ -122,9 +97,9 @@ agree-new s sizes number post v inboxes is_worker fresh i new =
           let within : place < length inboxes = slice_get_within inboxes place j e in
           let none : j.taken ≡ 0 = subst (λ (x : Inbox). x.taken ≡ 0) (get_or_from_slice_get inboxes place j j e) (i.untouched place j within) in
           let plan : IsPlan s.pages j.plan = subst (λ (x : Inbox). IsPlan s.pages x.plan) (get_or_from_slice_get inboxes place j j e) (i.plans place j within) in
-          let size : slice_get sizes (number + s.workers * place) ≡ Some (length j.plan) = sym (sized place) ∙ ap (λ o. option_map length (option_map (λ (x : Inbox). x.plan) o)) e in
           let left : get_or v.left place 0 ≡ length j.plan =
-          get_or_from_slice_get v.left place (length j.plan) 0 (ap (λ (xs : List ℕ). slice_get xs place) new.left ∙ (get-dealt s.workers number sizes place positive ∙ size)) in
+          get_or_from_slice_get v.left place (length j.plan) 0 (ap (λ (xs : List ℕ). slice_get xs place) sizes_are ∙ slice_get-map length (plans_of inboxes) place
+          ∙ ap (option_map length) (slice_get-map (λ (x : Inbox). x.plan) inboxes place ∙ ap (option_map (λ (x : Inbox). x.plan)) e)) in
           record {
             left = omega (arith, left, none);
             ended = ap (λ xs. get_or xs place true) new.ended ∙ get_or-replicate (length v.left) place false true (omega (arith, within, lefts)) ∙ sym (le-ltb (length j.plan) j.taken (omega (arith, none)));
@@ -136,6 +111,6 @@ agree-new s sizes number post v inboxes is_worker fresh i new =
       present = λ _. subst (λ l. IfSome l (λ sight. sight.number ≡ phase_at v)) (sym (ap (λ (x : PostView). x.last) new.at_post ∙ fresh.fresh.never_looked)) tt;
     } where
       by_test : (s : Setup) (inboxes : List Inbox) → All (λ i. i.taken ≡ 0) inboxes → (share : Share) (submitter : ℕ) (b : Bool)
-          → cond b (range_with_len 1 (option_map_or requests_taken (slice_get inboxes (place_of share submitter)) 0)) [] ≡ []
-      by_test s inboxes untouched share submitter true = ap (range_with_len 1) (nothing-given s inboxes untouched (place_of share submitter))
+          → cond b (range_with_len 1 (option_map_or requests_taken (slice_get inboxes (place_of share.workers submitter)) 0)) [] ≡ []
+      by_test s inboxes untouched share submitter true = ap (range_with_len 1) (nothing-given s inboxes untouched (place_of share.workers submitter))
       by_test s inboxes untouched share submitter false = refl

@@ -1,4 +1,5 @@
 pub mod Sights
+pub mod Shares
 pub mod Numbers
 pub mod Agreeing
 pub mod Finishing

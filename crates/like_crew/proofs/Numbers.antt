@@ -11,10 +11,10 @@ use Rattle.std.proofs.lemmas.List.FromFn.{length-range_with_len, map-range_with_
 use Rattle.std.proofs.lemmas.List.Sums.{length-filter}
 use Rattle.std.proofs.lemmas.Nat.{div-mul-add, mod-mul-add}
 use Rattle.like_queue.specs.Inbox.{Inbox}
-use Rattle.like_tables.specs.Share.{Share, serves}
+use Rattle.like_tables.specs.Share.{Share, place_of, serves}
 use Rattle.like_roles.specs.declared.log.Took.{Took}
 use Rattle.like_crew.specs.Log.{numbers_taken}
-use Rattle.like_crew.specs.Server.{numbers_given, place_of, requests_taken}
+use Rattle.like_crew.specs.Server.{numbers_given, requests_taken}
 
 -- what stands at a place after a write
 pub slice_get-set_same : {X : Type 0} (xs : List X) (i : ℕ) (y : X) → i < length xs → slice_get (set xs i y) i ≡ Some y
@@ -61,10 +61,10 @@ module _ (share : Share) (is_worker : share.worker < share.workers) where
   serves-own : (place : ℕ) → serves share (own place) ≡ true
   serves-own place = eq-eqb _ _ (ap (λ n. n % share.workers) (turned place) ∙ mod-mul-add place share.workers share.worker is_worker)
 
-  pub place-own : (place : ℕ) → place_of share (share.worker + share.workers * place) ≡ place
+  pub place-own : (place : ℕ) → place_of share.workers (share.worker + share.workers * place) ≡ place
   place-own place = ap (λ n. n / share.workers) (turned place) ∙ div-mul-add place share.workers share.worker is_worker
 
-  pub own-place : (s : ℕ) → serves share s ≡ true → s ≡ share.worker + share.workers * place_of share s
+  pub own-place : (s : ℕ) → serves share s ≡ true → s ≡ share.worker + share.workers * place_of share.workers s
   own-place s h =
       let m : s % share.workers ≡ share.worker = eqb-true _ _ h in
       let d : share.workers * (s / share.workers) + s % share.workers ≡ s = div-add-mod s share.workers in
@@ -74,7 +74,7 @@ module _ (share : Share) (is_worker : share.worker < share.workers) where
   pub given-own : (inboxes : List Inbox) (place : ℕ) (i : Inbox) → slice_get inboxes place ≡ Some i
       → numbers_given share inboxes (share.worker + share.workers * place) ≡ range_with_len 1 (requests_taken i)
   given-own inboxes place i h =
-      ap (λ b. cond b (range_with_len 1 (option_map_or requests_taken (slice_get inboxes (place_of share (own place))) 0)) []) (serves-own place)
+      ap (λ b. cond b (range_with_len 1 (option_map_or requests_taken (slice_get inboxes (place_of share.workers (own place))) 0)) []) (serves-own place)
       ∙ ap (λ p. range_with_len 1 (option_map_or requests_taken (slice_get inboxes p) 0)) (place-own place)
       ∙ ap (λ o. range_with_len 1 (option_map_or requests_taken o 0)) h
 
@@ -83,11 +83,11 @@ module _ (share : Share) (is_worker : share.worker < share.workers) where
   given-else inboxes place s j other =
       elim (cases_Bool (serves share s)) [
         | inl served ↦
-            let else_where : place_of share s ≢ place = λ e. other (own-place s served ∙ ap own e) in
-            ap (λ o. cond (serves share s) (range_with_len 1 (option_map_or requests_taken o 0)) []) (slice_get-set_other inboxes place (place_of share s) j else_where)
+            let else_where : place_of share.workers s ≢ place = λ e. other (own-place s served ∙ ap own e) in
+            ap (λ o. cond (serves share s) (range_with_len 1 (option_map_or requests_taken o 0)) []) (slice_get-set_other inboxes place (place_of share.workers s) j else_where)
         | inr no_one ↦
-            ap (λ b. cond b (range_with_len 1 (option_map_or requests_taken (slice_get (set inboxes place j) (place_of share s)) 0)) []) no_one
-            ∙ sym (ap (λ b. cond b (range_with_len 1 (option_map_or requests_taken (slice_get inboxes (place_of share s)) 0)) []) no_one)
+            ap (λ b. cond b (range_with_len 1 (option_map_or requests_taken (slice_get (set inboxes place j) (place_of share.workers s)) 0)) []) no_one
+            ∙ sym (ap (λ b. cond b (range_with_len 1 (option_map_or requests_taken (slice_get inboxes (place_of share.workers s)) 0)) []) no_one)
       ]
 
   module _ (inboxes : List Inbox) (taken : List Took) (place : ℕ) (i j : Inbox) (there : place < length inboxes) (here : slice_get inboxes place ≡ Some i)

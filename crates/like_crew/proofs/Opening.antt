@@ -5,10 +5,11 @@ use Rattle.std.specs.Option.{option_map_or}
 use Rattle.std.proofs.lemmas.List.{length-map}
 use Rattle.std.proofs.lemmas.Option.{slice_get-map}
 use Rattle.like_queue.specs.Inbox.{Inbox}
-use Rattle.like_tables.specs.Share.{serves}
+use Rattle.like_tables.specs.Share.{place_of, serves}
+use Rattle.like_tables.proofs.Dealt.{same-lists}
 use Rattle.like_roles.specs.Service.{Service}
 use Rattle.like_roles.specs.WorkerView.{WorkerView}
-use Rattle.like_crew.specs.Server.{Agree, AgreesAt, WorksFor, place_of, requests_taken, without_opened}
+use Rattle.like_crew.specs.Server.{Agree, AgreesAt, WorksFor, plans_of, requests_taken, without_opened}
 
 -- inboxes that differ in how much is open
 module _ (a b : List Inbox) (alike : map without_opened b ≡ map without_opened a) where
@@ -47,7 +48,7 @@ module _ (a b : List Inbox) (alike : map without_opened b ≡ map without_opened
     places = h.places ∙ lengths;
     each = λ place j e. agrees-same v place j (slice_get a place) (ap (option_map without_opened) (sym e) ∙ at place) (λ i f. h.each place i f);
     taken = λ s. h.taken s ∙ ap (λ n. cond (serves v.last.share s) (range_with_len 1 n) [])
-        (sym (taken-same (slice_get b (place_of v.last.share s)) (slice_get a (place_of v.last.share s)) (at (place_of v.last.share s))));
+        (sym (taken-same (slice_get b (place_of v.last.share.workers s)) (slice_get a (place_of v.last.share.workers s)) (at (place_of v.last.share.workers s))));
     rising = h.rising;
     above = h.above;
     present = h.present;
@@ -55,7 +56,7 @@ module _ (a b : List Inbox) (alike : map without_opened b ≡ map without_opened
 
   pub serves-opened : (service : Service) (v : WorkerView) → WorksFor service (record { worker = v; inboxes = a }) → WorksFor service (record { worker = v; inboxes = b })
   serves-opened service v h = record {
-    plans = λ place. slice_get-map (λ (i : Inbox). i.plan) b place ∙ plan-same (slice_get b place) (slice_get a place) (at place)
-        ∙ sym (slice_get-map (λ (i : Inbox). i.plan) a place) ∙ h.plans place;
+    plans = same-lists (plans_of b) (plans_of a)
+        (λ place. slice_get-map (λ (i : Inbox). i.plan) b place ∙ plan-same (slice_get b place) (slice_get a place) (at place) ∙ sym (slice_get-map (λ (i : Inbox). i.plan) a place)) ∙ h.plans;
     follows = h.follows;
   }

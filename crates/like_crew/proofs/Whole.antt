@@ -32,8 +32,8 @@ use Rattle.like_crew.specs.declared.ended.Ended.{Ended}
 use Rattle.like_crew.specs.EndToEnd.{AreCounts, AreLastLikes, AreLogs, run_of, runs_of}
 use Rattle.like_crew.specs.Gathered.{AreTables, RunsOnce}
 use Rattle.like_crew.specs.Log.{IsLog, NoneAbove, plan_of}
-use Rattle.like_crew.specs.Server.{ServerView}
-use Rattle.like_crew.specs.Ended.{IsEnded, IsLogOf, IsSeatOf}
+use Rattle.like_crew.specs.Server.{IsLogOf, ServerView}
+use Rattle.like_crew.specs.Ended.{IsEnded, IsSeatOf}
 use Rattle.like_crew.specs.Servers.{IsServer}
 use Rattle.like_crew.proofs.Counted.{count-in-all, in_range}
 use Rattle.like_crew.proofs.Pairs.{pairs-at, pairs-length, pairs-sum}

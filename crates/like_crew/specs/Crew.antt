@@ -6,10 +6,11 @@ use Rattle.like_requests.specs.declared.setup.Setup.{Setup}
 use Rattle.like_core.specs.declared.worker_state.WorkerState.TheVariants.{Gone}
 use Rattle.like_board.specs.Seats.{board_id, board_numbers}
 use Rattle.like_roles.specs.CoordTurns.{CoordinatorView}
+use Rattle.like_tables.specs.Share.{place_of}
 use Rattle.like_crew.specs.declared.crew.Crew.{Crew}
 use Rattle.like_crew.specs.declared.site.Site.{Site}
 use Rattle.like_crew.specs.Asked.{service_of}
-use Rattle.like_crew.specs.Server.{ServerGoesOn, ServerView, place_of}
+use Rattle.like_crew.specs.Server.{ServerGoesOn, ServerView}
 use Rattle.like_crew.specs.Servers.{AreServers}
 use Rattle.like_crew.specs.Site.{opening_of}
 
@@ -32,7 +33,8 @@ pub record IsCrew (setup : Setup) (plans : List (List Request)) (site : Site) (c
 -- among these servers a submitter has an inbox: that of its worker has it
 abbrev pub HasInbox : List ServerView → ℕ → Type 0
 HasInbox servers submitter = (0 < length servers)
-    × ((s : ServerView) → slice_get servers (submitter % length servers) ≡ Some s → place_of s.worker.last.share submitter < length s.inboxes)
+    × ((s : ServerView) → slice_get servers (submitter % length servers) ≡ Some s
+    → place_of s.worker.last.share.workers submitter < length s.inboxes)
 
 -- the workers of these servers are gone
 abbrev pub AllGone : List ServerView → Type 0

@@ -24,18 +24,22 @@ run_of logs worker = option_map_or (λ log. log.ran.items) (slice_get logs worke
 -- the log of each worker is that of its submitters' plans, and nothing was taken after the phase in which the run ended
 abbrev pub AreLogs : Service → ℕ → ℕ → List WorkerLog → Type 0
 AreLogs service workers phases logs =
-    (worker : ℕ) (log : WorkerLog) → slice_get logs worker ≡ Some log → IsLog service workers worker log × All (λ t. t.phase ≤ phases) log.taken.items
+    (worker : ℕ) (log : WorkerLog) → slice_get logs worker ≡ Some log
+    → IsLog service workers worker log × All (λ t. t.phase ≤ phases) log.taken.items
 
 -- the final count of each page is its initial count and the accepted likes of it
 pub record AreCounts (service : Service) (runs : List (List Ran)) (counts : List ℕ) : Type 0 where
   pub pages : length counts ≡ length service.pages
-  pub each : (page : ℕ) → page < length service.pages → slice_index counts page ≡ initial_count service.pages page + likes service page runs
+  pub each : (page : ℕ) → page < length service.pages
+      → slice_index counts page ≡ initial_count service.pages page + likes service page runs
 
 -- the last like of each user is that of its worker's run list
-pub record AreLastLikes (service : Service) (workers : ℕ) (logs : List WorkerLog) (last : List (Option ℕ)) : Type 0 where
+pub record AreLastLikes (service : Service) (workers : ℕ) (logs : List WorkerLog) (last : List (Option ℕ))
+    : Type 0 where
   pub users : length last ≡ service.users
   pub each : (user : ℕ) → user < service.users
-      → slice_get last user ≡ Some (last_like service user (run_of logs (worker_of workers (home (submitters service) user))))
+      → slice_get last user
+      ≡ Some (last_like service user (run_of logs (worker_of workers (home (submitters service) user))))
 
 -- end to end: there is a log for each worker; each request has the answer of its one entry; the counts and the last likes
 -- are those of the run lists; and the run ended in a joined phase

@@ -2,28 +2,18 @@
 use Rattle.std.specs.Prelude.{◌≡◌, ℕ, List}
 use Rattle.std.specs.List.{AllZip}
 use Rattle.like_core.specs.Phase.{IsJoined}
-use Rattle.like_core.specs.Post.{additions_of}
 use Rattle.like_core.specs.declared.worker_state.WorkerState.TheVariants.{Gone}
 use Rattle.like_core.specs.declared.opening.Opening.{Opening}
 use Rattle.like_board.specs.declared.worker_seat.WorkerSeat.{WorkerSeat}
 use Rattle.like_board.specs.Seats.{BoardId, board_numbers, coord_board, coord_view, seat_meaning}
 use Rattle.like_roles.specs.CoordTurns.{CoordinatorView, HasEndedJoined}
 use Rattle.like_roles.specs.declared.log.WorkerLog.{WorkerLog}
-use Rattle.like_roles.specs.Likes.{likes_among}
 use Rattle.like_roles.specs.Service.{Service}
 use Rattle.like_crew.specs.declared.crew.Crew.{Crew}
 use Rattle.like_crew.specs.declared.ended.Ended.{Ended}
 use Rattle.like_crew.specs.Crew.{AllGone, LeadGoesOn}
-use Rattle.like_crew.specs.Log.{IsLog, NoneAbove}
-use Rattle.like_crew.specs.Server.{ServerGoesOn, ServerView, WorksFor}
+use Rattle.like_crew.specs.Server.{IsLogOf, ServerGoesOn, ServerView}
 use Rattle.like_crew.specs.Servers.{AreServers}
-
--- the log that a server leaves
-pub record IsLogOf (s : ServerView) (log : WorkerLog) : Type 0 where
-  pub share : log.last.share ≡ s.worker.last.share
-  pub log_is : (service : Service) → WorksFor service s → IsLog service s.worker.last.share.workers s.worker.last.share.worker log
-  pub additions : (service : Service) → WorksFor service s → (page : ℕ) → likes_among service page log.ran.items ≡ additions_of s.worker.post page
-  pub above : NoneAbove s.worker.post.last log.taken.items
 
 -- the seat that a server leaves
 abbrev pub IsSeatOf : ServerView → WorkerSeat → Type 0

@@ -23,7 +23,8 @@ plan_of service submitter = slice_index_or service.plans submitter []
 -- a worker took the requests of its submitters' plans, each once and in order, and no others
 abbrev pub TakesPlans : Service → ℕ → ℕ → List Took → Type 0
 TakesPlans service workers worker taken =
-    (submitter : ℕ) → numbers_taken submitter taken ≡ (if worker_of workers submitter == worker then range_with_len 1 (length (plan_of service submitter)) else [])
+    (submitter : ℕ) → numbers_taken submitter taken
+    ≡ (if worker_of workers submitter == worker then range_with_len 1 (length (plan_of service submitter)) else [])
 
 -- the phases of taking never fall
 abbrev pub IsRising : List Took → Type 0

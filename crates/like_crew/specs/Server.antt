@@ -1,18 +1,20 @@
 -- A worker with the inboxes of its submitters.
-use Rattle.std.specs.Prelude.{◌≡◌, ◌≢◌, ℕ, ◌+◌, ◌*◌, ◌/◌, ◌<◌, min, nat_lt, if◌then◌else◌, true, List, [], length, map, slice_get, slice_index, slice_index_or, All, IfSome, Some}
+use Rattle.std.specs.Prelude.{◌≡◌, ◌≢◌, ℕ, ◌+◌, ◌<◌, min, nat_lt, if◌then◌else◌, true, List, [], length, map, slice_get, slice_index, slice_index_or, All, IfSome, Some}
 use Rattle.std.specs.List.{range_with_len}
 use Rattle.std.specs.Option.{option_map_or}
 use Rattle.like_requests.specs.Setup.{IsPlan, IsThere}
 use Rattle.like_requests.specs.declared.setup.Setup.{Setup}
 use Rattle.like_requests.specs.declared.request.Request.{Request}
 use Rattle.like_core.specs.declared.worker_state.WorkerState.TheVariants.{Gone}
-use Rattle.like_core.specs.Post.{pages_of}
+use Rattle.like_core.specs.Post.{additions_of, pages_of}
 use Rattle.like_queue.specs.Inbox.{Inbox}
-use Rattle.like_tables.specs.Share.{Share, serves}
+use Rattle.like_tables.specs.Share.{Share, dealt, place_of, serves}
 use Rattle.like_roles.specs.Follows.{Follows}
+use Rattle.like_roles.specs.declared.log.WorkerLog.{WorkerLog}
+use Rattle.like_roles.specs.Likes.{likes_among}
 use Rattle.like_roles.specs.Service.{Service}
 use Rattle.like_roles.specs.WorkerView.{WorkerView, phase_at}
-use Rattle.like_crew.specs.Log.{IsRising, NoneAbove, numbers_taken}
+use Rattle.like_crew.specs.Log.{IsLog, IsRising, NoneAbove, numbers_taken}
 
 -- the worker, and the inboxes of its submitters by place
 pub record ServerView : Type 0 where
@@ -31,15 +33,12 @@ without_opened i = record i { opened = 0 }
 abbrev pub requests_taken : Inbox → ℕ
 requests_taken i = min i.taken (length i.plan)
 
--- the place of a submitter among those of its worker
-abbrev pub place_of : Share → ℕ → ℕ
-place_of share submitter = submitter / share.workers
-
 -- the numbers of the requests that the inboxes have handed over from a submitter: 1, 2, .. as far as its inbox was taken,
 -- and none of a submitter that another worker serves
 abbrev pub numbers_given : Share → List Inbox → ℕ → List ℕ
 numbers_given share inboxes submitter =
-    if serves share submitter then range_with_len 1 (option_map_or requests_taken (slice_get inboxes (place_of share submitter)) 0) else []
+    if serves share submitter
+    then range_with_len 1 (option_map_or requests_taken (slice_get inboxes (place_of share.workers submitter)) 0) else []
 
 -- what a worker keeps of the submitter at a place agrees with its inbox: how many requests are left, and whether the end
 -- mark was taken; and the pages of its plan are there
@@ -50,7 +49,7 @@ pub record AgreesAt (v : WorkerView) (place : ℕ) (i : Inbox) : Type 0 where
 
 -- the inboxes have the plans of a worker's submitters
 abbrev pub AreOwnPlans : Service → ℕ → ℕ → List Inbox → Type 0
-AreOwnPlans service workers worker inboxes = (place : ℕ) → slice_get (plans_of inboxes) place ≡ slice_get service.plans (worker + workers * place)
+AreOwnPlans service workers worker inboxes = plans_of inboxes ≡ dealt workers worker service.plans
 
 -- a server works for a service: its inboxes have the plans of its submitters, and its worker does as they say
 pub record WorksFor (service : Service) (s : ServerView) : Type 0 where
@@ -71,7 +70,7 @@ pub record Agree (v : WorkerView) (inboxes : List Inbox) : Type 0 where
 
 -- untouched inboxes for a worker's submitters, whose numbers of requests these are
 pub record AreInboxesFor (s : Setup) (sizes : List ℕ) (worker : ℕ) (inboxes : List Inbox) : Type 0 where
-  pub sized : (place : ℕ) → slice_get (map length (plans_of inboxes)) place ≡ slice_get sizes (worker + s.workers * place)
+  pub sized : map length (plans_of inboxes) ≡ dealt s.workers worker sizes
   pub untouched : All (λ i. i.taken ≡ 0) inboxes
   pub plans : All (λ i. IsPlan s.pages i.plan) inboxes
 
@@ -82,3 +81,12 @@ pub record ServerGoesOn (s t : ServerView) : Type 0 where
   pub board : t.worker.post.board ≡ s.worker.post.board
   pub inboxes : length t.inboxes ≡ length s.inboxes
   pub works : (service : Service) → WorksFor service s → WorksFor service t
+
+-- the log that a server leaves
+pub record IsLogOf (s : ServerView) (log : WorkerLog) : Type 0 where
+  pub share : log.last.share ≡ s.worker.last.share
+  pub log_is : (service : Service) → WorksFor service s
+      → IsLog service s.worker.last.share.workers s.worker.last.share.worker log
+  pub additions : (service : Service) → WorksFor service s
+      → (page : ℕ) → likes_among service page log.ran.items ≡ additions_of s.worker.post page
+  pub above : NoneAbove s.worker.post.last log.taken.items

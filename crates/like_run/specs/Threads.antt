@@ -3,17 +3,18 @@ use Rattle.std.specs.Prelude.{◌≡◌, ℕ, List, ⊤, false}
 use Rattle.like_requests.specs.Setup.{IsFirstBroken, IsWithinLimits}
 use Rattle.like_requests.specs.declared.request.Request.{Request}
 use Rattle.like_requests.specs.declared.setup.Setup.{Setup}
-use Rattle.like_crew.specs.Ended.{HasLeft}
+use Rattle.like_crew.specs.Ended.{HasLeft, IsSeatOf}
 use Rattle.like_crew.specs.Server.{ServerView}
 use Rattle.like_run.specs.declared.threads.fault.RunFault.{RunFault}
 use Rattle.like_run.specs.declared.threads.fault.RunFault.TheVariants.{Settings, Memory, Start}
 use Rattle.like_run.specs.declared.threads.worker.Served.{Served}
 use Rattle.like_run.specs.declared.threads.worker.Served.TheVariants.{Left, Stopped}
 
--- what a thread ends with that began with this server: what the server left; or the word that no thread goes on
+-- what a thread ends with that began with this server: what the server left; or the word that no thread goes on, and the
+-- seat with which it began, of which no turn was made
 abbrev pub Keeps : ℕ → ServerView → Served → Type 0
 Keeps start first (Left log seat) = HasLeft first log seat
-Keeps start first (Stopped token) = (token.of ≡ start) × (token.value ≡ false)
+Keeps start first (Stopped token seat) = (token.of ≡ start) × (token.value ≡ false) × IsSeatOf first seat
 
 -- no fault of the settings or the lists
 abbrev pub IsFaultUnderWay : RunFault → Type 0

@@ -19,7 +19,9 @@ IsIndex text = IsDecimal 10 max_index text
 
 -- two fields name an entry: `open` and a submitter, `worker` and a worker, or `coordinator` and 0
 abbrev pub Names : List ℕ → List ℕ → Type 0
-Names turn index = (((turn ≡ codes "open") ⊎ (turn ≡ codes "worker")) × IsIndex index) ⊎ ((turn ≡ codes "coordinator") × (index ≡ codes "0"))
+Names turn index =
+    (((turn ≡ codes "open") ⊎ (turn ≡ codes "worker")) × IsIndex index)
+    ⊎ ((turn ≡ codes "coordinator") × (index ≡ codes "0"))
 
 -- the entry that they name
 abbrev pub named : List ℕ → List ℕ → Turned
@@ -58,7 +60,8 @@ fault_of records.Memory = fault.Memory
 
 -- a record behind the header is why a file with these records has no entries
 abbrev pub StopsBehindHeader : List Record → ScriptFault → Type 0
-StopsBehindHeader rows why = (body : List Record) × (rows ≡ script_header ∷ body) × IsFirstFailed AsksEntryRecord entry_tests body why
+StopsBehindHeader rows why =
+    (body : List Record) × (rows ≡ script_header ∷ body) × IsFirstFailed AsksEntryRecord entry_tests body why
 
 -- why a file with these records has no entries
 abbrev pub IsScriptFault : List Record → ScriptFault → Type 0
@@ -70,4 +73,6 @@ IsScriptFault rows fault.TooMany = StopsBehindHeader rows fault.TooMany
 
 -- the entries of a file with these records
 abbrev pub IsScriptFile : List Record → List Turned → Type 0
-IsScriptFile rows entries = (body : List Record) × (rows ≡ script_header ∷ body) × PassAll AsksEntryRecord entry_tests body × (entries ≡ map entry_of body)
+IsScriptFile rows entries =
+    (body : List Record) × (rows ≡ script_header ∷ body)
+    × PassAll AsksEntryRecord entry_tests body × (entries ≡ map entry_of body)

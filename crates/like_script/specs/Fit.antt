@@ -14,4 +14,5 @@ IsInRun workers submitters Coordinator = ⊤
 
 -- the fault names the first entry of which that is not so
 abbrev pub IsFirstAway : ℕ → ℕ → List Turned → SettingsFault → Type 0
-IsFirstAway workers submitters script fault = (at : ℕ) × (fault ≡ Script at) × IsFirstBad (IsInRun workers submitters) script at
+IsFirstAway workers submitters script fault =
+    (at : ℕ) × (fault ≡ Script at) × IsFirstBad (IsInRun workers submitters) script at

@@ -100,7 +100,8 @@ fn read_entries<R: Read>(
 fn entry_at<R: Read>(records: &Records<R>, row: u32) -> Result<Turned, ScriptFault>
     requires { 0 < row }
     ensures { MatchResult result
-        (λ entry. AllByRecursion (AsksEntry (row - 1) records.now.fields) (entry_tests row) × (entry ≡ entry_of records.now.fields))
+        (λ entry. AllByRecursion (AsksEntry (row - 1) records.now.fields) (entry_tests row)
+        × (entry ≡ entry_of records.now.fields))
         (FailsFirst (AsksEntry (row - 1) records.now.fields) (entry_tests row)) }
 {
     let Some(entry) = entry_in(records) else {
@@ -114,7 +115,8 @@ fn entry_at<R: Read>(records: &Records<R>, row: u32) -> Result<Turned, ScriptFau
 
 // The entry that the present record makes, if it makes one.
 fn entry_in<R: Read>(records: &Records<R>) -> Option<Turned>
-    ensures { MatchOption result (¬ IsEntry records.now.fields) (λ entry. IsEntry records.now.fields × (entry ≡ entry_of records.now.fields)) }
+    ensures { MatchOption result (¬ IsEntry records.now.fields)
+        (λ entry. IsEntry records.now.fields × (entry ≡ entry_of records.now.fields)) }
 {
     if records.field_count() != 2 {
         return None;
@@ -124,7 +126,8 @@ fn entry_in<R: Read>(records: &Records<R>) -> Option<Turned>
 
 // The entry that two fields name, if they name one.
 fn entry_named(turn: &[u8], index: &[u8]) -> Option<Turned>
-    ensures { MatchOption result (¬ Names turn.now index.now) (λ entry. Names turn.now index.now × (entry ≡ named turn.now index.now)) }
+    ensures { MatchOption result (¬ Names turn.now index.now)
+        (λ entry. Names turn.now index.now × (entry ≡ named turn.now index.now)) }
 {
     if turn == b"open".as_slice() {
         return Some(Turned::OpenOne(index_named(index)?));
@@ -140,7 +143,8 @@ fn entry_named(turn: &[u8], index: &[u8]) -> Option<Turned>
 
 // The number of a submitter or a worker that a field writes, if it writes one.
 fn index_named(index: &[u8]) -> Option<u32>
-    ensures { MatchOption result (¬ IsIndex index.now) (λ number. IsIndex index.now × (number ≡ decimal_value index.now)) }
+    ensures { MatchOption result (¬ IsIndex index.now)
+        (λ number. IsIndex index.now × (number ≡ decimal_value index.now)) }
 {
     decimal(index, 10, MAX_INDEX).map(|number| number as u32)
 }

@@ -8,7 +8,9 @@ use like_requests::SettingsFault;
 /// Names the first entry of a script whose submitter or worker is not there.
 pub fn check_script(script: &[Turned], workers: u32, submitters: usize) -> Result<(), SettingsFault>
     requires { length script.now ≤ max_entries }
-    ensures { MatchResult result (λ _. All (IsInRun workers submitters) script.now) (IsFirstAway workers submitters script.now) }
+    ensures { MatchResult result
+        (λ _. All (IsInRun workers submitters) script.now)
+        (IsFirstAway workers submitters script.now) }
 {
     for (at, entry) in script.iter().enumerate() {
         if !is_there(entry, workers, submitters) {

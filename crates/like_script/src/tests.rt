@@ -1,5 +1,6 @@
-//! Script files.
-use crate::{ScriptFault, Turned, read_script};
+//! Script files, and scripts that fit a run.
+use crate::{ScriptFault, Turned, check_script, read_script};
+use like_requests::SettingsFault;
 use std::alloc::Global;
 use std::process::Abort;
 use std::test::Fail;
@@ -49,5 +50,18 @@ fn names_the_fault_of_a_script_file(rt: HostRuntime) {
     ];
     for (text, row) in rows {
         assert_fault(&rt, rt.alloc(), text, ScriptFault::Line { row });
+    }
+}
+
+#[test]
+fn names_the_first_entry_that_is_away(rt: HostRuntime) {
+    let script = [Turned::OpenOne(4), Turned::Worker(2), Turned::Coordinator];
+    let rows = [
+        (3, 5, Ok(())),
+        (2, 5, Err(SettingsFault::Script { at: 1 })),
+        (3, 4, Err(SettingsFault::Script { at: 0 })),
+    ];
+    for (workers, submitters, wanted) in rows {
+        assert_eq!(rt; check_script(&script, workers, submitters), wanted);
     }
 }

@@ -1,5 +1,6 @@
 ghost use Rattle.std.specs.Prelude.{◌≡◌, ◌<◌, ◌≤◌, ℕ, [], All, IfOk, length, map, slice_index_or};
 ghost use Rattle.like_requests.specs.Limits.{max_requests};
+ghost use Rattle.like_crew.specs.Asked.{lists_of};
 ghost use Rattle.like_crew.specs.Servers.{AreDealt};
 
 use like_queue::ListInbox;
@@ -16,7 +17,8 @@ pub fn deal(
     requires small { All (λ plan. length plan.items ≤ max_requests) plans.items }
     ensures len { IfOk result (λ hands. length hands.items ≡ workers) }
     ensures dealt { IfOk result (λ hands. (worker : ℕ) → worker < workers
-        → AreDealt (map (λ plan. plan.items) plans.items) workers worker (slice_index_or (map (λ hand. hand.items) hands.items) worker [])) }
+        → let hand = slice_index_or (map (λ hand. hand.items) hands.items) worker [] in
+        AreDealt (lists_of plans.items) workers worker hand) }
 {
     let mut hands = empty_hands(alloc, workers)?;
     let mut submitter = 0;

@@ -1,14 +1,11 @@
 ghost use Rattle.std.specs.Prelude.{◌≡◌, ◌<◌, ℕ, IfOk, IfErr, length};
 ghost use Rattle.like_core.specs.declared.worker_state.WorkerState.TheVariants.{Gone};
-ghost use Rattle.like_core.specs.Post.{additions_of};
-ghost use Rattle.like_tables.specs.Share.{share_of};
-ghost use Rattle.like_roles.specs.Likes.{likes_among};
+ghost use Rattle.like_tables.specs.Share.{place_of, share_of};
 ghost use Rattle.like_requests.specs.Setup.{IsWithin};
 ghost use Rattle.like_roles.specs.New.{IsPostOf};
 ghost use Rattle.like_roles.specs.Service.{Service};
-ghost use Rattle.like_crew.specs.Log.{IsLog, NoneAbove};
 ghost use Rattle.like_roles.specs.Follows.{IsServiceOf};
-ghost use Rattle.like_crew.specs.Server.{AreInboxesFor, AreOwnPlans, ServerGoesOn, WorksFor, place_of};
+ghost use Rattle.like_crew.specs.Server.{AreInboxesFor, AreOwnPlans, IsLogOf, ServerGoesOn, WorksFor};
 
 use like_core::Post;
 use like_queue::ListInbox;
@@ -35,7 +32,8 @@ impl<P: Post> Model for Server<P> {
 
     ghost view = { λ s. record { worker = s.worker; inboxes = s.inboxes.items } };
 
-    ghost invariant = { λ s. (s.worker.pending ≡ None) × (s.workers ≡ s.worker.last.share.workers) × Agree s.worker s.inboxes.items };
+    ghost invariant = { λ s.
+        (s.worker.pending ≡ None) × (s.workers ≡ s.worker.last.share.workers) × Agree s.worker s.inboxes.items };
 }
 
 impl<P: Post> Server<P> {
@@ -53,9 +51,11 @@ impl<P: Post> Server<P> {
         requires is_worker { number < setup.now.workers }
         requires post { IsPostOf number setup.now.pages (P.view post) }
         requires inboxes { AreInboxesFor setup.now sizes.now number inboxes.items }
-        ensures share { IfOk result (λ server. server.worker.last.share ≡ share_of setup.now.users (length sizes.now) setup.now.workers number) }
+        ensures share { IfOk result (λ server.
+            server.worker.last.share ≡ share_of setup.now.users (length sizes.now) setup.now.workers number) }
         ensures at_post { IfOk result (λ server. server.worker.post ≡ P.view post) }
-        ensures works { IfOk result (λ server. (service : Service) → IsServiceOf setup.now.users setup.now.pages sizes.now service
+        ensures works { IfOk result (λ server. (service : Service)
+            → IsServiceOf setup.now.users setup.now.pages sizes.now service
             → AreOwnPlans service setup.now.workers number inboxes.items → WorksFor service server) }
         ensures post { IfErr result (λ refused. refused.post ≡ post) }
     {
@@ -69,7 +69,7 @@ impl<P: Post> Server<P> {
 
     /// Opens one item more of a submitter's list.
     pub fn open_one(&mut self, submitter: u32)
-        requires { place_of self.old.worker.last.share submitter < length self.old.inboxes }
+        requires { place_of self.old.worker.last.share.workers submitter < length self.old.inboxes }
         ensures { ServerGoesOn self.old self.new }
     {
         let place = (submitter / self.workers) as usize;
@@ -109,15 +109,17 @@ impl<P: Post> Server<P> {
         }
     }
 
+    /// Gives the post up, whatever is left to do.
+    pub fn leave(self) -> P
+        ensures { P.view result ≡ self.worker.post }
+    {
+        self.worker.leave()
+    }
+
     /// Takes it apart when its worker is gone: what the worker has done, and its post.
     pub fn finish(self) -> (WorkerLog, P)
         requires { self.worker.post.state ≡ Gone }
-        ensures log { (service : Service) → WorksFor service self
-            → IsLog service self.worker.last.share.workers self.worker.last.share.worker result.0 }
-        ensures additions { (service : Service) → WorksFor service self
-            → (page : ℕ) → likes_among service page result.0.ran.items ≡ additions_of self.worker.post page }
-        ensures share { result.0.last.share ≡ self.worker.last.share }
-        ensures seen { NoneAbove self.worker.post.last result.0.taken.items }
+        ensures log { IsLogOf self result.0 }
         ensures post { P.view result.1 ≡ self.worker.post }
     {
         self.worker.finish()

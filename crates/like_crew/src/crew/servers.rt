@@ -2,8 +2,8 @@ ghost use Rattle.std.specs.Prelude.{◌≡◌, ◌<◌, IfOk, length, true};
 ghost use Rattle.std.specs.List.{AllZip};
 ghost use Rattle.like_core.specs.declared.worker_state.WorkerState.TheVariants.{Gone};
 ghost use Rattle.like_crew.specs.Crew.{AllGone, HasInbox};
-ghost use Rattle.like_crew.specs.Server.{ServerGoesOn};
-ghost use Rattle.like_crew.specs.Ended.{IsLogOf, IsSeatOf};
+ghost use Rattle.like_crew.specs.Server.{IsLogOf, ServerGoesOn};
+ghost use Rattle.like_crew.specs.Ended.{IsSeatOf};
 
 use crate::crew::server::Server;
 use like_board::{BoardPost, WorkerSeat};

@@ -39,7 +39,8 @@ pub fn last_likes(
     requires logs { 1 ≤ length logs.now }
     requires tables { AreTables users submitters logs.now }
     ensures len { IfOk result (λ last. length last.items ≡ users) }
-    ensures last { IfOk result (λ last. (user : ℕ) (log : Log) → user < users → slice_get logs.now (worker_of (length logs.now) (home submitters user)) ≡ Some log
+    ensures last { IfOk result (λ last. (user : ℕ) (log : Log) → user < users
+        → slice_get logs.now (worker_of (length logs.now) (home submitters user)) ≡ Some log
         → slice_get last.items user ≡ Some (last_of log.last user)) }
 {
     let mut last = Vec::new(alloc);

@@ -36,7 +36,8 @@ pub fn join_all<'s, R: Threads>(
     requires told { All (λ thread. thread.promise.start.now.id ≡ go.now.of) threads.items }
     requires logs { (logs.old.items ≡ []) × (length threads.items ≤ vec_capacity logs.old) }
     requires seats { (seats.old.items ≡ []) × (length threads.items ≤ vec_capacity seats.old) }
-    ensures { HaveLeft (map (λ thread. thread.promise.server.value) threads.entry.items) logs.new.items seats.new.items }
+    ensures { let first = map (λ thread. thread.promise.server.value) threads.entry.items in
+        HaveLeft first logs.new.items seats.new.items }
 {
     for thread in threads {
         match thread.join(rt) {
@@ -44,7 +45,7 @@ pub fn join_all<'s, R: Threads>(
                 logs.push_reserved(log);
                 seats.push_reserved(seat);
             }
-            Served::Stopped(token) => {
+            Served::Stopped(token, _) => {
                 go.agrees(&token);
                 unreachable!()
             }

@@ -21,7 +21,8 @@ pub fn start_all<'s, E, R: Threads + Wait + Sync, G: Gate>(
     requires none { threads.old.items ≡ [] }
     requires room { length servers.items ≤ vec_capacity threads.old }
     ensures told { All (λ thread. thread.promise.start.now.id ≡ start.now.id) threads.new.items }
-    ensures servers { result ≡ true → map (λ thread. thread.promise.server.value) threads.new.items ≡ servers.entry.items }
+    ensures servers { result ≡ true
+        → map (λ thread. thread.promise.server.value) threads.new.items ≡ servers.entry.items }
 {
     for server in servers {
         let owes = Owes {

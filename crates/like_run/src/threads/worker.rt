@@ -16,8 +16,8 @@ use std::thread::{Promise, yield_now};
 pub enum Served<'a> {
     /// The worker is gone: what it has done, and its seat.
     Left(WorkerLog, WorkerSeat),
-    /// It was told to end, and took no request.
-    Stopped(OnceToken<'a, bool>),
+    /// It was told to end: its seat, as it was when the thread began.
+    Stopped(OnceToken<'a, bool>, WorkerSeat),
 }
 
 /// What is promised of that: the server that the thread begins with, and the lock that tells it to go on or to end.
@@ -44,7 +44,7 @@ pub fn serve<'a, R: Wait, G: Gate>(
 {
     let token = signal(rt, start);
     if !*start.value(&token) {
-        return Served::Stopped(token);
+        return Served::Stopped(token, server.leave().back());
     }
     let mut server = server;
     make_turns(rt, gate, &mut server);

@@ -2,7 +2,8 @@ use Rattle.std.proofs.Common.{Vec, Global, sym, subst}
 use Rattle.std.specs.List.{AllZip}
 use Rattle.like_board.specs.declared.worker_seat.WorkerSeat.{WorkerSeat}
 use Rattle.like_roles.specs.declared.log.WorkerLog.{WorkerLog}
-use Rattle.like_crew.specs.Ended.{IsLogOf, IsSeatOf}
+use Rattle.like_crew.specs.Server.{IsLogOf}
+use Rattle.like_crew.specs.Ended.{IsSeatOf}
 use Rattle.like_crew.proofs.Coordinated.{lead-same}
 use Rattle.like_crew.proofs.Later.{all-same}
 use Rattle.like_crew.proofs.crew.Crew.finish.Goals as goal

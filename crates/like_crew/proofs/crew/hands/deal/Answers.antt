@@ -5,6 +5,7 @@ use Rattle.std.proofs.lemmas.Iterator.Consumers.{YieldsList-end, YieldsList-turn
 use Rattle.like_requests.specs.Limits.{max_requests}
 use Rattle.like_requests.specs.declared.request.Request.{Request}
 use Rattle.like_queue.specs.Inbox.{Inbox}
+use Rattle.like_crew.proofs.Shares.{are-dealt}
 use Rattle.like_crew.proofs.Deals.{AllDealt, deal-none, deal-pushed}
 use Rattle.like_crew.proofs.crew.hands.deal.Goals as goal
 
@@ -46,4 +47,6 @@ returns-clause-dealt c =
     let from = c.into_iter-plan-iterator.ensures.into_iter_gives in
     let all = YieldsList-from_vec {s = c.into_iter-plan-iterator.result} c.args.plans.items from.0 (from.1 ∙ c.args.plans.ok.0) in
     let t = YieldsList-end all c.loop-plan.yielded _ c.loop-plan.yielded_by _ c.next.new.self c.in-None.is c.next.ensures.steps in
-    subst (λ (ps : List (Vec Request Global)). AllDealt (map requests_of ps) c.args.workers (map inboxes_of c.loop-plan.hands.items)) (sym (map-id c.loop-plan.yielded) ∙ t.0) c.loop-plan.invariant.dealt
+    λ worker below.
+    are-dealt (map requests_of c.args.plans.items) c.args.workers worker _ c.requires.some
+    (subst (λ (ps : List (Vec Request Global)). AllDealt (map requests_of ps) c.args.workers (map inboxes_of c.loop-plan.hands.items)) (sym (map-id c.loop-plan.yielded) ∙ t.0) c.loop-plan.invariant.dealt worker below)

@@ -43,7 +43,7 @@ new-requires-clause-inboxes c =
     let dealt : AreDealt plans c.args.setup.now.workers k c.remove-inboxes.result.items =
     hand-at inboxes_of c.in_ok-hands.hands.items l.hands.items k c.args.setup.now.workers c.remove-inboxes.result plans c.in_ok-hands.ensures.dealt c.in_ok-hands.ensures.len below l.invariant.hands c.remove-inboxes.ensures.value in
     subst (λ n. AreInboxesFor c.args.setup.now c.args.sizes.now n c.remove-inboxes.result.items) (sym number)
-    (inboxes-for c.args.setup.now plans c.args.sizes.now k c.remove-inboxes.result.items
+    (inboxes-for c.args.setup.now plans c.args.sizes.now k c.remove-inboxes.result.items c.requires.within.numbers.workers.0
     c.requires.sizes (plans-within c.args.setup.now plans c.requires.within) dealt)
 
 pub loop-seat-preserved : goal.loop-seat-preserved

@@ -4,8 +4,8 @@ use Rattle.std.proofs.lemmas.Iterator.Adapters.{YieldsList-from_vec}
 use Rattle.std.proofs.lemmas.Iterator.Consumers.{YieldsList-end, YieldsList-turn}
 use Rattle.std.proofs.lemmas.List.{map-id}
 use Rattle.like_core.specs.declared.worker_state.WorkerState.TheVariants.{Gone}
-use Rattle.like_crew.specs.Server.{ServerView}
-use Rattle.like_crew.specs.Ended.{IsLogOf, IsSeatOf}
+use Rattle.like_crew.specs.Server.{IsLogOf, ServerView}
+use Rattle.like_crew.specs.Ended.{IsSeatOf}
 use Rattle.like_crew.proofs.Pairs.{pairs-more}
 use Rattle.like_crew.proofs.crew.servers.finish_all.Goals as goal
 
@@ -19,7 +19,7 @@ finish-log-requires c =
 pub loop-server-preserved : goal.loop-server-preserved
 loop-server-preserved c = record {
   logs = subst (AllZip IsLogOf (c.loop-server.yielded ++ c.in-Some.server ∷ [])) (sym c.in_ok-push.ensures.items) (pairs-more IsLogOf c.loop-server.yielded c.loop-server.logs.items c.in-Some.server c.finish-log.result.0 c.loop-server.invariant.logs
-      (record { share = c.finish-log.ensures.share; log_is = c.finish-log.ensures.log; additions = c.finish-log.ensures.additions; above = c.finish-log.ensures.seen }));
+      c.finish-log.ensures.log);
   seats = subst (AllZip IsSeatOf (c.loop-server.yielded ++ c.in-Some.server ∷ [])) (sym c.in_ok-push-2.ensures.items) (pairs-more IsSeatOf c.loop-server.yielded c.loop-server.seats.items c.in-Some.server c.back.result c.loop-server.invariant.seats
       (c.back.ensures.meaning ∙ c.finish-log.ensures.post));
 }

@@ -1,5 +1,6 @@
 use Rattle.std.specs.List.{AllZip}
-use Rattle.like_crew.specs.Ended.{IsLogOf, IsSeatOf}
+use Rattle.like_crew.specs.Server.{IsLogOf}
+use Rattle.like_crew.specs.Ended.{IsSeatOf}
 use Rattle.like_crew.proofs.crew.servers.finish_all.Given as goal
 
 abbrev pub invariant-loop-server : goal.invariant-loop-server

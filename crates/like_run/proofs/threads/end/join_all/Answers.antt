@@ -1,4 +1,4 @@
-use Rattle.std.proofs.Common.{◌≡◌, ◌∙◌, length, map, arith}
+use Rattle.std.proofs.Common.{◌≡◌, ◌∙◌, ◌++◌, ◌∷◌, [], length, map, arith}
 use Rattle.std.proofs.lemmas.Iterator.Adapters.{YieldsList-from_vec}
 use Rattle.std.proofs.lemmas.Iterator.Consumers.{YieldsList-turn}
 use Rattle.std.proofs.lemmas.List.{length-map, map_push}
@@ -36,6 +36,6 @@ loop-thread-preserved g c =
     record {
       logs_room = c.push_reserved.ensures.capacity ∙ l.invariant.logs_room;
       seats_room = c.push_reserved-in-Left.ensures.capacity ∙ l.invariant.seats_room;
-      left = one-left (map first_of l.yielded) _ l.logs.items _ l.seats.items _ (first_of c.in-Some.thread) c.in-Left.log c.in-Left.seat (map_push first_of l.yielded c.in-Some.thread) c.push_reserved.ensures.items
+      left = one-left (map first_of l.yielded) (map first_of (l.yielded ++ c.in-Some.thread ∷ [])) l.logs.items c.push_reserved.new.self.items l.seats.items c.push_reserved-in-Left.new.self.items (first_of c.in-Some.thread) c.in-Left.log c.in-Left.seat (map_push first_of l.yielded c.in-Some.thread) c.push_reserved.ensures.items
           c.push_reserved-in-Left.ensures.items l.invariant.left c.in-Left.ensures;
     }

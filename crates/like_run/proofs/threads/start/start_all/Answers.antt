@@ -1,4 +1,4 @@
-use Rattle.std.proofs.Common.{◌≡◌, ◌∙◌, ◌++◌, ◌∷◌, [], ℕ, map, subst, sym, ap}
+use Rattle.std.proofs.Common.{◌≡◌, ◌∙◌, ◌++◌, ◌∷◌, [], ℕ, List, map, subst, sym, ap}
 use Rattle.std.specs.List.{All}
 use Rattle.std.proofs.lemmas.List.{map_push}
 use Rattle.std.proofs.lemmas.List.Elements.{All-append}
@@ -15,6 +15,12 @@ first_of thread = thread.promise.server.value
 abbrev start_of : PromisedHandle Served Owes → ℕ
 start_of thread = thread.promise.start.now.id
 
+-- the servers with which the threads began, of which there is one more
+servers-more : (old new : List (PromisedHandle Served Owes)) (thread : PromisedHandle Served Owes) (servers : List ServerView) (server : ServerView) → new ≡ old ++ thread ∷ [] → map first_of old ≡ servers
+    → first_of thread ≡ server → map first_of new ≡ servers ++ server ∷ []
+servers-more old new thread servers server pushed before first =
+    ap (map first_of) pushed ∙ map_push first_of old thread ∙ ap (λ xs. xs ++ first_of thread ∷ []) before ∙ ap (λ s. servers ++ s ∷ []) first
+
 pub loop-server-preserved : goal.loop-server-preserved
 loop-server-preserved g c =
     let l = c.loop-server in
@@ -27,5 +33,5 @@ loop-server-preserved g c =
     record {
       room = c.push_reserved.ensures.capacity ∙ l.invariant.room;
       told = subst (All Told) (sym pushed) (All-append Told l.threads.items (thread ∷ []) l.invariant.told (all-one Told thread told));
-      servers = ap (map first_of) pushed ∙ map_push first_of l.threads.items thread ∙ ap (λ xs. xs ++ first_of thread ∷ []) l.invariant.servers ∙ ap (λ s. l.yielded ++ s ∷ []) first;
+      servers = servers-more l.threads.items c.push_reserved.new.self.items thread l.yielded c.in-Some.server pushed l.invariant.servers first;
     }

@@ -1,13 +1,22 @@
-use Rattle.std.proofs.Common.{sym, subst}
-use Rattle.like_crew.specs.Log.{IsLog}
-use Rattle.like_crew.specs.Server.{WorksFor, ServerView}
+use Rattle.std.proofs.Common.{◌≡◌, List, sym, ap, subst}
+use Rattle.like_tables.specs.UserTable.{UserTable}
+use Rattle.like_roles.specs.declared.log.Ran.{Ran}
+use Rattle.like_roles.specs.declared.log.Took.{Took}
+use Rattle.like_roles.specs.Likes.{likes_among}
+use Rattle.like_core.specs.Post.{additions_of}
+use Rattle.like_crew.specs.Log.{NoneAbove}
+use Rattle.like_crew.specs.Server.{IsLogOf, ServerView}
 use Rattle.like_crew.proofs.Finishing.{log-is}
 use Rattle.like_crew.proofs.crew.server.Server.finish.Goals as goal
 
 pub returns-clause-log : goal.returns-clause-log
-returns-clause-log g c = λ service h.
+returns-clause-log g c =
     let s : ServerView = record { worker = c.self.inside.worker; inboxes = c.self.inside.inboxes.items } in
-    let here : WorksFor service s = subst (WorksFor service) (sym c.self.view_is) h in
-    let done = c.finish.ensures.done service here.follows in
-    subst (λ (x : ServerView). IsLog service x.worker.last.share.workers x.worker.last.share.worker c.finish.result.0) c.self.view_is
-    (log-is service s c.finish.result.0 c.self.invariant.2 here done c.finish.ensures.taken c.finish.ensures.ran c.finish.ensures.last)
+    subst (λ (x : ServerView). IsLogOf x c.finish.result.0) c.self.view_is (record {
+      share = ap (λ (t : UserTable). t.share) c.finish.ensures.last;
+      log_is = λ service here.
+          log-is service s c.finish.result.0 c.self.invariant.2 here (c.finish.ensures.done service here.follows) c.finish.ensures.taken c.finish.ensures.ran c.finish.ensures.last;
+      additions = λ service here page.
+          subst (λ (ran : List Ran). likes_among service page ran ≡ additions_of s.worker.post page) (sym c.finish.ensures.ran) ((c.finish.ensures.done service here.follows).likes page);
+      above = subst (λ (taken : List Took). NoneAbove s.worker.post.last taken) (sym c.finish.ensures.taken) c.self.invariant.2.above;
+    })
