@@ -27,9 +27,10 @@ use Rattle.clap.specs.declared.builder.value_parser.ValueParser.{ValueParser}
 use Rattle.clap.specs.declared.builder.value_parser.ValueParser.TheVariants as vp
 use Rattle.clap.specs.declared.parser.matches.ValueSource.{ValueSource}
 use Rattle.clap.specs.declared.parser.matches.ValueSource.TheVariants.{DefaultValue}
-use Rattle.like_driver.specs.declared.asked.Asked.{Asked}
-use Rattle.like_driver.specs.declared.asked.Asked.TheVariants.{Run, Replay, Help}
-use Rattle.like_driver.specs.CommandLine.{Asks, Gives, GivesReplay, GivesRun, HasAll, HasNumber, IsEntered, likes, replay_command, run_command}
+use Rattle.like_driver.specs.declared.command_line.Asked.{Asked}
+use Rattle.like_driver.specs.declared.command_line.Asked.TheVariants.{Run, Replay, Help}
+use Rattle.like_driver.specs.Asked.{Asks, Gives, GivesReplay, GivesRun, HasAll, HasNumber, IsEntered}
+use Rattle.like_driver.specs.CommandLine.{likes, replay_command, run_command}
 use Rattle.like_driver.proofs.Walked.{AllFit, FirstPasses, Good, IsGood, good_defaults, good_settled, good_walk, neither, some_kind}
 
 -- ---- rows that are there

@@ -1,5 +1,6 @@
 -- What the files of a run or a replay give, as far as their bytes are known.
-use Rattle.std.specs.Prelude.{◌≡◌, ◌-◌, ◌^◌, ℕ, List, [], min, take, slice_get, Option, Some, None, IsSomeAnd, option_map, ⊤}
+use Rattle.std.specs.Prelude.{◌≡◌, ◌-◌, ◌^◌, ℕ, List, [], length, map, min, take, slice_get, Option, Some, None, IsSomeAnd, option_map}
+use Rattle.std.specs.Io.KnownBytes.{Appends}
 use Rattle.std.specs.List.{AllZip}
 use Rattle.like_records.specs.Reading.{records_of}
 use Rattle.like_requests.specs.Pages.{Page}
@@ -9,17 +10,32 @@ use Rattle.like_requests.specs.Rows.{Record}
 use Rattle.like_requests.specs.declared.pages_file.PagesFault.{PagesFault}
 use Rattle.like_requests.specs.declared.request.Request.{Request}
 use Rattle.like_requests.specs.declared.requests_file.RequestsFault.{RequestsFault}
+use Rattle.like_requests.specs.declared.setup.Setup.{Setup}
+use Rattle.like_replies.specs.Reported.{reported}
+use Rattle.like_replies.specs.Rows.{report_text}
+use Rattle.like_replies.specs.declared.report.Report.{Report}
+use Rattle.like_crew.specs.EndToEnd.{IsEndToEnd}
+use Rattle.like_crew.specs.Asked.{service_of}
 use Rattle.like_script.specs.File.{IsScriptFault, IsScriptFile}
 use Rattle.like_script.specs.declared.file.ScriptFault.{ScriptFault}
 use Rattle.like_script.specs.declared.turned.Turned.{Turned}
-use Rattle.like_driver.specs.declared.fault.DriverFault.{DriverFault}
-use Rattle.like_driver.specs.declared.fault.DriverFault.TheVariants as driver
+use Rattle.like_driver.specs.declared.command_line.Options.{Options}
+use Rattle.like_driver.specs.declared.files.fault.DriverFault.{DriverFault}
+use Rattle.like_driver.specs.declared.files.fault.DriverFault.TheVariants as driver
 
 -- the bytes of the pages file and of each request file, where they are known, and those of the script file where there is one
 pub record Inputs : Type 0 where
   pub pages : Option (List ℕ)
   pub requests : List (Option (List ℕ))
   pub script : Option (Option (List ℕ))
+
+-- what readers have left to give, by what each has
+abbrev pub inputs_of : {R : Type 0} → (R → Option (List ℕ)) → R → List R → Option R → Inputs
+inputs_of left pages requests script = record { pages = left pages; requests = map left requests; script = option_map left script }
+
+-- the settings that options ask for with these pages
+abbrev pub setup_of : Options → List Page → Setup
+setup_of o pages = record { workers = o.workers; users = o.users; stash = o.stash; turns = o.turns; pages = pages }
 
 -- a fact of the records of a file, where its bytes are known
 abbrev pub OfRecords : Option (List ℕ) → (List Record → Type 0) → Type 0
@@ -61,13 +77,31 @@ pub record IsFirstRefused (pages : List Page) (sources : List (Option (List ℕ)
   pub before : GivesPlans pages (take place sources) plans
   pub refused : IsSomeAnd (slice_get sources place) (λ source. RefusesPlan source fault)
 
--- why the request files give no plans: the first that is refused, whose number stops at the last of a u32, or want of memory
+-- why the request files give no plans: the first that is refused, whose number stops at the last of a u32
 abbrev pub RefusesPlans : List Page → List (Option (List ℕ)) → DriverFault → Type 0
-RefusesPlans pages sources (driver.Requests submitter fault) = (place : ℕ) × (submitter ≡ min place (2 ^ 32 - 1)) × IsFirstRefused pages sources place fault
-RefusesPlans pages sources driver.Memory = ⊤
-RefusesPlans pages sources (driver.Pages fault) = ⊥
-RefusesPlans pages sources (driver.Script fault) = ⊥
-RefusesPlans pages sources (driver.Settings fault) = ⊥
-RefusesPlans pages sources driver.Start = ⊥
-RefusesPlans pages sources driver.Unfinished = ⊥
-RefusesPlans pages sources driver.Write = ⊥
+RefusesPlans pages sources (driver.Requests submitter fault) =
+    (place : ℕ) × (submitter ≡ min place (2 ^ 32 - 1)) × IsFirstRefused pages sources place fault
+RefusesPlans pages sources fault = ⊥
+
+-- a pages file and request files give these values
+pub record GivesLists (file : Option (List ℕ)) (files : List (Option (List ℕ))) (pages : List Page) (plans : List (List Request)) : Type 0 where
+  pub pages_given : GivesPages file pages
+  pub plans_given : GivesPlans pages files plans
+
+-- the request files were refused, where the pages file gives these pages
+pub record PlansRefused (file : Option (List ℕ)) (files : List (Option (List ℕ))) (fault : DriverFault) : Type 0 where
+  pub pages : List Page
+  pub pages_given : GivesPages file pages
+  pub refused : RefusesPlans pages files fault
+
+-- why a pages file and request files give no values: the first fault of the pages file, or else of the request files
+abbrev pub RefusesLists : Option (List ℕ) → List (Option (List ℕ)) → DriverFault → Type 0
+RefusesLists file files (driver.Pages fault) = RefusesPages file fault
+RefusesLists file files (driver.Requests submitter fault) = PlansRefused file files (driver.Requests submitter fault)
+RefusesLists file files fault = ⊥
+
+-- the text of a report was written that is right end to end
+pub record WritesReport (setup : Setup) (plans : List (List Request)) (old new : Option (List ℕ)) : Type 0 where
+  pub report : Report
+  pub right : IsEndToEnd (service_of setup plans) setup.workers report
+  pub written : Appends old new (report_text setup.pages (reported report))

@@ -1,5 +1,8 @@
+pub mod Asked
 pub mod CommandLine
 pub mod Faults
 pub mod Inputs
-pub mod Ran
-pub mod Replayed
+pub mod Lines
+pub mod Program
+pub mod Replay
+pub mod Run

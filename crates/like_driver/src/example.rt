@@ -1,9 +1,10 @@
-ghost use Rattle.std.specs.Prelude.{◌≡◌, [], None};
+ghost use Rattle.std.specs.Prelude.{◌≡◌, ◌∷◌, [], IfErr, IfOk, None, OnOk, Some, length, map};
+ghost use Rattle.like_driver.specs.Program.{HasReplayedExample, IsExample, IsExampleFault, example_requests};
 
-use crate::fault::DriverFault;
-use crate::options::Options;
-use crate::replay::replay_files;
-use std::alloc::Global;
+use crate::command_line::Options;
+use crate::files::replay_files;
+use crate::program::fault::{ProgramFault, with_options};
+use std::alloc::{AllocError, Global};
 use std::io::Write;
 
 // The pages file of the example.
@@ -12,41 +13,41 @@ const PAGES: &str = "name,count,split\na,10,no\n";
 // Its request file.
 const REQUESTS: &str = "op,user,page\nlike,0,a\nlike,1,a\nlike,0,a\n";
 
-/// Replays the example that the program holds onto `out`, or writes the line of its fault onto `errors`.
-/// Answers the status with which the program ends.
-pub fn run<W: Write, E: Write>(alloc: Global, out: &mut W, errors: &mut E) -> u8 {
-    let mut options = Options {
+/// Replays the example that the program holds onto `out`.
+pub fn replay_example<W: Write>(alloc: Global, out: &mut W) -> Result<(), ProgramFault>
+    ensures replayed { OnOk result (HasReplayedExample (W.contents out.old) (W.contents out.new)) }
+    ensures fault { IfErr result (IsExampleFault (W.contents out.old) (W.contents out.new)) }
+{
+    let options = example_options(alloc)?;
+    let requests = request_files(alloc)?;
+    let done = replay_files(alloc, &options, PAGES.as_bytes(), requests, None, out);
+    with_options(done, options)
+}
+
+// The options of the example.
+fn example_options(alloc: Global) -> Result<Options, AllocError>
+    ensures numbers { IfOk result IsExample }
+    ensures names { IfOk result (λ options. length options.requests.items ≡ 1) }
+    ensures unscripted { IfOk result (λ options. options.script ≡ None) }
+{
+    let mut requests = Vec::new(alloc);
+    requests.push(String::from_str(alloc, "requests.csv")?)?;
+    Ok(Options {
         workers: 1,
         users: 2,
         stash: 256,
         turns: 1_000,
-        pages: String::new(alloc),
-        requests: Vec::new(alloc),
+        pages: String::from_str(alloc, "pages.csv")?,
+        requests,
         script: None,
-    };
-    match replay(alloc, &mut options, out) {
-        Ok(()) => 0,
-        Err(fault) => {
-            // Where this line can't be written either, the status alone tells of the fault.
-            let _ = fault.line(&options, errors);
-            fault.status()
-        }
-    }
+    })
 }
 
-// Names the files of the example, and replays them.
-fn replay<W: Write>(alloc: Global, options: &mut Options, out: &mut W) -> Result<(), DriverFault>
-    requires unnamed { options.old.requests.items ≡ [] }
-    requires unscripted { options.old.script ≡ None }
+// The bytes of its request files.
+fn request_files(alloc: Global) -> Result<Vec<&'static [u8]>, AllocError>
+    ensures { IfOk result (λ files. map (λ file. Some file.now) files.items ≡ Some example_requests ∷ []) }
 {
-    options.pages.push_str("pages.csv")?;
-    let name = String::from_str(alloc, "requests.csv")?;
-    if options.requests.push(name).is_err() {
-        return Err(DriverFault::Memory);
-    }
-    let mut requests = Vec::with_capacity(alloc, 1)?;
-    if requests.push(REQUESTS.as_bytes()).is_err() {
-        return Err(DriverFault::Memory);
-    }
-    replay_files(alloc, options, PAGES.as_bytes(), requests, None, out)
+    let mut requests = Vec::new(alloc);
+    requests.push(REQUESTS.as_bytes())?;
+    Ok(requests)
 }

@@ -1,121 +1,117 @@
-ghost use Rattle.std.specs.Prelude.{◌≡◌, IfErr, IfOk, OnOk, is_some, length};
-ghost use Rattle.like_driver.specs.Ran.{HasRunSome};
-ghost use Rattle.like_driver.specs.Replayed.{HasReplayed, IsBeforeOutput};
+ghost use Rattle.std.specs.Prelude.{◌≡◌, ◌≤◌, IfErr, IfOk, MatchResult, None, OnOk, is_some, length, map, option_map};
+ghost use Rattle.like_script.specs.Limits.{max_entries};
+ghost use Rattle.like_driver.specs.Faults.{IsBeforeOutput};
+ghost use Rattle.like_driver.specs.Inputs.{GivesLists, GivesScript, RefusesLists, RefusesScript, inputs_of, setup_of};
+ghost use Rattle.like_driver.specs.Replay.{HasReplayed, IsReplayFault};
+ghost use Rattle.like_driver.specs.Run.{HasRun, IsRunFault};
 
-use crate::fault::DriverFault;
-use crate::options::Options;
-use crate::replay::replay_files;
-use crate::run::run_files;
-use like_requests::{PagesFault, RequestsFault};
-use like_run::ScriptFault;
+pub mod fault;
+pub mod line;
+pub mod opened;
+pub mod plans;
+
+use crate::command_line::Options;
+use crate::files::fault::DriverFault;
+use crate::files::plans::read_plans;
+use like_replies::write_report;
+use like_requests::{Pages, Request, Setup, read_pages};
+use like_roles::NoGate;
+use like_run::{ScriptFault, Turned, read_script, replay, run};
 use std::alloc::Global;
-use std::fs;
-use std::fs::Files;
 use std::io::{Read, Write};
 use std::sync::Wait;
 use std::thread::Threads;
 
-/// The files of a run or a replay, opened and not yet read.
-#[derive(Drop)]
-pub struct Opened<R> {
-    pub pages: R,
-    pub requests: Vec<R>,
-    pub script: Option<R>,
-}
-
-/// Opens the pages file, the request files in their order and the script file. The first that can't be opened ends it,
-/// with the fault of a read of it that failed.
-pub fn open_files<F: Files>(
-    files: &F,
+/// Reads the pages file and the request files in their order, makes the run that they ask for, on threads, and writes
+/// its report. After `Write` and `Memory` nothing is said of how much was written.
+pub fn run_files<T: Threads + Wait + Sync, R: Read + Drop, W: Write>(
+    rt: &T,
     alloc: Global,
     options: &Options,
-) -> Result<Opened<F::File>, DriverFault>
-where
-    F::File: Drop,
-    ensures requests { IfOk result (λ opened. length opened.requests.items ≡ length options.now.requests.items) }
-    ensures script { IfOk result (λ opened. is_some opened.script ≡ is_some options.now.script) }
+    pages: R,
+    requests: Vec<R>,
+    out: &mut W,
+) -> Result<(), DriverFault>
+    requires { length requests.items ≡ length options.now.requests.items }
+    ensures run { let inputs = inputs_of R.remaining pages requests.items None in
+        OnOk result (HasRun options.now inputs (W.contents out.old) (W.contents out.new)) }
+    ensures fault { let inputs = inputs_of R.remaining pages requests.items None in
+        IfErr result (IsRunFault options.now inputs) }
+    ensures untouched { IfErr result (λ fault. IsBeforeOutput fault → out.new ≡ out.old) }
 {
-    let Ok(pages) = fs::open(files, options.pages.as_str()) else {
-        return Err(DriverFault::Pages(PagesFault::Read));
-    };
-    let requests = open_requests(files, alloc, &options.requests)?;
-    let script = match &options.script {
-        None => None,
-        Some(name) => match fs::open(files, name.as_str()) {
-            Ok(file) => Some(file),
-            Err(_) => return Err(DriverFault::Script(ScriptFault::Read)),
-        },
-    };
-    Ok(Opened {
-        pages,
-        requests,
-        script,
-    })
+    let (pages, plans) = read_lists(alloc, pages, requests)?;
+    let setup = options.setup(pages);
+    let report = run(rt, alloc, &setup, plans, &NoGate)?;
+    write_report(alloc, &report, &setup.pages, out)?;
+    Ok(())
 }
 
-// Opens the request files in their order.
-fn open_requests<F: Files>(
-    files: &F,
+/// Reads the pages file, the request files in their order and the script file, replays the run that they ask for, and
+/// writes its report. Where there is no script, no turn is taken before the rounds. After `Write` and `Memory` nothing
+/// is said of how much was written.
+pub fn replay_files<R: Read + Drop, W: Write>(
     alloc: Global,
-    names: &[String],
-) -> Result<Vec<F::File>, DriverFault>
-where
-    F::File: Drop,
-    ensures { IfOk result (λ opened. length opened.items ≡ length names.now) }
+    options: &Options,
+    pages: R,
+    requests: Vec<R>,
+    script: Option<R>,
+    out: &mut W,
+) -> Result<(), DriverFault>
+    requires request_names { length requests.items ≡ length options.now.requests.items }
+    requires script_name { is_some script ≡ is_some options.now.script }
+    ensures replayed { let inputs = inputs_of R.remaining pages requests.items script in
+        OnOk result (HasReplayed options.now inputs (W.contents out.old) (W.contents out.new)) }
+    ensures fault { let inputs = inputs_of R.remaining pages requests.items script in
+        IfErr result (IsReplayFault options.now inputs) }
+    ensures untouched { IfErr result (λ fault. IsBeforeOutput fault → out.new ≡ out.old) }
 {
-    let mut opened = Vec::with_capacity(alloc, names.len())?;
-    for name in names {
-        let Ok(file) = fs::open(files, name.as_str()) else {
-            return Err(DriverFault::Requests {
-                submitter: opened.len().min(u32::MAX as usize) as u32,
-                fault: RequestsFault::Read,
-            });
-        };
-        if opened.push(file).is_err() {
-            return Err(DriverFault::Memory);
+    let (pages, plans) = read_lists(alloc, pages, requests)?;
+    let script = read_turns(alloc, script)?;
+    let setup = options.setup(pages);
+    let report = replay(alloc, &setup, plans, &script)?;
+    write_report(alloc, &report, &setup.pages, out)?;
+    Ok(())
+}
+
+impl Options {
+    // The settings that they ask for, with these pages.
+    fn setup(&self, pages: Pages) -> Setup
+        ensures { result ≡ setup_of self.now pages }
+    {
+        Setup {
+            workers: self.workers,
+            users: self.users,
+            stash: self.stash,
+            turns: self.turns,
+            pages,
         }
     }
-    Ok(opened)
 }
 
-/// Opens the files that the options name, and makes the run that they ask for, on threads, onto `out`.
-/// After `Write` and `Memory` nothing is said of how much was written.
-pub fn run_named<R: Files + Threads + Wait + Sync, W: Write>(
-    rt: &R,
+// The pages, and the plans of the submitters.
+fn read_lists<R: Read + Drop>(
     alloc: Global,
-    options: &Options,
-    out: &mut W,
-) -> Result<(), DriverFault>
-where
-    R::File: Read + Drop,
-    ensures run { OnOk result (HasRunSome options.now (W.contents out.old) (W.contents out.new)) }
-    ensures untouched { IfErr result (λ fault. IsBeforeOutput fault → out.new ≡ out.old) }
+    pages: R,
+    requests: Vec<R>,
+) -> Result<(Pages, Vec<Vec<Request>>), DriverFault>
+    ensures { let file = R.remaining pages in let files = map R.remaining requests.items in MatchResult result
+        (λ lists. GivesLists file files lists.0 (map (λ plan. plan.items) lists.1.items))
+        (RefusesLists file files) }
 {
-    let Opened {
-        pages,
-        requests,
-        ..
-    } = open_files(rt, alloc, options)?;
-    run_files(rt, alloc, options, pages, requests, out)
+    let pages = read_pages(alloc, pages)?;
+    let plans = read_plans(alloc, &pages, requests)?;
+    Ok((pages, plans))
 }
 
-/// Opens the files that the options name, and replays them onto `out`.
-/// After `Write` and `Memory` nothing is said of how much was written.
-pub fn replay_named<F: Files, W: Write>(
-    files: &F,
-    alloc: Global,
-    options: &Options,
-    out: &mut W,
-) -> Result<(), DriverFault>
-where
-    F::File: Read + Drop,
-    ensures replayed { OnOk result (HasReplayed options.now (W.contents out.old) (W.contents out.new)) }
-    ensures untouched { IfErr result (λ fault. IsBeforeOutput fault → out.new ≡ out.old) }
+// The entries of the script, and none where there is no script.
+fn read_turns<R: Read + Drop>(alloc: Global, script: Option<R>) -> Result<Vec<Turned>, ScriptFault>
+    ensures few { IfOk result (λ entries. length entries.items ≤ max_entries) }
+    ensures given { MatchResult result
+        (λ entries. GivesScript (option_map R.remaining script) entries.items)
+        (RefusesScript (option_map R.remaining script)) }
 {
-    let Opened {
-        pages,
-        requests,
-        script,
-    } = open_files(files, alloc, options)?;
-    replay_files(alloc, options, pages, requests, script, out)
+    match script {
+        None => Ok(Vec::new(alloc)),
+        Some(reader) => read_script(alloc, reader),
+    }
 }

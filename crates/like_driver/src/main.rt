@@ -1,24 +1,16 @@
 //! The like service's program.
 #![tactic(auto)]
 
-pub mod asked;
 pub mod command_line;
 pub mod example;
-pub mod fault;
 pub mod files;
-pub mod help;
-pub mod options;
-pub mod parse_fault;
-pub mod parsing;
 pub mod program;
-pub mod reading;
-pub mod replay;
-pub mod run;
 #[cfg(test)]
 mod tests;
 
-use crate::parse_fault::ParseFault;
-use crate::program::serve_words;
+use crate::command_line::fault::ParseFault;
+use crate::program::fault::ProgramFault;
+use crate::program::{serve_words, told};
 use std::alloc::Global;
 use std::env;
 use std::io::ErrorKind;
@@ -41,11 +33,7 @@ fn main(rt: HostRuntime) -> ExitCode {
     let (mut out, mut errors) = (rt.stdout(), rt.stderr());
     let status = match words(&rt, alloc) {
         Ok(words) => serve_words(&rt, alloc, words.as_slice(), &mut out, &mut errors),
-        Err(fault) => {
-            // Where this can't be written, the status alone tells of the fault.
-            let _ = fault.line(&mut errors);
-            fault.status()
-        }
+        Err(fault) => told(Err(ProgramFault::Words(fault)), &mut errors),
     };
     ExitCode::from(status)
 }

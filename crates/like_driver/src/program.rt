@@ -1,9 +1,19 @@
-use crate::asked::Asked;
-use crate::example;
-use crate::fault::{DriverFault, WRITE_FAILED};
-use crate::files::{replay_named, run_named};
-use crate::options::Options;
-use crate::parsing::parse;
+ghost use Rattle.std.specs.Prelude.{◌≡◌, IfErr, OnOk, map, string_bytes};
+ghost use Rattle.std.specs.Io.KnownBytes.{Appends};
+ghost use Rattle.like_driver.specs.Faults.{IsBeforeOutput, status_after};
+ghost use Rattle.like_driver.specs.Program.{Ends, HasServed, IsServeFault};
+ghost use Rattle.like_driver.specs.Replay.{HasReplayedSome};
+ghost use Rattle.like_driver.specs.Run.{HasRunSome};
+ghost use Rattle.like_driver.specs.declared.program.fault.ProgramFault.TheVariants as program;
+
+pub mod fault;
+
+use crate::command_line::{Asked, Options, parse};
+use crate::example::replay_example;
+use crate::files::fault::DriverFault;
+use crate::files::opened::{Opened, open_files};
+use crate::files::{replay_files, run_files};
+use crate::program::fault::{ProgramFault, with_options};
 use std::alloc::Global;
 use std::fs::Files;
 use std::io::{Read, Write};
@@ -23,20 +33,18 @@ pub fn serve_words<R: Files + Threads + Wait + Sync, W: Write, E: Write>(
 ) -> u8
 where
     R::File: Read + Drop,
+    ensures { Ends (map string_bytes words.now) (W.contents out.old) (W.contents out.new) result }
 {
-    if words.is_empty() {
-        return example::run(alloc, out, errors);
-    }
-    match parse(alloc, words) {
-        Ok(Asked::Run(options)) => {
-            let done = run_named(rt, alloc, &options, out);
-            ended(done, &options, errors)
-        }
-        Ok(Asked::Replay(options)) => {
-            let done = replay_named(rt, alloc, &options, out);
-            ended(done, &options, errors)
-        }
-        Ok(Asked::Help(text)) => show(&text, out, errors),
+    let done = serve(rt, alloc, words, out);
+    told(done, errors)
+}
+
+/// Tells a fault, and answers the status with which the program ends.
+pub fn told<E: Write>(done: Result<(), ProgramFault>, errors: &mut E) -> u8
+    ensures { result ≡ status_after done }
+{
+    match done {
+        Ok(()) => 0,
         Err(fault) => {
             // Where this can't be written either, the status alone tells of the fault.
             let _ = fault.line(errors);
@@ -45,22 +53,84 @@ where
     }
 }
 
-// The status of a run or a replay; its fault is told.
-fn ended<E: Write>(done: Result<(), DriverFault>, options: &Options, errors: &mut E) -> u8 {
-    match done {
-        Ok(()) => 0,
-        Err(fault) => {
-            let _ = fault.line(options, errors);
-            fault.status()
+// Does what the words ask for.
+fn serve<R: Files + Threads + Wait + Sync, W: Write>(
+    rt: &R,
+    alloc: Global,
+    words: &[String],
+    out: &mut W,
+) -> Result<(), ProgramFault>
+where
+    R::File: Read + Drop,
+    ensures served { OnOk result (HasServed (map string_bytes words.now) (W.contents out.old) (W.contents out.new)) }
+    ensures fault { IfErr result
+        (IsServeFault (map string_bytes words.now) (W.contents out.old) (W.contents out.new)) }
+{
+    if words.is_empty() {
+        return replay_example(alloc, out);
+    }
+    match parse(alloc, words)? {
+        Asked::Run(options) => {
+            let done = run_named(rt, alloc, &options, out);
+            with_options(done, options)
         }
+        Asked::Replay(options) => {
+            let done = replay_named(rt, alloc, &options, out);
+            with_options(done, options)
+        }
+        Asked::Help(text) => show(&text, out),
     }
 }
 
-// Prints help, or tells that it can't be written.
-fn show<W: Write, E: Write>(text: &str, out: &mut W, errors: &mut E) -> u8 {
+// Prints help.
+fn show<W: Write>(text: &str, out: &mut W) -> Result<(), ProgramFault>
+    ensures shown { OnOk result (Appends (W.contents out.old) (W.contents out.new) text.now) }
+    ensures fault { IfErr result (λ fault. fault ≡ program.Output) }
+{
     if out.write_all(text.as_bytes()).is_ok() && out.flush().is_ok() {
-        return 0;
+        return Ok(());
     }
-    let _ = errors.write_all(WRITE_FAILED.as_bytes());
-    DriverFault::Write.status()
+    Err(ProgramFault::Output)
+}
+
+/// Opens the files that the options name, and makes the run that they ask for, on threads, onto `out`.
+/// After `Write` and `Memory` nothing is said of how much was written.
+pub fn run_named<R: Files + Threads + Wait + Sync, W: Write>(
+    rt: &R,
+    alloc: Global,
+    options: &Options,
+    out: &mut W,
+) -> Result<(), DriverFault>
+where
+    R::File: Read + Drop,
+    ensures run { OnOk result (HasRunSome options.now (W.contents out.old) (W.contents out.new)) }
+    ensures untouched { IfErr result (λ fault. IsBeforeOutput fault → out.new ≡ out.old) }
+{
+    let Opened {
+        pages,
+        requests,
+        ..
+    } = open_files(rt, alloc, options)?;
+    run_files(rt, alloc, options, pages, requests, out)
+}
+
+/// Opens the files that the options name, and replays them onto `out`.
+/// After `Write` and `Memory` nothing is said of how much was written.
+pub fn replay_named<F: Files, W: Write>(
+    files: &F,
+    alloc: Global,
+    options: &Options,
+    out: &mut W,
+) -> Result<(), DriverFault>
+where
+    F::File: Read + Drop,
+    ensures replayed { OnOk result (HasReplayedSome options.now (W.contents out.old) (W.contents out.new)) }
+    ensures untouched { IfErr result (λ fault. IsBeforeOutput fault → out.new ≡ out.old) }
+{
+    let Opened {
+        pages,
+        requests,
+        script,
+    } = open_files(files, alloc, options)?;
+    replay_files(alloc, options, pages, requests, script, out)
 }

@@ -1,5 +1,7 @@
+mod devices;
 mod examples;
 mod faults;
 mod parsing;
 mod program;
 mod refusals;
+mod runs;

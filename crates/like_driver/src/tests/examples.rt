@@ -1,9 +1,9 @@
 //! The worked examples, by `replay_files`, from the texts of the files to the text of the report.
 ghost use Rattle.std.specs.Prelude.{◌≡◌, IfOk, is_some, length, None};
 
-use crate::fault::DriverFault;
-use crate::options::Options;
-use crate::replay::replay_files;
+use crate::command_line::Options;
+use crate::files::fault::DriverFault;
+use crate::files::replay_files;
 use std::alloc::{AllocError, Global};
 use std::process::Abort;
 
@@ -50,6 +50,10 @@ const LONE: Case = Case {
     script: None,
 };
 
+// A script that brings a worker with two requests through a split phase into the next.
+const LOOK_AND_MERGE: &str = "turn,index\nopen,0\nopen,0\ncoordinator,0\nworker,0\ncoordinator,0\n\
+    worker,0\nworker,0\ncoordinator,0\nworker,0\ncoordinator,0\nworker,0\n";
+
 // The bytes of texts.
 fn bytes(alloc: Global, texts: &'static [&'static str]) -> Result<Vec<&'static [u8]>, AllocError>
     ensures { IfOk result (λ files. length files.items ≡ length texts.now) }
@@ -80,8 +84,9 @@ fn options_of(alloc: Global, case: Case) -> Result<Options, AllocError>
 
 // What a replay writes.
 fn replayed(alloc: Global, case: Case) -> Result<Vec<u8>, DriverFault> {
-    let options = options_of(alloc, case)?;
-    let files = bytes(alloc, case.requests)?;
+    let memory = |_| DriverFault::Memory;
+    let options = options_of(alloc, case).map_err(memory)?;
+    let files = bytes(alloc, case.requests).map_err(memory)?;
     let script = match case.script {
         None => None,
         Some(text) => Some(text.as_bytes()),
@@ -211,10 +216,7 @@ fn split_and_stash(rt: HostRuntime) {
         turns: 0,
         pages: "name,count,split\na,10,yes\n",
         requests: &["op,user,page\nlike,0,a\nlook,0,a\n"],
-        script: Some(
-            "turn,index\nopen,0\nopen,0\ncoordinator,0\nworker,0\ncoordinator,0\nworker,0\n\
-            worker,0\ncoordinator,0\nworker,0\ncoordinator,0\nworker,0\n",
-        ),
+        script: Some(LOOK_AND_MERGE),
         ..LONE
     };
     assert_report(
@@ -257,10 +259,7 @@ fn stash_then_like(rt: HostRuntime) {
         turns: 0,
         pages: "name,count,split\na,5,yes\nb,0,no\n",
         requests: &["op,user,page\nlook,0,a\nlike,0,b\n"],
-        script: Some(
-            "turn,index\nopen,0\nopen,0\ncoordinator,0\nworker,0\ncoordinator,0\nworker,0\n\
-            worker,0\ncoordinator,0\nworker,0\ncoordinator,0\nworker,0\n",
-        ),
+        script: Some(LOOK_AND_MERGE),
         ..LONE
     };
     assert_report(
@@ -358,4 +357,74 @@ fn idle_workers(rt: HostRuntime) {
         case,
         "reply,0,1,1,liked,,\npage,0,,,,a,1\nuser,0,,,,a,\n",
     );
+}
+
+// A like behind two looks that wait: where they fill the stash it is taken after the merge, else before it.
+const BEHIND_LOOKS: Case = Case {
+    turns: 0,
+    pages: "name,count,split\na,0,yes\nb,0,no\n",
+    requests: &["op,user,page\nlook,0,a\nlook,0,a\nlike,0,b\n"],
+    script: Some(
+        "turn,index\nopen,0\nopen,0\nopen,0\ncoordinator,0\nworker,0\ncoordinator,0\nworker,0\n\
+        worker,0\nworker,0\ncoordinator,0\nworker,0\ncoordinator,0\nworker,0\nworker,0\nworker,0\n",
+    ),
+    ..LONE
+};
+
+#[test]
+fn filled_stash(rt: HostRuntime) {
+    let case = Case {
+        stash: 2,
+        ..BEHIND_LOOKS
+    };
+    assert_report(
+        &rt,
+        rt.alloc(),
+        case,
+        "reply,0,1,2,seen,,0\nreply,0,2,2,seen,,0\nreply,0,3,2,liked,,\npage,0,,,,a,0\n\
+        page,1,,,,b,1\nuser,0,,,,b,\n",
+    );
+}
+
+#[test]
+fn stash_with_room(rt: HostRuntime) {
+    let case = Case {
+        stash: 3,
+        ..BEHIND_LOOKS
+    };
+    assert_report(
+        &rt,
+        rt.alloc(),
+        case,
+        "reply,0,1,2,seen,b,0\nreply,0,2,2,seen,b,0\nreply,0,3,1,liked,,\npage,0,,,,a,0\n\
+        page,1,,,,b,1\nuser,0,,,,b,\n",
+    );
+}
+
+// Three likes, in phases that the number of turns decides.
+#[test]
+fn counts_turns(rt: HostRuntime) {
+    for (turns, replies) in [
+        (
+            0,
+            "reply,0,1,1,liked,,\nreply,0,2,2,liked,,\nreply,0,3,3,liked,,\n",
+        ),
+        (
+            1,
+            "reply,0,1,0,liked,,\nreply,0,2,1,liked,,\nreply,0,3,1,liked,,\n",
+        ),
+        (
+            2,
+            "reply,0,1,0,liked,,\nreply,0,2,0,liked,,\nreply,0,3,1,liked,,\n",
+        ),
+    ] {
+        let case = Case {
+            turns,
+            pages: "name,count,split\na,0,no\n",
+            requests: &["op,user,page\nlike,0,a\nlike,0,a\nlike,0,a\n"],
+            ..LONE
+        };
+        let rows = format!(in rt.alloc(); "{replies}page,0,,,,a,3\nuser,0,,,,a,\n");
+        assert_report(&rt, rt.alloc(), case, rows.expect(&rt, "memory").as_str());
+    }
 }

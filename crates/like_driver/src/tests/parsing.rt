@@ -1,8 +1,6 @@
 //! What words ask for, by `parse`.
-use crate::asked::Asked;
-use crate::options::Options;
-use crate::parse_fault::ParseFault;
-use crate::parsing::parse;
+use crate::command_line::fault::ParseFault;
+use crate::command_line::{Asked, Options, parse};
 use std::alloc::{AllocError, Global};
 use std::test::Fail;
 

@@ -1,4 +1,5 @@
 //! The program on files, by `serve_words`.
+use super::devices::Full;
 use super::examples::LATE_WORKER;
 use crate::program::serve_words;
 use std::alloc::{AllocError, Global};
@@ -95,34 +96,36 @@ fn runs_files(rt: HostRuntime) -> Result<(), Fail> {
     Ok(())
 }
 
+// Words that name a file that can't be opened or read, and the line of the first.
+const NOT_THERE: [(&str, &str); 6] = [
+    (
+        "replay none-p.csv none-r.csv",
+        "likes: none-p.csv: read failed\n",
+    ),
+    (
+        "run opens-bad.csv none-r.csv",
+        "likes: none-r.csv: read failed\n",
+    ),
+    (
+        "replay opens-bad.csv opens-bad.csv none-r.csv --script none-s.csv",
+        "likes: none-r.csv: read failed\n",
+    ),
+    (
+        "replay opens-bad.csv opens-bad.csv --script none-s.csv",
+        "likes: none-s.csv: read failed\n",
+    ),
+    (
+        "replay opens-bad.csv opens-bad.csv",
+        "likes: opens-bad.csv: the header is not name,count,split\n",
+    ),
+    ("replay . opens-bad.csv", "likes: .: read failed\n"),
+];
+
 // All files are opened before one is read, and the first that can't be opened is told.
 #[test]
 fn opens_in_order(rt: HostRuntime) -> Result<(), Fail> {
     fs::write(&rt, "opens-bad.csv", "no,header\n")?;
-    let cases = [
-        (
-            "replay none-p.csv none-r.csv",
-            "likes: none-p.csv: read failed\n",
-        ),
-        (
-            "run opens-bad.csv none-r.csv",
-            "likes: none-r.csv: read failed\n",
-        ),
-        (
-            "replay opens-bad.csv opens-bad.csv none-r.csv --script none-s.csv",
-            "likes: none-r.csv: read failed\n",
-        ),
-        (
-            "replay opens-bad.csv opens-bad.csv --script none-s.csv",
-            "likes: none-s.csv: read failed\n",
-        ),
-        (
-            "replay opens-bad.csv opens-bad.csv",
-            "likes: opens-bad.csv: the header is not name,count,split\n",
-        ),
-        ("replay . opens-bad.csv", "likes: .: read failed\n"),
-    ];
-    for (words, line) in cases {
+    for (words, line) in NOT_THERE {
         let (status, out, errors) = served(&rt, rt.alloc(), words)?;
         assert_eq!(rt; errors.as_slice(), line.as_bytes());
         assert_eq!(rt; status, 3);
@@ -151,5 +154,23 @@ fn tells_wrong_words(rt: HostRuntime) -> Result<(), Fail> {
             .as_slice()
             .starts_with(b"error: unrecognized subcommand 'walk'")
     );
+    Ok(())
+}
+
+// Help whose output fails at its first write, or where it is flushed, ends as a report does.
+#[test]
+fn tells_that_help_failed(rt: HostRuntime) -> Result<(), Fail> {
+    let words = texts(rt.alloc(), "--help")?;
+    for (writes_left, flushes) in [(0, true), (1_000, false)] {
+        let mut out = Full {
+            writes_left,
+            flushes,
+        };
+        let mut errors = Vec::new(rt.alloc());
+        let status = serve_words(&rt, rt.alloc(), words.as_slice(), &mut out, &mut errors);
+        assert_eq!(rt; status, 3);
+        let want = "likes: standard output: write failed\n";
+        assert_eq!(rt; errors.as_slice(), want.as_bytes());
+    }
     Ok(())
 }

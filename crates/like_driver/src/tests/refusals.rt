@@ -1,15 +1,14 @@
 //! What `replay_files` refuses, and that nothing is written then.
 ghost use Rattle.std.specs.Prelude.{◌≡◌, is_some, length};
 
+use super::devices::{Full, Shaky};
 use super::examples::options;
-use crate::fault::DriverFault;
-use crate::options::Options;
-use crate::replay::replay_files;
+use crate::command_line::Options;
+use crate::files::fault::DriverFault;
+use crate::files::replay_files;
 use like_requests::{PagesFault, RequestsFault, SettingsFault};
 use like_run::ScriptFault;
 use std::alloc::{AllocError, Global};
-use std::io;
-use std::io::{ErrorKind, Read, Write};
 use std::test::Fail;
 
 const PAGES: &str = "name,count,split\na,10,no\n";
@@ -24,47 +23,9 @@ fn of_requests(fault: RequestsFault) -> DriverFault {
     }
 }
 
-// A reader of one byte a read, which fails once it was read so many times.
-#[derive(Drop)]
-struct Shaky {
-    text: &'static [u8],
-    reads_left: usize,
-}
-
-impl Read for Shaky {
-    fn read(&mut self, buf: &mut [u8]) -> io::Result<usize> {
-        if self.reads_left == 0 {
-            return Err(io::Error::from(ErrorKind::Other));
-        }
-        self.reads_left -= 1;
-        let most = buf.len().min(1);
-        self.text.read(&mut buf[..most])
-    }
-}
-
-/// A writer of up to ten bytes a write, which fails once it was written to so many times.
-#[derive(Drop)]
-pub struct Full {
-    pub writes_left: usize,
-}
-
-impl Write for Full {
-    fn write(&mut self, buf: &[u8]) -> io::Result<usize> {
-        if self.writes_left == 0 {
-            return Err(io::Error::from(ErrorKind::Other));
-        }
-        self.writes_left -= 1;
-        Ok(buf.len().min(10))
-    }
-
-    fn flush(&mut self) -> io::Result<()> {
-        Ok(())
-    }
-}
-
 // The plain example's files, which fail after so many reads.
 fn replay_shaky(alloc: Global, pages: usize, requests: usize) -> Result<Vec<u8>, DriverFault> {
-    let options = options(alloc, 2, 1)?;
+    let options = options(alloc, 2, 1).map_err(|_| DriverFault::Memory)?;
     let pages = Shaky {
         text: PAGES.as_bytes(),
         reads_left: pages,
@@ -73,7 +34,7 @@ fn replay_shaky(alloc: Global, pages: usize, requests: usize) -> Result<Vec<u8>,
         text: REQUESTS.as_bytes(),
         reads_left: requests,
     };
-    let mut files = Vec::with_capacity(alloc, 1)?;
+    let mut files = Vec::new(alloc);
     if files.push(file).is_err() {
         return Err(DriverFault::Memory);
     }
@@ -100,28 +61,34 @@ fn failing_reads(rt: HostRuntime) {
     assert!(rt; replay_shaky(rt.alloc(), usize::MAX, usize::MAX).is_ok());
 }
 
-// The plain example onto a writer that fails after so many writes.
-fn replay_full(alloc: Global, writes: usize) -> Result<(), DriverFault> {
-    let options = options(alloc, 2, 1)?;
-    let mut files = Vec::with_capacity(alloc, 1)?;
+// The plain example onto a writer.
+fn replay_onto(alloc: Global, mut out: Full) -> Result<(), DriverFault> {
+    let options = options(alloc, 2, 1).map_err(|_| DriverFault::Memory)?;
+    let mut files = Vec::new(alloc);
     if files.push(REQUESTS.as_bytes()).is_err() {
         return Err(DriverFault::Memory);
     }
-    let mut out = Full {
-        writes_left: writes,
-    };
     replay_files(alloc, &options, PAGES.as_bytes(), files, None, &mut out)
 }
 
-// The report has 139 bytes, which take 14 writes of up to ten.
+// The report has 139 bytes, which take 14 writes of up to ten. Then it is flushed.
 #[test]
 fn failing_writes(rt: HostRuntime) {
-    for writes in 0..14 {
-        let fault = replay_full(rt.alloc(), writes).err();
-        assert_eq!(rt; fault, Some(DriverFault::Write), "after {writes} writes");
+    for writes_left in 0..14 {
+        let out = Full {
+            writes_left,
+            flushes: true,
+        };
+        let done = replay_onto(rt.alloc(), out);
+        assert_eq!(rt; done, Err(DriverFault::Write), "after {writes_left} writes");
     }
-    assert_eq!(rt; replay_full(rt.alloc(), 14), Ok(()));
-    assert_eq!(rt; DriverFault::Write.status(), 3);
+    for (flushes, want) in [(true, Ok(())), (false, Err(DriverFault::Write))] {
+        let out = Full {
+            writes_left: 14,
+            flushes,
+        };
+        assert_eq!(rt; replay_onto(rt.alloc(), out), want);
+    }
 }
 
 // The fault of a replay with these options, as many request files and a script where they name one, and whether nothing
@@ -133,7 +100,7 @@ fn fault_of(
     requests: &str,
     script: &str,
 ) -> Result<(Option<DriverFault>, bool), AllocError> {
-    let mut files = Vec::with_capacity(alloc, options.requests.len())?;
+    let mut files = Vec::new(alloc);
     for _ in &options.requests {
         files.push(requests.as_bytes())?;
     }
@@ -236,57 +203,47 @@ fn faults_in_order(rt: HostRuntime) -> Result<(), Fail> {
     Ok(())
 }
 
+// Pages files that are refused.
+const WRONG_PAGES: [(&str, PagesFault); 7] = [
+    (
+        "name,count,split\na,1,no\na,2,no\n",
+        PagesFault::Duplicate { row: 2 },
+    ),
+    (
+        "name,count,split\na,1000000000000000001,no\n",
+        PagesFault::Count { row: 1 },
+    ),
+    ("name,count,split\na,1\n", PagesFault::Fields { row: 1 }),
+    (
+        "name,count,split\na,1,maybe\n",
+        PagesFault::Split { row: 1 },
+    ),
+    ("name,count,split\n,1,no\n", PagesFault::Name { row: 1 }),
+    ("name,count,split\n", PagesFault::Empty),
+    ("", PagesFault::Header),
+];
+
+// Request files that are refused.
+const WRONG_REQUESTS: [(&str, RequestsFault); 3] = [
+    ("op,user,page\npush,0,a\n", RequestsFault::Op { row: 1 }),
+    (
+        "op,user,page\nlike,4294967296,a\n",
+        RequestsFault::User { row: 1 },
+    ),
+    ("", RequestsFault::Header),
+];
+
 #[test]
 fn reader_faults(rt: HostRuntime) -> Result<(), Fail> {
     let options = options(rt.alloc(), 2, 1)?;
-    let cases = [
-        (
-            "name,count,split\na,1,no\na,2,no\n",
-            "",
-            DriverFault::Pages(PagesFault::Duplicate { row: 2 }),
-        ),
-        (
-            "name,count,split\na,1000000000000000001,no\n",
-            "",
-            DriverFault::Pages(PagesFault::Count { row: 1 }),
-        ),
-        (
-            "name,count,split\na,1\n",
-            "",
-            DriverFault::Pages(PagesFault::Fields { row: 1 }),
-        ),
-        (
-            "name,count,split\na,1,maybe\n",
-            "",
-            DriverFault::Pages(PagesFault::Split { row: 1 }),
-        ),
-        (
-            "name,count,split\n,1,no\n",
-            "",
-            DriverFault::Pages(PagesFault::Name { row: 1 }),
-        ),
-        (
-            "name,count,split\n",
-            "",
-            DriverFault::Pages(PagesFault::Empty),
-        ),
-        ("", "", DriverFault::Pages(PagesFault::Header)),
-        (
-            PAGES,
-            "op,user,page\npush,0,a\n",
-            of_requests(RequestsFault::Op { row: 1 }),
-        ),
-        (
-            PAGES,
-            "op,user,page\nlike,4294967296,a\n",
-            of_requests(RequestsFault::User { row: 1 }),
-        ),
-        (PAGES, "", of_requests(RequestsFault::Header)),
-    ];
-    for (pages, requests, want) in cases {
-        let (fault, is_untouched) = fault_of(rt.alloc(), &options, pages, requests, "")?;
-        assert_eq!(rt; fault, Some(want));
-        assert_eq!(rt; want.status(), 3);
+    for (pages, fault) in WRONG_PAGES {
+        let (told, is_untouched) = fault_of(rt.alloc(), &options, pages, "", "")?;
+        assert_eq!(rt; told, Some(DriverFault::Pages(fault)));
+        assert!(rt; is_untouched);
+    }
+    for (requests, fault) in WRONG_REQUESTS {
+        let (told, is_untouched) = fault_of(rt.alloc(), &options, PAGES, requests, "")?;
+        assert_eq!(rt; told, Some(of_requests(fault)));
         assert!(rt; is_untouched);
     }
     Ok(())

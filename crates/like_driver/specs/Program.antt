@@ -1,0 +1,72 @@
+-- What the program has done for its words, and the status with which it ends.
+use Rattle.std.specs.Prelude.{◌≡◌, ◌⊎◌, ℕ, List, [], ◌∷◌, Option, None, Some, codes, string_bytes}
+use Rattle.std.specs.Io.KnownBytes.{Appends}
+use Rattle.clap.specs.Kinds.{IsAmong}
+use Rattle.clap.specs.Words.{Text, fault_of}
+use Rattle.clap.specs.declared.error.kind.ErrorKind.TheVariants.{DisplayHelp}
+use Rattle.like_driver.specs.Asked.{Asks, IsParseFault}
+use Rattle.like_driver.specs.CommandLine.{likes}
+use Rattle.like_driver.specs.Faults.{IsBeforeOutput, program_status}
+use Rattle.like_driver.specs.Inputs.{Inputs}
+use Rattle.like_driver.specs.Replay.{HasReplayed, HasReplayedSome}
+use Rattle.like_driver.specs.Run.{HasRunSome}
+use Rattle.like_driver.specs.declared.command_line.Asked.{Asked}
+use Rattle.like_driver.specs.declared.command_line.Asked.TheVariants.{Run, Replay, Help}
+use Rattle.like_driver.specs.declared.command_line.Options.{Options}
+use Rattle.like_driver.specs.declared.program.fault.ProgramFault.{ProgramFault}
+use Rattle.like_driver.specs.declared.program.fault.ProgramFault.TheVariants as program
+
+-- the bytes of the example's pages file, and of its request file
+abbrev pub example_pages : List ℕ
+example_pages = codes "name,count,split\na,10,no\n"
+
+abbrev pub example_requests : List ℕ
+example_requests = codes "op,user,page\nlike,0,a\nlike,1,a\nlike,0,a\n"
+
+-- options have the numbers of the example
+pub record IsExample (o : Options) : Type 0 where
+  pub workers : o.workers ≡ 1
+  pub users : o.users ≡ 2
+  pub stash : o.stash ≡ 256
+  pub turns : o.turns ≡ 1000
+
+-- the example was replayed
+pub record HasReplayedExample (old new : Option (List ℕ)) : Type 0 where
+  pub options : Options
+  pub numbers : IsExample options
+  pub replayed : HasReplayed options (record { pages = Some example_pages; requests = Some example_requests ∷ []; script = None }) old new
+
+-- what was asked for was done
+abbrev pub HasDone : Asked → Option (List ℕ) → Option (List ℕ) → Type 0
+HasDone (Run options) old new = HasRunSome options old new
+HasDone (Replay options) old new = HasReplayedSome options old new
+HasDone (Help text) old new = Appends old new (string_bytes text)
+
+-- the program has done what its words ask for: without any word it has replayed its example
+abbrev pub HasServed : List Text → Option (List ℕ) → Option (List ℕ) → Type 0
+HasServed [] old new = HasReplayedExample old new
+HasServed (word ∷ words) old new = (asked : Asked) × Asks (word ∷ words) asked × HasDone asked old new
+
+-- why the example was not replayed
+abbrev pub IsExampleFault : Option (List ℕ) → Option (List ℕ) → ProgramFault → Type 0
+IsExampleFault old new (program.Files options fault) = IsBeforeOutput fault → new ≡ old
+IsExampleFault old new program.Memory = new ≡ old
+IsExampleFault old new fault = ⊥
+
+-- why what the words ask for was not done
+abbrev pub IsWordsFault : List Text → Option (List ℕ) → Option (List ℕ) → ProgramFault → Type 0
+IsWordsFault words old new (program.Words fault) = IsParseFault words fault × (new ≡ old)
+IsWordsFault words old new (program.Files options fault) =
+    (Asks words (Run options) ⊎ Asks words (Replay options)) × (IsBeforeOutput fault → new ≡ old)
+IsWordsFault words old new program.Output = IsAmong DisplayHelp (fault_of likes words)
+IsWordsFault words old new program.Memory = ⊥
+
+-- why the program has not done what its words ask for
+abbrev pub IsServeFault : List Text → Option (List ℕ) → Option (List ℕ) → ProgramFault → Type 0
+IsServeFault [] old new fault = IsExampleFault old new fault
+IsServeFault (word ∷ words) old new fault = IsWordsFault (word ∷ words) old new fault
+
+-- the program ends with 0 where it has done what its words ask for, or else with the status of a fault
+abbrev pub Ends : List Text → Option (List ℕ) → Option (List ℕ) → ℕ → Type 0
+Ends words old new status = ((status ≡ 0) × HasServed words old new)
+    ⊎ ((fault : ProgramFault) × (status ≡ program_status fault) × IsServeFault words old new fault)
