@@ -20,7 +20,8 @@ records_of text = records default_config (strip_bom text)
 
 -- the next record was read: where the records left are known, it is the first of them, and the others are left
 abbrev pub TakesRecord : Reading → Reading → Type 0
-TakesRecord old new = ForSome old.left (λ rows. (rest : List (List (List ℕ))) × (rows ≡ new.fields ∷ rest) × (new.left ≡ Some rest))
+TakesRecord old new =
+    ForSome old.left (λ rows. (rest : List (List (List ℕ))) × (rows ≡ new.fields ∷ rest) × (new.left ≡ Some rest))
 
 -- what a reading becomes by the next record: the record, or the end, where no known record was left, or a fault
 abbrev pub NextRecord : Reading → Result Bool RecordsFault → Reading → Type 0

@@ -37,7 +37,10 @@ impl<R: Read> Model for Records<R> {
 
     ghost Value = { Reading };
 
-    ghost view = { λ s. record { left = records_left s.progress (reader_state s.reader) (source_of R.remaining s.reader); fields = fields_of s.present } };
+    ghost view = { λ s. record {
+      left = records_left s.progress (reader_state s.reader) (source_of R.remaining s.reader);
+      fields = fields_of s.present;
+    } };
 
     ghost invariant = { λ s. IsKept s.progress s.reader (fields_of s.present) };
 }

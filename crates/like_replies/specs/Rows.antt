@@ -45,7 +45,8 @@ header_row = codes "row" ∷ codes "id" ∷ codes "number" ∷ codes "phase" ∷
 -- the row of a submitter's request with this number
 abbrev pub reply_row : List Page → ℕ → ℕ → Answer → List (List ℕ)
 reply_row pages submitter number a =
-    codes "reply" ∷ decimal submitter ∷ decimal number ∷ decimal a.phase ∷ answer_word a.reply ∷ shown_page pages a.reply ∷ shown_count a.reply ∷ []
+    codes "reply" ∷ decimal submitter ∷ decimal number ∷ decimal a.phase
+    ∷ answer_word a.reply ∷ shown_page pages a.reply ∷ shown_count a.reply ∷ []
 
 -- the row of a page with its final count
 abbrev pub page_row : List Page → ℕ → ℕ → List (List ℕ)

@@ -20,7 +20,8 @@ pub record IsSlot (slots : List (List (Option Answer))) (submitter number : ℕ)
 
 -- an answer at the place of a request
 abbrev pub with_answer : List (List (Option Answer)) → ℕ → ℕ → Answer → List (List (Option Answer))
-with_answer slots submitter number answer = slice_set slots submitter (slice_set (slice_index_or slots submitter []) (number - 1) (Some answer))
+with_answer slots submitter number answer =
+    slice_set slots submitter (slice_set (slice_index_or slots submitter []) (number - 1) (Some answer))
 
 -- the answer of an entry is put at its place, which was empty
 pub record Puts (old : List (List (Option Answer))) (e : Ran) (new : List (List (Option Answer))) : Type 0 where
@@ -30,8 +31,11 @@ pub record Puts (old : List (List (Option Answer))) (e : Ran) (new : List (List 
 
 -- an entry has no place, or its place is not empty
 abbrev pub Refuses : List (List (Option Answer)) → Ran → CollectFault → Type 0
-Refuses slots e (Stranger submitter number) = (submitter ≡ e.submitter) × (number ≡ e.number) × ¬ IsSlot slots e.submitter e.number
-Refuses slots e (Double submitter number) = (submitter ≡ e.submitter) × (number ≡ e.number) × IsSlot slots e.submitter e.number × (slot_at slots e.submitter e.number ≢ None)
+Refuses slots e (Stranger submitter number) =
+    (submitter ≡ e.submitter) × (number ≡ e.number) × ¬ IsSlot slots e.submitter e.number
+Refuses slots e (Double submitter number) =
+    (submitter ≡ e.submitter) × (number ≡ e.number) × IsSlot slots e.submitter e.number
+    × (slot_at slots e.submitter e.number ≢ None)
 Refuses slots e (Missing submitter number) = ⊥
 Refuses slots e Memory = ⊥
 
@@ -39,7 +43,8 @@ Refuses slots e Memory = ⊥
 pub record HoldsAll (sizes : List ℕ) (entries : List Ran) (slots : List (List (Option Answer))) : Type 0 where
   pub sized : map length slots ≡ sizes
   pub known : All (λ e. IsRequest sizes e.submitter e.number) entries
-  pub each : (submitter number : ℕ) → map answer_of (entries_of submitter number entries) ≡ option_to_list (slot_at slots submitter number)
+  pub each : (submitter number : ℕ)
+      → map answer_of (entries_of submitter number entries) ≡ option_to_list (slot_at slots submitter number)
 
 -- the place of this request is empty, and no place before it is
 pub record IsFirstEmpty (slots : List (List (Option Answer))) (submitter number : ℕ) : Type 0 where
@@ -49,7 +54,8 @@ pub record IsFirstEmpty (slots : List (List (Option Answer))) (submitter number 
 
 -- why the places of the submitters from this one on do not give all answers
 abbrev pub IsSlotsFault : ℕ → List (List (Option Answer)) → CollectFault → Type 0
-IsSlotsFault from slots (Missing submitter number) = (row : ℕ) × (submitter ≡ from + row) × IsFirstEmpty slots row number
+IsSlotsFault from slots (Missing submitter number) =
+    (row : ℕ) × (submitter ≡ from + row) × IsFirstEmpty slots row number
 IsSlotsFault from slots Memory = ⊤
 IsSlotsFault from slots (Stranger submitter number) = ⊥
 IsSlotsFault from slots (Double submitter number) = ⊥

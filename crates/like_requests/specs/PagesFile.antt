@@ -52,8 +52,11 @@ IsPagesFault rows Read = ⊤
 IsPagesFault rows Memory = ⊤
 IsPagesFault rows Header = (body : List Record) → rows ≢ pages_header ∷ body
 IsPagesFault rows Empty = rows ≡ pages_header ∷ []
-IsPagesFault rows fault = (body : List Record) × (rows ≡ pages_header ∷ body) × IsFirstFailed AsksPageRecord page_tests body fault
+IsPagesFault rows fault =
+    (body : List Record) × (rows ≡ pages_header ∷ body) × IsFirstFailed AsksPageRecord page_tests body fault
 
 -- the pages of a file with these records
 abbrev pub IsPagesFile : List Record → List Page → Type 0
-IsPagesFile rows pages = (body : List Record) × (rows ≡ pages_header ∷ body) × (body ≢ []) × PassAll AsksPageRecord page_tests body × (pages ≡ map page_of body)
+IsPagesFile rows pages =
+    (body : List Record) × (rows ≡ pages_header ∷ body) × (body ≢ [])
+    × PassAll AsksPageRecord page_tests body × (pages ≡ map page_of body)

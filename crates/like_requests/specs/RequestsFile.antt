@@ -33,7 +33,11 @@ page_ref (Some number) = Known number
 
 -- the request that a record makes
 abbrev pub request_of : List Page → Record → Request
-request_of pages r = record { op = op_of (field r 0); user = decimal_value (field r 1); page = page_ref (number_of pages (field r 2)) }
+request_of pages r = record {
+  op = op_of (field r 0);
+  user = decimal_value (field r 1);
+  page = page_ref (number_of pages (field r 2));
+}
 
 -- what the test asks that is named by its fault, of a record after so many others
 abbrev pub AsksRequest : ℕ → Record → RequestsFault → Type 0
@@ -63,8 +67,11 @@ abbrev pub IsRequestsFault : List Record → RequestsFault → Type 0
 IsRequestsFault rows fault.Read = ⊤
 IsRequestsFault rows fault.Memory = ⊤
 IsRequestsFault rows fault.Header = (body : List Record) → rows ≢ requests_header ∷ body
-IsRequestsFault rows why = (body : List Record) × (rows ≡ requests_header ∷ body) × IsFirstFailed AsksRequestRecord request_tests body why
+IsRequestsFault rows why =
+    (body : List Record) × (rows ≡ requests_header ∷ body) × IsFirstFailed AsksRequestRecord request_tests body why
 
 -- the requests of a file with these records, where these are the pages
 abbrev pub IsRequestsFile : List Page → List Record → List Request → Type 0
-IsRequestsFile pages rows requests = (body : List Record) × (rows ≡ requests_header ∷ body) × PassAll AsksRequestRecord request_tests body × (requests ≡ map (request_of pages) body)
+IsRequestsFile pages rows requests =
+    (body : List Record) × (rows ≡ requests_header ∷ body) × PassAll AsksRequestRecord request_tests body
+    × (requests ≡ map (request_of pages) body)

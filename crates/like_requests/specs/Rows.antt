@@ -19,4 +19,6 @@ module _ {T : Type 0} (Asks : List Record → Record → T → Type 0) (tests : 
 
   -- t is the first test that fails of the first record that fails one
   abbrev pub IsFirstFailed : List Record → T → Type 0
-  IsFirstFailed body t = (k : ℕ) × (r : Record) × (slice_get body k ≡ Some r) × PassAll (take k body) × FailsFirst (Asks (take k body) r) (tests (k + 1)) t
+  IsFirstFailed body t =
+      (k : ℕ) × (r : Record) × (slice_get body k ≡ Some r) × PassAll (take k body)
+      × FailsFirst (Asks (take k body) r) (tests (k + 1)) t

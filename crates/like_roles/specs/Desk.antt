@@ -4,6 +4,7 @@ use Rattle.like_requests.specs.Verdict.{is_accepted, verdict_of}
 use Rattle.like_requests.specs.declared.verdict.Verdict.{Verdict}
 use Rattle.like_requests.specs.declared.verdict.Verdict.TheVariants.{Accepted}
 use Rattle.like_requests.specs.Limits.{max_pages}
+use Rattle.like_tables.specs.Limits.{max_likes}
 use Rattle.like_core.specs.declared.worker_state.WorkerState.{WorkerState}
 use Rattle.like_core.specs.declared.worker_state.WorkerState.TheVariants.{Runs, Answered, Gone}
 use Rattle.like_core.specs.Phase.{IsJoined, IsSplit}
@@ -78,12 +79,12 @@ pub record ArePlaces (d : Desk) : Type 0 where
 pub record HasRoom (post : PostView) (d : Desk) : Type 0 where
   pub taken : vec_len d.taken + sum d.left.items ≤ vec_capacity d.taken
   pub ran : vec_len d.ran + length d.held.held + sum d.left.items ≤ vec_capacity d.ran
-  pub few : sum post.additions + sum d.slice + length d.held.held + sum d.left.items ≤ 64000000
+  pub few : sum post.additions + sum d.slice + length d.held.held + sum d.left.items ≤ max_likes
 
 -- and there is room to run one more request
 pub record HasRoomForOne (post : PostView) (d : Desk) : Type 0 where
   pub ran : vec_len d.ran + length d.held.held + sum d.left.items < vec_capacity d.ran
-  pub few : sum post.additions + sum d.slice + length d.held.held + sum d.left.items < 64000000
+  pub few : sum post.additions + sum d.slice + length d.held.held + sum d.left.items < max_likes
 
 -- there is room to note one more request that was run
 pub record HasRoomToNote (d : Desk) : Type 0 where
@@ -118,7 +119,7 @@ pub record IsNewDesk (s : Setup) (sizes : List ℕ) (worker : ℕ) (d : Desk) : 
   pub ended : d.ended.items ≡ replicate (length d.left.items) false
   pub left : d.left.items ≡ dealt s.workers worker sizes
   pub there : (place : ℕ) → place < length d.left.items → submitter_of s.workers worker place < length sizes
-  pub few : sum d.left.items ≤ 64000000
+  pub few : sum d.left.items ≤ max_likes
   pub cursor : d.cursor ≡ 0
   pub pending : d.pending ≡ None
   pub last : d.last ≡ table_without_likes (share_of s.users (length sizes) s.workers worker)

@@ -15,4 +15,8 @@ last_at share pages user = if owns share user then slice_index_or pages (owned_b
 
 -- the table that the places make
 abbrev pub table_of : Share → List (Option ℕ) → UserTable
-table_of share pages = record { share = share; last = map (last_at share pages) (range_with_len 0 share.users); room = length pages }
+table_of share pages = record {
+  share = share;
+  last = map (last_at share pages) (range_with_len 0 share.users);
+  room = length pages;
+}

@@ -12,7 +12,12 @@ pub record Share : Type 0 where
 
 -- the share with these numbers
 abbrev pub share_of : ℕ → ℕ → ℕ → ℕ → Share
-share_of users submitters workers worker = record { users = users; submitters = submitters; workers = workers; worker = worker }
+share_of users submitters workers worker = record {
+  users = users;
+  submitters = submitters;
+  workers = workers;
+  worker = worker;
+}
 
 -- there is a submitter and a worker
 pub record IsShare (s : Share) : Type 0 where

@@ -26,4 +26,8 @@ with_last t user page = record t { last = slice_set t.last user (Some page) }
 
 -- the table of a share in which no user has liked a page
 abbrev pub table_without_likes : Share → UserTable
-table_without_likes share = record { share = share; last = replicate share.users None; room = owned_below share share.users }
+table_without_likes share = record {
+  share = share;
+  last = replicate share.users None;
+  room = owned_below share share.users;
+}

@@ -127,7 +127,8 @@ fn verdicts(rt: HostRuntime) -> Result<(), Fail> {
     assert_rows(
         &rt,
         &out,
-        "reply,0,1,0,unknown-user,,\nreply,0,2,0,other-home,,\nreply,0,3,0,unknown-page,,\nreply,0,4,0,unknown-user,,\npage,0,,,,a,10\n",
+        "reply,0,1,0,unknown-user,,\nreply,0,2,0,other-home,,\nreply,0,3,0,unknown-page,,\n\
+         reply,0,4,0,unknown-user,,\npage,0,,,,a,10\n",
     );
     Ok(())
 }

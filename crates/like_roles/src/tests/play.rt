@@ -1,4 +1,5 @@
 ghost use Rattle.std.specs.Prelude.{◌≡◌, ◌≤◌, [], ◌∷◌, IfOk, length};
+ghost use Rattle.like_requests.specs.Limits.{max_workers};
 ghost use Rattle.like_requests.specs.Setup.{IsWithinLimits};
 ghost use Rattle.like_board.specs.Seats.{board_id, coord_board};
 ghost use Rattle.like_roles.specs.New.{AreNewSeats};
@@ -36,7 +37,7 @@ pub fn board_of(
     setup: &Setup,
 ) -> Result<(Board, CoordSeat, Vec<WorkerSeat>), AllocError>
     requires some { 1 ≤ setup.now.workers }
-    requires few { setup.now.workers ≤ 16 }
+    requires few { setup.now.workers ≤ max_workers }
     ensures coord { IfOk result (λ r. coord_board r.1 ≡ board_id r.0) }
     ensures seats { IfOk result (λ r. AreNewSeats (board_id r.0) setup.now.pages r.2.items) }
     ensures len { IfOk result (λ r. length r.2.items ≡ setup.now.workers) }

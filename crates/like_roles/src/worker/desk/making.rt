@@ -1,5 +1,6 @@
 ghost use Rattle.std.specs.Prelude.{◌≡◌, ℕ, ◌<◌, ◌≤◌, ◌^◌, All, IfOk, length, replicate, sum, vec_len, vec_capacity, false, [], None};
-ghost use Rattle.like_requests.specs.Limits.{max_requests, max_submitters};
+ghost use Rattle.like_requests.specs.Limits.{max_requests, max_submitters, max_workers};
+ghost use Rattle.like_tables.specs.Limits.{max_likes};
 ghost use Rattle.like_tables.specs.Share.{dealt, submitter_of};
 ghost use Rattle.like_requests.specs.Setup.{IsWithin};
 ghost use Rattle.like_roles.specs.Desk.{IsNewDesk};
@@ -50,14 +51,14 @@ fn own_sizes(
     worker: u32,
 ) -> Result<Vec<u32>, AllocError>
     requires some { 1 ≤ workers }
-    requires few_workers { workers ≤ 16 }
+    requires few_workers { workers ≤ max_workers }
     requires few_submitters { length sizes.now ≤ max_submitters }
     requires is_worker { worker < workers }
     requires small { All (λ n. n ≤ max_requests) sizes.now }
     ensures sizes { IfOk result (λ own. own.items ≡ dealt workers worker sizes.now) }
     ensures there { IfOk result (λ own. (place : ℕ) → place < length own.items
         → submitter_of workers worker place < length sizes.now) }
-    ensures few { IfOk result (λ own. sum own.items ≤ 64000000) }
+    ensures few { IfOk result (λ own. sum own.items ≤ max_likes) }
 {
     let mut own = Vec::new(alloc);
     let mut submitter = worker as usize;
