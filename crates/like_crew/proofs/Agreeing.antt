@@ -10,7 +10,7 @@ use Rattle.like_requests.specs.declared.request.Request.{Request}
 use Rattle.like_requests.specs.declared.request.Taken.{Taken}
 use Rattle.like_requests.specs.declared.request.Taken.TheVariants as taken
 use Rattle.like_core.specs.Post.{pages_of}
-use Rattle.like_queue.specs.Inbox.{Inbox, Takes, item_count}
+use Rattle.like_queue.specs.Inbox.{Inbox, InboxView, Takes, item_count, view_of}
 use Rattle.like_tables.specs.Share.{Share, dealt}
 use Rattle.like_roles.specs.declared.log.Took.{Took}
 use Rattle.like_roles.specs.declared.turn.Turn.{Turn}
@@ -112,9 +112,13 @@ share-given v w place taken.Nothing trying has = has.share
 
 -- a take leaves the plan as it is
 pub plan-taken : (i j : Inbox) (took : Taken) → Takes i took j → j.plan ≡ i.plan
-plan-taken i j (taken.Ask ask) t = ap (λ (x : Inbox). x.plan) t.3
-plan-taken i j taken.End t = ap (λ (x : Inbox). x.plan) t.2
-plan-taken i j taken.Nothing t = ap (λ (x : Inbox). x.plan) t.2
+plan-taken i j (taken.Ask ask) t = ap (λ (x : InboxView). x.plan) t.handed.2
+plan-taken i j taken.End t = ap (λ (x : InboxView). x.plan) t.handed.1
+plan-taken i j taken.Nothing t = ap (λ (x : InboxView). x.plan) t.handed.1
+
+-- and what is open of it
+inbox-taken : (i j : Inbox) (n : ℕ) → view_of j ≡ view_of (taken_to i n) → j.opened ≡ i.opened → j ≡ taken_to i n
+inbox-taken i j n view opened = λ k. record { plan = (view k).plan; opened = opened k; taken = (view k).taken }
 
 -- the request that the inbox hands over is asked by the plan
 asked : (service : Service) (v : WorkerView) (inboxes : List Inbox) (place : ℕ) (i : Inbox) (ask : Numbered) → slice_get inboxes place ≡ Some i
@@ -141,12 +145,12 @@ module _ (v : WorkerView) (inboxes : List Inbox) (place : ℕ) (i j : Inbox) (a 
   pub can-give : (took : Taken) → Takes i took j → CanGive v took
   can-give (taken.Ask ask) t = λ p e.
       let it : place ≡ p = same_Some _ _ (sym trying ∙ e) in
-      let some : i.taken < length i.plan = slice_get_within i.plan i.taken ask.request t.1 in
+      let some : i.taken < length i.plan = slice_get_within i.plan i.taken ask.request t.handed.0 in
       let left : get_or v.left place 0 + requests_taken i ≡ length i.plan = (a.each place i here).left in
       subst (λ q. IsNext v q ask) it (record {
-        number = t.2 ∙ ap (λ n. n + 1) (sym (count-taken (submitter_at v place) v.taken i.taken numbers-here));
+        number = t.handed.1 ∙ ap (λ n. n + 1) (sym (count-taken (submitter_at v place) v.taken i.taken numbers-here));
         some = omega (arith, some, left);
-        there = subst (λ (r : Request). IsThere (pages_of v.post) r.page) (get_or_from_slice_get i.plan i.taken ask.request ask.request t.1)
+        there = subst (λ (r : Request). IsThere (pages_of v.post) r.page) (get_or_from_slice_get i.plan i.taken ask.request ask.request t.handed.0)
             ((a.each place i here).there i.taken ask.request some);
       })
   can-give taken.End t = tt
@@ -161,25 +165,25 @@ module _ (v : WorkerView) (inboxes : List Inbox) (place : ℕ) (i j : Inbox) (a 
     agree-give (taken.Ask ask) t gives has =
         let k : TakesNothing (with_taken v place ask) w = has place trying in
         let seen : HasSeen w = gives-seen v (taken.Ask ask) answer w gives looked (a.above, a.present) in
-        let some : i.taken < length i.plan = slice_get_within i.plan i.taken ask.request t.1 in
+        let some : i.taken < length i.plan = slice_get_within i.plan i.taken ask.request t.handed.0 in
         let left : get_or v.left place 0 + requests_taken i ≡ length i.plan = (a.each place i here).left in
         let next : Inbox = record i { taken = i.taken + 1 } in
         let more : requests_taken next ≡ requests_taken i + 1 = omega (arith, some) in
         let one : Took = record { phase = phase_at v; submitter = submitter_at v place; number = ask.number } in
-        subst (λ x. Agree w (set inboxes place x)) (sym t.3)
+        subst (λ x. Agree w (set inboxes place x)) (sym (inbox-taken i j (i.taken + 1) t.handed.2 t.opened))
         (agree-changed v w inboxes place (i.taken + 1) i a here (get_or v.left place 0 - 1) false
         (record { share = k.share; marks = k.marks; left_is = k.left; ended_is = k.ended ∙ sym (set-get_or v.ended place true) ∙ ap (set v.ended place) open_yet })
         (omega (arith, some, left)) (sym (le-ltb (length i.plan) (i.taken + 1) (omega (arith, some))))
         (λ s. ap (numbers_taken s) k.taken
-        ∙ numbers-next v.last.share a.is_worker inboxes v.taken place i next within_here here a.taken one refl (t.2 ∙ omega (arith, not_over)) more s)
+        ∙ numbers-next v.last.share a.is_worker inboxes v.taken place i next within_here here a.taken one refl (t.handed.1 ∙ omega (arith, not_over)) more s)
         (subst IsRising (sym k.taken) (taken-rising v place ask looked (a.above, a.present) a.rising)) seen)
     agree-give taken.End t gives has =
         let k : TakesNothing (record v { ended = set v.ended place true }) w = has place trying in
         let seen : HasSeen w = gives-seen v taken.End answer w gives looked (a.above, a.present) in
         let left : get_or v.left place 0 + requests_taken i ≡ length i.plan = (a.each place i here).left in
-        let all : i.taken ≡ length i.plan = omega (arith, not_over, t.1) in
+        let all : i.taken ≡ length i.plan = omega (arith, not_over, t.handed.0) in
         let same : requests_taken (record i { taken = item_count i.plan }) ≡ requests_taken i = omega (arith, all) in
-        subst (λ x. Agree w (set inboxes place x)) (sym t.2)
+        subst (λ x. Agree w (set inboxes place x)) (sym (inbox-taken i j (item_count i.plan) t.handed.1 t.opened))
         (agree-changed v w inboxes place (item_count i.plan) i a here (get_or v.left place 0) true
         (record { share = k.share; marks = k.marks; left_is = k.left ∙ sym (set-get_or v.left place 0); ended_is = k.ended })
         (omega (arith, left, all)) (sym (lt-ltb (length i.plan) (length i.plan + 1) (omega arith)))
@@ -189,7 +193,7 @@ module _ (v : WorkerView) (inboxes : List Inbox) (place : ℕ) (i j : Inbox) (a 
         let k : TakesNothing v w = has in
         let seen : HasSeen w = gives-seen v taken.Nothing answer w gives looked (a.above, a.present) in
         let left : get_or v.left place 0 + requests_taken i ≡ length i.plan = (a.each place i here).left in
-        subst (λ x. Agree w (set inboxes place x)) (sym t.2)
+        subst (λ x. Agree w (set inboxes place x)) (sym (inbox-taken i j i.taken t.handed.1 t.opened))
         (agree-changed v w inboxes place i.taken i a here (get_or v.left place 0) false
         (record { share = k.share; marks = k.marks; left_is = k.left ∙ sym (set-get_or v.left place 0); ended_is = k.ended ∙ sym (set-get_or v.ended place true) ∙ ap (set v.ended place) open_yet })
         left (sym (le-ltb (length i.plan) i.taken not_over))
@@ -205,7 +209,7 @@ module _ (v : WorkerView) (inboxes : List Inbox) (place : ℕ) (i j : Inbox) (a 
       serves-on service v w inboxes (set inboxes place j) (share-given v w place took trying has) plans (follows (asks took t) h.follows) h where
         asks : (x : Taken) → Takes i x j → IsAskedBy service v x
         asks (taken.Ask ask) u = λ p e.
-            subst (λ q. request_at service (submitter_at v q) ask.number ≡ Some ask.request) (same_Some _ _ (sym trying ∙ e)) (asked service v inboxes place i ask here u.1 u.2 (omega (arith, a.is_worker)) h.plans)
+            subst (λ q. request_at service (submitter_at v q) ask.number ≡ Some ask.request) (same_Some _ _ (sym trying ∙ e)) (asked service v inboxes place i ask here u.handed.0 u.handed.1 (omega (arith, a.is_worker)) h.plans)
         asks taken.End u = tt
         asks taken.Nothing u = tt
 

@@ -1,5 +1,5 @@
 -- What an inbox hands over.
-use Rattle.std.specs.Prelude.{◌≡◌, ◌⊎◌, ◌+◌, ◌<◌, ◌≤◌, ℕ, List, length, slice_get, Some}
+use Rattle.std.specs.Prelude.{◌≡◌, ◌↔◌, ◌+◌, ◌≤◌, ℕ, List, length, slice_get, Some}
 use Rattle.like_requests.specs.declared.request.Request.{Request}
 use Rattle.like_requests.specs.declared.request.Taken.{Taken}
 use Rattle.like_requests.specs.declared.request.Taken.TheVariants.{Ask, End, Nothing}
@@ -31,14 +31,12 @@ pub record Inbox : Type 0 where
 abbrev pub view_of : Inbox → InboxView
 view_of v = record { plan = v.plan; taken = v.taken }
 
--- the end mark was taken
-abbrev pub HasEnded : Inbox → Type 0
-HasEnded v = length v.plan < v.taken
+-- nothing open is left of a list inbox, and its end mark was not taken
+abbrev pub NoneLeft : Inbox → Type 0
+NoneLeft v = (v.opened ≤ v.taken) × (v.taken ≤ length v.plan)
 
--- what a take answers, and what it leaves: the next open request, with its number; the end mark behind the last one,
--- and from then on; nothing, where nothing open is left before the end mark was taken
-abbrev pub Takes : Inbox → Taken → Inbox → Type 0
-Takes v (Ask ask) w = (v.taken < v.opened) × (slice_get v.plan v.taken ≡ Some ask.request) × (ask.number ≡ v.taken + 1)
-    × (w ≡ record v { taken = v.taken + 1 })
-Takes v End w = ((v.taken < v.opened) ⊎ HasEnded v) × (length v.plan ≤ v.taken) × (w ≡ record v { taken = item_count v.plan })
-Takes v Nothing w = (v.opened ≤ v.taken) × ¬ HasEnded v × (w ≡ v)
+-- a take from a list inbox hands over what the inbox has, opens nothing, and answers nothing just where none is left
+pub record Takes (v : Inbox) (answer : Taken) (w : Inbox) : Type 0 where
+  pub handed : HandsOver (view_of v) answer (view_of w)
+  pub opened : w.opened ≡ v.opened
+  pub nothing : (answer ≡ Nothing) ↔ NoneLeft v

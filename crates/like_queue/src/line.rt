@@ -57,7 +57,8 @@ impl Line {
     }
 }
 
-// Splits the pass of a new queue into the one that sends the plan, and that which takes it.
+// Splits the pass of a new queue into the one that sends the plan, and that which takes it. Both know the plan from here
+// on: the proof of a call takes that of `J` from the argument.
 fn split<J: Planned>(queue: &Queue, pass: &mut QueuePass, _plan: &Vec<Request>) -> QueuePass
     requires queue { IsPassOf queue.now pass.old }
     requires new { known_by pass.old ≡ unsplit }

@@ -33,6 +33,7 @@ pub(crate) trait Planned {
     ghost plan: { List Request };
 }
 
+// A call with this type picks a plan of its own.
 impl Planned for Brand {
     ghost plan = { [] };
 }
