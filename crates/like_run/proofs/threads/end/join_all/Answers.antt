@@ -34,8 +34,8 @@ pub loop-thread-preserved : goal.loop-thread-preserved
 loop-thread-preserved g c =
     let l = c.loop-thread in
     record {
-      logs_room = c.push_reserved.ensures.capacity ∙ l.invariant.logs_room;
-      seats_room = c.push_reserved-in-Left.ensures.capacity ∙ l.invariant.seats_room;
+      logs_room = omega (arith, c.push_reserved.ensures.capacity, l.invariant.logs_room);
+      seats_room = omega (arith, c.push_reserved-in-Left.ensures.capacity, l.invariant.seats_room);
       left = one-left (map first_of l.yielded) (map first_of (l.yielded ++ c.in-Some.thread ∷ [])) l.logs.items c.push_reserved.new.self.items l.seats.items c.push_reserved-in-Left.new.self.items (first_of c.in-Some.thread) c.in-Left.log c.in-Left.seat (map_push first_of l.yielded c.in-Some.thread) c.push_reserved.ensures.items
           c.push_reserved-in-Left.ensures.items l.invariant.left c.in-Left.ensures;
     }
