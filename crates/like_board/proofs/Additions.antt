@@ -1,7 +1,7 @@
 -- An addition to a page's word is its events, and keeps what the board shows.
-use Rattle.std.proofs.Common.{◌≡◌, ◌≢◌, ℕ, ◌+◌, ◌*◌, ◌-◌, ◌%◌, ◌^◌, ◌<◌, ◌≤◌, ◌==◌, ◌&&◌, cond, inl, inr, List, ◌++◌, All, length, get_or, set, replicate, subst, ap, sym, ◌∙◌, refl, arith}
+use Rattle.std.proofs.Common.{◌≡◌, ◌≢◌, ℕ, ◌+◌, ◌*◌, ◌-◌, ◌%◌, ◌^◌, ◌<◌, ◌≤◌, ◌==◌, ◌&&◌, nat_lt, cond, inl, inr, List, ◌++◌, All, length, get_or, set, replicate, subst, ap, sym, ◌∙◌, refl, arith}
 use Rattle.std.specs.List.{sum_by}
-use Rattle.std.proofs.lemmas.Bool.{cases_eq}
+use Rattle.std.proofs.lemmas.Bool.{cases_eq, lt-ltb}
 use Rattle.std.proofs.lemmas.List.{length-append, length-replicate}
 use Rattle.std.proofs.lemmas.List.Elements.{All-get_or}
 use mathlib.Core.Option.{some}
@@ -20,16 +20,19 @@ use Rattle.like_core.specs.State.{CoreState, Label, labelled, marked, after, num
 use Rattle.like_core.specs.Reachable.{Reachable, after_all}
 use Rattle.like_core.specs.WorkerState.{phase_of}
 use Rattle.like_core.specs.Post.{MayAdd, slices}
-use Rattle.like_core.specs.Views.{added_to, added_in, added_view, post_of, likes_merged, adding}
+use Rattle.like_core.specs.Additions.{added_to, added_in}
+use Rattle.like_core.specs.Views.{added_view, post_of, likes_merged, adding}
+use Rattle.like_core.specs.Reads.{before_in, all_before, ReadsFit}
 use Rattle.like_core.specs.Tallies.{Tallied, paged, room}
 use Rattle.like_core.specs.Shows.{Shows, ShowsSome, FitsWorker, IsSteps}
 use Rattle.like_core.proofs.Updates.{update-same, update-other, update_cases}
 use Rattle.like_core.proofs.Reached.{goes_on, goes_on_by}
 use Rattle.like_core.proofs.InPhase.{reached_in_phase}
-use Rattle.like_core.proofs.Labels.{label, labelled-append, labels_else, labels_here, added_in-push, added_in_else, added_to_here, added_to_else}
+use Rattle.like_core.proofs.Labels.{label, labelled-append, labels_else, labels_here, added_in-push, added_before-push, added_to-push, added_in_else, added_to_here, added_to_else}
 use Rattle.like_core.proofs.Adding.{Adding, with_applied, adds_either}
+use Rattle.like_core.proofs.KeptReads.{addition_keeps_reads}
 use Rattle.like_core.proofs.Posts.{additions-le-sum}
-use Rattle.like_board.proofs.ViewLists.{sum_part, sum_set, sum_swap}
+use Rattle.like_core.proofs.ViewLists.{sum_part, sum_set, sum_swap}
 use Rattle.like_board.proofs.WorkerSteps.{running_is}
 use Rattle.like_board.proofs.Pages.{KeepsOthers, page_steps}
 
@@ -84,8 +87,8 @@ applied_else s i page n q other =
     ap (λ (l : List Label). length l) (update-other s.applied page (s.applied page ++ replicate n (label i s.phase)) q other)
 
 -- what the views have added and may still add, after an addition
-tallied_added : (s : CoreState) (views : List View) (place : ℕ) (v : WorkerSeatView) (page n : ℕ) (rest : ℕ → List ℕ) → get_elem? views place ≡ some (Worker v) → added_to page v.additions + n ≤ max_likes → Tallied s views → Tallied (record s { unmerged = rest; applied = applied_by s v.worker page n }) (set views place (Worker (added_view v page n)))
-tallied_added s views place v page n rest at few old =
+tallied_added : (s : CoreState) (views : List View) (place : ℕ) (v : WorkerSeatView) (page n : ℕ) (rest : ℕ → List ℕ) → get_elem? views place ≡ some (Worker v) → phase_of v.state ≡ s.phase → added_to page v.additions + n ≤ max_likes → Tallied s views → Tallied (record s { unmerged = rest; applied = applied_by s v.worker page n }) (set views place (Worker (added_view v page n)))
+tallied_added s views place v page n rest at present few old =
     let w : WorkerSeatView = added_view v page n in
     let sums_now : (q : ℕ) → length (applied_by s v.worker page n q) ≡ sum_by (paged q) (set views place (Worker w)) =
     λ q.
@@ -123,7 +126,19 @@ tallied_added s views place v page n rest at few old =
           omega arith
     ]
     in
-    record { sums = sums_now; rooms = rooms_now }
+    let past_now : (phase q : ℕ) → s.phase < phase → all_before (set views place (Worker w)) phase q ≡ sum_by (paged q) (set views place (Worker w)) =
+    λ phase q later.
+    let before = old.past phase q later in
+    let swap_before = sum_swap (before_in phase q) views place (Worker v) (Worker w) at in
+    let swap = sum_swap (paged q) views place (Worker v) (Worker w) at in
+    let more_before = added_before-push v.additions (phase_of v.state) page n phase q in
+    let more = added_to-push v.additions (phase_of v.state) page n q in
+    let now : cond {A = ℕ} (nat_lt (phase_of v.state) phase && (page == q)) n 0 ≡ cond (page == q) n 0 =
+    ap (λ b. cond {A = ℕ} (b && (page == q)) n 0) (lt-ltb (phase_of v.state) phase (omega arith))
+    in
+    omega arith
+    in
+    record { sums = sums_now; rooms = rooms_now; past = past_now }
 
 -- a count is at most as large as counts may be at the start
 count_low : (counts : List ℕ) (page : ℕ) → page < length counts → All (λ n. n ≤ max_count) counts → get_or counts page 0 ≤ max_count
@@ -172,6 +187,8 @@ adds z words views place v page n some_state at may =
     a.merged
     (others_keep s i page n)
     (fits_added z s v page n a.rest old present)
+    (subst (λ (now : ℕ). ReadsFit z.counts now (set views place (Worker w))) present
+    (addition_keeps_reads z.counts views place v page n at (subst (λ (now : ℕ). ReadsFit z.counts now views) (sym present) sh.reads)))
     in
     let last : CoreState = after z (after_all z s (likes_merged v page n)) (adding v page) in
     let reached : Reachable z last =
@@ -198,7 +215,7 @@ adds z words views place v page n some_state at may =
         state = t;
         reachable = subst (Reachable z) a.leads reached;
         shows = shows;
-        tallied = tallied_added s views place v page n a.rest at few some_state.tallied;
+        tallied = tallied_added s views place v page n a.rest at present few some_state.tallied;
       },
       omega arith,
     )

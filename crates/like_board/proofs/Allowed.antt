@@ -15,7 +15,7 @@ use Rattle.like_core.specs.Word.{Fields, packed, IsLawful, released, answer_bit,
 use Rattle.like_core.specs.Sights.{sight_of, coord_sight_of}
 use Rattle.like_core.specs.Post.{IsFresh, MayAdd, MayRead}
 use Rattle.like_core.specs.WorkerState.{RunsJoined, RunsSplit, SawEnding}
-use Rattle.like_core.specs.Views.{MayAnnounce, MayRelease, fresh, looked_view, answered_view, retired_view, added_view, post_of, likes_merged, adding, looked_coord, announced_coord, released_coord, made_coord, gathered_coord}
+use Rattle.like_core.specs.Views.{MayAnnounce, MayRelease, fresh, looked_view, answered_view, retired_view, added_view, read_view, post_of, likes_merged, adding, looked_coord, announced_coord, released_coord, made_coord, gathered_coord}
 use Rattle.like_core.specs.Actions.{Acknowledges, Reports, Retires, Announces, Releases}
 use Rattle.like_core.specs.Shows.{ShowsSome, FitsWorker, FitsCoord, IsStep, IsSteps}
 use Rattle.like_core.proofs.Posts.{post_fresh}
@@ -215,27 +215,28 @@ adding_to {S} key slots id me page n is may = λ st shows _ at _.
       ),
     )
 
-pub reading : {S : Type 0} (key : Key) (slots id : ℕ) (me : Me S View) (page : ℕ) → me ≡ (Worker (worker_view_of me.0), []) → MayRead (post_of (worker_view_of me.0)) page → Allows (IsShowing key) slots id me (page + 1) (λ k. k) (λ found after. (after.0 ≡ Worker (worker_view_of me.0)) × TellsReadAt (page + 1) me.0 found × (after.1 ≡ []))
+pub reading : {S : Type 0} (key : Key) (slots id : ℕ) (me : Me S View) (page : ℕ) → me ≡ (Worker (worker_view_of me.0), []) → MayRead (post_of (worker_view_of me.0)) page → Allows (IsShowing key) slots id me (page + 1) (λ k. k) (λ found after. TellsReadAt (page + 1) me.0 found after.0 × (after.1 ≡ []))
 reading {S} key slots id me page is may = λ st shows _ at _.
     let z = opening_of key in
     let v : WorkerSeatView = worker_view_of me.0 in
     let found : ℕ = get_or st.words (page + 1) 0 in
+    let w : WorkerSeatView = read_view v page found in
     let here : get_elem? st.views id ≡ some (Worker v) = at ∙ ap (λ (m : Me S View). some m.0) is in
     let same = worker_opening z st.words st.views id v shows here in
     let r = reads z st.words st.views id v page shows here may in
-    let told : TellsRead page me.0 found =
+    let told : TellsRead page me.0 found (Worker w) =
     record {
+      view = refl;
       own = r.2;
-      step = subst (λ (y : Opening). IsStep y (Read v.worker page) (Count found) (Worker v) (Worker v)) (sym same) r.0;
+      step = subst (λ (y : Opening). IsStep y (Read v.worker page) (Count found) (Worker v) (Worker w)) (sym same) r.0;
     }
     in (
-      Worker v,
+      Worker w,
       keeps,
       tt,
       r.1,
       (
-        refl,
-        λ q on. subst (λ (p : ℕ). TellsRead p me.0 found) (let e : page ≡ q = omega arith in e) told,
+        λ q on. subst (λ (p : ℕ). TellsRead p me.0 found (Worker w)) (let e : page ≡ q = omega arith in e) told,
         ap (λ (m : Me S View). m.1) is,
       ),
     )

@@ -60,7 +60,7 @@ surveys z words views place c some_state at =
     }
     in
     let after_it : Shows z s (set words 0 found) (set views place (Coord d)) =
-    leads z s words views place c d s.phase s.ending found sh at refl refl sh.word fits (λ v f. f)
+    leads z s words views place c d s.phase s.ending found sh at refl refl (omega arith) sh.word fits (λ v f. f)
     in
     let permits : Permits (numbers z s) CoordLook = record { there = tt; suits = tt; leaves_last = tt; room = tt } in (
       record {
@@ -91,7 +91,7 @@ surveys z words views place c some_state at =
         state = s;
         reachable = some_state.reachable;
         shows = after_it;
-        tallied = tallied_on s s views place (Coord c) (Coord d) (λ _. refl) at (λ _. refl) (λ _. refl) some_state.tallied;
+        tallied = tallied_on s s views place (Coord c) (Coord d) (omega arith) (λ _. refl) at (λ _. refl) (λ _. refl) (λ _ _. refl) some_state.tallied;
       },
     )
 
@@ -146,7 +146,7 @@ announces z words views place c some_state at may =
     }
     in
     let after_it : Shows z t (set words 0 word) (set views place (Coord d)) =
-    leads z s words views place c d s.phase true word sh at refl refl
+    leads z s words views place c d s.phase true word sh at refl refl (omega arith)
     (ap (λ n. (n + 1) % 2 ^ 64) sh.word ∙ word_announced z s lawful running)
     fits
     workers
@@ -170,7 +170,7 @@ announces z words views place c some_state at may =
         state = t;
         reachable = reachable;
         shows = after_it;
-        tallied = tallied_on s t views place (Coord c) (Coord d) (λ _. refl) at (λ _. refl) (λ _. refl) some_state.tallied;
+        tallied = tallied_on s t views place (Coord c) (Coord d) (omega arith) (λ _. refl) at (λ _. refl) (λ _. refl) (λ _ _. refl) some_state.tallied;
       },
     )
 
@@ -225,7 +225,7 @@ releases z words views place c seen some_state at may seen_lawful seen_is =
     }
     in
     let after_it : Shows z t (set words 0 (packed (released seen))) (set views place (Coord d)) =
-    leads z s words views place c d (s.phase + 1) false (packed (released seen)) sh at refl refl
+    leads z s words views place c d (s.phase + 1) false (packed (released seen)) sh at refl refl (omega arith)
     (ap (λ f. packed (released f)) same ∙ ap packed (sym (fields_released z s ending all_in)))
     fits
     workers
@@ -249,6 +249,6 @@ releases z words views place c seen some_state at may seen_lawful seen_is =
         state = t;
         reachable = goes_on_by z s Release some_state.reachable permits;
         shows = after_it;
-        tallied = tallied_on s t views place (Coord c) (Coord d) (λ _. refl) at (λ _. refl) (λ _. refl) some_state.tallied;
+        tallied = tallied_on s t views place (Coord c) (Coord d) (omega arith) (λ _. refl) at (λ _. refl) (λ _. refl) (λ _ _. refl) some_state.tallied;
       },
     )

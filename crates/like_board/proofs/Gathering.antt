@@ -12,22 +12,18 @@ use Rattle.like_core.specs.declared.view.CoordSeatView.{CoordSeatView}
 use Rattle.like_core.specs.declared.view.View.{View}
 use Rattle.like_core.specs.declared.view.View.TheVariants.{Coord, Worker, Spent}
 use Rattle.like_core.specs.State.{CoreState}
-use Rattle.like_core.specs.Views.{added_to, gathered_coord, seats_of}
+use Rattle.like_core.specs.Additions.{added_to, added_before}
+use Rattle.like_core.specs.Views.{gathered_coord, seats_of}
+use Rattle.like_core.specs.Reads.{before_in, all_before, AreBetween}
 use Rattle.like_core.specs.Tallies.{paged, left_to, room}
 use Rattle.like_core.specs.Shows.{Shows, ShowsSome, Fits, FitsWorker, FitsCoord}
-use Rattle.like_board.proofs.ViewLists.{within, sum_two, sum_swap, sum_lone}
+use Rattle.like_core.proofs.ViewLists.{within, sum_two, sum_lone, sum_gathered}
+use Rattle.like_core.proofs.KeptReads.{between_on, join_keeps_reads}
 use Rattle.like_board.proofs.Moves.{same_coord, has_seat, once_at_most}
 
 -- the views after the seat at `other` was given back to the coordinator's at `place`
 abbrev pub gathered : List View → ℕ → ℕ → CoordSeatView → WorkerSeatView → List View
 gathered views place other c v = set (set views place (Coord (gathered_coord c v))) other Spent
-
--- a sum over the views then
-sum_gathered : (f : View → ℕ) (views : List View) (place other : ℕ) (c : CoordSeatView) (v : WorkerSeatView) → get_elem? views place ≡ some (Coord c) → get_elem? (set views place (Coord (gathered_coord c v))) other ≡ some (Worker v) → f Spent ≡ 0 → f (Coord (gathered_coord c v)) ≡ f (Worker v) + f (Coord c) → sum_by f (gathered views place other c v) ≡ sum_by f views
-sum_gathered f views place other c v at mine spent more =
-    let first = sum_swap f views place (Coord c) (Coord (gathered_coord c v)) at in
-    let second = sum_swap f (set views place (Coord (gathered_coord c v))) other (Worker v) Spent mine in
-    omega arith
 
 -- the coordinator's view fits with one worker's view more
 fits_gathered : (z : Opening) (s : CoreState) (c : CoordSeatView) (v : WorkerSeatView) → FitsCoord z s c → FitsWorker z s v → FitsCoord z s (gathered_coord c v)
@@ -93,6 +89,7 @@ gathers z words views place other c v some_state at apart mine =
             sum_gathered (seats_of i) views place other c v at mine refl
             (sum_by-cons (λ (w : WorkerSeatView). cond (w.worker == i) 1 0) v c.joined) ∙
             (sh.once i ∙ ap (λ (e : CoordSeatView). cond (nat_lt i e.made) 1 0) is.1);
+        reads = join_keeps_reads z.counts s.phase views place other c v at there sh.reads;
       };
       tallied = record {
         sums = λ page.
@@ -105,14 +102,21 @@ gathers z words views place other c v some_state at apart mine =
             let more = sum_by-cons (λ (w : WorkerSeatView). left_to page w) v c.joined in
             let same = sum_gathered (room page) views place other c v at mine refl (omega arith) in
             omega arith;
+        past = λ phase page later.
+            sum_gathered (before_in phase page) views place other c v at mine refl
+            (sum_by-cons (λ (w : WorkerSeatView). added_before phase page w.additions) v c.joined) ∙
+            (some_state.tallied.past phase page later ∙
+            sym
+            (sum_gathered (paged page) views place other c v at mine refl
+            (sum_by-cons (λ (w : WorkerSeatView). added_to page w.additions) v c.joined)));
       };
     }
 
--- beside a coordinator that has all workers' seats back, no view adds to a page
-others_spent : (z : Opening) (s : CoreState) (words : List ℕ) (views : List View) (place : ℕ) (c : CoordSeatView) → Shows z s words views → get_elem? views place ≡ some (Coord c) → ((i : ℕ) → i < c.made → seats_of i (Coord c) ≡ 1) → (page j : ℕ) (u : View) → j ≢ place → get_elem? views j ≡ some u → paged page u ≡ 0
-others_spent z s words views place c sh at all page j (Coord e) other found =
+-- beside a coordinator that has all workers' seats back, no view knows anything
+others_spent : (z : Opening) (s : CoreState) (words : List ℕ) (views : List View) (place : ℕ) (c : CoordSeatView) → Shows z s words views → get_elem? views place ≡ some (Coord c) → ((i : ℕ) → i < c.made → seats_of i (Coord c) ≡ 1) → (j : ℕ) (u : View) → j ≢ place → get_elem? views j ≡ some u → u ≡ Spent
+others_spent z s words views place c sh at all j (Coord e) other found =
     absurd (other (sh.only j e found ∙ sym (sh.only place c at)))
-others_spent z s words views place c sh at all page j (Worker v) other found =
+others_spent z s words views place c sh at all j (Worker v) other found =
     let is = same_coord z s words views place c sh at in
     let seated = subst (λ (d : CoordSeatView). v.worker < d.made) is.1 (has_seat z s words views j v sh found) in
     let two = sum_two (seats_of v.worker) views place j (Coord c) (Worker v) (λ same. other (sym same)) at found in
@@ -121,14 +125,30 @@ others_spent z s words views place c sh at all page j (Worker v) other found =
     let one : seats_of v.worker (Worker v) ≡ 1 = cond-true (v.worker == v.worker) 1 0 (eq-eqb v.worker v.worker refl) in
     let back = all v.worker seated in
     absurd (omega arith)
-others_spent z s words views place c sh at all page j Spent other found = refl
+others_spent z s words views place c sh at all j Spent other found = refl
+
+-- a sum over the views is then the coordinator's alone
+sum_coord : (f : View → ℕ) (z : Opening) (s : CoreState) (words : List ℕ) (views : List View) (place : ℕ) (c : CoordSeatView) → f Spent ≡ 0 → Shows z s words views → get_elem? views place ≡ some (Coord c) → ((i : ℕ) → i < c.made → seats_of i (Coord c) ≡ 1) → sum_by f views ≡ f (Coord c)
+sum_coord f z s words views place c none sh at all =
+    sum_lone f views place (Coord c) at (λ j u other found. ap f (others_spent z s words views place c sh at all j u other found) ∙ none)
 
 -- where all workers' seats were given back, each page's word is its count at the start and all their additions
 pub last_word : (z : Opening) (words : List ℕ) (views : List View) (place : ℕ) (c : CoordSeatView) → ShowsSome z words views → get_elem? views place ≡ some (Coord c) → ((i : ℕ) → i < c.made → seats_of i (Coord c) ≡ 1) → (page : ℕ) → page < length z.counts → get_or words (page + 1) 0 ≡ get_or z.counts page 0 + sum_by (λ w. added_to page w.additions) c.joined
 last_word z words views place c some_state at all page on =
     let s = some_state.state in
     let sh = some_state.shows in
-    let lone = sum_lone (paged page) views place (Coord c) at (others_spent z s words views place c sh at all page) in
+    let lone = sum_coord (paged page) z s words views place c refl sh at all in
     let sums = some_state.tallied.sums page in
     let found = sh.pages page on in
     omega arith
+
+-- and each count that was read lies between what they have added
+pub last_reads : (z : Opening) (words : List ℕ) (views : List View) (place : ℕ) (c : CoordSeatView) → (shows : ShowsSome z words views) → get_elem? views place ≡ some (Coord c) → ((i : ℕ) → i < c.made → seats_of i (Coord c) ≡ 1) → (j : ℕ) (w : WorkerSeatView) → get_elem? c.joined j ≡ some w → AreBetween z.counts (λ phase page. before_in phase page (Coord c)) shows.state.phase w.additions w.reads
+last_reads z words views place c some_state at all j w found =
+    let s = some_state.state in
+    let sh = some_state.shows in
+    let lone : (k p : ℕ) → all_before views k p ≡ before_in k p (Coord c) = λ k p. sum_coord (before_in k p) z s words views place c refl sh at all in
+    between_on z.counts (all_before views) (λ k p. before_in k p (Coord c)) s.phase s.phase w.additions w.reads (omega arith)
+    (λ k p _. (let e = lone k p in omega arith))
+    (λ k p. (let e = lone k p in omega arith))
+    (sh.reads place (Coord c) at j w found)

@@ -13,16 +13,19 @@ use Rattle.like_core.specs.declared.view.CoordSeatView.{CoordSeatView}
 use Rattle.like_core.specs.declared.view.View.{View}
 use Rattle.like_core.specs.declared.view.View.TheVariants.{Coord}
 use Rattle.like_core.specs.Post.{additions_of}
-use Rattle.like_core.specs.Views.{added_to, post_of, seats_of}
+use Rattle.like_core.specs.Additions.{added_to, added_before}
+use Rattle.like_core.specs.Views.{post_of, seats_of}
+use Rattle.like_core.specs.Reads.{before_in, AreBetween}
 use Rattle.like_core.specs.Shows.{ShowsSome, FitsWorker, FitsCoord}
 use Rattle.like_core.proofs.Posts.{additions_at}
+use Rattle.like_core.proofs.KeptReads.{between_on}
 use Rattle.like_board.specs.declared.key.Key.{Key}
 use Rattle.like_board.specs.declared.worker_seat.WorkerSeat.{WorkerSeat}
 use Rattle.like_board.specs.Known.{coord_view_of}
 use Rattle.like_board.specs.Rule.{opening_of, IsShowing}
-use Rattle.like_board.specs.Seats.{seat_view, seat_meaning, AreAll, last_count}
+use Rattle.like_board.specs.Seats.{seat_view, seat_meaning, AreAll, last_count, seats_before, HaveReadBetween}
 use Rattle.like_board.proofs.Moves.{if_some}
-use Rattle.like_board.proofs.Gathering.{last_word}
+use Rattle.like_board.proofs.Gathering.{last_word, last_reads}
 
 -- what stands at a place is what is read there
 pub read_at : (l : List ℕ) (i n : ℕ) → get_elem? l i ≡ some n → get_or l i 0 ≡ n
@@ -83,8 +86,20 @@ closed_phase z words views place c some_state at k w found =
     (λ sight below. omega arith)
     fits.number
 
--- the last words and phases, where the coordinator's seat has all workers' seats
-pub closes : {S : Type 0} (key : Key) (id : ℕ) (me : View) (words : List ℕ) (slots : List S) (c : CoordSeatView) (seats : List WorkerSeat) → Final (Seen (IsShowing key) id me) words slots → me ≡ Coord (record c { joined = map seat_view seats ++ c.joined }) → c.joined ≡ [] → c.made ≡ c.opening.workers → AreAll c.opening.workers seats → ((page : ℕ) → page < length c.opening.counts → get_or words (page + 1) 0 ≡ last_count c.opening seats page) × All (λ seat. IfSome (seat_meaning seat).last (λ sight. sight.number ≤ c.phase)) seats
+-- each count that a worker whose seat was given back read lies between what all those workers have added
+closed_reads : (z : Opening) (words : List ℕ) (views : List View) (place : ℕ) (c : CoordSeatView) (before : ℕ → ℕ → ℕ) → ShowsSome z words views → get_elem? views place ≡ some (Coord c) → c.made ≡ c.opening.workers → ((i : ℕ) → i < c.opening.workers → seats_of i (Coord c) ≡ 1) → ((k p : ℕ) → before_in k p (Coord c) ≡ before k p) → (k : ℕ) (w : WorkerSeatView) → get_elem? c.joined k ≡ some w → AreBetween c.opening.counts before c.phase w.additions w.reads
+closed_reads z words views place c before some_state at made all same k w found =
+    let old : FitsCoord z some_state.state c = some_state.shows.each place (Coord c) at in
+    let phase = old.phase in
+    let reads = last_reads z words views place c some_state at (λ i below. all i (omega arith)) k w found in
+    subst (λ (y : Opening). AreBetween y.counts before c.phase w.additions w.reads) (sym old.opening)
+    (between_on z.counts (λ k p. before_in k p (Coord c)) before some_state.state.phase c.phase w.additions w.reads (omega arith)
+    (λ k p _. (let e = same k p in omega arith))
+    (λ k p. (let e = same k p in omega arith))
+    reads)
+
+-- the last words, phases and reads, where the coordinator's seat has all workers' seats
+pub closes : {S : Type 0} (key : Key) (id : ℕ) (me : View) (words : List ℕ) (slots : List S) (c : CoordSeatView) (seats : List WorkerSeat) → Final (Seen (IsShowing key) id me) words slots → me ≡ Coord (record c { joined = map seat_view seats ++ c.joined }) → c.joined ≡ [] → c.made ≡ c.opening.workers → AreAll c.opening.workers seats → ((page : ℕ) → page < length c.opening.counts → get_or words (page + 1) 0 ≡ last_count c.opening seats page) × All (λ seat. IfSome (seat_meaning seat).last (λ sight. sight.number ≤ c.phase)) seats × HaveReadBetween c.opening c.phase seats
 closes key id me words slots c seats final me_is none made all =
     let z = opening_of key in
     let views : List View = final.0.views in
@@ -103,6 +118,10 @@ closes key id me words slots c seats final me_is none made all =
           ap (λ (k : ℕ). get_or c.opening.counts page 0 + k) (sum_by-map seat_view (λ (w : WorkerSeatView). additions_of (post_of w) page) seats),
       λ k seat below.
           closed_phase z words views id d shows at k (seat_view (get_or seats k seat)) (at_mapped seat_view seats k seat below),
+      λ k seat below.
+          closed_reads z words views id d (seats_before seats) shows at made each
+          (λ phase page. sum_by-map seat_view (λ (w : WorkerSeatView). added_before phase page w.additions) seats)
+          k (seat_view (get_or seats k seat)) (at_mapped seat_view seats k seat below),
     )
 
 -- a view that is some coordinator's is the coordinator's that it is read as

@@ -1,23 +1,34 @@
 -- A step of the coordinator keeps what the board shows.
-use Rattle.std.proofs.Common.{◌≡◌, ◌≢◌, ℕ, ◌+◌, ◌<◌, ◌==◌, nat_lt, Bool, cond, inl, inr, List, [], ◌∷◌, ◌++◌, set, count_by, subst, ap, sym, ◌∙◌, refl, eq-eqb, arith}
+use Rattle.std.proofs.Common.{◌≡◌, ◌≢◌, ℕ, ◌+◌, ◌<◌, ◌≤◌, ◌==◌, nat_lt, Bool, cond, inl, inr, List, [], ◌∷◌, ◌++◌, set, count_by, subst, ap, sym, ◌∙◌, refl, eq-eqb, arith}
 use Rattle.std.proofs.Math.ListN.{length-set}
 use Rattle.std.proofs.lemmas.List.{get_or-set_same, get_or-set_other}
+use Rattle.std.specs.List.{sum_by}
+use Rattle.std.proofs.lemmas.List.Elements.{All-nil}
 use Rattle.std.proofs.lemmas.List.Sums.{sum_by_push}
 use Rattle.std.proofs.lemmas.Bool.{cases_eq, cases_lt, le-ltb, lt-ltb, ne_eqb}
 use mathlib.Core.Option.{some}
 use lib.ListN.{get_elem?}
 use Rattle.atomic_table.proofs.Lists.{at_set, at_snoc, at_longer, set_here}
 use Rattle.like_core.specs.declared.opening.Opening.{Opening}
+use Rattle.like_core.specs.declared.view.PageRead.{PageRead}
 use Rattle.like_core.specs.declared.view.WorkerSeatView.{WorkerSeatView}
 use Rattle.like_core.specs.declared.view.CoordSeatView.{CoordSeatView}
 use Rattle.like_core.specs.declared.view.View.{View}
 use Rattle.like_core.specs.declared.view.View.TheVariants.{Coord, Worker, Spent}
 use Rattle.like_core.specs.State.{CoreState}
 use Rattle.like_core.specs.ShownWord.{shown_word}
+use Rattle.like_core.specs.Additions.{added_before}
 use Rattle.like_core.specs.Views.{fresh, made_coord, seats_of}
+use Rattle.like_core.specs.Reads.{IsBetween, AreBetween}
 use Rattle.like_core.specs.Shows.{Shows, Fits, FitsWorker, FitsCoord}
-use Rattle.like_board.proofs.ViewLists.{within, sum_set}
+use Rattle.like_core.proofs.ViewLists.{within, sum_set}
+use Rattle.like_core.proofs.KeptReads.{reads_same, reads_push}
 use Rattle.like_board.proofs.Moves.{same_coord, counts_none, counts_one}
+
+-- the reads of the views of seats that were given back lie between
+abbrev HasJoinedReads : List ℕ → (ℕ → ℕ → ℕ) → ℕ → List WorkerSeatView → Type 0
+HasJoinedReads counts before phase joined =
+    (place : ℕ) (v : WorkerSeatView) → get_elem? joined place ≡ some v → AreBetween counts before phase v.additions v.reads
 
 -- the state in another phase
 abbrev pub phased : CoreState → ℕ → Bool → CoreState
@@ -25,8 +36,8 @@ phased s phase ending = record s { phase = phase; ending = ending }
 
 -- after the coordinator led to this phase, with a new view of its own that fits, the words and the views show the state
 -- after, where all workers' views fit that too
-pub leads : (z : Opening) (s : CoreState) (words : List ℕ) (views : List View) (place : ℕ) (c d : CoordSeatView) (phase : ℕ) (ending : Bool) (word : ℕ) → Shows z s words views → get_elem? views place ≡ some (Coord c) → d.made ≡ c.made → d.joined ≡ c.joined → word ≡ shown_word z (phased s phase ending) → FitsCoord z (phased s phase ending) d → ((v : WorkerSeatView) → FitsWorker z s v → FitsWorker z (phased s phase ending) v) → Shows z (phased s phase ending) (set words 0 word) (set views place (Coord d))
-leads z s words views place c d phase ending word sh at made joined word_is fits workers =
+pub leads : (z : Opening) (s : CoreState) (words : List ℕ) (views : List View) (place : ℕ) (c d : CoordSeatView) (phase : ℕ) (ending : Bool) (word : ℕ) → Shows z s words views → get_elem? views place ≡ some (Coord c) → d.made ≡ c.made → d.joined ≡ c.joined → s.phase ≤ phase → word ≡ shown_word z (phased s phase ending) → FitsCoord z (phased s phase ending) d → ((v : WorkerSeatView) → FitsWorker z s v → FitsWorker z (phased s phase ending) v) → Shows z (phased s phase ending) (set words 0 word) (set views place (Coord d))
+leads z s words views place c d phase ending word sh at made joined on word_is fits workers =
     let t : CoreState = phased s phase ending in
     let wide = sh.width in
     let is = same_coord z s words views place c sh at in
@@ -61,6 +72,10 @@ leads z s words views place c d phase ending word sh at made joined word_is fits
       once = λ i.
           sum_set (seats_of i) views place (Coord c) (Coord d) at (ap (count_by (λ (w : WorkerSeatView). w.worker == i)) joined) ∙
           (sh.once i ∙ ap (λ n. cond (nat_lt i n) 1 0) (ap (λ (e : CoordSeatView). e.made) is.1 ∙ sym made));
+      reads = reads_same z.counts s.phase phase views place (Coord c) (Coord d) on at
+          (λ k p. ap (sum_by (λ (v : WorkerSeatView). added_before k p v.additions)) joined)
+          (λ f has. subst (HasJoinedReads z.counts f phase) (sym joined) has)
+          sh.reads;
     }
 
 one_more : (i n : ℕ) → cond (nat_lt i n) 1 0 + cond (n == i) 1 0 ≡ cond (nat_lt i (n + 1)) 1 0
@@ -146,4 +161,9 @@ splits z s words views place c sh at room =
           (sum_set (seats_of i) views place (Coord c) (Coord d) at refl ∙
           (sh.once i ∙ ap (λ (e : CoordSeatView). cond (nat_lt i e.made) 1 0) is.1)) ∙
           one_more i c.made);
+      reads = λ j u found.
+          reads_push z.counts s.phase changed (Worker new) (λ k p. refl) (λ f. All-nil (λ (r : PageRead). (r.phase ≤ s.phase) × IsBetween z.counts f [] r))
+          (reads_same z.counts s.phase s.phase views place (Coord c) (Coord d) (omega arith) at (λ k p. refl) (λ f has. has) sh.reads)
+          j u
+          (at_snoc changed (Worker new) u j found);
     }

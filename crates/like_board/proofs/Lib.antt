@@ -1,4 +1,3 @@
-pub mod ViewLists
 pub mod Moves
 pub mod Tallying
 pub mod Leads

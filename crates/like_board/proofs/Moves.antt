@@ -20,11 +20,14 @@ use Rattle.like_core.specs.WorkerState.{IsIn}
 use Rattle.like_core.specs.Numbers.{AllIn, CoordSees}
 use Rattle.like_core.specs.State.{CoreState, numbers}
 use Rattle.like_core.specs.ShownWord.{shown_word}
+use Rattle.like_core.specs.Additions.{added_before}
 use Rattle.like_core.specs.Views.{seats_of}
+use Rattle.like_core.specs.Reads.{AreBetween, ReadsFit}
 use Rattle.like_core.specs.Shows.{Shows, Fits, FitsWorker, FitsCoord}
 use Rattle.like_core.proofs.Updates.{update-same, update-other, update_cases}
 use Rattle.like_core.proofs.ShownEvents.{moved}
-use Rattle.like_board.proofs.ViewLists.{sum_part, sum_two, sum_set}
+use Rattle.like_core.proofs.KeptReads.{reads_same}
+use Rattle.like_core.proofs.ViewLists.{sum_part, sum_two, sum_set}
 
 -- what holds of the value of an option may be exchanged for what follows from it
 pub if_some : {A : Type 0} (o : Option A) (P Q : A → Type 0) → ((a : A) → P a → Q a) → IfSome o P → IfSome o Q
@@ -144,8 +147,8 @@ same_coord z s words views place c sh at =
 
 -- after a worker's step, with a new view of its own that fits, the words and the views show the state after, where the
 -- words do and each view fits it that is no seat of the worker's
-pub worker_steps : (z : Opening) (s t : CoreState) (words later : List ℕ) (views : List View) (place : ℕ) (v w : WorkerSeatView) → Shows z s words views → get_elem? views place ≡ some (Worker v) → w.worker ≡ v.worker → length later ≡ length words → get_or later 0 0 ≡ shown_word z t → ((page : ℕ) → page < length z.counts → get_or later (page + 1) 0 ≡ get_or z.counts page 0 + length (t.applied page)) → ((i : ℕ) → t.unmerged i ≡ []) → FitsWorker z t w → ((u : View) → seats_of v.worker u ≡ 0 → ((c : CoordSeatView) → u ≡ Coord c → v.worker < c.made) → Fits z s u → Fits z t u) → Shows z t later (set views place (Worker w))
-worker_steps z s t words later views place v w sh at number width word pages merged fits others =
+pub worker_steps : (z : Opening) (s t : CoreState) (words later : List ℕ) (views : List View) (place : ℕ) (v w : WorkerSeatView) → Shows z s words views → get_elem? views place ≡ some (Worker v) → w.worker ≡ v.worker → length later ≡ length words → get_or later 0 0 ≡ shown_word z t → ((page : ℕ) → page < length z.counts → get_or later (page + 1) 0 ≡ get_or z.counts page 0 + length (t.applied page)) → ((i : ℕ) → t.unmerged i ≡ []) → FitsWorker z t w → ((u : View) → seats_of v.worker u ≡ 0 → ((c : CoordSeatView) → u ≡ Coord c → v.worker < c.made) → Fits z s u → Fits z t u) → ReadsFit z.counts t.phase (set views place (Worker w)) → Shows z t later (set views place (Worker w))
+worker_steps z s t words later views place v w sh at number width word pages merged fits others reads =
     let seated = has_seat z s words views place v sh at in
     let not_first : place ≢ 0 = λ zeroth.
     let here : get_elem? views 0 ≡ some (Worker v) = ap (get_elem? views) (sym zeroth) ∙ at in
@@ -178,17 +181,23 @@ worker_steps z s t words later views place v w sh at number width word pages mer
       ];
       once = λ i.
           sum_set (seats_of i) views place (Worker v) (Worker w) at (ap (λ k. cond (k == i) 1 0) number) ∙ sh.once i;
+      reads = reads;
     }
 
--- after worker i moved, with a new view of its own that fits, the words and the views show the state after
-pub worker_moves : (z : Opening) (s : CoreState) (words : List ℕ) (views : List View) (place : ℕ) (v w : WorkerSeatView) (state : WorkerState) (word : ℕ) → Shows z s words views → get_elem? views place ≡ some (Worker v) → w.worker ≡ v.worker → word ≡ shown_word z (moved s v.worker state) → FitsWorker z (moved s v.worker state) w → (IsIn s.phase (s.state v.worker) → state ≡ s.state v.worker) → (IsSplit s.phase → state ≡ Gone → s.state v.worker ≡ Gone) → Shows z (moved s v.worker state) (set words 0 word) (set views place (Worker w))
-worker_moves z s words views place v w state word sh at number word_is fits stays gone =
+-- after worker i moved, with a new view of its own that fits and has the same additions and reads, the words and the
+-- views show the state after
+pub worker_moves : (z : Opening) (s : CoreState) (words : List ℕ) (views : List View) (place : ℕ) (v w : WorkerSeatView) (state : WorkerState) (word : ℕ) → Shows z s words views → get_elem? views place ≡ some (Worker v) → w ≡ record v { state = w.state; last = w.last } → word ≡ shown_word z (moved s v.worker state) → FitsWorker z (moved s v.worker state) w → (IsIn s.phase (s.state v.worker) → state ≡ s.state v.worker) → (IsSplit s.phase → state ≡ Gone → s.state v.worker ≡ Gone) → Shows z (moved s v.worker state) (set words 0 word) (set views place (Worker w))
+worker_moves z s words views place v w state word sh at rest word_is fits stays gone =
     let wide = sh.width in
     let old : FitsWorker z s v = sh.each place (Worker v) at in
-    worker_steps z s (moved s v.worker state) words (set words 0 word) views place v w sh at number
+    worker_steps z s (moved s v.worker state) words (set words 0 word) views place v w sh at (ap (λ (x : WorkerSeatView). x.worker) rest)
     (length-set words 0 word)
     (get_or-set_same words 0 word 0 (omega arith) ∙ word_is)
     (λ page below. get_or-set_other words 0 (page + 1) word 0 (λ eq. absurd (omega arith)) ∙ sh.pages page below)
     sh.merged
     fits
     (λ u none seat f. fits_other z s v.worker state old.there stays gone u none seat f)
+    (reads_same z.counts s.phase s.phase views place (Worker v) (Worker w) (omega arith) at
+    (λ k p. ap (λ (x : WorkerSeatView). added_before k p x.additions) rest)
+    (λ f has. subst (λ (x : WorkerSeatView). AreBetween z.counts f s.phase x.additions x.reads) (sym rest) has)
+    sh.reads)

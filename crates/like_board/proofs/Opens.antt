@@ -6,6 +6,7 @@ use lib.ListN.{get_elem?}
 use Rattle.like_core.specs.declared.worker_state.WorkerState.{WorkerState}
 use Rattle.like_core.specs.declared.worker_state.WorkerState.TheVariants.{Runs, Gone}
 use Rattle.like_core.specs.declared.opening.Opening.{Opening}
+use Rattle.like_core.specs.declared.view.WorkerSeatView.{WorkerSeatView}
 use Rattle.like_core.specs.declared.view.CoordSeatView.{CoordSeatView}
 use Rattle.like_core.specs.declared.view.View.{View}
 use Rattle.like_core.specs.declared.view.View.TheVariants.{Coord}
@@ -15,6 +16,7 @@ use Rattle.like_core.specs.State.{start}
 use Rattle.like_core.specs.ShownWord.{mask, has_answered, is_gone, shown_fields}
 use Rattle.like_core.specs.Sights.{first_fields}
 use Rattle.like_core.specs.Views.{fresh_coord}
+use Rattle.like_core.specs.Reads.{all_before, HasReads, ReadsFit}
 use Rattle.like_core.specs.Shows.{IsOpening, ShowsSome, Fits, FitsCoord}
 use Rattle.like_core.proofs.Reached.{start_reached}
 use Rattle.like_core.proofs.Masks.{mask_none}
@@ -69,8 +71,9 @@ opens z opening =
         only = only_first c;
         each = each_first z c fits;
         once = λ i. sym (counts_none (nat_lt i 0) (le-ltb i 0 (omega arith)));
+        reads = no_reads z c refl;
       };
-      tallied = record { sums = λ page. refl; rooms = λ page. omega arith };
+      tallied = record { sums = λ page. refl; rooms = λ page. omega arith; past = λ phase page later. refl };
     }
   where
     only_first : (c : CoordSeatView) (place : ℕ) (d : CoordSeatView) → get_elem? (Coord c ∷ []) place ≡ some (Coord d) → place ≡ 0
@@ -80,6 +83,14 @@ opens z opening =
     each_first : (z : Opening) (c : CoordSeatView) → FitsCoord z (start z) c → (place : ℕ) (v : View) → get_elem? (Coord c ∷ []) place ≡ some v → Fits z (start z) v
     each_first z c fits zero v at = subst (Fits z (start z)) (some-injective (Coord c) v at) fits
     each_first z c fits (suc place) v at = absurd (some-ne-none v (sym at))
+
+    no_reads : (z : Opening) (c : CoordSeatView) → c.joined ≡ [] → ReadsFit z.counts 0 (Coord c ∷ [])
+    no_reads z c none zero v at =
+        let has : HasReads z.counts (all_before (Coord c ∷ [])) 0 (Coord c) =
+        λ place w found. absurd (some-ne-none w (sym (sym (ap (λ (l : List WorkerSeatView). get_elem? l place) none) ∙ found)))
+        in
+        subst (HasReads z.counts (all_before (Coord c ∷ [])) 0) (some-injective (Coord c) v at) has
+    no_reads z c none (suc place) v at = absurd (some-ne-none v (sym at))
 
 -- a table that is made with these words starts by the rule
 pub opens_key : (key : Key) (counts : List ℕ) (marks : List Bool) (word : ℕ) (words : List ℕ) → key.counts.items ≡ counts → key.marks.items ≡ marks → word ≡ packed (first_fields key.workers) → words ≡ word ∷ counts → 1 ≤ key.workers → key.workers ≤ max_workers → length marks ≡ length counts → length counts ≤ max_pages → All (λ n. n ≤ max_count) counts → ShowsSome (opening_of key) words (first_view key ∷ [])

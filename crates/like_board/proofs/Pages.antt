@@ -15,6 +15,7 @@ use Rattle.like_core.specs.Numbers.{CoordSees}
 use Rattle.like_core.specs.State.{CoreState, Label, labelled, numbers}
 use Rattle.like_core.specs.ShownWord.{shown_word}
 use Rattle.like_core.specs.Views.{seats_of}
+use Rattle.like_core.specs.Reads.{ReadsFit}
 use Rattle.like_core.specs.Shows.{Shows, Fits, FitsWorker}
 use Rattle.like_board.proofs.Moves.{if_some, joined_other, worker_other, worker_steps}
 
@@ -70,8 +71,8 @@ fits_else z s unmerged applied i keeps (Worker v) none has_seat f =
 fits_else z s unmerged applied i keeps Spent none has_seat f = tt
 
 -- after a step on a page's word, with a new view of its own that fits, the words and the views show the state after
-pub page_steps : (z : Opening) (s : CoreState) (unmerged : ℕ → List ℕ) (applied : ℕ → List Label) (words : List ℕ) (views : List View) (place : ℕ) (v w : WorkerSeatView) (page word : ℕ) → Shows z s words views → get_elem? views place ≡ some (Worker v) → w.worker ≡ v.worker → page < length z.counts → word ≡ get_or z.counts page 0 + length (applied page) → ((q : ℕ) → q ≢ page → length (applied q) ≡ length (s.applied q)) → ((j : ℕ) → unmerged j ≡ []) → KeepsOthers s applied v.worker → FitsWorker z (with_likes s unmerged applied) w → Shows z (with_likes s unmerged applied) (set words (page + 1) word) (set views place (Worker w))
-page_steps z s unmerged applied words views place v w page word sh at number on word_is others merged keeps fits =
+pub page_steps : (z : Opening) (s : CoreState) (unmerged : ℕ → List ℕ) (applied : ℕ → List Label) (words : List ℕ) (views : List View) (place : ℕ) (v w : WorkerSeatView) (page word : ℕ) → Shows z s words views → get_elem? views place ≡ some (Worker v) → w.worker ≡ v.worker → page < length z.counts → word ≡ get_or z.counts page 0 + length (applied page) → ((q : ℕ) → q ≢ page → length (applied q) ≡ length (s.applied q)) → ((j : ℕ) → unmerged j ≡ []) → KeepsOthers s applied v.worker → FitsWorker z (with_likes s unmerged applied) w → ReadsFit z.counts s.phase (set views place (Worker w)) → Shows z (with_likes s unmerged applied) (set words (page + 1) word) (set views place (Worker w))
+page_steps z s unmerged applied words views place v w page word sh at number on word_is others merged keeps fits reads =
     let wide = sh.width in
     let t : CoreState = with_likes s unmerged applied in
     let later : List ℕ = set words (page + 1) word in
@@ -91,3 +92,4 @@ page_steps z s unmerged applied words views place v w page word sh at number on 
     merged
     fits
     (λ u none seat f. fits_else z s unmerged applied v.worker keeps u none seat f)
+    reads

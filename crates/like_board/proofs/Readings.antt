@@ -1,5 +1,5 @@
 -- A read of a page's word is the event, and keeps what the board shows.
-use Rattle.std.proofs.Common.{◌≡◌, ℕ, ◌+◌, ◌<◌, ◌≤◌, List, length, get_or, set, ap, sym, ◌∙◌, refl, arith}
+use Rattle.std.proofs.Common.{◌≡◌, ℕ, ◌+◌, ◌<◌, ◌≤◌, List, length, get_or, set, subst, ap, sym, ◌∙◌, refl, arith}
 use mathlib.Core.Option.{some}
 use lib.ListN.{get_elem?}
 use Rattle.like_core.specs.declared.worker_state.WorkerState.TheVariants.{Runs}
@@ -14,17 +14,20 @@ use Rattle.like_core.specs.Table.{Permits}
 use Rattle.like_core.specs.State.{marked, numbers}
 use Rattle.like_core.specs.WorkerState.{phase_of}
 use Rattle.like_core.specs.Post.{MayRead, slices}
-use Rattle.like_core.specs.Views.{added_to, post_of}
+use Rattle.like_core.specs.Additions.{added_to}
+use Rattle.like_core.specs.Views.{read_view, post_of}
+use Rattle.like_core.specs.Reads.{all_before, ReadsFit}
 use Rattle.like_core.specs.Tallies.{paged}
 use Rattle.like_core.specs.Shows.{Shows, ShowsSome, FitsWorker, IsStep}
 use Rattle.like_core.proofs.InPhase.{reached_in_phase}
-use Rattle.like_board.proofs.ViewLists.{sum_part}
+use Rattle.like_core.proofs.KeptReads.{read_keeps_reads}
+use Rattle.like_core.proofs.ViewLists.{sum_part}
 use Rattle.like_board.proofs.WorkerSteps.{running_is}
 use Rattle.like_board.proofs.Pages.{page_steps}
 use Rattle.like_board.proofs.Tallying.{tallied_on}
 
 -- a read is the event
-pub reads : (z : Opening) (words : List ℕ) (views : List View) (place : ℕ) (v : WorkerSeatView) (page : ℕ) → ShowsSome z words views → get_elem? views place ≡ some (Worker v) → MayRead (post_of v) page → IsStep z (Read v.worker page) (Count (get_or words (page + 1) 0)) (Worker v) (Worker v) × ShowsSome z (set words (page + 1) (get_or words (page + 1) 0)) (set views place (Worker v)) × (added_to page v.additions ≤ get_or words (page + 1) 0)
+pub reads : (z : Opening) (words : List ℕ) (views : List View) (place : ℕ) (v : WorkerSeatView) (page : ℕ) → ShowsSome z words views → get_elem? views place ≡ some (Worker v) → MayRead (post_of v) page → IsStep z (Read v.worker page) (Count (get_or words (page + 1) 0)) (Worker v) (Worker (read_view v page (get_or words (page + 1) 0))) × ShowsSome z (set words (page + 1) (get_or words (page + 1) 0)) (set views place (Worker (read_view v page (get_or words (page + 1) 0)))) × (added_to page v.additions ≤ get_or words (page + 1) 0)
 reads z words views place v page some_state at may =
     let s = some_state.state in
     let sh = some_state.shows in
@@ -45,15 +48,35 @@ reads z words views place v page some_state at may =
     let sums = some_state.tallied.sums page in
     let part = sum_part (paged page) views place (Worker v) at in
     let found : get_or words (page + 1) 0 ≡ get_or z.counts page 0 + length (s.applied page) = sh.pages page on in
+    let w : WorkerSeatView = read_view v page (get_or words (page + 1) 0) in
+    let past = some_state.tallied.past (s.phase + 1) page (omega arith) in
+    let P : ℕ → Type 0 = λ now. get_or words (page + 1) 0 ≡ get_or z.counts page 0 + all_before views (now + 1) page in
+    let Q : ℕ → List View → Type 0 = λ now later. ReadsFit z.counts now later in
+    let all_found : P s.phase = omega arith in
+    let kept : ReadsFit z.counts (phase_of v.state) (set views place (Worker w)) =
+    read_keeps_reads z.counts views place v page (get_or words (page + 1) 0) at (subst P (sym present) all_found)
+    (subst (λ (now : ℕ). Q now views) (sym present) sh.reads)
+    in
+    let fits : FitsWorker z s w =
+    record {
+      opening = old.opening;
+      there = old.there;
+      state = old.state;
+      number = old.number;
+      ending = old.ending;
+      labels = old.labels;
+    }
+    in
     let permits : Permits (numbers z s) (Read i page) =
     record { there = (old.there, on); suits = (here ∙ ap Runs now, same ∙ may.plain); leaves_last = tt; room = tt }
     in
-    let shows : Shows z s (set words (page + 1) (get_or words (page + 1) 0)) (set views place (Worker v)) =
-    page_steps z s s.unmerged s.applied words views place v v page (get_or words (page + 1) 0) sh at refl on found
+    let shows : Shows z s (set words (page + 1) (get_or words (page + 1) 0)) (set views place (Worker w)) =
+    page_steps z s s.unmerged s.applied words views place v w page (get_or words (page + 1) 0) sh at refl on found
     (λ q other. refl)
     sh.merged
     (λ j phase q other. refl)
-    old
+    fits
+    (subst (λ (now : ℕ). Q now (set views place (Worker w))) present kept)
     in (
       record {
         words = words;
@@ -74,7 +97,7 @@ reads z words views place v page some_state at may =
         state = s;
         reachable = some_state.reachable;
         shows = shows;
-        tallied = tallied_on s s views place (Worker v) (Worker v) (λ _. refl) at (λ _. refl) (λ _. refl) some_state.tallied;
+        tallied = tallied_on s s views place (Worker v) (Worker w) (omega arith) (λ _. refl) at (λ _. refl) (λ _. refl) (λ _ _. refl) some_state.tallied;
       },
       omega arith,
     )

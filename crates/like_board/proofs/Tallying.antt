@@ -1,5 +1,5 @@
 -- What the views have added, and may still add, after a step that adds nothing.
-use Rattle.std.proofs.Common.{◌≡◌, ℕ, ◌<◌, List, [], ◌∷◌, ◌++◌, length, set, ap, sym, ◌∙◌, refl, arith}
+use Rattle.std.proofs.Common.{◌≡◌, ℕ, ◌<◌, ◌≤◌, List, [], ◌∷◌, ◌++◌, length, set, ap, sym, ◌∙◌, refl, arith}
 use Rattle.std.proofs.lemmas.List.Sums.{sum_by_push}
 use mathlib.Core.Option.{some}
 use lib.ListN.{get_elem?}
@@ -10,12 +10,13 @@ use Rattle.like_core.specs.declared.view.View.TheVariants.{Coord, Worker}
 use Rattle.like_core.specs.Limits.{max_likes}
 use Rattle.like_core.specs.State.{CoreState, Label}
 use Rattle.like_core.specs.Views.{fresh, made_coord}
+use Rattle.like_core.specs.Reads.{before_in}
 use Rattle.like_core.specs.Tallies.{Tallied, paged, room}
-use Rattle.like_board.proofs.ViewLists.{sum_set, sum_swap}
+use Rattle.like_core.proofs.ViewLists.{sum_set, sum_swap}
 
 -- after a step that applies no like, with a new view that has the same additions
-pub tallied_on : (s t : CoreState) (views : List View) (place : ℕ) (a b : View) → ((page : ℕ) → t.applied page ≡ s.applied page) → get_elem? views place ≡ some a → ((page : ℕ) → paged page b ≡ paged page a) → ((page : ℕ) → room page b ≡ room page a) → Tallied s views → Tallied t (set views place b)
-tallied_on s t views place a b applied at same_pages same_rooms old = record {
+pub tallied_on : (s t : CoreState) (views : List View) (place : ℕ) (a b : View) → s.phase ≤ t.phase → ((page : ℕ) → t.applied page ≡ s.applied page) → get_elem? views place ≡ some a → ((page : ℕ) → paged page b ≡ paged page a) → ((page : ℕ) → room page b ≡ room page a) → ((phase page : ℕ) → before_in phase page b ≡ before_in phase page a) → Tallied s views → Tallied t (set views place b)
+tallied_on s t views place a b on applied at same_pages same_rooms same_before old = record {
   sums = λ page.
       ap (λ (l : List Label). length l) (applied page) ∙
       (old.sums page ∙ sym (sum_set (paged page) views place a b at (same_pages page)));
@@ -24,6 +25,9 @@ tallied_on s t views place a b applied at same_pages same_rooms old = record {
       let same = sum_set (room page) views place a b at (same_rooms page) in
       let before = old.rooms page in
       omega arith;
+  past = λ phase page later.
+      sum_set (before_in phase page) views place a b at (same_before phase page) ∙
+      (old.past phase page (omega arith) ∙ sym (sum_set (paged page) views place a b at (same_pages page)));
 }
 
 -- after a worker's seat was made
@@ -44,5 +48,14 @@ tallied_made z s views place c at few old =
           let swap = sum_swap (room page) views place (Coord c) (Coord d) at in
           let more = sum_by_push (room page) changed new in
           let all : room page new ≡ max_likes = refl in
+          omega arith;
+      past = λ phase page later.
+          let before = old.past phase page later in
+          let here = sum_set (before_in phase page) views place (Coord c) (Coord d) at refl in
+          let same = sum_set (paged page) views place (Coord c) (Coord d) at refl in
+          let more_before = sum_by_push (before_in phase page) changed new in
+          let more = sum_by_push (paged page) changed new in
+          let none : paged page new ≡ 0 = refl in
+          let none_before : before_in phase page new ≡ 0 = refl in
           omega arith;
     }

@@ -157,7 +157,7 @@ looks z words views place v some_state at there =
         state = t;
         reachable = goes_on_by z s (Look i) some_state.reachable permits;
         shows = shows_after;
-        tallied = tallied_on s t views place (Worker v) (Worker w) (λ _. refl) at (λ _. refl) (λ _. refl) some_state.tallied;
+        tallied = tallied_on s t views place (Worker v) (Worker w) (omega arith) (λ _. refl) at (λ _. refl) (λ _. refl) (λ _ _. refl) some_state.tallied;
       },
     )
 
@@ -226,7 +226,7 @@ acknowledges z words views place v some_state at joined saw =
         shows = after_it;
         tallied =
             tallied_on s (moved s v.worker (Answered s.phase)) views place (Worker v) (Worker (answered_view v))
-            (λ _. refl) at (λ _. refl) (λ _. refl) some_state.tallied;
+            (omega arith) (λ _. refl) at (λ _. refl) (λ _. refl) (λ _ _. refl) some_state.tallied;
       },
     )
 
@@ -270,7 +270,7 @@ reports z words views place v some_state at split saw =
         shows = after_it;
         tallied =
             tallied_on s (moved s v.worker (Answered s.phase)) views place (Worker v) (Worker (answered_view v))
-            (λ _. refl) at (λ _. refl) (λ _. refl) some_state.tallied;
+            (omega arith) (λ _. refl) at (λ _. refl) (λ _. refl) (λ _ _. refl) some_state.tallied;
       },
     )
 
@@ -327,7 +327,7 @@ retires z words views place v some_state at joined =
         reachable = goes_on_by z s (Retire i) some_state.reachable permits;
         shows = after_it;
         tallied =
-            tallied_on s (moved s i Gone) views place (Worker v) (Worker (retired_view v)) (λ _. refl) at (λ _. refl)
-            (λ _. refl) some_state.tallied;
+            tallied_on s (moved s i Gone) views place (Worker v) (Worker (retired_view v)) (omega arith) (λ _. refl) at (λ _. refl)
+            (λ _. refl) (λ _ _. refl) some_state.tallied;
       },
     )

@@ -10,7 +10,8 @@ use Rattle.like_core.specs.Phase.{IsSplit}
 use Rattle.like_core.specs.Word.{Fields, packed, IsLawful}
 use Rattle.like_core.specs.Sights.{sight_of, coord_sight_of}
 use Rattle.like_core.specs.WorkerState.{IsSightOf, SeesEndingStill}
-use Rattle.like_core.specs.Views.{added_to, looked_view, added_view, looked_coord}
+use Rattle.like_core.specs.Additions.{added_to}
+use Rattle.like_core.specs.Views.{looked_view, added_view, read_view, looked_coord}
 use Rattle.like_core.specs.Shows.{IsStep}
 use Rattle.like_core.specs.Actions.{Adds, Reads}
 use Rattle.like_board.specs.Known.{worker_view_of, coord_view_of}
@@ -76,12 +77,13 @@ pub record TellsAdd (page n : ℕ) (v : View) (found : ℕ) (w : View) : Type 0 
 abbrev pub TellsAddAt : ℕ → ℕ → View → ℕ → View → Type 0
 TellsAddAt word n v found w = (page : ℕ) → word ≡ page + 1 → TellsAdd page n v found w
 
--- what a read of a page tells beside that the view stays: the worker's own additions are in the count, and it is the
--- action
-pub record TellsRead (page : ℕ) (v : View) (found : ℕ) : Type 0 where
+-- what a read of a page tells: the view after has it, with the count that it found; the worker's own additions are in
+-- that; and it is the action
+pub record TellsRead (page : ℕ) (v : View) (found : ℕ) (w : View) : Type 0 where
+  pub view : w ≡ Worker (read_view (worker_view_of v) page found)
   pub own : added_to page (worker_view_of v).additions ≤ found
-  pub step : Reads (worker_view_of v) page found (worker_view_of v)
+  pub step : let me = worker_view_of v in Reads me page found (read_view me page found)
 
 -- the same of a word
-abbrev pub TellsReadAt : ℕ → View → ℕ → Type 0
-TellsReadAt word v found = (page : ℕ) → word ≡ page + 1 → TellsRead page v found
+abbrev pub TellsReadAt : ℕ → View → ℕ → View → Type 0
+TellsReadAt word v found w = (page : ℕ) → word ≡ page + 1 → TellsRead page v found w

@@ -1,4 +1,4 @@
-use Rattle.std.specs.Prelude.{◌≡◌, ℕ, ◌+◌, ◌<◌, ◌==◌, List, ◌∷◌, Some, slice_get, slice_index, count_by}
+use Rattle.std.specs.Prelude.{◌≡◌, ℕ, ◌+◌, ◌<◌, ◌==◌, All, List, ◌∷◌, Some, slice_get, slice_index, count_by}
 use Rattle.std.specs.List.{sum_by}
 use Rattle.atomic_table.specs.Seated.{TableId}
 use Rattle.like_core.specs.declared.opening.Opening.{Opening}
@@ -8,8 +8,10 @@ use Rattle.like_board.specs.declared.board.Board.{Board}
 use Rattle.like_board.specs.declared.coord_seat.CoordSeat.{CoordSeat}
 use Rattle.like_board.specs.declared.worker_seat.WorkerSeat.{WorkerSeat}
 use Rattle.like_board.specs.declared.board_post.BoardPost.{BoardPost}
+use Rattle.like_core.specs.Additions.{added_before}
 use Rattle.like_core.specs.Post.{PostView, IsFresh, additions_of}
 use Rattle.like_core.specs.Views.{fresh, post_of}
+use Rattle.like_core.specs.Reads.{AreBetween}
 use Rattle.like_board.specs.Known.{worker_view_of, coord_view_of}
 
 -- what tells a board from others
@@ -69,3 +71,12 @@ AreAll workers seats = (i : ℕ) → i < workers → count_by (λ seat. (seat_me
 -- a page's last count: its count at the start, and all that the workers of these seats have added to it
 abbrev pub last_count : Opening → List WorkerSeat → ℕ → ℕ
 last_count z seats page = slice_index z.counts page + sum_by (λ seat. additions_of (seat_meaning seat) page) seats
+
+-- how much the workers of these seats have added to a page in the phases before one
+abbrev pub seats_before : List WorkerSeat → ℕ → ℕ → ℕ
+seats_before seats phase page = sum_by (λ seat. added_before phase page (seat_view seat).additions) seats
+
+-- each count that a worker of these seats read lies between what they all have added, and is of no later phase than this
+abbrev pub HaveReadBetween : Opening → ℕ → List WorkerSeat → Type 0
+HaveReadBetween z phase seats =
+    All (λ seat. AreBetween z.counts (seats_before seats) phase (seat_view seat).additions (seat_view seat).reads) seats

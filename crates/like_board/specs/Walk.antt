@@ -4,6 +4,7 @@ use Rattle.like_core.specs.declared.sight.Sight.{Sight}
 use Rattle.like_core.specs.declared.sight.CoordSight.{CoordSight}
 use Rattle.like_core.specs.declared.opening.Opening.{Opening}
 use Rattle.like_core.specs.declared.view.Addition.{Addition}
+use Rattle.like_core.specs.declared.view.PageRead.{PageRead}
 use Rattle.like_core.specs.declared.view.WorkerSeatView.{WorkerSeatView}
 use Rattle.like_core.specs.Post.{PostView}
 
@@ -23,6 +24,10 @@ coord_sight number ending all_in all_gone =
 -- likes that were added to a page in a phase
 abbrev pub addition : ℕ → ℕ → ℕ → Addition
 addition phase page likes = record { phase = phase; page = page; likes = likes }
+
+-- a page's count that was read in a phase, after so many additions
+abbrev pub page_read : ℕ → ℕ → ℕ → ℕ → PageRead
+page_read phase page count after = record { phase = phase; page = page; count = count; after = after }
 
 -- the view of this worker on that board: its state, and what it has added
 pub record Walks (v : WorkerSeatView) (worker : ℕ) (state : WorkerState) (additions : List Addition) : Type 0 where

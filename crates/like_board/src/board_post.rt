@@ -30,7 +30,7 @@ impl Post for BoardPost<'_> {
     ghost use Rattle.like_core.specs.declared.worker_state.WorkerState.TheVariants.{Gone};
     ghost use Rattle.like_core.specs.WorkerState.{RunsJoined, RunsSplit, SawEnding, IsSightOf, SeesEndingStill};
     ghost use Rattle.like_core.specs.Post.{looked_at, answered, retired, added, additions_of, MayAdd, MayRead};
-    ghost use Rattle.like_core.specs.Views.{looked_view, answered_view, retired_view, added_view};
+    ghost use Rattle.like_core.specs.Views.{looked_view, answered_view, retired_view, added_view, read_view};
     ghost use Rattle.like_core.specs.Actions.{Looks, Acknowledges, Reports, Retires, Adds, Reads};
     ghost use Rattle.like_board.specs.Seats.{post_board, post_view, post_meaning};
 
@@ -101,7 +101,7 @@ impl Post for BoardPost<'_> {
         ensures view { post_meaning self.new ≡ post_meaning self.old }
         ensures own { additions_of (post_meaning self.old) page ≤ result }
         ensures board { post_board self.new ≡ post_board self.old }
-        ensures known { post_view self.new ≡ post_view self.old }
+        ensures known { post_view self.new ≡ read_view (post_view self.old) page result }
         ensures event { Reads (post_view self.old) page result (post_view self.new) }
     {
         let board = self.board;

@@ -8,7 +8,7 @@ ghost use Rattle.like_core.specs.declared.worker_state.WorkerState.TheVariants.{
 ghost use Rattle.like_core.specs.WorkerState.{SawNoLater};
 ghost use Rattle.like_core.specs.Views.{gathered_all};
 ghost use Rattle.like_board.specs.Known.{coord_view_of};
-ghost use Rattle.like_board.specs.Seats.{board_id, coord_board, coord_view, seat_board, seat_view, seat_meaning, AreAll, last_count};
+ghost use Rattle.like_board.specs.Seats.{board_id, coord_board, coord_view, seat_board, seat_view, seat_meaning, AreAll, last_count, HaveReadBetween};
 
 use crate::board::Board;
 use crate::coord_seat::CoordSeat;
@@ -48,7 +48,9 @@ fn write_counts(closed: &Closed<(), Global>, counts: &mut [u64])
 
 impl Board {
     /// Ends the board, where each worker's seat is given back and all are gone, and writes each page's last count: its
-    /// count at the start and all that was added to it. No worker saw a later phase than the coordinator's.
+    /// count at the start and all that was added to it. No worker saw a later phase than the coordinator's. Each count
+    /// that a worker read has all additions of earlier phases and its own before in that phase, and none of a later phase
+    /// nor of its own later ones.
     pub fn close(self, coord: CoordSeat, seats: Vec<WorkerSeat>, counts: &mut [u64])
         requires coord_here { coord_board coord ≡ board_id self }
         requires seats_here { All (λ seat. seat_board seat ≡ board_id self) seats.items }
@@ -59,6 +61,7 @@ impl Board {
         ensures counts { (page : ℕ) → page < length counts.old →
             slice_index counts.new page ≡ last_count (coord_view coord).opening seats.items page }
         ensures phases { All (λ seat. SawNoLater (coord_view coord).phase (seat_meaning seat).last) seats.items }
+        ensures reads { HaveReadBetween (coord_view coord).opening (coord_view coord).phase seats.items }
     {
         let CoordSeat {
             seat: mut coord,

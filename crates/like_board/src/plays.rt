@@ -48,8 +48,7 @@ impl Play<(), View> for Adding {
 pub struct Reading;
 
 impl Play<(), View> for Reading {
-    ghost then = { λ step me found after.
-        (after.0 ≡ Worker (worker_view_of me.0)) × TellsReadAt step.word me.0 found × (after.1 ≡ []) };
+    ghost then = { λ step me found after. TellsReadAt step.word me.0 found after.0 × (after.1 ≡ []) };
 }
 
 /// The coordinator's look.

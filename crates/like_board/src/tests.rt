@@ -1,9 +1,9 @@
-ghost use Rattle.std.specs.Prelude.{◌≡◌, ◌≢◌, ◌+◌, ◌<◌, [], ◌∷◌, IfOk, vec_len};
+ghost use Rattle.std.specs.Prelude.{◌≡◌, ◌≢◌, ◌+◌, ◌<◌, [], ◌∷◌, ◌++◌, IfOk, vec_len};
 ghost use Rattle.like_core.specs.declared.worker_state.WorkerState.TheVariants.{Runs, Answered, Gone};
 ghost use Rattle.like_core.specs.Post.{IsFresh};
 ghost use Rattle.like_core.specs.Views.{looked_view, looked_coord};
 ghost use Rattle.like_board.specs.Seats.{board_id, coord_board, coord_view, seat_board, seat_view, post_board, post_view, post_meaning, AreFresh};
-ghost use Rattle.like_board.specs.Walk.{walk, addition, sight, coord_sight, Walks};
+ghost use Rattle.like_board.specs.Walk.{walk, addition, page_read, sight, coord_sight, Walks};
 
 mod posts;
 
@@ -139,6 +139,7 @@ fn both_retire(
     ensures board { coord_board coord.new ≡ coord_board coord.old }
     ensures opening { (coord_view coord.new).opening ≡ (coord_view coord.old).opening }
     ensures first { Walks (post_view first.new) 0 Gone (addition 1 0 3 ∷ []) }
+    ensures read { (post_view first.new).reads ≡ (post_view first.old).reads ++ page_read 2 0 13 1 ∷ [] }
     ensures first_board { post_board first.new ≡ post_board first.old }
     ensures second { Walks (post_view second.new) 1 Gone [] }
     ensures second_board { post_board second.new ≡ post_board second.old }

@@ -24,7 +24,8 @@ impl WorkerSeat {
     ghost use Rattle.like_core.specs.declared.worker_state.WorkerState.TheVariants.{Gone};
     ghost use Rattle.like_core.specs.WorkerState.{IsSightOf, RunsJoined, RunsSplit, SawEnding, SeesEndingStill};
     ghost use Rattle.like_core.specs.Post.{MayAdd, MayRead};
-    ghost use Rattle.like_core.specs.Views.{added_to, looked_view, answered_view, retired_view, added_view};
+    ghost use Rattle.like_core.specs.Additions.{added_to};
+    ghost use Rattle.like_core.specs.Views.{looked_view, answered_view, retired_view, added_view, read_view};
     ghost use Rattle.like_core.specs.Actions.{Looks, Acknowledges, Reports, Retires, Adds, Reads};
     ghost use Rattle.like_board.specs.Seats.{board_id, seat_board, seat_view, seat_meaning, post_board, post_view, post_meaning};
 
@@ -114,7 +115,7 @@ impl WorkerSeat {
         requires here { seat_board self.old ≡ board_id board.now }
         requires may { MayRead (seat_meaning self.old) page }
         ensures board { seat_board self.new ≡ seat_board self.old }
-        ensures view { seat_view self.new ≡ seat_view self.old }
+        ensures view { seat_view self.new ≡ read_view (seat_view self.old) page result }
         ensures own { added_to page (seat_view self.old).additions ≤ result }
         ensures event { Reads (seat_view self.old) page result (seat_view self.new) }
     {

@@ -1,10 +1,10 @@
 -- How many likes of a list have a label, and what one more addition changes.
-use Rattle.std.proofs.Common.{◌≡◌, ◌≢◌, ℕ, zero, suc, ◌+◌, ◌==◌, Bool, true, false, ◌&&◌, cond, inl, inr, List, [], ◌∷◌, ◌++◌, replicate, count_by, ap, sym, ◌∙◌, refl, eq-eqb, arith}
-use Rattle.std.proofs.lemmas.Bool.{cases_eq, cond-true, cond-false, ne_eqb}
+use Rattle.std.proofs.Common.{◌≡◌, ◌≢◌, ℕ, zero, suc, ◌+◌, ◌==◌, nat_lt, Bool, true, false, ◌&&◌, cond, inl, inr, List, [], ◌∷◌, ◌++◌, replicate, count_by, ap, sym, ◌∙◌, refl, eq-eqb, arith}
+use Rattle.std.proofs.lemmas.Bool.{cases_eq, cases_lt, cond-true, cond-false, ne_eqb, lt-ltb, le-ltb}
 use Rattle.std.proofs.lemmas.List.Sums.{sum_by-append, sum_by-cons, sum_by_push}
 use Rattle.like_core.specs.declared.view.Addition.{Addition}
 use Rattle.like_core.specs.State.{Label, labelled}
-use Rattle.like_core.specs.Views.{added_to, added_in}
+use Rattle.like_core.specs.Additions.{added_to, added_in, added_before}
 
 -- a label
 abbrev pub label : ℕ → ℕ → Label
@@ -63,6 +63,48 @@ pub added_in-push : (additions : List Addition) (now page n phase q : ℕ) → a
 added_in-push additions now page n phase q =
     sum_by_push (λ (a : Addition). cond ((a.phase == phase) && (a.page == q)) a.likes 0) additions (addition now page n)
 
+-- how much one addition counts in the phases before one
+pub added_before-push : (additions : List Addition) (now page n phase q : ℕ) → added_before phase q (additions ++ addition now page n ∷ []) ≡ added_before phase q additions + cond (nat_lt now phase && (page == q)) n 0
+added_before-push additions now page n phase q =
+    sum_by_push (λ (a : Addition). cond (nat_lt a.phase phase && (a.page == q)) a.likes 0) additions (addition now page n)
+
+-- an addition before the next phase is one before this phase or in it
+pub one_before-next : (now phase n : ℕ) (page : Bool) → cond {A = ℕ} (nat_lt now (phase + 1) && page) n 0 ≡ cond (nat_lt now phase && page) n 0 + cond ((now == phase) && page) n 0
+one_before-next now phase n page =
+    let counts : Bool → ℕ = λ b. cond (b && page) n 0 in
+    elim (cases_lt now phase) [
+      | inl less ↦
+          let next : counts (nat_lt now (phase + 1)) ≡ counts true = ap counts (lt-ltb now (phase + 1) (omega arith)) in
+          let before : counts (nat_lt now phase) ≡ counts true = ap counts (lt-ltb now phase less) in
+          let here : counts (now == phase) ≡ 0 = ap counts (ne_eqb now phase (λ same. absurd (omega arith))) in
+          omega arith
+      | inr past ↦ elim (cases_eq now phase) [
+        | inl same ↦
+            let next : counts (nat_lt now (phase + 1)) ≡ counts true = ap counts (lt-ltb now (phase + 1) (omega arith)) in
+            let before : counts (nat_lt now phase) ≡ 0 = ap counts (le-ltb now phase past) in
+            let here : counts (now == phase) ≡ counts true = ap counts (eq-eqb now phase same) in
+            omega arith
+        | inr other ↦
+            let next : counts (nat_lt now (phase + 1)) ≡ 0 = ap counts (le-ltb now (phase + 1) (omega arith)) in
+            let before : counts (nat_lt now phase) ≡ 0 = ap counts (le-ltb now phase past) in
+            let here : counts (now == phase) ≡ 0 = ap counts (ne_eqb now phase other) in
+            omega arith
+      ]
+    ]
+
+-- what was added before the next phase was added before this one or in it
+pub added_before-next : (additions : List Addition) (phase q : ℕ) → added_before (phase + 1) q additions ≡ added_before phase q additions + added_in phase q additions
+added_before-next [] phase q = refl
+added_before-next (a ∷ additions) phase q =
+    let rest = added_before-next additions phase q in
+    let here = one_before-next a.phase phase a.likes (a.page == q) in
+    omega (
+      arith,
+      sum_by-cons (λ (b : Addition). cond (nat_lt b.phase (phase + 1) && (b.page == q)) b.likes 0) a additions,
+      sum_by-cons (λ (b : Addition). cond (nat_lt b.phase phase && (b.page == q)) b.likes 0) a additions,
+      sum_by-cons (λ (b : Addition). cond ((b.phase == phase) && (b.page == q)) b.likes 0) a additions,
+    )
+
 -- one more addition, of another page
 pub added_in_else : (additions : List Addition) (now page n phase q : ℕ) → q ≢ page → added_in phase q (additions ++ addition now page n ∷ []) ≡ added_in phase q additions
 added_in_else additions now page n phase q other =
@@ -74,6 +116,11 @@ added_in_else additions now page n phase q other =
     never : (a b : Bool) → b ≡ false → (a && b) ≡ false
     never true b is = is
     never false b is = refl
+
+-- one more addition, of some page
+pub added_to-push : (additions : List Addition) (now page n q : ℕ) → added_to q (additions ++ addition now page n ∷ []) ≡ added_to q additions + cond (page == q) n 0
+added_to-push additions now page n q =
+    sum_by_push (λ (a : Addition). cond (a.page == q) a.likes 0) additions (addition now page n)
 
 -- one more addition counts for its page
 pub added_to_here : (additions : List Addition) (now page n : ℕ) → added_to page (additions ++ addition now page n ∷ []) ≡ added_to page additions + n

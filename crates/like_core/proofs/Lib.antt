@@ -21,3 +21,5 @@ pub mod FromFields
 pub mod Labels
 pub mod Adding
 pub mod Posts
+pub mod ViewLists
+pub mod KeptReads

@@ -10,7 +10,8 @@ use Rattle.like_core.specs.declared.opening.Opening.{Opening}
 use Rattle.like_core.specs.declared.view.WorkerSeatView.{WorkerSeatView}
 use Rattle.like_core.specs.WorkerState.{phase_of}
 use Rattle.like_core.specs.Post.{additions_of, added, IsFresh}
-use Rattle.like_core.specs.Views.{added_to, fresh, added_view, post_of}
+use Rattle.like_core.specs.Additions.{added_to}
+use Rattle.like_core.specs.Views.{fresh, added_view, post_of}
 use Rattle.like_core.proofs.Labels.{added_to_here, added_to_else}
 
 -- the post's additions to a page are the view's

@@ -15,7 +15,9 @@ pub mod Likes
 pub mod Core
 pub mod Sights
 pub mod ShownWord
+pub mod Additions
 pub mod Views
+pub mod Reads
 pub mod Tallies
 pub mod Shows
 pub mod Actions

@@ -18,7 +18,9 @@ use Rattle.like_core.specs.State.{CoreState, labelled, after, numbers}
 use Rattle.like_core.specs.Reachable.{Reachable, after_all, PermitsAll}
 use Rattle.like_core.specs.ShownWord.{shown_word}
 use Rattle.like_core.specs.WorkerState.{IsRunning, SawEnding, SawNoLater}
-use Rattle.like_core.specs.Views.{added_in, seats_of}
+use Rattle.like_core.specs.Additions.{added_in}
+use Rattle.like_core.specs.Views.{seats_of}
+use Rattle.like_core.specs.Reads.{ReadsFit}
 use Rattle.like_core.specs.Tallies.{Tallied}
 
 -- an opening that a board may have: there are 1 to 16 workers and at most 1,024 pages, each with a mark and a count of
@@ -63,7 +65,8 @@ Fits z s (Worker v) = FitsWorker z s v
 Fits z s Spent = Unit {0}
 
 -- the words and the views of all seats show the state: word 0 is its phase word, and then stands each page's count;
--- no likes are unmerged; the first seat is the coordinator's, and no other is; and each worker that has a seat has one
+-- no likes are unmerged; the first seat is the coordinator's, and no other is; each worker that has a seat has one; and
+-- each count that was read lies between what the views have added
 pub record Shows (z : Opening) (s : CoreState) (words : List ℕ) (views : List View) : Type 0 where
   pub opening : IsOpening z
   pub width : length words ≡ length z.counts + 1
@@ -76,6 +79,7 @@ pub record Shows (z : Opening) (s : CoreState) (words : List ℕ) (views : List 
   pub only : (place : ℕ) (c : CoordSeatView) → get_elem? views place ≡ some (Coord c) → place ≡ 0
   pub each : (place : ℕ) (v : View) → get_elem? views place ≡ some v → Fits z s v
   pub once : (i : ℕ) → sum_by (seats_of i) views ≡ (if nat_lt i coord.made then 1 else 0)
+  pub reads : ReadsFit z.counts s.phase views
 
 -- the words and the views show some state that can be reached; beside it stand the tallies of the views' additions
 pub record ShowsSome (z : Opening) (words : List ℕ) (views : List View) : Type 0 where

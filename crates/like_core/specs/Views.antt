@@ -1,28 +1,19 @@
-use Rattle.std.specs.Prelude.{◌≡◌, ℕ, ◌+◌, ◌==◌, ◌<◌, Bool, true, false, ◌&&◌, if◌then◌else◌, List, [], ◌∷◌, ◌++◌, length, map, replicate, count_by, Option, Some, None, IsSomeAnd}
-use Rattle.std.specs.List.{range_with_len, sum_by}
+use Rattle.std.specs.Prelude.{◌≡◌, ℕ, ◌+◌, ◌==◌, ◌<◌, Bool, true, false, if◌then◌else◌, List, [], ◌∷◌, ◌++◌, length, map, replicate, count_by, Option, Some, None, IsSomeAnd}
+use Rattle.std.specs.List.{range_with_len}
 use Rattle.like_core.specs.declared.worker_state.WorkerState.TheVariants.{Runs, Answered, Gone}
 use Rattle.like_core.specs.declared.sight.Sight.{Sight}
 use Rattle.like_core.specs.declared.sight.CoordSight.{CoordSight}
 use Rattle.like_core.specs.declared.event.Event.{Event}
 use Rattle.like_core.specs.declared.event.Event.TheVariants.{Like, Merge}
 use Rattle.like_core.specs.declared.opening.Opening.{Opening}
-use Rattle.like_core.specs.declared.view.Addition.{Addition}
 use Rattle.like_core.specs.declared.view.WorkerSeatView.{WorkerSeatView}
 use Rattle.like_core.specs.declared.view.CoordSeatView.{CoordSeatView}
 use Rattle.like_core.specs.declared.view.View.{View}
 use Rattle.like_core.specs.declared.view.View.TheVariants.{Coord, Worker, Spent}
 use Rattle.like_core.specs.Phase.{last_phase}
 use Rattle.like_core.specs.WorkerState.{phase_of, seen}
+use Rattle.like_core.specs.Additions.{added_to}
 use Rattle.like_core.specs.Post.{PostView, slices}
-
--- how many likes were added to a page
-abbrev pub added_to : ℕ → List Addition → ℕ
-added_to page additions = sum_by (λ a. (if a.page == page then a.likes else 0)) additions
-
--- how many of them in one phase
-abbrev pub added_in : ℕ → ℕ → List Addition → ℕ
-added_in phase page additions =
-    sum_by (λ a. (if (a.phase == phase) && (a.page == page) then a.likes else 0)) additions
 
 -- a worker's view before its seat made a step: it runs phase 0, looked never and added nothing
 abbrev pub fresh : Opening → ℕ → WorkerSeatView
@@ -65,6 +56,12 @@ retired_view v = record v { state = Gone }
 abbrev pub added_view : WorkerSeatView → ℕ → ℕ → WorkerSeatView
 added_view v page n =
     record v { additions = v.additions ++ record { phase = phase_of v.state; page = page; likes = n } ∷ [] }
+
+-- a worker's view after it read a page's count, which was this
+abbrev pub read_view : WorkerSeatView → ℕ → ℕ → WorkerSeatView
+read_view v page count = record v {
+  reads = v.reads ++ record { phase = phase_of v.state; page = page; count = count; after = length v.additions } ∷ [];
+}
 
 -- what a worker's view means as a post, the board aside: its additions are summed by page
 abbrev pub post_of : WorkerSeatView → PostView

@@ -1,6 +1,7 @@
-//! Laws of the core's states. Each is the contract of a function that does nothing.
+//! Laws of the core's states and of the views of seats. Each is the contract of a function that does nothing.
 ghost use Rattle.like_core.specs.Exclusive.{ReachableIsExclusive};
 ghost use Rattle.like_core.specs.Likes.{LikesStayReachable};
+ghost use Rattle.like_core.specs.Reads.{AdditionKeepsReads, ReadKeepsReads, JoinKeepsReads};
 
 /// No worker runs joined work while another has unmerged likes, after any list of events.
 pub fn reachable_is_exclusive()
@@ -11,4 +12,20 @@ pub fn reachable_is_exclusive()
 /// state that can be reached holds of the board's state and all slices together.
 pub fn likes_stay_reachable()
     ensures { LikesStayReachable }
+{}
+
+/// An addition of the present phase leaves each count that was read between what the views have added: it is of no
+/// earlier phase than any read, and later than its worker's own.
+pub fn addition_keeps_reads()
+    ensures { AdditionKeepsReads }
+{}
+
+/// A read does, where it finds what was added up to the present phase.
+pub fn read_keeps_reads()
+    ensures { ReadKeepsReads }
+{}
+
+/// A worker's seat that is given back does: its additions and reads go on to stand in the coordinator's view.
+pub fn join_keeps_reads()
+    ensures { JoinKeepsReads }
 {}

@@ -1,4 +1,4 @@
-use Rattle.std.proofs.Common.{ap, arith}
+use Rattle.std.proofs.Common.{ap, refl, rules, arith}
 use Rattle.atomic_table.specs.Seated.{TableId}
 use Rattle.like_board.proofs.Allowed.{reading}
 use Rattle.like_board.proofs.Meanings.{may_read}
@@ -15,3 +15,9 @@ load-requires c =
       omega arith,
       reading board.table.shared.key _ _ _ c.args.page seat.is_worker (may_read _ _ c.args.page c.requires.may),
     )
+
+pub invariant_of-self : goal.invariant_of-self
+invariant_of-self c = let told = c.load.ensures.2.0 c.args.page refl in search (rules, told)
+
+pub returns-clause-event : goal.returns-clause-event
+returns-clause-event c = let told = c.load.ensures.2.0 c.args.page refl in search (rules, told)

@@ -1,0 +1,5 @@
+use Rattle.like_core.proofs.KeptReads.{addition_keeps_reads}
+use Rattle.like_core.proofs.laws.addition_keeps_reads.Goals as goal
+
+pub returns : goal.returns
+returns c = addition_keeps_reads
