@@ -1,7 +1,7 @@
 //! Script files, and scripts that fit a run.
 use crate::{ScriptFault, Turned, check_script, read_script};
 use like_requests::SettingsFault;
-use std::alloc::Global;
+use std::alloc::{AllocError, Global};
 use std::process::Abort;
 use std::test::Fail;
 
@@ -51,6 +51,29 @@ fn names_the_fault_of_a_script_file(rt: HostRuntime) {
     for (text, row) in rows {
         assert_fault(&rt, rt.alloc(), text, ScriptFault::Line { row });
     }
+}
+
+// A script file of so many turns of the coordinator.
+fn turns(alloc: Global, count: u32) -> Result<String, AllocError> {
+    let mut text = String::from_str(alloc, "turn,index\n")?;
+    for _ in 0..count {
+        text.push_str("coordinator,0\n")?;
+    }
+    Ok(text)
+}
+
+#[test]
+fn a_script_has_at_most_a_million_entries(rt: HostRuntime) -> Result<(), Fail> {
+    let text = turns(rt.alloc(), 1_000_000)?;
+    let entries = read_script(rt.alloc(), text.as_bytes())?;
+    assert_eq!(rt; entries.len(), 1_000_000);
+    let text = turns(rt.alloc(), 1_000_001)?;
+    let faulty = matches!(
+        read_script(rt.alloc(), text.as_bytes()),
+        Err(ScriptFault::TooMany)
+    );
+    assert!(rt; faulty);
+    Ok(())
 }
 
 #[test]

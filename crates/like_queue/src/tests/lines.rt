@@ -146,3 +146,12 @@ fn takes_from_a_list_as_from_a_line(rt: HostRuntime) -> Result<(), Fail> {
     assert_eq!(rt; last_number(&rt, inbox), 3);
     Ok(())
 }
+
+#[test]
+fn takes_a_plan_of_a_million(rt: HostRuntime) -> Result<(), Fail> {
+    let plan = Vec::from_elem(rt.alloc(), LIKE, 1_000_000)?;
+    let (line, sends, _takes) = Line::new(rt.alloc(), plan)?;
+    let end = sends.at(&line);
+    assert_eq!(rt; end.next(), Some(LIKE));
+    Ok(())
+}
