@@ -1,5 +1,5 @@
 -- A worker and its inboxes go on to agree.
-use Rattle.std.proofs.Common.{◌≡◌, ℕ, ◌+◌, ◌*◌, ◌-◌, ◌<◌, ◌≤◌, Bool, true, false, ltb, List, length, get_or, set, slice_get, Some, None, refl, sym, ap, ◌∙◌, subst, arith, inl, inr, add-one, option_map, option_and_then}
+use Rattle.std.proofs.Common.{◌≡◌, ℕ, ◌+◌, ◌-◌, ◌<◌, ◌≤◌, Bool, true, false, ltb, List, length, get_or, set, slice_get, Some, None, refl, sym, ap, ◌∙◌, subst, arith, inl, inr, add-one, option_map, option_and_then}
 use Rattle.std.specs.List.{All, range_with_len}
 use Rattle.std.proofs.lemmas.Bool.{cases_eq, le-ltb, lt-ltb, ltb-false}
 use Rattle.std.proofs.lemmas.List.{get_or-set_same, get_or-set_other, length-set, set-get_or}
@@ -10,7 +10,7 @@ use Rattle.like_requests.specs.declared.request.Request.{Request}
 use Rattle.like_requests.specs.declared.request.Taken.{Taken}
 use Rattle.like_requests.specs.declared.request.Taken.TheVariants as taken
 use Rattle.like_core.specs.Post.{pages_of}
-use Rattle.like_queue.specs.Inbox.{Inbox, InboxView, Takes, item_count, view_of}
+use Rattle.like_queue.specs.Inbox.{HandsOver, InboxView, item_count}
 use Rattle.like_tables.specs.Share.{Share, dealt}
 use Rattle.like_roles.specs.declared.log.Took.{Took}
 use Rattle.like_roles.specs.declared.turn.Turn.{Turn}
@@ -27,7 +27,7 @@ use Rattle.like_crew.proofs.Shares.{plan-at}
 use Rattle.like_crew.proofs.Sights.{HasSeen, IsTrying, gives-seen, taken-rising, turns-seen}
 
 -- a turn that takes nothing
-pub agree-turn : (v w : WorkerView) (inboxes : List Inbox) (answer : Turn) → Turns v answer w → TakesNothing v w → Agree v inboxes → Agree w inboxes
+pub agree-turn : (v w : WorkerView) (inboxes : List InboxView) (answer : Turn) → Turns v answer w → TakesNothing v w → Agree v inboxes → Agree w inboxes
 agree-turn v w inboxes answer turns k a =
     let seen : HasSeen w = turns-seen v answer w turns (a.above, a.present) in
     record {
@@ -48,14 +48,14 @@ agree-turn v w inboxes answer turns k a =
     }
 
 -- a worker of the same run, with inboxes of the same plans, that follows the plans too
-serves-on : (service : Service) (v w : WorkerView) (before after : List Inbox) → w.last.share ≡ v.last.share → plans_of after ≡ plans_of before → Follows service w
+serves-on : (service : Service) (v w : WorkerView) (before after : List InboxView) → w.last.share ≡ v.last.share → plans_of after ≡ plans_of before → Follows service w
     → WorksFor service (record { worker = v; inboxes = before }) → WorksFor service (record { worker = w; inboxes = after })
 serves-on service v w before after share plans follows h = record {
   plans = plans ∙ h.plans ∙ ap (λ (s : Share). dealt s.workers s.worker service.plans) (sym share);
   follows = follows;
 }
 
-pub serves-turn : (service : Service) (v w : WorkerView) (inboxes : List Inbox) → TakesNothing v w → (Follows service v → Follows service w)
+pub serves-turn : (service : Service) (v w : WorkerView) (inboxes : List InboxView) → TakesNothing v w → (Follows service v → Follows service w)
     → WorksFor service (record { worker = v; inboxes = inboxes }) → WorksFor service (record { worker = w; inboxes = inboxes })
 serves-turn service v w inboxes k follows h = serves-on service v w inboxes inboxes k.share refl (follows h.follows) h
 
@@ -67,10 +67,10 @@ record Changes (v w : WorkerView) (place left : ℕ) (ended : Bool) : Type 0 whe
   pub ended_is : w.ended ≡ set v.ended place ended
 
 -- the inbox after so many items were taken
-abbrev taken_to : Inbox → ℕ → Inbox
+abbrev taken_to : InboxView → ℕ → InboxView
 taken_to i n = record i { taken = n }
 
-module _ (v w : WorkerView) (inboxes : List Inbox) (place n : ℕ) (i : Inbox) (a : Agree v inboxes) (here : slice_get inboxes place ≡ Some i) where
+module _ (v w : WorkerView) (inboxes : List InboxView) (place n : ℕ) (i : InboxView) (a : Agree v inboxes) (here : slice_get inboxes place ≡ Some i) where
   within : place < length inboxes
   within = slice_get_within inboxes place i here
 
@@ -111,25 +111,21 @@ share-given v w place taken.End trying has = (has place trying).share
 share-given v w place taken.Nothing trying has = has.share
 
 -- a take leaves the plan as it is
-pub plan-taken : (i j : Inbox) (took : Taken) → Takes i took j → j.plan ≡ i.plan
-plan-taken i j (taken.Ask ask) t = ap (λ (x : InboxView). x.plan) t.handed.2
-plan-taken i j taken.End t = ap (λ (x : InboxView). x.plan) t.handed.1
-plan-taken i j taken.Nothing t = ap (λ (x : InboxView). x.plan) t.handed.1
-
--- and what is open of it
-inbox-taken : (i j : Inbox) (n : ℕ) → view_of j ≡ view_of (taken_to i n) → j.opened ≡ i.opened → j ≡ taken_to i n
-inbox-taken i j n view opened = λ k. record { plan = (view k).plan; opened = opened k; taken = (view k).taken }
+pub plan-taken : (i j : InboxView) (took : Taken) → HandsOver i took j → j.plan ≡ i.plan
+plan-taken i j (taken.Ask ask) t = ap (λ (x : InboxView). x.plan) t.2
+plan-taken i j taken.End t = ap (λ (x : InboxView). x.plan) t.1
+plan-taken i j taken.Nothing t = ap (λ (x : InboxView). x.plan) t.1
 
 -- the request that the inbox hands over is asked by the plan
-asked : (service : Service) (v : WorkerView) (inboxes : List Inbox) (place : ℕ) (i : Inbox) (ask : Numbered) → slice_get inboxes place ≡ Some i
+asked : (service : Service) (v : WorkerView) (inboxes : List InboxView) (place : ℕ) (i : InboxView) (ask : Numbered) → slice_get inboxes place ≡ Some i
     → slice_get i.plan i.taken ≡ Some ask.request → ask.number ≡ i.taken + 1 → 1 ≤ v.last.share.workers → AreOwnPlans service v.last.share.workers v.last.share.worker inboxes
     → request_at service (submitter_at v place) ask.number ≡ Some ask.request
 asked service v inboxes place i ask here get number some h =
     let plan : slice_get service.plans (submitter_at v place) ≡ Some i.plan =
-    sym (plan-at service v.last.share.workers v.last.share.worker inboxes place some h) ∙ slice_get-map (λ (x : Inbox). x.plan) inboxes place ∙ ap (option_map (λ (x : Inbox). x.plan)) here in
+    sym (plan-at service v.last.share.workers v.last.share.worker inboxes place some h) ∙ slice_get-map (λ (x : InboxView). x.plan) inboxes place ∙ ap (option_map (λ (x : InboxView). x.plan)) here in
     ap (λ o. option_and_then (λ p. numbered_in p ask.number) o) plan ∙ ap (numbered_in i.plan) (number ∙ add-one i.taken) ∙ get
 
-module _ (v : WorkerView) (inboxes : List Inbox) (place : ℕ) (i j : Inbox) (a : Agree v inboxes) (trying : v.pending ≡ Some place)
+module _ (v : WorkerView) (inboxes : List InboxView) (place : ℕ) (i j : InboxView) (a : Agree v inboxes) (trying : v.pending ≡ Some place)
     (here : slice_get inboxes place ≡ Some i) (open_yet : get_or v.ended place true ≡ false) where
   -- its end mark was not taken
   not_over : i.taken ≤ length i.plan
@@ -142,15 +138,15 @@ module _ (v : WorkerView) (inboxes : List Inbox) (place : ℕ) (i j : Inbox) (a 
       ∙ ap (range_with_len 1) (omega (arith, not_over))
 
   -- what the inbox hands over may be given to the worker
-  pub can-give : (took : Taken) → Takes i took j → CanGive v took
+  pub can-give : (took : Taken) → HandsOver i took j → CanGive v took
   can-give (taken.Ask ask) t = λ p e.
       let it : place ≡ p = same_Some _ _ (sym trying ∙ e) in
-      let some : i.taken < length i.plan = slice_get_within i.plan i.taken ask.request t.handed.0 in
+      let some : i.taken < length i.plan = slice_get_within i.plan i.taken ask.request t.0 in
       let left : get_or v.left place 0 + requests_taken i ≡ length i.plan = (a.each place i here).left in
       subst (λ q. IsNext v q ask) it (record {
-        number = t.handed.1 ∙ ap (λ n. n + 1) (sym (count-taken (submitter_at v place) v.taken i.taken numbers-here));
+        number = t.1 ∙ ap (λ n. n + 1) (sym (count-taken (submitter_at v place) v.taken i.taken numbers-here));
         some = omega (arith, some, left);
-        there = subst (λ (r : Request). IsThere (pages_of v.post) r.page) (get_or_from_slice_get i.plan i.taken ask.request ask.request t.handed.0)
+        there = subst (λ (r : Request). IsThere (pages_of v.post) r.page) (get_or_from_slice_get i.plan i.taken ask.request ask.request t.0)
             ((a.each place i here).there i.taken ask.request some);
       })
   can-give taken.End t = tt
@@ -161,29 +157,29 @@ module _ (v : WorkerView) (inboxes : List Inbox) (place : ℕ) (i j : Inbox) (a 
     within_here : place < length inboxes
     within_here = slice_get_within inboxes place i here
 
-    pub agree-give : (took : Taken) → Takes i took j → Gives v took answer w → HasTaken v took w → Agree w (set inboxes place j)
+    pub agree-give : (took : Taken) → HandsOver i took j → Gives v took answer w → HasTaken v took w → Agree w (set inboxes place j)
     agree-give (taken.Ask ask) t gives has =
         let k : TakesNothing (with_taken v place ask) w = has place trying in
         let seen : HasSeen w = gives-seen v (taken.Ask ask) answer w gives looked (a.above, a.present) in
-        let some : i.taken < length i.plan = slice_get_within i.plan i.taken ask.request t.handed.0 in
+        let some : i.taken < length i.plan = slice_get_within i.plan i.taken ask.request t.0 in
         let left : get_or v.left place 0 + requests_taken i ≡ length i.plan = (a.each place i here).left in
-        let next : Inbox = record i { taken = i.taken + 1 } in
+        let next : InboxView = record i { taken = i.taken + 1 } in
         let more : requests_taken next ≡ requests_taken i + 1 = omega (arith, some) in
         let one : Took = record { phase = phase_at v; submitter = submitter_at v place; number = ask.number } in
-        subst (λ x. Agree w (set inboxes place x)) (sym (inbox-taken i j (i.taken + 1) t.handed.2 t.opened))
+        subst (λ x. Agree w (set inboxes place x)) (sym t.2)
         (agree-changed v w inboxes place (i.taken + 1) i a here (get_or v.left place 0 - 1) false
         (record { share = k.share; marks = k.marks; left_is = k.left; ended_is = k.ended ∙ sym (set-get_or v.ended place true) ∙ ap (set v.ended place) open_yet })
         (omega (arith, some, left)) (sym (le-ltb (length i.plan) (i.taken + 1) (omega (arith, some))))
         (λ s. ap (numbers_taken s) k.taken
-        ∙ numbers-next v.last.share a.is_worker inboxes v.taken place i next within_here here a.taken one refl (t.handed.1 ∙ omega (arith, not_over)) more s)
+        ∙ numbers-next v.last.share a.is_worker inboxes v.taken place i next within_here here a.taken one refl (t.1 ∙ omega (arith, not_over)) more s)
         (subst IsRising (sym k.taken) (taken-rising v place ask looked (a.above, a.present) a.rising)) seen)
     agree-give taken.End t gives has =
         let k : TakesNothing (record v { ended = set v.ended place true }) w = has place trying in
         let seen : HasSeen w = gives-seen v taken.End answer w gives looked (a.above, a.present) in
         let left : get_or v.left place 0 + requests_taken i ≡ length i.plan = (a.each place i here).left in
-        let all : i.taken ≡ length i.plan = omega (arith, not_over, t.handed.0) in
+        let all : i.taken ≡ length i.plan = omega (arith, not_over, t.0) in
         let same : requests_taken (record i { taken = item_count i.plan }) ≡ requests_taken i = omega (arith, all) in
-        subst (λ x. Agree w (set inboxes place x)) (sym (inbox-taken i j (item_count i.plan) t.handed.1 t.opened))
+        subst (λ x. Agree w (set inboxes place x)) (sym t.1)
         (agree-changed v w inboxes place (item_count i.plan) i a here (get_or v.left place 0) true
         (record { share = k.share; marks = k.marks; left_is = k.left ∙ sym (set-get_or v.left place 0); ended_is = k.ended })
         (omega (arith, left, all)) (sym (lt-ltb (length i.plan) (length i.plan + 1) (omega arith)))
@@ -193,7 +189,7 @@ module _ (v : WorkerView) (inboxes : List Inbox) (place : ℕ) (i j : Inbox) (a 
         let k : TakesNothing v w = has in
         let seen : HasSeen w = gives-seen v taken.Nothing answer w gives looked (a.above, a.present) in
         let left : get_or v.left place 0 + requests_taken i ≡ length i.plan = (a.each place i here).left in
-        subst (λ x. Agree w (set inboxes place x)) (sym (inbox-taken i j i.taken t.handed.1 t.opened))
+        subst (λ x. Agree w (set inboxes place x)) (sym t.1)
         (agree-changed v w inboxes place i.taken i a here (get_or v.left place 0) false
         (record { share = k.share; marks = k.marks; left_is = k.left ∙ sym (set-get_or v.left place 0); ended_is = k.ended ∙ sym (set-get_or v.ended place true) ∙ ap (set v.ended place) open_yet })
         left (sym (le-ltb (length i.plan) i.taken not_over))
@@ -201,15 +197,15 @@ module _ (v : WorkerView) (inboxes : List Inbox) (place : ℕ) (i j : Inbox) (a 
         (subst IsRising (sym k.taken) a.rising) seen)
 
   -- and the worker follows the plans on
-  pub serves-give : (service : Service) (w : WorkerView) (took : Taken) → Takes i took j → HasTaken v took w → (IsAskedBy service v took → Follows service v → Follows service w)
+  pub serves-give : (service : Service) (w : WorkerView) (took : Taken) → HandsOver i took j → HasTaken v took w → (IsAskedBy service v took → Follows service v → Follows service w)
       → WorksFor service (record { worker = v; inboxes = inboxes }) → WorksFor service (record { worker = w; inboxes = set inboxes place j })
   serves-give service w took t has follows h =
       let plans : plans_of (set inboxes place j) ≡ plans_of inboxes =
-      map-set_same (λ (x : Inbox). x.plan) inboxes place j i (plan-taken i j took t ∙ ap (λ (x : Inbox). x.plan) (sym (get_or_from_slice_get inboxes place i i here))) in
+      map-set_same (λ (x : InboxView). x.plan) inboxes place j i (plan-taken i j took t ∙ ap (λ (x : InboxView). x.plan) (sym (get_or_from_slice_get inboxes place i i here))) in
       serves-on service v w inboxes (set inboxes place j) (share-given v w place took trying has) plans (follows (asks took t) h.follows) h where
-        asks : (x : Taken) → Takes i x j → IsAskedBy service v x
+        asks : (x : Taken) → HandsOver i x j → IsAskedBy service v x
         asks (taken.Ask ask) u = λ p e.
-            subst (λ q. request_at service (submitter_at v q) ask.number ≡ Some ask.request) (same_Some _ _ (sym trying ∙ e)) (asked service v inboxes place i ask here u.handed.0 u.handed.1 (omega (arith, a.is_worker)) h.plans)
+            subst (λ q. request_at service (submitter_at v q) ask.number ≡ Some ask.request) (same_Some _ _ (sym trying ∙ e)) (asked service v inboxes place i ask here u.0 u.1 (omega (arith, a.is_worker)) h.plans)
         asks taken.End u = tt
         asks taken.Nothing u = tt
 

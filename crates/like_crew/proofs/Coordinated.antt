@@ -41,10 +41,10 @@ pub lead-further : (u v w : CoordinatorView) → LeadGoesOn u v → LeadGoesOn v
 lead-further u v w a b = record { board = b.board ∙ a.board; opening = b.opening ∙ a.opening }
 
 -- the crew
-pub crew-same : (c : Crew) → GoesOn c c
+pub crew-same : {I : Type 0} (c : Crew I) → GoesOn c c
 crew-same c = record { lead = lead-same c.lead; servers = all-same c.servers.items }
 
-pub crew-further : (b c d : Crew) → GoesOn b c → GoesOn c d → GoesOn b d
+pub crew-further : {I : Type 0} (b c d : Crew I) → GoesOn b c → GoesOn c d → GoesOn b d
 crew-further b c d e f = record {
   lead = lead-further b.lead c.lead d.lead e.lead f.lead;
   servers = all-further-both b.servers.items c.servers.items d.servers.items e.servers f.servers;

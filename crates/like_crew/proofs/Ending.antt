@@ -1,13 +1,12 @@
 -- How a run comes to its end.
 use Rattle.std.proofs.Common.{◌≡◌, ℕ, ◌+◌, ◌*◌, ◌/◌, ◌%◌, ◌<◌, List, [], length, get_or, slice_get, Some, sym, ap, ◌∙◌, subst, arith, zero-add}
-use Rattle.std.specs.List.{All, AllZip, range_with_len}
+use Rattle.std.specs.List.{AllZip, range_with_len}
 use Rattle.std.proofs.Math.Nat.{div-add-mod}
 use Rattle.std.proofs.lemmas.List.{length-map}
 use Rattle.std.proofs.lemmas.List.FromFn.{length-range_with_len}
 use Rattle.std.proofs.lemmas.Option.{slice_get-get_or, slice_get_within}
 use Rattle.like_requests.specs.Pages.{Page}
 use Rattle.like_core.specs.declared.opening.Opening.{Opening}
-use Rattle.like_core.specs.declared.worker_state.WorkerState.TheVariants.{Gone}
 use Rattle.like_core.specs.declared.view.WorkerSeatView.{WorkerSeatView as SeatView}
 use Rattle.like_board.specs.declared.worker_seat.WorkerSeat.{WorkerSeat}
 use Rattle.like_board.specs.Seats.{AreFresh, BoardId, board_id, board_numbers}
@@ -83,7 +82,7 @@ new-seats board z pages seats marks fresh worker seat at =
     )
 
 -- a crew of this run that went on until its run had ended leaves an ended run
-pub has-ended : (setup : Setup) (plans : List (List Request)) (site : Site) (c : Crew) (e : Ended) → IsCrew setup plans site c → HasEnded c e
+pub has-ended : {I : Type 0} (setup : Setup) (plans : List (List Request)) (site : Site) (c : Crew I) (e : Ended) → IsCrew setup plans site c → HasEnded c e
     → IsEnded (service_of setup plans) setup.workers (board_id site.board) (opening_of setup) e
 has-ended setup plans site c e is h = record {
   servers = h.left.servers;
@@ -98,7 +97,7 @@ has-ended setup plans site c e is h = record {
 }
 
 -- what is left of a crew later is left of the crew
-pub ended-later : (c d : Crew) (e : Ended) → GoesOn c d → HasEnded d e → HasEnded c e
+pub ended-later : {I : Type 0} (c d : Crew I) (e : Ended) → GoesOn c d → HasEnded d e → HasEnded c e
 ended-later c d e on h = record {
   left = record {
     servers = h.left.servers;

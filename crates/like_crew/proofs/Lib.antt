@@ -6,7 +6,6 @@ pub mod Finishing
 pub mod Ordered
 pub mod Counted
 pub mod Deals
-pub mod Opening
 pub mod Posts
 pub mod Later
 pub mod Pairs

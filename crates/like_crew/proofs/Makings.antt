@@ -1,89 +1,26 @@
 -- The servers of a replay as they are made.
-use Rattle.std.proofs.Common.{◌≡◌, ℕ, zero, suc, ◌+◌, ◌*◌, ◌<◌, ◌≤◌, List, [], ◌∷◌, ◌++◌, length, map, drop, take, get_or, remove, slice_get, Option, Some, None, option_map, refl, sym, ap, ◌∙◌, subst, arith}
+use Rattle.std.proofs.Common.{◌≡◌, ℕ, zero, suc, ◌+◌, ◌*◌, ◌<◌, ◌≤◌, List, Vec, Global, [], ◌∷◌, ◌++◌, length, map, drop, get_or, remove, slice_get, Some, option_map, refl, sym, ap, ◌∙◌, subst, arith}
 use Rattle.std.specs.List.{All, AllZip, range_with_len}
 use Rattle.std.specs.Option.{unwrap_or}
 use Rattle.std.proofs.lemmas.List.{get_or-drop, length-map, map-id}
 use Rattle.std.proofs.lemmas.List.FromFn.{map-range_with_len_more}
-use Rattle.std.proofs.lemmas.Option.{get_or_from_slice_get, slice_get-get_or, slice_get-map, slice_get_read, slice_get_within, unwrap_or-slice_get}
-use Rattle.like_requests.specs.Setup.{IsPlan}
+use Rattle.std.proofs.lemmas.Option.{get_or_from_slice_get, slice_get-get_or, slice_get-map, slice_get_read, unwrap_or-slice_get}
+use Rattle.like_requests.specs.Limits.{max_requests}
+use Rattle.like_requests.specs.Setup.{IsPlan, IsWithinLimits}
 use Rattle.like_requests.specs.declared.request.Request.{Request}
 use Rattle.like_requests.specs.declared.setup.Setup.{Setup}
 use Rattle.like_core.specs.Post.{PostView}
-use Rattle.like_queue.specs.Inbox.{Inbox}
+use Rattle.like_queue.specs.Inbox.{InboxView}
 use Rattle.like_tables.specs.Share.{dealt, share_of}
 use Rattle.like_roles.specs.Follows.{IsServiceOf}
 use Rattle.like_roles.specs.New.{IsPostOf}
 use Rattle.like_roles.specs.Service.{Service}
-use Rattle.like_crew.specs.Servers.{AreDealt, IsServer, untouched}
-use Rattle.like_crew.specs.Server.{AreInboxesFor, AreOwnPlans, WorksFor, ServerView, plans_of}
-use Rattle.like_crew.specs.Asked.{service_of}
-use Rattle.like_tables.proofs.Dealt.{map-dealt}
-use Rattle.like_crew.proofs.Shares.{dealt-at, plans-untouched}
+use Rattle.like_crew.specs.Servers.{IsServer}
+use Rattle.like_crew.specs.Server.{AreInboxesFor, AreOwnPlans, AreUntouched, WorksFor, ServerView, plans_of, untouched}
+use Rattle.like_crew.specs.Asked.{lists_of, service_of}
+use Rattle.like_tables.proofs.Dealt.{get-dealt, map-dealt, there-dealt}
+use Rattle.like_crew.proofs.Shares.{plans-untouched}
 use Rattle.like_crew.proofs.Pairs.{pairs-more}
-
--- what was dealt has the plans
-pub own-plans : (setup : Setup) (plans : List (List Request)) (worker : ℕ) (inboxes : List Inbox) → AreDealt plans setup.workers worker inboxes
-    → AreOwnPlans (service_of setup plans) setup.workers worker inboxes
-own-plans setup plans worker inboxes own = ap plans_of own ∙ plans-untouched (dealt setup.workers worker plans)
-
--- an inbox that was dealt is untouched, and has one of the plans
-dealt-inbox : (P : List Request → Type 0) (plans : List (List Request)) (i : Inbox) (n : ℕ) (o : Option (List Request)) → slice_get plans n ≡ o → Some i ≡ option_map untouched o → All P plans
-    → (i.taken ≡ 0) × P i.plan
-dealt-inbox P plans i n None e s all = absurd (cc s)
-dealt-inbox P plans i n (Some plan) e s all =
-    let same : i ≡ untouched plan = cc s in
-    let good : P plan = subst P (get_or_from_slice_get plans n plan plan e) (all n plan (slice_get_within plans n plan e)) in
-    (ap (λ (x : Inbox). x.taken) same, subst P (sym (ap (λ (x : Inbox). x.plan) same)) good)
-
-pub inboxes-for : (setup : Setup) (plans : List (List Request)) (sizes : List ℕ) (worker : ℕ) (inboxes : List Inbox) → 1 ≤ setup.workers → sizes ≡ map length plans
-    → All (IsPlan setup.pages) plans → AreDealt plans setup.workers worker inboxes → AreInboxesFor setup sizes worker inboxes
-inboxes-for setup plans sizes worker inboxes some sized good own =
-    let each : (place : ℕ) (d : Inbox) → place < length inboxes → ((get_or inboxes place d).taken ≡ 0) × IsPlan setup.pages (get_or inboxes place d).plan =
-    λ place d h. dealt-inbox (IsPlan setup.pages) plans (get_or inboxes place d) (worker + setup.workers * place) (slice_get plans (worker + setup.workers * place)) refl
-    (sym (slice_get-get_or inboxes place d h) ∙ dealt-at plans setup.workers worker inboxes place some own) good in
-    record {
-      sized = ap (map length) (own-plans setup plans worker inboxes own) ∙ map-dealt length setup.workers worker plans ∙ ap (dealt setup.workers worker) (sym sized);
-      untouched = λ place d h. (each place d h).0;
-      plans = λ place d h. (each place d h).1;
-    }
-
--- a server that was made for a worker
-pub is-server : (setup : Setup) (plans : List (List Request)) (sizes : List ℕ) (worker : ℕ) (inboxes : List Inbox) (post : PostView) (board : List ℕ) (s : ServerView) → sizes ≡ map length plans
-    → AreDealt plans setup.workers worker inboxes → IsPostOf worker setup.pages post → post.board ≡ board → s.worker.last.share ≡ share_of setup.users (length sizes) setup.workers worker
-    → s.worker.post ≡ post
-    → ((service : Service) → IsServiceOf setup.users setup.pages sizes service → AreOwnPlans service setup.workers worker inboxes → WorksFor service s)
-    → IsServer (service_of setup plans) setup.workers board worker s
-is-server setup plans sizes worker inboxes post board s sized own fresh here share at works = record {
-  share = share ∙ ap (λ n. share_of setup.users n setup.workers worker) (ap (λ (xs : List ℕ). length xs) sized ∙ length-map plans length);
-  whose = ap (λ (p : PostView). p.worker) at ∙ fresh.is_his;
-  board_is = ap (λ (p : PostView). p.board) at ∙ here;
-  works = works (service_of setup plans) (record { users_are = refl; pages_are = refl; sizes_are = sym sized }) (own-plans setup plans worker inboxes own);
-}
-
--- one server more
-pub one-more : (R : ℕ → ServerView → Type 0) (n : ℕ) (servers : List ServerView) (s : ServerView) → AllZip R (range_with_len 0 n) servers → R n s → AllZip R (range_with_len 0 (n + 1)) (servers ++ s ∷ [])
-one-more R n servers s all h =
-    subst (λ ns. AllZip R ns (servers ++ s ∷ []))
-    (sym (sym (map-id _) ∙ map-range_with_len_more (λ (x : ℕ). x) 0 n n (omega arith) ∙ ap (λ xs. xs ++ n ∷ []) (map-id _)))
-    (pairs-more R (range_with_len 0 n) servers n s all h)
-
--- the first of what is left was taken
-pub remove-drop : {A : Type 0} (k : ℕ) (xs : List A) → remove (drop k xs) 0 ≡ drop (suc k) xs
-remove-drop zero [] = refl
-remove-drop zero (x ∷ xs) = refl
-remove-drop (suc k) [] = refl
-remove-drop (suc k) (x ∷ xs) = remove-drop k xs
-
--- the hand of the next worker
-pub hand-at : {H : Type 0} (items : H → List Inbox) (hands left : List H) (k workers : ℕ) (hand : H) (plans : List (List Request))
-    → ((worker : ℕ) → worker < workers → AreDealt plans workers worker (get_or (map items hands) worker [])) → length hands ≡ workers → k < workers
-    → left ≡ drop k hands → hand ≡ get_or left 0 hand → AreDealt plans workers k (items hand)
-hand-at items hands left k workers hand plans own sized below rest first =
-    let is : hand ≡ get_or hands k hand = first ∙ ap (λ xs. get_or xs 0 hand) rest ∙ get_or-drop k hands 0 hand ∙ ap (λ n. get_or hands n hand) (omega arith) in
-    let at : slice_get hands k ≡ Some hand = slice_get_read hands (length hands) k hand refl (omega (arith, below, sized)) is in
-    let found : get_or (map items hands) k [] ≡ items hand =
-    sym (unwrap_or-slice_get (map items hands) k []) ∙ ap (λ o. unwrap_or o []) (slice_get-map items hands k ∙ ap (option_map items) at) in
-    subst (AreDealt plans workers k) found (own k below)
 
 -- f and then g
 pub map-twice : {A B C : Type 0} (f : A → B) (g : B → C) (xs : List A) → map (λ x. g (f x)) xs ≡ map g (map f xs)
@@ -101,3 +38,78 @@ pub all-back : {A B : Type 0} (f : A → B) (P : B → Type 0) (xs : List A) →
 all-back f P [] all k d h = absurd (omega (arith, h))
 all-back f P (x ∷ xs) all zero d h = all zero (f x) (omega arith)
 all-back f P (x ∷ xs) all (suc k) d h = all-back f P xs (λ j e i. all (suc j) e (omega (arith, i))) k d (omega (arith, h))
+
+-- a fact of all that are dealt holds of those that one is dealt
+all-dealt : {A : Type 0} (P : A → Type 0) (n k : ℕ) (xs : List A) → 1 ≤ n → All P xs → All P (dealt n k xs)
+all-dealt P n k xs some all place d h =
+    let there : k + n * place < length xs = (there-dealt n k xs place some).0 h in
+    let same : slice_get (dealt n k xs) place ≡ Some (get_or xs (k + n * place) d) = get-dealt n k xs place some ∙ slice_get-get_or xs (k + n * place) d there in
+    subst P (sym (get_or_from_slice_get (dealt n k xs) place (get_or xs (k + n * place) d) d same)) (all (k + n * place) d there)
+
+-- what was dealt has the plans
+pub own-plans : (setup : Setup) (worker : ℕ) (inboxes own : List InboxView) → own ≡ dealt setup.workers worker inboxes
+    → AreOwnPlans (service_of setup (plans_of inboxes)) setup.workers worker own
+own-plans setup worker inboxes own is = ap plans_of is ∙ map-dealt (λ (i : InboxView). i.plan) setup.workers worker inboxes
+
+pub inboxes-for : (setup : Setup) (sizes : List ℕ) (worker : ℕ) (inboxes own : List InboxView) → 1 ≤ setup.workers → sizes ≡ map length (plans_of inboxes)
+    → AreUntouched inboxes → All (IsPlan setup.pages) (plans_of inboxes) → own ≡ dealt setup.workers worker inboxes → AreInboxesFor setup sizes worker own
+inboxes-for setup sizes worker inboxes own some sized none good is = record {
+  sized = ap (map length) (own-plans setup worker inboxes own is) ∙ map-dealt length setup.workers worker (plans_of inboxes) ∙ ap (dealt setup.workers worker) (sym sized);
+  untouched = subst AreUntouched (sym is) (all-dealt (λ i. i.taken ≡ 0) setup.workers worker inboxes some none);
+  plans = subst (All (λ i. IsPlan setup.pages i.plan)) (sym is)
+      (all-dealt (λ i. IsPlan setup.pages i.plan) setup.workers worker inboxes some (all-back (λ (i : InboxView). i.plan) (IsPlan setup.pages) inboxes good));
+}
+
+-- a server that was made for a worker
+pub is-server : (setup : Setup) (sizes : List ℕ) (worker : ℕ) (inboxes own : List InboxView) (post : PostView) (board : List ℕ) (s : ServerView) → sizes ≡ map length (plans_of inboxes)
+    → own ≡ dealt setup.workers worker inboxes → IsPostOf worker setup.pages post → post.board ≡ board → s.worker.last.share ≡ share_of setup.users (length sizes) setup.workers worker
+    → s.worker.post ≡ post
+    → ((service : Service) → IsServiceOf setup.users setup.pages sizes service → AreOwnPlans service setup.workers worker own → WorksFor service s)
+    → IsServer (service_of setup (plans_of inboxes)) setup.workers board worker s
+is-server setup sizes worker inboxes own post board s sized is fresh here share at works = record {
+  share = share ∙ ap (λ n. share_of setup.users n setup.workers worker) (ap (λ (xs : List ℕ). length xs) sized ∙ length-map (plans_of inboxes) length);
+  whose = ap (λ (p : PostView). p.worker) at ∙ fresh.is_his;
+  board_is = ap (λ (p : PostView). p.board) at ∙ here;
+  works = works (service_of setup (plans_of inboxes)) (record { users_are = refl; pages_are = refl; sizes_are = sym sized }) (own-plans setup worker inboxes own is);
+}
+
+-- one server more
+pub one-more : (R : ℕ → ServerView → Type 0) (n : ℕ) (servers : List ServerView) (s : ServerView) → AllZip R (range_with_len 0 n) servers → R n s → AllZip R (range_with_len 0 (n + 1)) (servers ++ s ∷ [])
+one-more R n servers s all h =
+    subst (λ ns. AllZip R ns (servers ++ s ∷ []))
+    (sym (sym (map-id _) ∙ map-range_with_len_more (λ (x : ℕ). x) 0 n n (omega arith) ∙ ap (λ xs. xs ++ n ∷ []) (map-id _)))
+    (pairs-more R (range_with_len 0 n) servers n s all h)
+
+-- the first of what is left was taken
+pub remove-drop : {A : Type 0} (k : ℕ) (xs : List A) → remove (drop k xs) 0 ≡ drop (suc k) xs
+remove-drop zero [] = refl
+remove-drop zero (x ∷ xs) = refl
+remove-drop (suc k) [] = refl
+remove-drop (suc k) (x ∷ xs) = remove-drop k xs
+
+-- the hand of the next worker
+pub hand-at : {A H : Type 0} (held : H → List A) (hands left : List H) (k workers : ℕ) (hand : H) (items : List A)
+    → ((worker : ℕ) → worker < workers → get_or (map held hands) worker [] ≡ dealt workers worker items) → length hands ≡ workers → k < workers
+    → left ≡ drop k hands → hand ≡ get_or left 0 hand → held hand ≡ dealt workers k items
+hand-at held hands left k workers hand items own sized below rest first =
+    let is : hand ≡ get_or hands k hand = first ∙ ap (λ xs. get_or xs 0 hand) rest ∙ get_or-drop k hands 0 hand ∙ ap (λ n. get_or hands n hand) (omega arith) in
+    let at : slice_get hands k ≡ Some hand = slice_get_read hands (length hands) k hand refl (omega (arith, below, sized)) is in
+    let found : get_or (map held hands) k [] ≡ held hand =
+    sym (unwrap_or-slice_get (map held hands) k []) ∙ ap (λ o. unwrap_or o []) (slice_get-map held hands k ∙ ap (option_map held) at) in
+    sym found ∙ own k below
+
+-- from no untouched inbox anything was taken
+all-untouched : (plans : List (List Request)) → AreUntouched (map untouched plans)
+all-untouched plans = all-map untouched (λ i. i.taken ≡ 0) plans (λ _ _ _. refl)
+
+-- untouched inboxes of these plans
+pub plans-are : (inboxes : List InboxView) (plans : List (List Request)) → inboxes ≡ map untouched plans → plans_of inboxes ≡ plans
+plans-are inboxes plans are = ap plans_of are ∙ plans-untouched plans
+
+pub are-untouched : (inboxes : List InboxView) (plans : List (List Request)) → inboxes ≡ map untouched plans → AreUntouched inboxes
+are-untouched inboxes plans are = subst AreUntouched (sym are) (all-untouched plans)
+
+-- plans within the limits are within that of a list
+pub all-small : (setup : Setup) (plans : List (Vec Request Global)) → IsWithinLimits setup (lists_of plans) → All (λ plan. length plan.items ≤ max_requests) plans
+all-small setup plans within =
+    all-back (λ (plan : Vec Request Global). plan.items) (λ plan. length plan ≤ max_requests) plans (all-back length (λ n. n ≤ max_requests) (lists_of plans) within.numbers.small)

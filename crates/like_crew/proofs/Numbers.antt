@@ -10,7 +10,7 @@ use Rattle.std.proofs.lemmas.List.Elements.{filter-append}
 use Rattle.std.proofs.lemmas.List.FromFn.{length-range_with_len, map-range_with_len_more}
 use Rattle.std.proofs.lemmas.List.Sums.{length-filter}
 use Rattle.std.proofs.lemmas.Nat.{div-mul-add, mod-mul-add}
-use Rattle.like_queue.specs.Inbox.{Inbox}
+use Rattle.like_queue.specs.Inbox.{InboxView}
 use Rattle.like_tables.specs.Share.{Share, place_of, serves}
 use Rattle.like_roles.specs.declared.log.Took.{Took}
 use Rattle.like_crew.specs.Log.{numbers_taken}
@@ -71,7 +71,7 @@ module _ (share : Share) (is_worker : share.worker < share.workers) where
       omega (arith, m, d)
 
   -- what the inbox at a place has handed over
-  pub given-own : (inboxes : List Inbox) (place : ℕ) (i : Inbox) → slice_get inboxes place ≡ Some i
+  pub given-own : (inboxes : List InboxView) (place : ℕ) (i : InboxView) → slice_get inboxes place ≡ Some i
       → numbers_given share inboxes (share.worker + share.workers * place) ≡ range_with_len 1 (requests_taken i)
   given-own inboxes place i h =
       ap (λ b. cond b (range_with_len 1 (option_map_or requests_taken (slice_get inboxes (place_of share.workers (own place))) 0)) []) (serves-own place)
@@ -79,7 +79,7 @@ module _ (share : Share) (is_worker : share.worker < share.workers) where
       ∙ ap (λ o. range_with_len 1 (option_map_or requests_taken o 0)) h
 
   -- a take from one inbox is none from another
-  given-else : (inboxes : List Inbox) (place s : ℕ) (j : Inbox) → s ≢ own place → numbers_given share (set inboxes place j) s ≡ numbers_given share inboxes s
+  given-else : (inboxes : List InboxView) (place s : ℕ) (j : InboxView) → s ≢ own place → numbers_given share (set inboxes place j) s ≡ numbers_given share inboxes s
   given-else inboxes place s j other =
       elim (cases_Bool (serves share s)) [
         | inl served ↦
@@ -90,7 +90,7 @@ module _ (share : Share) (is_worker : share.worker < share.workers) where
             ∙ sym (ap (λ b. cond b (range_with_len 1 (option_map_or requests_taken (slice_get inboxes (place_of share.workers s)) 0)) []) no_one)
       ]
 
-  module _ (inboxes : List Inbox) (taken : List Took) (place : ℕ) (i j : Inbox) (there : place < length inboxes) (here : slice_get inboxes place ≡ Some i)
+  module _ (inboxes : List InboxView) (taken : List Took) (place : ℕ) (i j : InboxView) (there : place < length inboxes) (here : slice_get inboxes place ≡ Some i)
       (old : (s : ℕ) → numbers_taken s taken ≡ numbers_given share inboxes s) where
     -- the next request was taken from it
     pub numbers-next : (t : Took) → t.submitter ≡ own place → t.number ≡ requests_taken i + 1 → requests_taken j ≡ requests_taken i + 1

@@ -20,12 +20,12 @@ pub record LeadGoesOn (v w : CoordinatorView) : Type 0 where
   pub opening : w.seat.opening ≡ v.seat.opening
 
 -- the same crew, later
-pub record GoesOn (c d : Crew) : Type 0 where
+pub record GoesOn {I : Type 0} (c d : Crew I) : Type 0 where
   pub lead : LeadGoesOn c.lead d.lead
   pub servers : AllZip ServerGoesOn c.servers.items d.servers.items
 
 -- the crew of a run of these plans, at the board of this site
-pub record IsCrew (setup : Setup) (plans : List (List Request)) (site : Site) (c : Crew) : Type 0 where
+pub record IsCrew {I : Type 0} (setup : Setup) (plans : List (List Request)) (site : Site) (c : Crew I) : Type 0 where
   pub board : c.lead.board ≡ board_id site.board
   pub opening : c.lead.seat.opening ≡ opening_of setup
   pub servers : AreServers (service_of setup plans) setup.workers (board_numbers (board_id site.board)) c.servers.items

@@ -43,7 +43,7 @@ pub record IsLeadOf (v : CoordinatorView) (e : Ended) : Type 0 where
   pub phases : e.phases ≡ v.phase
 
 -- a crew went on from this one until its run had ended, and left this
-pub record HasEnded (c : Crew) (e : Ended) : Type 0 where
+pub record HasEnded {I : Type 0} (c : Crew I) (e : Ended) : Type 0 where
   pub left : HaveLeft c.servers.items e.logs.items e.seats.items
   pub lead : CoordinatorView
   pub later : LeadGoesOn c.lead lead

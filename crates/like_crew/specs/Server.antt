@@ -7,7 +7,7 @@ use Rattle.like_requests.specs.declared.setup.Setup.{Setup}
 use Rattle.like_requests.specs.declared.request.Request.{Request}
 use Rattle.like_core.specs.declared.worker_state.WorkerState.TheVariants.{Gone}
 use Rattle.like_core.specs.Post.{additions_of, pages_of}
-use Rattle.like_queue.specs.Inbox.{Inbox}
+use Rattle.like_queue.specs.Inbox.{InboxView}
 use Rattle.like_tables.specs.Share.{Share, dealt, place_of, serves}
 use Rattle.like_roles.specs.Follows.{Follows}
 use Rattle.like_roles.specs.declared.log.WorkerLog.{WorkerLog}
@@ -19,36 +19,40 @@ use Rattle.like_crew.specs.Log.{IsLog, IsRising, NoneAbove, numbers_taken}
 -- the worker, and the inboxes of its submitters by place
 pub record ServerView : Type 0 where
   pub worker : WorkerView
-  pub inboxes : List Inbox
+  pub inboxes : List InboxView
 
 -- the plans of inboxes
-abbrev pub plans_of : List Inbox → List (List Request)
+abbrev pub plans_of : List InboxView → List (List Request)
 plans_of inboxes = map (λ i. i.plan) inboxes
 
--- an inbox, where it does not matter how much of it is open
-abbrev pub without_opened : Inbox → Inbox
-without_opened i = record i { opened = 0 }
+-- the inbox of a plan from which nothing was taken
+abbrev pub untouched : List Request → InboxView
+untouched plan = record { plan = plan; taken = 0 }
+
+-- nothing was taken from these inboxes
+abbrev pub AreUntouched : List InboxView → Type 0
+AreUntouched inboxes = All (λ i. i.taken ≡ 0) inboxes
 
 -- how many requests were taken from an inbox, the end mark aside
-abbrev pub requests_taken : Inbox → ℕ
+abbrev pub requests_taken : InboxView → ℕ
 requests_taken i = min i.taken (length i.plan)
 
 -- the numbers of the requests that the inboxes have handed over from a submitter: 1, 2, .. as far as its inbox was taken,
 -- and none of a submitter that another worker serves
-abbrev pub numbers_given : Share → List Inbox → ℕ → List ℕ
+abbrev pub numbers_given : Share → List InboxView → ℕ → List ℕ
 numbers_given share inboxes submitter =
     if serves share submitter
     then range_with_len 1 (option_map_or requests_taken (slice_get inboxes (place_of share.workers submitter)) 0) else []
 
 -- what a worker keeps of the submitter at a place agrees with its inbox: how many requests are left, and whether the end
 -- mark was taken; and the pages of its plan are there
-pub record AgreesAt (v : WorkerView) (place : ℕ) (i : Inbox) : Type 0 where
+pub record AgreesAt (v : WorkerView) (place : ℕ) (i : InboxView) : Type 0 where
   pub left : slice_index v.left place + requests_taken i ≡ length i.plan
   pub ended : slice_index_or v.ended place true ≡ nat_lt (length i.plan) i.taken
   pub there : All (λ r. IsThere (pages_of v.post) r.page) i.plan
 
 -- the inboxes have the plans of a worker's submitters
-abbrev pub AreOwnPlans : Service → ℕ → ℕ → List Inbox → Type 0
+abbrev pub AreOwnPlans : Service → ℕ → ℕ → List InboxView → Type 0
 AreOwnPlans service workers worker inboxes = plans_of inboxes ≡ dealt workers worker service.plans
 
 -- a server works for a service: its inboxes have the plans of its submitters, and its worker does as they say
@@ -58,20 +62,20 @@ pub record WorksFor (service : Service) (s : ServerView) : Type 0 where
 
 -- a worker and its inboxes agree: it took from each submitter what the inbox handed over; and the phases in which it took
 -- never fell, and none is above the phase that it saw last, which is the one that it runs or has answered
-pub record Agree (v : WorkerView) (inboxes : List Inbox) : Type 0 where
+pub record Agree (v : WorkerView) (inboxes : List InboxView) : Type 0 where
   pub is_worker : v.last.share.worker < v.last.share.workers
   pub lefts : length v.left ≡ length inboxes
   pub places : length v.ended ≡ length inboxes
-  pub each : (place : ℕ) (i : Inbox) → slice_get inboxes place ≡ Some i → AgreesAt v place i
+  pub each : (place : ℕ) (i : InboxView) → slice_get inboxes place ≡ Some i → AgreesAt v place i
   pub taken : (submitter : ℕ) → numbers_taken submitter v.taken ≡ numbers_given v.last.share inboxes submitter
   pub rising : IsRising v.taken
   pub above : NoneAbove v.post.last v.taken
   pub present : v.post.state ≢ Gone → IfSome v.post.last (λ sight. sight.number ≡ phase_at v)
 
 -- untouched inboxes for a worker's submitters, whose numbers of requests these are
-pub record AreInboxesFor (s : Setup) (sizes : List ℕ) (worker : ℕ) (inboxes : List Inbox) : Type 0 where
+pub record AreInboxesFor (s : Setup) (sizes : List ℕ) (worker : ℕ) (inboxes : List InboxView) : Type 0 where
   pub sized : map length (plans_of inboxes) ≡ dealt s.workers worker sizes
-  pub untouched : All (λ i. i.taken ≡ 0) inboxes
+  pub untouched : AreUntouched inboxes
   pub plans : All (λ i. IsPlan s.pages i.plan) inboxes
 
 -- the same server, later: at the same place of the same board, and at work for the same services

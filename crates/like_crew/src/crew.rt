@@ -1,22 +1,26 @@
-ghost use Rattle.std.specs.Prelude.{◌≡◌, ◌<◌, IfOk, length, true};
+ghost use Rattle.std.specs.Prelude.{◌≡◌, ◌<◌, IfOk, length, map, true};
 ghost use Rattle.like_requests.specs.Setup.{IsWithinLimits};
 ghost use Rattle.like_roles.specs.CoordTurns.{HasEndedJoined};
 ghost use Rattle.like_crew.specs.Asked.{lists_of};
 ghost use Rattle.like_crew.specs.Crew.{AllGone, GoesOn, HasInbox, IsCrew};
 ghost use Rattle.like_crew.specs.Ended.{HasEnded};
+ghost use Rattle.like_crew.specs.Server.{AreUntouched, plans_of};
 ghost use Rattle.like_crew.specs.Site.{AreSeats, IsSite};
 
+use crate::crew::lists::list_inboxes;
 use crate::crew::making::servers_of;
 use crate::crew::servers::{finish_all, open_all, open_one, turn_of, turns};
 use crate::ended::Ended;
 use crate::site::{Seats, Site};
 use like_board::BoardPost;
+use like_queue::{Inbox, ListInbox};
 use like_requests::{Request, Setup};
 use like_roles::{CoordTurn, Turn};
 use std::alloc::{AllocError, Global};
 
 mod hands;
 mod lead;
+mod lists;
 mod making;
 mod server;
 mod servers;
@@ -24,33 +28,66 @@ mod servers;
 pub use lead::Lead;
 pub use server::Server;
 
-/// The crew of a run: the coordinator at its board, and for each worker, in order, its server.
+/// The crew of a run: the coordinator at its board, and for each worker, in order, its server, which takes from inboxes
+/// of one kind.
 #[derive(Drop)]
-pub struct Crew<'a> {
+pub struct Crew<'a, I: Inbox> {
     pub lead: Lead<'a>,
-    pub servers: Vec<Server<BoardPost<'a>>>,
+    pub servers: Vec<Server<BoardPost<'a>, I>>,
 }
 
-impl<'a> Crew<'a> {
-    /// The crew of a run within the limits, at a new board. Of the lists nothing is open.
+impl<'a, I: Inbox> Crew<'a, I> {
+    /// The crew of a run within the limits, at a new board, with an inbox for each submitter, from which nothing was
+    /// taken.
+    pub fn of_inboxes(
+        alloc: Global,
+        setup: &Setup,
+        site: &'a Site,
+        seats: Seats,
+        inboxes: Vec<I>,
+    ) -> Result<Crew<'a, I>, AllocError>
+        requires within { IsWithinLimits setup.now (plans_of (map I.view inboxes.items)) }
+        requires untouched { AreUntouched (map I.view inboxes.items) }
+        requires site { IsSite setup.now (plans_of (map I.view inboxes.items)) site.now }
+        requires seats { AreSeats setup.now site.now seats }
+        ensures { IfOk result (IsCrew setup.now (plans_of (map I.view inboxes.items)) site.now) }
+    {
+        let Seats { coord, workers } = seats;
+        let servers = servers_of(alloc, setup, &site.sizes, &site.board, workers, inboxes)?;
+        Ok(Crew {
+            lead: Lead::new(&site.board, coord, setup.turns),
+            servers,
+        })
+    }
+
+    /// Takes a crew apart whose run has ended.
+    pub fn finish(self, alloc: Global) -> Result<Ended, AllocError>
+        requires ended { HasEndedJoined self.lead }
+        requires gone { AllGone self.servers.items }
+        ensures { IfOk result (HasEnded self.entry) }
+    {
+        let Crew { lead, servers } = self;
+        let (logs, seats) = finish_all(alloc, servers)?;
+        Ok(Ended::new(lead, logs, seats))
+    }
+}
+
+impl<'a> Crew<'a, ListInbox> {
+    /// The crew of a run within the limits, at a new board, with the lists of the submitters. Nothing of them is open.
     pub fn new(
         alloc: Global,
         setup: &Setup,
         site: &'a Site,
         seats: Seats,
         plans: Vec<Vec<Request>>,
-    ) -> Result<Crew<'a>, AllocError>
+    ) -> Result<Crew<'a, ListInbox>, AllocError>
         requires within { IsWithinLimits setup.now (lists_of plans.items) }
         requires site { IsSite setup.now (lists_of plans.items) site.now }
         requires seats { AreSeats setup.now site.now seats }
         ensures { IfOk result (IsCrew setup.now (lists_of plans.items) site.now) }
     {
-        let Seats { coord, workers } = seats;
-        let servers = servers_of(alloc, setup, &site.sizes, &site.board, workers, plans)?;
-        Ok(Crew {
-            lead: Lead::new(&site.board, coord, setup.turns),
-            servers,
-        })
+        let inboxes = list_inboxes(alloc, plans)?;
+        Crew::of_inboxes(alloc, setup, site, seats, inboxes)
     }
 
     /// Makes one turn of the coordinator and one of each worker, in order, and says whether the run ended with it.
@@ -92,16 +129,5 @@ impl<'a> Crew<'a> {
         ensures { GoesOn self.old self.new }
     {
         open_all(&mut self.servers);
-    }
-
-    /// Takes a crew apart whose run has ended.
-    pub fn finish(self, alloc: Global) -> Result<Ended, AllocError>
-        requires ended { HasEndedJoined self.lead }
-        requires gone { AllGone self.servers.items }
-        ensures { IfOk result (HasEnded self.entry) }
-    {
-        let Crew { lead, servers } = self;
-        let (logs, seats) = finish_all(alloc, servers)?;
-        Ok(Ended::new(lead, logs, seats))
     }
 }

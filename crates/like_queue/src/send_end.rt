@@ -37,7 +37,8 @@ impl<'a> Model for SendEnd<'a> {
 impl SendEnd<'_> {
     /// The next request of the plan. `None` where all were sent.
     pub fn next(&self) -> Option<Request>
-        ensures { result ≡ next_of self.now }
+        ensures next { result ≡ next_of self.now }
+        ensures few { length self.now.line.plan ≤ max_requests }
     {
         let line = self.line;
         line.plan.get(self.sent).copied()

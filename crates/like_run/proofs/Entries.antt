@@ -1,5 +1,5 @@
 -- Entries that a crew can make.
-use Rattle.std.proofs.Common.{◌≡◌, ℕ, ◌<◌, List, length, sym, arith}
+use Rattle.std.proofs.Common.{◌<◌, List, length, arith}
 use Rattle.std.specs.List.{AllZip}
 use Rattle.like_requests.specs.declared.request.Request.{Request}
 use Rattle.like_requests.specs.declared.setup.Setup.{Setup}
@@ -18,7 +18,7 @@ use Rattle.like_crew.proofs.Pairs.{pairs-length}
 use Rattle.like_run.specs.Rounds.{CanMake}
 
 -- an entry whose submitter or worker is there can be made
-pub can-make : (setup : Setup) (plans : List (List Request)) (site : Site) (c : Crew) (entry : Turned) → IsCrew setup plans site c → 0 < setup.workers → IsInRun setup.workers (length plans) entry
+pub can-make : {I : Type 0} (setup : Setup) (plans : List (List Request)) (site : Site) (c : Crew I) (entry : Turned) → IsCrew setup plans site c → 0 < setup.workers → IsInRun setup.workers (length plans) entry
     → CanMake c.servers.items entry
 can-make setup plans site c (OpenOne submitter) is some there =
     has-inbox (service_of setup plans) setup.workers (board_numbers (board_id site.board)) c.servers.items submitter is.servers some there

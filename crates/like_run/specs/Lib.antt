@@ -1,2 +1,3 @@
+pub mod Lines
 pub mod Rounds
 pub mod Threads

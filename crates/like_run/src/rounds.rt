@@ -10,6 +10,7 @@ ghost use Rattle.like_crew.specs.Ended.{HasEnded};
 ghost use Rattle.like_run.specs.Rounds.{CanMake, Fits, IsFaultUnderWay, IsReplayFault};
 
 use like_crew::{Crew, Ended, Site, report_of};
+use like_queue::ListInbox;
 use like_replies::Report;
 use like_requests::{Request, Setup, check_setup};
 use like_script::{Turned, check_script};
@@ -63,7 +64,7 @@ fn replay_within(
 }
 
 // Makes a script's entries in their order, opens all lists, makes rounds until the run ended, and takes the crew apart.
-fn play(alloc: Global, crew: Crew<'_>, script: &[Turned]) -> Result<Ended, ReplayFault>
+fn play(alloc: Global, crew: Crew<'_, ListInbox>, script: &[Turned]) -> Result<Ended, ReplayFault>
     requires { All (CanMake crew.servers.items) script.now }
     ensures ended { IfOk result (HasEnded crew.entry) }
     ensures fault { IfErr result IsFaultUnderWay }
@@ -76,7 +77,7 @@ fn play(alloc: Global, crew: Crew<'_>, script: &[Turned]) -> Result<Ended, Repla
 }
 
 // Makes a script's entries in their order.
-fn make_all(crew: &mut Crew<'_>, script: &[Turned])
+fn make_all(crew: &mut Crew<'_, ListInbox>, script: &[Turned])
     requires { All (CanMake crew.old.servers.items) script.now }
     ensures { GoesOn crew.old crew.new }
 {
@@ -86,7 +87,7 @@ fn make_all(crew: &mut Crew<'_>, script: &[Turned])
 }
 
 // Makes one entry of a script.
-fn make(crew: &mut Crew<'_>, entry: &Turned)
+fn make(crew: &mut Crew<'_, ListInbox>, entry: &Turned)
     requires { CanMake crew.old.servers.items entry.now }
     ensures { GoesOn crew.old crew.new }
 {
@@ -102,7 +103,7 @@ fn make(crew: &mut Crew<'_>, entry: &Turned)
 }
 
 // Makes rounds until the run ended.
-fn make_rounds(crew: &mut Crew<'_>) -> Result<(), ReplayFault>
+fn make_rounds(crew: &mut Crew<'_, ListInbox>) -> Result<(), ReplayFault>
     ensures goes_on { GoesOn crew.old crew.new }
     ensures ended { OnOk result (HasEndedJoined crew.new.lead) }
     ensures gone { OnOk result (AllGone crew.new.servers.items) }

@@ -3,11 +3,16 @@ ghost use Rattle.like_requests.specs.Setup.{IsWithinLimits};
 ghost use Rattle.like_crew.specs.Asked.{asked, lists_of};
 ghost use Rattle.like_crew.specs.EndToEnd.{IsEndToEnd};
 ghost use Rattle.like_crew.specs.Ended.{HasEnded};
+ghost use Rattle.like_run.specs.Lines.{AreNewEnds};
 ghost use Rattle.like_run.specs.Threads.{IsFaultUnderWay, IsRunFault};
 
 use crate::threads::end::{coordinate, join_all};
-use crate::threads::start::{start_all, tell};
+use crate::threads::lines::{Lines, send_ends, take_ends};
+use crate::threads::signal::tell;
+use crate::threads::start::start_workers;
+use crate::threads::submitters::start_submitters;
 use like_crew::{Crew, Ended, Site, report_of};
+use like_queue::{SendEnd, TakeEnd};
 use like_replies::Report;
 use like_requests::{Request, Setup, check_setup};
 use like_roles::Gate;
@@ -19,14 +24,18 @@ use std::thread::{Scope, Threads};
 
 mod end;
 mod fault;
+mod lines;
+mod signal;
 mod start;
+mod submitter;
+mod submitters;
 mod worker;
 
 pub use fault::RunFault;
 
-/// Makes a run: each worker has a thread of its own, and the coordinator's turns are made on the calling thread. Every
-/// list is open from the start. No worker makes a turn before all threads were started; where one could not be, the
-/// others end, and no request was taken. On a fault the lists are given up.
+/// Makes a run: each worker and each submitter has a thread of its own, and the coordinator's turns are made on the
+/// calling thread. A submitter's requests go to its worker through a line. No thread makes a step of its own before all
+/// were started; where one could not be, the others end, and no request was taken. On a fault the lists are given up.
 pub fn run<R: Threads + Wait + Sync, G: Gate>(
     rt: &R,
     alloc: Global,
@@ -56,32 +65,39 @@ fn run_within<R: Threads + Wait + Sync, G: Gate>(
 {
     let (site, seats) = Site::new(alloc, setup, &plans)?;
     let lists = Snapshot::of(&plans);
-    let crew = Crew::new(alloc, setup, &site, seats, plans)?;
-    let ended = on_threads(rt, alloc, crew, gate)?;
+    let Lines {
+        lines,
+        sends,
+        takes,
+    } = Lines::new(alloc, plans)?;
+    let crew = Crew::of_inboxes(alloc, setup, &site, seats, take_ends(alloc, &lines, takes)?)?;
+    let ends = send_ends(alloc, &lines, sends)?;
+    let ended = on_threads(rt, alloc, crew, ends, gate)?;
     Ok(report_of(alloc, setup, &lists, site, ended)?)
 }
 
-// Runs the workers of a crew on threads, with all lists open, and takes it apart.
+// Runs the workers of a crew and the submitters on threads, and takes the crew apart.
 fn on_threads<R: Threads + Wait + Sync, G: Gate>(
     rt: &R,
     alloc: Global,
-    crew: Crew<'_>,
+    crew: Crew<'_, TakeEnd<'_>>,
+    ends: Vec<SendEnd<'_>>,
     gate: &G,
 ) -> Result<Ended, RunFault>
+    requires { AreNewEnds ends.items }
     ensures ended { IfOk result (HasEnded crew.entry) }
     ensures fault { IfErr result IsFaultUnderWay }
 {
-    let mut crew = crew;
-    crew.open_all();
     let start = OnceLock::new();
     let signal = &start;
     thread::scope(
         thread::scope_env(),
         rt,
         move |scope| -> Result<Ended, RunFault>
+            requires { AreNewEnds ends.items }
             ensures ended { IfOk result (HasEnded crew.entry) }
             ensures fault { IfErr result IsFaultUnderWay }
-        { in_scope(scope, rt, alloc, signal, crew, gate) },
+        { in_scope(scope, rt, alloc, signal, crew, ends, gate) },
     )
 }
 
@@ -91,21 +107,25 @@ fn in_scope<'s, E, R: Threads + Wait + Sync, G: Gate>(
     rt: &'s R,
     alloc: Global,
     start: &'s OnceLock<bool>,
-    crew: Crew<'s>,
+    crew: Crew<'s, TakeEnd<'s>>,
+    ends: Vec<SendEnd<'s>>,
     gate: &'s G,
 ) -> Result<Ended, RunFault>
+    requires { AreNewEnds ends.items }
     ensures ended { IfOk result (HasEnded crew.entry) }
     ensures fault { IfErr result IsFaultUnderWay }
 {
     let Crew { mut lead, servers } = crew;
     let mut logs = Vec::with_capacity(alloc, servers.len())?;
     let mut seats = Vec::with_capacity(alloc, servers.len())?;
-    let mut threads = Vec::with_capacity(alloc, servers.len())?;
-    let all = start_all(scope, rt, gate, start, servers, &mut threads);
+    let mut workers = Vec::with_capacity(alloc, servers.len())?;
+    let mut submitters = Vec::with_capacity(alloc, ends.len())?;
+    let all = start_workers(scope, rt, gate, start, servers, &mut workers)
+        && start_submitters(scope, rt, gate, start, ends, &mut submitters);
     let Some(go) = tell(rt, start, all) else {
         return Err(RunFault::Start);
     };
     coordinate(rt, &mut lead);
-    join_all(rt, threads, &go, &mut logs, &mut seats);
+    join_all(rt, workers, &go, &mut logs, &mut seats);
     Ok(Ended::new(lead, logs, seats))
 }

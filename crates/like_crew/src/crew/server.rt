@@ -1,4 +1,4 @@
-ghost use Rattle.std.specs.Prelude.{◌≡◌, ◌<◌, ℕ, IfOk, IfErr, length};
+ghost use Rattle.std.specs.Prelude.{◌≡◌, ◌<◌, ℕ, IfOk, IfErr, length, map};
 ghost use Rattle.like_core.specs.declared.worker_state.WorkerState.TheVariants.{Gone};
 ghost use Rattle.like_tables.specs.Share.{place_of, share_of};
 ghost use Rattle.like_requests.specs.Setup.{IsWithin};
@@ -8,7 +8,7 @@ ghost use Rattle.like_roles.specs.Follows.{IsServiceOf};
 ghost use Rattle.like_crew.specs.Server.{AreInboxesFor, AreOwnPlans, IsLogOf, ServerGoesOn, WorksFor};
 
 use like_core::Post;
-use like_queue::ListInbox;
+use like_queue::{Inbox, ListInbox, TakeWith};
 use like_requests::Setup;
 use like_roles::{Gate, NoWorker, Turn, Worker, WorkerLog};
 use std::alloc::Global;
@@ -17,26 +17,26 @@ use std::marker::Model;
 /// A worker with the inboxes of the submitters that it serves: the inbox at place `j` is that of submitter `w + j N`,
 /// for worker `w` of `N`.
 #[derive(Drop)]
-pub struct Server<P: Post> {
+pub struct Server<P: Post, I: Inbox> {
     worker: Worker<P>,
     // How many workers there are.
     workers: u32,
-    inboxes: Vec<ListInbox>,
+    inboxes: Vec<I>,
 }
 
-impl<P: Post> Model for Server<P> {
-    ghost use Rattle.std.specs.Prelude.{◌≡◌, None};
+impl<P: Post, I: Inbox> Model for Server<P, I> {
+    ghost use Rattle.std.specs.Prelude.{◌≡◌, None, map};
     ghost use Rattle.like_crew.specs.Server.{ServerView, Agree};
 
     ghost Value = { ServerView };
 
-    ghost view = { λ s. record { worker = s.worker; inboxes = s.inboxes.items } };
+    ghost view = { λ s. record { worker = s.worker; inboxes = map I.view s.inboxes.items } };
 
-    ghost invariant = { λ s.
-        (s.worker.pending ≡ None) × (s.workers ≡ s.worker.last.share.workers) × Agree s.worker s.inboxes.items };
+    ghost invariant = { λ s. (s.worker.pending ≡ None)
+        × (s.workers ≡ s.worker.last.share.workers) × Agree s.worker (map I.view s.inboxes.items) };
 }
 
-impl<P: Post> Server<P> {
+impl<P: Post, I: Inbox> Server<P, I> {
     /// Worker `number` at its post, with the inboxes of its submitters. All its room is made here: its turns take no
     /// memory.
     pub fn new(
@@ -45,18 +45,18 @@ impl<P: Post> Server<P> {
         sizes: &[u32],
         number: u32,
         post: P,
-        inboxes: Vec<ListInbox>,
-    ) -> Result<Server<P>, NoWorker<P>>
+        inboxes: Vec<I>,
+    ) -> Result<Server<P, I>, NoWorker<P>>
         requires within { IsWithin setup.now sizes.now }
         requires is_worker { number < setup.now.workers }
         requires post { IsPostOf number setup.now.pages (P.view post) }
-        requires inboxes { AreInboxesFor setup.now sizes.now number inboxes.items }
+        requires inboxes { AreInboxesFor setup.now sizes.now number (map I.view inboxes.items) }
         ensures share { IfOk result (λ server.
             server.worker.last.share ≡ share_of setup.now.users (length sizes.now) setup.now.workers number) }
         ensures at_post { IfOk result (λ server. server.worker.post ≡ P.view post) }
         ensures works { IfOk result (λ server. (service : Service)
             → IsServiceOf setup.now.users setup.now.pages sizes.now service
-            → AreOwnPlans service setup.now.workers number inboxes.items → WorksFor service server) }
+            → AreOwnPlans service setup.now.workers number (map I.view inboxes.items) → WorksFor service server) }
         ensures post { IfErr result (λ refused. refused.post ≡ post) }
     {
         let worker = Worker::new(alloc, setup, sizes, number, post)?;
@@ -67,6 +67,41 @@ impl<P: Post> Server<P> {
         })
     }
 
+    /// Makes one whole turn of the worker: where it tries a submitter, it is given what that one's inbox has.
+    pub fn turn<G: Gate, R>(&mut self, rt: &R, gate: &G) -> Turn
+    where
+        I: TakeWith<R>,
+        ensures goes_on { ServerGoesOn self.old self.new }
+        ensures retired { result ≡ Turn.Retired → self.new.worker.post.state ≡ Gone }
+    {
+        match self.worker.turn(gate) {
+            Turn::Try { submitter } => {
+                let place = (submitter / self.workers) as usize;
+                let taken = self.inboxes[place].take_with(rt);
+                self.worker.give(gate, taken)
+            }
+            turn => turn,
+        }
+    }
+
+    /// Gives the post up, whatever is left to do.
+    pub fn leave(self) -> P
+        ensures { P.view result ≡ self.worker.post }
+    {
+        self.worker.leave()
+    }
+
+    /// Takes it apart when its worker is gone: what the worker has done, and its post.
+    pub fn finish(self) -> (WorkerLog, P)
+        requires { self.worker.post.state ≡ Gone }
+        ensures log { IsLogOf self result.0 }
+        ensures post { P.view result.1 ≡ self.worker.post }
+    {
+        self.worker.finish()
+    }
+}
+
+impl<P: Post> Server<P, ListInbox> {
     /// Opens one item more of a submitter's list.
     pub fn open_one(&mut self, submitter: u32)
         requires { place_of self.old.worker.last.share.workers submitter < length self.old.inboxes }
@@ -92,36 +127,5 @@ impl<P: Post> Server<P> {
         ensures { ServerGoesOn self.old self.new }
     {
         self.inboxes[place].open_all();
-    }
-
-    /// Makes one whole turn of the worker: where it tries a submitter, it is given what that one's inbox has.
-    pub fn turn<G: Gate>(&mut self, gate: &G) -> Turn
-        ensures goes_on { ServerGoesOn self.old self.new }
-        ensures retired { result ≡ Turn.Retired → self.new.worker.post.state ≡ Gone }
-    {
-        match self.worker.turn(gate) {
-            Turn::Try { submitter } => {
-                let place = (submitter / self.workers) as usize;
-                let taken = self.inboxes[place].take();
-                self.worker.give(gate, taken)
-            }
-            turn => turn,
-        }
-    }
-
-    /// Gives the post up, whatever is left to do.
-    pub fn leave(self) -> P
-        ensures { P.view result ≡ self.worker.post }
-    {
-        self.worker.leave()
-    }
-
-    /// Takes it apart when its worker is gone: what the worker has done, and its post.
-    pub fn finish(self) -> (WorkerLog, P)
-        requires { self.worker.post.state ≡ Gone }
-        ensures log { IsLogOf self result.0 }
-        ensures post { P.view result.1 ≡ self.worker.post }
-    {
-        self.worker.finish()
     }
 }

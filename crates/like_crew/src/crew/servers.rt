@@ -8,11 +8,12 @@ ghost use Rattle.like_crew.specs.Ended.{IsSeatOf};
 use crate::crew::server::Server;
 use like_board::{BoardPost, WorkerSeat};
 use like_core::Post;
+use like_queue::{Inbox, ListInbox};
 use like_roles::{NoGate, Turn, WorkerLog};
 use std::alloc::{AllocError, Global};
 
 /// Makes one turn of each worker, in order, and says whether all are gone.
-pub fn turns<P: Post>(servers: &mut Vec<Server<P>>) -> bool
+pub fn turns<P: Post>(servers: &mut Vec<Server<P, ListInbox>>) -> bool
     ensures go_on { AllZip ServerGoesOn servers.old.items servers.new.items }
     ensures gone { result ≡ true → AllGone servers.new.items }
 {
@@ -25,26 +26,26 @@ pub fn turns<P: Post>(servers: &mut Vec<Server<P>>) -> bool
 }
 
 // Makes one turn of a worker, and says whether it is gone.
-fn retires<P: Post>(server: &mut Server<P>) -> bool
+fn retires<P: Post>(server: &mut Server<P, ListInbox>) -> bool
     ensures goes_on { ServerGoesOn server.old server.new }
     ensures gone { result ≡ true → server.new.worker.post.state ≡ Gone }
 {
-    match server.turn(&NoGate) {
+    match server.turn(&(), &NoGate) {
         Turn::Retired => true,
         _ => false,
     }
 }
 
 /// Makes one turn of a worker.
-pub fn turn_of<P: Post>(servers: &mut Vec<Server<P>>, worker: u32) -> Turn
+pub fn turn_of<P: Post>(servers: &mut Vec<Server<P, ListInbox>>, worker: u32) -> Turn
     requires { worker < length servers.old.items }
     ensures { AllZip ServerGoesOn servers.old.items servers.new.items }
 {
-    servers[worker as usize].turn(&NoGate)
+    servers[worker as usize].turn(&(), &NoGate)
 }
 
 /// Opens one item more of a submitter's list.
-pub fn open_one<P: Post>(servers: &mut Vec<Server<P>>, submitter: u32)
+pub fn open_one<P: Post>(servers: &mut Vec<Server<P, ListInbox>>, submitter: u32)
     requires { HasInbox servers.old.items submitter }
     ensures { AllZip ServerGoesOn servers.old.items servers.new.items }
 {
@@ -53,7 +54,7 @@ pub fn open_one<P: Post>(servers: &mut Vec<Server<P>>, submitter: u32)
 }
 
 /// Opens all lists.
-pub fn open_all<P: Post>(servers: &mut Vec<Server<P>>)
+pub fn open_all<P: Post>(servers: &mut Vec<Server<P, ListInbox>>)
     ensures { AllZip ServerGoesOn servers.old.items servers.new.items }
 {
     for worker in 0..servers.len() {
@@ -62,9 +63,9 @@ pub fn open_all<P: Post>(servers: &mut Vec<Server<P>>)
 }
 
 /// Takes all servers apart, where all workers are gone: their logs, and their seats.
-pub fn finish_all(
+pub fn finish_all<I: Inbox>(
     alloc: Global,
-    servers: Vec<Server<BoardPost<'_>>>,
+    servers: Vec<Server<BoardPost<'_>, I>>,
 ) -> Result<(Vec<WorkerLog>, Vec<WorkerSeat>), AllocError>
     requires gone { AllGone servers.items }
     ensures logs { IfOk result (λ r. AllZip IsLogOf servers.entry.items r.0.items) }

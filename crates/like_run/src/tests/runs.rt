@@ -6,8 +6,9 @@ use like_requests::{Op, PageRef, Request, SettingsFault};
 use like_roles::{Gate, NoGate, Reply};
 use std::alloc::Global;
 use std::process::Abort;
+use std::sync::Wait;
 use std::sync::atomic::{AtomicU32, Ordering};
-use std::thread::yield_now;
+use std::thread::{Threads, yield_now};
 
 // A run of one page that is split, whose requests are given by `likes`.
 const ONE_PAGE: Case = Case {
@@ -90,25 +91,43 @@ fn runs_many_submitters(rt: HostRuntime) {
     }
 }
 
-// A gate at which each of two workers waits in phase 0 for the other.
+// Which calls of a gate wait, and for what.
+#[derive(Clone, Copy, PartialEq, Eq)]
+enum Held {
+    // Each of two workers in phase 0, for the other.
+    Workers,
+    // The submitter's second request, for phase 2.
+    SecondRequest,
+    // Each of two submitters at its first request, for the other.
+    Submitters,
+}
+
+// A gate at which calls wait. Two calls of it are awaited in each case.
 #[derive(Drop)]
-struct Meeting {
-    there: AtomicU32,
+struct Hold {
+    held: Held,
+    made: AtomicU32,
     given_up: AtomicU32,
 }
 
-impl Gate for Meeting {
-    fn push(&self, _s: u32, _n: u32) {}
-
-    fn run(&self, _w: u32, _s: u32, _n: u32) {}
-
-    fn phase(&self, _w: u32, k: u32) {
-        if k > 0 {
-            return;
+impl Hold {
+    fn new(held: Held) -> Hold {
+        Hold {
+            held,
+            made: AtomicU32::new(0),
+            given_up: AtomicU32::new(0),
         }
-        self.there.fetch_add(1, Ordering::SeqCst);
+    }
+
+    // Notes a call.
+    fn note(&self) {
+        self.made.fetch_add(1, Ordering::SeqCst);
+    }
+
+    // Waits until so many calls were noted.
+    fn wait(&self, calls: u32) {
         for _ in 0..LOOKS {
-            if self.there.load(Ordering::SeqCst) == 2 {
+            if self.made.load(Ordering::SeqCst) >= calls {
                 return;
             }
             yield_now();
@@ -117,29 +136,88 @@ impl Gate for Meeting {
     }
 }
 
-#[test]
-fn runs_workers_side_by_side(rt: HostRuntime) {
-    let setup = ONE_PAGE.setup(&rt, rt.alloc());
-    let plans = likes(&rt, rt.alloc(), 2, 1);
-    let gate = Meeting {
-        there: AtomicU32::new(0),
-        given_up: AtomicU32::new(0),
-    };
-    let report = run(&rt, rt.alloc(), &setup, plans, &gate).expect(&rt, "a report");
-    assert_eq!(rt; gate.there.load(Ordering::SeqCst), 2);
-    assert_eq!(rt; gate.given_up.load(Ordering::SeqCst), 0);
-    assert_liked(&rt, &report, 2, 1, 2, 2);
+impl Gate for Hold {
+    fn push(&self, _s: u32, n: u32) {
+        if self.held == Held::Submitters && n == 1 {
+            self.note();
+            self.wait(2);
+        }
+        if self.held == Held::SecondRequest && n == 2 {
+            self.wait(1);
+            self.note();
+        }
+    }
+
+    fn run(&self, _w: u32, _s: u32, _n: u32) {}
+
+    fn phase(&self, _w: u32, k: u32) {
+        if self.held == Held::Workers && k == 0 {
+            self.note();
+            self.wait(2);
+        }
+        if self.held == Held::SecondRequest && k == 2 {
+            self.note();
+        }
+    }
 }
 
-// A gate that records the greatest phase that a worker enters, and holds each worker in phase 0 for so many looks.
+// Asserts that a run with a gate that holds calls ends with two likes, that both calls were made, and that none waited
+// in vain.
+fn assert_held(
+    rt: &(impl Abort + Threads + Wait + Sync),
+    alloc: Global,
+    held: Held,
+    case: &Case,
+    submitters: u32,
+    each: u32,
+) {
+    let setup = case.setup(rt, alloc);
+    let plans = likes(rt, alloc, submitters, each);
+    let gate = Hold::new(held);
+    let report = run(rt, alloc, &setup, plans, &gate).expect(rt, "a report");
+    assert_eq!(rt; gate.made.load(Ordering::SeqCst), 2);
+    assert_eq!(rt; gate.given_up.load(Ordering::SeqCst), 0);
+    assert_eq!(rt; report.counts.as_slice(), [2].as_slice());
+}
+
+#[test]
+fn runs_workers_side_by_side(rt: HostRuntime) {
+    assert_held(&rt, rt.alloc(), Held::Workers, &ONE_PAGE, 2, 1);
+}
+
+#[test]
+fn runs_a_submitter_beside_its_worker(rt: HostRuntime) {
+    let case = Case {
+        workers: 1,
+        users: 1,
+        turns: 0,
+        ..ONE_PAGE
+    };
+    assert_held(&rt, rt.alloc(), Held::SecondRequest, &case, 1, 2);
+}
+
+#[test]
+fn runs_submitters_side_by_side(rt: HostRuntime) {
+    let case = Case {
+        workers: 1,
+        ..ONE_PAGE
+    };
+    assert_held(&rt, rt.alloc(), Held::Submitters, &case, 2, 1);
+}
+
+// A gate that counts the requests that are pushed, records the greatest phase that a worker enters, and holds each
+// worker in phase 0 for so many looks.
 #[derive(Drop)]
 struct Record {
+    pushed: AtomicU32,
     greatest: AtomicU32,
     held: u32,
 }
 
 impl Gate for Record {
-    fn push(&self, _s: u32, _n: u32) {}
+    fn push(&self, _s: u32, _n: u32) {
+        self.pushed.fetch_add(1, Ordering::SeqCst);
+    }
 
     fn run(&self, _w: u32, _s: u32, _n: u32) {}
 
@@ -163,10 +241,12 @@ fn runs_phases_of_no_turns(rt: HostRuntime) {
     let setup = case.setup(&rt, rt.alloc());
     let plans = likes(&rt, rt.alloc(), 2, 100);
     let gate = Record {
+        pushed: AtomicU32::new(0),
         greatest: AtomicU32::new(0),
         held: 1 << 16,
     };
     let report = run(&rt, rt.alloc(), &setup, plans, &gate).expect(&rt, "a report");
+    assert_eq!(rt; gate.pushed.load(Ordering::SeqCst), 200);
     assert!(rt; report.phases > 0);
     assert_eq!(rt; report.phases, gate.greatest.load(Ordering::SeqCst));
 }
@@ -180,10 +260,12 @@ fn runs_phases_of_many_turns(rt: HostRuntime) {
     let setup = case.setup(&rt, rt.alloc());
     let plans = likes(&rt, rt.alloc(), 2, 3);
     let gate = Record {
+        pushed: AtomicU32::new(0),
         greatest: AtomicU32::new(0),
         held: 0,
     };
     let report = run(&rt, rt.alloc(), &setup, plans, &gate).expect(&rt, "a report");
+    assert_eq!(rt; gate.pushed.load(Ordering::SeqCst), 6);
     assert_eq!(rt; report.phases, 0);
     assert_eq!(rt; gate.greatest.load(Ordering::SeqCst), 0);
 }

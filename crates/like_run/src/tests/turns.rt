@@ -13,6 +13,7 @@ use super::cases::{
 };
 use crate::{MAX_ENTRIES, ReplayFault, Turned};
 use like_crew::{Crew, Site};
+use like_queue::ListInbox;
 use like_requests::{Request, Setup, check_setup};
 use like_roles::{CoordTurn, Turn};
 use like_script::check_script;
@@ -27,7 +28,7 @@ enum Answer {
 }
 
 // Makes one entry of a script, and gives what it answers where it is a turn.
-fn answer_of(crew: &mut Crew<'_>, entry: &Turned) -> Option<Answer>
+fn answer_of(crew: &mut Crew<'_, ListInbox>, entry: &Turned) -> Option<Answer>
     requires { CanMake crew.old.servers.items entry.now }
     ensures { GoesOn crew.old crew.new }
 {
@@ -44,7 +45,7 @@ fn answer_of(crew: &mut Crew<'_>, entry: &Turned) -> Option<Answer>
 // Makes a script's entries in their order, and gives what the turns among them answer.
 fn answers_of(
     alloc: Global,
-    crew: &mut Crew<'_>,
+    crew: &mut Crew<'_, ListInbox>,
     script: &[Turned],
 ) -> Result<Vec<Answer>, AllocError>
     requires { All (CanMake crew.old.servers.items) script.now }

@@ -1,21 +1,22 @@
-ghost use Rattle.std.specs.Prelude.{◌≡◌, ◌≤◌, true, [], All, IfSome, length, map, vec_capacity};
+ghost use Rattle.std.specs.Prelude.{◌≡◌, ◌≤◌, true, [], All, length, map, vec_capacity};
 ghost use Rattle.like_run.specs.Threads.{Keeps};
 
 use crate::threads::worker::{Owes, Served, serve};
 use like_board::BoardPost;
 use like_crew::Server;
+use like_queue::TakeEnd;
 use like_roles::Gate;
 use std::snapshot::Snapshot;
-use std::sync::{OnceLock, OnceToken, Wait};
+use std::sync::{OnceLock, Wait};
 use std::thread::{PromisedHandle, Scope, Threads};
 
 /// Starts a thread for each server, in order, and says whether all could be started.
-pub fn start_all<'s, E, R: Threads + Wait + Sync, G: Gate>(
+pub fn start_workers<'s, E, R: Threads + Wait + Sync, G: Gate>(
     scope: &Scope<'s, E>,
     rt: &'s R,
     gate: &'s G,
     start: &'s OnceLock<bool>,
-    servers: Vec<Server<BoardPost<'s>>>,
+    servers: Vec<Server<BoardPost<'s>, TakeEnd<'s>>>,
     threads: &mut Vec<PromisedHandle<Served<'s>, Owes<'s>>>,
 ) -> bool
     requires none { threads.old.items ≡ [] }
@@ -41,20 +42,4 @@ pub fn start_all<'s, E, R: Threads + Wait + Sync, G: Gate>(
         }
     }
     true
-}
-
-/// Tells the threads to go on where all were started, and to end where not.
-pub fn tell<'a, R: Wait>(
-    rt: &R,
-    start: &'a OnceLock<bool>,
-    all: bool,
-) -> Option<OnceToken<'a, bool>>
-    ensures of { IfSome result (λ token. token.of ≡ start.now.id) }
-    ensures goes { IfSome result (λ token. token.value ≡ true) }
-    ensures all { IfSome result (λ token. all ≡ true) }
-{
-    match start.set(rt, all) {
-        Ok(token) if all => Some(token),
-        _ => None,
-    }
 }

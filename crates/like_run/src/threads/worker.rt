@@ -3,9 +3,11 @@ ghost use Rattle.like_core.specs.declared.worker_state.WorkerState.TheVariants.{
 ghost use Rattle.like_crew.specs.Server.{ServerGoesOn};
 ghost use Rattle.like_run.specs.Threads.{Keeps};
 
+use crate::threads::signal::hear;
 use like_board::{BoardPost, WorkerSeat};
 use like_core::Post;
 use like_crew::Server;
+use like_queue::{TakeEnd, TakeWith};
 use like_roles::{Gate, Turn, WorkerLog};
 use std::snapshot::Snapshot;
 use std::sync::{OnceLock, OnceToken, Wait};
@@ -23,7 +25,7 @@ pub enum Served<'a> {
 /// What is promised of that: the server that the thread begins with, and the lock that tells it to go on or to end.
 #[derive(Drop)]
 pub struct Owes<'a> {
-    pub server: Snapshot<Server<BoardPost<'a>>>,
+    pub server: Snapshot<Server<BoardPost<'a>, TakeEnd<'a>>>,
     pub start: &'a OnceLock<bool>,
 }
 
@@ -38,11 +40,11 @@ pub fn serve<'a, R: Wait, G: Gate>(
     rt: &R,
     gate: &G,
     start: &'a OnceLock<bool>,
-    server: Server<BoardPost<'_>>,
+    server: Server<BoardPost<'_>, TakeEnd<'_>>,
 ) -> Served<'a>
     ensures { Keeps start.now.id server.entry result }
 {
-    let token = signal(rt, start);
+    let token = hear(rt, start);
     if !*start.value(&token) {
         return Served::Stopped(token, server.leave().back());
     }
@@ -52,26 +54,17 @@ pub fn serve<'a, R: Wait, G: Gate>(
     Served::Left(log, post.back())
 }
 
-// Waits until all threads were started, or are told to end.
-fn signal<'a, R: Wait>(rt: &R, start: &'a OnceLock<bool>) -> OnceToken<'a, bool>
-    ensures { result.of ≡ start.now.id }
-{
-    for _ in rt.forever() {
-        start.wait(rt);
-        if let Some(token) = start.witness() {
-            return token;
-        }
-    }
-    unreachable!()
-}
-
 // Makes turns until the worker is gone.
-fn make_turns<R: Wait, G: Gate, P: Post>(rt: &R, gate: &G, server: &mut Server<P>)
+fn make_turns<R: Wait, G: Gate, P: Post, I: TakeWith<R>>(
+    rt: &R,
+    gate: &G,
+    server: &mut Server<P, I>,
+)
     ensures goes_on { ServerGoesOn server.old server.new }
     ensures gone { server.new.worker.post.state ≡ Gone }
 {
     for _ in rt.forever() {
-        match server.turn(gate) {
+        match server.turn(rt, gate) {
             Turn::Retired => return,
             Turn::Waiting | Turn::Idle | Turn::Nothing => yield_now(),
             _ => {}

@@ -1,9 +1,8 @@
-use Rattle.std.proofs.Common.{◌≡◌, ◌≤◌, ℕ, List, Vec, Global, length, map, slice_get, refl, sym, ap, ◌∙◌, subst, arith}
+use Rattle.std.proofs.Common.{◌≡◌, ◌≤◌, ℕ, List, length, map, slice_get, refl, sym, ap, ◌∙◌, subst, arith}
 use Rattle.std.proofs.lemmas.List.{length-map}
 use Rattle.like_requests.specs.Pages.{Page}
 use Rattle.like_requests.specs.Verdict.{home}
 use Rattle.like_requests.specs.declared.request.Request.{Request}
-use Rattle.like_requests.specs.declared.setup.Setup.{Setup}
 use Rattle.like_core.specs.declared.opening.Opening.{Opening}
 use Rattle.like_board.specs.Seats.{board_id}
 use Rattle.like_replies.specs.Collected.{IsCollected, rows_of}

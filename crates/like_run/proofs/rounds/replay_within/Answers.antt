@@ -1,4 +1,4 @@
-use Rattle.std.proofs.Common.{List, Vec, Global, get_or, sym, ◌∙◌, subst}
+use Rattle.std.proofs.Common.{List, Vec, Global, get_or, sym, subst}
 use Rattle.std.proofs.lemmas.List.{length-map}
 use Rattle.like_requests.specs.Setup.{IsWithinLimits}
 use Rattle.like_requests.specs.declared.request.Request.{Request}

@@ -1,4 +1,4 @@
-use Rattle.std.proofs.Common.{◌≡◌, ◌∙◌, List, Vec, Global, length, map, subst, sym, ap, arith}
+use Rattle.std.proofs.Common.{◌≡◌, ◌∙◌, true, List, Vec, Global, length, map, subst, sym, ap, arith}
 use Rattle.std.proofs.lemmas.List.{length-map}
 use Rattle.std.specs.declared.thread.PromisedHandle.{PromisedHandle}
 use Rattle.like_run.specs.declared.threads.worker.Owes.{Owes}
@@ -8,6 +8,7 @@ use Rattle.like_roles.specs.declared.log.WorkerLog.{WorkerLog}
 use Rattle.like_crew.specs.Ended.{HaveLeft}
 use Rattle.like_crew.specs.Server.{ServerView}
 use Rattle.like_run.proofs.threads.in_scope.Goals as goal
+use Rattle.like_run.proofs.threads.in_scope.Goals.{then-start_workers, else-start_workers}
 
 abbrev first_of : PromisedHandle Served Owes → ServerView
 first_of thread = thread.promise.server.value
@@ -18,19 +19,31 @@ as-many threads servers are = sym (length-map threads first_of) ∙ ap (λ (xs :
 
 pub join_all-requires-clause-logs : goal.join_all-requires-clause-logs
 join_all-requires-clause-logs g c =
-    let many = as-many c.start_all-all.new.threads.items c.args.crew.servers.items (c.start_all-all.ensures.servers c.in-Some.ensures.all) in
+    let served : c.start_workers.result ≡ true = elim c.if-start_workers.branch [
+      | then-start_workers w ↦ w.if-start_workers.true
+      | else-start_workers w ↦ absurd (cc (w.all-is, c.in-Some.ensures.all))
+    ] in
+    let many = as-many c.start_workers.new.threads.items c.args.crew.servers.items (c.start_workers.ensures.servers served) in
     (c.in_ok-logs.ensures.items, omega (arith, many, c.in_ok-logs.ensures.capacity, c.len.ensures, c.args.crew.servers.ok.0))
 
 pub join_all-requires-clause-seats : goal.join_all-requires-clause-seats
 join_all-requires-clause-seats g c =
-    let many = as-many c.start_all-all.new.threads.items c.args.crew.servers.items (c.start_all-all.ensures.servers c.in-Some.ensures.all) in
+    let served : c.start_workers.result ≡ true = elim c.if-start_workers.branch [
+      | then-start_workers w ↦ w.if-start_workers.true
+      | else-start_workers w ↦ absurd (cc (w.all-is, c.in-Some.ensures.all))
+    ] in
+    let many = as-many c.start_workers.new.threads.items c.args.crew.servers.items (c.start_workers.ensures.servers served) in
     (c.in_ok-seats.ensures.items, omega (arith, many, c.in_ok-seats.ensures.capacity, c.len-2.ensures, c.args.crew.servers.ok.0))
 
 pub returns-clause-ended : goal.returns-clause-ended
 returns-clause-ended g c =
     let servers = c.args.crew.servers.items in
+    let served : c.start_workers.result ≡ true = elim c.if-start_workers.branch [
+      | then-start_workers w ↦ w.if-start_workers.true
+      | else-start_workers w ↦ absurd (cc (w.all-is, c.in-Some.ensures.all))
+    ] in
     let left : HaveLeft servers c.join_all.new.logs.items c.join_all.new.seats.items =
-    subst (λ xs. HaveLeft xs c.join_all.new.logs.items c.join_all.new.seats.items) (c.start_all-all.ensures.servers c.in-Some.ensures.all) c.join_all.ensures in
+    subst (λ xs. HaveLeft xs c.join_all.new.logs.items c.join_all.new.seats.items) (c.start_workers.ensures.servers served) c.join_all.ensures in
     record {
       left = subst (λ (logs : Vec WorkerLog Global). HaveLeft servers logs.items c.new.result.seats.items) (sym c.new.ensures.logs)
           (subst (λ (seats : Vec WorkerSeat Global). HaveLeft servers c.join_all.new.logs.items seats.items) (sym c.new.ensures.seats) left);

@@ -1,15 +1,52 @@
-use Rattle.std.proofs.Common.{List, Vec, Global, sym, subst}
+use Rattle.std.proofs.Common.{◌≡◌, ◌≤◌, ◌∙◌, List, Vec, Global, length, map, sym, subst, ap, arith}
+use Rattle.std.proofs.lemmas.List.{length-map}
+use Rattle.like_requests.specs.Limits.{max_submitters}
 use Rattle.like_requests.specs.Setup.{IsWithinLimits}
 use Rattle.like_requests.specs.declared.request.Request.{Request}
 use Rattle.like_board.specs.Seats.{board_id}
+use Rattle.like_queue.specs.Line.{inbox_of}
 use Rattle.like_crew.specs.Asked.{asked, lists_of}
+use Rattle.like_crew.specs.Crew.{IsCrew}
 use Rattle.like_crew.specs.Ended.{IsEnded}
+use Rattle.like_crew.specs.Server.{plans_of, untouched}
 use Rattle.like_crew.specs.Site.{IsSite, opening_of}
 use Rattle.like_crew.proofs.Ending.{has-ended}
+use Rattle.like_crew.proofs.Makings.{all-small, are-untouched, plans-are}
+use Rattle.like_run.specs.Lines.{new_sender, new_taker}
+use Rattle.like_run.proofs.Lines.{ends-new, inboxes-of}
 use Rattle.like_run.proofs.threads.run_within.Goals as goal
 
 pub new-requires : goal.new-requires
 new-requires g c = subst (λ (xs : List (Vec Request Global)). IsWithinLimits c.args.setup.now (lists_of xs)) (sym c.deref.ensures.value) c.requires
+
+pub new-requires-2 : goal.new-requires-2
+new-requires-2 g c = all-small c.args.setup.now c.args.plans.items c.requires
+
+pub of_inboxes-requires-clause-within : goal.of_inboxes-requires-clause-within
+of_inboxes-requires-clause-within g c =
+    let inboxes : map inbox_of c.in_ok-take_ends.field-0.items ≡ map untouched (lists_of c.args.plans.items) =
+    inboxes-of (lists_of c.args.plans.items) c.in_ok-lines.field-0 c.in_ok-take_ends.field-0.items c.in_ok-lines.ensures (c.in_ok-take_ends.ensures ∙ ap (map new_taker) c.deref-2.ensures.value) in
+    let plans : plans_of (map inbox_of c.in_ok-take_ends.field-0.items) ≡ lists_of c.args.plans.items = plans-are (map inbox_of c.in_ok-take_ends.field-0.items) (lists_of c.args.plans.items) inboxes in
+    subst (IsWithinLimits c.args.setup.now) (sym plans) c.requires
+
+pub of_inboxes-requires-clause-untouched : goal.of_inboxes-requires-clause-untouched
+of_inboxes-requires-clause-untouched g c =
+    let inboxes : map inbox_of c.in_ok-take_ends.field-0.items ≡ map untouched (lists_of c.args.plans.items) =
+    inboxes-of (lists_of c.args.plans.items) c.in_ok-lines.field-0 c.in_ok-take_ends.field-0.items c.in_ok-lines.ensures (c.in_ok-take_ends.ensures ∙ ap (map new_taker) c.deref-2.ensures.value) in
+    are-untouched (map inbox_of c.in_ok-take_ends.field-0.items) (lists_of c.args.plans.items) inboxes
+
+pub of_inboxes-requires-clause-site : goal.of_inboxes-requires-clause-site
+of_inboxes-requires-clause-site g c =
+    let inboxes : map inbox_of c.in_ok-take_ends.field-0.items ≡ map untouched (lists_of c.args.plans.items) =
+    inboxes-of (lists_of c.args.plans.items) c.in_ok-lines.field-0 c.in_ok-take_ends.field-0.items c.in_ok-lines.ensures (c.in_ok-take_ends.ensures ∙ ap (map new_taker) c.deref-2.ensures.value) in
+    let plans : plans_of (map inbox_of c.in_ok-take_ends.field-0.items) ≡ lists_of c.args.plans.items = plans-are (map inbox_of c.in_ok-take_ends.field-0.items) (lists_of c.args.plans.items) inboxes in
+    subst (λ asked. IsSite c.args.setup.now asked c.in_ok-site.site) (sym plans)
+    (subst (λ (xs : List (Vec Request Global)). IsSite c.args.setup.now (lists_of xs) c.in_ok-site.site) c.deref.ensures.value c.in_ok-site.ensures.site)
+
+pub on_threads-requires-after_bounds : goal.on_threads-requires-after_bounds
+on_threads-requires-after_bounds g c κs within =
+    let few : length (lists_of c.args.plans.items) ≤ max_submitters = omega (arith, c.requires.numbers.submitters.1, length-map (lists_of c.args.plans.items) length) in
+    ends-new (lists_of c.args.plans.items) c.in_ok-lines.field-0 c.in_ok-ends.ends.items c.in_ok-lines.ensures few (c.in_ok-ends.ensures ∙ ap (map new_sender) c.deref-3.ensures.value)
 
 pub report_of-requires-clause-site : goal.report_of-requires-clause-site
 report_of-requires-clause-site g c =
@@ -18,5 +55,10 @@ report_of-requires-clause-site g c =
 
 pub report_of-requires-clause-ended : goal.report_of-requires-clause-ended
 report_of-requires-clause-ended g c =
+    let inboxes : map inbox_of c.in_ok-take_ends.field-0.items ≡ map untouched (lists_of c.args.plans.items) =
+    inboxes-of (lists_of c.args.plans.items) c.in_ok-lines.field-0 c.in_ok-take_ends.field-0.items c.in_ok-lines.ensures (c.in_ok-take_ends.ensures ∙ ap (map new_taker) c.deref-2.ensures.value) in
+    let plans : plans_of (map inbox_of c.in_ok-take_ends.field-0.items) ≡ lists_of c.args.plans.items = plans-are (map inbox_of c.in_ok-take_ends.field-0.items) (lists_of c.args.plans.items) inboxes in
+    let crew : IsCrew c.args.setup.now (lists_of c.args.plans.items) c.in_ok-site.site c.in_ok-crew.crew =
+    subst (λ asked. IsCrew c.args.setup.now asked c.in_ok-site.site c.in_ok-crew.crew) plans c.in_ok-crew.ensures in
     subst (λ (v : Vec (Vec Request Global) Global). IsEnded (asked c.args.setup.now v.items) c.args.setup.now.workers (board_id c.in_ok-site.site.board) (opening_of c.args.setup.now) c.in_ok-ended.ended) (sym c.of-lists.ensures)
-    (has-ended c.args.setup.now (lists_of c.args.plans.items) c.in_ok-site.site c.in_ok-crew.crew c.in_ok-ended.ended c.in_ok-crew.ensures c.in_ok-ended.ensures.ended)
+    (has-ended c.args.setup.now (lists_of c.args.plans.items) c.in_ok-site.site c.in_ok-crew.crew c.in_ok-ended.ended crew c.in_ok-ended.ensures.ended)

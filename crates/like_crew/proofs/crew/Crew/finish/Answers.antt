@@ -9,7 +9,7 @@ use Rattle.like_crew.proofs.Later.{all-same}
 use Rattle.like_crew.proofs.crew.Crew.finish.Goals as goal
 
 pub returns : goal.returns
-returns c =
+returns g c =
     let servers = c.args.self.servers.items in
     record {
       left = record {

@@ -4,7 +4,7 @@ use Rattle.like_crew.specs.Ended.{IsSeatOf}
 use Rattle.like_crew.proofs.crew.servers.finish_all.Given as goal
 
 abbrev pub invariant-loop-server : goal.invariant-loop-server
-invariant-loop-server l = record {
+invariant-loop-server g l = record {
   logs : AllZip IsLogOf l.yielded l.logs.items;
   seats : AllZip IsSeatOf l.yielded l.seats.items;
 }

@@ -1,4 +1,4 @@
-use Rattle.std.proofs.Common.{◌≡◌, List, sym, ap, subst}
+use Rattle.std.proofs.Common.{◌≡◌, List, map, sym, ap, subst}
 use Rattle.like_tables.specs.UserTable.{UserTable}
 use Rattle.like_roles.specs.declared.log.Ran.{Ran}
 use Rattle.like_roles.specs.declared.log.Took.{Took}
@@ -11,7 +11,7 @@ use Rattle.like_crew.proofs.crew.server.Server.finish.Goals as goal
 
 pub returns-clause-log : goal.returns-clause-log
 returns-clause-log g c =
-    let s : ServerView = record { worker = c.self.inside.worker; inboxes = c.self.inside.inboxes.items } in
+    let s : ServerView = record { worker = c.self.inside.worker; inboxes = map g.I.Inbox.view c.self.inside.inboxes.items } in
     subst (λ (x : ServerView). IsLogOf x c.finish.result.0) c.self.view_is (record {
       share = ap (λ (t : UserTable). t.share) c.finish.ensures.last;
       log_is = λ service here.

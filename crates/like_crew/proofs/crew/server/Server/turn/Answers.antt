@@ -1,6 +1,6 @@
-use Rattle.std.proofs.Common.{◌≡◌, ℕ, ◌/◌, ◌<◌, List, length, get_or, set, slice_get, Some, refl, sym, ap, ◌∙◌, subst, arith}
-use Rattle.std.proofs.lemmas.Option.{slice_get_read}
-use Rattle.like_queue.specs.Inbox.{Inbox}
+use Rattle.std.proofs.Common.{◌≡◌, ℕ, ◌/◌, ◌<◌, List, length, get_or, map, option_map, set, slice_get, Some, refl, sym, ap, ◌∙◌, subst, arith}
+use Rattle.std.proofs.lemmas.Option.{slice_get-map, slice_get_read}
+use Rattle.like_queue.specs.Inbox.{InboxView}
 use Rattle.like_tables.specs.Share.{Share}
 use Rattle.like_roles.specs.WorkerView.{WorkerView, submitter_at}
 use Rattle.like_crew.specs.Server.{Agree, ServerGoesOn, WorksFor, ServerView}
@@ -8,48 +8,52 @@ use Rattle.like_crew.proofs.Agreeing.{agree-give, agree-turn, can-give, none-pen
 use Rattle.like_crew.proofs.Numbers.{place-own}
 use Rattle.like_crew.proofs.Posts.{gives-whose, turns-whose, whose}
 use Rattle.like_crew.proofs.Sights.{turns-tries}
-use Rattle.std.proofs.lemmas.List.{length-set}
+use Rattle.std.proofs.lemmas.List.{length-map, length-set, map-set}
 use Rattle.like_crew.proofs.crew.server.Server.turn.Goals as goal
 
 -- the submitter that is tried has its inbox at the place that the code reads
-inbox-at : (v : WorkerView) (inboxes : List Inbox) (submitter workers place : ℕ) (i : Inbox) → Agree v inboxes → workers ≡ v.last.share.workers → submitter_at v place ≡ submitter → place < length v.ended
-    → i ≡ get_or inboxes (submitter / workers) i → (submitter / workers ≡ place) × (slice_get inboxes place ≡ Some i)
-inbox-at v inboxes submitter workers place i a same it there value =
+inbox-at : {J : Type 0} (view : J → InboxView) (v : WorkerView) (inboxes : List J) (submitter workers place : ℕ) (i : J) → Agree v (map view inboxes) → workers ≡ v.last.share.workers
+    → submitter_at v place ≡ submitter → place < length v.ended → i ≡ get_or inboxes (submitter / workers) i → (submitter / workers ≡ place) × (slice_get (map view inboxes) place ≡ Some (view i))
+inbox-at view v inboxes submitter workers place i a same it there value =
     let at : submitter / workers ≡ place = ap (λ s. s / workers) (sym it) ∙ ap (λ n. submitter_at v place / n) same ∙ place-own v.last.share a.is_worker place in
-    (at, ap (slice_get inboxes) (sym at) ∙ slice_get_read inboxes (length inboxes) (submitter / workers) i refl (omega (arith, at, there, a.places)) value)
+    let found = slice_get_read inboxes (length inboxes) (submitter / workers) i refl (omega (arith, at, there, a.places, length-map inboxes view)) value in
+    (at, slice_get-map view inboxes place ∙ ap (option_map view) (ap (slice_get inboxes) (sym at) ∙ found))
 
 pub give-requires-clause-next : goal.give-requires-clause-next
 give-requires-clause-next g c κs within =
     let v : WorkerView = c.turn.new.self in
-    let inboxes : List Inbox = c.self.inside.inboxes.items in
+    let view = g.I.Inbox.view in
+    let inboxes : List InboxView = map view c.self.inside.inboxes.items in
     let a : Agree v inboxes = agree-turn c.self.inside.worker v inboxes c.turn.result c.turn.ensures.case c.turn.ensures.takes c.self.invariant.2 in
     let p = c.in-Try.ensures.pending in
     let same : c.self.inside.workers ≡ v.last.share.workers = c.self.invariant.1 ∙ sym (ap (λ (s : Share). s.workers) c.turn.ensures.takes.share) in
-    let here = inbox-at v inboxes c.in-Try.submitter c.self.inside.workers p.0 c.index_mut.result.now a same p.1.1 p.1.2 c.index_mut.ensures.value in
-    can-give v inboxes p.0 c.index_mut.result.now c.take-taken.new.self a p.1.0 here.1 p.1.3 c.take-taken.result c.take-taken.ensures
+    let here = inbox-at view v c.self.inside.inboxes.items c.in-Try.submitter c.self.inside.workers p.0 c.index_mut.result.now a same p.1.1 p.1.2 c.index_mut.ensures.value in
+    can-give v inboxes p.0 (view c.index_mut.result.now) (view c.take_with-taken.new.self) a p.1.0 here.1 p.1.3 c.take_with-taken.result c.take_with-taken.ensures
 
 pub invariant_of-self : goal.invariant_of-self
 invariant_of-self g c =
     let v : WorkerView = c.turn.new.self in
     let w : WorkerView = c.give.new.self in
-    let inboxes : List Inbox = c.self.inside.inboxes.items in
+    let view = g.I.Inbox.view in
+    let inboxes : List InboxView = map view c.self.inside.inboxes.items in
     let a : Agree v inboxes = agree-turn c.self.inside.worker v inboxes c.turn.result c.turn.ensures.case c.turn.ensures.takes c.self.invariant.2 in
     let p = c.in-Try.ensures.pending in
     let same : c.self.inside.workers ≡ v.last.share.workers = c.self.invariant.1 ∙ sym (ap (λ (s : Share). s.workers) c.turn.ensures.takes.share) in
-    let here = inbox-at v inboxes c.in-Try.submitter c.self.inside.workers p.0 c.index_mut.result.now a same p.1.1 p.1.2 c.index_mut.ensures.value in
+    let here = inbox-at view v c.self.inside.inboxes.items c.in-Try.submitter c.self.inside.workers p.0 c.index_mut.result.now a same p.1.1 p.1.2 c.index_mut.ensures.value in
     let looked = turns-tries c.self.inside.worker c.turn.result v c.in-Try.submitter c.turn.ensures.case c.in-Try.is in
-    let share = share-given v w p.0 c.take-taken.result p.1.0 c.give.ensures.takes in (
+    let share = share-given v w p.0 c.take_with-taken.result p.1.0 c.give.ensures.takes in (
       c.give.ensures.settled,
       same ∙ sym (ap (λ (s : Share). s.workers) share),
-      subst (λ q. Agree w (set inboxes q c.take-taken.new.self)) (sym here.0)
-          (agree-give v inboxes p.0 c.index_mut.result.now c.take-taken.new.self a p.1.0 here.1 p.1.3 w looked c.give.result c.take-taken.result c.take-taken.ensures c.give.ensures.case c.give.ensures.takes),
+      subst (Agree w) (sym (map-set view c.self.inside.inboxes.items (c.in-Try.submitter / c.self.inside.workers) c.take_with-taken.new.self))
+          (subst (λ q. Agree w (set inboxes q (view c.take_with-taken.new.self))) (sym here.0)
+          (agree-give v inboxes p.0 (view c.index_mut.result.now) (view c.take_with-taken.new.self) a p.1.0 here.1 p.1.3 w looked c.give.result c.take_with-taken.result c.take_with-taken.ensures c.give.ensures.case c.give.ensures.takes)),
     )
 
 pub invariant_of-self-in_default : goal.invariant_of-self-in_default
 invariant_of-self-in_default g c = (
   none-pending c.turn.result c.turn.new.self c.turn.ensures.pending c.in_default.not-Try,
   c.self.invariant.1 ∙ sym (ap (λ (s : Share). s.workers) c.turn.ensures.takes.share),
-  agree-turn c.self.inside.worker c.turn.new.self c.self.inside.inboxes.items c.turn.result c.turn.ensures.case c.turn.ensures.takes c.self.invariant.2,
+  agree-turn c.self.inside.worker c.turn.new.self (map g.I.Inbox.view c.self.inside.inboxes.items) c.turn.result c.turn.ensures.case c.turn.ensures.takes c.self.invariant.2,
 )
 
 pub returns-in-Try-clause-goes_on : goal.returns-in-Try-clause-goes_on
@@ -57,30 +61,32 @@ returns-in-Try-clause-goes_on g c =
     let u : WorkerView = c.self.inside.worker in
     let v : WorkerView = c.turn.new.self in
     let w : WorkerView = c.give.new.self in
-    let inboxes : List Inbox = c.self.inside.inboxes.items in
+    let view = g.I.Inbox.view in
+    let inboxes : List InboxView = map view c.self.inside.inboxes.items in
     let place : ℕ = c.in-Try.submitter / c.self.inside.workers in
     let a : Agree v inboxes = agree-turn u v inboxes c.turn.result c.turn.ensures.case c.turn.ensures.takes c.self.invariant.2 in
     let p = c.in-Try.ensures.pending in
     let same : c.self.inside.workers ≡ v.last.share.workers = c.self.invariant.1 ∙ sym (ap (λ (s : Share). s.workers) c.turn.ensures.takes.share) in
-    let here = inbox-at v inboxes c.in-Try.submitter c.self.inside.workers p.0 c.index_mut.result.now a same p.1.1 p.1.2 c.index_mut.ensures.value in
-    let whose_is : whose w ≡ whose u = gives-whose v c.take-taken.result c.give.result w c.give.ensures.case ∙ turns-whose u c.turn.result v c.turn.ensures.case in
-    let after : ServerView = record { worker = w; inboxes = set inboxes place c.take-taken.new.self } in
-    subst (λ s. ServerGoesOn s after) c.self.view_is (record {
-      share = share-given v w p.0 c.take-taken.result p.1.0 c.give.ensures.takes ∙ c.turn.ensures.takes.share;
+    let here = inbox-at view v c.self.inside.inboxes.items c.in-Try.submitter c.self.inside.workers p.0 c.index_mut.result.now a same p.1.1 p.1.2 c.index_mut.ensures.value in
+    let whose_is : whose w ≡ whose u = gives-whose v c.take_with-taken.result c.give.result w c.give.ensures.case ∙ turns-whose u c.turn.result v c.turn.ensures.case in
+    subst (λ s. ServerGoesOn s (record { worker = w; inboxes = map view (set c.self.inside.inboxes.items place c.take_with-taken.new.self) })) c.self.view_is
+    (subst (λ xs. ServerGoesOn (record { worker = u; inboxes = inboxes }) (record { worker = w; inboxes = xs })) (sym (map-set view c.self.inside.inboxes.items place c.take_with-taken.new.self)) (record {
+      share = share-given v w p.0 c.take_with-taken.result p.1.0 c.give.ensures.takes ∙ c.turn.ensures.takes.share;
       whose = ap (λ (x : ℕ × List ℕ). x.0) whose_is;
       board = ap (λ (x : ℕ × List ℕ). x.1) whose_is;
-      inboxes = length-set inboxes place c.take-taken.new.self;
+      inboxes = length-set inboxes place (view c.take_with-taken.new.self);
       works = λ service h.
-          subst (λ q. WorksFor service (record { worker = w; inboxes = set inboxes q c.take-taken.new.self })) (sym here.0)
-          (serves-give v inboxes p.0 c.index_mut.result.now c.take-taken.new.self a p.1.0 here.1 p.1.3 service w c.take-taken.result c.take-taken.ensures c.give.ensures.takes (c.give.ensures.follows service)
+          subst (λ q. WorksFor service (record { worker = w; inboxes = set inboxes q (view c.take_with-taken.new.self) })) (sym here.0)
+          (serves-give v inboxes p.0 (view c.index_mut.result.now) (view c.take_with-taken.new.self) a p.1.0 here.1 p.1.3 service w c.take_with-taken.result c.take_with-taken.ensures c.give.ensures.takes (c.give.ensures.follows service)
           (serves-turn service u v inboxes c.turn.ensures.takes (c.turn.ensures.follows service) h));
-    })
+    }))
 
 pub returns-in_default-clause-goes_on : goal.returns-in_default-clause-goes_on
 returns-in_default-clause-goes_on g c =
     let u : WorkerView = c.self.inside.worker in
     let v : WorkerView = c.turn.new.self in
-    let inboxes : List Inbox = c.self.inside.inboxes.items in
+    let view = g.I.Inbox.view in
+    let inboxes : List InboxView = map view c.self.inside.inboxes.items in
     let whose_is : whose v ≡ whose u = turns-whose u c.turn.result v c.turn.ensures.case in
     let after : ServerView = record { worker = v; inboxes = inboxes } in
     subst (λ s. ServerGoesOn s after) c.self.view_is (record {

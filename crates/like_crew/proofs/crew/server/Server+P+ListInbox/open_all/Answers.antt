@@ -1,5 +1,5 @@
 use Rattle.like_crew.proofs.Later.{goes-further}
-use Rattle.like_crew.proofs.crew.server.Server.open_all.Goals as goal
+use Rattle.like_crew.proofs.crew.server.Server+P+ListInbox.open_all.Goals as goal
 
 pub loop-place-preserved : goal.loop-place-preserved
 loop-place-preserved g c = record {

@@ -1,5 +1,5 @@
 use Rattle.like_crew.proofs.Later.{all-same}
-use Rattle.like_crew.proofs.crew.Crew.turn.Goals as goal
+use Rattle.like_crew.proofs.crew.Crew+ListInbox.turn.Goals as goal
 
 pub returns : goal.returns
 returns c = record { lead = c.turn.ensures.goes_on; servers = all-same c.args.self.now.servers.items }

@@ -1,6 +1,6 @@
 use Rattle.std.proofs.Common.{◌≡◌, length}
 use Rattle.like_crew.specs.Server.{ServerGoesOn}
-use Rattle.like_crew.proofs.crew.server.Server.open_all.Given as goal
+use Rattle.like_crew.proofs.crew.server.Server+P+ListInbox.open_all.Given as goal
 
 abbrev pub invariant-loop-place : goal.invariant-loop-place
 invariant-loop-place g l = record {

@@ -1,6 +1,6 @@
 use Rattle.std.proofs.Common.{◌≡◌, map, vec_capacity}
 use Rattle.std.specs.List.{All}
-use Rattle.like_run.proofs.threads.start.start_all.Given as goal
+use Rattle.like_run.proofs.threads.start.start_workers.Given as goal
 
 abbrev pub invariant-loop-server : goal.invariant-loop-server
 invariant-loop-server g l = record {

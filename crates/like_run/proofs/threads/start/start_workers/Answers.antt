@@ -7,7 +7,7 @@ use Rattle.like_run.specs.declared.threads.worker.Owes.{Owes}
 use Rattle.like_run.specs.declared.threads.worker.Served.{Served}
 use Rattle.like_crew.specs.Server.{ServerView}
 use Rattle.like_crew.proofs.Leaving.{all-one}
-use Rattle.like_run.proofs.threads.start.start_all.Goals as goal
+use Rattle.like_run.proofs.threads.start.start_workers.Goals as goal
 
 abbrev first_of : PromisedHandle Served Owes → ServerView
 first_of thread = thread.promise.server.value

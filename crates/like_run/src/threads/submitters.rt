@@ -1,0 +1,37 @@
+ghost use Rattle.std.specs.Prelude.{◌≡◌, ◌≤◌, true, [], length, vec_capacity};
+ghost use Rattle.like_run.specs.Lines.{AreNewEnds};
+
+use crate::threads::submitter::submit;
+use like_queue::SendEnd;
+use like_roles::Gate;
+use std::sync::{OnceLock, Wait};
+use std::thread::{JoinHandle, Scope, Threads};
+
+/// Starts a thread for each submitter, in order, and says whether all could be started.
+pub fn start_submitters<'s, E, R: Threads + Wait + Sync, G: Gate>(
+    scope: &Scope<'s, E>,
+    rt: &'s R,
+    gate: &'s G,
+    start: &'s OnceLock<bool>,
+    ends: Vec<SendEnd<'s>>,
+    threads: &mut Vec<JoinHandle<()>>,
+) -> bool
+    requires new { AreNewEnds ends.items }
+    requires none { threads.old.items ≡ [] }
+    requires room { length ends.items ≤ vec_capacity threads.old }
+    ensures { result ≡ true → length threads.new.items ≡ length ends.entry.items }
+{
+    for end in ends {
+        let submitter = threads.len() as u32;
+        let thread = scope.spawn(
+            move ||
+                requires { end.sent ≡ 0 }
+            { submit(rt, gate, start, submitter, end) },
+        );
+        match thread {
+            Ok(thread) => threads.push_reserved(thread),
+            Err(_) => return false,
+        }
+    }
+    true
+}
