@@ -31,7 +31,7 @@ use Rattle.like_core.proofs.InPhase.{reached_in_phase}
 use Rattle.like_core.proofs.Labels.{label, labelled-append, labels_else, labels_here, added_in-push, added_before-push, added_to-push, added_in_else, added_to_here, added_to_else}
 use Rattle.like_core.proofs.Adding.{Adding, with_applied, adds_either}
 use Rattle.like_core.proofs.KeptReads.{addition_keeps_reads}
-use Rattle.like_core.proofs.Posts.{additions-le-sum}
+use Rattle.like_core.proofs.Posts.{added_to-le}
 use Rattle.like_core.proofs.ViewLists.{sum_part, sum_set, sum_swap}
 use Rattle.like_board.proofs.WorkerSteps.{running_is}
 use Rattle.like_board.proofs.Pages.{KeepsOthers, page_steps}
@@ -161,7 +161,7 @@ adds z words views place v page n some_state at may =
     let may_there = may.there in
     let on : page < length z.counts = omega arith in
     let few : added_to page v.additions + n ≤ max_likes =
-    (let part = additions-le-sum v page may.there in let all = may.few in omega arith)
+    (let part = added_to-le v.additions page in let all = may.few in omega arith)
     in
     let low = count_low z.counts page on sh.opening.counts in
     let full = some_state.tallied.rooms page in

@@ -1,23 +1,18 @@
 -- What a post that has added nothing may do first: for the tests alone.
-use Rattle.std.proofs.Common.{◌≡◌, ℕ, zero, suc, ◌<◌, ◌≤◌, Bool, true, false, not, replicate, sum, subst, sym, ap, ◌∙◌, refl, arith}
-use Rattle.std.proofs.lemmas.Grind.{common_steps}
+use Rattle.std.proofs.Common.{◌≡◌, ℕ, ◌<◌, ◌≤◌, Bool, true, false, not, [], subst, sym, ap, ◌∙◌, refl, arith}
 use Rattle.like_core.specs.declared.worker_state.WorkerState.{WorkerState}
 use Rattle.like_core.specs.declared.worker_state.WorkerState.TheVariants.{Runs}
 use Rattle.like_core.specs.Limits.{max_likes}
+use Rattle.like_core.specs.Additions.{all_added}
 use Rattle.like_core.specs.Phase.{split}
 use Rattle.like_core.specs.WorkerState.{IsRunning, SawEnding, phase_of}
 use Rattle.like_core.specs.Post.{PostView, slices, is_marked, pages_of, MayAdd}
 
--- zeros add up to nothing
-sum_zeros : (n : ℕ) → sum (replicate n 0) ≡ 0
-sum_zeros zero = refl
-sum_zeros (suc n) = grind (arith, common_steps, sum_zeros n)
-
 -- its first like, in phase 0
-pub may_like : (v : PostView) (page : ℕ) → v.state ≡ Runs 0 → page < pages_of v → v.additions ≡ replicate (pages_of v) 0 → MayAdd v page 1
+pub may_like : (v : PostView) (page : ℕ) → v.state ≡ Runs 0 → page < pages_of v → v.additions ≡ [] → MayAdd v page 1
 may_like v page runs there nothing =
     let plain : slices v page ≡ false = ap (λ (state : WorkerState). split (is_marked v) (phase_of state) page) runs in
-    let none : sum v.additions ≡ 0 = ap sum nothing ∙ sum_zeros (pages_of v) in
+    let none : all_added v.additions ≡ 0 = ap all_added nothing in
     record {
       runs = subst IsRunning (sym runs) tt;
       there = there;
@@ -27,10 +22,10 @@ may_like v page runs there nothing =
     }
 
 -- the merge of its first slice, in phase 1
-pub may_merge : (v : PostView) (likes : ℕ) → v.state ≡ Runs 1 → 0 < pages_of v → is_marked v 0 ≡ true → v.additions ≡ replicate (pages_of v) 0 → 1 ≤ likes → likes ≤ max_likes → SawEnding v.last → MayAdd v 0 likes
+pub may_merge : (v : PostView) (likes : ℕ) → v.state ≡ Runs 1 → 0 < pages_of v → is_marked v 0 ≡ true → v.additions ≡ [] → 1 ≤ likes → likes ≤ max_likes → SawEnding v.last → MayAdd v 0 likes
 may_merge v likes runs there marked nothing some few saw =
     let is_sliced : slices v 0 ≡ true = ap (λ (state : WorkerState). split (is_marked v) (phase_of state) 0) runs ∙ marked in
-    let none : sum v.additions ≡ 0 = ap sum nothing ∙ sum_zeros (pages_of v) in
+    let none : all_added v.additions ≡ 0 = ap all_added nothing in
     record {
       runs = subst IsRunning (sym runs) tt;
       there = there;

@@ -13,11 +13,10 @@ use Rattle.like_core.specs.declared.view.CoordSeatView.{CoordSeatView}
 use Rattle.like_core.specs.declared.view.View.{View}
 use Rattle.like_core.specs.declared.view.View.TheVariants.{Coord}
 use Rattle.like_core.specs.Post.{additions_of}
-use Rattle.like_core.specs.Additions.{added_to, added_before}
+use Rattle.like_core.specs.Additions.{added_before}
 use Rattle.like_core.specs.Views.{post_of, seats_of}
 use Rattle.like_core.specs.Reads.{before_in, AreBetween}
 use Rattle.like_core.specs.Shows.{ShowsSome, FitsWorker, FitsCoord}
-use Rattle.like_core.proofs.Posts.{additions_at}
 use Rattle.like_core.proofs.KeptReads.{between_on}
 use Rattle.like_board.specs.declared.key.Key.{Key}
 use Rattle.like_board.specs.declared.worker_seat.WorkerSeat.{WorkerSeat}
@@ -47,33 +46,16 @@ module _ {A B : Type 0} (g : A → B) where
   at_mapped (x ∷ xs) zero d below = refl
   at_mapped (x ∷ xs) (suc k) d below = at_mapped xs k d (omega arith)
 
--- equal terms have an equal sum
-sum_same : {A : Type 0} (f h : A → ℕ) (xs : List A) → ((k : ℕ) (a : A) → get_elem? xs k ≡ some a → f a ≡ h a) → sum_by f xs ≡ sum_by h xs
-sum_same f h [] each = refl
-sum_same f h (x ∷ xs) each =
-    let here = each zero x refl in
-    let rest = sum_same f h xs (λ k a at. each (suc k) a at) in
-    omega (arith, sum_by-cons f x xs, sum_by-cons h x xs)
-
 -- where all seats were given back, a page's word is its count at the start and what they mean to have added
 closed_word : (z : Opening) (words : List ℕ) (views : List View) (place : ℕ) (c : CoordSeatView) → ShowsSome z words views → get_elem? views place ≡ some (Coord c) → c.made ≡ c.opening.workers → ((i : ℕ) → i < c.opening.workers → seats_of i (Coord c) ≡ 1) → (page : ℕ) → page < length c.opening.counts → get_or words (page + 1) 0 ≡ get_or c.opening.counts page 0 + sum_by (λ w. additions_of (post_of w) page) c.joined
 closed_word z words views place c some_state at made all page on =
-    let sh = some_state.shows in
-    let old : FitsCoord z some_state.state c = sh.each place (Coord c) at in
+    let old : FitsCoord z some_state.state c = some_state.shows.each place (Coord c) at in
     let same : c.opening ≡ z = old.opening in
     let sized = ap (λ (y : Opening). length y.counts) same in
     let word =
     last_word z words views place c some_state at (λ i below. all i (omega arith)) page (omega arith)
     in
     let first = ap (λ (y : Opening). get_or y.counts page 0) same in
-    let sums =
-    sum_same (λ (w : WorkerSeatView). additions_of (post_of w) page) (λ (w : WorkerSeatView). added_to page w.additions) c.joined
-    (λ k w found.
-    let fits : FitsWorker z some_state.state w = old.joined k w found in
-    let marks = ap (λ (y : Opening). length y.marks) fits.opening in
-    let paired = sh.opening.marks in
-    additions_at w page (omega arith))
-    in
     omega arith
 
 -- no worker whose seat was given back saw a later phase

@@ -15,7 +15,12 @@ pub may_read : (board : List ℕ) (v : PostView) (page : ℕ) → MayRead (at_bo
 may_read board v page m = record { runs = m.runs; there = m.there; plain = m.plain }
 
 pub is_fresh : (board : List ℕ) (v : PostView) → IsFresh v → IsFresh (at_board board v)
-is_fresh board v f = record { runs = f.runs; never_looked = f.never_looked; added_nothing = f.added_nothing }
+is_fresh board v f = record {
+  runs = f.runs;
+  never_looked = f.never_looked;
+  added_nothing = f.added_nothing;
+  read_nothing = f.read_nothing;
+}
 
 -- the board with these numbers
 board_of : List ℕ → TableId

@@ -74,9 +74,9 @@ last_count z seats page = slice_index z.counts page + sum_by (λ seat. additions
 
 -- how much the workers of these seats have added to a page in the phases before one
 abbrev pub seats_before : List WorkerSeat → ℕ → ℕ → ℕ
-seats_before seats phase page = sum_by (λ seat. added_before phase page (seat_view seat).additions) seats
+seats_before seats phase page = sum_by (λ seat. added_before phase page (seat_meaning seat).additions) seats
 
 -- each count that a worker of these seats read lies between what they all have added, and is of no later phase than this
 abbrev pub HaveReadBetween : Opening → ℕ → List WorkerSeat → Type 0
 HaveReadBetween z phase seats =
-    All (λ seat. AreBetween z.counts (seats_before seats) phase (seat_view seat).additions (seat_view seat).reads) seats
+    All (λ seat. let post = seat_meaning seat in AreBetween z.counts (seats_before seats) phase post.additions post.reads) seats

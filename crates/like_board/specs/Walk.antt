@@ -40,3 +40,4 @@ pub record Walks (v : WorkerSeatView) (worker : ℕ) (state : WorkerState) (addi
 pub record KeepsBoard (old new : PostView) : Type 0 where
   pub marks : new.marks ≡ old.marks
   pub additions : new.additions ≡ old.additions
+  pub reads : new.reads ≡ old.reads

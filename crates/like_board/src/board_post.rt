@@ -29,7 +29,7 @@ impl BoardPost<'_> {
 impl Post for BoardPost<'_> {
     ghost use Rattle.like_core.specs.declared.worker_state.WorkerState.TheVariants.{Gone};
     ghost use Rattle.like_core.specs.WorkerState.{RunsJoined, RunsSplit, SawEnding, IsSightOf, SeesEndingStill};
-    ghost use Rattle.like_core.specs.Post.{looked_at, answered, retired, added, additions_of, MayAdd, MayRead};
+    ghost use Rattle.like_core.specs.Post.{looked_at, answered, retired, added, has_read, additions_of, MayAdd, MayRead};
     ghost use Rattle.like_core.specs.Views.{looked_view, answered_view, retired_view, added_view, read_view};
     ghost use Rattle.like_core.specs.Actions.{Looks, Acknowledges, Reports, Retires, Adds, Reads};
     ghost use Rattle.like_board.specs.Seats.{post_board, post_view, post_meaning};
@@ -98,7 +98,7 @@ impl Post for BoardPost<'_> {
 
     fn read(&mut self, page: u32) -> u64
         requires { MayRead (post_meaning self.old) page }
-        ensures view { post_meaning self.new ≡ post_meaning self.old }
+        ensures view { post_meaning self.new ≡ has_read (post_meaning self.old) page result }
         ensures own { additions_of (post_meaning self.old) page ≤ result }
         ensures board { post_board self.new ≡ post_board self.old }
         ensures known { post_view self.new ≡ read_view (post_view self.old) page result }

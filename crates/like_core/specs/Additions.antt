@@ -1,18 +1,22 @@
--- How many likes a list of additions has.
+-- How many likes the additions of a list have.
 use Rattle.std.specs.Prelude.{ℕ, ◌==◌, ◌&&◌, nat_lt, if◌then◌else◌, List}
 use Rattle.std.specs.List.{sum_by}
 use Rattle.like_core.specs.declared.view.Addition.{Addition}
 
--- how many likes were added to a page
+-- how many likes were added in all
+abbrev pub all_added : List Addition → ℕ
+all_added additions = sum_by (λ a. a.likes) additions
+
+-- how many of them to a page
 abbrev pub added_to : ℕ → List Addition → ℕ
 added_to page additions = sum_by (λ a. (if a.page == page then a.likes else 0)) additions
 
--- how many of them in one phase
+-- how many of those in one phase
 abbrev pub added_in : ℕ → ℕ → List Addition → ℕ
 added_in phase page additions =
     sum_by (λ a. (if (a.phase == phase) && (a.page == page) then a.likes else 0)) additions
 
--- how many of them in the phases before one
+-- how many of those in the phases before one
 abbrev pub added_before : ℕ → ℕ → List Addition → ℕ
 added_before phase page additions =
     sum_by (λ a. (if nat_lt a.phase phase && (a.page == page) then a.likes else 0)) additions

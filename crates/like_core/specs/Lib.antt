@@ -1,4 +1,5 @@
 pub mod Limits
+pub mod Additions
 pub mod Kind
 pub mod Phase
 pub mod Word
@@ -15,7 +16,6 @@ pub mod Likes
 pub mod Core
 pub mod Sights
 pub mod ShownWord
-pub mod Additions
 pub mod Views
 pub mod Reads
 pub mod Tallies

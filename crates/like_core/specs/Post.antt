@@ -1,20 +1,25 @@
-use Rattle.std.specs.Prelude.{◌≡◌, ℕ, ◌+◌, ◌<◌, ◌≤◌, Bool, true, false, List, length, replicate, slice_index, slice_index_or, slice_set, sum, Option, Some, None}
+use Rattle.std.specs.Prelude.{◌≡◌, ℕ, ◌+◌, ◌<◌, ◌≤◌, Bool, true, false, List, [], ◌∷◌, ◌++◌, length, slice_index_or, Option, Some, None}
 use Rattle.like_core.specs.declared.worker_state.WorkerState.{WorkerState}
 use Rattle.like_core.specs.declared.worker_state.WorkerState.TheVariants.{Runs, Answered, Gone}
 use Rattle.like_core.specs.declared.sight.Sight.{Sight}
+use Rattle.like_core.specs.declared.view.Addition.{Addition}
+use Rattle.like_core.specs.declared.view.PageRead.{PageRead}
 use Rattle.like_core.specs.Limits.{max_likes}
+use Rattle.like_core.specs.Additions.{all_added, added_to, added_in}
 use Rattle.like_core.specs.Phase.{split}
 use Rattle.like_core.specs.WorkerState.{IsRunning, SawEnding, phase_of, seen}
 
 -- what a post means: at which board it stands, as numbers that tell boards apart; whose it is; for each page of its board,
--- whether it is marked as split; the worker's state and its last sight, if it looked; and how much it has added to each page
+-- whether it is marked as split; the worker's state and its last sight, if it looked; and what it has added to pages and
+-- read of them, in order
 pub record PostView : Type 0 where
   pub board : List ℕ
   pub worker : ℕ
   pub marks : List Bool
   pub state : WorkerState
   pub last : Option Sight
-  pub additions : List ℕ
+  pub additions : List Addition
+  pub reads : List PageRead
 
 -- how many pages there are
 abbrev pub pages_of : PostView → ℕ
@@ -26,13 +31,18 @@ is_marked v page = slice_index_or v.marks page false
 
 -- how much was added to a page
 abbrev pub additions_of : PostView → ℕ → ℕ
-additions_of v page = slice_index v.additions page
+additions_of v page = added_to page v.additions
+
+-- how much of it in one phase
+abbrev pub additions_in : PostView → ℕ → ℕ → ℕ
+additions_in v phase page = added_in phase page v.additions
 
 -- no call was made on the post yet
 pub record IsFresh (v : PostView) : Type 0 where
   pub runs : v.state ≡ Runs 0
   pub never_looked : v.last ≡ None
-  pub added_nothing : v.additions ≡ replicate (pages_of v) 0
+  pub added_nothing : v.additions ≡ []
+  pub read_nothing : v.reads ≡ []
 
 -- whether the page is sliced in the post's phase
 abbrev pub slices : PostView → ℕ → Bool
@@ -52,7 +62,14 @@ retired v = record v { state = Gone }
 
 -- the post after n was added to a page
 abbrev pub added : PostView → ℕ → ℕ → PostView
-added v page n = record v { additions = slice_set v.additions page (additions_of v page + n) }
+added v page n =
+    record v { additions = v.additions ++ record { phase = phase_of v.state; page = page; likes = n } ∷ [] }
+
+-- the post after it read a page's count, which was this
+abbrev pub has_read : PostView → ℕ → ℕ → PostView
+has_read v page count = record v {
+  reads = v.reads ++ record { phase = phase_of v.state; page = page; count = count; after = length v.additions } ∷ [];
+}
 
 -- n may be added to the page: 1 at a like of a page that is not sliced; a slice that is merged in the ending phase; and
 -- all additions of a post together stay within its worker's requests
@@ -61,7 +78,7 @@ pub record MayAdd (v : PostView) (page n : ℕ) : Type 0 where
   pub there : page < pages_of v
   pub like : slices v page ≡ false → n ≡ 1
   pub merge : slices v page ≡ true → (1 ≤ n) × SawEnding v.last
-  pub few : sum v.additions + n ≤ max_likes
+  pub few : all_added v.additions + n ≤ max_likes
 
 -- the page may be read
 pub record MayRead (v : PostView) (page : ℕ) : Type 0 where

@@ -1,5 +1,4 @@
-use Rattle.std.specs.Prelude.{◌≡◌, ℕ, ◌+◌, ◌==◌, ◌<◌, Bool, true, false, if◌then◌else◌, List, [], ◌∷◌, ◌++◌, length, map, replicate, count_by, Option, Some, None, IsSomeAnd}
-use Rattle.std.specs.List.{range_with_len}
+use Rattle.std.specs.Prelude.{◌≡◌, ℕ, ◌+◌, ◌==◌, ◌<◌, Bool, true, false, if◌then◌else◌, List, [], ◌∷◌, ◌++◌, length, replicate, count_by, Option, Some, None, IsSomeAnd}
 use Rattle.like_core.specs.declared.worker_state.WorkerState.TheVariants.{Runs, Answered, Gone}
 use Rattle.like_core.specs.declared.sight.Sight.{Sight}
 use Rattle.like_core.specs.declared.sight.CoordSight.{CoordSight}
@@ -12,7 +11,6 @@ use Rattle.like_core.specs.declared.view.View.{View}
 use Rattle.like_core.specs.declared.view.View.TheVariants.{Coord, Worker, Spent}
 use Rattle.like_core.specs.Phase.{last_phase}
 use Rattle.like_core.specs.WorkerState.{phase_of, seen}
-use Rattle.like_core.specs.Additions.{added_to}
 use Rattle.like_core.specs.Post.{PostView, slices}
 
 -- a worker's view before its seat made a step: it runs phase 0, looked never and added nothing
@@ -63,7 +61,7 @@ read_view v page count = record v {
   reads = v.reads ++ record { phase = phase_of v.state; page = page; count = count; after = length v.additions } ∷ [];
 }
 
--- what a worker's view means as a post, the board aside: its additions are summed by page
+-- what a worker's view means as a post, the board aside
 abbrev pub post_of : WorkerSeatView → PostView
 post_of v = record {
   board = [];
@@ -71,7 +69,8 @@ post_of v = record {
   marks = v.opening.marks;
   state = v.state;
   last = v.last;
-  additions = map (λ page. added_to page v.additions) (range_with_len 0 (length v.opening.marks));
+  additions = v.additions;
+  reads = v.reads;
 }
 
 -- the likes that an addition of n to a page merges; where the page is not sliced there are none, and it is a like itself

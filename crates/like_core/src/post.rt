@@ -1,7 +1,7 @@
 ghost use Rattle.std.specs.Prelude.{◌≡◌, ◌≢◌, ◌≤◌, true};
 ghost use Rattle.like_core.specs.declared.worker_state.WorkerState.TheVariants.{Gone};
 ghost use Rattle.like_core.specs.WorkerState.{RunsJoined, RunsSplit, SawEnding, IsSightOf, SeesEndingStill};
-ghost use Rattle.like_core.specs.Post.{PostView, looked_at, answered, retired, added, additions_of, MayAdd, MayRead};
+ghost use Rattle.like_core.specs.Post.{PostView, looked_at, answered, retired, added, has_read, additions_of, MayAdd, MayRead};
 
 use crate::sight::Sight;
 
@@ -48,6 +48,6 @@ pub trait Post {
     /// The page's count.
     fn read(&mut self, page: u32) -> u64
         requires { MayRead (view self.old) page }
-        ensures view { view self.new ≡ view self.old }
+        ensures view { view self.new ≡ has_read (view self.old) page result }
         ensures own { additions_of (view self.old) page ≤ result };
 }

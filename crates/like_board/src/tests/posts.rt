@@ -1,5 +1,5 @@
 //! Each call of `Post`, by functions that know the trait alone.
-ghost use Rattle.std.specs.Prelude.{◌≡◌, ◌+◌, ◌<◌, ◌≤◌, true, replicate};
+ghost use Rattle.std.specs.Prelude.{◌≡◌, ◌+◌, ◌<◌, ◌≤◌, true, []};
 ghost use Rattle.std.specs.Bool.{OnTrue, OnFalse};
 ghost use Rattle.like_core.specs.declared.worker_state.WorkerState.TheVariants.{Runs, Answered, Gone};
 ghost use Rattle.like_core.specs.Limits.{max_likes};
@@ -46,7 +46,7 @@ fn merge<P: Post>(post: &mut P, likes: u64) -> Option<u64>
     requires runs { (P.view post.old).state ≡ Runs 1 }
     requires page { 0 < pages_of (P.view post.old) }
     requires split { is_marked (P.view post.old) 0 ≡ true }
-    requires added_nothing { (P.view post.old).additions ≡ replicate (pages_of (P.view post.old)) 0 }
+    requires added_nothing { (P.view post.old).additions ≡ [] }
     requires some { 1 ≤ likes }
     requires few { likes ≤ max_likes }
     ensures runs { (P.view post.new).state ≡ Runs 1 }
