@@ -1,10 +1,9 @@
 -- Each turn leads a worker that follows the plans to one that does.
-use Rattle.std.proofs.Common.{◌≡◌, ◌≢◌, ℕ, ◌+◌, ◌%◌, ◌≤◌, Bool, true, false, cond, List, [], ◌∷◌, ◌++◌, length, map, get_or, set, replicate, Some, None, refl, ap, sym, ◌∙◌, inl, inr, arith, subst, append-nil, append_assoc}
-use Rattle.std.proofs.lemmas.Bool.{cases_lt}
-use Rattle.std.proofs.lemmas.List.{map-append, get_or_past, length-replicate, get_or-replicate}
+use Rattle.std.proofs.Common.{◌≡◌, ◌≢◌, ℕ, ◌+◌, ◌%◌, ◌≤◌, ◌==◌, Bool, true, false, cond, List, [], ◌∷◌, ◌++◌, length, map, get_or, set, Some, None, refl, ap, sym, ◌∙◌, inl, inr, arith, subst, append-nil, append_assoc}
+use Rattle.std.proofs.lemmas.List.{map-append, length-replicate}
 use Rattle.std.proofs.lemmas.List.Elements.{All-head, All-tail, All-push}
-use Rattle.std.proofs.lemmas.List.FromFn.{length-map-range_with_len, get_or-map-range_with_len}
-use Rattle.std.specs.List.{All, range_with_len}
+use Rattle.std.proofs.lemmas.List.Sums.{sum_by-append}
+use Rattle.std.specs.List.{All}
 use Rattle.std.specs.Option.{option_map_or}
 use Rattle.like_requests.specs.declared.request.Numbered.{Numbered}
 use Rattle.like_requests.specs.declared.request.Request.{Request}
@@ -12,6 +11,7 @@ use Rattle.like_requests.specs.declared.request.Taken.{Taken}
 use Rattle.like_core.specs.declared.sight.Sight.{Sight}
 use Rattle.like_core.specs.declared.worker_state.WorkerState.{WorkerState}
 use Rattle.like_core.specs.declared.worker_state.WorkerState.TheVariants as state
+use Rattle.like_core.specs.declared.view.Addition.{Addition}
 use Rattle.like_core.specs.Phase.{IsJoined, IsSplit, split}
 use Rattle.like_core.specs.WorkerState.{IsRunning, RunsJoined, RunsSome, phase_of, seen}
 use Rattle.like_core.specs.Post.{additions_of, answered, pages_of}
@@ -23,12 +23,14 @@ use Rattle.like_roles.specs.Order.{block, entry_of, is_look_at_sliced, order_bel
 use Rattle.like_roles.specs.Serve.{Runs, ran_now}
 use Rattle.like_roles.specs.Service.{Service, is_split_in, marks, request_at, submitters}
 use Rattle.like_roles.specs.Turns as turns
-use Rattle.like_roles.specs.Turns.{CanGive, Gives, TakesAsk, Turns, Works, held_from, merged, saw, settled, trying, with_stashed, with_taken, without_first}
+use Rattle.like_roles.specs.Turns.{CanGive, Gives, TakesAsk, Turns, Works, held_from, merged, merging, saw, settled, trying, with_stashed, with_taken, without_first}
 use Rattle.like_requests.specs.Setup.{IsThere}
 use Rattle.like_roles.specs.WorkerView.{WorkerView, has_to_wait, phase_at, submitter_at}
 use Rattle.like_roles.proofs.Blocks.{block-after_joined, block-later, order_below-more, block-next-prompt, block-next-waits, order_below-prompt, order_below-waits, waits-joined}
 use Rattle.like_roles.proofs.Effects.{HasRunOne, Runs-effects}
 use Rattle.like_roles.proofs.InBlocks.{before-next, blocks-of_running, order-of_blocks, parity, running-of_blocks, runs-phase, runs-weaker}
+use Rattle.like_roles.proofs.Lists.{same_everywhere}
+use Rattle.like_roles.proofs.Merging.{merging-all}
 use Rattle.like_roles.proofs.Tallied.{GivesReply-tallied}
 
 -- a worker that runs a phase and is in its blocks follows the plans
@@ -53,7 +55,7 @@ follows-run service v after h stashed run here none served sized t asked held bl
     let all : IsServed service after × IsSized after × IsTallied service after =
     subst (λ x. IsServed service x × IsSized x × IsTallied service x) (sym run.noted) (
       record { users = done.0.users; submitters_alike = done.0.submitters_alike; marks_alike = done.0.marks_alike },
-      record { slice = done.1.slice; additions = done.1.additions; users = done.1.users },
+      record { slice = done.1.slice; users = done.1.users },
       done.2,
     ) in
     let b = blocks e in
@@ -119,7 +121,7 @@ saw-next service v sight state.Gone b n = absurd (n refl)
 follows-saw : (service : Service) (v : WorkerView) (sight : Sight) → Follows service v → v.post.state ≢ state.Gone → v.pending ≡ None → Follows service (saw v sight)
 follows-saw service v sight f here none = record {
   served = record { users = f.served.users; submitters_alike = f.served.submitters_alike; marks_alike = f.served.marks_alike };
-  sized = record { slice = f.sized.slice; additions = f.sized.additions; users = f.sized.users };
+  sized = record { slice = f.sized.slice; users = f.sized.users };
   tallied = record { likes = f.tallied.likes; replies = f.tallied.replies; last = f.tallied.last };
   in_order = ap (λ zs. map entry_of v.ran ++ zs) (saw-next service v sight v.post.state f.stands here) ∙ f.in_order;
   held = f.held;
@@ -137,7 +139,7 @@ follows-held service v first rest after none f j e run =
     let k = phase_at v in
     follows-run service (without_first v rest) after first true run (runs-weaker IsJoined (λ _. Unit {0}) v.post.state (λ _ _. tt) j) none
     (record { users = f.served.users; submitters_alike = f.served.submitters_alike; marks_alike = f.served.marks_alike })
-    (record { slice = f.sized.slice; additions = f.sized.additions; users = f.sized.users })
+    (record { slice = f.sized.slice; users = f.sized.users })
     (record { likes = f.tallied.likes; replies = f.tallied.replies; last = f.tallied.last })
     (All-head (IsAsked service) first rest all) (All-tail (IsAsked service) first rest all)
     (λ r. record {
@@ -152,20 +154,11 @@ follows-held service v first rest after none f j e run =
 -- the merge of a slice
 merged-likes : (v : WorkerView) → IsSized v → (page : ℕ) → additions_of (merged v).post page + get_or (merged v).slice page 0 ≡ additions_of v.post page + get_or v.slice page 0
 merged-likes v s page =
-    let f : ℕ → ℕ = λ p. additions_of v.post p + get_or v.slice p 0 in
     let n = pages_of v.post in
-    elim (cases_lt page n) [
-      | inl inside ↦
-          let a : additions_of (merged v).post page ≡ additions_of v.post page + get_or v.slice page 0 = get_or-map-range_with_len f 0 n page page 0 inside (omega arith) in
-          let z : get_or (merged v).slice page 0 ≡ 0 = get_or-replicate n page 0 0 inside in
-          omega (arith, a, z)
-      | inr outside ↦
-          let a : additions_of (merged v).post page ≡ 0 = get_or_past (map f (range_with_len 0 n)) page 0 (omega (arith, length-map-range_with_len f 0 n)) in
-          let z : get_or (merged v).slice page 0 ≡ 0 = get_or_past {X = ℕ} (replicate n 0) page 0 (omega (arith, length-replicate {A = ℕ} n 0)) in
-          let b : get_or v.post.additions page 0 ≡ 0 = get_or_past v.post.additions page 0 (omega (arith, s.additions)) in
-          let c : get_or v.slice page 0 ≡ 0 = get_or_past v.slice page 0 (omega (arith, s.slice)) in
-          omega (arith, a, z, b, c)
-    ]
+    let none : get_or (merged v).slice page 0 ≡ 0 = same_everywhere n page 0 in
+    let all = merging-all (λ _. true) (phase_at v) v.slice page n s.slice in
+    let more = sum_by-append (λ (a : Addition). cond (a.page == page) a.likes 0) v.post.additions (merging (phase_at v) v.slice n) in
+    omega arith
 
 -- a submitter is tried
 follows-trying : (service : Service) (v : WorkerView) (place : ℕ) → Follows service v → IsRunning v.post.state → (RunsJoined v.post.state → v.held.held ≡ []) → Follows service (trying v place)
@@ -173,7 +166,7 @@ follows-trying service v place f run empty =
     let b = blocks-of_running service v (λ _. Unit {0}) v.post.state run f.stands in
     follows-running service (trying v place) run
     (record { users = f.served.users; submitters_alike = f.served.submitters_alike; marks_alike = f.served.marks_alike })
-    (record { slice = f.sized.slice; additions = f.sized.additions; users = f.sized.users })
+    (record { slice = f.sized.slice; users = f.sized.users })
     (record { likes = f.tallied.likes; replies = f.tallied.replies; last = f.tallied.last })
     f.held (record { within = b.within; joined = b.joined; split_ran = b.split_ran; split_held = b.split_held }) (λ _ _. empty)
 
@@ -183,7 +176,7 @@ follows-answered service v P f run none empty =
     let b = blocks-of_running service v P v.post.state run f.stands in
     record {
       served = record { users = f.served.users; submitters_alike = f.served.submitters_alike; marks_alike = f.served.marks_alike };
-      sized = record { slice = f.sized.slice; additions = f.sized.additions; users = f.sized.users };
+      sized = record { slice = f.sized.slice; users = f.sized.users };
       tallied = record { likes = f.tallied.likes; replies = f.tallied.replies; last = f.tallied.last };
       in_order = f.in_order;
       held = f.held;
@@ -196,7 +189,7 @@ follows-merged service v P f run none =
     let b = blocks-of_running service v P v.post.state run f.stands in
     follows-running service (merged v) (runs-weaker P (λ _. Unit {0}) v.post.state (λ _ _. tt) run)
     (record { users = f.served.users; submitters_alike = f.served.submitters_alike; marks_alike = f.served.marks_alike })
-    (record { slice = length-replicate (pages_of v.post) 0; additions = length-map-range_with_len _ 0 (pages_of v.post); users = f.sized.users })
+    (record { slice = length-replicate (pages_of v.post) 0; users = f.sized.users })
     (record { likes = λ page. f.tallied.likes page ∙ sym (merged-likes v f.sized page); replies = f.tallied.replies; last = f.tallied.last })
     f.held (record { within = b.within; joined = b.joined; split_ran = b.split_ran; split_held = b.split_held }) (λ place e. absurd (cc (none, e)))
 
@@ -206,7 +199,7 @@ follows-works service v ending answer after none f (turns.runs_held first rest j
 follows-works service v ending answer after none f (turns.retires j e ended a x) =
     subst (Follows service) (sym x) (record {
       served = record { users = f.served.users; submitters_alike = f.served.submitters_alike; marks_alike = f.served.marks_alike };
-      sized = record { slice = f.sized.slice; additions = f.sized.additions; users = f.sized.users };
+      sized = record { slice = f.sized.slice; users = f.sized.users };
       tallied = record { likes = f.tallied.likes; replies = f.tallied.replies; last = f.tallied.last };
       in_order = ap (λ hs. map entry_of v.ran ++ map (entry_held 0) hs) e ∙ ap (λ hs. map entry_of v.ran ++ map (entry_held (next_joined v)) hs) (sym e) ∙ f.in_order;
       held = f.held;
@@ -248,7 +241,7 @@ runs-joined state.Gone r j = absurd r
 follows-settled : (service : Service) (v : WorkerView) → Follows service v → Follows service (settled v)
 follows-settled service v f = record {
   served = record { users = f.served.users; submitters_alike = f.served.submitters_alike; marks_alike = f.served.marks_alike };
-  sized = record { slice = f.sized.slice; additions = f.sized.additions; users = f.sized.users };
+  sized = record { slice = f.sized.slice; users = f.sized.users };
   tallied = record { likes = f.tallied.likes; replies = f.tallied.replies; last = f.tallied.last };
   in_order = f.in_order;
   held = f.held;
@@ -277,7 +270,7 @@ follows-takes service v place ask answer after none f run empty asked there (tur
     let p = phase_at v in
     subst (Follows service) (sym x) (follows-running service (with_stashed (with_taken v place ask) h) run
     (record { users = f.served.users; submitters_alike = f.served.submitters_alike; marks_alike = f.served.marks_alike })
-    (record { slice = f.sized.slice; additions = f.sized.additions; users = f.sized.users })
+    (record { slice = f.sized.slice; users = f.sized.users })
     (record { likes = f.tallied.likes; replies = f.tallied.replies; last = f.tallied.last })
     (All-push (IsAsked service) v.held.held h f.held (record { asked = asked; there = there }))
     (record {
@@ -298,7 +291,7 @@ follows-takes service v place ask answer after none f run empty asked there (tur
     let none_held : IsJoined p → v.held.held ≡ [] = λ j. empty (runs-joined v.post.state run j) in
     follows-run service (with_taken v place ask) after h false r run none
     (record { users = f.served.users; submitters_alike = f.served.submitters_alike; marks_alike = f.served.marks_alike })
-    (record { slice = f.sized.slice; additions = f.sized.additions; users = f.sized.users })
+    (record { slice = f.sized.slice; users = f.sized.users })
     (record { likes = f.tallied.likes; replies = f.tallied.replies; last = f.tallied.last })
     (record { asked = asked; there = there }) f.held
     (λ e.
@@ -324,7 +317,7 @@ follows-give service v took answer after can asked (turns.ends place p t a x) f 
     let b = blocks-of_running service (settled v) (λ _. Unit {0}) v.post.state run s.stands in
     subst (Follows service) (sym x) (follows-running service (record (settled v) { ended = set v.ended place true }) run
     (record { users = f.served.users; submitters_alike = f.served.submitters_alike; marks_alike = f.served.marks_alike })
-    (record { slice = f.sized.slice; additions = f.sized.additions; users = f.sized.users })
+    (record { slice = f.sized.slice; users = f.sized.users })
     (record { likes = f.tallied.likes; replies = f.tallied.replies; last = f.tallied.last })
     f.held (record { within = b.within; joined = b.joined; split_ran = b.split_ran; split_held = b.split_held }) (λ k e. absurd (cc e)))
 follows-give service v took answer after can asked (turns.asks place ask p t x) f =

@@ -44,7 +44,6 @@ IsPlaced-held post d w p = record {
   is_worker = p.is_worker;
   marks = p.marks;
   few_pages = p.few_pages;
-  additions = p.additions;
   slice = p.slice;
   standing = p.standing;
 }
@@ -112,7 +111,6 @@ IsSound-taken post d n place s none there some left taken capacity rest =
           is_worker = p.is_worker;
           marks = p.marks;
           few_pages = p.few_pages;
-          additions = p.additions;
           slice = p.slice;
           standing = p.standing;
         };
@@ -180,7 +178,6 @@ IsSound-last post d t s same = record {
     is_worker = rw same p.is_worker;
     marks = p.marks;
     few_pages = p.few_pages;
-    additions = p.additions;
     slice = p.slice;
     standing = p.standing;
   };

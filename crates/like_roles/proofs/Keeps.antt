@@ -28,7 +28,8 @@ serves-keeps v submitter r reply w (refuses n a e) = subst (TakesNothing v) (sym
 serves-keeps v submitter r reply w (likes page a o p l e) =
     let c = counted-keeps v page in
     subst (TakesNothing v) (sym e) (record { share = refl; marks = c.marks; taken = c.taken; left = c.left; ended = c.ended })
-serves-keeps v submitter r reply w (looks page count a o p s n e) = subst (TakesNothing v) (sym e) (same v)
+serves-keeps v submitter r reply w (looks page count a o p s n e) =
+    subst (TakesNothing v) (sym e) (record { share = refl; marks = refl; taken = refl; left = refl; ended = refl })
 
 -- a request that runs is not taken again
 runs-keeps : (v : WorkerView) (h : Held) (stashed : Bool) (after : WorkerView) → Runs v h stashed after → TakesNothing v after

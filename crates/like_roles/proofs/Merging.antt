@@ -1,32 +1,37 @@
 -- How the merge of a slice goes from page to page.
-use Rattle.std.proofs.Common.{◌≡◌, ℕ, suc, ◌+◌, ◌<◌, ◌≤◌, List, [], ◌∷◌, length, get_or, set, replicate, refl, ap, sym, ◌∙◌, inl, inr, arith, subst}
-use Rattle.std.proofs.lemmas.Bool.{cases_lt}
-use Rattle.std.proofs.lemmas.List.{length-set, get_or-set_same, get_or-set_other}
-use Rattle.std.proofs.lemmas.List.FromFn.{fill_by_all}
-use Rattle.like_core.specs.Post.{pages_of}
-use Rattle.like_roles.specs.Turns.{merged, merged_page}
-use Rattle.like_roles.specs.WorkerView.{WorkerView}
+use Rattle.std.proofs.Common.{◌≡◌, ℕ, zero, suc, ◌+◌, ◌<◌, ◌≤◌, ◌==◌, ◌&&◌, nat_lt, Bool, true, false, not, cond, List, [], ◌∷◌, ◌++◌, length, get_or, set, replicate, refl, ap, sym, ◌∙◌, inl, inr, arith, subst, append-nil, append_assoc}
+use Rattle.std.specs.List.{sum_by}
+use Rattle.std.proofs.lemmas.Bool.{cases_eq, cases_lt, eqb-true, eq-eqb, ne_eqb, lt-ltb, le-ltb}
+use Rattle.std.proofs.lemmas.List.{length-set, get_or_past, get_or-set_same, get_or-set_other}
+use Rattle.std.proofs.lemmas.List.FromFn.{filter_of_map_range_with_len_more}
+use Rattle.like_core.specs.declared.view.Addition.{Addition}
+use Rattle.std.proofs.lemmas.List.Sums.{sum_by-append, sum_by-cons}
+use Rattle.like_core.specs.Post.{added, pages_of}
+use Rattle.like_core.proofs.Labels.{one_before-next}
+use Rattle.like_roles.specs.Turns.{merged, merged_page, merging, slice_addition}
+use Rattle.like_roles.specs.WorkerView.{WorkerView, phase_at}
+
+-- the worker after its first n pages were merged, with this slice
+abbrev merged_below : WorkerView → ℕ → List ℕ → WorkerView
+merged_below v n slice = record v {
+  post = record v.post { additions = v.post.additions ++ merging (phase_at v) v.slice n };
+  slice = slice;
+}
 
 -- the first n pages are merged
 pub record Merging (v0 v : WorkerView) (n : ℕ) : Type 0 where
-  pub rest : v ≡ record v0 { post = record v0.post { additions = v.post.additions }; slice = v.slice }
+  pub rest : v ≡ merged_below v0 n v.slice
   pub slice_sized : length v.slice ≡ pages_of v0.post
-  pub additions_sized : length v.post.additions ≡ pages_of v0.post
   pub emptied : (page : ℕ) → page < n → get_or v.slice page 0 ≡ 0
-  pub added : (page : ℕ) → page < n → get_or v.post.additions page 0 ≡ get_or v0.post.additions page 0 + get_or v0.slice page 0
   pub slice_left : (page : ℕ) → n ≤ page → get_or v.slice page 0 ≡ get_or v0.slice page 0
-  pub additions_left : (page : ℕ) → n ≤ page → get_or v.post.additions page 0 ≡ get_or v0.post.additions page 0
 
 -- no page is merged at first
-pub Merging-start : (v : WorkerView) → length v.slice ≡ pages_of v.post → length v.post.additions ≡ pages_of v.post → Merging v v 0
-Merging-start v s a = record {
-  rest = refl;
+pub Merging-start : (v : WorkerView) → length v.slice ≡ pages_of v.post → Merging v v 0
+Merging-start v s = record {
+  rest = λ m. record v { post = record v.post { additions = sym (append-nil v.post.additions) m } };
   slice_sized = s;
-  additions_sized = a;
   emptied = λ page h. absurd (omega arith);
-  added = λ page h. absurd (omega arith);
   slice_left = λ page h. refl;
-  additions_left = λ page h. refl;
 }
 
 -- what stands below n + 1 after a write at n
@@ -43,23 +48,45 @@ below xs n x f within here before i h =
 above : (xs ys : List ℕ) (n x : ℕ) → ((i : ℕ) → n ≤ i → get_or xs i 0 ≡ get_or ys i 0) → (i : ℕ) → n + 1 ≤ i → get_or (set xs n x) i 0 ≡ get_or ys i 0
 above xs ys n x after i h = get_or-set_other xs n i x 0 (λ e. absurd (omega arith)) ∙ after i (omega arith)
 
+-- one page more is merged, where its number is 0 or not
+merged_next : (v0 v : WorkerView) (n likes : ℕ) (slice : List ℕ) (none : Bool) → v ≡ merged_below v0 n v.slice → get_or v0.slice n 0 ≡ likes
+    → record v { post = cond none v.post (added v.post n likes); slice = slice }
+    ≡ record v0 { post = record v0.post { additions = v0.post.additions ++ (merging (phase_at v0) v0.slice n ++ cond (not none) (slice_addition (phase_at v0) v0.slice n ∷ []) []) }; slice = slice }
+merged_next v0 v n likes slice true rest is =
+    ap {A = WorkerView} (λ w. record w { slice = slice }) rest
+    ∙ ap (λ (xs : List Addition). record v0 { post = record v0.post { additions = v0.post.additions ++ xs }; slice = slice }) (sym (append-nil (merging (phase_at v0) v0.slice n)))
+merged_next v0 v n likes slice false rest is =
+    let one : Addition = record { phase = phase_at v0; page = n; likes = likes } in
+    let done : List Addition = merging (phase_at v0) v0.slice n in
+    ap {A = WorkerView} (λ w. record w { post = added w.post n likes; slice = slice }) rest
+    ∙ ap (λ (xs : List Addition). record v0 { post = record v0.post { additions = xs }; slice = slice }) (append_assoc v0.post.additions done (one ∷ []))
+    ∙ ap (λ (k : ℕ). record v0 { post = record v0.post { additions = v0.post.additions ++ (done ++ record { phase = phase_at v0; page = n; likes = k } ∷ []) }; slice = slice }) (sym is)
+
 -- the next page is merged
 pub Merging-page : (v0 v : WorkerView) (n : ℕ) → Merging v0 v n → n < pages_of v0.post → Merging v0 (merged_page v n) (n + 1)
 Merging-page v0 v n m h =
     let slice = set v.slice n 0 in
-    let sum = get_or v.post.additions n 0 + get_or v.slice n 0 in
-    let additions = set v.post.additions n sum in
     let in_slice : n < length v.slice = omega (arith, m.slice_sized) in
-    let in_additions : n < length v.post.additions = omega (arith, m.additions_sized) in
+    let likes : ℕ = get_or v.slice n 0 in
+    let is : likes ≡ get_or v0.slice n 0 = m.slice_left n (omega arith) in
+    let more : merging (phase_at v0) v0.slice (n + 1) ≡ merging (phase_at v0) v0.slice n ++ cond (not (get_or v0.slice n 0 == 0)) (slice_addition (phase_at v0) v0.slice n ∷ []) [] =
+    filter_of_map_range_with_len_more (λ (a : Addition). not (a.likes == 0)) (slice_addition (phase_at v0) v0.slice) 0 n n (omega arith)
+    in
+    let test : (get_or v0.slice n 0 == 0) ≡ (likes == 0) = ap (λ (k : ℕ). k == 0) (sym is) in
     record {
-      rest = ap {A = WorkerView} (λ w. record w { post = record w.post { additions = additions }; slice = slice }) m.rest;
+      rest =
+          merged_next v0 v n likes slice (likes == 0) m.rest (sym is)
+          ∙ ap (λ (xs : List Addition). record v0 { post = record v0.post { additions = v0.post.additions ++ xs }; slice = slice })
+          (ap (λ (b : Bool). merging (phase_at v0) v0.slice n ++ cond (not b) (slice_addition (phase_at v0) v0.slice n ∷ []) []) (sym test) ∙ sym more);
       slice_sized = length-set v.slice n 0 ∙ m.slice_sized;
-      additions_sized = length-set v.post.additions n sum ∙ m.additions_sized;
       emptied = below v.slice n 0 (λ _. 0) in_slice refl m.emptied;
-      added = below v.post.additions n sum (λ i. get_or v0.post.additions i 0 + get_or v0.slice i 0) in_additions (omega (arith, m.slice_left n, m.additions_left n)) m.added;
       slice_left = above v.slice v0.slice n 0 m.slice_left;
-      additions_left = above v.post.additions v0.post.additions n sum m.additions_left;
     }
+
+-- a choice between the same
+cond_same : (b : Bool) (n : ℕ) → cond b n n ≡ n
+cond_same true n = refl
+cond_same false n = refl
 
 -- a list of zeros
 zeros : (xs : List ℕ) → ((i : ℕ) → i < length xs → get_or xs i 0 ≡ 0) → xs ≡ replicate (length xs) 0
@@ -72,8 +99,62 @@ zeros (x ∷ xs) h =
 -- all pages are merged
 pub Merging-end : (v0 v : WorkerView) → Merging v0 v (pages_of v0.post) → v ≡ merged v0
 Merging-end v0 v m =
-    let additions = fill_by_all (λ i. get_or v0.post.additions i 0 + get_or v0.slice i 0) v.post.additions (pages_of v0.post) 0 m.additions_sized m.added in
     let slice : v.slice ≡ replicate (pages_of v0.post) 0 =
     zeros v.slice (λ i k. m.emptied i (omega (arith, m.slice_sized))) ∙ ap (λ n. replicate n 0) m.slice_sized in
-    m.rest ∙ ap (λ xs. record v0 { post = record v0.post { additions = xs }; slice = v.slice }) additions
-    ∙ ap (λ xs. record v0 { post = record v0.post { additions = (merged v0).post.additions }; slice = xs }) slice
+    m.rest ∙ ap (merged_below v0 (pages_of v0.post)) slice
+
+module _ (test : ℕ → Bool) (phase : ℕ) (slice : List ℕ) (page : ℕ) where
+  -- how much an addition counts, where its phase passes a test and it is of the page
+  abbrev counts : Addition → ℕ
+  counts a = cond (test a.phase && (a.page == page)) a.likes 0
+
+  -- an addition of 0 may be left out
+  counts_some : (n : ℕ) (none : Bool) → (get_or slice n 0 == 0) ≡ none → sum_by counts (cond (not none) (slice_addition phase slice n ∷ []) []) ≡ cond (test phase && (n == page)) (get_or slice n 0) 0
+  counts_some n true is =
+      let zero_is : get_or slice n 0 ≡ 0 = eqb-true (get_or slice n 0) 0 is in
+      sym (ap (λ (k : ℕ). cond (test phase && (n == page)) k 0) zero_is ∙ cond_same (test phase && (n == page)) 0)
+  counts_some n false is = sum_by-cons counts (slice_addition phase slice n) [] ∙ omega arith
+
+  -- the number of the page itself, where n is that page
+  counts_here : (n : ℕ) → cond (test phase && (n == page)) (get_or slice n 0) 0 ≡ cond ((page == n) && test phase) (get_or slice page 0) 0
+  counts_here n =
+      elim (cases_eq n page) [
+        | inl same ↦
+            let P : Bool → Type 0 = λ t. cond (t && (n == page)) (get_or slice n 0) 0 ≡ cond ((page == n) && t) (get_or slice page 0) 0 in
+            let yes : P true = (λ m. cond (eq-eqb n page same m) (get_or slice (same m) 0) 0) ∙ sym (λ m. cond (eq-eqb page n (sym same) m && true) (get_or slice page 0) 0) in
+            let nay : P false = sym (λ m. cond (eq-eqb page n (sym same) m && false) (get_or slice page 0) 0) in
+            elim (test phase) as P [ true ↦ yes | false ↦ nay ]
+        | inr other ↦
+            let P : Bool → Type 0 = λ t. cond (t && (n == page)) (get_or slice n 0) 0 ≡ cond ((page == n) && t) (get_or slice page 0) 0 in
+            let away : (t : Bool) → cond ((page == n) && t) (get_or slice page 0) 0 ≡ 0 = λ t. ap (λ (b : Bool). cond (b && t) (get_or slice page 0) 0) (ne_eqb page n (λ e. other (sym e))) in
+            let yes : P true = ap (λ (b : Bool). cond b (get_or slice n 0) 0) (ne_eqb n page other) ∙ sym (away true) in
+            let nay : P false = sym (away false) in
+            elim (test phase) as P [ true ↦ yes | false ↦ nay ]
+      ]
+
+  -- the additions of the first pages count for the page, where it is one of them
+  merging-counts : (n : ℕ) → sum_by counts (merging phase slice n) ≡ cond (nat_lt page n && test phase) (get_or slice page 0) 0
+  merging-counts zero = sym (ap (λ (b : Bool). cond (b && test phase) (get_or slice page 0) 0) (le-ltb page 0 (omega arith)))
+  merging-counts (suc n) =
+      let e : suc n ≡ n + 1 = omega arith in
+      let more : merging phase slice (n + 1) ≡ merging phase slice n ++ cond (not (get_or slice n 0 == 0)) (slice_addition phase slice n ∷ []) [] =
+      filter_of_map_range_with_len_more (λ (a : Addition). not (a.likes == 0)) (slice_addition phase slice) 0 n n (omega arith)
+      in
+      let both = sum_by-append counts (merging phase slice n) (cond (not (get_or slice n 0 == 0)) (slice_addition phase slice n ∷ []) []) in
+      let last = counts_some n (get_or slice n 0 == 0) refl ∙ counts_here n in
+      let before = merging-counts n in
+      let next = one_before-next page n (get_or slice page 0) (test phase) in
+      let goes : sum_by counts (merging phase slice (n + 1)) ≡ cond (nat_lt page (n + 1) && test phase) (get_or slice page 0) 0 = ap (sum_by counts) more ∙ omega arith in
+      subst (λ (k : ℕ). sum_by counts (merging phase slice k) ≡ cond (nat_lt page k && test phase) (get_or slice page 0) 0) (sym e) goes
+
+  -- those of all pages count what the slice has of the page
+  pub merging-all : (n : ℕ) → length slice ≡ n → sum_by counts (merging phase slice n) ≡ cond (test phase) (get_or slice page 0) 0
+  merging-all n sized =
+      merging-counts n ∙
+      elim (cases_lt page n) [
+        | inl inside ↦ ap (λ (b : Bool). cond (b && test phase) (get_or slice page 0) 0) (lt-ltb page n inside)
+        | inr outside ↦
+            let none : get_or slice page 0 ≡ 0 = get_or_past slice page 0 (omega arith) in
+            ap (λ (k : ℕ). cond (nat_lt page n && test phase) k 0) none ∙ (cond_same (nat_lt page n && test phase) 0
+            ∙ sym (ap (λ (k : ℕ). cond (test phase) k 0) none ∙ cond_same (test phase) 0))
+      ]

@@ -9,7 +9,7 @@ use Rattle.like_tables.specs.declared.held.Held.{Held}
 use Rattle.like_roles.specs.declared.log.Ran.{Ran}
 use Rattle.like_roles.specs.declared.reply.Reply.{Reply}
 use Rattle.like_roles.specs.Desk.{IsStanding}
-use Rattle.like_roles.specs.Serve.{GivesReply, refuses, likes, looks, counted, liked, ran_now, Runs}
+use Rattle.like_roles.specs.Serve.{GivesReply, refuses, likes, looks, counted, liked, shown, ran_now, Runs}
 use Rattle.like_roles.specs.WorkerView.{WorkerView, phase_at}
 
 -- a worker that runs a phase has its number
@@ -26,19 +26,19 @@ counted_by P v page in_slice on_board = by_test (slices v.post page) where
   by_test true = in_slice
   by_test false = on_board
 
--- what no like changes, no answer changes
+-- what no like and no read changes, no answer changes
 pub GivesReply-keeps : {X : Type 0} (f : WorkerView → X) (v : WorkerView) (submitter : ℕ) (r : Request) (reply : Reply) (w : WorkerView)
-    → ((user page : ℕ) → f (liked v user page) ≡ f v) → GivesReply v submitter r reply w → f w ≡ f v
-GivesReply-keeps f v submitter r reply w k (refuses n a e) = ap f e
-GivesReply-keeps f v submitter r reply w k (likes page a o p l e) = ap f e ∙ k r.user page
-GivesReply-keeps f v submitter r reply w k (looks page count a o p s n e) = ap f e
+    → ((user page : ℕ) → f (liked v user page) ≡ f v) → ((page count : ℕ) → f (shown v page count) ≡ f v) → GivesReply v submitter r reply w → f w ≡ f v
+GivesReply-keeps f v submitter r reply w k l (refuses n a e) = ap f e
+GivesReply-keeps f v submitter r reply w k l (likes page a o p s e) = ap f e ∙ k r.user page
+GivesReply-keeps f v submitter r reply w k l (looks page count a o p s n e) = ap f e ∙ l page count
 
 -- an answer changes no state, and no list of what was run
 pub GivesReply-state : (v : WorkerView) (submitter : ℕ) (r : Request) (reply : Reply) (w : WorkerView) → GivesReply v submitter r reply w → w.post.state ≡ v.post.state
-GivesReply-state v submitter r reply w s = GivesReply-keeps (λ x. x.post.state) v submitter r reply w (λ user page. counted_by (λ x. x.post.state ≡ v.post.state) v page refl refl) s
+GivesReply-state v submitter r reply w s = GivesReply-keeps (λ x. x.post.state) v submitter r reply w (λ user page. counted_by (λ x. x.post.state ≡ v.post.state) v page refl refl) (λ page count. refl) s
 
 pub GivesReply-ran : (v : WorkerView) (submitter : ℕ) (r : Request) (reply : Reply) (w : WorkerView) → GivesReply v submitter r reply w → w.ran ≡ v.ran
-GivesReply-ran v submitter r reply w s = GivesReply-keeps (λ x. x.ran) v submitter r reply w (λ user page. counted_by (λ x. x.ran ≡ v.ran) v page refl refl) s
+GivesReply-ran v submitter r reply w s = GivesReply-keeps (λ x. x.ran) v submitter r reply w (λ user page. counted_by (λ x. x.ran ≡ v.ran) v page refl refl) (λ page count. refl) s
 
 -- a worker that is not gone has a state of its own
 pub not_gone : (s : WorkerState) (phase : ℕ) (gone : Bool) → IsStanding s phase gone → gone ≡ false → s ≢ state.Gone

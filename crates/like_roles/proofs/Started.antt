@@ -1,12 +1,13 @@
 -- The ends of a worker's life: it starts as the plans say, and ends so.
-use Rattle.std.proofs.Common.{◌≡◌, ℕ, Bool, true, List, [], ◌++◌, length, map, get_or, replicate, Some, None, refl, ap, sym, ◌∙◌, inl, inr, arith, subst, append-nil}
-use Rattle.std.proofs.lemmas.Bool.{cases_eq, cases_lt}
-use Rattle.std.proofs.lemmas.List.{get_or_past, get_or-replicate, length-map, length-replicate}
+use Rattle.std.proofs.Common.{◌≡◌, ℕ, Bool, true, List, [], ◌++◌, length, map, get_or, Some, None, refl, ap, sym, ◌∙◌, inl, inr, arith, subst, append-nil}
+use Rattle.std.proofs.lemmas.Bool.{cases_eq}
+use Rattle.std.proofs.lemmas.List.{length-map, length-replicate}
 use Rattle.like_requests.specs.declared.setup.Setup.{Setup}
 use Rattle.like_core.specs.declared.worker_state.WorkerState.{WorkerState}
 use Rattle.like_core.specs.declared.worker_state.WorkerState.TheVariants as state
 use Rattle.like_core.specs.WorkerState.{RunsSplit}
-use Rattle.like_core.specs.Post.{PostView, pages_of}
+use Rattle.like_core.specs.Additions.{added_to}
+use Rattle.like_core.specs.Post.{PostView, additions_of, pages_of}
 use Rattle.like_tables.specs.UserTable.{last_of}
 use Rattle.like_roles.specs.declared.turn.Turn.{Turn}
 use Rattle.like_roles.specs.declared.turn.Turn.TheVariants as turn
@@ -18,14 +19,7 @@ use Rattle.like_roles.specs.Turns as turns
 use Rattle.like_roles.specs.Turns.{Pends, Turns, Works}
 use Rattle.like_roles.specs.WorkerView.{WorkerView, IsSliceInSplit, submitter_at}
 use Rattle.like_roles.proofs.Effects.{Runs-effects}
-
--- a list of one element holds nothing else, whatever the place
-same_everywhere : {X : Type 0} (n i : ℕ) (x : X) → get_or (replicate n x) i x ≡ x
-same_everywhere {X} n i x =
-    elim (cases_lt i n) [
-      | inl inside ↦ get_or-replicate n i x x inside
-      | inr outside ↦ get_or_past (replicate n x) i x (omega (arith, length-replicate {A = X} n x))
-    ]
+use Rattle.like_roles.proofs.Lists.{same_everywhere}
 
 -- a new worker follows the plans
 pub follows-new : (s : Setup) (sizes : List ℕ) (worker : ℕ) (post : PostView) (v : WorkerView) (service : Service) → IsPostOf worker s.pages post → IsNew s sizes worker post v
@@ -33,10 +27,10 @@ pub follows-new : (s : Setup) (sizes : List ℕ) (worker : ℕ) (post : PostView
 follows-new s sizes worker post v service p new same =
     let marks_are : v.post.marks ≡ marks service = ap (λ x. x.marks) new.at_post ∙ p.marks ∙ ap (map (λ q. q.split)) (sym same.pages_are) in
     let pages : pages_of v.post ≡ length s.pages = ap length (ap (λ x. x.marks) new.at_post ∙ p.marks) ∙ length-map s.pages (λ q. q.split) in
-    let additions : v.post.additions ≡ replicate (pages_of post) 0 = ap (λ x. x.additions) new.at_post ∙ p.fresh.added_nothing in
+    let additions : v.post.additions ≡ [] = ap (λ x. x.additions) new.at_post ∙ p.fresh.added_nothing in
     let state_is : v.post.state ≡ state.Runs 0 = ap (λ x. x.state) new.at_post ∙ p.fresh.runs in
     let held : v.held.held ≡ [] = ap (λ x. x.held) new.held in
-    let added_to : (page : ℕ) → get_or v.post.additions page 0 ≡ 0 = λ page. ap (λ xs. get_or xs page 0) additions ∙ same_everywhere (pages_of post) page 0 in
+    let nothing : (page : ℕ) → additions_of v.post page ≡ 0 = λ page. ap (added_to page) additions in
     let in_slice : (page : ℕ) → get_or v.slice page 0 ≡ 0 = λ page. ap (λ xs. get_or xs page 0) new.slice ∙ same_everywhere (length s.pages) page 0 in
     let blocks : IsInBlocks service v 0 = record {
       within = λ i t h. absurd (omega (arith, ap length new.taken));
@@ -52,11 +46,10 @@ follows-new s sizes worker post v service p new same =
       };
       sized = record {
         slice = ap length new.slice ∙ length-replicate (length s.pages) 0 ∙ sym pages;
-        additions = ap length additions ∙ length-replicate (pages_of post) 0 ∙ ap pages_of (sym new.at_post);
         users = ap (λ x. length x.last) new.last ∙ length-replicate s.users None ∙ sym (ap (λ x. x.share.users) new.last);
       };
       tallied = record {
-        likes = λ page. rw new.ran (omega (arith, added_to page, in_slice page));
+        likes = λ page. rw new.ran (omega (arith, nothing page, in_slice page));
         replies = λ i e h. let k : None ≡ Some e = rw new.ran at h in cc k;
         last = λ user. ap (λ x. last_of x user) new.last ∙ same_everywhere s.users user None ∙ rw new.ran refl;
       };

@@ -15,7 +15,9 @@ use Rattle.like_requests.specs.declared.request.PageRef.TheVariants as ref
 use Rattle.like_requests.specs.declared.request.Request.{Request}
 use Rattle.like_requests.specs.declared.verdict.Verdict.{Verdict}
 use Rattle.like_requests.specs.declared.verdict.Verdict.TheVariants as verdict
+use Rattle.like_core.specs.WorkerState.{phase_of}
 use Rattle.like_core.specs.Post.{additions_of, pages_of}
+use Rattle.like_core.proofs.Labels.{added_to-push}
 use Rattle.like_tables.specs.UserTable.{last_of}
 use Rattle.like_tables.specs.declared.held.Held.{Held}
 use Rattle.like_roles.specs.declared.log.Ran.{Ran}
@@ -24,7 +26,7 @@ use Rattle.like_roles.specs.declared.reply.Reply.TheVariants as reply
 use Rattle.like_roles.specs.Follows.{IsAsked, IsServed, IsSized, IsTallied}
 use Rattle.like_roles.specs.Likes.{AcceptedLike, accepted_like, last_like, last_page, like_ran, likes_ran, page_likes}
 use Rattle.like_roles.specs.Replies.{Answers, HasRightAnswers, IsRightAnswer}
-use Rattle.like_roles.specs.Serve.{GivesReply, refuses, likes, looks, counted, liked, ran_now, verdict_at}
+use Rattle.like_roles.specs.Serve.{GivesReply, refuses, likes, looks, counted, liked, shown, ran_now, verdict_at}
 use Rattle.like_roles.specs.Service.{Service, marks, request_of, submitters}
 use Rattle.like_requests.specs.Setup.{IsThere}
 use Rattle.like_roles.specs.WorkerView.{WorkerView}
@@ -117,11 +119,11 @@ answers-refused verdict.OtherHome o last n = refl
 answers-refused verdict.UnknownPage o last n = refl
 
 -- one more accepted like in the slice or on the board
-counted-one : (v : WorkerView) (page other : ℕ) → page < length v.slice → page < length v.post.additions
+counted-one : (v : WorkerView) (page other : ℕ) → page < length v.slice
     → additions_of (counted v page).post other + get_or (counted v page).slice other 0 ≡ (additions_of v.post other + get_or v.slice other 0) + cond (eqb page other) 1 0
-counted-one v page other in_slice in_additions =
+counted-one v page other in_slice =
     counted_by (λ w. additions_of w.post other + get_or w.slice other 0 ≡ (additions_of v.post other + get_or v.slice other 0) + cond (eqb page other) 1 0)
-    v page (omega (arith, one_more v.slice in_slice)) (omega (arith, one_more v.post.additions in_additions))
+    v page (omega (arith, one_more v.slice in_slice)) (omega (arith, added_to-push v.post.additions (phase_of v.post.state) page 1 other))
   where
     one_more : (xs : List ℕ) → page < length xs → get_or (set xs page (get_or xs page 0 + 1)) other 0 ≡ get_or xs other 0 + cond (eqb page other) 1 0
     one_more xs h =
@@ -138,8 +140,8 @@ counted-one v page other in_slice in_additions =
 counted-sized : (v : WorkerView) (page : ℕ) → IsSized v → IsSized (counted v page)
 counted-sized v page s =
     counted_by IsSized v page
-    (record { slice = length-set v.slice page _ ∙ s.slice; additions = s.additions; users = s.users })
-    (record { slice = s.slice; additions = length-set v.post.additions page _ ∙ s.additions; users = s.users })
+    (record { slice = length-set v.slice page _ ∙ s.slice; users = s.users })
+    (record { slice = s.slice; users = s.users })
 
 counted-served : (service : Service) (v : WorkerView) (page : ℕ) → IsServed service v → IsServed service (counted v page)
 counted-served service v page s =
@@ -169,6 +171,14 @@ unchanged service v h stashed answer served sized t none right =
       },
     )
 
+-- a read changes none of it
+shown-after : (service : Service) (v : WorkerView) (h : Held) (stashed : Bool) (answer : Reply) (page count : ℕ) → IsAfter service v h stashed answer v → IsAfter service v h stashed answer (shown v page count)
+shown-after service v h stashed answer page count a = (
+  record { users = a.0.users; submitters_alike = a.0.submitters_alike; marks_alike = a.0.marks_alike },
+  record { slice = a.1.slice; users = a.1.users },
+  record { likes = a.2.likes; replies = a.2.replies; last = a.2.last },
+)
+
 -- an accepted like
 one_like : (service : Service) (v : WorkerView) (h : Held) (stashed : Bool) (page : ℕ) → IsServed service v → IsSized v → IsTallied service v
     → like_ran service (ran_now v h stashed reply.Liked) ≡ Some (record { user = h.ask.request.user; page = page }) → IsRightAnswer service v.ran (ran_now v h stashed reply.Liked)
@@ -179,15 +189,14 @@ one_like service v h stashed page served sized t like right in_pages in_users =
     let l : AcceptedLike = record { user = user; page = page } in
     let more = likes_ran-push service v.ran e (Some l) like in
     let in_slice : page < length v.slice = omega (arith, sized.slice) in
-    let in_additions : page < length v.post.additions = omega (arith, sized.additions) in
     let in_table : user < length v.last.last = omega (arith, sized.users) in
     let s = counted-served service v page served in
     let z = counted-sized v page sized in (
       record { users = served.users; submitters_alike = served.submitters_alike; marks_alike = s.marks_alike },
-      record { slice = z.slice; additions = z.additions; users = length-set v.last.last user (Some page) ∙ sized.users },
+      record { slice = z.slice; users = length-set v.last.last user (Some page) ∙ sized.users },
       record {
         likes = λ other. ap (page_likes other) more ∙ page_likes-push other (likes_ran service v.ran) l ∙ ap (λ n. n + cond (eqb page other) 1 0) (t.likes other)
-            ∙ sym (counted-one v page other in_slice in_additions);
+            ∙ sym (counted-one v page other in_slice);
         replies = HasRightAnswers-push service v.ran e t.replies right;
         last = λ other. elim (cases_eq user other) [
           | inl same ↦
@@ -232,4 +241,6 @@ GivesReply-tallied service v h stashed answer w served sized t asked (looks page
     let x = ran_now v h stashed seen in
     let none : like_ran service x ≡ None = like_ran-is service x r asked.asked ∙ rw (yes, o) refl in
     let right = right-by_request service v.ran x r asked.asked (rw (V-is, o) (t.last r.user, tt)) in
-    subst (λ y. IsAfter service v h stashed answer y) (sym e) (subst (λ y. IsAfter service v h stashed y v) (sym s) (unchanged service v h stashed seen served sized t none right))
+    let same = unchanged service v h stashed seen served sized t none right in
+    let P : Reply → Type 0 = λ y. IsAfter service v h stashed y (shown v page count) in
+    subst (λ y. IsAfter service v h stashed answer y) (sym e) (subst P (sym s) (shown-after service v h stashed seen page count same))

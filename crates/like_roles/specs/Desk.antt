@@ -7,6 +7,7 @@ use Rattle.like_requests.specs.Limits.{max_pages}
 use Rattle.like_tables.specs.Limits.{max_likes}
 use Rattle.like_core.specs.declared.worker_state.WorkerState.{WorkerState}
 use Rattle.like_core.specs.declared.worker_state.WorkerState.TheVariants.{Runs, Answered, Gone}
+use Rattle.like_core.specs.Additions.{all_added}
 use Rattle.like_core.specs.Phase.{IsJoined, IsSplit}
 use Rattle.like_core.specs.WorkerState.{IsRunning}
 use Rattle.like_core.specs.Post.{PostView}
@@ -64,7 +65,6 @@ pub record IsPlaced (post : PostView) (d : Desk) : Type 0 where
   pub is_worker : d.last.share.worker < d.last.share.workers
   pub marks : post.marks ≡ d.marks.items
   pub few_pages : vec_len d.marks ≤ max_pages
-  pub additions : length post.additions ≡ vec_len d.marks
   pub slice : length d.slice ≡ vec_len d.marks
   pub standing : IsStanding post.state d.phase d.gone
 
@@ -79,12 +79,12 @@ pub record ArePlaces (d : Desk) : Type 0 where
 pub record HasRoom (post : PostView) (d : Desk) : Type 0 where
   pub taken : vec_len d.taken + sum d.left.items ≤ vec_capacity d.taken
   pub ran : vec_len d.ran + length d.held.held + sum d.left.items ≤ vec_capacity d.ran
-  pub few : sum post.additions + sum d.slice + length d.held.held + sum d.left.items ≤ max_likes
+  pub few : all_added post.additions + sum d.slice + length d.held.held + sum d.left.items ≤ max_likes
 
 -- and there is room to run one more request
 pub record HasRoomForOne (post : PostView) (d : Desk) : Type 0 where
   pub ran : vec_len d.ran + length d.held.held + sum d.left.items < vec_capacity d.ran
-  pub few : sum post.additions + sum d.slice + length d.held.held + sum d.left.items < max_likes
+  pub few : all_added post.additions + sum d.slice + length d.held.held + sum d.left.items < max_likes
 
 -- there is room to note one more request that was run
 pub record HasRoomToNote (d : Desk) : Type 0 where

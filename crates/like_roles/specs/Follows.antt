@@ -26,7 +26,6 @@ pub record IsServed (service : Service) (v : WorkerView) : Type 0 where
 -- the worker has a place for each page, and for each user
 pub record IsSized (v : WorkerView) : Type 0 where
   pub slice : length v.slice ≡ pages_of v.post
-  pub additions : length v.post.additions ≡ pages_of v.post
   pub users : length v.last.last ≡ v.last.share.users
 
 -- likes: the accepted likes of each page that it ran are as many as its post's additions and its slice together;

@@ -6,7 +6,7 @@ use Rattle.like_requests.specs.declared.request.PageRef.TheVariants.{Known}
 use Rattle.like_requests.specs.declared.request.Request.{Request}
 use Rattle.like_requests.specs.declared.verdict.Verdict.{Verdict}
 use Rattle.like_requests.specs.declared.verdict.Verdict.TheVariants.{Accepted}
-use Rattle.like_core.specs.Post.{added, additions_of, slices}
+use Rattle.like_core.specs.Post.{added, has_read, additions_of, slices}
 use Rattle.like_tables.specs.UserTable.{last_of, with_last}
 use Rattle.like_tables.specs.declared.held.Held.{Held}
 use Rattle.like_roles.specs.declared.log.Ran.{Ran}
@@ -28,6 +28,10 @@ counted v page =
 abbrev pub liked : WorkerView → ℕ → ℕ → WorkerView
 liked v user page = let w = counted v page in record w { last = with_last v.last user page }
 
+-- a page's count was read, and was this
+abbrev pub shown : WorkerView → ℕ → ℕ → WorkerView
+shown v page count = record v { post = has_read v.post page count }
+
 -- a request of a submitter is answered, and this is what becomes of the worker: its list of what it ran aside
 pub data GivesReply (v : WorkerView) (submitter : ℕ) (r : Request) (reply : Reply) (after : WorkerView) : Type 0 where
   refuses : verdict_at v submitter r ≢ Accepted
@@ -35,7 +39,7 @@ pub data GivesReply (v : WorkerView) (submitter : ℕ) (r : Request) (reply : Re
   likes : (page : ℕ) → verdict_at v submitter r ≡ Accepted → r.op ≡ Like → r.page ≡ Known page
       → reply ≡ Liked → after ≡ liked v r.user page → GivesReply v submitter r reply after
   looks : (page count : ℕ) → verdict_at v submitter r ≡ Accepted → r.op ≡ Look → r.page ≡ Known page
-      → reply ≡ Seen (last_of v.last r.user) count → additions_of v.post page ≤ count → after ≡ v
+      → reply ≡ Seen (last_of v.last r.user) count → additions_of v.post page ≤ count → after ≡ shown v page count
       → GivesReply v submitter r reply after
 
 -- the entry of a request that runs now

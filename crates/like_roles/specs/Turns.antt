@@ -1,5 +1,5 @@
 -- The turns of a worker, case by case.
-use Rattle.std.specs.Prelude.{◌≡◌, ◌≢◌, ◌⊎◌, ℕ, ◌+◌, ◌-◌, ◌%◌, ◌<◌, ◌≤◌, ◌==◌, count_by, ⊤, Bool, true, false, List, [], ◌∷◌, ◌++◌, length, map, replicate, slice_index, slice_index_or, slice_set, Some, None}
+use Rattle.std.specs.Prelude.{◌≡◌, ◌≢◌, ◌⊎◌, ℕ, ◌+◌, ◌-◌, ◌%◌, ◌<◌, ◌≤◌, ◌==◌, if◌then◌else◌, not, count_by, filter, ⊤, Bool, true, false, List, [], ◌∷◌, ◌++◌, length, map, replicate, slice_index, slice_index_or, slice_set, Some, None}
 use Rattle.std.specs.List.{range_with_len}
 use Rattle.like_requests.specs.declared.request.Numbered.{Numbered}
 use Rattle.like_requests.specs.declared.request.Taken.{Taken}
@@ -7,7 +7,8 @@ use Rattle.like_requests.specs.declared.request.Taken.TheVariants as taken
 use Rattle.like_core.specs.declared.sight.Sight.{Sight}
 use Rattle.like_core.specs.declared.worker_state.WorkerState.TheVariants.{Gone}
 use Rattle.like_core.specs.WorkerState.{IsSightOf, RunsJoined, RunsSplit}
-use Rattle.like_core.specs.Post.{looked_at, answered, retired, pages_of, additions_of}
+use Rattle.like_core.specs.declared.view.Addition.{Addition}
+use Rattle.like_core.specs.Post.{looked_at, answered, retired, added, pages_of}
 use Rattle.like_tables.specs.declared.held.Held.{Held}
 use Rattle.like_roles.specs.declared.turn.Turn.{Turn}
 use Rattle.like_roles.specs.declared.turn.Turn.TheVariants as turn
@@ -27,21 +28,25 @@ without_first v rest = record v { held = record v.held { held = rest } }
 abbrev pub trying : WorkerView → ℕ → WorkerView
 trying v place = record v { pending = Some place; cursor = (place + 1) % length v.ended }
 
--- the slice is added to the board and emptied
+-- a page's number in a slice, as an addition in a phase
+abbrev pub slice_addition : ℕ → List ℕ → ℕ → Addition
+slice_addition phase slice page = record { phase = phase; page = page; likes = slice_index slice page }
+
+-- the additions that merge the first pages of a slice, so many: one for each whose number is not 0, in page order
+abbrev pub merging : ℕ → List ℕ → ℕ → List Addition
+merging phase slice pages = filter (λ a. not (a.likes == 0)) (map (slice_addition phase slice) (range_with_len 0 pages))
+
+-- the slice is added to the board, and emptied
 abbrev pub merged : WorkerView → WorkerView
 merged v = record v {
-  post = record v.post {
-    additions = map (λ page. additions_of v.post page + slice_index v.slice page) (range_with_len 0 (pages_of v.post));
-  };
+  post = record v.post { additions = v.post.additions ++ merging (phase_at v) v.slice (pages_of v.post) };
   slice = replicate (pages_of v.post) 0;
 }
 
--- a page's slice is added to the board and emptied
+-- a page's slice is, where it is not empty
 abbrev pub merged_page : WorkerView → ℕ → WorkerView
 merged_page v page = record v {
-  post = record v.post {
-    additions = slice_set v.post.additions page (additions_of v.post page + slice_index v.slice page);
-  };
+  post = (if slice_index v.slice page == 0 then v.post else added v.post page (slice_index v.slice page));
   slice = slice_set v.slice page 0;
 }
 
