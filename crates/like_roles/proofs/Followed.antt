@@ -1,5 +1,6 @@
 -- Each turn leads a worker that follows the plans to one that does.
-use Rattle.std.proofs.Common.{◌≡◌, ◌≢◌, ℕ, ◌+◌, ◌%◌, ◌≤◌, ◌==◌, Bool, true, false, cond, List, [], ◌∷◌, ◌++◌, length, map, get_or, set, Some, None, refl, ap, sym, ◌∙◌, inl, inr, arith, subst, append-nil, append_assoc}
+use Rattle.std.proofs.Common.{◌≡◌, ◌≢◌, ℕ, ◌+◌, ◌%◌, ◌≤◌, ◌==◌, ◌&&◌, Bool, true, false, cond, List, [], ◌∷◌, ◌++◌, length, map, get_or, set, Some, None, refl, ap, sym, ◌∙◌, inl, inr, arith, subst, append-nil, append_assoc}
+use Rattle.std.proofs.lemmas.Bool.{cases_eq, eq-eqb}
 use Rattle.std.proofs.lemmas.List.{map-append, length-replicate}
 use Rattle.std.proofs.lemmas.List.Elements.{All-head, All-tail, All-push}
 use Rattle.std.proofs.lemmas.List.Sums.{sum_by-append}
@@ -8,30 +9,33 @@ use Rattle.std.specs.Option.{option_map_or}
 use Rattle.like_requests.specs.declared.request.Numbered.{Numbered}
 use Rattle.like_requests.specs.declared.request.Request.{Request}
 use Rattle.like_requests.specs.declared.request.Taken.{Taken}
+use Rattle.like_requests.specs.declared.verdict.Verdict.TheVariants.{Accepted}
 use Rattle.like_core.specs.declared.sight.Sight.{Sight}
 use Rattle.like_core.specs.declared.worker_state.WorkerState.{WorkerState}
 use Rattle.like_core.specs.declared.worker_state.WorkerState.TheVariants as state
 use Rattle.like_core.specs.declared.view.Addition.{Addition}
 use Rattle.like_core.specs.Phase.{IsJoined, IsSplit, split}
-use Rattle.like_core.specs.WorkerState.{IsRunning, RunsJoined, RunsSome, phase_of, seen}
-use Rattle.like_core.specs.Post.{additions_of, answered, pages_of}
+use Rattle.like_core.specs.WorkerState.{IsRunning, RunsJoined, RunsSplit, RunsSome, phase_of, seen}
+use Rattle.like_core.specs.Post.{additions_in, additions_of, answered, pages_of, slices}
 use Rattle.like_tables.specs.declared.held.Held.{Held}
 use Rattle.like_roles.specs.declared.log.Took.{Took}
 use Rattle.like_roles.specs.declared.turn.Turn.{Turn}
 use Rattle.like_roles.specs.Follows.{Follows, IsAsked, IsAskedBy, IsInBlocks, IsServed, IsSized, IsTallied, Stands, entry_held, next_joined}
 use Rattle.like_roles.specs.Order.{block, entry_of, is_look_at_sliced, order_below, took_to_wait, waits}
-use Rattle.like_roles.specs.Serve.{Runs, ran_now}
+use Rattle.like_roles.specs.Replies.{page_looked_at}
+use Rattle.like_roles.specs.Serve.{Runs, ran_now, verdict_at}
 use Rattle.like_roles.specs.Service.{Service, is_split_in, marks, request_at, submitters}
 use Rattle.like_roles.specs.Turns as turns
 use Rattle.like_roles.specs.Turns.{CanGive, Gives, TakesAsk, Turns, Works, held_from, merged, merging, saw, settled, trying, with_stashed, with_taken, without_first}
 use Rattle.like_requests.specs.Setup.{IsThere}
-use Rattle.like_roles.specs.WorkerView.{WorkerView, has_to_wait, phase_at, submitter_at}
+use Rattle.like_roles.specs.WorkerView.{WorkerView, IsSliceInSplit, has_to_wait, phase_at, submitter_at}
 use Rattle.like_roles.proofs.Blocks.{block-after_joined, block-later, order_below-more, block-next-prompt, block-next-waits, order_below-prompt, order_below-waits, waits-joined}
 use Rattle.like_roles.proofs.Effects.{HasRunOne, Runs-effects}
 use Rattle.like_roles.proofs.InBlocks.{before-next, blocks-of_running, order-of_blocks, parity, running-of_blocks, runs-phase, runs-weaker}
 use Rattle.like_roles.proofs.Lists.{same_everywhere}
 use Rattle.like_roles.proofs.Merging.{merging-all}
-use Rattle.like_roles.proofs.Tallied.{GivesReply-tallied}
+use Rattle.like_roles.proofs.Shown.{after-more, cond_same, shown_by-more}
+use Rattle.like_roles.proofs.Tallied.{GivesReply-tallied, accepted-true}
 
 -- a worker that runs a phase and is in its blocks follows the plans
 follows-running : (service : Service) (v : WorkerView) → IsRunning v.post.state → IsServed service v → IsSized v → IsTallied service v → All (IsAsked service) v.held.held
@@ -48,10 +52,10 @@ follows-running service v run served sized t held b trying = record {
 
 -- what a run does to a worker that follows the plans, where the blocks after it are known
 follows-run : (service : Service) (v after : WorkerView) (h : Held) (stashed : Bool) → Runs v h stashed after → IsRunning v.post.state → v.pending ≡ None → IsServed service v → IsSized v → IsTallied service v
-    → IsAsked service h → All (IsAsked service) v.held.held → ((e : HasRunOne v h stashed after) → IsInBlocks service (record v { ran = after.ran }) (phase_at v)) → Follows service after
-follows-run service v after h stashed run here none served sized t asked held blocks =
+    → IsAsked service h → ((page : ℕ) → verdict_at v h.submitter h.ask.request ≡ Accepted → page_looked_at h.ask.request.op h.ask.request.page ≡ Some page → get_or v.slice page 0 ≡ 0) → All (IsAsked service) v.held.held → ((e : HasRunOne v h stashed after) → IsInBlocks service (record v { ran = after.ran }) (phase_at v)) → Follows service after
+follows-run service v after h stashed run here none served sized t asked clear held blocks =
     let e = Runs-effects v h stashed after run in
-    let done = GivesReply-tallied service v h stashed run.reply run.served served sized t asked run.serves in
+    let done = GivesReply-tallied service v h stashed run.reply run.served served sized t asked clear run.serves in
     let all : IsServed service after × IsSized after × IsTallied service after =
     subst (λ x. IsServed service x × IsSized x × IsTallied service x) (sym run.noted) (
       record { users = done.0.users; submitters_alike = done.0.submitters_alike; marks_alike = done.0.marks_alike },
@@ -117,12 +121,40 @@ saw-next service v sight (state.Answered k) b n = by_test sight.waits where
   by_test false = next
 saw-next service v sight state.Gone b n = absurd (n refl)
 
+-- a worker that runs no split phase has an empty slice
+empty-unsplit : (s : WorkerState) (slice : List ℕ) → ((page : ℕ) → get_or slice page 0 ≢ 0 → RunsSplit s) → (RunsSplit s → ⊥) → (page : ℕ) → get_or slice page 0 ≡ 0
+empty-unsplit s slice splits not page = elim (cases_eq (get_or slice page 0) 0) [
+  | inl none ↦ none
+  | inr some ↦ absurd (not (splits page some))
+]
+
+not-split : (s : WorkerState) → RunsJoined s → RunsSplit s → ⊥
+not-split (state.Runs k) j s = absurd (omega (arith, j, s))
+not-split (state.Answered k) j s = absurd j
+not-split state.Gone j s = absurd j
+
+-- the present phase's part of a slice is the same after a look
+saw-kept : (slice : List ℕ) (sight : Sight) (s : WorkerState) → ((page : ℕ) → get_or slice page 0 ≢ 0 → RunsSplit s) → s ≢ state.Gone → (phase page : ℕ)
+    → cond (phase_of s == phase) (get_or slice page 0) 0 ≡ cond (phase_of (seen s sight) == phase) (get_or slice page 0) 0
+saw-kept slice sight (state.Runs k) splits here phase page = refl
+saw-kept slice sight (state.Answered k) splits here phase page =
+    let none = empty-unsplit (state.Answered k) slice splits (λ s. s) page in
+    let zero_at : (b : Bool) → cond b (get_or slice page 0) 0 ≡ 0 = λ b. ap (λ (n : ℕ). cond b n 0) none ∙ cond_same b 0 in
+    zero_at (k == phase) ∙ sym (zero_at (phase_of (seen (state.Answered k) sight) == phase))
+saw-kept slice sight state.Gone splits here phase page = absurd (here refl)
+
+-- a slice is in a split phase after a look, too
+saw-splits : (slice : List ℕ) (sight : Sight) (s : WorkerState) → ((page : ℕ) → get_or slice page 0 ≢ 0 → RunsSplit s) → (page : ℕ) → get_or slice page 0 ≢ 0 → RunsSplit (seen s sight)
+saw-splits slice sight (state.Runs k) splits page some = splits page some
+saw-splits slice sight (state.Answered k) splits page some = absurd (splits page some)
+saw-splits slice sight state.Gone splits page some = absurd (splits page some)
+
 -- a look
-follows-saw : (service : Service) (v : WorkerView) (sight : Sight) → Follows service v → v.post.state ≢ state.Gone → v.pending ≡ None → Follows service (saw v sight)
-follows-saw service v sight f here none = record {
+follows-saw : (service : Service) (v : WorkerView) (sight : Sight) → Follows service v → IsSliceInSplit v.post v.slice → v.post.state ≢ state.Gone → v.pending ≡ None → Follows service (saw v sight)
+follows-saw service v sight f kept here none = record {
   served = record { users = f.served.users; submitters_alike = f.served.submitters_alike; marks_alike = f.served.marks_alike };
   sized = record { slice = f.sized.slice; users = f.sized.users };
-  tallied = record { likes = f.tallied.likes; replies = f.tallied.replies; last = f.tallied.last };
+  tallied = record { likes = f.tallied.likes; by_phase = λ phase page. f.tallied.by_phase phase page ∙ ap (λ n. additions_in v.post phase page + n) (saw-kept v.slice sight v.post.state (λ p some. (kept p some).0) here phase page); looks = f.tallied.looks; after = f.tallied.after; replies = f.tallied.replies; last = f.tallied.last };
   in_order = ap (λ zs. map entry_of v.ran ++ zs) (saw-next service v sight v.post.state f.stands here) ∙ f.in_order;
   held = f.held;
   stands = saw-stands service v sight v.post.state f.stands here;
@@ -130,9 +162,9 @@ follows-saw service v sight f here none = record {
 }
 
 -- the first of what is held runs in a joined phase
-follows-held : (service : Service) (v : WorkerView) (first : Held) (rest : List Held) (after : WorkerView) → v.pending ≡ None → Follows service v → RunsJoined v.post.state → v.held.held ≡ first ∷ rest
+follows-held : (service : Service) (v : WorkerView) (first : Held) (rest : List Held) (after : WorkerView) → v.pending ≡ None → Follows service v → IsSliceInSplit v.post v.slice → RunsJoined v.post.state → v.held.held ≡ first ∷ rest
     → Runs (without_first v rest) first true after → Follows service after
-follows-held service v first rest after none f j e run =
+follows-held service v first rest after none f kept j e run =
     let b = blocks-of_running service v IsJoined v.post.state j f.stands in
     let even = runs-phase IsJoined v.post.state j in
     let all : All (IsAsked service) (first ∷ rest) = subst (All (IsAsked service)) e f.held in
@@ -140,8 +172,8 @@ follows-held service v first rest after none f j e run =
     follows-run service (without_first v rest) after first true run (runs-weaker IsJoined (λ _. Unit {0}) v.post.state (λ _ _. tt) j) none
     (record { users = f.served.users; submitters_alike = f.served.submitters_alike; marks_alike = f.served.marks_alike })
     (record { slice = f.sized.slice; users = f.sized.users })
-    (record { likes = f.tallied.likes; replies = f.tallied.replies; last = f.tallied.last })
-    (All-head (IsAsked service) first rest all) (All-tail (IsAsked service) first rest all)
+    (record { likes = f.tallied.likes; by_phase = f.tallied.by_phase; looks = f.tallied.looks; after = f.tallied.after; replies = f.tallied.replies; last = f.tallied.last })
+    (All-head (IsAsked service) first rest all) (λ page _ _. empty-unsplit v.post.state v.slice (λ p some. (kept p some).0) (not-split v.post.state j) page) (All-tail (IsAsked service) first rest all)
     (λ r. record {
       within = b.within;
       joined = λ _. b.joined even ∙ ap (λ hs. map entry_of v.ran ++ map (entry_held k) hs) e
@@ -160,6 +192,18 @@ merged-likes v s page =
     let more = sum_by-append (λ (a : Addition). cond (a.page == page) a.likes 0) v.post.additions (merging (phase_at v) v.slice n) in
     omega arith
 
+-- and in each phase
+merged-in : (v : WorkerView) → IsSized v → (phase page : ℕ) → additions_in (merged v).post phase page + cond (phase_at v == phase) (get_or (merged v).slice page 0) 0
+    ≡ additions_in v.post phase page + cond (phase_at v == phase) (get_or v.slice page 0) 0
+merged-in v s phase page =
+    let n = pages_of v.post in
+    let none : cond (phase_at v == phase) (get_or (merged v).slice page 0) 0 ≡ 0 =
+    ap (λ (k : ℕ). cond (phase_at v == phase) k 0) (same_everywhere n page 0) ∙ cond_same (phase_at v == phase) 0
+    in
+    let all = merging-all (λ k. k == phase) (phase_at v) v.slice page n s.slice in
+    let more = sum_by-append (λ (a : Addition). cond ((a.phase == phase) && (a.page == page)) a.likes 0) v.post.additions (merging (phase_at v) v.slice n) in
+    omega arith
+
 -- a submitter is tried
 follows-trying : (service : Service) (v : WorkerView) (place : ℕ) → Follows service v → IsRunning v.post.state → (RunsJoined v.post.state → v.held.held ≡ []) → Follows service (trying v place)
 follows-trying service v place f run empty =
@@ -167,7 +211,7 @@ follows-trying service v place f run empty =
     follows-running service (trying v place) run
     (record { users = f.served.users; submitters_alike = f.served.submitters_alike; marks_alike = f.served.marks_alike })
     (record { slice = f.sized.slice; users = f.sized.users })
-    (record { likes = f.tallied.likes; replies = f.tallied.replies; last = f.tallied.last })
+    (record { likes = f.tallied.likes; by_phase = f.tallied.by_phase; looks = f.tallied.looks; after = f.tallied.after; replies = f.tallied.replies; last = f.tallied.last })
     f.held (record { within = b.within; joined = b.joined; split_ran = b.split_ran; split_held = b.split_held }) (λ _ _. empty)
 
 -- the worker answers its phase; in a joined one it holds nothing
@@ -177,7 +221,7 @@ follows-answered service v P f run none empty =
     record {
       served = record { users = f.served.users; submitters_alike = f.served.submitters_alike; marks_alike = f.served.marks_alike };
       sized = record { slice = f.sized.slice; users = f.sized.users };
-      tallied = record { likes = f.tallied.likes; replies = f.tallied.replies; last = f.tallied.last };
+      tallied = record { likes = f.tallied.likes; by_phase = f.tallied.by_phase; looks = f.tallied.looks; after = f.tallied.after; replies = f.tallied.replies; last = f.tallied.last };
       in_order = f.in_order;
       held = f.held;
       stands = (record { within = b.within; joined = b.joined; split_ran = b.split_ran; split_held = b.split_held }, empty);
@@ -190,40 +234,52 @@ follows-merged service v P f run none =
     follows-running service (merged v) (runs-weaker P (λ _. Unit {0}) v.post.state (λ _ _. tt) run)
     (record { users = f.served.users; submitters_alike = f.served.submitters_alike; marks_alike = f.served.marks_alike })
     (record { slice = length-replicate (pages_of v.post) 0; users = f.sized.users })
-    (record { likes = λ page. f.tallied.likes page ∙ sym (merged-likes v f.sized page); replies = f.tallied.replies; last = f.tallied.last })
+    (record {
+      likes = λ page. f.tallied.likes page ∙ sym (merged-likes v f.sized page);
+      by_phase = λ phase page. f.tallied.by_phase phase page ∙ sym (merged-in v f.sized phase page);
+      looks = f.tallied.looks ∙ sym (shown_by-more v.post.additions (merging (phase_at v) v.slice (pages_of v.post)) v.post.reads f.tallied.after);
+      after = after-more v.post.additions (merging (phase_at v) v.slice (pages_of v.post)) v.post.reads f.tallied.after;
+      replies = f.tallied.replies;
+      last = f.tallied.last;
+    })
     f.held (record { within = b.within; joined = b.joined; split_ran = b.split_ran; split_held = b.split_held }) (λ place e. absurd (cc (none, e)))
 
 -- a worker that runs a phase
-follows-works : (service : Service) (v : WorkerView) (ending : Bool) (answer : Turn) (after : WorkerView) → v.pending ≡ None → Follows service v → Works v ending answer after → Follows service after
-follows-works service v ending answer after none f (turns.runs_held first rest j e a run) = follows-held service v first rest after none f j e run
-follows-works service v ending answer after none f (turns.retires j e ended a x) =
+follows-works : (service : Service) (v : WorkerView) (ending : Bool) (answer : Turn) (after : WorkerView) → v.pending ≡ None → Follows service v → IsSliceInSplit v.post v.slice → Works v ending answer after → Follows service after
+follows-works service v ending answer after none f kept (turns.runs_held first rest j e a run) = follows-held service v first rest after none f kept j e run
+follows-works service v ending answer after none f kept (turns.retires j e ended a x) =
+    let none_kept = empty-unsplit v.post.state v.slice (λ p some. (kept p some).0) (not-split v.post.state j) in
+    let zero_at : (b : Bool) (page : ℕ) → cond b (get_or v.slice page 0) 0 ≡ 0 = λ b page. ap (λ (n : ℕ). cond b n 0) (none_kept page) ∙ cond_same b 0 in
+    let empties : (phase page : ℕ) → cond (phase_at v == phase) (get_or v.slice page 0) 0 ≡ cond (0 == phase) (get_or v.slice page 0) 0 =
+    λ phase page. zero_at (phase_at v == phase) page ∙ sym (zero_at (0 == phase) page)
+    in
     subst (Follows service) (sym x) (record {
       served = record { users = f.served.users; submitters_alike = f.served.submitters_alike; marks_alike = f.served.marks_alike };
       sized = record { slice = f.sized.slice; users = f.sized.users };
-      tallied = record { likes = f.tallied.likes; replies = f.tallied.replies; last = f.tallied.last };
+      tallied = record { likes = f.tallied.likes; by_phase = λ phase page. f.tallied.by_phase phase page ∙ ap (λ n. additions_in v.post phase page + n) (empties phase page); looks = f.tallied.looks; after = f.tallied.after; replies = f.tallied.replies; last = f.tallied.last };
       in_order = ap (λ hs. map entry_of v.ran ++ map (entry_held 0) hs) e ∙ ap (λ hs. map entry_of v.ran ++ map (entry_held (next_joined v)) hs) (sym e) ∙ f.in_order;
       held = f.held;
       stands = (e, ended);
       trying = λ place p. absurd (cc (none, p));
     })
-follows-works service v ending answer after none f (turns.acknowledges j e ended seen a x) =
+follows-works service v ending answer after none f kept (turns.acknowledges j e ended seen a x) =
     subst (Follows service) (sym x) (follows-answered service v IsJoined f j none (λ _. e))
-follows-works service v ending answer after none f (turns.tries_joined place j e next seen a x) =
+follows-works service v ending answer after none f kept (turns.tries_joined place j e next seen a x) =
     subst (Follows service) (sym x) (follows-trying service v place f (runs-weaker IsJoined (λ _. Unit {0}) v.post.state (λ _ _. tt) j) (λ _. e))
-follows-works service v ending answer after none f (turns.reports s seen a x) =
+follows-works service v ending answer after none f kept (turns.reports s seen a x) =
     let odd = runs-phase IsSplit v.post.state s in
     subst (Follows service) (sym x) (follows-answered service (merged v) IsSplit (follows-merged service v IsSplit f s none) s none (λ even. absurd (omega arith)))
-follows-works service v ending answer after none f (turns.idles s seen stuck a x) = subst (Follows service) (sym x) f
-follows-works service v ending answer after none f (turns.tries_split place s seen room next a x) =
+follows-works service v ending answer after none f kept (turns.idles s seen stuck a x) = subst (Follows service) (sym x) f
+follows-works service v ending answer after none f kept (turns.tries_split place s seen room next a x) =
     let odd = runs-phase IsSplit v.post.state s in
     subst (Follows service) (sym x) (follows-trying service v place f (runs-weaker IsSplit (λ _. Unit {0}) v.post.state (λ _ _. tt) s)
     (λ j. let even = runs-phase IsJoined v.post.state j in absurd (omega arith)))
 
 -- a turn
-pub follows-turn : (service : Service) (v : WorkerView) (answer : Turn) (after : WorkerView) → v.pending ≡ None → Turns v answer after → Follows service v → Follows service after
-follows-turn service v answer after none (turns.is_gone gone a x) f = subst (Follows service) (sym x) f
-follows-turn service v answer after none (turns.waits sight here i w a x) f = subst (Follows service) (sym x) (follows-saw service v sight f here none)
-follows-turn service v answer after none (turns.works sight here i w x) f = follows-works service (saw v sight) sight.ending answer after none (follows-saw service v sight f here none) x
+pub follows-turn : (service : Service) (v : WorkerView) (answer : Turn) (after : WorkerView) → v.pending ≡ None → IsSliceInSplit v.post v.slice → Turns v answer after → Follows service v → Follows service after
+follows-turn service v answer after none kept (turns.is_gone gone a x) f = subst (Follows service) (sym x) f
+follows-turn service v answer after none kept (turns.waits sight here i w a x) f = subst (Follows service) (sym x) (follows-saw service v sight f kept here none)
+follows-turn service v answer after none kept (turns.works sight here i w x) f = follows-works service (saw v sight) sight.ending answer after none (follows-saw service v sight f kept here none) (λ page some. (saw-splits v.slice sight v.post.state (λ p q. (kept p q).0) page some, (kept page some).1)) x
 
 -- what is tried is no part of what a state says
 settled-stands : (service : Service) (v : WorkerView) (s : WorkerState) → Stands service v s → Stands service (settled v) s
@@ -242,7 +298,7 @@ follows-settled : (service : Service) (v : WorkerView) → Follows service v →
 follows-settled service v f = record {
   served = record { users = f.served.users; submitters_alike = f.served.submitters_alike; marks_alike = f.served.marks_alike };
   sized = record { slice = f.sized.slice; users = f.sized.users };
-  tallied = record { likes = f.tallied.likes; replies = f.tallied.replies; last = f.tallied.last };
+  tallied = record { likes = f.tallied.likes; by_phase = f.tallied.by_phase; looks = f.tallied.looks; after = f.tallied.after; replies = f.tallied.replies; last = f.tallied.last };
   in_order = f.in_order;
   held = f.held;
   stands = settled-stands service v v.post.state f.stands;
@@ -256,11 +312,25 @@ waits-alike service v submitter r s =
     ∙ ap (λ m. is_look_at_sliced v.last.share.users m (is_split_in service (phase_at v)) submitter r) s.submitters_alike
     ∙ ap (λ xs. is_look_at_sliced v.last.share.users v.last.share.submitters (λ page. split (λ p. get_or xs p false) (phase_at v) page) submitter r) s.marks_alike
 
+-- the slice has nothing of the page of a look that need not wait
+clear-prompt : (v : WorkerView) (submitter : ℕ) (r : Request) (page : ℕ) → IsSliceInSplit v.post v.slice → has_to_wait v submitter r ≡ false → verdict_at v submitter r ≡ Accepted → page_looked_at r.op r.page ≡ Some page
+    → get_or v.slice page 0 ≡ 0
+clear-prompt v submitter r page kept prompt accepted look = elim (cases_eq (get_or v.slice page 0) 0) [
+  | inl none ↦ none
+  | inr some ↦
+      let k = kept page some in
+      let odd : phase_at v % 2 ≡ 1 = runs-phase IsSplit v.post.state k.0 in
+      let sliced : slices v.post page ≡ true = λ m. eq-eqb (phase_at v % 2) 1 odd m && k.1 m in
+      let yes = accepted-true v.last.share.users v.last.share.submitters submitter r accepted in
+      let waiting : has_to_wait v submitter r ≡ true = (λ m. yes m && option_map_or (slices v.post) (look m) false) ∙ sliced in
+      absurd (cc (waiting, prompt))
+]
+
 -- a request that is taken from the submitter at a place
-follows-takes : (service : Service) (v : WorkerView) (place : ℕ) (ask : Numbered) (answer : Turn) (after : WorkerView) → v.pending ≡ None → Follows service v → IsRunning v.post.state
+follows-takes : (service : Service) (v : WorkerView) (place : ℕ) (ask : Numbered) (answer : Turn) (after : WorkerView) → v.pending ≡ None → Follows service v → IsSliceInSplit v.post v.slice → IsRunning v.post.state
     → (RunsJoined v.post.state → v.held.held ≡ []) → request_at service (submitter_at v place) ask.number ≡ Some ask.request → IsThere (length (marks service)) ask.request.page
     → TakesAsk v place ask answer after → Follows service after
-follows-takes service v place ask answer after none f run empty asked there (turns.stashes w a x) =
+follows-takes service v place ask answer after none f kept run empty asked there (turns.stashes w a x) =
     let b = blocks-of_running service v (λ _. Unit {0}) v.post.state run f.stands in
     let t : Took = record { phase = phase_at v; submitter = submitter_at v place; number = ask.number } in
     let h : Held = held_from v place ask in
@@ -271,7 +341,7 @@ follows-takes service v place ask answer after none f run empty asked there (tur
     subst (Follows service) (sym x) (follows-running service (with_stashed (with_taken v place ask) h) run
     (record { users = f.served.users; submitters_alike = f.served.submitters_alike; marks_alike = f.served.marks_alike })
     (record { slice = f.sized.slice; users = f.sized.users })
-    (record { likes = f.tallied.likes; replies = f.tallied.replies; last = f.tallied.last })
+    (record { likes = f.tallied.likes; by_phase = f.tallied.by_phase; looks = f.tallied.looks; after = f.tallied.after; replies = f.tallied.replies; last = f.tallied.last })
     (All-push (IsAsked service) v.held.held h f.held (record { asked = asked; there = there }))
     (record {
       within = All-push (λ u. u.phase ≤ p) v.taken t b.within (omega arith);
@@ -281,7 +351,7 @@ follows-takes service v place ask answer after none f run empty asked there (tur
           ∙ ap (λ zs. zs ++ entry_held (p + 1) h ∷ []) (b.split_held s) ∙ sym (map-append (entry_held (p + 1)) v.held.held (h ∷ []));
     })
     (λ k e. absurd (cc (none, e))))
-follows-takes service v place ask answer after none f run empty asked there (turns.runs w a r) =
+follows-takes service v place ask answer after none f kept run empty asked there (turns.runs w a r) =
     let b = blocks-of_running service v (λ _. Unit {0}) v.post.state run f.stands in
     let t : Took = record { phase = phase_at v; submitter = submitter_at v place; number = ask.number } in
     let h : Held = held_from v place ask in
@@ -292,8 +362,8 @@ follows-takes service v place ask answer after none f run empty asked there (tur
     follows-run service (with_taken v place ask) after h false r run none
     (record { users = f.served.users; submitters_alike = f.served.submitters_alike; marks_alike = f.served.marks_alike })
     (record { slice = f.sized.slice; users = f.sized.users })
-    (record { likes = f.tallied.likes; replies = f.tallied.replies; last = f.tallied.last })
-    (record { asked = asked; there = there }) f.held
+    (record { likes = f.tallied.likes; by_phase = f.tallied.by_phase; looks = f.tallied.looks; after = f.tallied.after; replies = f.tallied.replies; last = f.tallied.last })
+    (record { asked = asked; there = there }) (λ page a look. clear-prompt v (submitter_at v place) ask.request page kept w a look) f.held
     (λ e.
     let ran : map entry_of v.ran ++ entry_of (ran_now (with_taken v place ask) h false e.reply) ∷ [] ≡ map entry_of after.ran =
     sym (ap (map entry_of) e.ran ∙ map-append entry_of v.ran (ran_now (with_taken v place ask) h false e.reply ∷ [])) in
@@ -308,22 +378,22 @@ follows-takes service v place ask answer after none f run empty asked there (tur
     })
 
 -- what is given
-pub follows-give : (service : Service) (v : WorkerView) (took : Taken) (answer : Turn) (after : WorkerView) → CanGive v took → IsAskedBy service v took → Gives v took answer after → Follows service v
+pub follows-give : (service : Service) (v : WorkerView) (took : Taken) (answer : Turn) (after : WorkerView) → CanGive v took → IsAskedBy service v took → IsSliceInSplit v.post v.slice → Gives v took answer after → Follows service v
     → Follows service after
-follows-give service v took answer after can asked (turns.nothing t a x) f = subst (Follows service) (sym x) (follows-settled service v f)
-follows-give service v took answer after can asked (turns.ends place p t a x) f =
+follows-give service v took answer after can asked kept (turns.nothing t a x) f = subst (Follows service) (sym x) (follows-settled service v f)
+follows-give service v took answer after can asked kept (turns.ends place p t a x) f =
     let run = (f.trying place p).0 in
     let s = follows-settled service v f in
     let b = blocks-of_running service (settled v) (λ _. Unit {0}) v.post.state run s.stands in
     subst (Follows service) (sym x) (follows-running service (record (settled v) { ended = set v.ended place true }) run
     (record { users = f.served.users; submitters_alike = f.served.submitters_alike; marks_alike = f.served.marks_alike })
     (record { slice = f.sized.slice; users = f.sized.users })
-    (record { likes = f.tallied.likes; replies = f.tallied.replies; last = f.tallied.last })
+    (record { likes = f.tallied.likes; by_phase = f.tallied.by_phase; looks = f.tallied.looks; after = f.tallied.after; replies = f.tallied.replies; last = f.tallied.last })
     f.held (record { within = b.within; joined = b.joined; split_ran = b.split_ran; split_held = b.split_held }) (λ k e. absurd (cc e)))
-follows-give service v took answer after can asked (turns.asks place ask p t x) f =
+follows-give service v took answer after can asked kept (turns.asks place ask p t x) f =
     let run = f.trying place p in
     let by_plan = (subst (λ y. IsAskedBy service v y) t asked) place p in
     let next = (subst (λ y. CanGive v y) t can) place p in
     let P : ℕ → Type 0 = λ n. IsThere n ask.request.page in
     let there = subst P (ap length (sym f.served.marks_alike)) next.there in
-    follows-takes service (settled v) place ask answer after refl (follows-settled service v f) run.0 run.1 by_plan there x
+    follows-takes service (settled v) place ask answer after refl (follows-settled service v f) kept run.0 run.1 by_plan there x

@@ -10,6 +10,7 @@ pub mod Made
 pub mod Merging
 pub mod Seats
 pub mod Served
+pub mod Shown
 pub mod Started
 pub mod Tallied
 pub mod Testing

@@ -10,6 +10,7 @@ use Rattle.like_core.specs.Post.{added, pages_of}
 use Rattle.like_core.proofs.Labels.{one_before-next}
 use Rattle.like_roles.specs.Turns.{merged, merged_page, merging, slice_addition}
 use Rattle.like_roles.specs.WorkerView.{WorkerView, phase_at}
+use Rattle.like_roles.proofs.Shown.{cond_same}
 
 -- the worker after its first n pages were merged, with this slice
 abbrev merged_below : WorkerView → ℕ → List ℕ → WorkerView
@@ -82,11 +83,6 @@ Merging-page v0 v n m h =
       emptied = below v.slice n 0 (λ _. 0) in_slice refl m.emptied;
       slice_left = above v.slice v0.slice n 0 m.slice_left;
     }
-
--- a choice between the same
-cond_same : (b : Bool) (n : ℕ) → cond b n n ≡ n
-cond_same true n = refl
-cond_same false n = refl
 
 -- a list of zeros
 zeros : (xs : List ℕ) → ((i : ℕ) → i < length xs → get_or xs i 0 ≡ 0) → xs ≡ replicate (length xs) 0

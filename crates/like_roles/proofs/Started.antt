@@ -1,13 +1,14 @@
 -- The ends of a worker's life: it starts as the plans say, and ends so.
-use Rattle.std.proofs.Common.{◌≡◌, ℕ, Bool, true, List, [], ◌++◌, length, map, get_or, Some, None, refl, ap, sym, ◌∙◌, inl, inr, arith, subst, append-nil}
+use Rattle.std.proofs.Common.{◌≡◌, ℕ, ◌≤◌, ◌==◌, cond, All, Bool, true, List, [], ◌++◌, length, map, get_or, Some, None, refl, ap, sym, ◌∙◌, inl, inr, arith, subst, append-nil}
 use Rattle.std.proofs.lemmas.Bool.{cases_eq}
 use Rattle.std.proofs.lemmas.List.{length-map, length-replicate}
+use Rattle.std.proofs.lemmas.List.Elements.{All-nil}
 use Rattle.like_requests.specs.declared.setup.Setup.{Setup}
 use Rattle.like_core.specs.declared.worker_state.WorkerState.{WorkerState}
 use Rattle.like_core.specs.declared.worker_state.WorkerState.TheVariants as state
 use Rattle.like_core.specs.WorkerState.{RunsSplit}
-use Rattle.like_core.specs.Additions.{added_to}
-use Rattle.like_core.specs.Post.{PostView, additions_of, pages_of}
+use Rattle.like_core.specs.Additions.{added_in, added_to}
+use Rattle.like_core.specs.Post.{PostView, additions_in, additions_of, pages_of}
 use Rattle.like_tables.specs.UserTable.{last_of}
 use Rattle.like_roles.specs.declared.turn.Turn.{Turn}
 use Rattle.like_roles.specs.declared.turn.Turn.TheVariants as turn
@@ -17,9 +18,11 @@ use Rattle.like_roles.specs.Order.{entry_of}
 use Rattle.like_roles.specs.Service.{Service, marks}
 use Rattle.like_roles.specs.Turns as turns
 use Rattle.like_roles.specs.Turns.{Pends, Turns, Works}
-use Rattle.like_roles.specs.WorkerView.{WorkerView, IsSliceInSplit, submitter_at}
+use Rattle.like_roles.specs.Looks.{shown_by, shown_in}
+use Rattle.like_roles.specs.WorkerView.{WorkerView, IsSliceInSplit, phase_at, submitter_at}
 use Rattle.like_roles.proofs.Effects.{Runs-effects}
 use Rattle.like_roles.proofs.Lists.{same_everywhere}
+use Rattle.like_roles.proofs.Shown.{cond_same}
 
 -- a new worker follows the plans
 pub follows-new : (s : Setup) (sizes : List ℕ) (worker : ℕ) (post : PostView) (v : WorkerView) (service : Service) → IsPostOf worker s.pages post → IsNew s sizes worker post v
@@ -30,6 +33,7 @@ follows-new s sizes worker post v service p new same =
     let additions : v.post.additions ≡ [] = ap (λ x. x.additions) new.at_post ∙ p.fresh.added_nothing in
     let state_is : v.post.state ≡ state.Runs 0 = ap (λ x. x.state) new.at_post ∙ p.fresh.runs in
     let held : v.held.held ≡ [] = ap (λ x. x.held) new.held in
+    let reads : v.post.reads ≡ [] = ap (λ x. x.reads) new.at_post ∙ p.fresh.read_nothing in
     let nothing : (page : ℕ) → additions_of v.post page ≡ 0 = λ page. ap (added_to page) additions in
     let in_slice : (page : ℕ) → get_or v.slice page 0 ≡ 0 = λ page. ap (λ xs. get_or xs page 0) new.slice ∙ same_everywhere (length s.pages) page 0 in
     let blocks : IsInBlocks service v 0 = record {
@@ -50,6 +54,12 @@ follows-new s sizes worker post v service p new same =
       };
       tallied = record {
         likes = λ page. rw new.ran (omega (arith, nothing page, in_slice page));
+        by_phase = λ phase page.
+            let none : additions_in v.post phase page ≡ 0 = ap (added_in phase page) additions in
+            let none_kept : cond (phase_at v == phase) (get_or v.slice page 0) 0 ≡ 0 = ap (λ (n : ℕ). cond (phase_at v == phase) n 0) (in_slice page) ∙ cond_same (phase_at v == phase) 0 in
+            rw new.ran (omega (arith, none, none_kept));
+        looks = ap (shown_in service) new.ran ∙ sym (ap (map (shown_by v.post.additions)) reads);
+        after = subst (All (λ r. r.after ≤ length v.post.additions)) (sym reads) (All-nil (λ r. r.after ≤ length v.post.additions));
         replies = λ i e h. let k : None ≡ Some e = rw new.ran at h in cc k;
         last = λ user. ap (λ x. last_of x user) new.last ∙ same_everywhere s.users user None ∙ rw new.ran refl;
       };
@@ -78,6 +88,10 @@ follows-done service v f gone s =
     record {
       in_order = sym (append-nil _) ∙ ap (λ hs. map entry_of v.ran ++ map (entry_held (next_joined v)) hs) (sym stands.0) ∙ f.in_order;
       likes = λ page. f.tallied.likes page ∙ omega (arith, empty-gone v gone s page);
+      by_phase = λ phase page.
+          let none : cond (phase_at v == phase) (get_or v.slice page 0) 0 ≡ 0 = ap (λ (n : ℕ). cond (phase_at v == phase) n 0) (empty-gone v gone s page) ∙ cond_same (phase_at v == phase) 0 in
+          f.tallied.by_phase phase page ∙ omega arith;
+      looks = f.tallied.looks;
       replies = f.tallied.replies;
       last = f.tallied.last;
       ended = stands.1;

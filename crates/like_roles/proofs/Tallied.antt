@@ -1,14 +1,14 @@
 -- What running a request does to likes, replies and last likes.
-use Rattle.std.proofs.Common.{◌≡◌, ◌≢◌, ℕ, ◌+◌, ◌<◌, ◌≤◌, Bool, true, false, cond, not, eqb, ltb, ◌&&◌, List, [], ◌∷◌, ◌++◌, length, get_or, set, map, take, Option, Some, None, refl, sym, ap, ◌∙◌, inl, inr, arith, append-nil, subst}
-use Rattle.std.proofs.Math.Seq.{take-append_seam}
+use Rattle.std.proofs.Common.{◌≡◌, ◌≢◌, ℕ, ◌+◌, ◌<◌, ◌≤◌, Bool, true, false, cond, not, eqb, ltb, ◌==◌, ◌&&◌, List, [], ◌∷◌, ◌++◌, length, get_or, set, map, take, Option, Some, None, refl, sym, ap, ◌∙◌, inl, inr, arith, append-nil, subst}
+use Rattle.std.proofs.Math.Seq.{take-append_seam, take-length}
 use Rattle.std.proofs.lemmas.Bool.{and_parts, cases_eq, cases_lt, eq-eqb, ltb-true, ne_eqb}
 use Rattle.std.proofs.lemmas.List.{length-append, length-set, map-append, get_or-set_same, get_or-set_other, take-append-le}
-use Rattle.std.proofs.lemmas.List.Elements.{filter-append, filter_map-append}
+use Rattle.std.proofs.lemmas.List.Elements.{All-push, filter-append, filter_map-append}
 use Rattle.std.proofs.lemmas.List.Sums.{sum_by-append}
 use Rattle.std.proofs.lemmas.Option.{slice_get_within}
 use Rattle.std.specs.List.{cons_option, filter, slice_get}
 use Rattle.std.specs.Option.{option_to_list}
-use Rattle.std.specs.Prelude.{option_and_then, IsSomeAnd}
+use Rattle.std.specs.Prelude.{All, option_and_then, option_map, IsSomeAnd}
 use Rattle.like_requests.specs.Verdict.{home, is_accepted, is_known, verdict_of}
 use Rattle.like_requests.specs.declared.request.Op.{Op}
 use Rattle.like_requests.specs.declared.request.PageRef.TheVariants as ref
@@ -16,22 +16,26 @@ use Rattle.like_requests.specs.declared.request.Request.{Request}
 use Rattle.like_requests.specs.declared.verdict.Verdict.{Verdict}
 use Rattle.like_requests.specs.declared.verdict.Verdict.TheVariants as verdict
 use Rattle.like_core.specs.WorkerState.{phase_of}
-use Rattle.like_core.specs.Post.{additions_of, pages_of}
-use Rattle.like_core.proofs.Labels.{added_to-push}
+use Rattle.like_core.specs.declared.view.PageRead.{PageRead}
+use Rattle.like_core.specs.Additions.{added_in}
+use Rattle.like_core.specs.Post.{additions_of, additions_in, pages_of}
+use Rattle.like_core.proofs.Labels.{addition, added_to-push, added_in-push}
 use Rattle.like_tables.specs.UserTable.{last_of}
 use Rattle.like_tables.specs.declared.held.Held.{Held}
 use Rattle.like_roles.specs.declared.log.Ran.{Ran}
 use Rattle.like_roles.specs.declared.reply.Reply.{Reply}
 use Rattle.like_roles.specs.declared.reply.Reply.TheVariants as reply
 use Rattle.like_roles.specs.Follows.{IsAsked, IsServed, IsSized, IsTallied}
-use Rattle.like_roles.specs.Likes.{AcceptedLike, accepted_like, last_like, last_page, like_ran, likes_ran, page_likes}
-use Rattle.like_roles.specs.Replies.{Answers, HasRightAnswers, IsRightAnswer}
+use Rattle.like_roles.specs.Likes.{AcceptedLike, accepted_like, last_like, last_page, like_ran, likes_among, likes_ran, likes_within, page_likes}
+use Rattle.like_roles.specs.Looks.{ShownCount, accepted_look, look_ran, shown_by, shown_in, shown_to}
+use Rattle.like_roles.specs.Replies.{Answers, HasRightAnswers, IsRightAnswer, page_looked_at}
 use Rattle.like_roles.specs.Serve.{GivesReply, refuses, likes, looks, counted, liked, shown, ran_now, verdict_at}
 use Rattle.like_roles.specs.Service.{Service, marks, request_of, submitters}
 use Rattle.like_requests.specs.Setup.{IsThere}
-use Rattle.like_roles.specs.WorkerView.{WorkerView}
+use Rattle.like_roles.specs.WorkerView.{WorkerView, phase_at}
 use Rattle.like_roles.proofs.Lists.{last_of-push, slice_get-at_end, slice_get-before}
 use Rattle.like_roles.proofs.Served.{counted_by}
+use Rattle.like_roles.proofs.Shown.{after-more, cond_same, shown_by-more, shown_in-none, shown_in-push}
 
 -- one more like counts for its page alone
 pub page_likes-push : (page : ℕ) (given : List AcceptedLike) (l : AcceptedLike) → page_likes page (given ++ l ∷ []) ≡ page_likes page given + cond (eqb l.page page) 1 0
@@ -53,6 +57,12 @@ likes_ran-push service ran e o h =
       one : (x : Option AcceptedLike) → cons_option x [] ≡ option_to_list x
       one None = refl
       one (Some x) = refl
+
+-- the likes among two lists of entries
+likes_among-append : (service : Service) (page : ℕ) (xs ys : List Ran) → likes_among service page (xs ++ ys) ≡ likes_among service page xs + likes_among service page ys
+likes_among-append service page xs ys =
+    ap (page_likes page) (filter_map-append (like_ran service) xs ys)
+    ∙ sum_by-append (λ x. cond (eqb x.page page) 1 0) (likes_ran service xs) (likes_ran service ys)
 
 -- the verdict of the worker is that of the service
 pub verdict_at-served : (service : Service) (v : WorkerView) (submitter : ℕ) (r : Request) → IsServed service v → verdict_at v submitter r ≡ verdict_of service.users (submitters service) submitter r
@@ -87,6 +97,10 @@ accepted_user users submitters submitter r a =
 like_ran-is : (service : Service) (e : Ran) (r : Request) → request_of service e ≡ Some r → like_ran service e ≡ accepted_like service.users (submitters service) e.submitter r
 like_ran-is service e r h = ap (option_and_then (accepted_like service.users (submitters service) e.submitter)) h
 
+-- the look that an entry of a known request ran
+look_ran-is : (service : Service) (e : Ran) (r : Request) → request_of service e ≡ Some r → look_ran service e ≡ accepted_look service.users (submitters service) e.submitter r
+look_ran-is service e r h = ap (option_and_then (accepted_look service.users (submitters service) e.submitter)) h
+
 -- one more right answer
 pub HasRightAnswers-push : (service : Service) (ran : List Ran) (e : Ran) → HasRightAnswers service ran → IsRightAnswer service ran e → HasRightAnswers service (ran ++ e ∷ [])
 HasRightAnswers-push service ran e all right i f h =
@@ -118,23 +132,58 @@ answers-refused verdict.UnknownUser o last n = refl
 answers-refused verdict.OtherHome o last n = refl
 answers-refused verdict.UnknownPage o last n = refl
 
+-- one more of a number that stands at a place
+one_more-at : (xs : List ℕ) (page other : ℕ) → page < length xs → get_or (set xs page (get_or xs page 0 + 1)) other 0 ≡ get_or xs other 0 + cond (eqb page other) 1 0
+one_more-at xs page other h =
+    elim (cases_eq page other) [
+      | inl same ↦
+          let e = eq-eqb page other same in
+          rw e (subst (λ k. get_or (set xs page (get_or xs page 0 + 1)) k 0 ≡ get_or xs k 0 + 1) same (get_or-set_same xs page (get_or xs page 0 + 1) 0 h))
+      | inr differs ↦
+          let e = ne_eqb page other differs in
+          rw e (get_or-set_other xs page other (get_or xs page 0 + 1) 0 (λ k. differs (sym k)) ∙ omega arith)
+    ]
+
 -- one more accepted like in the slice or on the board
 counted-one : (v : WorkerView) (page other : ℕ) → page < length v.slice
     → additions_of (counted v page).post other + get_or (counted v page).slice other 0 ≡ (additions_of v.post other + get_or v.slice other 0) + cond (eqb page other) 1 0
 counted-one v page other in_slice =
     counted_by (λ w. additions_of w.post other + get_or w.slice other 0 ≡ (additions_of v.post other + get_or v.slice other 0) + cond (eqb page other) 1 0)
-    v page (omega (arith, one_more v.slice in_slice)) (omega (arith, added_to-push v.post.additions (phase_of v.post.state) page 1 other))
+    v page (omega (arith, one_more-at v.slice page other in_slice)) (omega (arith, added_to-push v.post.additions (phase_of v.post.state) page 1 other))
+
+-- and in its phase
+counted-in : (v : WorkerView) (page other phase : ℕ) → page < length v.slice
+    → additions_in (counted v page).post phase other + cond (phase_at (counted v page) == phase) (get_or (counted v page).slice other 0) 0
+    ≡ (additions_in v.post phase other + cond (phase_at v == phase) (get_or v.slice other 0) 0) + cond (phase_at v == phase) (cond (page == other) 1 0) 0
+counted-in v page other phase in_slice =
+    counted_by (λ w. additions_in w.post phase other + cond (phase_at w == phase) (get_or w.slice other 0) 0 ≡ (additions_in v.post phase other + cond (phase_at v == phase) (get_or v.slice other 0) 0) + cond (phase_at v == phase) (cond (page == other) 1 0) 0)
+    v page
+    (let more = ap (λ (k : ℕ). cond (phase_at v == phase) k 0) (one_more-at v.slice page other in_slice) in
+    let parts = cond_sum (phase_at v == phase) (get_or v.slice other 0) (cond (page == other) 1 0) in
+    omega arith)
+    (let push = added_in-push v.post.additions (phase_at v) page 1 phase other in
+    let both = cond_both (phase_at v == phase) (page == other) in
+    omega arith)
   where
-    one_more : (xs : List ℕ) → page < length xs → get_or (set xs page (get_or xs page 0 + 1)) other 0 ≡ get_or xs other 0 + cond (eqb page other) 1 0
-    one_more xs h =
-        elim (cases_eq page other) [
-          | inl same ↦
-              let e = eq-eqb page other same in
-              rw e (subst (λ k. get_or (set xs page (get_or xs page 0 + 1)) k 0 ≡ get_or xs k 0 + 1) same (get_or-set_same xs page (get_or xs page 0 + 1) 0 h))
-          | inr differs ↦
-              let e = ne_eqb page other differs in
-              rw e (get_or-set_other xs page other (get_or xs page 0 + 1) 0 (λ k. differs (sym k)) ∙ omega arith)
-        ]
+    cond_sum : (b : Bool) (m n : ℕ) → cond b (m + n) 0 ≡ cond b m 0 + cond b n 0
+    cond_sum true m n = refl
+    cond_sum false m n = refl
+
+    cond_both : (b c : Bool) → cond {A = ℕ} (b && c) 1 0 ≡ cond b (cond c 1 0) 0
+    cond_both true c = refl
+    cond_both false c = refl
+
+-- it comes after all reads
+counted-after : (v : WorkerView) (page : ℕ) → All (λ r. r.after ≤ length v.post.additions) v.post.reads → All (λ r. r.after ≤ length (counted v page).post.additions) (counted v page).post.reads
+counted-after v page after =
+    counted_by (λ w. All (λ r. r.after ≤ length w.post.additions) w.post.reads) v page after
+    (after-more v.post.additions (addition (phase_at v) page 1 ∷ []) v.post.reads after)
+
+-- and changes nothing that they show
+counted-shown : (v : WorkerView) (page : ℕ) → All (λ r. r.after ≤ length v.post.additions) v.post.reads → map (shown_by v.post.additions) v.post.reads ≡ map (shown_by (counted v page).post.additions) (counted v page).post.reads
+counted-shown v page after =
+    counted_by (λ w. map (shown_by v.post.additions) v.post.reads ≡ map (shown_by w.post.additions) w.post.reads) v page refl
+    (sym (shown_by-more v.post.additions (addition (phase_at v) page 1 ∷ []) v.post.reads after))
 
 -- a like that is counted changes no size, and whom the worker serves as little
 counted-sized : (v : WorkerView) (page : ℕ) → IsSized v → IsSized (counted v page)
@@ -152,38 +201,65 @@ counted-served service v page s =
     } in
     counted_by (IsServed service) v page (same _ refl refl) (same _ refl refl)
 
+-- one more entry that ran no like changes no number of a phase
+within-none : (service : Service) (ran : List Ran) (e : Ran) (page phase : ℕ) → like_ran service e ≡ None → likes_within service page (ran ++ e ∷ []) phase ≡ likes_within service page ran phase
+within-none service ran e page phase none =
+    let p : Ran → Bool = λ x. x.phase == phase in
+    let last : (b : Bool) → page_likes page (likes_ran service (cond b (e ∷ []) [])) ≡ 0 = last_is in
+    let e_is = last (p e) in
+    ap (likes_among service page) (filter-append p ran (e ∷ [])) ∙ (likes_among-append service page (filter p ran) (cond (p e) (e ∷ []) []) ∙ omega arith)
+  where
+    last_is : (b : Bool) → page_likes page (likes_ran service (cond b (e ∷ []) [])) ≡ 0
+    last_is true = ap (page_likes page) (ap (λ (x : Option AcceptedLike). cons_option x []) none)
+    last_is false = refl
+
+-- one that ran a like adds it to those of its phase
+within-one : (service : Service) (ran : List Ran) (e : Ran) (l : AcceptedLike) (page phase : ℕ) → like_ran service e ≡ Some l → likes_within service page (ran ++ e ∷ []) phase ≡ likes_within service page ran phase + cond (e.phase == phase) (cond (l.page == page) 1 0) 0
+within-one service ran e l page phase is =
+    let p : Ran → Bool = λ x. x.phase == phase in
+    let e_is = last_is (p e) in
+    ap (likes_among service page) (filter-append p ran (e ∷ [])) ∙ (likes_among-append service page (filter p ran) (cond (p e) (e ∷ []) []) ∙ omega arith)
+  where
+    last_is : (b : Bool) → page_likes page (likes_ran service (cond b (e ∷ []) [])) ≡ cond b (cond (l.page == page) 1 0) 0
+    last_is true =
+        let one : page_likes page (l ∷ []) ≡ cond (l.page == page) 1 0 = omega arith in
+        ap (page_likes page) (ap (λ (x : Option AcceptedLike). cons_option x []) is) ∙ one
+    last_is false = refl
+
 -- what holds after an answer that is noted
 abbrev IsAfter : Service → WorkerView → Held → Bool → Reply → WorkerView → Type 0
 IsAfter service v h stashed answer w = IsServed service w × IsSized w × IsTallied service (record w { ran = v.ran ++ ran_now v h stashed answer ∷ [] })
 
--- an entry that is no accepted like changes neither likes nor last likes
-unchanged : (service : Service) (v : WorkerView) (h : Held) (stashed : Bool) (answer : Reply) → IsServed service v → IsSized v → IsTallied service v
-    → like_ran service (ran_now v h stashed answer) ≡ None → IsRightAnswer service v.ran (ran_now v h stashed answer) → IsAfter service v h stashed answer v
-unchanged service v h stashed answer served sized t none right =
+-- the worker, whose post has made these reads
+abbrev with_reads : WorkerView → List PageRead → WorkerView
+with_reads v reads = record v { post = record v.post { reads = reads } }
+
+-- an entry that is no accepted like changes neither likes nor last likes; these are the post's reads then
+unchanged : (service : Service) (v : WorkerView) (h : Held) (stashed : Bool) (answer : Reply) (reads : List PageRead) → IsServed service v → IsSized v → IsTallied service v
+    → like_ran service (ran_now v h stashed answer) ≡ None → IsRightAnswer service v.ran (ran_now v h stashed answer)
+    → shown_in service (v.ran ++ ran_now v h stashed answer ∷ []) ≡ map (shown_by v.post.additions) reads → All (λ r. r.after ≤ length v.post.additions) reads
+    → IsAfter service v h stashed answer (with_reads v reads)
+unchanged service v h stashed answer reads served sized t none right shows later =
     let e = ran_now v h stashed answer in
     let same : likes_ran service (v.ran ++ e ∷ []) ≡ likes_ran service v.ran = likes_ran-push service v.ran e None none ∙ append-nil _ in (
-      served,
-      sized,
+      record { users = served.users; submitters_alike = served.submitters_alike; marks_alike = served.marks_alike },
+      record { slice = sized.slice; users = sized.users },
       record {
         likes = λ page. ap (page_likes page) same ∙ t.likes page;
+        by_phase = λ phase page. within-none service v.ran e page phase none ∙ t.by_phase phase page;
+        looks = shows;
+        after = later;
         replies = HasRightAnswers-push service v.ran e t.replies right;
         last = λ user. t.last user ∙ ap (last_page user) (sym same);
       },
     )
 
--- a read changes none of it
-shown-after : (service : Service) (v : WorkerView) (h : Held) (stashed : Bool) (answer : Reply) (page count : ℕ) → IsAfter service v h stashed answer v → IsAfter service v h stashed answer (shown v page count)
-shown-after service v h stashed answer page count a = (
-  record { users = a.0.users; submitters_alike = a.0.submitters_alike; marks_alike = a.0.marks_alike },
-  record { slice = a.1.slice; users = a.1.users },
-  record { likes = a.2.likes; replies = a.2.replies; last = a.2.last },
-)
-
 -- an accepted like
 one_like : (service : Service) (v : WorkerView) (h : Held) (stashed : Bool) (page : ℕ) → IsServed service v → IsSized v → IsTallied service v
-    → like_ran service (ran_now v h stashed reply.Liked) ≡ Some (record { user = h.ask.request.user; page = page }) → IsRightAnswer service v.ran (ran_now v h stashed reply.Liked)
+    → like_ran service (ran_now v h stashed reply.Liked) ≡ Some (record { user = h.ask.request.user; page = page }) → look_ran service (ran_now v h stashed reply.Liked) ≡ None
+    → IsRightAnswer service v.ran (ran_now v h stashed reply.Liked)
     → page < pages_of v.post → h.ask.request.user < v.last.share.users → IsAfter service v h stashed reply.Liked (liked v h.ask.request.user page)
-one_like service v h stashed page served sized t like right in_pages in_users =
+one_like service v h stashed page served sized t like no_look right in_pages in_users =
     let e = ran_now v h stashed reply.Liked in
     let user = h.ask.request.user in
     let l : AcceptedLike = record { user = user; page = page } in
@@ -197,6 +273,12 @@ one_like service v h stashed page served sized t like right in_pages in_users =
       record {
         likes = λ other. ap (page_likes other) more ∙ page_likes-push other (likes_ran service v.ran) l ∙ ap (λ n. n + cond (eqb page other) 1 0) (t.likes other)
             ∙ sym (counted-one v page other in_slice);
+        by_phase = λ phase other.
+            within-one service v.ran e l other phase like
+            ∙ ap (λ n. n + cond (phase_at v == phase) (cond (page == other) 1 0) 0) (t.by_phase phase other)
+            ∙ sym (counted-in v page other phase in_slice);
+        looks = shown_in-none service v.ran e no_look ∙ (t.looks ∙ counted-shown v page t.after);
+        after = counted-after v page t.after;
         replies = HasRightAnswers-push service v.ran e t.replies right;
         last = λ other. elim (cases_eq user other) [
           | inl same ↦
@@ -212,28 +294,31 @@ one_like service v h stashed page served sized t like right in_pages in_users =
 
 -- whatever the answer is
 pub GivesReply-tallied : (service : Service) (v : WorkerView) (h : Held) (stashed : Bool) (answer : Reply) (w : WorkerView) → IsServed service v → IsSized v → IsTallied service v → IsAsked service h
+    → ((page : ℕ) → verdict_at v h.submitter h.ask.request ≡ verdict.Accepted → page_looked_at h.ask.request.op h.ask.request.page ≡ Some page → get_or v.slice page 0 ≡ 0)
     → GivesReply v h.submitter h.ask.request answer w → IsAfter service v h stashed answer w
-GivesReply-tallied service v h stashed answer w served sized t asked (refuses n a e) =
+GivesReply-tallied service v h stashed answer w served sized t asked clear (refuses n a e) =
     let r = h.ask.request in
     let V = verdict_at v h.submitter r in
     let V-is = verdict_at-served service v h.submitter r served in
     let x = ran_now v h stashed (reply.Refused V) in
     let no : is_accepted service.users (submitters service) h.submitter r ≡ false = accepted-false service.users (submitters service) h.submitter r (λ k. n (V-is ∙ k)) in
     let none : like_ran service x ≡ None = like_ran-is service x r asked.asked ∙ rw no refl in
+    let no_look : look_ran service x ≡ None = look_ran-is service x r asked.asked ∙ rw no refl in
     let right = right-by_request service v.ran x r asked.asked (subst (λ y. Answers y r.op (last_like service r.user v.ran) (reply.Refused V)) V-is (answers-refused V r.op _ n)) in
-    subst (λ y. IsAfter service v h stashed answer y) (sym e) (subst (λ y. IsAfter service v h stashed y v) (sym a) (unchanged service v h stashed (reply.Refused V) served sized t none right))
-GivesReply-tallied service v h stashed answer w served sized t asked (likes page a o p l e) =
+    subst (λ y. IsAfter service v h stashed answer y) (sym e) (subst (λ y. IsAfter service v h stashed y v) (sym a) (unchanged service v h stashed (reply.Refused V) v.post.reads served sized t none right (shown_in-none service v.ran x no_look ∙ t.looks) t.after))
+GivesReply-tallied service v h stashed answer w served sized t asked clear (likes page a o p l e) =
     let r = h.ask.request in
     let V-is = sym (verdict_at-served service v h.submitter r served) ∙ a in
     let yes = accepted-true service.users (submitters service) h.submitter r V-is in
     let x = ran_now v h stashed reply.Liked in
     let like : like_ran service x ≡ Some (record { user = r.user; page = page }) = like_ran-is service x r asked.asked ∙ rw (yes, o, p) refl in
+    let no_look : look_ran service x ≡ None = look_ran-is service x r asked.asked ∙ rw (yes, o) refl in
     let right = right-by_request service v.ran x r asked.asked (rw (V-is, o) refl) in
     let in_marks : IsThere (length (marks service)) (ref.Known page) = subst (λ q. IsThere (length (marks service)) q) p asked.there in
     let in_pages : page < pages_of v.post = omega (arith, ap length served.marks_alike) in
     let in_users : r.user < v.last.share.users = omega (arith, accepted_user service.users (submitters service) h.submitter r yes, served.users) in
-    subst (λ y. IsAfter service v h stashed answer y) (sym e) (subst (λ y. IsAfter service v h stashed y (liked v r.user page)) (sym l) (one_like service v h stashed page served sized t like right in_pages in_users))
-GivesReply-tallied service v h stashed answer w served sized t asked (looks page count a o p s n e) =
+    subst (λ y. IsAfter service v h stashed answer y) (sym e) (subst (λ y. IsAfter service v h stashed y (liked v r.user page)) (sym l) (one_like service v h stashed page served sized t like no_look right in_pages in_users))
+GivesReply-tallied service v h stashed answer w served sized t asked clear (looks page count a o p s n e) =
     let r = h.ask.request in
     let V-is = sym (verdict_at-served service v h.submitter r served) ∙ a in
     let yes = accepted-true service.users (submitters service) h.submitter r V-is in
@@ -241,6 +326,26 @@ GivesReply-tallied service v h stashed answer w served sized t asked (looks page
     let x = ran_now v h stashed seen in
     let none : like_ran service x ≡ None = like_ran-is service x r asked.asked ∙ rw (yes, o) refl in
     let right = right-by_request service v.ran x r asked.asked (rw (V-is, o) (t.last r.user, tt)) in
-    let same = unchanged service v h stashed seen served sized t none right in
+    let look : look_ran service x ≡ Some page = look_ran-is service x r asked.asked ∙ rw (yes, o, p) refl in
+    let now : ℕ = phase_at v in
+    let looked : page_looked_at r.op r.page ≡ Some page = rw (o, p) refl in
+    let as_many : likes_within service page v.ran now ≡ additions_in v.post now page =
+    t.by_phase now page ∙ (let none_kept = ap (λ (k : ℕ). cond (now == now) k 0) (clear page a looked) in let zero_is = cond_same (now == now) 0 in omega arith)
+    in
+    let read : PageRead = record { phase = now; page = page; count = count; after = length v.post.additions } in
+    let c : ShownCount = record { phase = now; page = page; count = count; before = likes_within service page v.ran now } in
+    let to_it : shown_to service v.ran x ≡ Some c = ap (option_map (λ (q : ℕ). record { phase = now; page = q; count = count; before = likes_within service q v.ran now })) look in
+    let by_it : c ≡ shown_by v.post.additions read =
+    ap (λ (k : ℕ). record { phase = now; page = page; count = count; before = k }) (as_many ∙ sym (ap (added_in now page) (take-length v.post.additions)))
+    in
+    let shows : shown_in service (v.ran ++ x ∷ []) ≡ map (shown_by v.post.additions) (v.post.reads ++ read ∷ []) =
+    shown_in-push service v.ran x
+    ∙ (ap (λ o. shown_in service v.ran ++ option_to_list o) to_it
+    ∙ (ap (λ l. l ++ c ∷ []) t.looks
+    ∙ (ap (λ d. map (shown_by v.post.additions) v.post.reads ++ d ∷ []) by_it
+    ∙ sym (map-append (shown_by v.post.additions) v.post.reads (read ∷ [])))))
+    in
+    let after = All-push (λ q. q.after ≤ length v.post.additions) v.post.reads read t.after (omega arith) in
     let P : Reply → Type 0 = λ y. IsAfter service v h stashed y (shown v page count) in
-    subst (λ y. IsAfter service v h stashed answer y) (sym e) (subst P (sym s) (shown-after service v h stashed seen page count same))
+    subst (λ y. IsAfter service v h stashed answer y) (sym e)
+    (subst P (sym s) (unchanged service v h stashed seen (v.post.reads ++ read ∷ []) served sized t none right shows after))

@@ -1,5 +1,5 @@
 -- What a worker has done, as the plans of its submitters say it should.
-use Rattle.std.specs.Prelude.{◌≡◌, ℕ, ◌+◌, ◌%◌, ◌≤◌, true, List, [], ◌++◌, length, map, slice_index, All, Some, ⊤}
+use Rattle.std.specs.Prelude.{◌≡◌, ℕ, ◌+◌, ◌%◌, ◌≤◌, ◌==◌, if◌then◌else◌, true, List, [], ◌++◌, length, map, slice_index, All, Some, ⊤}
 use Rattle.like_requests.specs.Pages.{Page}
 use Rattle.like_requests.specs.declared.request.Taken.{Taken}
 use Rattle.like_requests.specs.declared.request.Taken.TheVariants as taken
@@ -7,10 +7,11 @@ use Rattle.like_core.specs.declared.worker_state.WorkerState.{WorkerState}
 use Rattle.like_core.specs.declared.worker_state.WorkerState.TheVariants.{Runs, Answered, Gone}
 use Rattle.like_core.specs.Phase.{IsJoined, IsSplit}
 use Rattle.like_core.specs.WorkerState.{IsRunning, RunsJoined}
-use Rattle.like_core.specs.Post.{additions_of, pages_of}
+use Rattle.like_core.specs.Post.{additions_of, additions_in, pages_of}
 use Rattle.like_tables.specs.UserTable.{last_of}
 use Rattle.like_tables.specs.declared.held.Held.{Held}
-use Rattle.like_roles.specs.Likes.{last_like, likes_among}
+use Rattle.like_roles.specs.Likes.{last_like, likes_among, likes_within}
+use Rattle.like_roles.specs.Looks.{shown_by, shown_in}
 use Rattle.like_roles.specs.Order.{Entry, block, entry_of, order, order_below}
 use Rattle.like_roles.specs.Replies.{HasRightAnswers}
 use Rattle.like_roles.specs.Service.{Service, marks, request_at, submitters}
@@ -28,10 +29,16 @@ pub record IsSized (v : WorkerView) : Type 0 where
   pub slice : length v.slice ≡ pages_of v.post
   pub users : length v.last.last ≡ v.last.share.users
 
--- likes: the accepted likes of each page that it ran are as many as its post's additions and its slice together;
+-- likes: the accepted likes of each page that it ran are as many as its post's additions and its slice together, and so
+-- are those of each phase, where the slice is of the present one; the accepted looks that it ran are the post's reads, in
+-- order, with equal counts, and before each ran as many likes of its page in its phase as the post had added by then;
 -- replies: each reply is right, save that nothing is said of counts; and its table has each user's last like
 pub record IsTallied (service : Service) (v : WorkerView) : Type 0 where
   pub likes : (page : ℕ) → likes_among service page v.ran ≡ additions_of v.post page + slice_index v.slice page
+  pub by_phase : (phase page : ℕ) → likes_within service page v.ran phase
+      ≡ additions_in v.post phase page + (if phase_at v == phase then slice_index v.slice page else 0)
+  pub looks : shown_in service v.ran ≡ map (shown_by v.post.additions) v.post.reads
+  pub after : All (λ r. r.after ≤ length v.post.additions) v.post.reads
   pub replies : HasRightAnswers service v.ran
   pub last : (user : ℕ) → last_of v.last user ≡ last_like service user v.ran
 
@@ -93,11 +100,13 @@ pub record IsServiceOf (users : ℕ) (pages : List Page) (sizes : List ℕ) (ser
   pub sizes_are : map length service.plans ≡ sizes
 
 -- what a worker that is gone has done: it ran what it took in run order; its post's additions are the accepted likes
--- that it ran; each reply is right, save that nothing is said of counts; its table has each user's last like; and the
--- end mark of each of its submitters was taken
+-- that it ran, in each phase, and its post's reads the accepted looks; each reply is right, save that nothing is said of
+-- counts; its table has each user's last like; and the end mark of each of its submitters was taken
 pub record IsDone (service : Service) (v : WorkerView) : Type 0 where
   pub in_order : map entry_of v.ran ≡ order service v.taken
   pub likes : (page : ℕ) → likes_among service page v.ran ≡ additions_of v.post page
+  pub by_phase : (phase page : ℕ) → likes_within service page v.ran phase ≡ additions_in v.post phase page
+  pub looks : shown_in service v.ran ≡ map (shown_by v.post.additions) v.post.reads
   pub replies : HasRightAnswers service v.ran
   pub last : (user : ℕ) → last_of v.last user ≡ last_like service user v.ran
   pub ended : HasEnded v

@@ -1,6 +1,7 @@
 pub mod Service
 pub mod Likes
 pub mod Replies
+pub mod Looks
 pub mod Order
 pub mod WorkerView
 pub mod Serve

@@ -1,5 +1,6 @@
 use Rattle.std.proofs.Common.{subst}
 use Rattle.like_roles.specs.Desk.{view_of}
+use Rattle.like_roles.specs.WorkerView.{WorkerView, IsSliceInSplit}
 use Rattle.like_roles.specs.Turns.{Turns}
 use Rattle.like_roles.proofs.Followed.{follows-turn}
 use Rattle.like_roles.proofs.Keeps.{turns-keeps}
@@ -11,7 +12,8 @@ returns-clause-case g c = subst (λ v. Turns v c.turn.result (view_of (g.P.Post.
 
 pub returns-clause-follows : goal.returns-clause-follows
 returns-clause-follows g c = λ service f.
-    follows-turn service c.args.self.now c.turn.result (view_of (g.P.Post.view c.turn.new.post) c.turn.new.self) c.requires (returns-clause-case g c) f
+    let kept = subst (λ (v : WorkerView). IsSliceInSplit v.post v.slice) c.self.view_is c.self.invariant.slice in
+    follows-turn service c.args.self.now c.turn.result (view_of (g.P.Post.view c.turn.new.post) c.turn.new.self) c.requires kept (returns-clause-case g c) f
 
 pub returns-clause-pending : goal.returns-clause-pending
 returns-clause-pending g c = turns-pends c.args.self.now c.turn.result (view_of (g.P.Post.view c.turn.new.post) c.turn.new.self) c.requires (returns-clause-case g c)
