@@ -1,6 +1,6 @@
 -- What a run that has ended reports, end to end.
-use Rattle.std.proofs.Common.{◌≡◌, ℕ, zero, suc, ◌+◌, ◌<◌, ◌≤◌, ◌&&◌, eqb, List, [], ◌∷◌, length, map, get_or, slice_get, Option, Some, None, option_map, IfSome, refl, sym, ap, ◌∙◌, subst, arith, inl, inr, zero-add}
-use Rattle.std.specs.List.{All, AllZip, range_with_len, sum_by}
+use Rattle.std.proofs.Common.{◌≡◌, ℕ, zero, suc, ◌+◌, ◌<◌, ◌≤◌, ◌&&◌, nat_lt, eqb, List, [], ◌∷◌, length, map, get_or, slice_get, Option, Some, None, option_map, IfSome, refl, sym, ap, ◌∙◌, subst, arith, inl, inr, zero-add}
+use Rattle.std.specs.List.{All, AllZip, filter, range_with_len, sum_by}
 use Rattle.std.specs.Option.{option_map_or, unwrap_or}
 use Rattle.std.proofs.Math.Nat.{mod-lt}
 use Rattle.std.proofs.lemmas.List.{get_or_past}
@@ -14,9 +14,11 @@ use Rattle.like_requests.specs.Verdict.{home}
 use Rattle.like_requests.specs.declared.request.Request.{Request}
 use Rattle.like_core.specs.declared.sight.Sight.{Sight}
 use Rattle.like_core.specs.declared.opening.Opening.{Opening}
+use Rattle.like_core.specs.Additions.{added_before}
 use Rattle.like_core.specs.Post.{PostView, additions_of}
+use Rattle.like_core.specs.Reads.{AreBetween}
 use Rattle.like_board.specs.declared.worker_seat.WorkerSeat.{WorkerSeat}
-use Rattle.like_board.specs.Seats.{AreAll, BoardId, board_numbers, coord_view, last_count, seat_board, seat_meaning}
+use Rattle.like_board.specs.Seats.{AreAll, BoardId, board_numbers, coord_view, last_count, seat_board, seat_meaning, seats_before, HaveReadBetween}
 use Rattle.like_board.proofs.InOrder.{all_in_order}
 use Rattle.like_board.proofs.Meanings.{same_board}
 use Rattle.like_core.specs.declared.worker_state.WorkerState.TheVariants.{Gone}
@@ -25,14 +27,15 @@ use Rattle.like_tables.specs.UserTable.{last_of}
 use Rattle.like_roles.specs.declared.log.Ran.{Ran}
 use Rattle.like_roles.specs.declared.log.Took.{Took}
 use Rattle.like_roles.specs.declared.log.WorkerLog.{WorkerLog}
-use Rattle.like_roles.specs.Likes.{initial_count, last_like, likes, likes_among}
+use Rattle.like_roles.specs.Likes.{initial_count, last_like, likes, likes_among, likes_below}
+use Rattle.like_roles.proofs.RightCounts.{below-is, right-counts}
 use Rattle.like_roles.specs.Service.{Service, submitters}
 use Rattle.like_replies.specs.Entries.{IsRequest, entries_in, entries_of}
 use Rattle.like_crew.specs.declared.ended.Ended.{Ended}
-use Rattle.like_crew.specs.EndToEnd.{AreCounts, AreLastLikes, AreLogs, run_of, runs_of}
+use Rattle.like_crew.specs.EndToEnd.{AreCounts, AreLastLikes, AreLogs, AreRightCounts, run_of, runs_of}
 use Rattle.like_crew.specs.Gathered.{AreTables, RunsOnce}
 use Rattle.like_crew.specs.Log.{IsLog, NoneAbove, plan_of}
-use Rattle.like_crew.specs.Server.{IsLogOf, ServerView}
+use Rattle.like_crew.specs.Server.{IsLogOf, ServerView, WorksFor}
 use Rattle.like_crew.specs.Ended.{IsEnded, IsSeatOf}
 use Rattle.like_crew.specs.Servers.{IsServer}
 use Rattle.like_crew.proofs.Counted.{count-in-all, in_range}
@@ -63,6 +66,16 @@ with-fact R P (a ∷ xs) (b ∷ ys) each all = ((each zero a refl, all.0), with-
 sum-of-map : {A B : Type 0} (f : B → ℕ) (g : A → B) (xs : List A) → sum_by f (map g xs) ≡ sum_by (λ x. f (g x)) xs
 sum-of-map f g [] = refl
 sum-of-map f g (x ∷ xs) = sum_by-cons f (g x) (map g xs) ∙ ap (λ n. f (g x) + n) (sum-of-map f g xs) ∙ sym (sum_by-cons (λ y. f (g y)) x xs)
+
+-- a page's count at the start
+initial-at : (service : Service) (page : ℕ) → get_or (map (λ (p : Page). p.count) service.pages) page 0 ≡ initial_count service.pages page
+initial-at service page =
+    sym (unwrap_or-slice_get (map (λ (p : Page). p.count) service.pages) page 0) ∙ ap (λ o. unwrap_or o 0) (slice_get-map (λ (p : Page). p.count) service.pages page)
+    ∙ by_page (slice_get service.pages page)
+  where
+    by_page : (o : Option Page) → unwrap_or (option_map (λ (p : Page). p.count) o) 0 ≡ option_map_or (λ (p : Page). p.count) o 0
+    by_page None = refl
+    by_page (Some p) = refl
 
 module _ (service : Service) (workers : ℕ) (board : BoardId) (z : Opening) (e : Ended) (h : IsEnded service workers board z e) where
   -- the server of a worker
@@ -163,17 +176,43 @@ module _ (service : Service) (workers : ℕ) (board : BoardId) (z : Opening) (e 
         told page there
         ∙ ap (λ x. last_count x e.seats.items page) h.opening
         ∙ ap (λ cs. get_or cs page 0 + sum_by (λ seat. additions_of (seat_meaning seat) page) e.seats.items) initial
-        ∙ ap (λ n. n + sum_by (λ seat. additions_of (seat_meaning seat) page) e.seats.items) (initial-at page)
+        ∙ ap (λ n. n + sum_by (λ seat. additions_of (seat_meaning seat) page) e.seats.items) (initial-at service page)
         ∙ ap (λ n. initial_count service.pages page + n) (all-likes page);
-  } where
-    by_page : (o : Option Page) → unwrap_or (option_map (λ (p : Page). p.count) o) 0 ≡ option_map_or (λ (p : Page). p.count) o 0
-    by_page None = refl
-    by_page (Some p) = refl
+  }
 
-    initial-at : (page : ℕ) → get_or (map (λ (p : Page). p.count) service.pages) page 0 ≡ initial_count service.pages page
-    initial-at page =
-        sym (unwrap_or-slice_get (map (λ (p : Page). p.count) service.pages) page 0) ∙ ap (λ o. unwrap_or o 0) (slice_get-map (λ (p : Page). p.count) service.pages page)
-        ∙ by_page (slice_get service.pages page)
+  -- what all seats have added before a phase are the accepted likes that all workers ran before it
+  all-before : (phase page : ℕ) → seats_before e.seats.items phase page ≡ likes_below service page (runs_of e.logs.items) phase
+  all-before phase page =
+      sym (pairs-sum IsSeatOf (λ (s : ServerView). added_before phase page s.worker.post.additions) (λ (seat : WorkerSeat). added_before phase page (seat_meaning seat).additions) h.servers e.seats.items
+      (λ s seat m. ap (λ (p : PostView). added_before phase page p.additions) (sym m)) h.seats)
+      ∙ pairs-sum (λ (s : ServerView) (log : WorkerLog). WorksFor service s × IsLogOf s log)
+      (λ (s : ServerView). added_before phase page s.worker.post.additions) (λ (log : WorkerLog). likes_among service page (filter (λ x. nat_lt x.phase phase) log.ran.items)) h.servers e.logs.items
+      (λ s log m. sym (below-is service log.ran.items s.worker.post.additions (m.1.by_phase service m.0) phase page))
+      (with-fact IsLogOf (WorksFor service) h.servers e.logs.items (λ k s at. (server-at k s at).works) h.logs)
+      ∙ sym (sum-of-map (λ (ran : List Ran). likes_among service page (filter (λ x. nat_lt x.phase phase) ran)) (λ (log : WorkerLog). log.ran.items) e.logs.items)
+
+  -- the counts that looks were answered
+  pub seen-counts : z.counts ≡ map (λ p. p.count) service.pages → HaveReadBetween (coord_view e.coord).opening (coord_view e.coord).phase e.seats.items → AreRightCounts service e.logs.items
+  seen-counts initial reads = λ worker d within.
+      let log : WorkerLog = get_or e.logs.items worker d in
+      let at : slice_get e.logs.items worker ≡ Some log = slice_get-get_or e.logs.items worker d within in
+      let s = left-at IsLogOf h.servers e.logs.items worker log h.logs at in
+      let is = server-at worker s.0 s.1.0 in
+      let seat = right-at IsSeatOf h.servers e.seats.items worker s.0 h.seats s.1.0 in
+      let last : ℕ = (coord_view e.coord).phase in
+      let P : Opening → PostView → Type 0 = λ y p. AreBetween y.counts (seats_before e.seats.items) last p.additions p.reads in
+      let own : P (coord_view e.coord).opening (seat_meaning seat.0) =
+      subst (λ (x : WorkerSeat). P (coord_view e.coord).opening (seat_meaning x)) (get_or_from_slice_get e.seats.items worker seat.0 seat.0 seat.1.0)
+      (reads worker seat.0 (slice_get_within e.seats.items worker seat.0 seat.1.0))
+      in
+      let between : P z s.0.worker.post = subst (λ (y : Opening). P y s.0.worker.post) h.opening (subst (P (coord_view e.coord).opening) seat.1.1 own) in
+      right-counts service (runs_of e.logs.items) log.ran.items s.0.worker.post.additions s.0.worker.post.reads z.counts (seats_before e.seats.items) last
+      (λ page. ap (λ cs. get_or cs page 0) initial ∙ initial-at service page)
+      all-before
+      (s.1.1.by_phase service is.works)
+      (s.1.1.looks service is.works)
+      between
+      (log-at worker log at).answers
 
 -- the last likes of all users
 pub last-likes-are : (service : Service) (workers : ℕ) (logs : List WorkerLog) (last : List (Option ℕ)) → length logs ≡ workers → 0 < workers

@@ -7,6 +7,7 @@ use Rattle.like_tables.specs.Share.{worker_of}
 use Rattle.like_roles.specs.declared.log.Ran.{Ran}
 use Rattle.like_roles.specs.declared.log.WorkerLog.{WorkerLog}
 use Rattle.like_roles.specs.Likes.{initial_count, last_like, likes}
+use Rattle.like_roles.specs.Replies.{HasRightCounts}
 use Rattle.like_roles.specs.Service.{Service, submitters}
 use Rattle.like_replies.specs.declared.report.Report.{Report}
 use Rattle.like_replies.specs.Collected.{IsCollected, rows_of}
@@ -41,8 +42,12 @@ pub record AreLastLikes (service : Service) (workers : ℕ) (logs : List WorkerL
       → slice_get last user
       ≡ Some (last_like service user (run_of logs (worker_of workers (home (submitters service) user))))
 
+-- each look of each worker was answered a right count
+abbrev pub AreRightCounts : Service → List WorkerLog → Type 0
+AreRightCounts service logs = All (λ log. HasRightCounts service (runs_of logs) log.ran.items) logs
+
 -- end to end: there is a log for each worker; each request has the answer of its one entry; the counts and the last likes
--- are those of the run lists; and the run ended in a joined phase
+-- are those of the run lists; the run ended in a joined phase; and each look was answered a right count
 pub record IsEndToEnd (service : Service) (workers : ℕ) (r : Report) : Type 0 where
   pub workers_all : length r.logs.items ≡ workers
   pub logs : AreLogs service workers r.phases r.logs.items
@@ -50,3 +55,4 @@ pub record IsEndToEnd (service : Service) (workers : ℕ) (r : Report) : Type 0 
   pub counts : AreCounts service (runs_of r.logs.items) r.counts.items
   pub last : AreLastLikes service workers r.logs.items r.last.items
   pub joined : IsJoined r.phases
+  pub seen : AreRightCounts service r.logs.items

@@ -6,12 +6,13 @@ use Rattle.like_requests.specs.Setup.{IsPlan, IsThere}
 use Rattle.like_requests.specs.declared.setup.Setup.{Setup}
 use Rattle.like_requests.specs.declared.request.Request.{Request}
 use Rattle.like_core.specs.declared.worker_state.WorkerState.TheVariants.{Gone}
-use Rattle.like_core.specs.Post.{additions_of, pages_of}
+use Rattle.like_core.specs.Post.{additions_in, additions_of, pages_of}
 use Rattle.like_queue.specs.Inbox.{InboxView}
 use Rattle.like_tables.specs.Share.{Share, dealt, place_of, serves}
 use Rattle.like_roles.specs.Follows.{Follows}
 use Rattle.like_roles.specs.declared.log.WorkerLog.{WorkerLog}
-use Rattle.like_roles.specs.Likes.{likes_among}
+use Rattle.like_roles.specs.Likes.{likes_among, likes_within}
+use Rattle.like_roles.specs.Looks.{shown_by, shown_in}
 use Rattle.like_roles.specs.Service.{Service}
 use Rattle.like_roles.specs.WorkerView.{WorkerView, phase_at}
 use Rattle.like_crew.specs.Log.{IsLog, IsRising, NoneAbove, numbers_taken}
@@ -93,4 +94,8 @@ pub record IsLogOf (s : ServerView) (log : WorkerLog) : Type 0 where
       → IsLog service s.worker.last.share.workers s.worker.last.share.worker log
   pub additions : (service : Service) → WorksFor service s
       → (page : ℕ) → likes_among service page log.ran.items ≡ additions_of s.worker.post page
+  pub by_phase : (service : Service) → WorksFor service s
+      → (phase page : ℕ) → likes_within service page log.ran.items phase ≡ additions_in s.worker.post phase page
+  pub looks : (service : Service) → WorksFor service s
+      → shown_in service log.ran.items ≡ map (shown_by s.worker.post.additions) s.worker.post.reads
   pub above : NoneAbove s.worker.post.last log.taken.items

@@ -11,6 +11,7 @@ pub mod Merging
 pub mod Seats
 pub mod Served
 pub mod Shown
+pub mod RightCounts
 pub mod Started
 pub mod Tallied
 pub mod Testing

@@ -59,7 +59,7 @@ likes_ran-push service ran e o h =
       one (Some x) = refl
 
 -- the likes among two lists of entries
-likes_among-append : (service : Service) (page : ℕ) (xs ys : List Ran) → likes_among service page (xs ++ ys) ≡ likes_among service page xs + likes_among service page ys
+pub likes_among-append : (service : Service) (page : ℕ) (xs ys : List Ran) → likes_among service page (xs ++ ys) ≡ likes_among service page xs + likes_among service page ys
 likes_among-append service page xs ys =
     ap (page_likes page) (filter_map-append (like_ran service) xs ys)
     ∙ sum_by-append (λ x. cond (eqb x.page page) 1 0) (likes_ran service xs) (likes_ran service ys)
@@ -202,7 +202,7 @@ counted-served service v page s =
     counted_by (IsServed service) v page (same _ refl refl) (same _ refl refl)
 
 -- one more entry that ran no like changes no number of a phase
-within-none : (service : Service) (ran : List Ran) (e : Ran) (page phase : ℕ) → like_ran service e ≡ None → likes_within service page (ran ++ e ∷ []) phase ≡ likes_within service page ran phase
+pub within-none : (service : Service) (ran : List Ran) (e : Ran) (page phase : ℕ) → like_ran service e ≡ None → likes_within service page (ran ++ e ∷ []) phase ≡ likes_within service page ran phase
 within-none service ran e page phase none =
     let p : Ran → Bool = λ x. x.phase == phase in
     let last : (b : Bool) → page_likes page (likes_ran service (cond b (e ∷ []) [])) ≡ 0 = last_is in

@@ -13,7 +13,7 @@ use Rattle.like_tables.specs.Share.{worker_of}
 use Rattle.like_crew.specs.Asked.{asked, lists_of}
 use Rattle.like_crew.specs.Gathered.{AreTables, RunsOnce}
 use Rattle.like_crew.specs.Site.{opening_of}
-use Rattle.like_crew.proofs.Whole.{all-gone, all-here, are-all, counts-are, last-likes-are, log-at, logs-are, logs-size, runs-once, tables}
+use Rattle.like_crew.proofs.Whole.{all-gone, all-here, are-all, counts-are, last-likes-are, log-at, logs-are, logs-size, runs-once, seen-counts, tables}
 use Rattle.like_crew.proofs.report.report_of.Goals as goal
 
 pub final_counts-counts-requires-clause-seats_here : goal.final_counts-counts-requires-clause-seats_here
@@ -87,4 +87,5 @@ returns c =
           (ap (λ (logs : List WorkerLog). slice_get logs (worker_of (length logs) (home c.len.result user))) c.deref-3.ensures.value
           ∙ ap (λ n. slice_get e.logs.items (worker_of (length e.logs.items) (home n user))) many ∙ at));
       joined = h.joined;
+      seen = seen-counts service workers (board_id c.args.site.board) z e h refl c.final_counts-counts.ensures.reads;
     }

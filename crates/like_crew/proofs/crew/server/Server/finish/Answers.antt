@@ -2,8 +2,9 @@ use Rattle.std.proofs.Common.{◌≡◌, List, map, sym, ap, subst}
 use Rattle.like_tables.specs.UserTable.{UserTable}
 use Rattle.like_roles.specs.declared.log.Ran.{Ran}
 use Rattle.like_roles.specs.declared.log.Took.{Took}
-use Rattle.like_roles.specs.Likes.{likes_among}
-use Rattle.like_core.specs.Post.{additions_of}
+use Rattle.like_roles.specs.Likes.{likes_among, likes_within}
+use Rattle.like_roles.specs.Looks.{shown_by, shown_in}
+use Rattle.like_core.specs.Post.{additions_in, additions_of}
 use Rattle.like_crew.specs.Log.{NoneAbove}
 use Rattle.like_crew.specs.Server.{IsLogOf, ServerView}
 use Rattle.like_crew.proofs.Finishing.{log-is}
@@ -18,5 +19,9 @@ returns-clause-log g c =
           log-is service s c.finish.result.0 c.self.invariant.2 here (c.finish.ensures.done service here.follows) c.finish.ensures.taken c.finish.ensures.ran c.finish.ensures.last;
       additions = λ service here page.
           subst (λ (ran : List Ran). likes_among service page ran ≡ additions_of s.worker.post page) (sym c.finish.ensures.ran) ((c.finish.ensures.done service here.follows).likes page);
+      by_phase = λ service here phase page.
+          subst (λ (ran : List Ran). likes_within service page ran phase ≡ additions_in s.worker.post phase page) (sym c.finish.ensures.ran) ((c.finish.ensures.done service here.follows).by_phase phase page);
+      looks = λ service here.
+          subst (λ (ran : List Ran). shown_in service ran ≡ map (shown_by s.worker.post.additions) s.worker.post.reads) (sym c.finish.ensures.ran) (c.finish.ensures.done service here.follows).looks;
       above = subst (λ (taken : List Took). NoneAbove s.worker.post.last taken) (sym c.finish.ensures.taken) c.self.invariant.2.above;
     })

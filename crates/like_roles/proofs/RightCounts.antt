@@ -1,0 +1,196 @@
+-- The counts that a worker's looks were shown are right, where its post's reads lie between what all posts have added.
+use Rattle.std.proofs.Common.{◌≡◌, ◌≢◌, ℕ, zero, suc, ◌+◌, ◌<◌, ◌≤◌, ◌==◌, ◌&&◌, nat_lt, nat_le, Bool, true, false, cond, List, [], ◌∷◌, ◌++◌, All, length, get_or, map, take, drop, slice_index, Option, Some, None, subst, refl, ap, sym, ◌∙◌, inl, inr, arith}
+use Rattle.std.proofs.lemmas.Bool.{cases_lt, le-leb, lt-leb, lt-ltb, le-ltb}
+use Rattle.std.proofs.lemmas.List.{take-append-drop, append_assoc}
+use Rattle.std.proofs.lemmas.List.Elements.{filter-append}
+use Rattle.std.proofs.lemmas.List.Sums.{sum_by-append, sum_by-cons}
+use Rattle.std.proofs.lemmas.Option.{get_or_from_slice_get, slice_get_within}
+use Rattle.std.specs.List.{cons_option, filter, filter_map, range_with_len, slice_get, sum_by}
+use Rattle.std.specs.Prelude.{option_and_then, option_map, IsSomeAnd, ⊤}
+use Rattle.like_requests.specs.Verdict.{is_accepted, verdict_of}
+use Rattle.like_requests.specs.declared.request.Op.{Op}
+use Rattle.like_requests.specs.declared.request.Op.TheVariants as op
+use Rattle.like_requests.specs.declared.request.PageRef.{PageRef}
+use Rattle.like_requests.specs.declared.request.Request.{Request}
+use Rattle.like_requests.specs.declared.verdict.Verdict.{Verdict}
+use Rattle.like_requests.specs.declared.verdict.Verdict.TheVariants.{Accepted}
+use Rattle.like_core.specs.declared.view.Addition.{Addition}
+use Rattle.like_core.specs.declared.view.PageRead.{PageRead}
+use Rattle.like_core.specs.Additions.{added_in, added_before}
+use Rattle.like_core.specs.Reads.{AreBetween, IsBetween}
+use Rattle.like_core.proofs.Labels.{added_before-next, one_before-next}
+use Rattle.like_roles.specs.declared.log.Ran.{Ran}
+use Rattle.like_roles.specs.declared.reply.Reply.{Reply}
+use Rattle.like_roles.specs.declared.reply.Reply.TheVariants.{Liked, Seen, Refused}
+use Rattle.like_roles.specs.Likes.{AcceptedLike, Between, accepted_like, initial_count, last_like, like_ran, likes_among, likes_below, likes_ran, likes_up_to, likes_within, page_likes}
+use Rattle.like_roles.specs.Looks.{ShownCount, accepted_look, count_in, look_ran, shown_at, shown_by, shown_in, shown_to}
+use Rattle.like_roles.specs.Replies.{Answers, HasRightAnswers, HasRightCounts, IsSeen, page_looked_at}
+use Rattle.like_roles.specs.Service.{Service, request_of, submitters}
+use Rattle.like_roles.proofs.Tallied.{accepted-true, likes_among-append, within-none}
+
+-- what a test finds among numbers stands in the list of what it finds
+found_among : {Y : Type 0} (f : ℕ → Option Y) (a n i : ℕ) (y : Y) → a ≤ i → i < a + n → f i ≡ Some y → (k : ℕ) × (slice_get (filter_map f (range_with_len a n)) k ≡ Some y)
+found_among f a zero i y low high is = absurd (omega arith)
+found_among {Y} f a (suc n) i y low high is = elim (cases_lt a i) [
+  | inl later ↦
+      let rest = found_among f (a + 1) n i y (omega arith) (omega arith) is in
+      after_first (f a) (filter_map f (range_with_len (a + 1) n)) rest.0 rest.1
+  | inr past ↦
+      let same : i ≡ a = omega arith in
+      let here : f a ≡ Some y = ap f (sym same) ∙ is in
+      (0, ap (λ (o : Option Y). slice_get (cons_option o (filter_map f (range_with_len (a + 1) n))) 0) here)
+]
+  where
+    after_first : (o : Option Y) (rest : List Y) (k : ℕ) → slice_get rest k ≡ Some y → (j : ℕ) × (slice_get (cons_option o rest) j ≡ Some y)
+    after_first None rest k at = (k, at)
+    after_first (Some x) rest k at = (suc k, at)
+
+-- an image that stands in a list of images is that of an element there
+of_images : {X Y : Type 0} (f : X → Y) (xs : List X) (k : ℕ) (y : Y) → slice_get (map f xs) k ≡ Some y → (x : X) × (slice_get xs k ≡ Some x) × (f x ≡ y)
+of_images f [] k y at = absurd (cc at)
+of_images f (x ∷ xs) zero y at = let same : f x ≡ y = cc at in (x, refl, same)
+of_images f (x ∷ xs) (suc k) y at = of_images f xs k y at
+
+-- a list up to an element, that element, and the rest
+split_at : {X : Type 0} (xs : List X) (i : ℕ) (x : X) → slice_get xs i ≡ Some x → xs ≡ (take i xs ++ x ∷ []) ++ drop (suc i) xs
+split_at [] i x at = absurd (cc at)
+split_at (y ∷ ys) zero x at = let same : y ≡ x = cc at in (λ m. same m ∷ ys)
+split_at (y ∷ ys) (suc i) x at = ap (λ zs. y ∷ zs) (split_at ys i x at)
+
+-- up to a phase is before the next
+le_is_lt : (a b : ℕ) → nat_le a b ≡ nat_lt a (b + 1)
+le_is_lt a b = elim (cases_lt a (b + 1)) [
+  | inl less ↦ le-leb a b (omega arith) ∙ sym (lt-ltb a (b + 1) less)
+  | inr past ↦ lt-leb a b (omega arith) ∙ sym (le-ltb a (b + 1) past)
+]
+
+likes_up_to-next : (service : Service) (page : ℕ) (runs : List (List Ran)) (phase : ℕ) → likes_up_to service page runs phase ≡ likes_below service page runs (phase + 1)
+likes_up_to-next service page runs phase =
+    λ m. sum_by (λ ran. likes_among service page (filter (λ e. le_is_lt e.phase phase m) ran)) runs
+
+-- the likes of two lists in a phase
+within-append : (service : Service) (xs ys : List Ran) (page phase : ℕ) → likes_within service page (xs ++ ys) phase ≡ likes_within service page xs phase + likes_within service page ys phase
+within-append service xs ys page phase =
+    ap (likes_among service page) (filter-append (λ e. e.phase == phase) xs ys)
+    ∙ likes_among-append service page (filter (λ e. e.phase == phase) xs) (filter (λ e. e.phase == phase) ys)
+
+-- likes before no phase
+likes_before-none : (service : Service) (page : ℕ) (ran : List Ran) → likes_among service page (filter (λ e. nat_lt e.phase 0) ran) ≡ 0
+likes_before-none service page ran = ap (likes_among service page) (none ran)
+  where
+    none : (xs : List Ran) → filter (λ e. nat_lt e.phase 0) xs ≡ []
+    none [] = refl
+    none (x ∷ xs) = ap (λ (b : Bool). cond b (x ∷ filter (λ e. nat_lt e.phase 0) xs) (filter (λ e. nat_lt e.phase 0) xs)) (le-ltb x.phase 0 (omega arith)) ∙ none xs
+
+added_before-none : (additions : List Addition) (page : ℕ) → added_before 0 page additions ≡ 0
+added_before-none [] page = refl
+added_before-none (a ∷ additions) page =
+    let here : cond {A = ℕ} (nat_lt a.phase 0 && (a.page == page)) a.likes 0 ≡ 0 = ap (λ (b : Bool). cond {A = ℕ} (b && (a.page == page)) a.likes 0) (le-ltb a.phase 0 (omega arith)) in
+    let rest = added_before-none additions page in
+    omega (arith, sum_by-cons (λ (b : Addition). cond (nat_lt b.phase 0 && (b.page == page)) b.likes 0) a additions)
+
+-- likes before the next phase are those before this one and in it
+likes_before-next : (service : Service) (page : ℕ) (ran : List Ran) (phase : ℕ) → likes_among service page (filter (λ e. nat_lt e.phase (phase + 1)) ran) ≡ likes_among service page (filter (λ e. nat_lt e.phase phase) ran) + likes_within service page ran phase
+likes_before-next service page [] phase = refl
+likes_before-next service page (e ∷ ran) phase =
+    let rest = likes_before-next service page ran phase in
+    let n : ℕ = likes_among service page (e ∷ []) in
+    let here = one_before-next e.phase phase n true in
+    let first = one (nat_lt e.phase (phase + 1)) (filter (λ x. nat_lt x.phase (phase + 1)) ran) in
+    let second = one (nat_lt e.phase phase) (filter (λ x. nat_lt x.phase phase) ran) in
+    let third = one (e.phase == phase) (filter (λ x. x.phase == phase) ran) in
+    omega arith
+  where
+    one : (b : Bool) (xs : List Ran) → likes_among service page (cond b (e ∷ xs) xs) ≡ cond (b && true) (likes_among service page (e ∷ [])) 0 + likes_among service page xs
+    one true xs = likes_among-append service page (e ∷ []) xs
+    one false xs = omega arith
+
+-- what a worker has added before a phase are the likes that it ran before it
+pub below-is : (service : Service) (ran : List Ran) (additions : List Addition) → ((phase page : ℕ) → likes_within service page ran phase ≡ added_in phase page additions)
+    → (phase page : ℕ) → likes_among service page (filter (λ e. nat_lt e.phase phase) ran) ≡ added_before phase page additions
+below-is service ran additions each zero page = likes_before-none service page ran ∙ sym (added_before-none additions page)
+below-is service ran additions each (suc phase) page =
+    let e : suc phase ≡ phase + 1 = omega arith in
+    let before = below-is service ran additions each phase page in
+    let here = each phase page in
+    let likes = likes_before-next service page ran phase in
+    let added = added_before-next additions phase page in
+    let goes : likes_among service page (filter (λ x. nat_lt x.phase (phase + 1)) ran) ≡ added_before (phase + 1) page additions = omega arith in
+    subst (λ (k : ℕ). likes_among service page (filter (λ x. nat_lt x.phase k) ran) ≡ added_before k page additions) (sym e) goes
+
+-- an accepted request with a page to look at was answered by a sight
+looked : (o : Op) (p : PageRef) (page : ℕ) → page_looked_at o p ≡ Some page → o ≡ op.Look
+looked op.Look p page is = refl
+looked op.Like p page is = absurd (cc is)
+
+seen_with : (r : Reply) (P : Option ℕ → Type 0) (Q : ℕ → Type 0) → IsSeen r P (λ _. ⊤) → Q (count_in r) → IsSeen r (λ _. ⊤) Q
+seen_with (Seen last count) P Q seen q = (tt, q)
+seen_with Liked P Q seen q = absurd seen
+seen_with (Refused verdict) P Q seen q = absurd seen
+
+-- each look has the right count
+pub right-counts : (service : Service) (runs : List (List Ran)) (ran : List Ran) (additions : List Addition) (reads : List PageRead) (counts : List ℕ) (before : ℕ → ℕ → ℕ) (last : ℕ)
+    → ((page : ℕ) → slice_index counts page ≡ initial_count service.pages page)
+    → ((phase page : ℕ) → before phase page ≡ likes_below service page runs phase)
+    → ((phase page : ℕ) → likes_within service page ran phase ≡ added_in phase page additions)
+    → shown_in service ran ≡ map (shown_by additions) reads
+    → AreBetween counts before last additions reads → HasRightAnswers service ran → HasRightCounts service runs ran
+right-counts service runs ran additions reads counts before last initial below each looks between answers = λ i e at r page asked accepted look.
+    let U : ℕ = service.users in
+    let M : ℕ = submitters service in
+    let yes : is_accepted U M e.submitter r ≡ true = accepted-true U M e.submitter r accepted in
+    let page_is : look_ran service e ≡ Some page =
+    ap (option_and_then (accepted_look U M e.submitter)) asked ∙ ((λ m. cond (yes m) (page_looked_at r.op r.page) None) ∙ look)
+    in
+    let front : List Ran = take i ran in
+    let back : List Ran = drop (suc i) ran in
+    let c : ShownCount = record { phase = e.phase; page = page; count = count_in e.reply; before = likes_within service page front e.phase } in
+    let at_i : shown_at service ran i ≡ Some c =
+    ap (option_and_then (shown_to service front)) at
+    ∙ ap (option_map (λ (q : ℕ). record { phase = e.phase; page = q; count = count_in e.reply; before = likes_within service q front e.phase })) page_is
+    in
+    let found = found_among (shown_at service ran) 0 (length ran) i c (omega arith) (let w = slice_get_within ran i e at in omega arith) at_i in
+    let image : slice_get (map (shown_by additions) reads) found.0 ≡ Some c = ap (λ (l : List ShownCount). slice_get l found.0) (sym looks) ∙ found.1 in
+    let of = of_images (shown_by additions) reads found.0 c image in
+    let q : PageRead = of.0 in
+    let B : PageRead → Type 0 = λ x. (x.phase ≤ last) × IsBetween counts before additions x in
+    let b : IsBetween counts before additions q =
+    (subst B (get_or_from_slice_get reads found.0 q q of.1) (between found.0 q (slice_get_within reads found.0 q of.1))).1
+    in
+    let phase_same : q.phase ≡ e.phase = ap (λ (x : ShownCount). x.phase) of.2 in
+    let page_same : q.page ≡ page = ap (λ (x : ShownCount). x.page) of.2 in
+    let count_same : q.count ≡ count_in e.reply = ap (λ (x : ShownCount). x.count) of.2 in
+    let Own : ℕ → ℕ → Type 0 = λ k p. added_in k p (take q.after additions) ≡ likes_within service page front e.phase in
+    let own : Own e.phase page = subst (λ k. Own k page) phase_same (subst (λ p. Own q.phase p) page_same (ap (λ (x : ShownCount). x.before) of.2)) in
+    let Low : ℕ → ℕ → Type 0 = λ k p. slice_index counts p + before k p + added_in k p (take q.after additions) ≤ q.count in
+    let low : Low e.phase page = subst (λ k. Low k page) phase_same (subst (λ p. Low q.phase p) page_same b.least) in
+    let High : ℕ → ℕ → Type 0 = λ k p. q.count + added_in k p (drop q.after additions) ≤ slice_index counts p + before (k + 1) p in
+    let high : High e.phase page = subst (λ k. High k page) phase_same (subst (λ p. High q.phase p) page_same b.most) in
+    let first = initial page in
+    let earlier = below e.phase page in
+    let upto : before (e.phase + 1) page ≡ likes_up_to service page runs e.phase = below (e.phase + 1) page ∙ sym (likes_up_to-next service page runs e.phase) in
+    let is_look : r.op ≡ op.Look = looked r.op r.page page look in
+    let no_like : like_ran service e ≡ None =
+    ap (option_and_then (accepted_like U M e.submitter)) asked ∙ rw (yes, is_look) refl
+    in
+    let all_likes : likes_within service page ran e.phase ≡ likes_within service page front e.phase + likes_within service page back e.phase =
+    ap (λ (l : List Ran). likes_within service page l e.phase) (split_at ran i e at)
+    ∙ (within-append service (front ++ e ∷ []) back page e.phase
+    ∙ ap (λ (n : ℕ). n + likes_within service page back e.phase) (within-none service front e page e.phase no_like))
+    in
+    let all_added_in : added_in e.phase page additions ≡ added_in e.phase page (take q.after additions) + added_in e.phase page (drop q.after additions) =
+    ap (added_in e.phase page) (sym (take-append-drop q.after additions))
+    ∙ sum_by-append (λ (a : Addition). cond ((a.phase == e.phase) && (a.page == page)) a.likes 0) (take q.after additions) (drop q.after additions)
+    in
+    let same = each e.phase page in
+    let fits : Between service runs e.phase page (count_in e.reply) (likes_within service page front e.phase) (likes_within service page back e.phase) =
+    record { lower = omega arith; upper = omega arith }
+    in
+    let A : Option Request → Type 0 = λ o. IsSomeAnd o (λ x. Answers (verdict_of U M e.submitter x) x.op (last_like service x.user front) e.reply) in
+    let answer : Answers (verdict_of U M e.submitter r) r.op (last_like service r.user front) e.reply = subst A asked (answers i e at) in
+    let V : Verdict → Type 0 = λ v. Answers v r.op (last_like service r.user front) e.reply in
+    let O : Op → Type 0 = λ x. Answers Accepted x (last_like service r.user front) e.reply in
+    let seen = subst O is_look (subst V accepted answer) in
+    seen_with e.reply (λ shown. shown ≡ last_like service r.user front)
+    (λ count. Between service runs e.phase page count (likes_within service page front e.phase) (likes_within service page back e.phase))
+    seen fits
