@@ -1,3 +1,4 @@
 pub mod Dealt
 pub mod Owned
+pub mod PageSets
 pub mod Places

@@ -1,6 +1,9 @@
+pub mod Counted
+pub mod Liked
 pub mod Limits
+pub mod PageSet
 pub mod Places
-pub mod Queue
+pub mod Ring
 pub mod Share
 pub mod UserTable
 pub mod Waiting

@@ -3,6 +3,7 @@
 #![tactic(auto)]
 
 mod held;
+mod page_set;
 mod share;
 mod slice;
 mod stash;

@@ -1,6 +1,8 @@
-ghost use Rattle.std.specs.Prelude.{◌≡◌, ◌+◌, ◌<◌, ◌↔◌, ℕ, List, All, IfOk, IsTrue, length, replicate, slice_index, slice_set, sum};
+ghost use Rattle.std.specs.Prelude.{◌≡◌, ◌+◌, ◌<◌, ◌≤◌, ◌↔◌, ℕ, List, All, IfNone, IfOk, IfSome, IsTrue, length, replicate, slice_index, slice_set, sum};
+ghost use Rattle.like_tables.specs.Liked.{AreUnliked, IsNextLiked};
 ghost use Rattle.like_tables.specs.Limits.{max_likes};
 
+use crate::page_set::PageSet;
 use std::alloc::{AllocError, Global};
 use std::marker::Model;
 
@@ -10,15 +12,20 @@ use std::marker::Model;
 #[derive(Debug, Drop)]
 pub struct Slice {
     counts: Vec<u64>,
+    // The pages whose number is not 0.
+    liked: PageSet,
     total: u64,
 }
 
 impl Model for Slice {
+    ghost use Rattle.std.specs.Prelude.{ℕ, List};
+    ghost use Rattle.like_tables.specs.Counted.{IsCounted};
+
     ghost Value = { List ℕ };
 
     ghost view = { λ s. s.counts.items };
 
-    ghost invariant = { λ s. s.total ≡ sum s.counts.items };
+    ghost invariant = { λ s. IsCounted s.counts.items s.liked s.total };
 }
 
 impl Slice {
@@ -28,6 +35,7 @@ impl Slice {
     {
         Ok(Slice {
             counts: vec![in alloc; 0; pages as usize]?,
+            liked: PageSet::new(alloc, pages)?,
             total: 0,
         })
     }
@@ -40,6 +48,7 @@ impl Slice {
         ensures total { sum self.new ≡ sum self.old + 1 }
     {
         self.counts[page as usize] += 1;
+        self.liked.insert(page);
         self.total += 1;
     }
 
@@ -52,8 +61,18 @@ impl Slice {
     {
         let likes = self.counts[page as usize];
         self.counts[page as usize] = 0;
+        self.liked.remove(page);
         self.total -= likes;
         likes
+    }
+
+    /// The least page at or after `from` whose number is not 0, if there is one. A word tells of 64 pages at once.
+    pub fn next(&self, from: u32) -> Option<u32>
+        requires { from ≤ length self.now }
+        ensures next { IfSome result (IsNextLiked self.now from) }
+        ensures none { IfNone result (AreUnliked self.now from (length self.now)) }
+    {
+        self.liked.next(from)
     }
 
     /// How many likes it has of all pages.

@@ -3,26 +3,25 @@ ghost use Rattle.like_requests.specs.Limits.{max_stash};
 ghost use Rattle.like_tables.specs.Waiting.{IsWaiting};
 
 use crate::held::Held;
+use circular_buffer::HeapCircularBuffer;
 use std::alloc::{AllocError, Global};
-use std::collections::VecDeque;
 use std::marker::Model;
 
 /// A worker's stash: the requests of a split phase that wait for the next joined one, first in, first out.
 #[derive(Debug, Drop)]
 pub struct Stash {
-    queue: VecDeque<Held>,
-    capacity: u32,
+    ring: HeapCircularBuffer<Held>,
 }
 
 impl Model for Stash {
-    ghost use Rattle.like_tables.specs.Queue.{HasRoom, waiting_in};
-    ghost use Rattle.like_tables.specs.Waiting.{Waiting};
+    ghost use Rattle.like_tables.specs.Ring.{waiting_in};
+    ghost use Rattle.like_tables.specs.Waiting.{IsWaiting, Waiting};
 
     ghost Value = { Waiting };
 
-    ghost view = { λ s. waiting_in s.queue s.capacity };
+    ghost view = { λ s. waiting_in s.ring };
 
-    ghost invariant = { λ s. HasRoom s.queue s.capacity };
+    ghost invariant = { λ s. IsWaiting (waiting_in s.ring) };
 }
 
 impl Stash {
@@ -33,8 +32,7 @@ impl Stash {
         ensures { IfOk result (λ stash. stash ≡ record { held = []; capacity = capacity }) }
     {
         Ok(Stash {
-            queue: VecDeque::with_capacity(alloc, capacity as usize)?,
-            capacity,
+            ring: HeapCircularBuffer::with_capacity(alloc, capacity as usize)?,
         })
     }
 
@@ -43,7 +41,7 @@ impl Stash {
         requires { length self.old.held < self.old.capacity }
         ensures { self.new ≡ record self.old { held = self.old.held ++ held ∷ [] } }
     {
-        self.queue.push_back_reserved(held);
+        self.ring.push_back(held);
     }
 
     /// Gives and takes out the first request, if it holds one.
@@ -51,7 +49,7 @@ impl Stash {
         ensures first { result ≡ slice_get self.old.held 0 }
         ensures rest { self.new ≡ record self.old { held = drop 1 self.old.held } }
     {
-        self.queue.pop_front()
+        self.ring.pop_front()
     }
 
     /// Whether it holds as many requests as it has room for.
@@ -59,7 +57,7 @@ impl Stash {
         ensures full { IsTrue result ↔ (length self.now.held ≡ self.now.capacity) }
         ensures within { IsWaiting self.now }
     {
-        self.queue.len() == self.capacity as usize
+        self.ring.is_full()
     }
 
     /// How many requests it holds.
@@ -67,6 +65,6 @@ impl Stash {
         ensures len { result ≡ length self.now.held }
         ensures within { IsWaiting self.now }
     {
-        self.queue.len() as u32
+        self.ring.len() as u32
     }
 }

@@ -3,10 +3,10 @@ use like_requests::{Numbered, Op, PageRef, Request, Verdict};
 use std::alloc::{AllocError, Global};
 use std::test::Fail;
 
-// A look of user 0.
-fn held() -> Held {
+// A submitter's first look, of user 0.
+fn held_of(submitter: u32) -> Held {
     Held {
-        submitter: 0,
+        submitter,
         ask: Numbered {
             number: 1,
             request: Request {
@@ -16,6 +16,10 @@ fn held() -> Held {
             },
         },
     }
+}
+
+fn held() -> Held {
+    held_of(0)
 }
 
 #[test]
@@ -29,6 +33,22 @@ fn a_slice_gives_what_was_added(rt: HostRuntime) -> Result<(), Fail> {
     assert_eq!(rt; slice.take(1), 3);
     assert_eq!(rt; slice.take(1), 0);
     assert!(rt; slice.is_empty());
+    Ok(())
+}
+
+#[test]
+fn a_slice_is_walked_by_words(rt: HostRuntime) -> Result<(), Fail> {
+    let mut slice = Slice::new(rt.alloc(), 130)?;
+    assert_eq!(rt; slice.next(0), None);
+    for page in [0, 64, 129, 64] {
+        slice.add(page);
+    }
+    assert_eq!(rt; slice.next(0), Some(0));
+    assert_eq!(rt; slice.next(1), Some(64));
+    assert_eq!(rt; slice.next(65), Some(129));
+    assert_eq!(rt; slice.take(64), 2);
+    assert_eq!(rt; slice.next(1), Some(129));
+    assert_eq!(rt; slice.next(130), None);
     Ok(())
 }
 
@@ -62,6 +82,19 @@ fn users_are_those_of_the_worker(rt: HostRuntime) -> Result<(), Fail> {
         page: PageRef::Unknown,
     };
     assert_eq!(rt; users.judge(1, &home), Verdict::UnknownPage);
+    Ok(())
+}
+
+#[test]
+fn a_stash_goes_round(rt: HostRuntime) -> Result<(), Fail> {
+    let mut stash = Stash::new(rt.alloc(), 2)?;
+    stash.push(held_of(0));
+    stash.push(held_of(1));
+    assert_eq!(rt; stash.pop_front(), Some(held_of(0)));
+    stash.push(held_of(2));
+    assert_eq!(rt; stash.pop_front(), Some(held_of(1)));
+    assert_eq!(rt; stash.pop_front(), Some(held_of(2)));
+    assert_eq!(rt; stash.pop_front(), None);
     Ok(())
 }
 

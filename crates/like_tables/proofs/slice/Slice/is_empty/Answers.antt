@@ -13,6 +13,6 @@ sum-zero xs all = omega (arith, sum_by-le (λ x. x) 0 xs (λ k d l. omega (arith
 pub returns-clause-pages : goal.returns-clause-pages
 returns-clause-pages c =
     rw (← c.self.view_is) (
-      λ e. All-zero _ (sym c.self.invariant ∙ eqb-true c.self.inside.total 0 e),
-      λ all. eq-eqb c.self.inside.total 0 (c.self.invariant ∙ sum-zero _ all),
+      λ e. All-zero _ (sym c.self.invariant.total ∙ eqb-true c.self.inside.total 0 e),
+      λ all. eq-eqb c.self.inside.total 0 (c.self.invariant.total ∙ sum-zero _ all),
     )
