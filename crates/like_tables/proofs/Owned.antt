@@ -101,6 +101,22 @@ pub homes_below-div : (s : Share) (n : ℕ) → s.worker < s.workers → homes_b
 homes_below-div s n small =
     IsRoundedUp-one (n - s.worker) s.workers _ _ (homes_below-rounded s small n) (IsRoundedUp-div_ceil _ _ (omega arith))
 
+-- none of the submitters below the worker's first one
+pub homes_below-few : (s : Share) (n : ℕ) → s.worker < s.workers → n ≤ s.worker → homes_below s n ≡ 0
+homes_below-few s n small few =
+    IsRoundedUp-one (n - s.worker) s.workers _ 0 (homes_below-rounded s small n) (record { enough = omega arith; tight = omega arith })
+
+-- so many below the one at a seat as there are seats before it
+pub homes_below-seat : (s : Share) (seat : ℕ) → s.worker < s.workers → homes_below s (seat * s.workers + s.worker) ≡ seat
+homes_below-seat s seat small =
+    IsRoundedUp-one (seat * s.workers + s.worker - s.worker) s.workers _ seat (homes_below-rounded s small _) (record { enough = omega arith; tight = omega arith })
+
+-- all of them, where this seat is the last
+pub homes_below-seats : (s : Share) (seat : ℕ) → s.worker < s.workers → seat * s.workers + s.worker < s.submitters
+    → s.submitters ≤ seat * s.workers + s.worker + s.workers → homes_below s s.submitters ≡ seat + 1
+homes_below-seats s seat small some last =
+    IsRoundedUp-one (s.submitters - s.worker) s.workers _ (seat + 1) (homes_below-rounded s small s.submitters) (record { enough = omega arith; tight = omega arith })
+
 -- a worker that is not there serves no submitter
 serves-none : (s : Share) (n : ℕ) → 1 ≤ s.workers → s.workers ≤ s.worker → (b : Bool) → serves s n ≡ b → ◌≡◌ {A = ℕ} (cond b 1 0) 0
 serves-none s n some large true e =
@@ -152,6 +168,18 @@ owned_below-div s n some =
 
 pub rounds-le : (s : Share) (n : ℕ) → 1 ≤ s.submitters → n / s.submitters * homes_below s s.submitters ≤ n
 rounds-le s n some = omega (arith, owned_below-div s n some, owned_below-le s n)
+
+-- there are no fewer of them below a later user
+pub owned_below-mono : (s : Share) (u v : ℕ) → u ≤ v → owned_below s u ≤ owned_below s v
+owned_below-mono s u v le =
+    below_by (λ v. u ≤ v → owned_below s u ≤ owned_below s v) (λ h. let e : u ≡ 0 = omega arith in rw e (omega arith)) more v le
+  where
+    more : (v : ℕ) → (u ≤ v → owned_below s u ≤ owned_below s v) → u ≤ v + 1 → owned_below s u ≤ owned_below s (v + 1)
+    more v r h =
+        elim (cases_lt v u) [
+          | inl last ↦ let e : u ≡ v + 1 = omega arith in rw e (omega arith)
+          | inr below ↦ let p = r below in omega (arith, owned_below-more s v)
+        ]
 
 -- a user whose home the worker serves is one more of those below the next users
 pub owned_below-lt : (s : Share) (u v : ℕ) → serves_home s u ≡ true → u < v → owned_below s u < owned_below s v

@@ -1,5 +1,5 @@
 -- How a table of users is kept: a place for each user of the share, in the order of the users.
-use Rattle.std.specs.Prelude.{◌≡◌, ℕ, if◌then◌else◌, List, length, map, slice_index_or, Option, None}
+use Rattle.std.specs.Prelude.{◌≡◌, ◌<◌, ℕ, true, false, if◌then◌else◌, List, length, map, slice_index_or, Option, None}
 use Rattle.std.specs.List.{range_with_len}
 use Rattle.like_tables.specs.Share.{IsShare, Share, owned_below, owns}
 use Rattle.like_tables.specs.UserTable.{UserTable}
@@ -12,6 +12,14 @@ pub record ArePlaces (share : Share) (pages : List (Option ℕ)) : Type 0 where
 -- what stands for a user: the page at the place that is numbered by the share's users below it
 abbrev pub last_at : Share → List (Option ℕ) → ℕ → Option ℕ
 last_at share pages user = if owns share user then slice_index_or pages (owned_below share user) None else None
+
+-- what was written of so many places: to each user with such a place what stands for it, and nothing to the users of
+-- other workers
+pub record IsGiven (share : Share) (pages was now : List (Option ℕ)) (places : ℕ) : Type 0 where
+  pub len : length now ≡ length was
+  pub own : (user : ℕ) → owns share user ≡ true → owned_below share user < places
+      → slice_index_or now user None ≡ last_at share pages user
+  pub others : (user : ℕ) → owns share user ≡ false → slice_index_or now user None ≡ slice_index_or was user None
 
 -- the table that the places make
 abbrev pub table_of : Share → List (Option ℕ) → UserTable

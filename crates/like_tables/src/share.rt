@@ -1,4 +1,5 @@
-ghost use Rattle.std.specs.Prelude.{◌≡◌, ◌<◌};
+ghost use Rattle.std.specs.Prelude.{◌≡◌, ◌<◌, length};
+ghost use Rattle.like_tables.specs.Places.{ArePlaces, IsGiven};
 ghost use Rattle.like_tables.specs.Share.{homes_below, owned_below, owns, submitter_of};
 
 use std::marker::Model;
@@ -43,6 +44,26 @@ impl UserShare {
     {
         let rounds = user / self.submitters;
         rounds * self.homes_below(self.submitters) + self.homes_below(user % self.submitters)
+    }
+
+    // Writes the pages at the places of the worker's users to the places of all users. It walks over the users submitter
+    // by submitter and round by round, so that none costs a division.
+    pub fn give(&self, pages: &[Option<u32>], last: &mut [Option<u32>])
+        requires places { ArePlaces self.now pages.now }
+        requires users { length last.old ≡ self.now.users }
+        ensures { IsGiven self.now pages.now last.old last.new (length pages.now) }
+    {
+        let (submitters, workers) = (self.submitters as usize, self.workers as usize);
+        let first = self.worker as usize;
+        let (mut round, mut submitter) = (0, first);
+        for page in pages {
+            last[round + submitter] = *page;
+            submitter += workers;
+            if submitter >= submitters {
+                round += submitters;
+                submitter = first;
+            }
+        }
     }
 
     // How many of the submitters below this one the worker serves.

@@ -75,6 +75,9 @@ fn users_are_those_of_the_worker(rt: HostRuntime) -> Result<(), Fail> {
     assert_eq!(rt; users.last(3), Some(7));
     assert_eq!(rt; users.last(1), None);
     assert_eq!(rt; users.worker(), 1);
+    let mut last = [Some(9); 5];
+    users.give_to(&mut last);
+    assert_eq!(rt; last, [Some(9), None, Some(9), Some(7), Some(9)]);
     assert_eq!(rt; users.submitter_at(0), 1);
     let home = Request {
         op: Op::Like,

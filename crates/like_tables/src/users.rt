@@ -1,4 +1,4 @@
-ghost use Rattle.std.specs.Prelude.{◌≡◌, ◌≢◌, ◌<◌, ◌≤◌, ◌↔◌, ℕ, Some, IfOk, IsTrue};
+ghost use Rattle.std.specs.Prelude.{◌≡◌, ◌≢◌, ◌<◌, ◌≤◌, ◌↔◌, ℕ, None, Some, IfOk, IsTrue, false, length, slice_index_or};
 ghost use Rattle.like_requests.specs.Verdict.{is_accepted, verdict_of};
 ghost use Rattle.like_tables.specs.Share.{owns, share_of, submitter_of};
 ghost use Rattle.like_tables.specs.UserTable.{IsUserTable, last_of, table_without_likes, with_last};
@@ -107,5 +107,17 @@ impl Users {
     {
         let place = self.share.owned_below(user) as usize;
         self.pages[place] = Some(page);
+    }
+
+    /// Writes the last like of each user of the worker to the user's place, and nothing to the places of others.
+    pub fn give_to(&self, last: &mut [Option<u32>])
+        requires { length last.old ≡ self.now.share.users }
+        ensures len { length last.new ≡ length last.old }
+        ensures own { (user : ℕ) → IsTrue (owns self.now.share user)
+            → slice_index_or last.new user None ≡ last_of self.now user }
+        ensures others { (user : ℕ) → owns self.now.share user ≡ false
+            → slice_index_or last.new user None ≡ slice_index_or last.old user None }
+    {
+        self.share.give(&self.pages, last);
     }
 }
