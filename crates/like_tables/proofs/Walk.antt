@@ -1,9 +1,9 @@
 -- A walk over a worker's users in their order: submitter by submitter, and round by round.
-use Rattle.std.proofs.Common.{◌≡◌, ◌≢◌, ℕ, ◌+◌, ◌-◌, ◌*◌, ◌/◌, ◌%◌, ◌<◌, ◌≤◌, Bool, true, false, cond, List, length, get_or, set, Option, Some, None, inl, inr, refl, sym, ap, subst, ◌∙◌, arith, length-set, get_or-set_same, get_or-set_other, eq-eqb}
+use Rattle.std.proofs.Common.{◌≡◌, ◌≢◌, ℕ, ◌+◌, ◌*◌, ◌%◌, ◌<◌, ◌≤◌, true, false, List, length, get_or, set, Option, None, inl, inr, refl, sym, ap, ◌∙◌, arith, length-set, get_or-set_same, get_or-set_other, eq-eqb}
 use Rattle.std.proofs.lemmas.Bool.{cases_eq, cases_lt, lt-ltb}
 use Rattle.std.proofs.lemmas.Nat.{div-mul-add, mod-mul-add}
 use Rattle.like_tables.specs.Share.{IsShare, Share, homes_below, owned_below, owns, serves_home}
-use Rattle.like_tables.specs.Places.{IsGiven, last_at}
+use Rattle.like_tables.specs.Places.{IsGiven}
 use Rattle.like_tables.proofs.Owned.{homes_below-few, homes_below-none, homes_below-seat, homes_below-seats, owned_below-div, owned_below-mono, owned_below-other}
 use Rattle.like_tables.proofs.Places.{last_at-owned, owns-served}
 

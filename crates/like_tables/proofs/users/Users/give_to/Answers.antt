@@ -1,4 +1,4 @@
-use Rattle.std.proofs.Common.{◌∙◌, sym, arith}
+use Rattle.std.proofs.Common.{◌∙◌, sym}
 use Rattle.like_tables.proofs.Places.{last_of-table_of, owns-inside, place-lt}
 use Rattle.like_tables.proofs.users.Users.give_to.Goals as goal
 
