@@ -1,0 +1,126 @@
+"""What the checks share: the built program, runs of it that end by themselves, and how what they did is told."""
+
+import argparse
+import collections
+import contextlib
+import os
+import pwd
+import re
+import resource
+import shutil
+import signal
+import subprocess
+import sys
+import tempfile
+import threading
+import time
+
+ROOT = os.path.dirname(os.path.dirname(os.path.realpath(__file__)))
+
+# The lines of the faults that come of too little memory and too few threads.
+MEMORY = b"likes: out of memory\n"
+START = b"likes: a thread could not be started\n"
+
+# How a run ended: its status, below 0 where a signal ended it; what it wrote; how many seconds it took, and whether it
+# was stopped since it took too many; and the most memory that it held, in bytes.
+Ended = collections.namedtuple("Ended", "status out errors seconds hung memory")
+
+
+class Wrong(Exception):
+    """What a check found to be wrong."""
+
+
+def options(text):
+    """The options of a check, whose first text is its help."""
+    return argparse.ArgumentParser(description=text, formatter_class=argparse.RawDescriptionHelpFormatter)
+
+
+def not_root():
+    """The number of a user who is not root: nobody where root runs the check, else the one who runs it."""
+    return pwd.getpwnam("nobody").pw_uid if os.getuid() == 0 else os.getuid()
+
+
+@contextlib.contextmanager
+def work_folder():
+    """A folder that every user may read, with the program in it, and which is gone at the end."""
+    signal.signal(signal.SIGTERM, lambda *_: sys.exit(143))
+    with tempfile.TemporaryDirectory(prefix="likes-checks.") as folder:
+        os.chmod(folder, 0o755)
+        subprocess.run([f"{ROOT}/likes"], stdout=subprocess.DEVNULL, check=True)
+        shutil.copy(f"{ROOT}/crates/like_driver/out/like_driver", f"{folder}/likes")
+        yield folder
+
+
+def workload(folder, **numbers):
+    """Makes a workload by bench/workload, and gives its files in the order of the command line."""
+    words = [f"{name}={number}" for name, number in numbers.items()]
+    subprocess.run([f"{ROOT}/bench/workload", folder, *words], check=True)
+    requests = [name for name in os.listdir(folder) if name.startswith("requests-")]
+    return ["pages.csv", *sorted(requests, key=lambda name: (len(name), name))]
+
+
+def run(words, folder, limits=(), user=None, out=None, errors=None, seconds=60, **how):
+    """Runs a program in a folder, with limits on what it may have and as a user, and tells how it ended.
+
+    What it writes goes to `out` and `errors`, where they are given, and else is kept."""
+
+    def prepare():
+        resource.setrlimit(resource.RLIMIT_CORE, (0, 0))
+        if user is not None and user != os.getuid():
+            os.setgroups([])
+            os.setgid(user)
+            os.setuid(user)
+        for limit, most in limits:
+            resource.setrlimit(limit, (most, most))
+
+    with tempfile.TemporaryFile() as kept, tempfile.TemporaryFile() as told:
+        began = time.monotonic()
+        child = subprocess.Popen(
+            words,
+            cwd=folder,
+            stdout=kept if out is None else out,
+            stderr=told if errors is None else errors,
+            preexec_fn=prepare,
+            **{"stdin": subprocess.DEVNULL, **how},
+        )
+        timer = threading.Timer(seconds, child.kill)
+        timer.start()
+        _, code, used = os.wait4(child.pid, 0)
+        took = time.monotonic() - began
+        timer.cancel()
+        timer.join()
+        child.returncode = -os.WTERMSIG(code) if os.WIFSIGNALED(code) else os.WEXITSTATUS(code)
+        kept.seek(0)
+        told.seek(0)
+        hung = took >= seconds and child.returncode == -signal.SIGKILL
+        return Ended(child.returncode, kept.read(), told.read(), took, hung, used.ru_maxrss * 1024)
+
+
+def agreed(report):
+    """What two runs on threads agree on: all rows, in replies without phases and what looks show."""
+    return re.sub(rb"(?m)^(reply,\d+,\d+),\d+,([a-z-]+),.*$", rb"\1,\2", report)
+
+
+def shown(ended):
+    """How a run ended, in a line."""
+    if ended.hung:
+        return f"not ended after {ended.seconds:.0f} seconds"
+    ending = f"signal {-ended.status}" if ended.status < 0 else f"status {ended.status}"
+    return f"{ending}, {len(ended.out)} bytes of output, and the line {ended.errors[:200]!r}"
+
+
+def told(wrong):
+    """Prints what was found to be wrong, and ends with status 1; with status 0 where nothing was."""
+    for line in wrong[:20]:
+        print(f"wrong: {line}")
+    if len(wrong) > 20:
+        print(f"wrong: {len(wrong) - 20} more")
+    print("all held" if not wrong else "not all held")
+    sys.exit(1 if wrong else 0)
+
+
+def table(rows):
+    """Prints rows of words, the first one the heads, the first column to the left and the others to the right."""
+    widths = [max(len(str(cell)) for cell in column) for column in zip(*rows)]
+    for first, *others in rows:
+        print(f"{first:<{widths[0]}}", *(f"{cell:>{width}}" for cell, width in zip(others, widths[1:])), sep="  ")
