@@ -21,8 +21,8 @@ ROOT = os.path.dirname(os.path.dirname(os.path.realpath(__file__)))
 MEMORY = b"likes: out of memory\n"
 START = b"likes: a thread could not be started\n"
 
-# How a run ended: its status, below 0 where a signal ended it; what it wrote; how many seconds it took, and whether it
-# was stopped since it took too many; and the most memory that it held, in bytes.
+# How a run ended: its status, below 0 where a signal ended it; what it wrote; how many seconds of a processor it took;
+# whether it was stopped since it took too long; and the most memory that it held, in bytes, or this program before it.
 Ended = collections.namedtuple("Ended", "status out errors seconds hung memory")
 
 
@@ -44,6 +44,7 @@ def not_root():
 def work_folder():
     """A folder that every user may read, with the program in it, and which is gone at the end."""
     signal.signal(signal.SIGTERM, lambda *_: sys.exit(143))
+    os.umask(0o022)
     with tempfile.TemporaryDirectory(prefix="likes-checks.") as folder:
         os.chmod(folder, 0o755)
         subprocess.run([f"{ROOT}/likes"], stdout=subprocess.DEVNULL, check=True)
@@ -66,6 +67,8 @@ def run(words, folder, limits=(), user=None, out=None, errors=None, seconds=60, 
 
     def prepare():
         resource.setrlimit(resource.RLIMIT_CORE, (0, 0))
+        # A file that is at its limit is then like a full disk.
+        signal.signal(signal.SIGXFSZ, signal.SIG_IGN)
         if user is not None and user != os.getuid():
             os.setgroups([])
             os.setgid(user)
@@ -86,13 +89,14 @@ def run(words, folder, limits=(), user=None, out=None, errors=None, seconds=60, 
         timer = threading.Timer(seconds, child.kill)
         timer.start()
         _, code, used = os.wait4(child.pid, 0)
-        took = time.monotonic() - began
+        hung = time.monotonic() - began >= seconds
         timer.cancel()
         timer.join()
         child.returncode = -os.WTERMSIG(code) if os.WIFSIGNALED(code) else os.WEXITSTATUS(code)
         kept.seek(0)
         told.seek(0)
-        hung = took >= seconds and child.returncode == -signal.SIGKILL
+        hung = hung and child.returncode == -signal.SIGKILL
+        took = used.ru_utime + used.ru_stime
         return Ended(child.returncode, kept.read(), told.read(), took, hung, used.ru_maxrss * 1024)
 
 
@@ -104,7 +108,7 @@ def agreed(report):
 def shown(ended):
     """How a run ended, in a line."""
     if ended.hung:
-        return f"not ended after {ended.seconds:.0f} seconds"
+        return "not ended in time"
     ending = f"signal {-ended.status}" if ended.status < 0 else f"status {ended.status}"
     return f"{ending}, {len(ended.out)} bytes of output, and the line {ended.errors[:200]!r}"
 
