@@ -1,13 +1,13 @@
 -- The counts that a worker's looks were shown are right, where its post's reads lie between what all posts have added.
-use Rattle.std.proofs.Common.{◌≡◌, ◌≢◌, ℕ, zero, suc, ◌+◌, ◌<◌, ◌≤◌, ◌==◌, ◌&&◌, nat_lt, nat_le, Bool, true, false, cond, List, [], ◌∷◌, ◌++◌, All, length, get_or, map, take, drop, slice_index, Option, Some, None, subst, refl, ap, sym, ◌∙◌, inl, inr, arith}
+use Rattle.std.proofs.Common.{◌≡◌, ℕ, zero, suc, ◌+◌, ◌<◌, ◌≤◌, ◌==◌, ◌&&◌, nat_lt, nat_le, Bool, true, false, cond, List, [], ◌∷◌, ◌++◌, length, map, take, drop, slice_index, Option, Some, None, subst, refl, ap, sym, ◌∙◌, inl, inr, arith}
 use Rattle.std.proofs.lemmas.Bool.{cases_lt, le-leb, lt-leb, lt-ltb, le-ltb}
-use Rattle.std.proofs.lemmas.List.{take-append-drop, append_assoc}
+use Rattle.std.proofs.lemmas.List.{take-append-drop}
 use Rattle.std.proofs.lemmas.List.Elements.{filter-append}
 use Rattle.std.proofs.lemmas.List.Sums.{sum_by-append, sum_by-cons}
 use Rattle.std.proofs.lemmas.Option.{get_or_from_slice_get, slice_get_within}
 use Rattle.std.specs.List.{cons_option, filter, filter_map, range_with_len, slice_get, sum_by}
 use Rattle.std.specs.Prelude.{option_and_then, option_map, IsSomeAnd, ⊤}
-use Rattle.like_requests.specs.Verdict.{is_accepted, verdict_of}
+use Rattle.like_requests.specs.Verdict.{verdict_of}
 use Rattle.like_requests.specs.declared.request.Op.{Op}
 use Rattle.like_requests.specs.declared.request.Op.TheVariants as op
 use Rattle.like_requests.specs.declared.request.PageRef.{PageRef}
@@ -22,7 +22,7 @@ use Rattle.like_core.proofs.Labels.{added_before-next, one_before-next}
 use Rattle.like_roles.specs.declared.log.Ran.{Ran}
 use Rattle.like_roles.specs.declared.reply.Reply.{Reply}
 use Rattle.like_roles.specs.declared.reply.Reply.TheVariants.{Liked, Seen, Refused}
-use Rattle.like_roles.specs.Likes.{AcceptedLike, Between, accepted_like, initial_count, last_like, like_ran, likes_among, likes_below, likes_ran, likes_up_to, likes_within, page_likes}
+use Rattle.like_roles.specs.Likes.{Between, accepted_like, initial_count, last_like, like_ran, likes_among, likes_below, likes_up_to, likes_within}
 use Rattle.like_roles.specs.Looks.{ShownCount, accepted_look, count_in, look_ran, shown_at, shown_by, shown_in, shown_to}
 use Rattle.like_roles.specs.Replies.{Answers, HasRightAnswers, HasRightCounts, IsSeen, page_looked_at}
 use Rattle.like_roles.specs.Service.{Service, request_of, submitters}
@@ -118,15 +118,95 @@ below-is service ran additions each (suc phase) page =
     let goes : likes_among service page (filter (λ x. nat_lt x.phase (phase + 1)) ran) ≡ added_before (phase + 1) page additions = omega arith in
     subst (λ (k : ℕ). likes_among service page (filter (λ x. nat_lt x.phase k) ran) ≡ added_before k page additions) (sym e) goes
 
--- an accepted request with a page to look at was answered by a sight
+-- an accepted request with a page to look at is a look
 looked : (o : Op) (p : PageRef) (page : ℕ) → page_looked_at o p ≡ Some page → o ≡ op.Look
 looked op.Look p page is = refl
 looked op.Like p page is = absurd (cc is)
 
-seen_with : (r : Reply) (P : Option ℕ → Type 0) (Q : ℕ → Type 0) → IsSeen r P (λ _. ⊤) → Q (count_in r) → IsSeen r (λ _. ⊤) Q
-seen_with (Seen last count) P Q seen q = (tt, q)
-seen_with Liked P Q seen q = absurd seen
-seen_with (Refused verdict) P Q seen q = absurd seen
+-- the page of the accepted look that an entry ran
+look-is : (service : Service) (e : Ran) (r : Request) (page : ℕ) → request_of service e ≡ Some r → verdict_of service.users (submitters service) e.submitter r ≡ Accepted
+    → page_looked_at r.op r.page ≡ Some page → look_ran service e ≡ Some page
+look-is service e r page asked accepted look =
+    ap (option_and_then (accepted_look service.users (submitters service) e.submitter)) asked
+    ∙ (ap (λ (b : Bool). cond b (page_looked_at r.op r.page) None) (accepted-true service.users (submitters service) e.submitter r accepted) ∙ look)
+
+-- which is no like
+no-like : (service : Service) (e : Ran) (r : Request) (page : ℕ) → request_of service e ≡ Some r → verdict_of service.users (submitters service) e.submitter r ≡ Accepted
+    → page_looked_at r.op r.page ≡ Some page → like_ran service e ≡ None
+no-like service e r page asked accepted look =
+    let yes = accepted-true service.users (submitters service) e.submitter r accepted in
+    let is_look = looked r.op r.page page look in
+    ap (option_and_then (accepted_like service.users (submitters service) e.submitter)) asked ∙ rw (yes, is_look) refl
+
+-- it was answered by a sight, which has any property that its count has
+answered : (verdict : Verdict) (o : Op) (last : Option ℕ) (reply : Reply) (Q : ℕ → Type 0) → verdict ≡ Accepted → o ≡ op.Look → Answers verdict o last reply → Q (count_in reply) → IsSeen reply (λ _. ⊤) Q
+answered verdict o last reply Q accepted is_look answer q = seen reply (subst (λ x. Answers Accepted x last reply) is_look (subst (λ v. Answers v o last reply) accepted answer)) q
+  where
+    seen : (given : Reply) → Answers Accepted op.Look last given → Q (count_in given) → IsSeen given (λ _. ⊤) Q
+    seen (Seen shown count) at q = (tt, q)
+    seen Liked at q = absurd at
+    seen (Refused v) at q = absurd at
+
+-- what an entry that ran a look at a page was shown after these
+abbrev shown_as : Service → List Ran → Ran → ℕ → ShownCount
+shown_as service front e page = record { phase = e.phase; page = page; count = count_in e.reply; before = likes_within service page front e.phase }
+
+shown_at-look : (service : Service) (ran : List Ran) (i : ℕ) (e : Ran) (page : ℕ) → slice_get ran i ≡ Some e → look_ran service e ≡ Some page → shown_at service ran i ≡ Some (shown_as service (take i ran) e page)
+shown_at-look service ran i e page at look =
+    ap (option_and_then (shown_to service (take i ran))) at ∙ ap (option_map (λ (p : ℕ). shown_as service (take i ran) e p)) look
+
+-- the read that shows what the look at a place was shown
+read-of : (service : Service) (ran : List Ran) (additions : List Addition) (reads : List PageRead) (i : ℕ) (c : ShownCount) → shown_in service ran ≡ map (shown_by additions) reads
+    → i < length ran → shown_at service ran i ≡ Some c → (r : PageRead) × ((k : ℕ) × (slice_get reads k ≡ Some r)) × (shown_by additions r ≡ c)
+read-of service ran additions reads i c looks within at =
+    let found = found_among (shown_at service ran) 0 (length ran) i c (omega arith) (omega arith) at in
+    let of = of_images (shown_by additions) reads found.0 c (ap (λ (l : List ShownCount). slice_get l found.0) (sym looks) ∙ found.1) in
+    (of.0, (found.0, of.1), of.2)
+
+-- a page's additions in a phase, the first of them and the others
+added_in-parts : (phase page n : ℕ) (additions : List Addition) → added_in phase page additions ≡ added_in phase page (take n additions) + added_in phase page (drop n additions)
+added_in-parts phase page n additions =
+    ap (added_in phase page) (sym (take-append-drop n additions))
+    ∙ sum_by-append (λ (a : Addition). cond ((a.phase == phase) && (a.page == page)) a.likes 0) (take n additions) (drop n additions)
+
+-- what a look was shown lies between what all have added before its phase and up to it, less its worker's own after it
+record IsBounded (counts : List ℕ) (before : ℕ → ℕ → ℕ) (additions : List Addition) (c : ShownCount) : Type 0 where
+  least : slice_index counts c.page + before c.phase c.page + c.before ≤ c.count
+  most : c.count + added_in c.phase c.page additions ≤ slice_index counts c.page + before (c.phase + 1) c.page + c.before
+
+bounded-by : (counts : List ℕ) (before : ℕ → ℕ → ℕ) (additions : List Addition) (r : PageRead) → IsBetween counts before additions r → IsBounded counts before additions (shown_by additions r)
+bounded-by counts before additions r b =
+    let parts = added_in-parts r.phase r.page r.after additions in
+    record { least = b.least; most = omega (arith, b.most) }
+
+-- so does what each look was shown
+bounded : (service : Service) (ran : List Ran) (additions : List Addition) (reads : List PageRead) (counts : List ℕ) (before : ℕ → ℕ → ℕ) (last i : ℕ) (c : ShownCount)
+    → shown_in service ran ≡ map (shown_by additions) reads → AreBetween counts before last additions reads → i < length ran → shown_at service ran i ≡ Some c → IsBounded counts before additions c
+bounded service ran additions reads counts before last i c looks between within at = of (read-of service ran additions reads i c looks within at)
+  where
+    of : (r : PageRead) × ((k : ℕ) × (slice_get reads k ≡ Some r)) × (shown_by additions r ≡ c) → IsBounded counts before additions c
+    of (r, (k, at_k), shows) =
+        let B : PageRead → Type 0 = λ x. (x.phase ≤ last) × IsBetween counts before additions x in
+        let b : B r = subst B (get_or_from_slice_get reads k r r at_k) (between k r (slice_get_within reads k r at_k)) in
+        subst (IsBounded counts before additions) shows (bounded-by counts before additions r b.1)
+
+-- the likes of a phase before a look and after it are all
+likes-around : (service : Service) (ran : List Ran) (i : ℕ) (e : Ran) (page phase : ℕ) → slice_get ran i ≡ Some e → like_ran service e ≡ None
+    → likes_within service page ran phase ≡ likes_within service page (take i ran) phase + likes_within service page (drop (suc i) ran) phase
+likes-around service ran i e page phase at no_like =
+    ap (λ (l : List Ran). likes_within service page l phase) (split_at ran i e at)
+    ∙ (within-append service (take i ran ++ e ∷ []) (drop (suc i) ran) page phase
+    ∙ ap (λ (n : ℕ). n + likes_within service page (drop (suc i) ran) phase) (within-none service (take i ran) e page phase no_like))
+
+-- bounds on what a look was shown are those of its phase
+between-of : (service : Service) (runs : List (List Ran)) (additions : List Addition) (counts : List ℕ) (before : ℕ → ℕ → ℕ) (c : ShownCount) (after : ℕ)
+    → slice_index counts c.page ≡ initial_count service.pages c.page → ((phase page : ℕ) → before phase page ≡ likes_below service page runs phase)
+    → added_in c.phase c.page additions ≡ c.before + after → IsBounded counts before additions c → Between service runs c.phase c.page c.count c.before after
+between-of service runs additions counts before c after initial below all b =
+    let earlier = below c.phase c.page in
+    let upto = below (c.phase + 1) c.page in
+    let next = likes_up_to-next service c.page runs c.phase in
+    record { lower = omega (arith, b.least); upper = omega (arith, b.most) }
 
 -- each look has the right count
 pub right-counts : (service : Service) (runs : List (List Ran)) (ran : List Ran) (additions : List Addition) (reads : List PageRead) (counts : List ℕ) (before : ℕ → ℕ → ℕ) (last : ℕ)
@@ -135,62 +215,15 @@ pub right-counts : (service : Service) (runs : List (List Ran)) (ran : List Ran)
     → ((phase page : ℕ) → likes_within service page ran phase ≡ added_in phase page additions)
     → shown_in service ran ≡ map (shown_by additions) reads
     → AreBetween counts before last additions reads → HasRightAnswers service ran → HasRightCounts service runs ran
-right-counts service runs ran additions reads counts before last initial below each looks between answers = λ i e at r page asked accepted look.
-    let U : ℕ = service.users in
-    let M : ℕ = submitters service in
-    let yes : is_accepted U M e.submitter r ≡ true = accepted-true U M e.submitter r accepted in
-    let page_is : look_ran service e ≡ Some page =
-    ap (option_and_then (accepted_look U M e.submitter)) asked ∙ ((λ m. cond (yes m) (page_looked_at r.op r.page) None) ∙ look)
-    in
+right-counts service runs ran additions reads counts before last initial below each looks between answers i e at r page asked accepted look =
     let front : List Ran = take i ran in
     let back : List Ran = drop (suc i) ran in
-    let c : ShownCount = record { phase = e.phase; page = page; count = count_in e.reply; before = likes_within service page front e.phase } in
-    let at_i : shown_at service ran i ≡ Some c =
-    ap (option_and_then (shown_to service front)) at
-    ∙ ap (option_map (λ (q : ℕ). record { phase = e.phase; page = q; count = count_in e.reply; before = likes_within service q front e.phase })) page_is
-    in
-    let found = found_among (shown_at service ran) 0 (length ran) i c (omega arith) (let w = slice_get_within ran i e at in omega arith) at_i in
-    let image : slice_get (map (shown_by additions) reads) found.0 ≡ Some c = ap (λ (l : List ShownCount). slice_get l found.0) (sym looks) ∙ found.1 in
-    let of = of_images (shown_by additions) reads found.0 c image in
-    let q : PageRead = of.0 in
-    let B : PageRead → Type 0 = λ x. (x.phase ≤ last) × IsBetween counts before additions x in
-    let b : IsBetween counts before additions q =
-    (subst B (get_or_from_slice_get reads found.0 q q of.1) (between found.0 q (slice_get_within reads found.0 q of.1))).1
-    in
-    let phase_same : q.phase ≡ e.phase = ap (λ (x : ShownCount). x.phase) of.2 in
-    let page_same : q.page ≡ page = ap (λ (x : ShownCount). x.page) of.2 in
-    let count_same : q.count ≡ count_in e.reply = ap (λ (x : ShownCount). x.count) of.2 in
-    let Own : ℕ → ℕ → Type 0 = λ k p. added_in k p (take q.after additions) ≡ likes_within service page front e.phase in
-    let own : Own e.phase page = subst (λ k. Own k page) phase_same (subst (λ p. Own q.phase p) page_same (ap (λ (x : ShownCount). x.before) of.2)) in
-    let Low : ℕ → ℕ → Type 0 = λ k p. slice_index counts p + before k p + added_in k p (take q.after additions) ≤ q.count in
-    let low : Low e.phase page = subst (λ k. Low k page) phase_same (subst (λ p. Low q.phase p) page_same b.least) in
-    let High : ℕ → ℕ → Type 0 = λ k p. q.count + added_in k p (drop q.after additions) ≤ slice_index counts p + before (k + 1) p in
-    let high : High e.phase page = subst (λ k. High k page) phase_same (subst (λ p. High q.phase p) page_same b.most) in
-    let first = initial page in
-    let earlier = below e.phase page in
-    let upto : before (e.phase + 1) page ≡ likes_up_to service page runs e.phase = below (e.phase + 1) page ∙ sym (likes_up_to-next service page runs e.phase) in
-    let is_look : r.op ≡ op.Look = looked r.op r.page page look in
-    let no_like : like_ran service e ≡ None =
-    ap (option_and_then (accepted_like U M e.submitter)) asked ∙ rw (yes, is_look) refl
-    in
-    let all_likes : likes_within service page ran e.phase ≡ likes_within service page front e.phase + likes_within service page back e.phase =
-    ap (λ (l : List Ran). likes_within service page l e.phase) (split_at ran i e at)
-    ∙ (within-append service (front ++ e ∷ []) back page e.phase
-    ∙ ap (λ (n : ℕ). n + likes_within service page back e.phase) (within-none service front e page e.phase no_like))
-    in
-    let all_added_in : added_in e.phase page additions ≡ added_in e.phase page (take q.after additions) + added_in e.phase page (drop q.after additions) =
-    ap (added_in e.phase page) (sym (take-append-drop q.after additions))
-    ∙ sum_by-append (λ (a : Addition). cond ((a.phase == e.phase) && (a.page == page)) a.likes 0) (take q.after additions) (drop q.after additions)
-    in
-    let same = each e.phase page in
-    let fits : Between service runs e.phase page (count_in e.reply) (likes_within service page front e.phase) (likes_within service page back e.phase) =
-    record { lower = omega arith; upper = omega arith }
-    in
-    let A : Option Request → Type 0 = λ o. IsSomeAnd o (λ x. Answers (verdict_of U M e.submitter x) x.op (last_like service x.user front) e.reply) in
-    let answer : Answers (verdict_of U M e.submitter r) r.op (last_like service r.user front) e.reply = subst A asked (answers i e at) in
-    let V : Verdict → Type 0 = λ v. Answers v r.op (last_like service r.user front) e.reply in
-    let O : Op → Type 0 = λ x. Answers Accepted x (last_like service r.user front) e.reply in
-    let seen = subst O is_look (subst V accepted answer) in
-    seen_with e.reply (λ shown. shown ≡ last_like service r.user front)
+    let c : ShownCount = shown_as service front e page in
+    let at_i = shown_at-look service ran i e page at (look-is service e r page asked accepted look) in
+    let bounds = bounded service ran additions reads counts before last i c looks between (slice_get_within ran i e at) at_i in
+    let around = likes-around service ran i e page e.phase at (no-like service e r page asked accepted look) in
+    let fits = between-of service runs additions counts before c (likes_within service page back e.phase) (initial page) below (sym (each e.phase page) ∙ around) bounds in
+    let A : Option Request → Type 0 = λ o. IsSomeAnd o (λ x. Answers (verdict_of service.users (submitters service) e.submitter x) x.op (last_like service x.user front) e.reply) in
+    answered (verdict_of service.users (submitters service) e.submitter r) r.op (last_like service r.user front) e.reply
     (λ count. Between service runs e.phase page count (likes_within service page front e.phase) (likes_within service page back e.phase))
-    seen fits
+    accepted (looked r.op r.page page look) (subst A asked (answers i e at)) fits
