@@ -25,6 +25,7 @@ use Rattle.like_roles.specs.declared.worker.desk.Desk.{Desk}
 use Rattle.like_roles.specs.Desk.{ArePlaces, CanServe, IsJudged, IsPlaced, IsOwn, IsSound, HasRoomForOne, view_of}
 use Rattle.like_roles.specs.Order.{is_look_at_sliced}
 use Rattle.like_requests.specs.Setup.{IsThere}
+use Rattle.like_roles.specs.Turns.{trying}
 use Rattle.like_roles.specs.WorkerView.{has_to_wait}
 use Rattle.like_roles.proofs.Served.{running_phase}
 
@@ -188,3 +189,8 @@ IsSound-last post d t s same = record {
   waiting = s.waiting;
   tried = λ place is. let o = s.tried place is in record { there = o.there; running = o.running; joined = o.joined; split = o.split };
 }
+
+-- a desk that tries the submitter at a place, after a look for held requests that found none
+pub view_of-tried : (post : PostView) (d e : Desk) (popped : Waiting) (place : ℕ) → e ≡ record d { held = popped; pending = Some place; cursor = (place + 1) % length d.ended.items } → popped ≡ d.held
+    → view_of post e ≡ trying (view_of post d) place
+view_of-tried post d e popped place is same = ap (view_of post) is ∙ ap (λ (w : Waiting). record (trying (view_of post d) place) { held = w }) same

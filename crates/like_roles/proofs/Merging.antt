@@ -1,5 +1,5 @@
 -- How the merge of a slice goes from page to page.
-use Rattle.std.proofs.Common.{◌≡◌, ℕ, zero, suc, ◌+◌, ◌<◌, ◌≤◌, ◌==◌, ◌&&◌, nat_lt, Bool, true, false, not, cond, List, [], ◌∷◌, ◌++◌, length, get_or, set, replicate, refl, ap, sym, ◌∙◌, inl, inr, arith, subst, append-nil, append_assoc}
+use Rattle.std.proofs.Common.{◌≡◌, ℕ, zero, suc, ◌≢◌, ◌+◌, ◌-◌, ◌<◌, ◌≤◌, ◌==◌, ◌&&◌, nat_lt, Bool, true, false, not, cond, List, [], ◌∷◌, ◌++◌, length, get_or, set, replicate, refl, ap, sym, ◌∙◌, inl, inr, arith, subst, append-nil, append_assoc}
 use Rattle.std.specs.List.{sum_by}
 use Rattle.std.proofs.lemmas.Bool.{cases_eq, cases_lt, eqb-true, eq-eqb, ne_eqb, lt-ltb, le-ltb}
 use Rattle.std.proofs.lemmas.List.{length-set, get_or_past, get_or-set_same, get_or-set_other}
@@ -8,6 +8,7 @@ use Rattle.like_core.specs.declared.view.Addition.{Addition}
 use Rattle.std.proofs.lemmas.List.Sums.{sum_by-append, sum_by-cons}
 use Rattle.like_core.specs.Post.{added, pages_of}
 use Rattle.like_core.proofs.Labels.{one_before-next}
+use Rattle.like_tables.specs.Liked.{AreUnliked}
 use Rattle.like_roles.specs.Turns.{merged, merged_page, merging, slice_addition}
 use Rattle.like_roles.specs.WorkerView.{WorkerView, phase_at}
 use Rattle.like_roles.proofs.Shown.{cond_same}
@@ -49,40 +50,72 @@ below xs n x f within here before i h =
 above : (xs ys : List ℕ) (n x : ℕ) → ((i : ℕ) → n ≤ i → get_or xs i 0 ≡ get_or ys i 0) → (i : ℕ) → n + 1 ≤ i → get_or (set xs n x) i 0 ≡ get_or ys i 0
 above xs ys n x after i h = get_or-set_other xs n i x 0 (λ e. absurd (omega arith)) ∙ after i (omega arith)
 
--- one page more is merged, where its number is 0 or not
-merged_next : (v0 v : WorkerView) (n likes : ℕ) (slice : List ℕ) (none : Bool) → v ≡ merged_below v0 n v.slice → get_or v0.slice n 0 ≡ likes
-    → record v { post = cond none v.post (added v.post n likes); slice = slice }
-    ≡ record v0 { post = record v0.post { additions = v0.post.additions ++ (merging (phase_at v0) v0.slice n ++ cond (not none) (slice_addition (phase_at v0) v0.slice n ∷ []) []) }; slice = slice }
-merged_next v0 v n likes slice true rest is =
-    ap {A = WorkerView} (λ w. record w { slice = slice }) rest
-    ∙ ap (λ (xs : List Addition). record v0 { post = record v0.post { additions = v0.post.additions ++ xs }; slice = slice }) (sym (append-nil (merging (phase_at v0) v0.slice n)))
-merged_next v0 v n likes slice false rest is =
-    let one : Addition = record { phase = phase_at v0; page = n; likes = likes } in
-    let done : List Addition = merging (phase_at v0) v0.slice n in
-    ap {A = WorkerView} (λ w. record w { post = added w.post n likes; slice = slice }) rest
-    ∙ ap (λ (xs : List Addition). record v0 { post = record v0.post { additions = xs }; slice = slice }) (append_assoc v0.post.additions done (one ∷ []))
-    ∙ ap (λ (k : ℕ). record v0 { post = record v0.post { additions = v0.post.additions ++ (done ++ record { phase = phase_at v0; page = n; likes = k } ∷ []) }; slice = slice }) (sym is)
+-- the additions that merge one page more
+merging-next : (phase : ℕ) (slice : List ℕ) (n : ℕ) → merging phase slice (n + 1) ≡ merging phase slice n ++ cond (not (get_or slice n 0 == 0)) (slice_addition phase slice n ∷ []) []
+merging-next phase slice n = filter_of_map_range_with_len_more (λ (a : Addition). not (a.likes == 0)) (slice_addition phase slice) 0 n n (omega arith)
+
+-- where its number is not 0
+merging-more : (phase : ℕ) (slice : List ℕ) (n : ℕ) → get_or slice n 0 ≢ 0 → merging phase slice (n + 1) ≡ merging phase slice n ++ slice_addition phase slice n ∷ []
+merging-more phase slice n liked =
+    merging-next phase slice n
+    ∙ ap (λ (b : Bool). merging phase slice n ++ cond (not b) (slice_addition phase slice n ∷ []) []) (ne_eqb (get_or slice n 0) 0 liked)
+
+-- or is
+merging-none : (phase : ℕ) (slice : List ℕ) (n : ℕ) → get_or slice n 0 ≡ 0 → merging phase slice (n + 1) ≡ merging phase slice n
+merging-none phase slice n none =
+    merging-next phase slice n
+    ∙ (ap (λ (b : Bool). merging phase slice n ++ cond (not b) (slice_addition phase slice n ∷ []) []) (eq-eqb (get_or slice n 0) 0 none)
+    ∙ append-nil (merging phase slice n))
+
+-- the worker with these additions and this slice
+abbrev merged_as : WorkerView → List ℕ → List Addition → WorkerView
+merged_as v slice additions = record v { post = record v.post { additions = additions }; slice = slice }
 
 -- the next page is merged
-pub Merging-page : (v0 v : WorkerView) (n : ℕ) → Merging v0 v n → n < pages_of v0.post → Merging v0 (merged_page v n) (n + 1)
-Merging-page v0 v n m h =
+pub Merging-page : (v0 v : WorkerView) (n : ℕ) → Merging v0 v n → n < length v.slice → get_or v.slice n 0 ≢ 0 → Merging v0 (merged_page v n) (n + 1)
+Merging-page v0 v n m inside liked =
     let slice = set v.slice n 0 in
-    let in_slice : n < length v.slice = omega (arith, m.slice_sized) in
     let likes : ℕ = get_or v.slice n 0 in
     let is : likes ≡ get_or v0.slice n 0 = m.slice_left n (omega arith) in
-    let more : merging (phase_at v0) v0.slice (n + 1) ≡ merging (phase_at v0) v0.slice n ++ cond (not (get_or v0.slice n 0 == 0)) (slice_addition (phase_at v0) v0.slice n ∷ []) [] =
-    filter_of_map_range_with_len_more (λ (a : Addition). not (a.likes == 0)) (slice_addition (phase_at v0) v0.slice) 0 n n (omega arith)
-    in
-    let test : (get_or v0.slice n 0 == 0) ≡ (likes == 0) = ap (λ (k : ℕ). k == 0) (sym is) in
+    let one : ℕ → List Addition = λ k. record { phase = phase_at v0; page = n; likes = k } ∷ [] in
+    let done : List Addition = merging (phase_at v0) v0.slice n in
+    let more = merging-more (phase_at v0) v0.slice n (λ e. liked (is ∙ e)) in
     record {
       rest =
-          merged_next v0 v n likes slice (likes == 0) m.rest (sym is)
-          ∙ ap (λ (xs : List Addition). record v0 { post = record v0.post { additions = v0.post.additions ++ xs }; slice = slice })
-          (ap (λ (b : Bool). merging (phase_at v0) v0.slice n ++ cond (not b) (slice_addition (phase_at v0) v0.slice n ∷ []) []) (sym test) ∙ sym more);
+          ap {A = WorkerView} (λ w. record w { post = added w.post n likes; slice = slice }) m.rest
+          ∙ (ap (merged_as v0 slice) (append_assoc v0.post.additions done (one likes))
+          ∙ (ap (λ (k : ℕ). merged_as v0 slice (v0.post.additions ++ (done ++ one k))) is
+          ∙ ap (λ (xs : List Addition). merged_as v0 slice (v0.post.additions ++ xs)) (sym more)));
       slice_sized = length-set v.slice n 0 ∙ m.slice_sized;
-      emptied = below v.slice n 0 (λ _. 0) in_slice refl m.emptied;
+      emptied = below v.slice n 0 (λ _. 0) inside refl m.emptied;
       slice_left = above v.slice v0.slice n 0 m.slice_left;
     }
+
+-- there is nothing to merge of a page that has no like
+Merging-none : (v0 v : WorkerView) (n : ℕ) → Merging v0 v n → get_or v.slice n 0 ≡ 0 → Merging v0 v (n + 1)
+Merging-none v0 v n m none =
+    let is : get_or v0.slice n 0 ≡ 0 = sym (m.slice_left n (omega arith)) ∙ none in
+    record {
+      rest = m.rest ∙ ap (λ (xs : List Addition). merged_as v0 v.slice (v0.post.additions ++ xs)) (sym (merging-none (phase_at v0) v0.slice n is));
+      slice_sized = m.slice_sized;
+      emptied = λ page h. elim (cases_lt page n) [
+        | inl earlier ↦ m.emptied page earlier
+        | inr past ↦ let same : n ≡ page = omega arith in subst (λ k. get_or v.slice k 0 ≡ 0) same none
+      ];
+      slice_left = λ page h. m.slice_left page (omega arith);
+    }
+
+-- nor of so many of them
+unliked_next : (v0 v : WorkerView) (n more : ℕ) → Merging v0 v n → AreUnliked v.slice n (n + more) → Merging v0 v (n + more)
+unliked_next v0 v n zero m none = subst (Merging v0 v) (omega arith) m
+unliked_next v0 v n (suc more) m none =
+    let first = Merging-none v0 v n m (none n (omega arith) (omega arith)) in
+    subst (Merging v0 v) (omega arith) (unliked_next v0 v (n + 1) more first (λ page low high. none page (omega arith) (omega arith)))
+
+pub Merging-unliked : (v0 v : WorkerView) (n k : ℕ) → Merging v0 v n → n ≤ k → AreUnliked v.slice n k → Merging v0 v k
+Merging-unliked v0 v n k m up none =
+    let same : n + (k - n) ≡ k = omega arith in
+    subst (Merging v0 v) same (unliked_next v0 v n (k - n) m (λ page low high. none page low (omega arith)))
 
 -- a list of zeros
 zeros : (xs : List ℕ) → ((i : ℕ) → i < length xs → get_or xs i 0 ≡ 0) → xs ≡ replicate (length xs) 0
@@ -133,9 +166,7 @@ module _ (test : ℕ → Bool) (phase : ℕ) (slice : List ℕ) (page : ℕ) whe
   merging-counts zero = sym (ap (λ (b : Bool). cond (b && test phase) (get_or slice page 0) 0) (le-ltb page 0 (omega arith)))
   merging-counts (suc n) =
       let e : suc n ≡ n + 1 = omega arith in
-      let more : merging phase slice (n + 1) ≡ merging phase slice n ++ cond (not (get_or slice n 0 == 0)) (slice_addition phase slice n ∷ []) [] =
-      filter_of_map_range_with_len_more (λ (a : Addition). not (a.likes == 0)) (slice_addition phase slice) 0 n n (omega arith)
-      in
+      let more = merging-next phase slice n in
       let both = sum_by-append counts (merging phase slice n) (cond (not (get_or slice n 0 == 0)) (slice_addition phase slice n ∷ []) []) in
       let last = counts_some n (get_or slice n 0 == 0) refl ∙ counts_here n in
       let before = merging-counts n in

@@ -1,5 +1,5 @@
 -- The turns of a worker, case by case.
-use Rattle.std.specs.Prelude.{◌≡◌, ◌≢◌, ◌⊎◌, ℕ, ◌+◌, ◌-◌, ◌%◌, ◌<◌, ◌≤◌, ◌==◌, if◌then◌else◌, not, count_by, filter, ⊤, Bool, true, false, List, [], ◌∷◌, ◌++◌, length, map, replicate, slice_index, slice_index_or, slice_set, Some, None}
+use Rattle.std.specs.Prelude.{◌≡◌, ◌≢◌, ◌⊎◌, ℕ, ◌+◌, ◌-◌, ◌%◌, ◌<◌, ◌≤◌, ◌==◌, not, count_by, filter, ⊤, Bool, true, false, List, [], ◌∷◌, ◌++◌, length, map, replicate, slice_index, slice_index_or, slice_set, Some, None}
 use Rattle.std.specs.List.{range_with_len}
 use Rattle.like_requests.specs.declared.request.Numbered.{Numbered}
 use Rattle.like_requests.specs.declared.request.Taken.{Taken}
@@ -30,23 +30,27 @@ trying v place = record v { pending = Some place; cursor = (place + 1) % length 
 
 -- a page's number in a slice, as an addition in a phase
 abbrev pub slice_addition : ℕ → List ℕ → ℕ → Addition
-slice_addition phase slice page = record { phase = phase; page = page; likes = slice_index slice page }
+slice_addition phase slice page =
+    record { phase = phase; page = page; likes = slice_index slice page }
 
 -- the additions that merge the first pages of a slice, so many: one for each whose number is not 0, in page order
 abbrev pub merging : ℕ → List ℕ → ℕ → List Addition
-merging phase slice pages = filter (λ a. not (a.likes == 0)) (map (slice_addition phase slice) (range_with_len 0 pages))
+merging phase slice pages =
+    filter (λ a. not (a.likes == 0)) (map (slice_addition phase slice) (range_with_len 0 pages))
 
 -- the slice is added to the board, and emptied
 abbrev pub merged : WorkerView → WorkerView
 merged v = record v {
-  post = record v.post { additions = v.post.additions ++ merging (phase_at v) v.slice (pages_of v.post) };
+  post = record v.post {
+    additions = v.post.additions ++ merging (phase_at v) v.slice (pages_of v.post);
+  };
   slice = replicate (pages_of v.post) 0;
 }
 
--- a page's slice is, where it is not empty
+-- a page's slice is
 abbrev pub merged_page : WorkerView → ℕ → WorkerView
 merged_page v page = record v {
-  post = (if slice_index v.slice page == 0 then v.post else added v.post page (slice_index v.slice page));
+  post = added v.post page (slice_index v.slice page);
   slice = slice_set v.slice page 0;
 }
 
@@ -56,15 +60,20 @@ IsStuck v = HasEnded v ⊎ (length v.held.held ≡ v.held.capacity)
 
 -- what a worker does that has looked and runs a phase: the answer, and the worker after
 pub data Works (v : WorkerView) (ending : Bool) (answer : Turn) (after : WorkerView) : Type 0 where
-  runs_held : (first : Held) (rest : List Held) → RunsJoined v.post.state → v.held.held ≡ first ∷ rest
-      → answer ≡ turn.Ran → Runs (without_first v rest) first true after → Works v ending answer after
+  runs_held : (first : Held) (rest : List Held)
+      → RunsJoined v.post.state → v.held.held ≡ first ∷ rest
+      → answer ≡ turn.Ran → Runs (without_first v rest) first true after
+      → Works v ending answer after
   retires : RunsJoined v.post.state → v.held.held ≡ [] → HasEnded v
-      → answer ≡ turn.Retired → after ≡ record v { post = retired v.post } → Works v ending answer after
+      → answer ≡ turn.Retired → after ≡ record v { post = retired v.post }
+      → Works v ending answer after
   acknowledges : RunsJoined v.post.state → v.held.held ≡ [] → ¬ HasEnded v → ending ≡ true
-      → answer ≡ turn.Acknowledged → after ≡ record v { post = answered v.post } → Works v ending answer after
+      → answer ≡ turn.Acknowledged → after ≡ record v { post = answered v.post }
+      → Works v ending answer after
   tries_joined : (place : ℕ) → RunsJoined v.post.state → v.held.held ≡ []
       → IsNextPlace v.ended v.cursor place → ending ≡ false
-      → answer ≡ turn.Try (submitter_at v place) → after ≡ trying v place → Works v ending answer after
+      → answer ≡ turn.Try (submitter_at v place) → after ≡ trying v place
+      → Works v ending answer after
   reports : RunsSplit v.post.state → ending ≡ true
       → answer ≡ turn.Reported → after ≡ record (merged v) { post = answered (merged v).post }
       → Works v ending answer after
@@ -72,7 +81,8 @@ pub data Works (v : WorkerView) (ending : Bool) (answer : Turn) (after : WorkerV
       → answer ≡ turn.Idle → after ≡ v → Works v ending answer after
   tries_split : (place : ℕ) → RunsSplit v.post.state → ending ≡ false
       → length v.held.held ≢ v.held.capacity → IsNextPlace v.ended v.cursor place
-      → answer ≡ turn.Try (submitter_at v place) → after ≡ trying v place → Works v ending answer after
+      → answer ≡ turn.Try (submitter_at v place) → after ≡ trying v place
+      → Works v ending answer after
 
 -- turn case: what a turn does, its answer, and the worker after
 pub data Turns (v : WorkerView) (answer : Turn) (after : WorkerView) : Type 0 where
@@ -102,7 +112,8 @@ settled v = record v { pending = None }
 abbrev pub with_taken : WorkerView → ℕ → Numbered → WorkerView
 with_taken v place ask = record v {
   left = slice_set v.left place (slice_index v.left place - 1);
-  taken = v.taken ++ (record { phase = phase_at v; submitter = submitter_at v place; number = ask.number }) ∷ [];
+  taken = v.taken
+      ++ record { phase = phase_at v; submitter = submitter_at v place; number = ask.number } ∷ [];
 }
 
 -- the request with the submitter at a place
@@ -114,9 +125,11 @@ abbrev pub with_stashed : WorkerView → Held → WorkerView
 with_stashed v h = record v { held = record v.held { held = v.held.held ++ h ∷ [] } }
 
 -- what becomes of a request that is taken from the submitter at a place: the answer, and the worker after
-pub data TakesAsk (v : WorkerView) (place : ℕ) (ask : Numbered) (answer : Turn) (after : WorkerView) : Type 0 where
+pub data TakesAsk (v : WorkerView) (place : ℕ) (ask : Numbered) (answer : Turn) (after : WorkerView)
+    : Type 0 where
   stashes : has_to_wait v (submitter_at v place) ask.request ≡ true
-      → answer ≡ turn.Stashed → after ≡ with_stashed (with_taken v place ask) (held_from v place ask)
+      → answer ≡ turn.Stashed
+      → after ≡ with_stashed (with_taken v place ask) (held_from v place ask)
       → TakesAsk v place ask answer after
   runs : has_to_wait v (submitter_at v place) ask.request ≡ false
       → answer ≡ turn.Ran → Runs (with_taken v place ask) (held_from v place ask) false after
@@ -124,7 +137,8 @@ pub data TakesAsk (v : WorkerView) (place : ℕ) (ask : Numbered) (answer : Turn
 
 -- turn case, where something was taken from the submitter that is tried: what is done, the answer, and the worker after
 pub data Gives (v : WorkerView) (took : Taken) (answer : Turn) (after : WorkerView) : Type 0 where
-  nothing : took ≡ taken.Nothing → answer ≡ turn.Nothing → after ≡ settled v → Gives v took answer after
+  nothing : took ≡ taken.Nothing → answer ≡ turn.Nothing → after ≡ settled v
+      → Gives v took answer after
   ends : (place : ℕ) → v.pending ≡ Some place → took ≡ taken.End
       → answer ≡ turn.TookEnd → after ≡ record (settled v) { ended = slice_set v.ended place true }
       → Gives v took answer after
@@ -151,5 +165,6 @@ abbrev pub HasTaken : WorkerView → Taken → WorkerView → Type 0
 HasTaken old (taken.Ask ask) new =
     (place : ℕ) → old.pending ≡ Some place → TakesNothing (with_taken old place ask) new
 HasTaken old taken.End new =
-    (place : ℕ) → old.pending ≡ Some place → TakesNothing (record old { ended = slice_set old.ended place true }) new
+    (place : ℕ) → old.pending ≡ Some place
+    → TakesNothing (record old { ended = slice_set old.ended place true }) new
 HasTaken old taken.Nothing new = TakesNothing old new

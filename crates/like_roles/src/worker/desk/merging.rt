@@ -1,4 +1,4 @@
-ghost use Rattle.std.specs.Prelude.{◌≡◌, ◌<◌, length};
+ghost use Rattle.std.specs.Prelude.{◌≡◌, ◌≢◌, ◌<◌, length, slice_index};
 ghost use Rattle.like_core.specs.WorkerState.{RunsSplit, SawEnding};
 ghost use Rattle.like_roles.specs.Desk.{view_of, IsSound};
 ghost use Rattle.like_roles.specs.Turns.{merged, merged_page};
@@ -13,27 +13,28 @@ impl Desk {
         requires split { RunsSplit (P.view post.old).state }
         requires ending { SawEnding (P.view post.old).last }
         ensures sound { IsSound (P.view post.new) self.new }
-        ensures merged { view_of (P.view post.new) self.new ≡ merged (view_of (P.view post.old) self.old) }
+        ensures merged { view_of (P.view post.new) self.new
+            ≡ merged (view_of (P.view post.old) self.old) }
     {
-        for page in 0..self.marks.len() as u32 {
+        let mut from = 0;
+        while let Some(page) = self.slice.next(from) {
             self.merge_page(post, page);
+            from = page + 1;
         }
     }
 
-    // The same of one page.
+    // The same of one page, whose slice is not empty.
     fn merge_page<P: Post>(&mut self, post: &mut P, page: u32)
         requires sound { IsSound (P.view post.old) self.old }
         requires split { RunsSplit (P.view post.old).state }
         requires ending { SawEnding (P.view post.old).last }
-        requires there { page < length self.old.marks.items }
+        requires there { page < length self.old.slice }
+        requires liked { slice_index self.old.slice page ≢ 0 }
         ensures sound { IsSound (P.view post.new) self.new }
-        ensures merged { view_of (P.view post.new) self.new ≡ merged_page (view_of (P.view post.old) self.old) page }
-        ensures marks { self.new.marks ≡ self.old.marks }
+        ensures merged { view_of (P.view post.new) self.new
+            ≡ merged_page (view_of (P.view post.old) self.old) page }
     {
         let likes = self.slice.take(page);
-        if likes == 0 {
-            return;
-        }
         post.add(page, likes);
     }
 }

@@ -1,9 +1,9 @@
-use Rattle.std.proofs.Common.{◌≡◌, ◌+◌, ◌%◌, true, length, drop, Some, refl, ap, sym, ◌∙◌, subst}
+use Rattle.std.proofs.Common.{◌≡◌, true, drop, refl, ap, sym, ◌∙◌, subst}
 use Rattle.like_roles.specs.Desk.{view_of}
 use Rattle.like_roles.specs.Serve.{Runs}
 use Rattle.like_roles.specs.Turns.{runs_held, tries_joined}
 use Rattle.like_roles.specs.WorkerView.{IsNextPlace}
-use Rattle.like_roles.proofs.Held.{IsSound-pop, first_of, none_first}
+use Rattle.like_roles.proofs.Held.{IsSound-pop, first_of, none_first, view_of-tried}
 use Rattle.like_roles.proofs.worker.desk.Desk.joined_turn.Goals as goal
 
 pub run-requires-clause-sound : goal.run-requires-clause-sound
@@ -30,5 +30,4 @@ returns-clause-works g c =
     (subst (λ xs. IsNextPlace xs d.cursor place) c.deref.ensures.value c.in-Some-next_place.ensures)
     c.if-ending.false
     c.try_next.ensures.answer
-    (ap (λ e. view_of p e) c.try_next.ensures.tried
-    ∙ ap (λ h. view_of p (record d { held = h; pending = Some place; cursor = (place + 1) % length d.ended.items })) same)
+    (view_of-tried p d c.try_next.new.self c.pop_front.new.self place c.try_next.ensures.tried same)

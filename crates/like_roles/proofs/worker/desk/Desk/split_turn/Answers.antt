@@ -1,7 +1,7 @@
-use Rattle.std.proofs.Common.{◌≢◌, length, ap, subst}
-use Rattle.like_roles.specs.Desk.{view_of}
+use Rattle.std.proofs.Common.{◌≢◌, length, refl, subst}
 use Rattle.like_roles.specs.Turns.{tries_split}
 use Rattle.like_roles.specs.WorkerView.{IsNextPlace}
+use Rattle.like_roles.proofs.Held.{view_of-tried}
 use Rattle.like_roles.proofs.worker.desk.Desk.split_turn.Goals as goal
 
 pub returns-in-Some-clause-works : goal.returns-in-Some-clause-works
@@ -13,4 +13,4 @@ returns-in-Some-clause-works g c =
     tries_split place c.requires.split c.if-ending.false room
     (subst (λ xs. IsNextPlace xs d.cursor place) c.deref.ensures.value c.in-Some.ensures)
     c.try_next.ensures.answer
-    (ap (λ e. view_of p e) c.try_next.ensures.tried)
+    (view_of-tried p d c.try_next.new.self d.held place c.try_next.ensures.tried refl)
