@@ -31,7 +31,8 @@ abbrev pub surveyed : CoordinatorView → ℕ → CoordSight → CoordinatorView
 surveyed v word sight = record v { seat = looked_coord v.seat word sight; phase = sight.number }
 
 -- what the coordinator does that saw this: the answer, and the coordinator after
-pub data Acts (v : CoordinatorView) (sight : CoordSight) (answer : CoordTurn) (after : CoordinatorView) : Type 0 where
+pub data Acts (v : CoordinatorView) (sight : CoordSight) (answer : CoordTurn)
+    (after : CoordinatorView) : Type 0 where
   ends : sight.all_gone ≡ true → answer ≡ Ended → after ≡ v → Acts v sight answer after
   counts : sight.all_gone ≡ false → sight.ending ≡ false → 0 < v.left
       → answer ≡ Counted → after ≡ record v { left = v.left - 1 } → Acts v sight answer after
@@ -51,7 +52,8 @@ pub data IsLook (c : CoordSeatView) (word : ℕ) (sight : CoordSight) : Type 0 w
   looks : Surveys c sight (looked_coord c word sight) → IsLook c word sight
 
 -- turn case of the coordinator: it looks, and does what the sight asks for; its answer, and the coordinator after
-pub record CoordTurns (v : CoordinatorView) (answer : CoordTurn) (after : CoordinatorView) : Type 0 where
+pub record CoordTurns (v : CoordinatorView) (answer : CoordTurn) (after : CoordinatorView)
+    : Type 0 where
   pub word : ℕ
   pub sight : CoordSight
   pub shows : IsCoordSight v.seat sight

@@ -45,7 +45,8 @@ IsStanding Gone phase gone = gone ≡ true
 -- the verdict is that on the request
 pub record IsJudged (s : Share) (h : Held) (verdict : Verdict) : Type 0 where
   pub is : verdict ≡ verdict_of s.users s.submitters h.submitter h.ask.request
-  pub accepted : (verdict ≡ Accepted) ↔ IsTrue (is_accepted s.users s.submitters h.submitter h.ask.request)
+  pub accepted : (verdict ≡ Accepted)
+      ↔ IsTrue (is_accepted s.users s.submitters h.submitter h.ask.request)
 
 -- a request that the worker may hold: of one of its submitters, of a page that is there, and accepted
 pub record IsOwn (d : Desk) (h : Held) : Type 0 where
@@ -79,12 +80,14 @@ pub record ArePlaces (d : Desk) : Type 0 where
 pub record HasRoom (post : PostView) (d : Desk) : Type 0 where
   pub taken : vec_len d.taken + sum d.left.items ≤ vec_capacity d.taken
   pub ran : vec_len d.ran + length d.held.held + sum d.left.items ≤ vec_capacity d.ran
-  pub few : all_added post.additions + sum d.slice + length d.held.held + sum d.left.items ≤ max_likes
+  pub few : all_added post.additions + sum d.slice + length d.held.held + sum d.left.items
+      ≤ max_likes
 
 -- and there is room to run one more request
 pub record HasRoomForOne (post : PostView) (d : Desk) : Type 0 where
   pub ran : vec_len d.ran + length d.held.held + sum d.left.items < vec_capacity d.ran
-  pub few : all_added post.additions + sum d.slice + length d.held.held + sum d.left.items < max_likes
+  pub few : all_added post.additions + sum d.slice + length d.held.held + sum d.left.items
+      < max_likes
 
 -- there is room to note one more request that was run
 pub record HasRoomToNote (d : Desk) : Type 0 where
@@ -118,7 +121,8 @@ pub record IsNewDesk (s : Setup) (sizes : List ℕ) (worker : ℕ) (d : Desk) : 
   pub slice : d.slice ≡ replicate (length s.pages) 0
   pub ended : d.ended.items ≡ replicate (length d.left.items) false
   pub left : d.left.items ≡ dealt s.workers worker sizes
-  pub there : (place : ℕ) → place < length d.left.items → submitter_of s.workers worker place < length sizes
+  pub there : (place : ℕ) → place < length d.left.items
+      → submitter_of s.workers worker place < length sizes
   pub few : sum d.left.items ≤ max_likes
   pub cursor : d.cursor ≡ 0
   pub pending : d.pending ≡ None

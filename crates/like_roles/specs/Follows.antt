@@ -34,9 +34,11 @@ pub record IsSized (v : WorkerView) : Type 0 where
 -- order, with equal counts, and before each ran as many likes of its page in its phase as the post had added by then;
 -- replies: each reply is right, save that nothing is said of counts; and its table has each user's last like
 pub record IsTallied (service : Service) (v : WorkerView) : Type 0 where
-  pub likes : (page : ℕ) → likes_among service page v.ran ≡ additions_of v.post page + slice_index v.slice page
+  pub likes : (page : ℕ)
+      → likes_among service page v.ran ≡ additions_of v.post page + slice_index v.slice page
   pub by_phase : (phase page : ℕ) → likes_within service page v.ran phase
-      ≡ additions_in v.post phase page + (if phase_at v == phase then slice_index v.slice page else 0)
+      ≡ additions_in v.post phase page
+      + (if phase_at v == phase then slice_index v.slice page else 0)
   pub looks : shown_in service v.ran ≡ map (shown_by v.post.additions) v.post.reads
   pub after : All (λ r. r.after ≤ length v.post.additions) v.post.reads
   pub replies : HasRightAnswers service v.ran
@@ -49,7 +51,8 @@ pub record IsAsked (service : Service) (h : Held) : Type 0 where
 
 -- a request that is held, as it runs in a phase
 abbrev pub entry_held : ℕ → Held → Entry
-entry_held phase h = record { phase = phase; submitter = h.submitter; number = h.ask.number; stashed = true }
+entry_held phase h =
+    record { phase = phase; submitter = h.submitter; number = h.ask.number; stashed = true }
 
 -- the joined phase in which what is held runs: the present one or the next
 abbrev pub next_joined : WorkerView → ℕ
@@ -57,16 +60,19 @@ next_joined v = phase_at v + phase_at v % 2
 
 -- order: what it ran, and then what it holds, is the run order of what it took
 abbrev pub IsInOrder : Service → WorkerView → Type 0
-IsInOrder service v = map entry_of v.ran ++ map (entry_held (next_joined v)) v.held.held ≡ order service v.taken
+IsInOrder service v =
+    map entry_of v.ran ++ map (entry_held (next_joined v)) v.held.held ≡ order service v.taken
 
 -- the same, by the blocks of phases, for a worker that runs a phase: in a split phase what it holds is the whole part
 -- of the next block that is known
 pub record IsInBlocks (service : Service) (v : WorkerView) (phase : ℕ) : Type 0 where
   pub within : All (λ t. t.phase ≤ phase) v.taken
   pub joined : IsJoined phase
-      → order_below service v.taken (phase + 1) ≡ map entry_of v.ran ++ map (entry_held phase) v.held.held
+      → order_below service v.taken (phase + 1)
+      ≡ map entry_of v.ran ++ map (entry_held phase) v.held.held
   pub split_ran : IsSplit phase → order_below service v.taken (phase + 1) ≡ map entry_of v.ran
-  pub split_held : IsSplit phase → block service v.taken (phase + 1) ≡ map (entry_held (phase + 1)) v.held.held
+  pub split_held : IsSplit phase
+      → block service v.taken (phase + 1) ≡ map (entry_held (phase + 1)) v.held.held
 
 -- what its state says of what it has done: it answers a joined phase only when it holds nothing, and is gone only when
 -- its submitters have ended, too
@@ -89,12 +95,14 @@ pub record Follows (service : Service) (v : WorkerView) : Type 0 where
 -- what is given is asked by the plan of the submitter that is tried
 abbrev pub IsAskedBy : Service → WorkerView → Taken → Type 0
 IsAskedBy service v (taken.Ask ask) =
-    (place : ℕ) → v.pending ≡ Some place → request_at service (submitter_at v place) ask.number ≡ Some ask.request
+    (place : ℕ) → v.pending ≡ Some place
+    → request_at service (submitter_at v place) ask.number ≡ Some ask.request
 IsAskedBy service v taken.End = ⊤
 IsAskedBy service v taken.Nothing = ⊤
 
 -- the service has these users and pages, and plans of these sizes
-pub record IsServiceOf (users : ℕ) (pages : List Page) (sizes : List ℕ) (service : Service) : Type 0 where
+pub record IsServiceOf (users : ℕ) (pages : List Page) (sizes : List ℕ) (service : Service)
+    : Type 0 where
   pub users_are : service.users ≡ users
   pub pages_are : service.pages ≡ pages
   pub sizes_are : map length service.plans ≡ sizes
@@ -105,7 +113,8 @@ pub record IsServiceOf (users : ℕ) (pages : List Page) (sizes : List ℕ) (ser
 pub record IsDone (service : Service) (v : WorkerView) : Type 0 where
   pub in_order : map entry_of v.ran ≡ order service v.taken
   pub likes : (page : ℕ) → likes_among service page v.ran ≡ additions_of v.post page
-  pub by_phase : (phase page : ℕ) → likes_within service page v.ran phase ≡ additions_in v.post phase page
+  pub by_phase : (phase page : ℕ)
+      → likes_within service page v.ran phase ≡ additions_in v.post phase page
   pub looks : shown_in service v.ran ≡ map (shown_by v.post.additions) v.post.reads
   pub replies : HasRightAnswers service v.ran
   pub last : (user : ℕ) → last_of v.last user ≡ last_like service user v.ran

@@ -31,7 +31,8 @@ accepted_like users submitters submitter r =
 -- the accepted like that an entry ran, if it ran one
 abbrev pub like_ran : Service → Ran → Option AcceptedLike
 like_ran service e =
-    option_and_then (accepted_like service.users (submitters service) e.submitter) (request_of service e)
+    option_and_then (accepted_like service.users (submitters service) e.submitter)
+    (request_of service e)
 
 -- the accepted likes among entries, in their order
 abbrev pub likes_ran : Service → List Ran → List AcceptedLike
@@ -73,7 +74,8 @@ likes_up_to service page runs phase =
 
 -- how many accepted likes of the page are among entries of this phase
 abbrev pub likes_within : Service → ℕ → List Ran → ℕ → ℕ
-likes_within service page entries phase = likes_among service page (filter (λ e. e.phase == phase) entries)
+likes_within service page entries phase =
+    likes_among service page (filter (λ e. e.phase == phase) entries)
 
 -- the initial count of a page
 abbrev pub initial_count : List Page → ℕ → ℕ
@@ -81,6 +83,8 @@ initial_count pages page = option_map_or (λ p. p.count) (slice_get pages page) 
 
 -- a count that may be seen in a phase: at least all likes of earlier phases and `before` more, at most all likes up to
 -- the phase but for `after`
-pub record Between (service : Service) (runs : List (List Ran)) (phase page count before after : ℕ) : Type 0 where
-  pub lower : initial_count service.pages page + likes_below service page runs phase + before ≤ count
+pub record Between (service : Service) (runs : List (List Ran)) (phase page count before after : ℕ)
+    : Type 0 where
+  pub lower : initial_count service.pages page + likes_below service page runs phase + before
+      ≤ count
   pub upper : count + after ≤ initial_count service.pages page + likes_up_to service page runs phase

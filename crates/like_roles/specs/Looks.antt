@@ -29,7 +29,8 @@ accepted_look users submitters submitter r =
 -- the page of the accepted look that an entry ran, if it ran one
 abbrev pub look_ran : Service → Ran → Option ℕ
 look_ran service e =
-    option_and_then (accepted_look service.users (submitters service) e.submitter) (request_of service e)
+    option_and_then (accepted_look service.users (submitters service) e.submitter)
+    (request_of service e)
 
 -- the count in a reply, and 0 where it has none
 abbrev pub count_in : Reply → ℕ

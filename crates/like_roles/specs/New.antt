@@ -22,7 +22,8 @@ AreNewSeats board pages seats =
     → (seat_board seat ≡ board) × IsPostOf worker pages (seat_meaning seat)
 
 -- a worker that has done nothing yet
-pub record IsNew (s : Setup) (sizes : List ℕ) (worker : ℕ) (post : PostView) (v : WorkerView) : Type 0 where
+pub record IsNew (s : Setup) (sizes : List ℕ) (worker : ℕ) (post : PostView) (v : WorkerView)
+    : Type 0 where
   pub at_post : v.post ≡ post
   pub held : v.held ≡ record { held = []; capacity = s.stash }
   pub slice : v.slice ≡ replicate (length s.pages) 0

@@ -12,7 +12,8 @@ use Rattle.like_roles.specs.Replies.{page_looked_at}
 -- the request is an accepted look at a page that is sliced
 abbrev pub is_look_at_sliced : ℕ → ℕ → (ℕ → Bool) → ℕ → Request → Bool
 is_look_at_sliced users submitters is_sliced submitter r =
-    is_accepted users submitters submitter r && option_map_or is_sliced (page_looked_at r.op r.page) false
+    is_accepted users submitters submitter r
+    && option_map_or is_sliced (page_looked_at r.op r.page) false
 
 -- waits: an accepted look at a page that is split in the phase cannot run in it
 abbrev pub waits : Service → ℕ → ℕ → Request → Bool
@@ -22,7 +23,8 @@ waits service phase submitter r =
 -- whether what was taken had to wait
 abbrev pub took_to_wait : Service → Took → Bool
 took_to_wait service t =
-    option_map_or (waits service t.phase t.submitter) (request_at service t.submitter t.number) false
+    option_map_or (waits service t.phase t.submitter)
+    (request_at service t.submitter t.number) false
 
 -- a place in the run order: which request runs in which phase, and whether it comes out of the stash
 pub record Entry : Type 0 where
@@ -33,11 +35,13 @@ pub record Entry : Type 0 where
 
 -- the entry that a run list shows
 abbrev pub entry_of : Ran → Entry
-entry_of e = record { phase = e.phase; submitter = e.submitter; number = e.number; stashed = e.stashed }
+entry_of e =
+    record { phase = e.phase; submitter = e.submitter; number = e.number; stashed = e.stashed }
 
 -- what was taken, as it runs in a phase
 abbrev pub entry_in : ℕ → Bool → Took → Entry
-entry_in phase stashed t = record { phase = phase; submitter = t.submitter; number = t.number; stashed = stashed }
+entry_in phase stashed t =
+    record { phase = phase; submitter = t.submitter; number = t.number; stashed = stashed }
 
 -- taken in the phase before this one, to wait
 abbrev pub is_due : Service → ℕ → Took → Bool

@@ -63,4 +63,5 @@ HasRightAnswers service ran =
 -- each look of a run list has the right count
 abbrev pub HasRightCounts : Service → List (List Ran) → List Ran → Type 0
 HasRightCounts service runs ran =
-    (i : ℕ) (e : Ran) → slice_get ran i ≡ Some e → IsRightCount service runs (take i ran) e (drop (suc i) ran)
+    (i : ℕ) (e : Ran) → slice_get ran i ≡ Some e
+    → IsRightCount service runs (take i ran) e (drop (suc i) ran)

@@ -21,7 +21,8 @@ verdict_at v submitter r = verdict_of v.last.share.users v.last.share.submitters
 -- one more like of a page: in the slice, where the page is sliced, else on the board
 abbrev pub counted : WorkerView → ℕ → WorkerView
 counted v page =
-    if slices v.post page then record v { slice = slice_set v.slice page (slice_index v.slice page + 1) }
+    if slices v.post page
+    then record v { slice = slice_set v.slice page (slice_index v.slice page + 1) }
     else record v { post = added v.post page 1 }
 
 -- a user's accepted like of a page is counted, and is the user's last like
@@ -33,13 +34,16 @@ abbrev pub shown : WorkerView → ℕ → ℕ → WorkerView
 shown v page count = record v { post = has_read v.post page count }
 
 -- a request of a submitter is answered, and this is what becomes of the worker: its list of what it ran aside
-pub data GivesReply (v : WorkerView) (submitter : ℕ) (r : Request) (reply : Reply) (after : WorkerView) : Type 0 where
+pub data GivesReply (v : WorkerView) (submitter : ℕ) (r : Request) (reply : Reply)
+    (after : WorkerView) : Type 0 where
   refuses : verdict_at v submitter r ≢ Accepted
-      → reply ≡ Refused (verdict_at v submitter r) → after ≡ v → GivesReply v submitter r reply after
+      → reply ≡ Refused (verdict_at v submitter r) → after ≡ v
+      → GivesReply v submitter r reply after
   likes : (page : ℕ) → verdict_at v submitter r ≡ Accepted → r.op ≡ Like → r.page ≡ Known page
       → reply ≡ Liked → after ≡ liked v r.user page → GivesReply v submitter r reply after
   looks : (page count : ℕ) → verdict_at v submitter r ≡ Accepted → r.op ≡ Look → r.page ≡ Known page
-      → reply ≡ Seen (last_of v.last r.user) count → additions_of v.post page ≤ count → after ≡ shown v page count
+      → reply ≡ Seen (last_of v.last r.user) count → additions_of v.post page ≤ count
+      → after ≡ shown v page count
       → GivesReply v submitter r reply after
 
 -- the entry of a request that runs now

@@ -52,7 +52,8 @@ pub record IsNextPlace (ended : List Bool) (cursor place : ℕ) : Type 0 where
 
 -- whether a request of a submitter has to wait for the next joined phase
 abbrev pub has_to_wait : WorkerView → ℕ → Request → Bool
-has_to_wait v submitter r = is_look_at_sliced v.last.share.users v.last.share.submitters (slices v.post) submitter r
+has_to_wait v submitter r =
+    is_look_at_sliced v.last.share.users v.last.share.submitters (slices v.post) submitter r
 
 -- a slice that is not empty belongs to a worker that runs a split phase, and has pages that are marked as split alone
 abbrev pub IsSliceInSplit : PostView → List ℕ → Type 0

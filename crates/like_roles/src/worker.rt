@@ -61,7 +61,8 @@ impl<P: Post> Worker<P> {
         requires post { IsPostOf worker setup.now.pages (P.view post) }
         ensures new { IfOk result (IsNew setup.now sizes.now worker (P.view post)) }
         ensures follows { IfOk result
-            (λ worker. (service : Service) → IsServiceOf setup.now.users setup.now.pages sizes.now service
+            (λ worker. (service : Service)
+            → IsServiceOf setup.now.users setup.now.pages sizes.now service
             → Follows service worker) }
         ensures post { IfErr result (λ refused. refused.post ≡ post) }
     {
@@ -75,7 +76,8 @@ impl<P: Post> Worker<P> {
     pub fn turn<G: Gate>(&mut self, gate: &G) -> Turn
         requires { self.old.pending ≡ None }
         ensures case { Turns self.old result self.new }
-        ensures follows { (service : Service) → Follows service self.old → Follows service self.new }
+        ensures follows { (service : Service)
+            → Follows service self.old → Follows service self.new }
         ensures takes { TakesNothing self.old self.new }
         ensures pending { Pends result self.new }
         ensures retired { result ≡ Turn.Retired → self.new.post.state ≡ Gone }

@@ -41,7 +41,8 @@ impl Desk {
     // Whether the page is split in the phase that the worker runs.
     pub fn is_sliced(&self, page: u32) -> bool
         requires { page < length self.now.marks.items }
-        ensures { result ≡ split (λ p. slice_index_or self.now.marks.items p false) self.now.phase page }
+        ensures { result
+            ≡ split (λ p. slice_index_or self.now.marks.items p false) self.now.phase page }
     {
         self.phase % 2 == 1 && self.marks[page as usize]
     }

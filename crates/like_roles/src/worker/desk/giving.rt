@@ -18,7 +18,8 @@ impl Desk {
         requires given { CanGive (view_of (P.view post.old) self.old) taken }
         ensures sound { IsSound (P.view post.new) self.new }
         ensures settled { self.new.pending ≡ None }
-        ensures case { Gives (view_of (P.view post.old) self.old) taken result (view_of (P.view post.new) self.new) }
+        ensures case { let v = view_of (P.view post.old) self.old in
+            Gives v taken result (view_of (P.view post.new) self.new) }
     {
         let Some(place) = self.pending else {
             unreachable!();
@@ -73,7 +74,11 @@ impl Desk {
         ensures left { self.new.left.items
             ≡ slice_set self.old.left.items place (slice_index self.old.left.items place - 1) }
         ensures taken { self.new.taken.items ≡ self.old.taken.items
-            ++ (record { phase = self.old.phase; submitter = held.submitter; number = held.ask.number }) ∷ [] }
+            ++ (record {
+              phase = self.old.phase;
+              submitter = held.submitter;
+              number = held.ask.number;
+            }) ∷ [] }
         ensures len { vec_len self.new.taken ≡ vec_len self.old.taken + 1 }
         ensures capacity { vec_capacity self.new.taken ≡ vec_capacity self.old.taken }
         ensures rest { self.new ≡ record self.old { left = self.new.left; taken = self.new.taken } }

@@ -21,7 +21,8 @@ impl Desk {
     pub fn waits(&self, held: &Held, verdict: Verdict) -> bool
         requires judged { IsJudged self.now.last.share held.now verdict }
         requires there { IsThere (length self.now.marks.items) held.now.ask.request.page }
-        ensures waits { result ≡ is_look_at_sliced self.now.last.share.users self.now.last.share.submitters
+        ensures waits { let share = self.now.last.share in
+            result ≡ is_look_at_sliced share.users share.submitters
             (λ page. split (λ p. slice_index_or self.now.marks.items p false) self.now.phase page)
             held.now.submitter held.now.ask.request }
         ensures accepted { result ≡ true → verdict ≡ Verdict.Accepted }
@@ -43,7 +44,8 @@ impl Desk {
         requires there { page < length self.old.marks.items }
         ensures sound { IsSound (P.view post.new) self.new }
         ensures room { HasRoomToNote self.new }
-        ensures counted { view_of (P.view post.new) self.new ≡ counted (view_of (P.view post.old) self.old) page }
+        ensures counted { view_of (P.view post.new) self.new
+            ≡ counted (view_of (P.view post.old) self.old) page }
         ensures last { self.new.last ≡ self.old.last }
     {
         if self.is_sliced(page) {
@@ -62,7 +64,8 @@ impl Desk {
         requires owned { IsTrue (owns self.old.last.share user) }
         ensures sound { IsSound (P.view post.new) self.new }
         ensures room { HasRoomToNote self.new }
-        ensures liked { view_of (P.view post.new) self.new ≡ liked (view_of (P.view post.old) self.old) user page }
+        ensures liked { view_of (P.view post.new) self.new
+            ≡ liked (view_of (P.view post.old) self.old) user page }
     {
         self.count(post, page);
         self.last.set(user, page);
@@ -75,8 +78,8 @@ impl Desk {
         requires can { CanServe (P.view post.old) self.old held.now verdict }
         ensures sound { IsSound (P.view post.new) self.new }
         ensures room { HasRoomToNote self.new }
-        ensures serves { let v = view_of (P.view post.old) self.old in
-            GivesReply v held.now.submitter held.now.ask.request result (view_of (P.view post.new) self.new) }
+        ensures serves { let v = view_of (P.view post.old) self.old in let h = held.now in
+            GivesReply v h.submitter h.ask.request result (view_of (P.view post.new) self.new) }
     {
         match verdict {
             Verdict::Accepted => {}
@@ -111,7 +114,8 @@ impl Desk {
         requires room { HasRoomForOne (P.view post.old) self.old }
         requires can { CanServe (P.view post.old) self.old held verdict }
         ensures sound { IsSound (P.view post.new) self.new }
-        ensures ran { Runs (view_of (P.view post.old) self.old) held stashed (view_of (P.view post.new) self.new) }
+        ensures ran { let v = view_of (P.view post.old) self.old in
+            Runs v held stashed (view_of (P.view post.new) self.new) }
     {
         gate.run(self.last.worker(), held.submitter, held.ask.number);
         let reply = self.serve(post, &held, verdict);

@@ -18,7 +18,8 @@ impl Desk {
         requires sound { IsSound (P.view post.old) self.old }
         requires settled { self.old.pending ≡ None }
         ensures sound { IsSound (P.view post.new) self.new }
-        ensures case { Turns (view_of (P.view post.old) self.old) result (view_of (P.view post.new) self.new) }
+        ensures case { let v = view_of (P.view post.old) self.old in
+            Turns v result (view_of (P.view post.new) self.new) }
     {
         if self.gone {
             return Turn::Retired;
@@ -41,7 +42,8 @@ impl Desk {
         requires there { (P.view post.old).state ≢ Gone }
         ensures sound { IsSound (P.view post.new) self.new }
         ensures sight { IsSightOf (P.view post.old).state result }
-        ensures saw { view_of (P.view post.new) self.new ≡ saw (view_of (P.view post.old) self.old) result }
+        ensures saw { view_of (P.view post.new) self.new
+            ≡ saw (view_of (P.view post.old) self.old) result }
     {
         let sight = post.look();
         if sight.waits || (self.started && sight.number == self.phase) {
@@ -60,7 +62,8 @@ impl Desk {
         requires joined { RunsJoined (P.view post.old).state }
         requires ending { ending ≡ true → SawEnding (P.view post.old).last }
         ensures sound { IsSound (P.view post.new) self.new }
-        ensures works { Works (view_of (P.view post.old) self.old) ending result (view_of (P.view post.new) self.new) }
+        ensures works { let v = view_of (P.view post.old) self.old in
+            Works v ending result (view_of (P.view post.new) self.new) }
     {
         if let Some(first) = self.held.pop_front() {
             self.run(post, gate, first, Verdict::Accepted, true);
@@ -85,7 +88,8 @@ impl Desk {
         requires split { RunsSplit (P.view post.old).state }
         requires ending { ending ≡ true → SawEnding (P.view post.old).last }
         ensures sound { IsSound (P.view post.new) self.new }
-        ensures works { Works (view_of (P.view post.old) self.old) ending result (view_of (P.view post.new) self.new) }
+        ensures works { let v = view_of (P.view post.old) self.old in
+            Works v ending result (view_of (P.view post.new) self.new) }
     {
         if ending {
             self.merge(post);
