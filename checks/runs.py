@@ -42,12 +42,21 @@ def not_root():
 
 @contextlib.contextmanager
 def work_folder():
-    """A folder that every user may read, with the program in it, and which is gone at the end."""
+    """A folder that every user may read, and which is gone at the end."""
     signal.signal(signal.SIGTERM, lambda *_: sys.exit(143))
     os.umask(0o022)
     with tempfile.TemporaryDirectory(prefix="likes-checks.") as folder:
         os.chmod(folder, 0o755)
-        subprocess.run([f"{ROOT}/likes"], stdout=subprocess.DEVNULL, check=True)
+        yield folder
+
+
+@contextlib.contextmanager
+def program_folder():
+    """Such a folder with the program in it, as `likes`, which is built first where it has to be."""
+    built = subprocess.run([f"{ROOT}/likes"], stdout=subprocess.DEVNULL)
+    if built.returncode != 0:
+        sys.exit(built.returncode)
+    with work_folder() as folder:
         shutil.copy(f"{ROOT}/crates/like_driver/out/like_driver", f"{folder}/likes")
         yield folder
 
