@@ -41,7 +41,8 @@ pub record Surveyed (z : Opening) (found : ℕ) (c : CoordSeatView) : Type 0 whe
 -- what a worker's look tells: of the view before, the word found and the view after
 pub record TellsLook (v : View) (found : ℕ) (w : View) : Type 0 where
   pub looked : Looked (worker_view_of v).opening found (worker_view_of v)
-  pub view : let me = worker_view_of v in w ≡ Worker (looked_view me (sight_of looked.fields me.worker))
+  pub view : let me = worker_view_of v in
+      w ≡ Worker (looked_view me (sight_of looked.fields me.worker))
 
 -- what the coordinator's look tells
 pub record TellsSurvey (v : View) (found : ℕ) (w : View) : Type 0 where
@@ -57,12 +58,14 @@ abbrev pub CoordAct : Type 1
 CoordAct = CoordSeatView → CoordSeatView → Type 0
 
 -- what another step of a worker tells: it is this action, and the view after is this
-pub record TellsWorker (does : WorkerAct) (next : WorkerSeatView → WorkerSeatView) (v w : View) : Type 0 where
+pub record TellsWorker (does : WorkerAct) (next : WorkerSeatView → WorkerSeatView) (v w : View)
+    : Type 0 where
   pub view : w ≡ Worker (next (worker_view_of v))
   pub step : does (worker_view_of v) (next (worker_view_of v))
 
 -- what another step of the coordinator tells
-pub record TellsCoord (does : CoordAct) (next : CoordSeatView → CoordSeatView) (v w : View) : Type 0 where
+pub record TellsCoord (does : CoordAct) (next : CoordSeatView → CoordSeatView) (v w : View)
+    : Type 0 where
   pub view : w ≡ Coord (next (coord_view_of v))
   pub step : does (coord_view_of v) (next (coord_view_of v))
 

@@ -48,7 +48,8 @@ post_view post = seat_view post.seat
 
 -- the numbers that tell boards apart
 abbrev pub board_numbers : TableId → List ℕ
-board_numbers id = id.words ∷ id.slots ∷ id.views_name ∷ id.atom ∷ id.block ∷ id.offset ∷ id.slot_names
+board_numbers id =
+    id.words ∷ id.slots ∷ id.views_name ∷ id.atom ∷ id.block ∷ id.offset ∷ id.slot_names
 
 -- what a worker's seat means as a post
 abbrev pub seat_meaning : WorkerSeat → PostView
@@ -66,17 +67,21 @@ AreFresh board z seats =
 
 -- each worker's seat stands in the list once
 abbrev pub AreAll : ℕ → List WorkerSeat → Type 0
-AreAll workers seats = (i : ℕ) → i < workers → count_by (λ seat. (seat_meaning seat).worker == i) seats ≡ 1
+AreAll workers seats =
+    (i : ℕ) → i < workers → count_by (λ seat. (seat_meaning seat).worker == i) seats ≡ 1
 
 -- a page's last count: its count at the start, and all that the workers of these seats have added to it
 abbrev pub last_count : Opening → List WorkerSeat → ℕ → ℕ
-last_count z seats page = slice_index z.counts page + sum_by (λ seat. additions_of (seat_meaning seat) page) seats
+last_count z seats page =
+    slice_index z.counts page + sum_by (λ seat. additions_of (seat_meaning seat) page) seats
 
 -- how much the workers of these seats have added to a page in the phases before one
 abbrev pub seats_before : List WorkerSeat → ℕ → ℕ → ℕ
-seats_before seats phase page = sum_by (λ seat. added_before phase page (seat_meaning seat).additions) seats
+seats_before seats phase page =
+    sum_by (λ seat. added_before phase page (seat_meaning seat).additions) seats
 
 -- each count that a worker of these seats read lies between what they all have added, and is of no later phase than this
 abbrev pub HaveReadBetween : Opening → ℕ → List WorkerSeat → Type 0
 HaveReadBetween z phase seats =
-    All (λ seat. let post = seat_meaning seat in AreBetween z.counts (seats_before seats) phase post.additions post.reads) seats
+    All (λ seat. let post = seat_meaning seat in
+    AreBetween z.counts (seats_before seats) phase post.additions post.reads) seats

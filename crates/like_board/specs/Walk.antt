@@ -27,10 +27,12 @@ addition phase page likes = record { phase = phase; page = page; likes = likes }
 
 -- a page's count that was read in a phase, after so many additions
 abbrev pub page_read : ℕ → ℕ → ℕ → ℕ → PageRead
-page_read phase page count after = record { phase = phase; page = page; count = count; after = after }
+page_read phase page count after =
+    record { phase = phase; page = page; count = count; after = after }
 
 -- the view of this worker on that board: its state, and what it has added
-pub record Walks (v : WorkerSeatView) (worker : ℕ) (state : WorkerState) (additions : List Addition) : Type 0 where
+pub record Walks (v : WorkerSeatView) (worker : ℕ) (state : WorkerState) (additions : List Addition)
+    : Type 0 where
   pub worker_is : v.worker ≡ worker
   pub state_is : v.state ≡ state
   pub opening_is : v.opening ≡ walk

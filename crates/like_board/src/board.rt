@@ -37,9 +37,11 @@ impl Board {
         requires few_pages { length counts.now ≤ max_pages }
         requires counts { All (λ count. count ≤ max_count) counts.now }
         ensures coord_here { IfOk result (λ r. coord_board r.1 ≡ board_id r.0) }
-        ensures coord { IfOk result (λ r. coord_view r.1 ≡ opened_coord (opening workers counts.now split.now)) }
+        ensures coord { IfOk result (λ r.
+            coord_view r.1 ≡ opened_coord (opening workers counts.now split.now)) }
         ensures seats { IfOk result (λ r. length r.2.items ≡ workers) }
-        ensures views { IfOk result (λ r. AreFresh (board_id r.0) (opening workers counts.now split.now) r.2.items) }
+        ensures views { IfOk result (λ r.
+            AreFresh (board_id r.0) (opening workers counts.now split.now) r.2.items) }
     {
         let first = PhaseWord::first(workers);
         let mut words = Vec::with_capacity(alloc, counts.len() + 1)?;

@@ -28,7 +28,8 @@ Retires v w = IsStep v.opening (Retire v.worker) Done (Worker v) (Worker w)
 
 -- it adds n to a page's count, which was this before
 abbrev pub Adds : WorkerSeatView → ℕ → ℕ → ℕ → WorkerSeatView → Type 0
-Adds v page n count w = IsSteps v.opening (likes_merged v page n) (adding v page) (Old count) (Worker v) (Worker w)
+Adds v page n count w =
+    IsSteps v.opening (likes_merged v page n) (adding v page) (Old count) (Worker v) (Worker w)
 
 -- it reads a page's count, which is this
 abbrev pub Reads : WorkerSeatView → ℕ → ℕ → WorkerSeatView → Type 0

@@ -10,7 +10,8 @@ use Rattle.like_core.specs.Exclusive.{IsExclusive, IsInPhase}
 
 -- the numbers that a core keeps
 abbrev pub numbers_of : Core → Numbers
-numbers_of core = kept core.phase core.ending core.states.items core.unmerged.items core.counts core.marks.items
+numbers_of core =
+    kept core.phase core.ending core.states.items core.unmerged.items core.counts core.marks.items
 
 -- the core stands for each state that has its numbers
 abbrev pub StandsFor : Core → Opening → CoreState → Type 0
@@ -43,4 +44,5 @@ KeepsReachable old new = (z : Opening) → IsReachable old z → IsReachable new
 -- where the core stands for a state that can be reached, each state that it stands for is exclusive, and in phase
 abbrev pub IsCoreExclusive : Core → Type 0
 IsCoreExclusive core =
-    (z : Opening) (s : CoreState) → IsReachable core z → StandsFor core z s → IsExclusive s × IsInPhase z s
+    (z : Opening) (s : CoreState) → IsReachable core z → StandsFor core z s
+    → IsExclusive s × IsInPhase z s

@@ -23,4 +23,5 @@ pub record MayLike (z : Opening) (s : CoreState) (more : ℕ → List ℕ) : Typ
 -- a state that can be reached can also be reached with such likes
 abbrev pub LikesStayReachable : Type 0
 LikesStayReachable =
-    (z : Opening) (s : CoreState) (more : ℕ → List ℕ) → Reachable z s → MayLike z s more → Reachable z (given s more)
+    (z : Opening) (s : CoreState) (more : ℕ → List ℕ)
+    → Reachable z s → MayLike z s more → Reachable z (given s more)

@@ -27,7 +27,8 @@ with_state n i state = record n { state = update n.state i state }
 
 -- worker i has not merged so many likes of the page, and all else is the same
 abbrev pub with_unmerged : Numbers → ℕ → ℕ → ℕ → Numbers
-with_unmerged n i page likes = record n { unmerged = update n.unmerged i (update (n.unmerged i) page likes) }
+with_unmerged n i page likes =
+    record n { unmerged = update n.unmerged i (update (n.unmerged i) page likes) }
 
 -- the page has this count, and all else is the same
 abbrev pub with_count : Numbers → ℕ → ℕ → Numbers

@@ -62,13 +62,19 @@ retired v = record v { state = Gone }
 
 -- the post after n was added to a page
 abbrev pub added : PostView → ℕ → ℕ → PostView
-added v page n =
-    record v { additions = v.additions ++ record { phase = phase_of v.state; page = page; likes = n } ∷ [] }
+added v page n = record v {
+  additions = v.additions ++ record { phase = phase_of v.state; page = page; likes = n } ∷ [];
+}
 
 -- the post after it read a page's count, which was this
 abbrev pub has_read : PostView → ℕ → ℕ → PostView
 has_read v page count = record v {
-  reads = v.reads ++ record { phase = phase_of v.state; page = page; count = count; after = length v.additions } ∷ [];
+  reads = v.reads ++ record {
+    phase = phase_of v.state;
+    page = page;
+    count = count;
+    after = length v.additions;
+  } ∷ [];
 }
 
 -- n may be added to the page: 1 at a like of a page that is not sliced; a slice that is merged in the ending phase; and

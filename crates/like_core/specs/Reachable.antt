@@ -12,7 +12,8 @@ after_all z s (event ∷ events) = after_all z (after z s event) events
 -- each event of the list may happen after those before it
 abbrev pub PermitsAll : Opening → CoreState → List Event → Type 0
 PermitsAll z s [] = Unit {0}
-PermitsAll z s (event ∷ events) = Permits (numbers z s) event × PermitsAll z (after z s event) events
+PermitsAll z s (event ∷ events) =
+    Permits (numbers z s) event × PermitsAll z (after z s event) events
 
 -- the state stands after some list of permitted events from the start
 pub record Reachable (z : Opening) (s : CoreState) : Type 0 where

@@ -26,14 +26,18 @@ all_before views phase page = sum_by (before_in phase page) views
 -- the count that a worker with these additions read, where all have added so much to a page before a phase, has the count
 -- at the start, all additions of earlier phases and the worker's own before in its phase; and it has none of a later
 -- phase, and none of the worker's own later ones
-pub record IsBetween (counts : List ℕ) (before : ℕ → ℕ → ℕ) (own : List Addition) (r : PageRead) : Type 0 where
+pub record IsBetween (counts : List ℕ) (before : ℕ → ℕ → ℕ) (own : List Addition) (r : PageRead)
+    : Type 0 where
   pub after : r.after ≤ length own
-  pub least : slice_index counts r.page + before r.phase r.page + added_in r.phase r.page (take r.after own) ≤ r.count
-  pub most : r.count + added_in r.phase r.page (drop r.after own) ≤ slice_index counts r.page + before (r.phase + 1) r.page
+  pub least : slice_index counts r.page + before r.phase r.page
+      + added_in r.phase r.page (take r.after own) ≤ r.count
+  pub most : r.count + added_in r.phase r.page (drop r.after own)
+      ≤ slice_index counts r.page + before (r.phase + 1) r.page
 
 -- each of a worker's reads is, and none is of a later phase than this
 abbrev pub AreBetween : List ℕ → (ℕ → ℕ → ℕ) → ℕ → List Addition → List PageRead → Type 0
-AreBetween counts before phase own reads = All (λ r. (r.phase ≤ phase) × IsBetween counts before own r) reads
+AreBetween counts before phase own reads =
+    All (λ r. (r.phase ≤ phase) × IsBetween counts before own r) reads
 
 -- the reads of a view are, and those of the views of seats that were given back
 abbrev pub HasReads : List ℕ → (ℕ → ℕ → ℕ) → ℕ → View → Type 0
@@ -46,7 +50,8 @@ HasReads counts before phase Spent = Unit {0}
 -- in a phase, with these counts at the start, the reads of all views lie between what all views have added
 abbrev pub ReadsFit : List ℕ → ℕ → List View → Type 0
 ReadsFit counts phase views =
-    (place : ℕ) (view : View) → get_elem? views place ≡ some view → HasReads counts (all_before views) phase view
+    (place : ℕ) (view : View) → get_elem? views place ≡ some view
+    → HasReads counts (all_before views) phase view
 
 -- an addition in the phase keeps it so
 abbrev pub AdditionKeepsReads : Type 0
@@ -68,8 +73,10 @@ ReadKeepsReads =
 -- a worker's seat that is given back to the coordinator's does
 abbrev pub JoinKeepsReads : Type 0
 JoinKeepsReads =
-    (counts : List ℕ) (phase : ℕ) (views : List View) (place other : ℕ) (c : CoordSeatView) (v : WorkerSeatView)
+    (counts : List ℕ) (phase : ℕ) (views : List View) (place other : ℕ)
+    (c : CoordSeatView) (v : WorkerSeatView)
     → get_elem? views place ≡ some (Coord c)
     → get_elem? views other ≡ some (Worker v)
     → ReadsFit counts phase views
-    → ReadsFit counts phase (slice_set (slice_set views place (Coord (gathered_coord c v))) other Spent)
+    → ReadsFit counts phase
+    (slice_set (slice_set views place (Coord (gathered_coord c v))) other Spent)

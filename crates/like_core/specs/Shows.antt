@@ -40,7 +40,8 @@ pub record FitsWorker (z : Opening) (s : CoreState) (v : WorkerSeatView) : Type 
   pub state : s.state v.worker ≡ v.state
   pub number : SawNoLater s.phase v.last
   pub ending : IsRunning v.state → SawEnding v.last → s.ending ≡ true
-  pub labels : (phase page : ℕ) → labelled v.worker phase (s.applied page) ≡ added_in phase page v.additions
+  pub labels : (phase page : ℕ)
+      → labelled v.worker phase (s.applied page) ≡ added_in phase page v.additions
 
 -- the coordinator's view of a state: its phase, and whether that is ending; who has no seat yet runs phase 0 and added
 -- nothing; a sight that showed all in is still what a look would show; all are gone in a split phase only where the last
@@ -49,14 +50,17 @@ pub record FitsCoord (z : Opening) (s : CoreState) (c : CoordSeatView) : Type 0 
   pub opening : c.opening ≡ z
   pub made : c.made ≤ z.workers
   pub unmade : (i : ℕ) → c.made ≤ i → i < z.workers → s.state i ≡ Runs 0
-  pub unlabelled : (i phase page : ℕ) → c.made ≤ i → i < z.workers → labelled i phase (s.applied page) ≡ 0
+  pub unlabelled : (i phase page : ℕ) → c.made ≤ i → i < z.workers
+      → labelled i phase (s.applied page) ≡ 0
   pub phase : c.phase ≡ s.phase
   pub ending : c.ending ≡ s.ending
   pub last : IfSome c.last (λ sight. (sight.number ≡ s.phase) × (sight.ending ≡ s.ending))
-  pub stays : IfSome c.last (λ sight. sight.all_in ≡ true → CoordSees (numbers z s) sight × (c.word ≡ shown_word z s))
+  pub stays : IfSome c.last (λ sight. sight.all_in ≡ true
+      → CoordSees (numbers z s) sight × (c.word ≡ shown_word z s))
   pub all_in : c.all_in ≡ true → AllIn (numbers z s)
   pub gone : IsSplit s.phase → AllGone (numbers z s) → c.gone ≡ true
-  pub joined : (place : ℕ) (v : WorkerSeatView) → get_elem? c.joined place ≡ some v → FitsWorker z s v
+  pub joined : (place : ℕ) (v : WorkerSeatView) → get_elem? c.joined place ≡ some v
+      → FitsWorker z s v
 
 -- a seat's view of a state
 abbrev pub Fits : Opening → CoreState → View → Type 0
@@ -91,7 +95,8 @@ pub record ShowsSome (z : Opening) (words : List ℕ) (views : List View) : Type
 -- one step of a seat, whose view goes from v to w, is these events and then this one: some state that can be reached is
 -- shown by the words and by all views, the events are permitted there one after the other, the last shows what it is
 -- said to show, and afterwards the words, of which one may differ, and all views show the state after the events
-pub record IsSteps (z : Opening) (events : List Event) (event : Event) (shown : Shown) (v w : View) : Type 0 where
+pub record IsSteps (z : Opening) (events : List Event) (event : Event) (shown : Shown) (v w : View)
+    : Type 0 where
   pub words : List ℕ
   pub views : List View
   pub place : ℕ
@@ -105,7 +110,8 @@ pub record IsSteps (z : Opening) (events : List Event) (event : Event) (shown : 
   pub changed : ℕ
   pub word : ℕ
   pub shows_after :
-      Shows z (after z (after_all z state events) event) (slice_set words changed word) (slice_set views place w)
+      Shows z (after z (after_all z state events) event)
+      (slice_set words changed word) (slice_set views place w)
 
 -- one step of a seat is this event
 abbrev pub IsStep : Opening → Event → Shown → View → View → Type 0

@@ -67,7 +67,8 @@ after z s (Like i page) =
 after z s (Read i page) = s
 after z s (Merge i page) = record s {
   unmerged = update s.unmerged i (without page (s.unmerged i));
-  applied = update s.applied page (s.applied page ++ replicate (times page (s.unmerged i)) (label_now s i));
+  applied = update s.applied page
+      (s.applied page ++ replicate (times page (s.unmerged i)) (label_now s i));
 }
 after z s CoordLook = s
 after z s Announce = record s { ending = true }

@@ -31,7 +31,8 @@ abbrev pub Suits : Numbers → Event → Type 0
 Suits n (Look i) = n.state i ≢ Gone
 Suits n (Acknowledge i) = (n.state i ≡ Runs n.phase) × IsJoined n.phase × (n.ending ≡ true)
 Suits n (Report i) =
-    (n.state i ≡ Runs n.phase) × IsSplit n.phase × (n.ending ≡ true) × ((page : ℕ) → n.unmerged i page ≡ 0)
+    (n.state i ≡ Runs n.phase) × IsSplit n.phase × (n.ending ≡ true)
+    × ((page : ℕ) → n.unmerged i page ≡ 0)
 Suits n (Retire i) = (n.state i ≡ Runs n.phase) × IsJoined n.phase
 Suits n (Like i page) = n.state i ≡ Runs n.phase
 Suits n (Read i page) = (n.state i ≡ Runs n.phase) × (sliced n page ≡ false)

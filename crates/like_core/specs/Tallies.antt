@@ -29,5 +29,7 @@ room page Spent = 0
 -- 16 workers may add; and nothing was added in a later phase
 pub record Tallied (s : CoreState) (views : List View) : Type 0 where
   pub sums : (page : ℕ) → length (s.applied page) ≡ sum_by (paged page) views
-  pub rooms : (page : ℕ) → length (s.applied page) + sum_by (room page) views ≤ max_likes * max_workers
-  pub past : (phase page : ℕ) → s.phase < phase → all_before views phase page ≡ sum_by (paged page) views
+  pub rooms : (page : ℕ)
+      → length (s.applied page) + sum_by (room page) views ≤ max_likes * max_workers
+  pub past : (phase page : ℕ) → s.phase < phase
+      → all_before views phase page ≡ sum_by (paged page) views

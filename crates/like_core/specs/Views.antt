@@ -52,13 +52,19 @@ retired_view v = record v { state = Gone }
 
 -- a worker's view after n was added to a page
 abbrev pub added_view : WorkerSeatView → ℕ → ℕ → WorkerSeatView
-added_view v page n =
-    record v { additions = v.additions ++ record { phase = phase_of v.state; page = page; likes = n } ∷ [] }
+added_view v page n = record v {
+  additions = v.additions ++ record { phase = phase_of v.state; page = page; likes = n } ∷ [];
+}
 
 -- a worker's view after it read a page's count, which was this
 abbrev pub read_view : WorkerSeatView → ℕ → ℕ → WorkerSeatView
 read_view v page count = record v {
-  reads = v.reads ++ record { phase = phase_of v.state; page = page; count = count; after = length v.additions } ∷ [];
+  reads = v.reads ++ record {
+    phase = phase_of v.state;
+    page = page;
+    count = count;
+    after = length v.additions;
+  } ∷ [];
 }
 
 -- what a worker's view means as a post, the board aside
@@ -96,8 +102,13 @@ saw_all_gone None = false
 
 -- the coordinator's view after a release
 abbrev pub released_coord : CoordSeatView → CoordSeatView
-released_coord c =
-    record c { phase = c.phase + 1; ending = false; last = None; all_in = false; gone = saw_all_gone c.last }
+released_coord c = record c {
+  phase = c.phase + 1;
+  ending = false;
+  last = None;
+  all_in = false;
+  gone = saw_all_gone c.last;
+}
 
 -- the coordinator's view after it made one worker's seat more
 abbrev pub made_coord : CoordSeatView → CoordSeatView

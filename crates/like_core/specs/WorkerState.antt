@@ -44,7 +44,8 @@ phase_of Gone = 0
 -- phase and waits, or the next, and runs it
 abbrev pub IsSightOf : WorkerState → Sight → Type 0
 IsSightOf (Runs phase) sight = (sight.number ≡ phase) × (sight.waits ≡ false)
-IsSightOf (Answered phase) sight = MatchBool sight.waits (sight.number ≡ phase) (sight.number ≡ phase + 1)
+IsSightOf (Answered phase) sight =
+    MatchBool sight.waits (sight.number ≡ phase) (sight.number ≡ phase + 1)
 IsSightOf Gone sight = ⊥
 
 -- the worker's state after a sight

@@ -48,7 +48,8 @@ impl PhaseWord {
         number: u32,
     ) -> Option<PhaseWord>
         ensures lawful { IsSome result ↔ IsLawful (word_fields kind workers answered retired number) }
-        ensures fields { IfSome result (λ p. fields_of p ≡ word_fields kind workers answered retired number) }
+        ensures fields { IfSome result (λ p.
+            fields_of p ≡ word_fields kind workers answered retired number) }
     {
         if workers < 1 || workers > MAX_WORKERS || number > LAST_PHASE {
             return None;

@@ -14,7 +14,8 @@ pub fn check_events(core: &mut Core, events: &[Event]) -> Result<(), Wrong>
     ensures wrong { IfErr result (IsWrong (numbers_of core.old) events.now) }
     ensures before { IfErr result (λ wrong.
         numbers_of core.new ≡ next_all (numbers_of core.old) (take wrong.index events.now)) }
-    ensures states_before { IfErr result (λ wrong. TakesStatesAll core.old core.new (take wrong.index events.now)) }
+    ensures states_before { IfErr result (λ wrong.
+        TakesStatesAll core.old core.new (take wrong.index events.now)) }
 
     ensures reachable { KeepsReachable core.old core.new }
     ensures exclusive { IsCoreExclusive core.new }
