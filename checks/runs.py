@@ -69,30 +69,31 @@ def workload(folder, **numbers):
     return ["pages.csv", *sorted(requests, key=lambda name: (len(name), name))]
 
 
+def limit_self(limits, user):
+    """Sets limits on what this process may have, and the user that it is of."""
+    resource.setrlimit(resource.RLIMIT_CORE, (0, 0))
+    # A file that is at its limit is then like a full disk.
+    signal.signal(signal.SIGXFSZ, signal.SIG_IGN)
+    if user is not None and user != os.getuid():
+        os.setgroups([])
+        os.setgid(user)
+        os.setuid(user)
+    for limit, most in limits:
+        resource.setrlimit(limit, (most, most))
+
+
 def run(words, folder, limits=(), user=None, out=None, errors=None, seconds=60, **how):
     """Runs a program in a folder, with limits on what it may have and as a user, and tells how it ended.
 
     What it writes goes to `out` and `errors`, where they are given, and else is kept."""
-
-    def prepare():
-        resource.setrlimit(resource.RLIMIT_CORE, (0, 0))
-        # A file that is at its limit is then like a full disk.
-        signal.signal(signal.SIGXFSZ, signal.SIG_IGN)
-        if user is not None and user != os.getuid():
-            os.setgroups([])
-            os.setgid(user)
-            os.setuid(user)
-        for limit, most in limits:
-            resource.setrlimit(limit, (most, most))
-
-    with tempfile.TemporaryFile() as kept, tempfile.TemporaryFile() as told:
+    with tempfile.TemporaryFile() as written, tempfile.TemporaryFile() as lines:
         began = time.monotonic()
         child = subprocess.Popen(
             words,
             cwd=folder,
-            stdout=kept if out is None else out,
-            stderr=told if errors is None else errors,
-            preexec_fn=prepare,
+            stdout=written if out is None else out,
+            stderr=lines if errors is None else errors,
+            preexec_fn=lambda: limit_self(limits, user),
             **{"stdin": subprocess.DEVNULL, **how},
         )
         timer = threading.Timer(seconds, child.kill)
@@ -102,11 +103,11 @@ def run(words, folder, limits=(), user=None, out=None, errors=None, seconds=60, 
         timer.cancel()
         timer.join()
         child.returncode = -os.WTERMSIG(code) if os.WIFSIGNALED(code) else os.WEXITSTATUS(code)
-        kept.seek(0)
-        told.seek(0)
+        written.seek(0)
+        lines.seek(0)
         hung = hung and child.returncode == -signal.SIGKILL
         took = used.ru_utime + used.ru_stime
-        return Ended(child.returncode, kept.read(), told.read(), took, hung, used.ru_maxrss * 1024)
+        return Ended(child.returncode, written.read(), lines.read(), took, hung, used.ru_maxrss * 1024)
 
 
 def agreed(report):
