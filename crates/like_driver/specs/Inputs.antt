@@ -6,7 +6,7 @@ use Rattle.like_records.specs.Reading.{records_of}
 use Rattle.like_requests.specs.Pages.{Page}
 use Rattle.like_requests.specs.PagesFile.{IsPagesFault, IsPagesFile}
 use Rattle.like_requests.specs.RequestsFile.{IsRequestsFault, IsRequestsFile}
-use Rattle.like_requests.specs.Rows.{Record}
+use Rattle.like_records.specs.Rows.{Record}
 use Rattle.like_requests.specs.declared.pages_file.PagesFault.{PagesFault}
 use Rattle.like_requests.specs.declared.request.Request.{Request}
 use Rattle.like_requests.specs.declared.requests_file.RequestsFault.{RequestsFault}

@@ -2,3 +2,4 @@ mod DecimalDigits
 mod Fields
 mod ReaderSteps
 mod RecordsLeft
+pub mod RowsRead

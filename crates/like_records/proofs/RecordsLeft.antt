@@ -71,7 +71,7 @@ records-first cfg s [] p e =
     rw e (ap (λ (more : List (List (List ℕ))). p.0 ∷ more) (sym (rw (last.0, last.1) (records-none cfg 1))))
 records-first cfg s (c ∷ rest) p e =
     let shorter = next-shrinks cfg s [] [] (c ∷ rest) p e in
-    rw (add-one, e) (ap (λ (more : List (List (List ℕ))). p.0 ∷ more) (records-fuel cfg (length (c ∷ rest)) (length p.2 + 1) p.1 p.2 (omega arith) (omega arith)))
+    rw (add-one (length (c ∷ rest)), e) (ap (λ (more : List (List (List ℕ))). p.0 ∷ more) (records-fuel cfg (length (c ∷ rest)) (length p.2 + 1) p.1 p.2 (omega arith) (omega arith)))
 
 -- a text with no next record has no records
 pub records-ended : (cfg : Config) (s : State) (xs : List ℕ) → next_record cfg s [] [] xs ≡ None → records_from cfg (length xs + 1) s xs ≡ []

@@ -1,3 +1,5 @@
 pub mod Decimal
 pub mod Fault
+pub mod First
 pub mod Reading
+pub mod Rows

@@ -1,31 +1,35 @@
 use crate::{Records, RecordsFault, decimal};
-use std::io;
-use std::io::Read;
+use like_devices::{CASES, Trickle};
+use std::alloc::Global;
 use std::test::Fail;
 
-// Gives its text a byte at a time, and an error in place of the byte at `fault_at`.
-#[derive(Drop)]
-struct Flaky {
-    text: &'static [u8],
-    fault_at: usize,
-    given: usize,
+// The records of a text, where `|` ends a field and `;` a record.
+fn written(alloc: Global, text: &[u8]) -> Result<Vec<u8>, Fail> {
+    let mut records = Records::new(alloc, text);
+    let mut out = Vec::new(alloc);
+    for _ in 0..text.len() {
+        if !records.read_next()? {
+            return Ok(out);
+        }
+        for index in 0..records.field_count() {
+            out.extend_from_slice(records.field(index))?;
+            out.push(b'|')?;
+        }
+        out.push(b';')?;
+    }
+    Ok(out)
 }
 
-impl Read for Flaky {
-    fn read(&mut self, buf: &mut [u8]) -> io::Result<usize> {
-        if self.given == self.fault_at {
-            self.given = self.given.saturating_add(1);
-            return Err(io::Error::from(io::ErrorKind::BrokenPipe));
-        }
-        match (self.text.get(self.given), buf.first_mut()) {
-            (Some(byte), Some(place)) => {
-                *place = *byte;
-                self.given = self.given.saturating_add(1);
-                Ok(1)
-            }
-            _ => Ok(0),
-        }
+#[test]
+fn reads_what_others_read(rt: HostRuntime) -> Result<(), Fail> {
+    for (text, records) in CASES {
+        assert_eq!(rt;
+            written(rt.alloc(), text.as_bytes())?.as_slice(),
+            records.as_bytes(),
+            "at {text}"
+        );
     }
+    Ok(())
 }
 
 #[test]
@@ -69,11 +73,7 @@ fn an_empty_text_has_no_record(rt: HostRuntime) {
 
 #[test]
 fn a_failed_read_stays_failed(rt: HostRuntime) -> Result<(), Fail> {
-    let reader = Flaky {
-        text: b"like,1\nlook,2\n",
-        fault_at: 11,
-        given: 0,
-    };
+    let reader = Trickle::new(b"like,1\nlook,2\n", 11);
     let mut records = Records::new(rt.alloc(), reader);
     assert!(rt; records.read_next()?);
     assert!(rt; records.fields_are(&["like", "1"]));

@@ -4,5 +4,4 @@ pub mod Fronts
 pub mod Names
 pub mod PagesRead
 pub mod Planned
-pub mod Reading
 pub mod RequestsRead

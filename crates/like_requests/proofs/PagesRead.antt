@@ -1,22 +1,32 @@
--- The steps of reading a pages file.
-use Rattle.std.proofs.Common.{◌≡◌, ℕ, ◌+◌, List, [], ◌∷◌, ◌++◌, length, map, take, Some, refl, sym, ap, ◌∙◌}
-use Rattle.std.specs.List.{AllByRecursion}
-use Rattle.std.proofs.lemmas.List.{length-map}
-use Rattle.like_records.specs.Reading.{Reading, TakesRecord}
+-- What the reading of its rows says of a pages file.
+use Rattle.std.proofs.Common.{◌≡◌, ◌≢◌, ◌+◌, List, [], ◌∷◌, ◌++◌, Option, Some, None, Result, MatchOption, MatchResult, length, map, take, refl, sym, ap, ◌∙◌, ◌⊎◌}
+use Rattle.std.specs.Option.{ok_or}
+use Rattle.std.proofs.lemmas.List.{length-map, map-append}
 use Rattle.like_records.specs.declared.fault.RecordsFault.{RecordsFault}
 use Rattle.like_records.specs.declared.fault.RecordsFault.TheVariants as records
-use Rattle.like_requests.specs.First.{FailsFirst}
+use Rattle.like_records.specs.Rows.{Behind, Excuses, IsFirstFailed, IsHeadless, PassAll, Record, field}
+use Rattle.like_records.proofs.RowsRead.{among, stopped}
 use Rattle.like_requests.specs.Pages.{Page, names}
-use Rattle.like_requests.specs.PagesFile.{AsksPage, AsksPageRecord, IsPagesFault, fault_of, page_of, page_tests, pages_header}
-use Rattle.like_requests.specs.Rows.{IsFirstFailed, Record, field}
+use Rattle.like_requests.specs.PagesFile.{AsksPageRecord, IsPagesFault, IsPagesFile, fault_of, page_of, page_tests, pages_header}
 use Rattle.like_requests.specs.declared.pages_file.PagesFault.{PagesFault}
 use Rattle.like_requests.specs.declared.pages_file.PagesFault.TheVariants.{Read, Header, Fields, Name, Duplicate, Count, Split, TooMany, Empty, Memory}
-use Rattle.like_requests.proofs.Reading.{HasRead, among, reading_goes_on, reading_stops}
 
 -- the names of the pages that records list
 names-page_of : (done : List Record) → names (map page_of done) ≡ map (λ e. field e 0) done
 names-page_of [] = refl
 names-page_of (r ∷ done) = ap (λ ns. field r 0 ∷ ns) (names-page_of done)
+
+-- the names so far are those that the records before list, of which there are as many
+pub names-listed : (pages : List Page) (done : List Record) → pages ≡ map page_of done → names pages ≡ map (λ e. field e 0) done
+names-listed pages done same = ap names same ∙ names-page_of done
+
+pub count-listed : (pages : List Page) (done : List Record) → pages ≡ map page_of done → length pages ≡ length done
+count-listed pages done same = ap (λ (ps : List Page). length ps) same ∙ length-map done page_of
+
+-- one record more lists one page more
+pub page-listed : (entries old : List Page) (done : List Record) (r : Record) (page : Page) → old ≡ map page_of done → page_of r ≡ page → entries ≡ old ++ page ∷ []
+    → entries ≡ map page_of (done ++ r ∷ [])
+page-listed entries old done r page same is added = added ∙ rw (same, ← is) (sym (map-append page_of done (r ∷ [])))
 
 -- the file is stopped by a record, and not by its header or its end
 abbrev StopsAtRecord : PagesFault → Type 0
@@ -28,48 +38,40 @@ at_record : (body : List Record) (fault : PagesFault) → IsFirstFailed AsksPage
 at_record body fault h = among (AsksPageRecord (take h.0 body) h.1) StopsAtRecord (page_tests (h.0 + 1)) fault (tt, (tt, (tt, (tt, (tt, (tt, tt)))))) h.4
 
 -- a record that fails a test is why the file has no pages
-stops_file : (body : List Record) (fault : PagesFault) → IsFirstFailed AsksPageRecord page_tests body fault → IsPagesFault (pages_header ∷ body) fault
-stops_file body Read h = tt
-stops_file body Memory h = tt
-stops_file body Header h = absurd (at_record body Header h)
-stops_file body Empty h = absurd (at_record body Empty h)
-stops_file body (Fields row) h = (body, refl, h)
-stops_file body (Name row) h = (body, refl, h)
-stops_file body (Duplicate row) h = (body, refl, h)
-stops_file body (Count row) h = (body, refl, h)
-stops_file body (Split row) h = (body, refl, h)
-stops_file body TooMany h = (body, refl, h)
+stops_file : (rows : List Record) (fault : PagesFault) → Behind pages_header (λ body. IsFirstFailed AsksPageRecord page_tests body fault) rows → IsPagesFault rows fault
+stops_file rows Read h = tt
+stops_file rows Memory h = tt
+stops_file rows Header h = absurd (at_record h.0 Header h.2)
+stops_file rows Empty h = absurd (at_record h.0 Empty h.2)
+stops_file rows (Fields row) h = h
+stops_file rows (Name row) h = h
+stops_file rows (Duplicate row) h = h
+stops_file rows (Count row) h = h
+stops_file rows (Split row) h = h
+stops_file rows TooMany h = h
 
 -- a record that could not be had says nothing of the file
-pub IsPagesFault-fault_of : (rows : List Record) (why : RecordsFault) → IsPagesFault rows (fault_of why)
-IsPagesFault-fault_of rows records.Read = tt
-IsPagesFault-fault_of rows records.Memory = tt
+excused : (rows : List Record) (why : RecordsFault) → IsPagesFault rows (fault_of why)
+excused rows records.Read = tt
+excused rows records.Memory = tt
 
--- the tests of the next record, by the pages so far and by the records before it
-asked : (pages : List Page) (done : List Record) (row : ℕ) → pages ≡ map page_of done → length pages + 1 ≡ row
-    → (names pages ≡ map (λ e. field e 0) done) × (row ≡ length done + 1)
-asked pages done row same count = (
-  ap names same ∙ names-page_of done,
-  sym count ∙ ap (λ n. n + 1) (ap (λ (ps : List Page). length ps) same ∙ length-map done page_of),
-)
+-- why the file was not read is why it has no pages
+pub pages-stopped : (rows : List Record) (fault : PagesFault)
+    → Excuses fault_of fault ⊎ IsHeadless pages_header Header rows fault ⊎ Behind pages_header (λ body. IsFirstFailed AsksPageRecord page_tests body fault) rows
+    → IsPagesFault rows fault
+pages-stopped rows fault why =
+    stopped (IsPagesFault rows) fault_of pages_header Header (λ why. Behind pages_header (λ body. IsFirstFailed AsksPageRecord page_tests body why) rows) rows fault (excused rows) (λ none. none) (stops_file rows fault) why
 
--- the next record fails a test
-pub page_stops : (body : List Record) (old new : Reading) (pages : List Page) (row : ℕ) (fault : PagesFault)
-    → HasRead AsksPageRecord page_tests page_of body old.left pages → TakesRecord old new → length pages + 1 ≡ row
-    → FailsFirst (AsksPage (names pages) new.fields) (page_tests row) fault → IsPagesFault (pages_header ∷ body) fault
-page_stops body old new pages row fault h takes count fails =
-    let (rest, first, more) = takes h.rest h.left_is in
-    let (earlier, at) = asked pages h.done row h.items_are count in
-    stops_file body fault (reading_stops AsksPageRecord page_tests page_of body old.left pages new.fields rest fault h (h.left_is ∙ ap Some first)
-    (rw (earlier, at) at fails))
+-- no record lists no page
+none_listed : (body : List Record) → [] ≡ map page_of body → body ≡ []
+none_listed [] e = refl
+none_listed (r ∷ body) e = cc
 
--- the next record lists a page
-pub page_goes_on : (body : List Record) (old new : Reading) (pages : List Page) (page : Page) (row : ℕ)
-    → HasRead AsksPageRecord page_tests page_of body old.left pages → TakesRecord old new → length pages + 1 ≡ row
-    → AllByRecursion (AsksPage (names pages) new.fields) (page_tests row) → page_of new.fields ≡ page
-    → HasRead AsksPageRecord page_tests page_of body new.left (pages ++ page ∷ [])
-page_goes_on body old new pages page row h takes count good same =
-    let (rest, first, more) = takes h.rest h.left_is in
-    let (earlier, at) = asked pages h.done row h.items_are count in
-    rw (more, ← same) (reading_goes_on AsksPageRecord page_tests page_of body old.left pages new.fields rest h (h.left_is ∙ ap Some first)
-    (rw earlier at good))
+-- the entries that were read are the file's pages, where there are any
+pub pages-read : (rows : List Record) (entries : List Page) (some : Option (List Page)) (r : Result (List Page) PagesFault)
+    → Behind pages_header (λ body. PassAll AsksPageRecord page_tests body × (entries ≡ map page_of body)) rows
+    → MatchOption some (entries ≡ []) (λ pages. (pages ≡ entries) × (entries ≢ [])) → r ≡ ok_or some Empty → MatchResult r (IsPagesFile rows) (IsPagesFault rows)
+pages-read rows entries (Some pages) r (body, whole, made) same e =
+    rw e (body, whole, (λ none. same.1 (made.1 ∙ ap (λ rows. map page_of rows) none)), made.0, same.0 ∙ made.1)
+pages-read rows entries None r (body, whole, made) none e =
+    rw e (whole ∙ ap (λ rows. pages_header ∷ rows) (none_listed body (sym none ∙ made.1)))

@@ -1,18 +1,14 @@
--- The steps of reading a requests file.
-use Rattle.std.proofs.Common.{◌≡◌, ℕ, ◌+◌, ◌-◌, List, [], ◌∷◌, ◌++◌, length, take, Some, refl, sym, ap, ◌∙◌, arith}
-use Rattle.std.specs.List.{AllByRecursion}
-use Rattle.std.proofs.lemmas.List.{length-map}
-use Rattle.like_records.specs.Reading.{Reading, TakesRecord}
+-- What the reading of its rows says of a requests file.
+use Rattle.std.proofs.Common.{◌≡◌, ◌+◌, List, Vec, Global, Result, Ok, Err, MatchResult, map, take, ◌⊎◌}
 use Rattle.like_records.specs.declared.fault.RecordsFault.{RecordsFault}
 use Rattle.like_records.specs.declared.fault.RecordsFault.TheVariants as records
-use Rattle.like_requests.specs.First.{FailsFirst}
+use Rattle.like_records.specs.Rows.{Behind, Excuses, IsFirstFailed, IsHeadless, PassAll, Record}
+use Rattle.like_records.proofs.RowsRead.{among, stopped}
 use Rattle.like_requests.specs.Pages.{Page}
-use Rattle.like_requests.specs.RequestsFile.{AsksRequest, AsksRequestRecord, IsRequestsFault, fault_of, request_of, request_tests, requests_header}
-use Rattle.like_requests.specs.Rows.{IsFirstFailed, Record}
+use Rattle.like_requests.specs.RequestsFile.{AsksRequestRecord, IsRequestsFault, IsRequestsFile, fault_of, request_of, request_tests, requests_header}
 use Rattle.like_requests.specs.declared.request.Request.{Request}
 use Rattle.like_requests.specs.declared.requests_file.RequestsFault.{RequestsFault}
 use Rattle.like_requests.specs.declared.requests_file.RequestsFault.TheVariants.{Read, Header, Fields, Op, User, TooMany, Memory}
-use Rattle.like_requests.proofs.Reading.{HasRead, among, reading_goes_on, reading_stops}
 
 -- the file is stopped by a record, and not by its header
 abbrev StopsAtRecord : RequestsFault → Type 0
@@ -23,41 +19,25 @@ at_record : (body : List Record) (fault : RequestsFault) → IsFirstFailed AsksR
 at_record body fault h = among (AsksRequestRecord (take h.0 body) h.1) StopsAtRecord (request_tests (h.0 + 1)) fault (tt, (tt, (tt, (tt, tt)))) h.4
 
 -- a record that fails a test is why the file has no requests
-stops_file : (body : List Record) (fault : RequestsFault) → IsFirstFailed AsksRequestRecord request_tests body fault → IsRequestsFault (requests_header ∷ body) fault
-stops_file body Read h = tt
-stops_file body Memory h = tt
-stops_file body Header h = absurd (at_record body Header h)
-stops_file body (Fields row) h = (body, refl, h)
-stops_file body (Op row) h = (body, refl, h)
-stops_file body (User row) h = (body, refl, h)
-stops_file body TooMany h = (body, refl, h)
+stops_file : (rows : List Record) (fault : RequestsFault) → Behind requests_header (λ body. IsFirstFailed AsksRequestRecord request_tests body fault) rows → IsRequestsFault rows fault
+stops_file rows Read h = tt
+stops_file rows Memory h = tt
+stops_file rows Header h = absurd (at_record h.0 Header h.2)
+stops_file rows (Fields row) h = h
+stops_file rows (Op row) h = h
+stops_file rows (User row) h = h
+stops_file rows TooMany h = h
 
 -- a record that could not be had says nothing of the file
-pub IsRequestsFault-fault_of : (rows : List Record) (why : RecordsFault) → IsRequestsFault rows (fault_of why)
-IsRequestsFault-fault_of rows records.Read = tt
-IsRequestsFault-fault_of rows records.Memory = tt
+excused : (rows : List Record) (why : RecordsFault) → IsRequestsFault rows (fault_of why)
+excused rows records.Read = tt
+excused rows records.Memory = tt
 
-module _ (pages : List Page) (body : List Record) (old new : Reading) (requests : List Request) (row : ℕ)
-    (h : HasRead AsksRequestRecord request_tests (request_of pages) body old.left requests)
-    (takes : TakesRecord old new) (count : length requests + 1 ≡ row) where
-  -- the row of the next record, by the records before it
-  row_is : row ≡ length h.done + 1
-  row_is = sym count ∙ ap (λ n. n + 1) (ap (λ (rs : List Request). length rs) h.items_are ∙ length-map h.done (request_of pages))
-
-  earlier : row - 1 ≡ length h.done
-  earlier = omega (arith, row_is)
-
-  -- the next record fails a test
-  pub request_stops : (fault : RequestsFault) → FailsFirst (AsksRequest (row - 1) new.fields) (request_tests row) fault → IsRequestsFault (requests_header ∷ body) fault
-  request_stops fault fails =
-      let (rest, first, more) = takes h.rest h.left_is in
-      stops_file body fault (reading_stops AsksRequestRecord request_tests (request_of pages) body old.left requests new.fields rest fault h (h.left_is ∙ ap Some first)
-      (rw (earlier, row_is) at fails))
-
-  -- the next record makes a request
-  pub request_goes_on : AllByRecursion (AsksRequest (row - 1) new.fields) (request_tests row)
-      → HasRead AsksRequestRecord request_tests (request_of pages) body new.left (requests ++ request_of pages new.fields ∷ [])
-  request_goes_on good =
-      let (rest, first, more) = takes h.rest h.left_is in
-      rw more (reading_goes_on AsksRequestRecord request_tests (request_of pages) body old.left requests new.fields rest h (h.left_is ∙ ap Some first)
-      (rw earlier at good))
+-- what was read of the file is what it says
+pub requests-read : (pages : List Page) (rows : List Record) (r : Result (Vec Request Global) RequestsFault)
+    → MatchResult r (λ requests. Behind requests_header (λ body. PassAll AsksRequestRecord request_tests body × (requests.items ≡ map (request_of pages) body)) rows)
+    (λ fault. Excuses fault_of fault ⊎ IsHeadless requests_header Header rows fault ⊎ Behind requests_header (λ body. IsFirstFailed AsksRequestRecord request_tests body fault) rows)
+    → MatchResult r (λ requests. IsRequestsFile pages rows requests.items) (IsRequestsFault rows)
+requests-read pages rows (Ok requests) made = (made.0, made.1, made.2.0, made.2.1)
+requests-read pages rows (Err fault) why =
+    stopped (IsRequestsFault rows) fault_of requests_header Header (λ why. Behind requests_header (λ body. IsFirstFailed AsksRequestRecord request_tests body why) rows) rows fault (excused rows) (λ none. none) (stops_file rows fault) why

@@ -1,9 +1,7 @@
 pub mod Limits
 pub mod Entries
-pub mod First
 pub mod Pages
 pub mod PagesFile
 pub mod RequestsFile
-pub mod Rows
 pub mod Setup
 pub mod Verdict

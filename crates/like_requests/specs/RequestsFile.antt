@@ -4,7 +4,7 @@ use Rattle.like_records.specs.Decimal.{IsDecimal, decimal_value}
 use Rattle.like_records.specs.declared.fault.RecordsFault.{RecordsFault}
 use Rattle.like_records.specs.declared.fault.RecordsFault.TheVariants as records
 use Rattle.like_requests.specs.Pages.{Page, number_of}
-use Rattle.like_requests.specs.Rows.{IsFirstFailed, PassAll, Record, field}
+use Rattle.like_records.specs.Rows.{IsFirstFailed, PassAll, Record, field}
 use Rattle.like_requests.specs.declared.request.Op.{Op}
 use Rattle.like_requests.specs.declared.request.Op.TheVariants.{Like, Look}
 use Rattle.like_requests.specs.declared.request.PageRef.{PageRef}

@@ -1,7 +1,7 @@
 -- The limits of a run.
 use Rattle.std.specs.Prelude.{◌≡◌, ◌⊎◌, ℕ, ◌<◌, ◌≤◌, List, [], ◌∷◌, length, map, All, ⊤}
 use Rattle.std.specs.List.{AllByRecursion}
-use Rattle.like_requests.specs.First.{FailsFirst, IsFirstBad}
+use Rattle.like_records.specs.First.{FailsFirst, IsFirstBad}
 use Rattle.like_requests.specs.Pages.{Page}
 use Rattle.like_requests.specs.declared.request.PageRef.{PageRef}
 use Rattle.like_requests.specs.declared.request.PageRef.TheVariants.{Known, Unknown}

@@ -79,16 +79,16 @@ impl Entries {
         }
     }
 
-    pub fn add(&mut self, name: String, initial: Initial) -> Result<(), AllocError>
+    pub fn add(&mut self, alloc: Global, name: &str, initial: Initial) -> Result<(), AllocError>
         requires room { length self.old < max_pages }
-        requires named { IsName (string_bytes name) }
+        requires named { IsName name.now }
         requires counted { initial.count ≤ max_count }
-        requires other { ¬ Contains (names self.old) (string_bytes name) }
+        requires other { ¬ Contains (names self.old) name.now }
         ensures added { OnOk result (self.new
-            ≡ self.old
-            ++ (record { name = string_bytes name; count = initial.count; split = initial.split }) ∷ []) }
+            ≡ self.old ++ (record { name = name.now; count = initial.count; split = initial.split }) ∷ []) }
     {
-        self.by_name.insert(name, initial)?;
+        self.by_name
+            .insert(String::from_str(alloc, name)?, initial)?;
         Ok(())
     }
 }

@@ -1,15 +1,15 @@
 ghost use Rattle.std.specs.Prelude.{◌≡◌, ◌⊎◌, ◌+◌, ◌<◌, ◌≤◌, ℕ, List, [], ◌∷◌, MatchOption, MatchResult, Some, Ok, Err, bytes_eq, codes, length, map, option_map, string_bytes};
 ghost use Rattle.std.specs.List.{AllByRecursion};
 ghost use Rattle.like_records.specs.Reading.{records_of};
-ghost use Rattle.like_requests.specs.First.{FailsFirst};
+ghost use Rattle.like_records.specs.First.{FailsFirst};
 ghost use Rattle.like_requests.specs.Pages.{IsName, Page, names};
-ghost use Rattle.like_requests.specs.PagesFile.{AsksPage, AsksPageRecord, IsPagesFault, IsPagesFile, IsSplitMark, page_of, page_tests, pages_header};
-ghost use Rattle.like_requests.specs.Rows.{IsFirstFailed, PassAll, Record};
+ghost use Rattle.like_requests.specs.PagesFile.{AsksPage, AsksPageRecord, IsPagesFault, IsPagesFile, IsSplitMark, fault_of, page_of, page_tests, pages_header};
+ghost use Rattle.like_records.specs.Rows.{IsFirstFailed, PassAll, Record};
 
 use crate::entries::{Entries, Initial};
 use crate::pages::{MAX_COUNT, MAX_NAME, MAX_PAGES, Pages};
-use like_records::{Records, RecordsFault, decimal};
-use std::alloc::{AllocError, Global};
+use like_records::{FileKind, Records, RecordsFault, decimal, read_file};
+use std::alloc::Global;
 use std::io::Read;
 use std::str;
 use thiserror::Error;
@@ -45,28 +45,46 @@ pub enum PagesFault {
     Memory,
 }
 
-impl From<RecordsFault> for PagesFault {
-    ghost use Rattle.std.specs.Prelude.{◌≡◌};
-    ghost use Rattle.like_requests.specs.PagesFile.{fault_of};
+// A pages file.
+#[derive(Drop)]
+struct PagesFile {
+    alloc: Global,
+}
 
-    ghost from_gives = { λ why fault. fault ≡ fault_of why };
+impl FileKind for PagesFile {
+    ghost use Rattle.std.specs.Prelude.{◌≡◌, map};
+    ghost use Rattle.like_requests.specs.PagesFile.{AsksPageRecord, fault_of, page_of, page_tests};
 
-    fn from(why: RecordsFault) -> Self {
+    type Made = Entries;
+
+    type Fault = PagesFault;
+
+    ghost asks = { AsksPageRecord };
+
+    ghost tests = { page_tests };
+
+    ghost fault_of = { fault_of };
+
+    ghost holds = { λ _ entries done. entries ≡ map page_of done };
+
+    fn fault(why: RecordsFault) -> PagesFault
+        ensures { result ≡ fault_of why }
+    {
         match why {
             RecordsFault::Read => PagesFault::Read,
             RecordsFault::Memory => PagesFault::Memory,
         }
     }
-}
 
-impl From<AllocError> for PagesFault {
-    ghost use Rattle.std.specs.Prelude.{◌≡◌};
-    ghost use Rattle.like_requests.specs.declared.pages_file.PagesFault.TheVariants.{Memory};
-
-    ghost from_gives = { λ _ fault. fault ≡ Memory };
-
-    fn from(_: AllocError) -> Self {
-        PagesFault::Memory
+    fn take<R: Read>(
+        &self,
+        entries: &mut Entries,
+        records: &Records<R>,
+        row: u32,
+    ) -> Result<(), PagesFault> {
+        let (name, initial) = entry_at(records, entries, row)?;
+        let added = entries.add(self.alloc, name, initial);
+        added.or(Err(PagesFault::Memory))
     }
 }
 
@@ -76,30 +94,15 @@ pub fn read_pages<R: Read + Drop>(alloc: Global, reader: R) -> Result<Pages, Pag
     ensures { (rows : List Record) → option_map records_of (R.remaining reader) ≡ Some rows
         → MatchResult result (IsPagesFile rows) (IsPagesFault rows) }
 {
-    let mut records = Records::new(alloc, reader);
-    if !records.read_next()? || !records.fields_are(&["name", "count", "split"]) {
-        return Err(PagesFault::Header);
-    }
-    let entries = read_entries(alloc, &mut records)?;
+    let entries = read_file(
+        alloc,
+        reader,
+        &PagesFile { alloc },
+        &["name", "count", "split"],
+        PagesFault::Header,
+        Entries::new(alloc),
+    )?;
     Pages::of(entries).ok_or(PagesFault::Empty)
-}
-
-// The pages that the records left list.
-fn read_entries<R: Read>(alloc: Global, records: &mut Records<R>) -> Result<Entries, PagesFault>
-    ensures { (body : List Record) → records.old.left ≡ Some body
-        → MatchResult result
-        (λ entries. PassAll AsksPageRecord page_tests body × (entries ≡ map page_of body))
-        (IsPagesFault (pages_header ∷ body)) }
-{
-    let mut entries = Entries::new(alloc);
-    for row in 1..MAX_PAGES + 2 {
-        if !records.read_next()? {
-            return Ok(entries);
-        }
-        let (name, initial) = entry_at(records, &entries, row)?;
-        entries.add(String::from_str(alloc, name)?, initial)?;
-    }
-    unreachable!()
 }
 
 // The page that the present record lists at this row, after these entries.

@@ -1,16 +1,16 @@
 ghost use Rattle.std.specs.Prelude.{◌≡◌, ◌+◌, ◌-◌, ◌<◌, ◌∷◌, List, MatchOption, MatchResult, Some, map, option_map};
 ghost use Rattle.std.specs.List.{AllByRecursion};
 ghost use Rattle.like_records.specs.Reading.{records_of};
-ghost use Rattle.like_requests.specs.First.{FailsFirst};
+ghost use Rattle.like_records.specs.First.{FailsFirst};
 ghost use Rattle.like_requests.specs.Pages.{number_of};
-ghost use Rattle.like_requests.specs.RequestsFile.{AsksRequest, AsksRequestRecord, IsOp, IsRequestsFault, IsRequestsFile, op_of, page_ref, request_of, request_tests, requests_header};
-ghost use Rattle.like_requests.specs.Rows.{PassAll, Record};
+ghost use Rattle.like_requests.specs.RequestsFile.{AsksRequest, AsksRequestRecord, IsOp, IsRequestsFault, IsRequestsFile, fault_of, op_of, page_ref, request_of, request_tests, requests_header};
+ghost use Rattle.like_records.specs.Rows.{PassAll, Record};
 
 use crate::pages::Pages;
 use crate::request::{Op, PageRef, Request};
 use crate::setup::MAX_REQUESTS;
-use like_records::{Records, RecordsFault, decimal};
-use std::alloc::{AllocFailed, Global};
+use like_records::{FileKind, Records, RecordsFault, decimal, read_file};
+use std::alloc::Global;
 use std::io::Read;
 use thiserror::Error;
 
@@ -40,28 +40,45 @@ pub enum RequestsFault {
     Memory,
 }
 
-impl From<RecordsFault> for RequestsFault {
-    ghost use Rattle.std.specs.Prelude.{◌≡◌};
-    ghost use Rattle.like_requests.specs.RequestsFile.{fault_of};
+// A requests file, where these are the pages.
+#[derive(Drop)]
+struct RequestsFile<'p> {
+    pages: &'p Pages,
+}
 
-    ghost from_gives = { λ why fault. fault ≡ fault_of why };
+impl FileKind for RequestsFile<'_> {
+    ghost use Rattle.std.specs.Prelude.{◌≡◌, map};
+    ghost use Rattle.like_requests.specs.RequestsFile.{AsksRequestRecord, fault_of, request_of, request_tests};
 
-    fn from(why: RecordsFault) -> Self {
+    type Made = Vec<Request>;
+
+    type Fault = RequestsFault;
+
+    ghost asks = { AsksRequestRecord };
+
+    ghost tests = { request_tests };
+
+    ghost fault_of = { fault_of };
+
+    ghost holds = { λ file requests done. requests.items ≡ map (request_of file.pages.now) done };
+
+    fn fault(why: RecordsFault) -> RequestsFault
+        ensures { result ≡ fault_of why }
+    {
         match why {
             RecordsFault::Read => RequestsFault::Read,
             RecordsFault::Memory => RequestsFault::Memory,
         }
     }
-}
 
-impl From<AllocFailed<Request>> for RequestsFault {
-    ghost use Rattle.std.specs.Prelude.{◌≡◌};
-    ghost use Rattle.like_requests.specs.declared.requests_file.RequestsFault.TheVariants.{Memory};
-
-    ghost from_gives = { λ _ fault. fault ≡ Memory };
-
-    fn from(_: AllocFailed<Request>) -> Self {
-        RequestsFault::Memory
+    fn take<R: Read>(
+        &self,
+        requests: &mut Vec<Request>,
+        records: &Records<R>,
+        row: u32,
+    ) -> Result<(), RequestsFault> {
+        let request = request_at(records, self.pages, row)?;
+        requests.push(request).or(Err(RequestsFault::Memory))
     }
 }
 
@@ -76,33 +93,14 @@ pub fn read_requests<R: Read + Drop>(
     ensures { (rows : List Record) → option_map records_of (R.remaining reader) ≡ Some rows
         → MatchResult result (λ requests. IsRequestsFile pages.now rows requests.items) (IsRequestsFault rows) }
 {
-    let mut records = Records::new(alloc, reader);
-    if !records.read_next()? || !records.fields_are(&["op", "user", "page"]) {
-        return Err(RequestsFault::Header);
-    }
-    read_plan(alloc, &mut records, pages)
-}
-
-// The requests that the records left make.
-fn read_plan<R: Read>(
-    alloc: Global,
-    records: &mut Records<R>,
-    pages: &Pages,
-) -> Result<Vec<Request>, RequestsFault>
-    ensures { (body : List Record) → records.old.left ≡ Some body
-        → MatchResult result
-        (λ requests. PassAll AsksRequestRecord request_tests body
-        × (requests.items ≡ map (request_of pages.now) body))
-        (IsRequestsFault (requests_header ∷ body)) }
-{
-    let mut requests = Vec::new(alloc);
-    for row in 1..MAX_REQUESTS + 2 {
-        if !records.read_next()? {
-            return Ok(requests);
-        }
-        requests.push(request_at(records, pages, row)?)?;
-    }
-    unreachable!()
+    read_file(
+        alloc,
+        reader,
+        &RequestsFile { pages },
+        &["op", "user", "page"],
+        RequestsFault::Header,
+        Vec::new(alloc),
+    )
 }
 
 // The request that the present record makes at this row.

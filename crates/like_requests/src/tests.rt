@@ -1,47 +1,14 @@
 //! Each public call once, and the faults of files and settings.
 mod limits;
+mod malformed;
 
 use crate::{
     Op, PageRef, Pages, PagesFault, Request, RequestsFault, SettingsFault, Setup, Verdict,
     check_setup, judge, read_pages, read_requests,
 };
 use std::alloc::Global;
-use std::io;
-use std::io::Read;
 use std::process::Abort;
 use std::test::Fail;
-
-// Gives its text a byte at a time, and an error at one place.
-#[derive(Drop)]
-struct Flaky<'a> {
-    text: &'a [u8],
-    at: usize,
-    fault_at: usize,
-}
-
-impl<'a> Read for Flaky<'a> {
-    fn read(&mut self, buf: &mut [u8]) -> io::Result<usize> {
-        if self.at == self.fault_at {
-            return Err(io::Error::from(io::ErrorKind::BrokenPipe));
-        }
-        match (self.text.get(self.at), buf.first_mut()) {
-            (Some(byte), Some(place)) => {
-                *place = *byte;
-                self.at = self.at.saturating_add(1);
-                Ok(1)
-            }
-            _ => Ok(0),
-        }
-    }
-}
-
-fn failing_at(text: &[u8], fault_at: usize) -> Flaky<'_> {
-    Flaky {
-        text,
-        at: 0,
-        fault_at,
-    }
-}
 
 fn request(op: Op, user: u32, page: PageRef) -> Request {
     Request { op, user, page }
@@ -86,10 +53,6 @@ fn names_the_fault_of_a_pages_file(rt: HostRuntime) {
             PagesFault::Split { row: 1 },
         ),
         (b"name,count,split\n,1,no\n", PagesFault::Name { row: 1 }),
-        (
-            b"name,count,split\n\xff,1,no\n",
-            PagesFault::Name { row: 1 },
-        ),
     ] {
         assert_eq!(rt; read_pages(rt.alloc(), text).err(), Some(fault));
     }
@@ -128,27 +91,6 @@ fn names_the_fault_of_a_requests_file(rt: HostRuntime) {
         (b"op,user,page\nlike,-1,a\n", RequestsFault::User { row: 1 }),
     ] {
         assert_eq!(rt; read_requests(rt.alloc(), text, &pages).err(), Some(fault));
-    }
-}
-
-#[test]
-fn a_failed_read_is_told(rt: HostRuntime) {
-    let text = b"name,count,split\na,10,no\n";
-    for fault_at in 0..text.len() + 1 {
-        assert_eq!(rt;
-            read_pages(rt.alloc(), failing_at(text, fault_at)).err(),
-            Some(PagesFault::Read),
-            "at {fault_at}"
-        );
-    }
-    let pages = one_page(&rt, rt.alloc());
-    let text = b"op,user,page\nlike,0,a\n";
-    for fault_at in 0..text.len() + 1 {
-        assert_eq!(rt;
-            read_requests(rt.alloc(), failing_at(text, fault_at), &pages).err(),
-            Some(RequestsFault::Read),
-            "at {fault_at}"
-        );
     }
 }
 

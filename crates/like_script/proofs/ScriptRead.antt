@@ -1,14 +1,13 @@
--- The steps of reading a script file.
-use Rattle.std.proofs.Common.{◌≡◌, ℕ, zero, suc, ◌+◌, ◌-◌, List, [], ◌∷◌, ◌++◌, length, take, Some, refl, sym, ap, ◌∙◌, subst, arith, add-one}
-use Rattle.std.specs.List.{AllByRecursion}
-use Rattle.std.proofs.lemmas.List.{length-map}
-use Rattle.like_records.specs.Reading.{Reading, TakesRecord}
+-- What the reading of its rows says of a script file.
+use Rattle.std.proofs.Common.{◌≡◌, ◌≤◌, zero, suc, ◌+◌, List, [], ◌∷◌, Vec, Global, Result, Ok, Err, MatchResult, length, map, take, get_or, sym, ap, ◌∙◌, subst, arith, add-one, ◌⊎◌}
+use Rattle.std.proofs.lemmas.List.{length-map, length-take-le}
+use Rattle.std.proofs.lemmas.Option.{slice_get-get_or}
 use Rattle.like_records.specs.declared.fault.RecordsFault.{RecordsFault}
 use Rattle.like_records.specs.declared.fault.RecordsFault.TheVariants as records
-use Rattle.like_requests.specs.First.{FailsFirst}
-use Rattle.like_requests.specs.Rows.{IsFirstFailed, Record}
-use Rattle.like_requests.proofs.Reading.{HasRead, among, reading_goes_on, reading_stops}
-use Rattle.like_script.specs.File.{AsksEntry, AsksEntryRecord, IsScriptFault, fault_of, entry_of, entry_tests, script_header}
+use Rattle.like_records.specs.Rows.{Behind, Excuses, IsFirstFailed, IsHeadless, MadeOf, PassAll, Record}
+use Rattle.like_records.proofs.RowsRead.{among, stopped}
+use Rattle.like_script.specs.File.{AsksEntryRecord, IsScriptFault, IsScriptFile, fault_of, entry_of, entry_tests, script_header}
+use Rattle.like_script.specs.Limits.{max_entries}
 use Rattle.like_script.specs.declared.turned.Turned.{Turned}
 use Rattle.like_script.specs.declared.file.ScriptFault.{ScriptFault}
 use Rattle.like_script.specs.declared.file.ScriptFault.TheVariants.{Read, Line, TooMany, Memory}
@@ -23,39 +22,38 @@ at_record body fault h =
     among (AsksEntryRecord (take h.0 body) h.1) StopsAtRecord (entry_tests (h.0 + 1)) fault (subst (λ n. StopsAtRecord (Line n)) (sym (add-one h.0)) tt, (tt, tt)) h.4
 
 -- a record that fails a test is why the file has no entries
-stops_file : (body : List Record) (fault : ScriptFault) → IsFirstFailed AsksEntryRecord entry_tests body fault → IsScriptFault (script_header ∷ body) fault
-stops_file body Read h = tt
-stops_file body Memory h = tt
-stops_file body (Line zero) h = absurd (at_record body (Line zero) h)
-stops_file body (Line (suc row)) h = (body, refl, h)
-stops_file body TooMany h = (body, refl, h)
+stops_file : (rows : List Record) (fault : ScriptFault) → Behind script_header (λ body. IsFirstFailed AsksEntryRecord entry_tests body fault) rows → IsScriptFault rows fault
+stops_file rows Read h = tt
+stops_file rows Memory h = tt
+stops_file rows (Line zero) h = absurd (at_record h.0 (Line zero) h.2)
+stops_file rows (Line (suc row)) h = h
+stops_file rows TooMany h = h
 
 -- a record that could not be had says nothing of the file
-pub IsScriptFault-fault_of : (rows : List Record) (why : RecordsFault) → IsScriptFault rows (fault_of why)
-IsScriptFault-fault_of rows records.Read = tt
-IsScriptFault-fault_of rows records.Memory = tt
+excused : (rows : List Record) (why : RecordsFault) → IsScriptFault rows (fault_of why)
+excused rows records.Read = tt
+excused rows records.Memory = tt
 
-module _ (body : List Record) (old new : Reading) (entries : List Turned) (row : ℕ)
-    (h : HasRead AsksEntryRecord entry_tests entry_of body old.left entries)
-    (takes : TakesRecord old new) (count : length entries + 1 ≡ row) where
-  -- the row of the next record, by the records before it
-  row_is : row ≡ length h.done + 1
-  row_is = sym count ∙ ap (λ n. n + 1) (ap (λ (es : List Turned). length es) h.items_are ∙ length-map h.done entry_of)
+-- what was read of the file is what it says
+pub script-read : (rows : List Record) (r : Result (Vec Turned Global) ScriptFault)
+    → MatchResult r (λ entries. Behind script_header (λ body. PassAll AsksEntryRecord entry_tests body × (entries.items ≡ map entry_of body)) rows)
+    (λ fault. Excuses fault_of fault ⊎ IsHeadless script_header (Line 0) rows fault ⊎ Behind script_header (λ body. IsFirstFailed AsksEntryRecord entry_tests body fault) rows)
+    → MatchResult r (λ entries. IsScriptFile rows entries.items) (IsScriptFault rows)
+script-read rows (Ok entries) made = (made.0, made.1, made.2.0, made.2.1)
+script-read rows (Err fault) why =
+    stopped (IsScriptFault rows) fault_of script_header (Line 0) (λ why. Behind script_header (λ body. IsFirstFailed AsksEntryRecord entry_tests body why) rows) rows fault (excused rows) (λ none. none) (stops_file rows fault) why
 
-  earlier : row - 1 ≡ length h.done
-  earlier = omega (arith, row_is)
+-- where all records passed, there are not too many
+few-records : (body : List Record) → PassAll AsksEntryRecord entry_tests body → length body ≤ max_entries
+few-records [] passed = omega arith
+few-records (r ∷ body) passed =
+    let last = get_or (r ∷ body) (length body) r in
+    let earlier = (passed (length body) last (slice_get-get_or (r ∷ body) (length body) r (omega arith))).1.0 in
+    omega (arith, earlier, length-take-le (length body) (r ∷ body) (omega arith))
 
-  -- the next record fails a test
-  pub entry_stops : (fault : ScriptFault) → FailsFirst (AsksEntry (row - 1) new.fields) (entry_tests row) fault → IsScriptFault (script_header ∷ body) fault
-  entry_stops fault fails =
-      let (rest, first, more) = takes h.rest h.left_is in
-      stops_file body fault (reading_stops AsksEntryRecord entry_tests entry_of body old.left entries new.fields rest fault h (h.left_is ∙ ap Some first)
-      (rw (earlier, row_is) at fails))
-
-  -- the next record makes an entry
-  pub entry_goes_on : AllByRecursion (AsksEntry (row - 1) new.fields) (entry_tests row)
-      → HasRead AsksEntryRecord entry_tests entry_of body new.left (entries ++ entry_of new.fields ∷ [])
-  entry_goes_on good =
-      let (rest, first, more) = takes h.rest h.left_is in
-      rw more (reading_goes_on AsksEntryRecord entry_tests entry_of body old.left entries new.fields rest h (h.left_is ∙ ap Some first)
-      (rw earlier at good))
+-- the entries that records made are not too many
+pub few-entries : (entries : List Turned) → MadeOf AsksEntryRecord entry_tests (λ body. entries ≡ map entry_of body) → length entries ≤ max_entries
+few-entries entries made =
+    let few = few-records made.0 made.1 in
+    let size : length entries ≡ length made.0 = ap (λ (es : List Turned). length es) made.2 ∙ length-map made.0 entry_of in
+    omega (arith, few, size)

@@ -1,6 +1,6 @@
 -- Which scripts fit a run.
 use Rattle.std.specs.Prelude.{◌≡◌, ℕ, ◌<◌, List, ⊤}
-use Rattle.like_requests.specs.First.{IsFirstBad}
+use Rattle.like_records.specs.First.{IsFirstBad}
 use Rattle.like_requests.specs.declared.setup.SettingsFault.{SettingsFault}
 use Rattle.like_requests.specs.declared.setup.SettingsFault.TheVariants.{Script}
 use Rattle.like_script.specs.declared.turned.Turned.{Turned}

@@ -2,14 +2,14 @@ ghost use Rattle.std.specs.Prelude.{◌≡◌, ◌-◌, ◌<◌, ◌≤◌, ◌�
 ghost use Rattle.std.specs.List.{AllByRecursion};
 ghost use Rattle.like_records.specs.Decimal.{decimal_value};
 ghost use Rattle.like_records.specs.Reading.{records_of};
-ghost use Rattle.like_requests.specs.First.{FailsFirst};
-ghost use Rattle.like_requests.specs.Rows.{PassAll, Record};
+ghost use Rattle.like_records.specs.First.{FailsFirst};
+ghost use Rattle.like_records.specs.Rows.{PassAll, Record};
 ghost use Rattle.like_script.specs.Limits.{max_entries};
-ghost use Rattle.like_script.specs.File.{AsksEntry, AsksEntryRecord, IsEntry, IsIndex, IsScriptFault, IsScriptFile, Names, entry_of, entry_tests, named, script_header};
+ghost use Rattle.like_script.specs.File.{AsksEntry, AsksEntryRecord, IsEntry, IsIndex, IsScriptFault, IsScriptFile, Names, entry_of, entry_tests, fault_of, named, script_header};
 
 use crate::turned::Turned;
-use like_records::{Records, RecordsFault, decimal};
-use std::alloc::{AllocFailed, Global};
+use like_records::{FileKind, Records, RecordsFault, decimal, read_file};
+use std::alloc::Global;
 use std::io::Read;
 use thiserror::Error;
 
@@ -36,28 +36,43 @@ pub enum ScriptFault {
     Memory,
 }
 
-impl From<RecordsFault> for ScriptFault {
-    ghost use Rattle.std.specs.Prelude.{◌≡◌};
-    ghost use Rattle.like_script.specs.File.{fault_of};
+// A script file.
+#[derive(Drop)]
+struct ScriptFile;
 
-    ghost from_gives = { λ why fault. fault ≡ fault_of why };
+impl FileKind for ScriptFile {
+    ghost use Rattle.std.specs.Prelude.{◌≡◌, map};
+    ghost use Rattle.like_script.specs.File.{AsksEntryRecord, entry_of, entry_tests, fault_of};
 
-    fn from(why: RecordsFault) -> Self {
+    type Made = Vec<Turned>;
+
+    type Fault = ScriptFault;
+
+    ghost asks = { AsksEntryRecord };
+
+    ghost tests = { entry_tests };
+
+    ghost fault_of = { fault_of };
+
+    ghost holds = { λ _ entries done. entries.items ≡ map entry_of done };
+
+    fn fault(why: RecordsFault) -> ScriptFault
+        ensures { result ≡ fault_of why }
+    {
         match why {
             RecordsFault::Read => ScriptFault::Read,
             RecordsFault::Memory => ScriptFault::Memory,
         }
     }
-}
 
-impl From<AllocFailed<Turned>> for ScriptFault {
-    ghost use Rattle.std.specs.Prelude.{◌≡◌};
-    ghost use Rattle.like_script.specs.declared.file.ScriptFault.TheVariants.{Memory};
-
-    ghost from_gives = { λ _ fault. fault ≡ Memory };
-
-    fn from(_: AllocFailed<Turned>) -> Self {
-        ScriptFault::Memory
+    fn take<R: Read>(
+        &self,
+        entries: &mut Vec<Turned>,
+        records: &Records<R>,
+        row: u32,
+    ) -> Result<(), ScriptFault> {
+        let entry = entry_at(records, row)?;
+        entries.push(entry).or(Err(ScriptFault::Memory))
     }
 }
 
@@ -68,32 +83,14 @@ pub fn read_script<R: Read + Drop>(alloc: Global, reader: R) -> Result<Vec<Turne
     ensures file { (rows : List Record) → option_map records_of (R.remaining reader) ≡ Some rows
         → MatchResult result (λ entries. IsScriptFile rows entries.items) (IsScriptFault rows) }
 {
-    let mut records = Records::new(alloc, reader);
-    if !records.read_next()? || !records.fields_are(&["turn", "index"]) {
-        return Err(ScriptFault::Line { row: 0 });
-    }
-    read_entries(alloc, &mut records)
-}
-
-// The entries that the records left make.
-fn read_entries<R: Read>(
-    alloc: Global,
-    records: &mut Records<R>,
-) -> Result<Vec<Turned>, ScriptFault>
-    ensures few { IfOk result (λ entries. length entries.items ≤ max_entries) }
-    ensures body { (body : List Record) → records.old.left ≡ Some body
-        → MatchResult result
-        (λ entries. PassAll AsksEntryRecord entry_tests body × (entries.items ≡ map entry_of body))
-        (IsScriptFault (script_header ∷ body)) }
-{
-    let mut entries = Vec::new(alloc);
-    for row in 1..MAX_ENTRIES + 2 {
-        if !records.read_next()? {
-            return Ok(entries);
-        }
-        entries.push(entry_at(records, row)?)?;
-    }
-    unreachable!()
+    read_file(
+        alloc,
+        reader,
+        &ScriptFile,
+        &["turn", "index"],
+        ScriptFault::Line { row: 0 },
+        Vec::new(alloc),
+    )
 }
 
 // The entry that the present record makes at this row.

@@ -1,6 +1,6 @@
 use Rattle.std.proofs.Common.{◌≡◌, ℕ, List, Vec, Global, Option, Some, Result, Ok, Err, MatchResult, option_map}
 use Rattle.like_records.specs.Reading.{records_of}
-use Rattle.like_requests.specs.Rows.{Record}
+use Rattle.like_records.specs.Rows.{Record}
 use Rattle.like_script.specs.File.{IsScriptFault, IsScriptFile}
 use Rattle.like_script.specs.declared.turned.Turned.{Turned}
 use Rattle.like_driver.specs.Inputs.{OfRecords}

@@ -1,8 +1,8 @@
 use Rattle.std.proofs.Common.{◌≡◌, ℕ, Bool, true, false, List, Option, Some, is_some, ◌∙◌, sym, inl, inr, refl, arith, slice_get}
 use Rattle.std.proofs.lemmas.List.{length-map}
 use Rattle.like_requests.specs.Pages.{Page, number_of}
-use Rattle.like_requests.specs.Rows.{Record, field}
-use Rattle.like_requests.proofs.Reading.{field_at}
+use Rattle.like_records.specs.Rows.{Record, field}
+use Rattle.like_records.proofs.RowsRead.{field_at}
 use Rattle.like_requests.proofs.Found.{found-Contains, Contains-found}
 use Rattle.like_requests.proofs.pages_file.entry_at.Goals as goal
 

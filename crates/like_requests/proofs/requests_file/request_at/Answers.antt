@@ -1,5 +1,5 @@
 use Rattle.std.proofs.Common.{◌∙◌, sym, refl, arith}
-use Rattle.like_requests.proofs.Reading.{field_at}
+use Rattle.like_records.proofs.RowsRead.{field_at}
 use Rattle.like_requests.proofs.requests_file.request_at.Goals as goal
 
 pub returns : goal.returns

@@ -1,0 +1,30 @@
+use std::io;
+use std::io::{ErrorKind, Read};
+
+/// A reader of a text that hands out one byte a read, and fails from the read with some number on.
+#[derive(Drop)]
+pub struct Trickle<'t> {
+    text: &'t [u8],
+    reads_left: usize,
+}
+
+impl<'t> Trickle<'t> {
+    /// A reader of this text of which so many reads succeed. A read at the end of the text is one too.
+    pub fn new(text: &'t [u8], reads: usize) -> Self {
+        Trickle {
+            text,
+            reads_left: reads,
+        }
+    }
+}
+
+impl Read for Trickle<'_> {
+    fn read(&mut self, buf: &mut [u8]) -> io::Result<usize> {
+        if self.reads_left == 0 {
+            return Err(io::Error::from(ErrorKind::BrokenPipe));
+        }
+        self.reads_left -= 1;
+        let most = buf.len().min(1);
+        self.text.read(&mut buf[..most])
+    }
+}

@@ -1,0 +1,45 @@
+-- The records of a file: its header, and the rows behind it, numbered from 1, up to the first that fails a test.
+use Rattle.std.specs.Prelude.{◌≡◌, ◌≢◌, ◌+◌, ℕ, List, [], ◌∷◌, take, slice_index_or, slice_get, Some}
+use Rattle.std.specs.List.{AllByRecursion}
+use Rattle.like_records.specs.First.{FailsFirst}
+use Rattle.like_records.specs.declared.fault.RecordsFault.{RecordsFault}
+
+-- a record: its fields, each in bytes
+abbrev pub Record : Type 0
+Record = List (List ℕ)
+
+-- the field of a record at a place
+abbrev pub field : Record → ℕ → List ℕ
+field r i = slice_index_or r i []
+
+-- no kind of file has more rows
+abbrev pub max_rows : ℕ
+max_rows = 1000000
+
+-- the records are the header and, behind it, a body of which that holds
+abbrev pub Behind : Record → (List Record → Type 0) → List Record → Type 0
+Behind header Holds rows = (body : List Record) × (rows ≡ header ∷ body) × Holds body
+
+-- the records do not begin with the header, and the fault is the one that says so
+abbrev pub IsHeadless : {T : Type 0} → Record → T → List Record → T → Type 0
+IsHeadless header headless rows t = (t ≡ headless) × ((body : List Record) → rows ≢ header ∷ body)
+
+-- the fault says that a record could not be had, and nothing of the file
+abbrev pub Excuses : {T : Type 0} → (RecordsFault → T) → T → Type 0
+Excuses fault_of t = (why : RecordsFault) × (t ≡ fault_of why)
+
+-- Asks says what each test asks of a record, given the records before it; tests lists those of a row, in order
+module _ {T : Type 0} (Asks : List Record → Record → T → Type 0) (tests : ℕ → List T) where
+  -- every record passes every test of its row
+  abbrev pub PassAll : List Record → Type 0
+  PassAll body = (k : ℕ) (r : Record) → slice_get body k ≡ Some r → AllByRecursion (Asks (take k body) r) (tests (k + 1))
+
+  -- t is the first test that fails of the first record that fails one
+  abbrev pub IsFirstFailed : List Record → T → Type 0
+  IsFirstFailed body t =
+      (k : ℕ) × (r : Record) × (slice_get body k ≡ Some r) × PassAll (take k body)
+      × FailsFirst (Asks (take k body) r) (tests (k + 1)) t
+
+  -- that holds of some records of which every one passes every test of its row
+  abbrev pub MadeOf : (List Record → Type 0) → Type 0
+  MadeOf Holds = (body : List Record) × PassAll body × Holds body
