@@ -1,6 +1,6 @@
 -- What adding a page to the entries leaves.
-use Rattle.std.proofs.Common.{◌≡◌, suc, ◌<◌, ◌≤◌, false, List, [], ◌∷◌, ◌++◌, length, refl, ap, sym, ◌∙◌, arith}
-use Rattle.std.specs.Prelude.{map, bytes_eq, string_bytes, string_eq, String, Contains}
+use Rattle.std.proofs.Common.{◌≡◌, ℕ, Bool, suc, ◌<◌, ◌≤◌, false, List, [], ◌∷◌, ◌++◌, Vec, length, refl, ap, sym, ◌∙◌, arith, subst}
+use Rattle.std.specs.Prelude.{map, bytes_eq, string_bytes, Contains}
 use Rattle.std.specs.List.{IsDistinct, AllByRecursion}
 use Rattle.std.specs.declared.alloc.Global.{Global}
 use Rattle.indexmap.specs.IndexMap.{insert_entry}
@@ -8,36 +8,54 @@ use Rattle.std.proofs.lemmas.Slice.Eq.{bytes_eq-Decides}
 use Rattle.std.proofs.lemmas.Bool.{false_from_ne_true}
 use Rattle.std.proofs.lemmas.List.{map-append, length_push}
 use Rattle.std.proofs.lemmas.List.Elements.{All-push}
-use Rattle.like_requests.specs.declared.entries.Initial.{Initial}
-use Rattle.like_requests.specs.Entries.{page_of_entry, pages_of}
+use Rattle.like_requests.specs.declared.entries.Listed.{Listed}
+use Rattle.like_requests.specs.Entries.{AreKeyed, Entry, page_of_entry, pages_of}
 use Rattle.like_requests.specs.Pages.{AreEntries, IsName, Page, names}
 use Rattle.like_requests.specs.Limits.{max_pages, max_count}
 
--- an entry with a new name goes last
-pub insert_entry-other : (es : List (String Global × Initial)) (name : String Global) (initial : Initial)
-    → ¬ Contains (names (pages_of es)) (string_bytes name) → insert_entry string_eq es name initial ≡ es ++ (name, initial) ∷ []
-insert_entry-other [] name initial other = refl
-insert_entry-other (e ∷ es) name initial other =
-    let here : bytes_eq (string_bytes name) (string_bytes e.0) ≡ false =
-    false_from_ne_true _ (λ same. other (0, omega arith, sym ((bytes_eq-Decides (string_bytes name) (string_bytes e.0)).0 same))) in
-    rw (here, insert_entry-other es name initial (λ found. other (suc found.0, omega (arith, found.1), found.2))) refl
+-- two keys are equal where their bytes are
+abbrev key_eq : Vec ℕ Global → Vec ℕ Global → Bool
+key_eq a b = bytes_eq a.items b.items
 
--- the pages with one more entry
-pub pages_of-insert_entry : (es : List (String Global × Initial)) (name : String Global) (initial : Initial)
-    → ¬ Contains (names (pages_of es)) (string_bytes name)
-    → pages_of (insert_entry string_eq es name initial) ≡ pages_of es ++ page_of_entry (name, initial) ∷ []
-pages_of-insert_entry es name initial other = ap pages_of (insert_entry-other es name initial other) ∙ map-append page_of_entry es _
+-- an entry with a new key goes last
+insert_entry-other : (es : List Entry) (key : Vec ℕ Global) (listed : Listed) → ¬ Contains (map (λ e. e.0.items) es) key.items
+    → insert_entry key_eq es key listed ≡ es ++ (key, listed) ∷ []
+insert_entry-other [] key listed other = refl
+insert_entry-other (e ∷ es) key listed other =
+    let here : bytes_eq key.items e.0.items ≡ false =
+    false_from_ne_true _ (λ same. other (0, omega arith, sym ((bytes_eq-Decides key.items e.0.items).0 same))) in
+    rw (here, insert_entry-other es key listed (λ found. other (suc found.0, omega (arith, found.1), found.2))) refl
 
-differs : (name : String Global) (es : List (String Global × Initial)) → AllByRecursion (λ y. string_eq name y ≡ false) (map (λ e. e.0) es)
-    → AllByRecursion (λ y. bytes_eq (string_bytes name) y ≡ false) (names (pages_of es))
-differs name [] h = tt
-differs name (e ∷ es) h = (h.0, differs name es h.1)
+-- an entry of a page with a new name is added behind the others
+pub entry-added : (es new : List Entry) (key : Vec ℕ Global) (listed : Listed) (name : List ℕ) → new ≡ insert_entry key_eq es key listed → AreKeyed es → key.items ≡ name
+    → ¬ Contains (names (pages_of es)) name → new ≡ es ++ (key, listed) ∷ []
+entry-added es new key listed name inserted keyed same other =
+    inserted ∙ insert_entry-other es key listed (λ found. other (subst (λ ns. Contains ns name) keyed (subst (Contains (map (λ (e : Entry). e.0.items) es)) same found)))
 
--- distinct keys are distinct names
-pub IsDistinct-names : (es : List (String Global × Initial)) → IsDistinct string_eq (map (λ e. e.0) es) → IsDistinct bytes_eq (names (pages_of es))
+-- one page more is listed
+pub pages_of-push : (es : List Entry) (key : Vec ℕ Global) (listed : Listed) → pages_of (es ++ (key, listed) ∷ []) ≡ pages_of es ++ page_of_entry (key, listed) ∷ []
+pages_of-push es key listed = map-append page_of_entry es _
+
+-- by its name
+pub keyed-push : (es : List Entry) (key : Vec ℕ Global) (listed : Listed) → AreKeyed es → key.items ≡ string_bytes listed.name → AreKeyed (es ++ (key, listed) ∷ [])
+keyed-push es key listed keyed same =
+    map-append (λ (e : Entry). e.0.items) es _ ∙ (λ i. keyed i ++ same i ∷ [])
+    ∙ sym (ap names (pages_of-push es key listed) ∙ map-append (λ (p : Page). p.name) (pages_of es) _)
+
+differs : (key : Vec ℕ Global) (es : List Entry) → AllByRecursion (λ y. key_eq key y ≡ false) (map (λ e. e.0) es)
+    → AllByRecursion (λ y. bytes_eq key.items y ≡ false) (map (λ e. e.0.items) es)
+differs key [] h = tt
+differs key (e ∷ es) h = (h.0, differs key es h.1)
+
+-- distinct keys have distinct bytes
+distinct-bytes : (es : List Entry) → IsDistinct key_eq (map (λ e. e.0) es) → IsDistinct bytes_eq (map (λ e. e.0.items) es)
 unfolding IsDistinct
-IsDistinct-names [] h = tt
-IsDistinct-names (e ∷ es) h = (differs e.0 es h.0, IsDistinct-names es h.1)
+distinct-bytes [] h = tt
+distinct-bytes (e ∷ es) h = (differs e.0 es h.0, distinct-bytes es h.1)
+
+-- and are distinct names
+pub IsDistinct-names : (es : List Entry) → AreKeyed es → IsDistinct key_eq (map (λ e. e.0) es) → IsDistinct bytes_eq (names (pages_of es))
+IsDistinct-names es keyed h = subst (IsDistinct bytes_eq) keyed (distinct-bytes es h)
 
 -- the entries with one more page
 pub AreEntries-push : (pages : List Page) (page : Page) → AreEntries pages → length pages < max_pages → IsName page.name → page.count ≤ max_count

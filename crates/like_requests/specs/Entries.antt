@@ -1,11 +1,19 @@
 -- What the entries of a map from names stand for.
-use Rattle.std.specs.Prelude.{List, map, string_bytes, String}
+use Rattle.std.specs.Prelude.{◌≡◌, ℕ, List, Vec, map, string_bytes}
 use Rattle.std.specs.declared.alloc.Global.{Global}
-use Rattle.like_requests.specs.declared.entries.Initial.{Initial}
-use Rattle.like_requests.specs.Pages.{Page}
+use Rattle.like_requests.specs.declared.entries.Listed.{Listed}
+use Rattle.like_requests.specs.Pages.{Page, names}
 
-abbrev pub page_of_entry : String Global × Initial → Page
-page_of_entry e = record { name = string_bytes e.0; count = e.1.count; split = e.1.split }
+-- an entry: the bytes of a page's name, and the page
+abbrev pub Entry : Type 0
+Entry = Vec ℕ Global × Listed
 
-abbrev pub pages_of : List (String Global × Initial) → List Page
+abbrev pub page_of_entry : Entry → Page
+page_of_entry e = record { name = string_bytes e.1.name; count = e.1.initial.count; split = e.1.initial.split }
+
+abbrev pub pages_of : List Entry → List Page
 pages_of entries = map page_of_entry entries
+
+-- each entry's key is its page's name
+abbrev pub AreKeyed : List Entry → Type 0
+AreKeyed entries = map (λ e. e.0.items) entries ≡ names (pages_of entries)

@@ -5,7 +5,6 @@ ghost use Rattle.like_requests.specs.Pages.{AreEntries, IsName, names, number_of
 use indexmap::IndexMap;
 use std::alloc::{AllocError, Global};
 use std::marker::Model;
-use std::str;
 
 /// What the pages file says of a page beside its name.
 #[derive(Clone, Copy, Debug)]
@@ -14,10 +13,18 @@ pub(crate) struct Initial {
     pub split: bool,
 }
 
-/// Pages in the order in which they were added, found by name through a hash table: at most 1,024, with distinct names.
+// A page with its name, as text.
+#[derive(Debug, Drop)]
+struct Listed {
+    name: String,
+    initial: Initial,
+}
+
+/// Pages in the order in which they were added, found through a hash table by the bytes of their names: at most 1,024,
+/// with distinct names.
 #[derive(Debug, Drop)]
 pub(crate) struct Entries {
-    by_name: IndexMap<String, Initial>,
+    by_name: IndexMap<Vec<u8>, Listed>,
 }
 
 impl Model for Entries {
@@ -26,11 +33,11 @@ impl Model for Entries {
 
     ghost Value = { List Page };
 
-    ghost use Rattle.like_requests.specs.Entries.{pages_of};
+    ghost use Rattle.like_requests.specs.Entries.{AreKeyed, pages_of};
 
     ghost view = { λ e. pages_of e.by_name.entries };
 
-    ghost invariant = { λ e. AreEntries (pages_of e.by_name.entries) };
+    ghost invariant = { λ e. AreKeyed e.by_name.entries × AreEntries (pages_of e.by_name.entries) };
 }
 
 impl Entries {
@@ -53,30 +60,27 @@ impl Entries {
         requires { i < length self.now }
         ensures { option_map (λ p. p.name) (slice_get self.now i) ≡ Some result.now }
     {
-        self.by_name.get_index(i as usize).unwrap().0.as_str()
+        self.by_name.get_index(i as usize).unwrap().1.name.as_str()
     }
 
     pub fn count(&self, i: u32) -> u64
         requires { i < length self.now }
         ensures { option_map (λ p. p.count) (slice_get self.now i) ≡ Some result }
     {
-        self.by_name.get_index(i as usize).unwrap().1.count
+        self.by_name.get_index(i as usize).unwrap().1.initial.count
     }
 
     pub fn split(&self, i: u32) -> bool
         requires { i < length self.now }
         ensures { option_map (λ p. p.split) (slice_get self.now i) ≡ Some result }
     {
-        self.by_name.get_index(i as usize).unwrap().1.split
+        self.by_name.get_index(i as usize).unwrap().1.initial.split
     }
 
     pub fn find(&self, name: &[u8]) -> Option<u32>
         ensures { result ≡ number_of self.now name.now }
     {
-        match str::from_utf8(name) {
-            Ok(name) => self.by_name.get_index_of(name).map(|number| number as u32),
-            Err(_) => None,
-        }
+        self.by_name.get_index_of(name).map(|number| number as u32)
     }
 
     pub fn add(&mut self, alloc: Global, name: &str, initial: Initial) -> Result<(), AllocError>
@@ -87,8 +91,9 @@ impl Entries {
         ensures added { OnOk result (self.new
             ≡ self.old ++ (record { name = name.now; count = initial.count; split = initial.split }) ∷ []) }
     {
-        self.by_name
-            .insert(String::from_str(alloc, name)?, initial)?;
+        let key = Vec::from_slice(alloc, name.as_bytes())?;
+        let name = String::from_str(alloc, name)?;
+        self.by_name.insert(key, Listed { name, initial })?;
         Ok(())
     }
 }

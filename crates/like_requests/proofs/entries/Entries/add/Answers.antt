@@ -1,26 +1,31 @@
-use Rattle.std.proofs.Common.{◌≡◌, ◌∷◌, [], ◌++◌, ◌∙◌, ap, rules}
-use Rattle.like_requests.specs.Entries.{pages_of}
-use Rattle.like_requests.specs.Pages.{Page}
-use Rattle.like_requests.proofs.Added.{pages_of-insert_entry, IsDistinct-names, AreEntries-push}
+use Rattle.std.proofs.Common.{◌≡◌, ◌∷◌, [], ◌++◌, ◌∙◌, sym, refl, rules}
+use Rattle.like_requests.specs.Entries.{AreKeyed, pages_of}
+use Rattle.like_requests.proofs.Added.{AreEntries-push, IsDistinct-names, entry-added, keyed-push, pages_of-push}
 use Rattle.like_requests.proofs.entries.Entries.add.Goals as goal
 
--- the page that is added
-page-added : goal.In_ok-insert → Page
-page-added c = record { name = c.args.name.now; count = c.args.initial.count; split = c.args.initial.split }
-
--- what the map's entries stand for after the insertion
-added : (c : goal.In_ok-insert) → pages_of c.insert.new.self.entries ≡ pages_of c.self.inside.by_name.entries ++ page-added c ∷ []
-unfolding page-added
+-- the map's entries after the insertion
+added : (c : goal.Joined-branch-4) → c.insert.new.self.entries ≡ c.self.inside.by_name.entries ++ (c.in_ok-key.key, record { name = c.in_ok-name.name; initial = c.args.initial }) ∷ []
 added c =
-    ap pages_of c.in_ok-insert.ensures.entries ∙ pages_of-insert_entry _ _ _ (rw (← c.in_ok-from_str.ensures.ok, ← c.self.view_is) at c.requires.other)
-    ∙ ap (λ name. pages_of c.self.inside.by_name.entries ++ (record { name = name; count = c.args.initial.count; split = c.args.initial.split }) ∷ []) c.in_ok-from_str.ensures.ok
+    entry-added c.self.inside.by_name.entries c.insert.new.self.entries c.in_ok-key.key _ c.args.name.now c.in_ok-insert.ensures.entries c.self.invariant.0
+    (c.in_ok-key.ensures.items ∙ c.as_bytes.ensures.value) (rw (← c.self.view_is) at c.requires.other)
+
+-- its keys are its pages' names
+keyed : (c : goal.Joined-branch-4) → AreKeyed c.insert.new.self.entries
+keyed c =
+    rw (added c) (keyed-push c.self.inside.by_name.entries c.in_ok-key.key _ c.self.invariant.0
+    (c.in_ok-key.ensures.items ∙ c.as_bytes.ensures.value ∙ sym c.in_ok-name.ensures.ok))
+
+-- the pages after it
+listed : (c : goal.Joined-branch-4) → pages_of c.insert.new.self.entries
+    ≡ pages_of c.self.inside.by_name.entries ++ (record { name = c.args.name.now; count = c.args.initial.count; split = c.args.initial.split }) ∷ []
+listed c = rw (added c, pages_of-push, c.in_ok-name.ensures.ok) refl
 
 pub invariant_of-self-2 : goal.invariant_of-self-2
-unfolding page-added
-invariant_of-self-2 c =
-    rw (added c) (AreEntries-push _ _ c.self.invariant (rw c.self.view_is c.requires.room) c.requires.named c.requires.counted
-    (rw (← added c) (IsDistinct-names c.insert.new.self.entries c.insert.ensures.unique)))
+invariant_of-self-2 c = (
+  keyed c,
+  rw (listed c) (AreEntries-push _ _ c.self.invariant.1 (rw c.self.view_is c.requires.room) c.requires.named c.requires.counted
+      (rw (← listed c) (IsDistinct-names c.insert.new.self.entries (keyed c) c.insert.ensures.unique))),
+)
 
 pub returns : goal.returns
-unfolding page-added
-returns c = record { added = rw (added c, c.self.view_is) (search rules) }
+returns c = record { added = rw (listed c, c.self.view_is) (search rules) }
