@@ -5,15 +5,11 @@ use Rattle.std.proofs.Math.Nat.{div-add-mod}
 use Rattle.std.proofs.lemmas.List.{length-map}
 use Rattle.std.proofs.lemmas.List.FromFn.{length-range_with_len}
 use Rattle.std.proofs.lemmas.Option.{slice_get-get_or, slice_get_within}
-use Rattle.like_requests.specs.Pages.{Page}
 use Rattle.like_core.specs.declared.opening.Opening.{Opening}
-use Rattle.like_core.specs.declared.view.WorkerSeatView.{WorkerSeatView as SeatView}
 use Rattle.like_board.specs.declared.worker_seat.WorkerSeat.{WorkerSeat}
 use Rattle.like_board.specs.Seats.{AreFresh, BoardId, board_id, board_numbers}
 use Rattle.like_tables.specs.Share.{Share, place_of}
-use Rattle.like_requests.specs.Pages.{marks_of}
 use Rattle.like_roles.specs.Service.{Service, submitters}
-use Rattle.like_roles.specs.New.{AreNewSeats}
 use Rattle.like_crew.specs.declared.ended.Ended.{Ended}
 use Rattle.like_crew.specs.declared.crew.Crew.{Crew}
 use Rattle.like_crew.specs.declared.site.Site.{Site}
@@ -68,18 +64,6 @@ has-inbox service workers board servers submitter are some there =
       by_place : (n w a b : ℕ) → a ≡ b → w ≡ n % b → w + a * (n / a) ≡ n
       by_place n w a b same mine =
           ap (λ x. w + x * (n / x)) same ∙ (let d : b * (n / b) + n % b ≡ n = div-add-mod n b in omega (arith, d, mine))
-
--- fresh seats are new ones, of posts at a board with these pages
-pub new-seats : (board : BoardId) (z : Opening) (pages : List Page) (seats : List WorkerSeat) → z.marks ≡ marks_of pages → AreFresh board z seats → AreNewSeats board pages seats
-new-seats board z pages seats marks fresh worker seat at =
-    let f = fresh worker seat at in (
-      f.0,
-      record {
-        is_his = ap (λ (v : SeatView). v.worker) f.1;
-        marks = ap (λ (v : SeatView). v.opening.marks) f.1 ∙ marks;
-        fresh = f.2;
-      },
-    )
 
 -- a crew of this run that went on until its run had ended leaves an ended run
 pub has-ended : {I : Type 0} (setup : Setup) (plans : List (List Request)) (site : Site) (c : Crew I) (e : Ended) → IsCrew setup plans site c → HasEnded c e

@@ -2,6 +2,9 @@
 mod by_the_tables;
 mod cases;
 mod drawn;
+mod mixed;
 mod replays;
 mod runs;
+mod settings;
 mod turns;
+mod watch;

@@ -1,4 +1,4 @@
-ghost use Rattle.std.specs.Prelude.{◌≡◌, IfErr, IfOk, OnOk};
+ghost use Rattle.std.specs.Prelude.{◌≡◌, ◌+◌, ◌≤◌, IfErr, IfOk, OnOk, length};
 ghost use Rattle.like_requests.specs.Setup.{IsWithinLimits};
 ghost use Rattle.like_crew.specs.Asked.{asked, lists_of};
 ghost use Rattle.like_crew.specs.EndToEnd.{IsEndToEnd};
@@ -47,8 +47,28 @@ pub fn run<R: Threads + Wait + Sync, G: Gate>(
     ensures within { OnOk result (IsWithinLimits setup.now (lists_of plans.items)) }
     ensures fault { IfErr result (IsRunFault setup.now (lists_of plans.items)) }
 {
+    let submitters = u32::try_from(plans.len()).unwrap_or(u32::MAX);
+    let starts = setup.workers.saturating_add(submitters);
+    run_limited(rt, alloc, setup, plans, gate, starts)
+}
+
+/// Makes a run, as `run`, with at most so many threads: once as many were started, the start of a further one counts as
+/// refused.
+pub fn run_limited<R: Threads + Wait + Sync, G: Gate>(
+    rt: &R,
+    alloc: Global,
+    setup: &Setup,
+    plans: Vec<Vec<Request>>,
+    gate: &G,
+    starts: u32,
+) -> Result<Report, RunFault>
+    ensures report { IfOk result (IsEndToEnd (asked setup.now plans.items) setup.now.workers) }
+    ensures within { OnOk result (IsWithinLimits setup.now (lists_of plans.items)) }
+    ensures enough { OnOk result (setup.now.workers + length plans.items ≤ starts) }
+    ensures fault { IfErr result (IsRunFault setup.now (lists_of plans.items)) }
+{
     check_setup(setup, &plans)?;
-    run_within(rt, alloc, setup, plans, gate)
+    run_within(rt, alloc, setup, plans, gate, starts as usize)
 }
 
 // Makes a run within the limits.
@@ -58,9 +78,11 @@ fn run_within<R: Threads + Wait + Sync, G: Gate>(
     setup: &Setup,
     plans: Vec<Vec<Request>>,
     gate: &G,
+    starts: usize,
 ) -> Result<Report, RunFault>
     requires { IsWithinLimits setup.now (lists_of plans.items) }
     ensures report { IfOk result (IsEndToEnd (asked setup.now plans.items) setup.now.workers) }
+    ensures enough { OnOk result (setup.now.workers + length plans.items ≤ starts) }
     ensures fault { IfErr result IsFaultUnderWay }
 {
     let (site, seats) = Site::new(alloc, setup, &plans)?;
@@ -72,7 +94,7 @@ fn run_within<R: Threads + Wait + Sync, G: Gate>(
     } = Lines::new(alloc, plans)?;
     let crew = Crew::of_inboxes(alloc, setup, &site, seats, take_ends(alloc, &lines, takes)?)?;
     let ends = send_ends(alloc, &lines, sends)?;
-    let ended = on_threads(rt, alloc, crew, ends, gate)?;
+    let ended = on_threads(rt, alloc, crew, ends, gate, starts)?;
     Ok(report_of(alloc, setup, &lists, site, ended)?)
 }
 
@@ -83,9 +105,12 @@ fn on_threads<R: Threads + Wait + Sync, G: Gate>(
     crew: Crew<'_, TakeEnd<'_>>,
     ends: Vec<SendEnd<'_>>,
     gate: &G,
+    starts: usize,
 ) -> Result<Ended, RunFault>
     requires { AreNewEnds ends.items }
     ensures ended { IfOk result (HasEnded crew.entry) }
+    ensures enough { OnOk result
+        (length crew.entry.servers.items + length ends.entry.items ≤ starts) }
     ensures fault { IfErr result IsFaultUnderWay }
 {
     let start = OnceLock::new();
@@ -96,8 +121,10 @@ fn on_threads<R: Threads + Wait + Sync, G: Gate>(
         move |scope| -> Result<Ended, RunFault>
             requires { AreNewEnds ends.items }
             ensures ended { IfOk result (HasEnded crew.entry) }
+            ensures enough { OnOk result
+        (length crew.entry.servers.items + length ends.entry.items ≤ starts) }
             ensures fault { IfErr result IsFaultUnderWay }
-        { in_scope(scope, rt, alloc, signal, crew, ends, gate) },
+        { in_scope(scope, rt, alloc, signal, crew, ends, gate, starts) },
     )
 }
 
@@ -110,9 +137,12 @@ fn in_scope<'s, E, R: Threads + Wait + Sync, G: Gate>(
     crew: Crew<'s, TakeEnd<'s>>,
     ends: Vec<SendEnd<'s>>,
     gate: &'s G,
+    starts: usize,
 ) -> Result<Ended, RunFault>
     requires { AreNewEnds ends.items }
     ensures ended { IfOk result (HasEnded crew.entry) }
+    ensures enough { OnOk result
+        (length crew.entry.servers.items + length ends.entry.items ≤ starts) }
     ensures fault { IfErr result IsFaultUnderWay }
 {
     let Crew { mut lead, servers } = crew;
@@ -120,8 +150,9 @@ fn in_scope<'s, E, R: Threads + Wait + Sync, G: Gate>(
     let mut seats = Vec::with_capacity(alloc, servers.len())?;
     let mut workers = Vec::with_capacity(alloc, servers.len())?;
     let mut submitters = Vec::with_capacity(alloc, ends.len())?;
-    let all = start_workers(scope, rt, gate, start, servers, &mut workers)
-        && start_submitters(scope, rt, gate, start, ends, &mut submitters);
+    let left = starts.saturating_sub(servers.len());
+    let all = start_workers(scope, rt, gate, start, servers, &mut workers, starts)
+        && start_submitters(scope, rt, gate, start, ends, &mut submitters, left);
     let Some(go) = tell(rt, start, all) else {
         return Err(RunFault::Start);
     };

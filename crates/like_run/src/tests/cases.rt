@@ -1,7 +1,7 @@
 //! Cases of the worked examples.
 use crate::{MAX_ENTRIES, ReplayFault, Turned, replay};
 use like_replies::Report;
-use like_requests::{Request, Setup, read_pages, read_requests};
+use like_requests::{Op, PageRef, Request, Setup, read_pages, read_requests};
 use std::alloc::Global;
 use std::process::Abort;
 
@@ -65,6 +65,42 @@ pub fn turns(rt: &impl Abort, alloc: Global, script: &str) -> Vec<Turned> {
     }
     turns
 }
+
+/// For each submitter so many requests of page 0 by the user of its number.
+pub fn requests(
+    rt: &impl Abort,
+    alloc: Global,
+    op: Op,
+    submitters: u32,
+    each: u32,
+) -> Vec<Vec<Request>> {
+    let mut plans = Vec::new(alloc);
+    for user in 0..submitters {
+        let page = PageRef::Known(0);
+        let mut plan = Vec::new(alloc);
+        for _ in 0..each {
+            assert!(rt; plan.push(Request { op, user, page }).is_ok());
+        }
+        assert!(rt; plans.push(plan).is_ok());
+    }
+    plans
+}
+
+/// For each submitter so many likes of page 0 by the user of its number.
+pub fn likes(rt: &impl Abort, alloc: Global, submitters: u32, each: u32) -> Vec<Vec<Request>> {
+    requests(rt, alloc, Op::Like, submitters, each)
+}
+
+/// Two workers, and one page that is split, whose requests are given by `requests`.
+pub const ONE_PAGE: Case = Case {
+    workers: 2,
+    users: 2,
+    stash: 256,
+    turns: 1_000,
+    pages: "a,0,yes\n",
+    requests: &[],
+    script: "",
+};
 
 pub const PLAIN_LIKES: Case = Case {
     workers: 1,

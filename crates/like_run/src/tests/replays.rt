@@ -3,101 +3,68 @@ use super::cases::{Case, FULL_STASH, LATE_WORKER, SPLIT_AND_STASH, STASH_THEN_LI
 use crate::{ReplayFault, replay};
 use like_replies::Report;
 use like_requests::{Op, PageRef, Request, SettingsFault, Setup, read_pages};
-use like_roles::Took;
 use std::alloc::Global;
 use std::process::Abort;
 
-fn took(phase: u32, submitter: u32, number: u32) -> Took {
-    Took {
-        phase,
-        submitter,
-        number,
-    }
-}
+// What a worker took: phase, submitter and number.
+type Taken = (u32, u32, u32);
 
-// Asserts what a worker took, and in which order it ran that: phase, submitter, number and stashed.
-fn assert_log(
-    rt: &impl Abort,
-    report: &Report,
-    worker: usize,
-    taken: &[Took],
-    ran: &[(u32, u32, u32, bool)],
-) {
-    let Some(log) = report.logs.get(worker) else {
-        panic!(rt; "no log");
-    };
-    assert_eq!(rt; log.taken.as_slice(), taken);
-    assert_eq!(rt; log.ran.len(), ran.len());
-    for (entry, wanted) in log.ran.iter().zip(ran) {
-        let shown = (entry.phase, entry.submitter, entry.number, entry.stashed);
-        assert_eq!(rt; shown, *wanted);
-    }
-}
+// What a worker ran: phase, submitter, number and whether it was stashed.
+type Entry = (u32, u32, u32, bool);
 
-#[test]
-fn log_of_split_and_stash(rt: HostRuntime) {
-    let report = SPLIT_AND_STASH
-        .replay(&rt, rt.alloc())
-        .expect(&rt, "a report");
-    assert_log(
-        &rt,
-        &report,
+// What a worker of a case takes, and in which order it runs that.
+const LOGS: [(Case, usize, &[Taken], &[Entry]); 7] = [
+    (
+        SPLIT_AND_STASH,
         0,
-        &[took(1, 0, 1), took(1, 0, 2)],
+        &[(1, 0, 1), (1, 0, 2)],
         &[(1, 0, 1, false), (2, 0, 2, true)],
-    );
-}
-
-#[test]
-fn logs_of_late_worker(rt: HostRuntime) {
-    let report = LATE_WORKER.replay(&rt, rt.alloc()).expect(&rt, "a report");
-    assert_log(&rt, &report, 0, &[], &[]);
-    assert_log(
-        &rt,
-        &report,
+    ),
+    (LATE_WORKER, 0, &[], &[]),
+    (
+        LATE_WORKER,
         1,
-        &[took(1, 1, 1), took(1, 1, 2)],
+        &[(1, 1, 1), (1, 1, 2)],
         &[(2, 1, 1, true), (2, 1, 2, true)],
-    );
-}
-
-#[test]
-fn log_of_stash_then_like(rt: HostRuntime) {
-    let report = STASH_THEN_LIKE
-        .replay(&rt, rt.alloc())
-        .expect(&rt, "a report");
-    assert_log(
-        &rt,
-        &report,
+    ),
+    (
+        STASH_THEN_LIKE,
         0,
-        &[took(1, 0, 1), took(1, 0, 2)],
+        &[(1, 0, 1), (1, 0, 2)],
         &[(1, 0, 2, false), (2, 0, 1, true)],
-    );
-}
-
-#[test]
-fn log_of_full_stash(rt: HostRuntime) {
-    let report = FULL_STASH.replay(&rt, rt.alloc()).expect(&rt, "a report");
-    assert_log(
-        &rt,
-        &report,
+    ),
+    (
+        FULL_STASH,
         0,
-        &[took(1, 0, 1), took(2, 0, 2)],
+        &[(1, 0, 1), (2, 0, 2)],
         &[(2, 0, 1, true), (2, 0, 2, false)],
-    );
-}
+    ),
+    (
+        TWO_SLICES,
+        0,
+        &[(1, 0, 1), (1, 0, 2)],
+        &[(1, 0, 1, false), (2, 0, 2, true)],
+    ),
+    (TWO_SLICES, 1, &[(1, 1, 1)], &[(1, 1, 1, false)]),
+];
 
 #[test]
-fn logs_of_two_slices(rt: HostRuntime) {
-    let report = TWO_SLICES.replay(&rt, rt.alloc()).expect(&rt, "a report");
-    assert_log(
-        &rt,
-        &report,
-        0,
-        &[took(1, 0, 1), took(1, 0, 2)],
-        &[(1, 0, 1, false), (2, 0, 2, true)],
-    );
-    assert_log(&rt, &report, 1, &[took(1, 1, 1)], &[(1, 1, 1, false)]);
+fn logs_of_scripts(rt: HostRuntime) {
+    for (case, worker, taken, ran) in LOGS {
+        let report = case.replay(&rt, rt.alloc()).expect(&rt, "a report");
+        let Some(log) = report.logs.get(worker) else {
+            panic!(&rt; "no log");
+        };
+        assert_eq!(rt; log.taken.len(), taken.len());
+        for (took, wanted) in log.taken.iter().zip(taken) {
+            assert_eq!(rt; (took.phase, took.submitter, took.number), *wanted);
+        }
+        assert_eq!(rt; log.ran.len(), ran.len());
+        for (entry, wanted) in log.ran.iter().zip(ran) {
+            let shown = (entry.phase, entry.submitter, entry.number, entry.stashed);
+            assert_eq!(rt; shown, *wanted);
+        }
+    }
 }
 
 #[test]

@@ -21,7 +21,7 @@ use std::alloc::{AllocError, Global};
 use std::process::Abort;
 
 // What a turn answers.
-#[derive(Clone, Copy, Debug, PartialEq, Eq)]
+#[derive(Clone, Copy)]
 enum Answer {
     Led(CoordTurn),
     Did(Turn),
@@ -88,188 +88,67 @@ fn answers(
     Ok(answers_within(alloc, setup, plans, script)?)
 }
 
-// Asserts what the turns of a case's script answer.
-fn assert_answers(rt: &impl Abort, alloc: Global, case: &Case, expected: &[Answer]) {
+// Asserts what the turns of a case's script answer: a word for each.
+fn assert_answers(rt: &impl Abort, alloc: Global, case: &Case, expected: &str) {
     let setup = case.setup(rt, alloc);
     let plans = case.plans(rt, alloc, &setup);
     let script = turns(rt, alloc, case.script);
     assert!(rt; script.len() <= MAX_ENTRIES as usize);
-    let shown = answers(alloc, &setup, plans, &script).expect(rt, "answers");
-    assert_eq!(rt; shown.as_slice(), expected);
+    let answers = answers(alloc, &setup, plans, &script).expect(rt, "answers");
+    assert_eq!(rt; answers.len(), expected.split(' ').count());
+    for (answer, word) in answers.iter().zip(expected.split(' ')) {
+        let shown = match answer {
+            Answer::Led(turn) => format!(in alloc; "{turn:?}"),
+            Answer::Did(turn) => format!(in alloc; "{turn:?}"),
+        };
+        assert_eq!(rt; shown.expect(rt, "memory").as_str(), word);
+    }
 }
 
+// Three rounds of four workers, of which three have no submitter, and the turns that end the run.
+const IDLE: &str = "Announced Acknowledged Retired Retired Retired Released Ran Retired Retired Retired \
+    Announced Reported Retired Retired Retired Released TookEnd Retired Retired Retired \
+    Announced Retired Retired Retired Retired Ended";
+
 #[test]
-fn answers_of_plain_likes(rt: HostRuntime) {
-    let case = Case {
+fn answers_of_scripts(rt: HostRuntime) {
+    let plain_likes = Case {
         script: "o0 o0 o0 o0 c0 w0 c0 w0 c0 w0 c0 w0 c0 w0 c0",
         ..PLAIN_LIKES
     };
-    assert_answers(
-        &rt,
-        rt.alloc(),
-        &case,
-        &[
-            Answer::Led(CoordTurn::Counted),
-            Answer::Did(Turn::Ran),
-            Answer::Led(CoordTurn::Counted),
-            Answer::Did(Turn::Ran),
-            Answer::Led(CoordTurn::Counted),
-            Answer::Did(Turn::Ran),
-            Answer::Led(CoordTurn::Counted),
-            Answer::Did(Turn::TookEnd),
-            Answer::Led(CoordTurn::Counted),
-            Answer::Did(Turn::Retired),
-            Answer::Led(CoordTurn::Ended),
-        ],
-    );
-}
-
-#[test]
-fn answers_of_split_and_stash(rt: HostRuntime) {
-    assert_answers(
-        &rt,
-        rt.alloc(),
-        &SPLIT_AND_STASH,
-        &[
-            Answer::Led(CoordTurn::Announced),
-            Answer::Did(Turn::Acknowledged),
-            Answer::Led(CoordTurn::Released),
-            Answer::Did(Turn::Ran),
-            Answer::Did(Turn::Stashed),
-            Answer::Led(CoordTurn::Announced),
-            Answer::Did(Turn::Reported),
-            Answer::Led(CoordTurn::Released),
-            Answer::Did(Turn::Ran),
-        ],
-    );
-}
-
-#[test]
-fn answers_of_late_worker(rt: HostRuntime) {
-    assert_answers(
-        &rt,
-        rt.alloc(),
-        &LATE_WORKER,
-        &[
-            Answer::Led(CoordTurn::Announced),
-            Answer::Did(Turn::Acknowledged),
-            Answer::Did(Turn::Acknowledged),
-            Answer::Led(CoordTurn::Released),
-            Answer::Did(Turn::Stashed),
-            Answer::Did(Turn::Stashed),
-            Answer::Led(CoordTurn::Announced),
-            Answer::Did(Turn::Reported),
-            Answer::Did(Turn::Reported),
-            Answer::Led(CoordTurn::Released),
-            Answer::Led(CoordTurn::Announced),
-            Answer::Did(Turn::Ran),
-            Answer::Did(Turn::Ran),
-            Answer::Did(Turn::Acknowledged),
-        ],
-    );
-}
-
-#[test]
-fn answers_of_stash_then_like(rt: HostRuntime) {
-    assert_answers(
-        &rt,
-        rt.alloc(),
-        &STASH_THEN_LIKE,
-        &[
-            Answer::Led(CoordTurn::Announced),
-            Answer::Did(Turn::Acknowledged),
-            Answer::Led(CoordTurn::Released),
-            Answer::Did(Turn::Stashed),
-            Answer::Did(Turn::Ran),
-            Answer::Led(CoordTurn::Announced),
-            Answer::Did(Turn::Reported),
-            Answer::Led(CoordTurn::Released),
-            Answer::Did(Turn::Ran),
-        ],
-    );
-}
-
-#[test]
-fn answers_of_full_stash(rt: HostRuntime) {
-    assert_answers(
-        &rt,
-        rt.alloc(),
-        &FULL_STASH,
-        &[
-            Answer::Led(CoordTurn::Announced),
-            Answer::Did(Turn::Acknowledged),
-            Answer::Led(CoordTurn::Released),
-            Answer::Did(Turn::Stashed),
-            Answer::Did(Turn::Idle),
-            Answer::Led(CoordTurn::Announced),
-            Answer::Did(Turn::Reported),
-            Answer::Led(CoordTurn::Released),
-            Answer::Did(Turn::Ran),
-            Answer::Did(Turn::Ran),
-        ],
-    );
-}
-
-#[test]
-fn answers_of_two_slices(rt: HostRuntime) {
-    assert_answers(
-        &rt,
-        rt.alloc(),
-        &TWO_SLICES,
-        &[
-            Answer::Led(CoordTurn::Announced),
-            Answer::Did(Turn::Acknowledged),
-            Answer::Did(Turn::Acknowledged),
-            Answer::Led(CoordTurn::Released),
-            Answer::Did(Turn::Ran),
-            Answer::Did(Turn::Ran),
-            Answer::Did(Turn::Stashed),
-            Answer::Led(CoordTurn::Announced),
-            Answer::Did(Turn::Reported),
-            Answer::Led(CoordTurn::Waiting),
-            Answer::Did(Turn::Waiting),
-            Answer::Did(Turn::Reported),
-            Answer::Led(CoordTurn::Released),
-            Answer::Did(Turn::Ran),
-        ],
-    );
-}
-
-// The answers of four workers of which three have no submitter.
-const IDLE: [Answer; 26] = [
-    Answer::Led(CoordTurn::Announced),
-    Answer::Did(Turn::Acknowledged),
-    Answer::Did(Turn::Retired),
-    Answer::Did(Turn::Retired),
-    Answer::Did(Turn::Retired),
-    Answer::Led(CoordTurn::Released),
-    Answer::Did(Turn::Ran),
-    Answer::Did(Turn::Retired),
-    Answer::Did(Turn::Retired),
-    Answer::Did(Turn::Retired),
-    Answer::Led(CoordTurn::Announced),
-    Answer::Did(Turn::Reported),
-    Answer::Did(Turn::Retired),
-    Answer::Did(Turn::Retired),
-    Answer::Did(Turn::Retired),
-    Answer::Led(CoordTurn::Released),
-    Answer::Did(Turn::TookEnd),
-    Answer::Did(Turn::Retired),
-    Answer::Did(Turn::Retired),
-    Answer::Did(Turn::Retired),
-    Answer::Led(CoordTurn::Announced),
-    Answer::Did(Turn::Retired),
-    Answer::Did(Turn::Retired),
-    Answer::Did(Turn::Retired),
-    Answer::Did(Turn::Retired),
-    Answer::Led(CoordTurn::Ended),
-];
-
-#[test]
-fn answers_of_idle_workers(rt: HostRuntime) {
-    let case = Case {
+    let idle_workers = Case {
         script: "o0 o0 c0 w0 w1 w2 w3 c0 w0 w1 w2 w3 c0 w0 w1 w2 w3 c0 w0 w1 w2 w3 c0 w0 w1 w2 w3 c0",
         ..IDLE_WORKERS
     };
-    assert_answers(&rt, rt.alloc(), &case, &IDLE);
+    for (case, answers) in [
+        (
+            plain_likes,
+            "Counted Ran Counted Ran Counted Ran Counted TookEnd Counted Retired Ended",
+        ),
+        (
+            SPLIT_AND_STASH,
+            "Announced Acknowledged Released Ran Stashed Announced Reported Released Ran",
+        ),
+        (
+            LATE_WORKER,
+            "Announced Acknowledged Acknowledged Released Stashed Stashed \
+            Announced Reported Reported Released Announced Ran Ran Acknowledged",
+        ),
+        (
+            STASH_THEN_LIKE,
+            "Announced Acknowledged Released Stashed Ran Announced Reported Released Ran",
+        ),
+        (
+            FULL_STASH,
+            "Announced Acknowledged Released Stashed Idle Announced Reported Released Ran Ran",
+        ),
+        (
+            TWO_SLICES,
+            "Announced Acknowledged Acknowledged Released Ran Ran Stashed \
+            Announced Reported Waiting Waiting Reported Released Ran",
+        ),
+        (idle_workers, IDLE),
+    ] {
+        assert_answers(&rt, rt.alloc(), &case, answers);
+    }
 }

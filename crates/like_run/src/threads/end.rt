@@ -6,22 +6,40 @@ ghost use Rattle.like_crew.specs.Ended.{HaveLeft};
 use crate::threads::worker::{Owes, Served};
 use like_board::WorkerSeat;
 use like_crew::Lead;
-use like_roles::WorkerLog;
+use like_roles::{CoordTurn, WorkerLog};
 use std::sync::{OnceToken, Wait};
 use std::thread::{PromisedHandle, Threads, yield_now};
 
-/// Makes the coordinator's turns until it finds the run ended.
+// How often it lets others run after a release, for each turn in which it waited for it.
+const RESTS: u32 = 2;
+
+/// Makes the coordinator's turns until it finds the run ended. A change of phase keeps workers from their requests, so
+/// after a release it makes no turn for a while, longer than it waited for that release.
 pub fn coordinate<R: Wait>(rt: &R, lead: &mut Lead<'_>)
     ensures goes_on { LeadGoesOn lead.old lead.new }
     ensures ended { HasEndedJoined lead.new }
 {
+    let mut rests = 0;
     for _ in rt.forever() {
-        if lead.ends() {
-            return;
+        match lead.turn() {
+            CoordTurn::Ended => return,
+            CoordTurn::Waiting => rests = RESTS.saturating_add(rests),
+            CoordTurn::Released => {
+                rest(rests);
+                rests = RESTS;
+            }
+            _ => {}
         }
         yield_now();
     }
     unreachable!()
+}
+
+// Lets others run so often.
+fn rest(times: u32) {
+    for _ in 0..times {
+        yield_now();
+    }
 }
 
 /// Waits for all threads to end, in order, where all were told to go on: the logs and the seats that they end with.

@@ -10,7 +10,7 @@ use std::snapshot::Snapshot;
 use std::sync::{OnceLock, Wait};
 use std::thread::{PromisedHandle, Scope, Threads};
 
-/// Starts a thread for each server, in order, and says whether all could be started.
+/// Starts a thread for each server, in order, and says whether all could be started; more than `most` can't be.
 pub fn start_workers<'s, E, R: Threads + Wait + Sync, G: Gate>(
     scope: &Scope<'s, E>,
     rt: &'s R,
@@ -18,14 +18,19 @@ pub fn start_workers<'s, E, R: Threads + Wait + Sync, G: Gate>(
     start: &'s OnceLock<bool>,
     servers: Vec<Server<BoardPost<'s>, TakeEnd<'s>>>,
     threads: &mut Vec<PromisedHandle<Served<'s>, Owes<'s>>>,
+    most: usize,
 ) -> bool
     requires none { threads.old.items ≡ [] }
     requires room { length servers.items ≤ vec_capacity threads.old }
     ensures told { All (λ thread. thread.promise.start.now.id ≡ start.now.id) threads.new.items }
+    ensures few { length threads.new.items ≤ most }
     ensures servers { result ≡ true
         → map (λ thread. thread.promise.server.value) threads.new.items ≡ servers.entry.items }
 {
     for server in servers {
+        if threads.len() == most {
+            return false;
+        }
         let owes = Owes {
             server: Snapshot::of(&server),
             start,

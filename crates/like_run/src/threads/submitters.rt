@@ -7,7 +7,7 @@ use like_roles::Gate;
 use std::sync::{OnceLock, Wait};
 use std::thread::{JoinHandle, Scope, Threads};
 
-/// Starts a thread for each submitter, in order, and says whether all could be started.
+/// Starts a thread for each submitter, in order, and says whether all could be started; more than `most` can't be.
 pub fn start_submitters<'s, E, R: Threads + Wait + Sync, G: Gate>(
     scope: &Scope<'s, E>,
     rt: &'s R,
@@ -15,13 +15,18 @@ pub fn start_submitters<'s, E, R: Threads + Wait + Sync, G: Gate>(
     start: &'s OnceLock<bool>,
     ends: Vec<SendEnd<'s>>,
     threads: &mut Vec<JoinHandle<()>>,
+    most: usize,
 ) -> bool
     requires new { AreNewEnds ends.items }
     requires none { threads.old.items ≡ [] }
     requires room { length ends.items ≤ vec_capacity threads.old }
-    ensures { result ≡ true → length threads.new.items ≡ length ends.entry.items }
+    ensures few { length threads.new.items ≤ most }
+    ensures many { result ≡ true → length threads.new.items ≡ length ends.entry.items }
 {
     for end in ends {
+        if threads.len() == most {
+            return false;
+        }
         let submitter = threads.len() as u32;
         let thread = scope.spawn(
             move ||

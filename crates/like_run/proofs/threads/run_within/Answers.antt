@@ -3,17 +3,18 @@ use Rattle.std.proofs.lemmas.List.{length-map}
 use Rattle.like_requests.specs.Limits.{max_submitters}
 use Rattle.like_requests.specs.Setup.{IsWithinLimits}
 use Rattle.like_requests.specs.declared.request.Request.{Request}
-use Rattle.like_board.specs.Seats.{board_id}
+use Rattle.like_board.specs.Seats.{board_id, board_numbers}
 use Rattle.like_queue.specs.Line.{inbox_of}
-use Rattle.like_crew.specs.Asked.{asked, lists_of}
+use Rattle.like_crew.specs.Asked.{asked, lists_of, service_of}
 use Rattle.like_crew.specs.Crew.{IsCrew}
 use Rattle.like_crew.specs.Ended.{IsEnded}
 use Rattle.like_crew.specs.Server.{plans_of, untouched}
 use Rattle.like_crew.specs.Site.{IsSite, opening_of}
-use Rattle.like_crew.proofs.Ending.{has-ended}
+use Rattle.like_crew.proofs.Asked.{requests_of}
+use Rattle.like_crew.proofs.Ending.{as-many, has-ended}
 use Rattle.like_crew.proofs.Makings.{all-small, are-untouched, plans-are}
 use Rattle.like_run.specs.Lines.{new_sender, new_taker}
-use Rattle.like_run.proofs.Lines.{ends-new, inboxes-of}
+use Rattle.like_run.proofs.Lines.{ends-new, inboxes-of, many-ends}
 use Rattle.like_run.proofs.threads.run_within.Goals as goal
 
 pub new-requires : goal.new-requires
@@ -62,3 +63,15 @@ report_of-requires-clause-ended g c =
     subst (λ asked. IsCrew c.args.setup.now asked c.in_ok-site.site c.in_ok-crew.crew) plans c.in_ok-crew.ensures in
     subst (λ (v : Vec (Vec Request Global) Global). IsEnded (asked c.args.setup.now v.items) c.args.setup.now.workers (board_id c.in_ok-site.site.board) (opening_of c.args.setup.now) c.in_ok-ended.ended) (sym c.of-lists.ensures)
     (has-ended c.args.setup.now (lists_of c.args.plans.items) c.in_ok-site.site c.in_ok-crew.crew c.in_ok-ended.ended crew c.in_ok-ended.ensures.ended)
+
+-- an answer of a run says what an answer of its threads says
+pub returns-clause-enough : goal.returns-clause-enough
+returns-clause-enough g c =
+    let inboxes : map inbox_of c.in_ok-take_ends.field-0.items ≡ map untouched (lists_of c.args.plans.items) =
+    inboxes-of (lists_of c.args.plans.items) c.in_ok-lines.field-0 c.in_ok-take_ends.field-0.items c.in_ok-lines.ensures (c.in_ok-take_ends.ensures ∙ ap (map new_taker) c.deref-2.ensures.value) in
+    let plans : plans_of (map inbox_of c.in_ok-take_ends.field-0.items) ≡ lists_of c.args.plans.items = plans-are (map inbox_of c.in_ok-take_ends.field-0.items) (lists_of c.args.plans.items) inboxes in
+    let crew : IsCrew c.args.setup.now (lists_of c.args.plans.items) c.in_ok-site.site c.in_ok-crew.crew =
+    subst (λ asked. IsCrew c.args.setup.now asked c.in_ok-site.site c.in_ok-crew.crew) plans c.in_ok-crew.ensures in
+    let servers = as-many (service_of c.args.setup.now (lists_of c.args.plans.items)) c.args.setup.now.workers (board_numbers (board_id c.in_ok-site.site.board)) c.in_ok-crew.crew.servers.items crew.servers in
+    let ends = many-ends (lists_of c.args.plans.items) c.in_ok-lines.field-0 c.in_ok-ends.ends.items c.in_ok-lines.ensures (c.in_ok-ends.ensures ∙ ap (map new_sender) c.deref-3.ensures.value) in
+    omega (arith, c.in_ok-ended.ensures.enough, servers, ends, length-map c.args.plans.items requests_of)

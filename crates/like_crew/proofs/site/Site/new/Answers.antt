@@ -5,7 +5,7 @@ use Rattle.like_requests.specs.declared.request.Request.{Request}
 use Rattle.like_requests.specs.Limits.{max_count, max_requests}
 use Rattle.like_core.specs.declared.view.CoordSeatView.{CoordSeatView}
 use Rattle.like_board.specs.Seats.{board_id}
-use Rattle.like_crew.proofs.Ending.{new-seats}
+use Rattle.like_roles.proofs.Seats.{new_seats}
 use Rattle.like_crew.proofs.Makings.{all-back, all-map, map-twice}
 use Rattle.like_crew.proofs.site.Site.new.Goals as goal
 
@@ -38,6 +38,6 @@ returns-clause-seats c =
           ∙ ap (λ (xs : List ℕ). record { workers = c.args.setup.now.workers; counts = xs; marks = c.deref-2.result.now }) counts
           ∙ ap (λ (xs : List Bool). record { workers = c.args.setup.now.workers; counts = map (λ (p : Page). p.count) c.args.setup.now.pages; marks = xs }) marks;
       workers = c.in_ok-board.ensures.seats;
-      new = new-seats (board_id c.in_ok-board.board) (record { workers = c.args.setup.now.workers; counts = c.deref.result.now; marks = c.deref-2.result.now }) c.args.setup.now.pages c.in_ok-board.workers.items marks
+      new = new_seats (board_id c.in_ok-board.board) (record { workers = c.args.setup.now.workers; counts = c.deref.result.now; marks = c.deref-2.result.now }) c.args.setup.now.pages c.in_ok-board.workers.items marks
           c.in_ok-board.ensures.views;
     }

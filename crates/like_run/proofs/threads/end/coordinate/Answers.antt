@@ -5,4 +5,4 @@ pub loop-init : goal.loop-init
 loop-init g c = lead-same c.args.lead.now
 
 pub loop-preserved : goal.loop-preserved
-loop-preserved g c = lead-further _ c.loop.lead c.ends.new.self c.loop.invariant c.ends.ensures.goes_on
+loop-preserved g c = lead-further _ c.loop.lead c.turn.new.self c.loop.invariant c.turn.ensures.goes_on

@@ -1,4 +1,4 @@
-use Rattle.std.proofs.Common.{◌≡◌, ◌∙◌, ◌++◌, ◌∷◌, [], ℕ, List, map, subst, sym, ap, arith}
+use Rattle.std.proofs.Common.{◌≡◌, ◌∙◌, ◌++◌, ◌∷◌, [], ℕ, List, length-append, map, subst, sym, ap, arith}
 use Rattle.std.specs.List.{All}
 use Rattle.std.proofs.lemmas.List.{map_push}
 use Rattle.std.proofs.lemmas.List.Elements.{All-append}
@@ -31,6 +31,7 @@ loop-server-preserved g c =
     let first : first_of thread ≡ c.in-Some.server = ap (λ (p : Owes). p.server.value) whose ∙ c.of.ensures in
     let Told : PromisedHandle Served Owes → Type 0 = λ t. start_of t ≡ c.args.start.now.id in
     record {
+      few = grind (arith, length-append, pushed, l.invariant.few);
       room = omega (arith, c.push_reserved.ensures.capacity, l.invariant.room);
       told = subst (All Told) (sym pushed) (All-append Told l.threads.items (thread ∷ []) l.invariant.told (all-one Told thread told));
       servers = servers-more l.threads.items c.push_reserved.new.self.items thread l.yielded c.in-Some.server pushed l.invariant.servers first;

@@ -1,0 +1,100 @@
+//! That a run keeps to the turns and the stash of its settings. No schedule is sure to show it, so each test makes runs
+//! until one has shown it, and so many at most.
+use super::cases::{Case, ONE_PAGE, likes, requests};
+use super::watch::{Held, Watch};
+use crate::run;
+use like_replies::Report;
+use like_requests::Op;
+use std::alloc::Global;
+use std::process::Abort;
+use std::sync::Wait;
+use std::thread::Threads;
+
+// The most runs that a test makes.
+const RUNS: u32 = 50;
+
+// Makes a run of two likes with so many turns, whose second one waits for phase 2, for so many looks at most.
+fn run_with_turns(
+    rt: &(impl Abort + Threads + Wait + Sync),
+    alloc: Global,
+    turns: u32,
+    looks: u32,
+) -> Watch {
+    let case = Case {
+        workers: 1,
+        turns,
+        ..ONE_PAGE
+    };
+    let setup = case.setup(rt, alloc);
+    let gate = Watch::new(Held::SecondRequest, looks);
+    let plans = likes(rt, alloc, 1, 2);
+    let report = run(rt, alloc, &setup, plans, &gate).expect(rt, "a report");
+    assert_eq!(rt; report.phases.saturating_add(1), gate.phases());
+    gate
+}
+
+// A coordinator that counts 1,000 turns makes 2,000 before phase 2, while the submitter looks about as often.
+#[test]
+fn comes_soon_to_phases_of_no_turns(rt: HostRuntime) {
+    for _ in 0..RUNS {
+        if !run_with_turns(&rt, rt.alloc(), 0, 500).gave_up() {
+            return;
+        }
+    }
+    panic!(rt; "phase 2 was late in each run");
+}
+
+#[test]
+fn stays_in_a_phase_of_many_turns(rt: HostRuntime) {
+    for _ in 0..RUNS {
+        let gate = run_with_turns(&rt, rt.alloc(), 1_000_000, 20_000);
+        if gate.gave_up() && gate.phases() == 1 {
+            return;
+        }
+    }
+    panic!(rt; "phase 2 came early in each run");
+}
+
+// The most entries that a worker ran in one phase from its stash.
+fn most_stashed(report: &Report) -> u32 {
+    let mut most = 0;
+    for log in report.logs.iter() {
+        let mut phase = 0;
+        let mut many = 0u32;
+        for entry in log.ran.iter().filter(|entry| entry.stashed) {
+            many = match entry.phase == phase {
+                true => many.saturating_add(1),
+                false => 1,
+            };
+            phase = entry.phase;
+            most = most.max(many);
+        }
+    }
+    most
+}
+
+// Makes a run of 200 looks of the page that begins with phase 1, with a stash of so many, and says how full it was.
+fn fill_stash(rt: &(impl Abort + Threads + Wait + Sync), alloc: Global, stash: u32) -> u32 {
+    let case = Case {
+        workers: 1,
+        stash,
+        ..ONE_PAGE
+    };
+    let setup = case.setup(rt, alloc);
+    let gate = Watch::new(Held::FirstRequest, 1 << 24);
+    let plans = requests(rt, alloc, Op::Look, 1, 200);
+    let report = run(rt, alloc, &setup, plans, &gate).expect(rt, "a report");
+    assert!(rt; !gate.gave_up());
+    most_stashed(&report)
+}
+
+#[test]
+fn fills_its_stash_and_no_other(rt: HostRuntime) {
+    for stash in [1, 7] {
+        let mut most = 0;
+        for _ in 0..RUNS {
+            most = most.max(fill_stash(&rt, rt.alloc(), stash));
+        }
+        assert_eq!(rt; most, stash);
+    }
+}
