@@ -1,4 +1,5 @@
 pub mod Dealt
+pub mod Homes
 pub mod Owned
 pub mod PageSets
 pub mod Places

@@ -1,9 +1,7 @@
 -- How many submitters and users below a number a worker owns: by division, and in the order of the numbers.
 use Rattle.std.proofs.Common.{◌≡◌, ◌≢◌, ℕ, zero, suc, ◌+◌, ◌-◌, ◌*◌, ◌/◌, ◌%◌, ◌<◌, ◌≤◌, Bool, true, false, cond, eqb, inl, inr, refl, ap, subst, ◌∙◌, arith, add-one, count_by}
 use Rattle.std.specs.List.{range_with_len}
-use Rattle.std.specs.Int.{div_ceil}
 use Rattle.std.proofs.Math.Nat.{zero-div, zero-mod}
-use Rattle.std.proofs.lemmas.Grind.{div_ceil_times}
 use Rattle.std.proofs.lemmas.Bool.{cases_lt, cases_order, eqb-true, eqb-false}
 use Rattle.std.proofs.lemmas.Nat.{div-mul-add, mod-mul-add, div-add-mod', mul-le, mod_below}
 use Rattle.std.proofs.lemmas.List.{map-id}
@@ -39,6 +37,11 @@ unfolding owned_below
 owned_below-zero s = refl
 
 -- there are no more of them than numbers
+pub homes_below-le : (s : Share) (n : ℕ) → homes_below s n ≤ n
+unfolding homes_below
+homes_below-le s n =
+    omega (arith, count_by-le-length (serves s) (range_with_len 0 n), length-range_with_len 0 n)
+
 pub owned_below-le : (s : Share) (n : ℕ) → owned_below s n ≤ n
 unfolding owned_below
 owned_below-le s n =
@@ -60,12 +63,6 @@ IsRoundedUp-one m w h k a b =
     let up : h ≤ k = quotient-le h k w (omega arith) in
     let down : k ≤ h = quotient-le k h w (omega arith) in
     omega arith
-
--- as `div_ceil` gives it
-IsRoundedUp-div_ceil : (m w : ℕ) → 1 ≤ w → IsRoundedUp m w (div_ceil m w)
-IsRoundedUp-div_ceil m w some =
-    let times = div_ceil_times m w (omega arith) in
-    record { enough = times.0; tight = times.1 }
 
 -- one more number, n, is worker w's of N: the next count is rounded up too
 IsRoundedUp-more : (n w N h : ℕ) → w < N → (b : Bool) → eqb (n % N) w ≡ b → IsRoundedUp (n - w) N h
@@ -95,11 +92,6 @@ homes_below-rounded s small =
     below_by (λ n. IsRoundedUp (n - s.worker) s.workers (homes_below s n))
     (rw homes_below-zero (record { enough = omega arith; tight = omega arith }))
     (λ n r. rw homes_below-more (IsRoundedUp-more n s.worker s.workers (homes_below s n) small (serves s n) refl r))
-
--- the submitters below n that a worker serves, by division
-pub homes_below-div : (s : Share) (n : ℕ) → s.worker < s.workers → homes_below s n ≡ div_ceil (n - s.worker) s.workers
-homes_below-div s n small =
-    IsRoundedUp-one (n - s.worker) s.workers _ _ (homes_below-rounded s small n) (IsRoundedUp-div_ceil _ _ (omega arith))
 
 -- none of the submitters below the worker's first one
 pub homes_below-few : (s : Share) (n : ℕ) → s.worker < s.workers → n ≤ s.worker → homes_below s n ≡ 0

@@ -1,4 +1,5 @@
 pub mod Counted
+pub mod Homes
 pub mod Liked
 pub mod Limits
 pub mod PageSet

@@ -1,7 +1,8 @@
-ghost use Rattle.std.specs.Prelude.{◌≡◌, ◌<◌, length};
+ghost use Rattle.std.specs.Prelude.{◌≡◌, ◌<◌, ◌≤◌, IfOk, length};
 ghost use Rattle.like_tables.specs.Places.{ArePlaces, IsGiven};
-ghost use Rattle.like_tables.specs.Share.{homes_below, owned_below, owns, submitter_of};
+ghost use Rattle.like_tables.specs.Share.{owned_below, owns, share_of, submitter_of};
 
+use std::alloc::{AllocError, Global};
 use std::marker::Model;
 
 /// A worker's share of the users: those below `users` whose home is one of its submitters.
@@ -11,19 +12,52 @@ pub(crate) struct UserShare {
     pub submitters: u32,
     pub workers: u32,
     pub worker: u32,
+    // By submitter, and last of all of them: how many of the submitters below it are the worker's. So the place of a
+    // user costs one division.
+    homes_below: Vec<u32>,
 }
 
 impl Model for UserShare {
-    ghost use Rattle.like_tables.specs.Share.{IsShare, Share, share_of};
+    ghost use Rattle.like_tables.specs.Homes.{IsKept};
+    ghost use Rattle.like_tables.specs.Share.{Share, share_of};
 
     ghost Value = { Share };
 
     ghost view = { λ s. share_of s.users s.submitters s.workers s.worker };
 
-    ghost invariant = { λ s. IsShare (share_of s.users s.submitters s.workers s.worker) };
+    ghost invariant = { λ s. IsKept (share_of s.users s.submitters s.workers s.worker) s.homes_below.items };
 }
 
 impl UserShare {
+    pub fn new(
+        alloc: Global,
+        users: u32,
+        submitters: u32,
+        workers: u32,
+        worker: u32,
+    ) -> Result<Self, AllocError>
+        requires submitters { 1 ≤ submitters }
+        requires workers { 1 ≤ workers }
+        ensures { IfOk result (λ share. share ≡ share_of users submitters workers worker) }
+    {
+        let mut homes_below = Vec::with_capacity(alloc, submitters as usize + 1)?;
+        let mut homes = 0;
+        for submitter in 0..submitters {
+            homes_below.push(homes)?;
+            if submitter % workers == worker {
+                homes += 1;
+            }
+        }
+        homes_below.push(homes)?;
+        Ok(UserShare {
+            users,
+            submitters,
+            workers,
+            worker,
+            homes_below,
+        })
+    }
+
     pub fn owns(&self, user: u32) -> bool
         ensures { result ≡ owns self.now user }
     {
@@ -42,8 +76,8 @@ impl UserShare {
     pub fn owned_below(&self, user: u32) -> u32
         ensures { result ≡ owned_below self.now user }
     {
-        let rounds = user / self.submitters;
-        rounds * self.homes_below(self.submitters) + self.homes_below(user % self.submitters)
+        let (rounds, submitter) = (user / self.submitters, user % self.submitters);
+        rounds * self.homes_below[self.submitters as usize] + self.homes_below[submitter as usize]
     }
 
     // Writes the pages at the places of the worker's users to the places of all users. It walks over the users submitter
@@ -64,15 +98,5 @@ impl UserShare {
                 submitter = first;
             }
         }
-    }
-
-    // How many of the submitters below this one the worker serves.
-    fn homes_below(&self, submitter: u32) -> u32
-        ensures { result ≡ homes_below self.now submitter }
-    {
-        if self.worker >= self.workers {
-            return 0;
-        }
-        submitter.saturating_sub(self.worker).div_ceil(self.workers)
     }
 }

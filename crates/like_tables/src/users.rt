@@ -44,12 +44,7 @@ impl Users {
         ensures { IfOk result (λ table. table
             ≡ table_without_likes (share_of users submitters workers worker)) }
     {
-        let share = UserShare {
-            users,
-            submitters,
-            workers,
-            worker,
-        };
+        let share = UserShare::new(alloc, users, submitters, workers, worker)?;
         let places = share.owned_below(users) as usize;
         Ok(Users {
             share,
