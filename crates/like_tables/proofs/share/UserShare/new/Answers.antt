@@ -1,4 +1,4 @@
-use Rattle.std.proofs.Common.{length, sym, ap, ◌∙◌, arith}
+use Rattle.std.proofs.Common.{length, sym, ap, arith}
 use Rattle.like_tables.specs.Share.{share_of}
 use Rattle.like_tables.proofs.Homes.{homes-push, homes_below-other, homes_below-own}
 use Rattle.like_tables.proofs.Owned.{homes_below-le, homes_below-zero}
