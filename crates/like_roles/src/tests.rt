@@ -247,11 +247,9 @@ fn runs_unsplit_pages_in_a_split_phase(rt: HostRuntime) -> Result<(), Fail> {
     Ok(())
 }
 
-#[test]
-fn runs_beside_idle_workers(rt: HostRuntime) -> Result<(), Fail> {
-    let setup = setup_of(rt.alloc(), 4, 256, b"name,count,split\na,0,yes\n")?;
-    let plan = vec![in rt.alloc(); ask(Op::Like, 0)]?;
-    let steps = [
+/// The steps of `idle-workers`.
+fn steps_of_idle_workers() -> [Step; 15] {
+    [
         Coord(CoordTurn::Announced),
         Worker(0, Turn::Acknowledged),
         Worker(1, Turn::Retired),
@@ -267,8 +265,12 @@ fn runs_beside_idle_workers(rt: HostRuntime) -> Result<(), Fail> {
         Coord(CoordTurn::Announced),
         Worker(0, Turn::Retired),
         Coord(CoordTurn::Ended),
-    ];
-    let calls = [
+    ]
+}
+
+/// The calls of the gate in that run.
+fn calls_of_idle_workers() -> [Call; 7] {
+    [
         Phase(0, 0),
         Phase(1, 0),
         Phase(2, 0),
@@ -276,20 +278,31 @@ fn runs_beside_idle_workers(rt: HostRuntime) -> Result<(), Fail> {
         Phase(0, 1),
         Run(0, 0, 1),
         Phase(0, 2),
-    ];
-    let (phase, log) = end_of(&rt, rt.alloc(), setup, plan, &steps, &[], &calls)?;
+    ]
+}
+
+#[test]
+fn runs_beside_idle_workers(rt: HostRuntime) -> Result<(), Fail> {
+    let setup = setup_of(rt.alloc(), 4, 256, b"name,count,split\na,0,yes\n")?;
+    let plan = vec![in rt.alloc(); ask(Op::Like, 0)]?;
+    let (phase, log) = end_of(
+        &rt,
+        rt.alloc(),
+        setup,
+        plan,
+        &steps_of_idle_workers(),
+        &[],
+        &calls_of_idle_workers(),
+    )?;
     assert_eq!(rt; phase, 2);
     let entries = [ran(1, 1, false, Reply::Liked)];
     expect(&rt, &log, &[took(1, 1)], &entries, Some(0));
     Ok(())
 }
 
-#[test]
-fn counts_turns_in_each_phase(rt: HostRuntime) -> Result<(), Fail> {
-    let mut setup = setup_of(rt.alloc(), 1, 256, b"name,count,split\na,0,yes\n")?;
-    setup.turns = 1;
-    let plan = vec![in rt.alloc(); ask(Op::Like, 0)]?;
-    let steps = [
+/// The steps of a run in which one turn is counted in each phase.
+fn steps_of_counted_turns() -> [Step; 14] {
+    [
         Coord(CoordTurn::Counted),
         Coord(CoordTurn::Announced),
         Coord(CoordTurn::Waiting),
@@ -304,9 +317,24 @@ fn counts_turns_in_each_phase(rt: HostRuntime) -> Result<(), Fail> {
         Worker(0, Turn::TookEnd),
         Worker(0, Turn::Retired),
         Coord(CoordTurn::Ended),
-    ];
+    ]
+}
+
+#[test]
+fn counts_turns_in_each_phase(rt: HostRuntime) -> Result<(), Fail> {
+    let mut setup = setup_of(rt.alloc(), 1, 256, b"name,count,split\na,0,yes\n")?;
+    setup.turns = 1;
+    let plan = vec![in rt.alloc(); ask(Op::Like, 0)]?;
     let calls = [Phase(0, 0), Phase(0, 1), Run(0, 0, 1), Phase(0, 2)];
-    let (phase, _) = end_of(&rt, rt.alloc(), setup, plan, &steps, &[], &calls)?;
+    let (phase, _) = end_of(
+        &rt,
+        rt.alloc(),
+        setup,
+        plan,
+        &steps_of_counted_turns(),
+        &[],
+        &calls,
+    )?;
     assert_eq!(rt; phase, 2);
     Ok(())
 }
