@@ -32,7 +32,8 @@ impl Model for Line {
 
     ghost view = { λ l. record { queue = l.queue.table.shared.table_id; plan = l.plan.items } };
 
-    ghost invariant = { λ l. (ruled_capacity l.queue ≡ line_capacity) × (length l.plan.items ≤ max_requests) };
+    ghost invariant = { λ l. (ruled_capacity l.queue ≡ line_capacity)
+        × (length l.plan.items ≤ max_requests) };
 }
 
 impl Line {

@@ -45,7 +45,8 @@ impl ListInbox {
     /// Opens the next item. `false` where all were open.
     pub fn open_one(&mut self) -> bool
         ensures opened { result ≡ nat_lt self.old.opened (item_count self.old.plan) }
-        ensures inbox { self.new ≡ record self.old { opened = min (self.old.opened + 1) (item_count self.old.plan) } }
+        ensures inbox { self.new
+            ≡ record self.old { opened = min (self.old.opened + 1) (item_count self.old.plan) } }
     {
         if self.opened > self.plan.len() {
             return false;

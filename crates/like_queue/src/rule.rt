@@ -64,7 +64,8 @@ impl Lesson<Item, Known> for Sending {
 pub(crate) struct Taking;
 
 impl Outcome<Item, Known> for Taking {
-    ghost then = { λ v item after. (slice_get (items_of v.plan) v.count ≡ Some item) × (after ≡ one_more v) };
+    ghost then = { λ v item after. (slice_get (items_of v.plan) v.count ≡ Some item)
+        × (after ≡ one_more v) };
 }
 
 impl Lesson<Item, Known> for Taking {

@@ -31,7 +31,8 @@ impl<'a> Model for SendEnd<'a> {
     ghost view = { λ e. record { line = e.line.now; sent = e.sent } };
 
     ghost invariant = { λ e. let line = e.line.now in
-        (e.pass.table_id ≡ line.queue) × (e.pass.me.1 ≡ []) × Knows (known_by e.pass) Sends line.plan e.sent };
+        (e.pass.table_id ≡ line.queue) × (e.pass.me.1 ≡ [])
+        × Knows (known_by e.pass) Sends line.plan e.sent };
 }
 
 impl SendEnd<'_> {

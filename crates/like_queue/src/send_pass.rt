@@ -23,7 +23,10 @@ impl Model for SendPass {
     ghost Value = { Sender };
 
     ghost view = { λ p.
-        record { line = record { queue = p.pass.table_id; plan = (known_by p.pass).plan }; sent = p.sent } };
+        record {
+          line = record { queue = p.pass.table_id; plan = (known_by p.pass).plan };
+          sent = p.sent;
+        } };
 
     ghost invariant = { λ p. let knows = known_by p.pass in
         (p.pass.me.1 ≡ []) × Knows knows Sends knows.plan p.sent };

@@ -30,7 +30,8 @@ impl<'a> Model for TakeEnd<'a> {
     ghost view = { λ e. record { line = e.line.now; taken = e.taken } };
 
     ghost invariant = { λ e. let line = e.line.now in
-        (e.pass.table_id ≡ line.queue) × (e.pass.me.1 ≡ []) × Knows (known_by e.pass) Takes line.plan e.taken };
+        (e.pass.table_id ≡ line.queue) × (e.pass.me.1 ≡ [])
+        × Knows (known_by e.pass) Takes line.plan e.taken };
 }
 
 impl TakeEnd<'_> {

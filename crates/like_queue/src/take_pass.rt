@@ -23,7 +23,10 @@ impl Model for TakePass {
     ghost Value = { Taker };
 
     ghost view = { λ p.
-        record { line = record { queue = p.pass.table_id; plan = (known_by p.pass).plan }; taken = p.taken } };
+        record {
+          line = record { queue = p.pass.table_id; plan = (known_by p.pass).plan };
+          taken = p.taken;
+        } };
 
     ghost invariant = { λ p. let knows = known_by p.pass in
         (p.pass.me.1 ≡ []) × Knows knows Takes knows.plan p.taken };

@@ -48,7 +48,8 @@ impl<R: Read> Model for Records<R> {
 impl<R: Read> Records<R> {
     /// The records of what `reader` gives, before the first.
     pub fn new(alloc: Global, reader: R) -> Self
-        ensures { result ≡ record { left = option_map records_of (R.remaining reader); fields = [] } }
+        ensures { result
+            ≡ record { left = option_map records_of (R.remaining reader); fields = [] } }
     {
         let reader = ReaderBuilder::new()
             .has_headers(false)

@@ -46,7 +46,8 @@ pub trait FileKind {
             → MatchResult result
             (λ _. AllByRecursion (asks done records.now.fields) (tests row)
             × holds self.now made.new (done ++ records.now.fields ∷ []))
-            (λ fault. Excuses fault_of fault ⊎ FailsFirst (asks done records.now.fields) (tests row) fault) };
+            (λ fault. Excuses fault_of fault
+            ⊎ FailsFirst (asks done records.now.fields) (tests row) fault) };
 }
 
 /// Reads a file of this kind: the header, in whose place another first record is the fault `headless`, and the rows
@@ -64,7 +65,8 @@ pub fn read_file<R: Read + Drop, K: FileKind>(
     ensures file { let first = map (λ text. text.now) header.now in
         (rows : List Record) → option_map records_of (R.remaining reader) ≡ Some rows
         → MatchResult result
-        (λ made. Behind first (λ body. PassAll K.asks K.tests body × K.holds kind.now made body) rows)
+        (λ made. Behind first
+        (λ body. PassAll K.asks K.tests body × K.holds kind.now made body) rows)
         (λ fault. Excuses K.fault_of fault ⊎ IsHeadless first headless rows fault
         ⊎ Behind first (λ body. IsFirstFailed K.asks K.tests body fault) rows) }
 {

@@ -89,7 +89,8 @@ impl Entries {
         requires counted { initial.count ≤ max_count }
         requires other { ¬ Contains (names self.old) name.now }
         ensures added { OnOk result (self.new
-            ≡ self.old ++ (record { name = name.now; count = initial.count; split = initial.split }) ∷ []) }
+            ≡ self.old
+            ++ (record { name = name.now; count = initial.count; split = initial.split }) ∷ []) }
     {
         let key = Vec::from_slice(alloc, name.as_bytes())?;
         let name = String::from_str(alloc, name)?;

@@ -114,7 +114,8 @@ fn entry_at<'r, R: Read>(
     requires { row ≡ length entries.now + 1 }
     ensures { MatchResult result
         (λ page. AllByRecursion (AsksPage (names entries.now) records.now.fields) (page_tests row)
-        × (page_of records.now.fields ≡ record { name = page.0.now; count = page.1.count; split = page.1.split }))
+        × (page_of records.now.fields
+        ≡ record { name = page.0.now; count = page.1.count; split = page.1.split }))
         (FailsFirst (AsksPage (names entries.now) records.now.fields) (page_tests row)) }
 {
     if records.field_count() != 3 {
@@ -140,7 +141,8 @@ fn entry_at<'r, R: Read>(
 
 // The name that a field writes, where it may be a page's.
 fn page_name(field: &[u8]) -> Option<&str>
-    ensures { MatchOption result (¬ IsName field.now) (λ name. IsName field.now × (name.now ≡ field.now)) }
+    ensures { MatchOption result (¬ IsName field.now)
+        (λ name. IsName field.now × (name.now ≡ field.now)) }
 {
     if field.is_empty() || field.len() > MAX_NAME {
         return None;

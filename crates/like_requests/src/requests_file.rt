@@ -91,7 +91,8 @@ pub fn read_requests<R: Read + Drop>(
     pages: &Pages,
 ) -> Result<Vec<Request>, RequestsFault>
     ensures { (rows : List Record) → option_map records_of (R.remaining reader) ≡ Some rows
-        → MatchResult result (λ requests. IsRequestsFile pages.now rows requests.items) (IsRequestsFault rows) }
+        → MatchResult result
+        (λ requests. IsRequestsFile pages.now rows requests.items) (IsRequestsFault rows) }
 {
     read_file(
         alloc,
@@ -146,7 +147,8 @@ fn page_named(pages: &Pages, field: &[u8]) -> PageRef
 
 // The operation that a field names.
 fn op_named(field: &[u8]) -> Option<Op>
-    ensures { MatchOption result (¬ IsOp field.now) (λ op. IsOp field.now × (op ≡ op_of field.now)) }
+    ensures { MatchOption result (¬ IsOp field.now)
+        (λ op. IsOp field.now × (op ≡ op_of field.now)) }
 {
     match field {
         b"like" => Some(Op::Like),

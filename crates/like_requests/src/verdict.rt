@@ -19,7 +19,8 @@ pub enum Verdict {
 pub fn judge(request: &Request, submitter: u32, submitters: u32, users: u32) -> Verdict
     requires { 1 ≤ submitters }
     ensures verdict { result ≡ verdict_of users submitters submitter request.now }
-    ensures accepted { (result ≡ Verdict.Accepted) ↔ IsTrue (is_accepted users submitters submitter request.now) }
+    ensures accepted { (result ≡ Verdict.Accepted)
+        ↔ IsTrue (is_accepted users submitters submitter request.now) }
 {
     if request.user >= users {
         return Verdict::UnknownUser;
