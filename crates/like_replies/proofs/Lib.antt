@@ -3,5 +3,9 @@ pub mod Empty
 pub mod Examples
 pub mod Holding
 pub mod Lists
+pub mod Named
 pub mod Places
+pub mod Plain
+pub mod RowTexts
 pub mod Texts
+pub mod There

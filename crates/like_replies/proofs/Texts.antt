@@ -12,6 +12,7 @@ use Rattle.csv.specs.Writing.{default_writer, row_text}
 use Rattle.like_requests.specs.Pages.{Page}
 use Rattle.like_replies.specs.declared.answer.Answer.{Answer}
 use Rattle.like_replies.specs.Reported.{Reported}
+use Rattle.like_replies.specs.RowParts.{WritesRows}
 use Rattle.like_replies.specs.Rows.{header_row, page_row, page_rows, reply_row, reply_rows, report_text, rows_text, submitter_rows, user_row, user_rows}
 
 -- an element at the end has the place after the others
@@ -56,9 +57,18 @@ reply_rows-push pages replies answers =
     let e : enumerate_from 0 (replies ++ answers ∷ []) ≡ enumerate_from 0 replies ++ (length replies, answers) ∷ [] = simp (enumerate_from-push, zero-add) in
     ap (flat_map (λ p. submitter_rows pages p.0 p.1)) e ∙ flat_map-append (λ p. submitter_rows pages p.0 p.1) (enumerate_from 0 replies) ((length replies, answers) ∷ []) ∙ ap (λ r. reply_rows pages replies ++ r) (append-nil (submitter_rows pages (length replies) answers))
 
--- rows were written, and then one more
-pub Appends-row : (a b c : Option (List ℕ)) (rows : List (List (List ℕ))) (row : List (List ℕ)) → Appends a b (rows_text rows) → Appends b c (row_text default_writer row) → Appends a c (rows_text (rows ++ row ∷ []))
-Appends-row a b c rows row p q = rw (rows_text-push rows row) (Appends-trans a b c (rows_text rows) (row_text default_writer row) p q)
+-- text that is added to a sheet follows what was known and what the sheet had
+pub Appends-added : (known : Option (List ℕ)) (sheet text more : List ℕ) → more ≡ sheet ++ text → Appends (append_known known sheet) (append_known known more) text
+Appends-added None sheet text more e = tt
+Appends-added (Some x) sheet text more e = ap (λ l. x ++ l) e ∙ sym (append_assoc x sheet text)
+
+-- rows were written, then one more was added, and enough of the sheet was handed on
+pub WritesRows-row : (start known done : Option (List ℕ)) (first sheet more rest : List ℕ) (rows : List (List (List ℕ))) (row : List (List ℕ))
+    → WritesRows start first known sheet rows → more ≡ sheet ++ row_text default_writer row → Keeps (append_known known more) (append_known done rest) → WritesRows start first done rest (rows ++ row ∷ [])
+WritesRows-row start known done first sheet more rest rows row written added kept =
+    let row_added = Appends-added known sheet (row_text default_writer row) more added in
+    let all = Appends-trans (append_known start first) (append_known known sheet) (append_known known more) (rows_text rows) (row_text default_writer row) written row_added in
+    rw (rows_text-push rows row) (Appends-kept (append_known start first) (append_known known more) (append_known done rest) (rows_text rows ++ row_text default_writer row) all kept)
 
 -- rows were written, and then more rows
 pub Appends-rows : (a b c : Option (List ℕ)) (rows more : List (List (List ℕ))) → Appends a b (rows_text rows) → Appends b c (rows_text more) → Appends a c (rows_text (rows ++ more))

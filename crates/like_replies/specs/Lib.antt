@@ -1,5 +1,6 @@
 pub mod Collected
 pub mod Entries
 pub mod Reported
+pub mod RowParts
 pub mod Rows
 pub mod Slots

@@ -1,11 +1,16 @@
 -- How answers are gathered: a place for each request, empty or with its answer.
-use Rattle.std.specs.Prelude.{◌≡◌, ◌≢◌, ℕ, zero, suc, ◌+◌, ◌-◌, ◌<◌, ◌≤◌, All, List, [], length, map, slice_index_or, slice_set, Option, Some, None, ⊤}
+use Rattle.std.specs.Prelude.{◌≡◌, ◌≢◌, ℕ, zero, suc, ◌+◌, ◌-◌, ◌<◌, ◌≤◌, All, Bool, if◌then◌else◌, List, [], length, map, slice_index_or, slice_set, Option, Some, None, ⊤}
+use Rattle.std.specs.List.{zip}
 use Rattle.std.specs.Option.{option_to_list}
 use Rattle.like_roles.specs.declared.log.Ran.{Ran}
 use Rattle.like_replies.specs.declared.answer.Answer.{Answer}
 use Rattle.like_replies.specs.declared.collect_fault.CollectFault.{CollectFault}
 use Rattle.like_replies.specs.declared.collect_fault.CollectFault.TheVariants.{Stranger, Double, Missing, Memory}
 use Rattle.like_replies.specs.Entries.{IsRequest, Precedes, answer_of, entries_of}
+
+-- the answers at places, of which those marked are there
+abbrev pub answers_there : List Bool → List Answer → List (Option Answer)
+answers_there there answers = map (λ p. if p.0 then Some p.1 else None) (zip there answers)
 
 -- what is at the place of a request, if there is such a place
 abbrev pub slot_at : List (List (Option Answer)) → ℕ → ℕ → Option Answer

@@ -26,5 +26,5 @@ pub fn collect(alloc: Global, sizes: &[u32], logs: &[WorkerLog]) -> Result<Repli
     for log in logs {
         slots.put_all(&log.ran)?;
     }
-    slots.replies(alloc)
+    slots.into_replies(alloc)
 }

@@ -1,4 +1,4 @@
-mod row;
+mod names;
 mod rows;
 mod sheet;
 pub(crate) mod text;

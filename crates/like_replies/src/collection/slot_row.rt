@@ -3,22 +3,34 @@ ghost use Rattle.like_replies.specs.Slots.{IsSlotsFault};
 
 use crate::answer::Answer;
 use crate::collect_fault::CollectFault;
+use like_roles::Reply;
 use std::alloc::{AllocError, Global};
 use std::marker::Model;
 
-/// A place for the answer of each request of a submitter.
+// What stands at a place where there is no answer yet.
+const NO_ANSWER: Answer = Answer {
+    phase: 0,
+    stashed: false,
+    reply: Reply::Liked,
+};
+
+/// A place for the answer of each request of a submitter, and beside it whether the answer is there.
 #[derive(Drop)]
 pub(crate) struct SlotRow {
-    slots: Vec<Option<Answer>>,
+    answers: Vec<Answer>,
+    there: Vec<bool>,
 }
 
 impl Model for SlotRow {
-    ghost use Rattle.std.specs.Prelude.{List, Option};
+    ghost use Rattle.std.specs.Prelude.{◌≡◌, List, Option, length};
     ghost use Rattle.like_replies.specs.declared.answer.Answer.{Answer};
+    ghost use Rattle.like_replies.specs.Slots.{answers_there};
 
     ghost Value = { List (Option Answer) };
 
-    ghost view = { λ r. r.slots.items };
+    ghost view = { λ r. answers_there r.there.items r.answers.items };
+
+    ghost invariant = { λ r. length r.there.items ≡ length r.answers.items };
 }
 
 impl SlotRow {
@@ -27,7 +39,8 @@ impl SlotRow {
         ensures { IfOk result (λ row. row ≡ replicate size None) }
     {
         Ok(SlotRow {
-            slots: vec![in alloc; None; size as usize]?,
+            answers: vec![in alloc; NO_ANSWER; size as usize]?,
+            there: vec![in alloc; false; size as usize]?,
         })
     }
 
@@ -35,7 +48,7 @@ impl SlotRow {
     pub fn len(&self) -> usize
         ensures { result ≡ length self.now }
     {
-        self.slots.len()
+        self.answers.len()
     }
 
     /// Whether there is an answer at this place.
@@ -43,7 +56,7 @@ impl SlotRow {
         requires { place < length self.now }
         ensures { result ≡ is_some (slice_index_or self.now place None) }
     {
-        self.slots[place].is_some()
+        self.there[place]
     }
 
     /// Puts an answer at this place.
@@ -51,38 +64,24 @@ impl SlotRow {
         requires { place < length self.old }
         ensures { self.new ≡ slice_set self.old place (Some answer) }
     {
-        self.slots[place] = Some(answer);
+        self.answers[place] = answer;
+        self.there[place] = true;
     }
 
     /// The answers at all places, which are those of this submitter; `Missing` at the first that is empty.
-    pub fn answers(&self, alloc: Global, submitter: u32) -> Result<Vec<Answer>, CollectFault>
-        requires { length self.now < 2 ^ 32 }
+    pub fn into_answers(self, submitter: u32) -> Result<Vec<Answer>, CollectFault>
+        requires { length self < 2 ^ 32 }
         ensures { MatchResult result
-            (λ answers. self.now ≡ map Some answers.items)
-            (IsSlotsFault submitter (self.now ∷ [])) }
+            (λ answers. self ≡ map Some answers.items)
+            (IsSlotsFault submitter (self ∷ [])) }
     {
-        answers_in(alloc, submitter, &self.slots)
+        let SlotRow { answers, there } = self;
+        for (place, is_there) in there.iter().enumerate() {
+            if !*is_there {
+                let number = place as u32 + 1;
+                return Err(CollectFault::Missing { submitter, number });
+            }
+        }
+        Ok(answers)
     }
-}
-
-// The answers at all places of a submitter.
-fn answers_in(
-    alloc: Global,
-    submitter: u32,
-    slots: &[Option<Answer>],
-) -> Result<Vec<Answer>, CollectFault>
-    requires { length slots.now < 2 ^ 32 }
-    ensures { MatchResult result
-        (λ answers. slots.now ≡ map Some answers.items)
-        (IsSlotsFault submitter (slots.now ∷ [])) }
-{
-    let mut answers = Vec::with_capacity(alloc, slots.len())?;
-    for (place, answer) in slots.iter().enumerate() {
-        let Some(answer) = *answer else {
-            let number = place as u32 + 1;
-            return Err(CollectFault::Missing { submitter, number });
-        };
-        answers.push(answer)?;
-    }
-    Ok(answers)
 }

@@ -48,7 +48,9 @@ impl Slots {
 
     // Puts the answer of an entry at its place.
     fn put(&mut self, entry: &Ran) -> Result<(), CollectFault>
-        ensures { MatchResult result (λ _. Puts self.old entry.now self.new) (Refuses self.old entry.now) }
+        ensures { MatchResult result
+            (λ _. Puts self.old entry.now self.new)
+            (Refuses self.old entry.now) }
     {
         let Ran {
             phase,
@@ -90,30 +92,32 @@ impl Slots {
     }
 
     /// The answers of all requests; `Missing` at the first place that is empty.
-    pub fn replies(&self, alloc: Global) -> Result<Replies, CollectFault>
-        requires few { length self.now ≤ 64 }
-        requires short { All (λ row. length row < 2 ^ 32) self.now }
+    pub fn into_replies(self, alloc: Global) -> Result<Replies, CollectFault>
+        requires few { length self ≤ 64 }
+        requires short { All (λ row. length row < 2 ^ 32) self }
         ensures { MatchResult result
-            (λ replies. self.now ≡ map (map Some) (rows_of replies))
-            (IsSlotsFault 0 self.now) }
+            (λ replies. self ≡ map (map Some) (rows_of replies))
+            (IsSlotsFault 0 self) }
     {
+        let Slots { rows } = self;
         Ok(Replies {
-            rows: answer_rows(alloc, &self.rows)?,
+            rows: answer_rows(alloc, rows)?,
         })
     }
 }
 
 // The answers of all submitters.
-fn answer_rows(alloc: Global, slots: &[SlotRow]) -> Result<Vec<Vec<Answer>>, CollectFault>
-    requires few { length slots.now ≤ 64 }
-    requires short { All (λ row. length row < 2 ^ 32) slots.now }
+fn answer_rows(alloc: Global, slots: Vec<SlotRow>) -> Result<Vec<Vec<Answer>>, CollectFault>
+    requires few { length slots.items ≤ 64 }
+    requires short { All (λ row. length row < 2 ^ 32) slots.items }
     ensures { MatchResult result
-        (λ rows. slots.now ≡ map (map Some) (map (λ row. row.items) rows.items))
-        (IsSlotsFault 0 slots.now) }
+        (λ rows. slots.items ≡ map (map Some) (map (λ row. row.items) rows.items))
+        (IsSlotsFault 0 slots.items) }
 {
     let mut rows = Vec::with_capacity(alloc, slots.len())?;
-    for (submitter, row) in slots.iter().enumerate() {
-        rows.push(row.answers(alloc, submitter as u32)?)?;
+    for row in slots {
+        let submitter = rows.len() as u32;
+        rows.push(row.into_answers(submitter)?)?;
     }
     Ok(rows)
 }

@@ -1,124 +1,112 @@
-ghost use Rattle.std.specs.Prelude.{◌≡◌, ◌<◌, [], ◌∷◌, ◌++◌, OnOk, decimal, length};
-ghost use Rattle.std.specs.Option.{ForSome, option_map_or};
-ghost use Rattle.like_replies.specs.Rows.{IsAnswer, IsShowable, ShowsThere, answer_word, header_row, name_of, page_row, reply_row, shown_count, shown_page, user_row};
+ghost use Rattle.std.specs.Prelude.{◌≡◌, ◌<◌, ◌++◌, ℕ, List, IfOk, OnOk, length};
+ghost use Rattle.csv.specs.Writing.{default_writer, row_text};
+ghost use Rattle.like_requests.specs.Pages.{Page};
+ghost use Rattle.like_roles.specs.declared.reply.Reply.TheVariants.{Refused};
+ghost use Rattle.like_replies.specs.Rows.{IsAnswer, IsShowable, header_row, page_row, reply_row, user_row};
+ghost use Rattle.like_replies.specs.RowParts.{reply_start, shown_text};
 
 use crate::answer::Answer;
-use crate::report::row::Row;
-use like_requests::{Pages, Verdict};
+use crate::report::names::Names;
+use crate::report::sheet::Sheet;
+use like_requests::Verdict;
 use like_roles::Reply;
-use std::alloc::AllocError;
+use std::alloc::{AllocError, Global};
 
-// The word of a reply.
-fn word(reply: Reply) -> &'static str
-    requires { IsAnswer reply }
-    ensures { result.now ≡ answer_word reply }
+/// Adds the header row.
+#[tactic(auto, unfolding(csv::specs::Writing::fields_text, csv::specs::Writing::is_blank))]
+pub fn add_header(sheet: &mut Sheet) -> Result<(), AllocError>
+    ensures { OnOk result (sheet.new ≡ sheet.old ++ row_text default_writer header_row) }
 {
-    match reply {
-        Reply::Liked => "liked",
-        Reply::Seen { .. } => "seen",
-        Reply::Refused(Verdict::Accepted) => unreachable!(),
-        Reply::Refused(Verdict::UnknownUser) => "unknown-user",
-        Reply::Refused(Verdict::OtherHome) => "other-home",
-        Reply::Refused(Verdict::UnknownPage) => "unknown-page",
+    sheet.add(b"row,id,number,phase,answer,page,count\n")
+}
+
+/// How each row of a submitter's requests begins.
+pub fn start_reply(alloc: Global, submitter: u64) -> Result<Sheet, AllocError>
+    ensures { IfOk result (λ start. start ≡ reply_start submitter) }
+{
+    let mut start = Sheet::new(alloc);
+    start.add(b"reply,")?;
+    start.add_number(submitter)?;
+    start.add(b",")?;
+    Ok(start)
+}
+
+// What a refusal shows, and the end of its row.
+fn refusal(verdict: Verdict) -> &'static str
+    requires { IsAnswer (Refused verdict) }
+    ensures { (pages : List Page) → result.now ≡ shown_text pages (Refused verdict) }
+{
+    match verdict {
+        Verdict::Accepted => unreachable!(),
+        Verdict::UnknownUser => ",unknown-user,,\n",
+        Verdict::OtherHome => ",other-home,,\n",
+        Verdict::UnknownPage => ",unknown-page,,\n",
     }
 }
 
-// Adds the name of the page of a last like, or an empty field where there is none.
-fn push_last(row: &mut Row, pages: &Pages, last: Option<u32>) -> Result<(), AllocError>
-    requires { ForSome last (λ page. page < length pages.now) }
-    ensures { OnOk result (row.new ≡ row.old ++ option_map_or (name_of pages.now) last [] ∷ []) }
-{
-    match last {
-        Some(page) => row.push(pages.name(page).as_bytes()),
-        None => row.push(b""),
-    }
-}
-
-// Adds the page and the count that a reply shows.
-fn push_shown(row: &mut Row, pages: &Pages, reply: Reply) -> Result<(), AllocError>
-    requires { ShowsThere pages.now reply }
-    ensures { OnOk result (row.new ≡ row.old ++ shown_page pages.now reply ∷ shown_count reply ∷ []) }
+// Adds what a reply shows, and ends the row.
+#[tactic(auto, unfolding(csv::specs::Writing::fields_text))]
+fn add_shown(sheet: &mut Sheet, names: &Names, reply: Reply) -> Result<(), AllocError>
+    requires { IsShowable names.now reply }
+    ensures { OnOk result (sheet.new ≡ sheet.old ++ shown_text names.now reply) }
 {
     match reply {
+        Reply::Liked => sheet.add(b",liked,,\n"),
         Reply::Seen { last, count } => {
-            push_last(row, pages, last)?;
-            row.push_number(count)
+            sheet.add(b",seen,")?;
+            sheet.add(names.text_of_last(last))?;
+            sheet.add(b",")?;
+            sheet.add_number(count)?;
+            sheet.add(b"\n")
         }
-        Reply::Liked | Reply::Refused(_) => {
-            row.push(b"")?;
-            row.push(b"")
-        }
+        Reply::Refused(verdict) => sheet.add(refusal(verdict).as_bytes()),
     }
 }
 
-// Starts a row of this kind.
-fn start(row: &mut Row, kind: &str, id: u64) -> Result<(), AllocError>
-    ensures { OnOk result (row.new ≡ kind.now ∷ decimal id ∷ []) }
-{
-    row.clear();
-    row.push(kind.as_bytes())?;
-    row.push_number(id)
-}
-
-// Adds three empty fields.
-fn push_gap(row: &mut Row) -> Result<(), AllocError>
-    ensures { OnOk result (row.new ≡ row.old ++ [] ∷ [] ∷ [] ∷ []) }
-{
-    row.push(b"")?;
-    row.push(b"")?;
-    row.push(b"")
-}
-
-/// Fills in the header row.
-pub fn fill_header(row: &mut Row) -> Result<(), AllocError>
-    ensures { OnOk result (row.new ≡ header_row) }
-{
-    row.clear();
-    row.push(b"row")?;
-    row.push(b"id")?;
-    row.push(b"number")?;
-    row.push(b"phase")?;
-    row.push(b"answer")?;
-    row.push(b"page")?;
-    row.push(b"count")
-}
-
-/// Fills in the row of a submitter's request with this number.
-pub fn fill_reply(
-    row: &mut Row,
-    pages: &Pages,
-    submitter: u64,
+/// Adds the row of a submitter's request with this number, which begins like the submitter's others.
+pub fn add_reply(
+    sheet: &mut Sheet,
+    names: &Names,
+    start: &Sheet,
     number: u64,
     answer: &Answer,
 ) -> Result<(), AllocError>
-    requires { IsShowable pages.now answer.now.reply }
-    ensures { OnOk result (row.new ≡ reply_row pages.now submitter number answer.now) }
+    requires { IsShowable names.now answer.now.reply }
+    ensures { (submitter : ℕ) → start.now ≡ reply_start submitter
+        → OnOk result (sheet.new ≡ sheet.old
+        ++ row_text default_writer (reply_row names.now submitter number answer.now)) }
 {
-    start(row, "reply", submitter)?;
-    row.push_number(number)?;
-    row.push_number(u64::from(answer.phase))?;
-    row.push(word(answer.reply).as_bytes())?;
-    push_shown(row, pages, answer.reply)
+    sheet.add(start.text())?;
+    sheet.add_number(number)?;
+    sheet.add(b",")?;
+    sheet.add_number(u64::from(answer.phase))?;
+    add_shown(sheet, names, answer.reply)
 }
 
-/// Fills in the row of a page with its final count.
-pub fn fill_page(row: &mut Row, pages: &Pages, page: u32, count: u64) -> Result<(), AllocError>
-    requires { page < length pages.now }
-    ensures { OnOk result (row.new ≡ page_row pages.now page count) }
+/// Adds the row of a page with its final count.
+pub fn add_page(sheet: &mut Sheet, names: &Names, page: u32, count: u64) -> Result<(), AllocError>
+    requires { page < length names.now }
+    ensures { OnOk result (sheet.new ≡ sheet.old
+        ++ row_text default_writer (page_row names.now page count)) }
 {
-    start(row, "page", u64::from(page))?;
-    push_gap(row)?;
-    row.push(pages.name(page).as_bytes())?;
-    row.push_number(count)
+    sheet.add(b"page,")?;
+    sheet.add_number(u64::from(page))?;
+    sheet.add(b",,,,")?;
+    sheet.add(names.text(page))?;
+    sheet.add(b",")?;
+    sheet.add_number(count)?;
+    sheet.add(b"\n")
 }
 
-/// Fills in the row of a user whose last like is of this page.
-pub fn fill_user(row: &mut Row, pages: &Pages, user: u64, page: u32) -> Result<(), AllocError>
-    requires { page < length pages.now }
-    ensures { OnOk result (row.new ≡ user_row pages.now user page) }
+/// Adds the row of a user whose last like is of this page.
+pub fn add_user(sheet: &mut Sheet, names: &Names, user: u64, page: u32) -> Result<(), AllocError>
+    requires { page < length names.now }
+    ensures { OnOk result (sheet.new ≡ sheet.old
+        ++ row_text default_writer (user_row names.now user page)) }
 {
-    start(row, "user", user)?;
-    push_gap(row)?;
-    row.push(pages.name(page).as_bytes())?;
-    row.push(b"")
+    sheet.add(b"user,")?;
+    sheet.add_number(user)?;
+    sheet.add(b",,,,")?;
+    sheet.add(names.text(page))?;
+    sheet.add(b",\n")
 }

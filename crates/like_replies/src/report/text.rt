@@ -1,13 +1,14 @@
-ghost use Rattle.std.specs.Prelude.{◌≡◌, ◌≤◌, ◌+◌, ◌^◌, ◌<◌, All, IfSome, OnOk, length};
+ghost use Rattle.std.specs.Prelude.{◌≡◌, ◌<◌, ℕ, All, OnOk, length};
 ghost use Rattle.std.specs.Option.{ForSome};
-ghost use Rattle.std.specs.Io.KnownBytes.{Appends, append_known};
+ghost use Rattle.std.specs.Io.KnownBytes.{Appends};
 ghost use Rattle.like_replies.specs.Reported.{reported};
-ghost use Rattle.like_replies.specs.Rows.{IsShowable, IsWritable, page_rows, report_text, rows_text, submitter_rows, user_rows};
+ghost use Rattle.like_replies.specs.RowParts.{WritesRows, reply_start};
+ghost use Rattle.like_replies.specs.Rows.{IsShowable, IsWritable, page_rows, report_text, submitter_rows, user_rows};
 
 use crate::answer::Answer;
 use crate::report::Report;
-use crate::report::row::Row;
-use crate::report::rows::{fill_header, fill_page, fill_reply, fill_user};
+use crate::report::names::Names;
+use crate::report::rows::{add_header, add_page, add_reply, add_user, start_reply};
 use crate::report::sheet::Sheet;
 use crate::write_fault::WriteFault;
 use like_requests::Pages;
@@ -27,15 +28,15 @@ pub fn write_report<W: Write>(
         (W.contents out.new)
         (report_text pages.now (reported report.now))) }
 {
-    let mut row = Row::new(alloc);
+    let names = Names::new(alloc, pages)?;
     let mut sheet = Sheet::new(alloc);
-    fill_header(&mut row)?;
-    sheet.put(&row, out)?;
+    add_header(&mut sheet)?;
     for (submitter, answers) in report.replies.rows.iter().enumerate() {
-        write_answers(out, &mut sheet, &mut row, pages, submitter as u64, answers)?;
+        let start = start_reply(alloc, submitter as u64)?;
+        write_answers(out, &mut sheet, &names, &start, answers)?;
     }
-    write_pages(out, &mut sheet, &mut row, pages, &report.counts)?;
-    write_users(out, &mut sheet, &mut row, pages, &report.last)?;
+    write_pages(out, &mut sheet, &names, &report.counts)?;
+    write_users(out, &mut sheet, &names, &report.last)?;
     sheet.hand_on(out)?;
     if out.flush().is_err() {
         return Err(WriteFault::Write);
@@ -43,24 +44,22 @@ pub fn write_report<W: Write>(
     Ok(())
 }
 
-// Writes the rows of a submitter's requests.
+// Writes the rows of a submitter's requests, which all begin so.
 fn write_answers<W: Write>(
     out: &mut W,
     sheet: &mut Sheet,
-    row: &mut Row,
-    pages: &Pages,
-    submitter: u64,
+    names: &Names,
+    start: &Sheet,
     answers: &[Answer],
 ) -> Result<(), WriteFault>
-    requires { All (λ a. IsShowable pages.now a.reply) answers.now }
-    ensures { OnOk result (Appends
-        (append_known (W.contents out.old) sheet.old)
-        (append_known (W.contents out.new) sheet.new)
-        (rows_text (submitter_rows pages.now submitter answers.now))) }
+    requires { All (λ a. IsShowable names.now a.reply) answers.now }
+    ensures { (submitter : ℕ) → start.now ≡ reply_start submitter
+        → OnOk result (WritesRows (W.contents out.old) sheet.old (W.contents out.new) sheet.new
+        (submitter_rows names.now submitter answers.now)) }
 {
     for (place, answer) in answers.iter().enumerate() {
-        fill_reply(row, pages, submitter, place as u64 + 1, answer)?;
-        sheet.put(row, out)?;
+        add_reply(sheet, names, start, place as u64 + 1, answer)?;
+        sheet.hand_on_enough(out)?;
     }
     Ok(())
 }
@@ -69,19 +68,16 @@ fn write_answers<W: Write>(
 fn write_pages<W: Write>(
     out: &mut W,
     sheet: &mut Sheet,
-    row: &mut Row,
-    pages: &Pages,
+    names: &Names,
     counts: &[u64],
 ) -> Result<(), WriteFault>
-    requires { length counts.now ≡ length pages.now }
-    ensures { OnOk result (Appends
-        (append_known (W.contents out.old) sheet.old)
-        (append_known (W.contents out.new) sheet.new)
-        (rows_text (page_rows pages.now counts.now))) }
+    requires { length counts.now ≡ length names.now }
+    ensures { OnOk result (WritesRows (W.contents out.old) sheet.old (W.contents out.new) sheet.new
+        (page_rows names.now counts.now)) }
 {
-    for page in 0..pages.len() {
-        fill_page(row, pages, page, counts[page as usize])?;
-        sheet.put(row, out)?;
+    for page in 0..names.len() {
+        add_page(sheet, names, page, counts[page as usize])?;
+        sheet.hand_on_enough(out)?;
     }
     Ok(())
 }
@@ -90,22 +86,19 @@ fn write_pages<W: Write>(
 fn write_users<W: Write>(
     out: &mut W,
     sheet: &mut Sheet,
-    row: &mut Row,
-    pages: &Pages,
+    names: &Names,
     last: &[Option<u32>],
 ) -> Result<(), WriteFault>
-    requires { All (λ page. ForSome page (λ p. p < length pages.now)) last.now }
-    ensures { OnOk result (Appends
-        (append_known (W.contents out.old) sheet.old)
-        (append_known (W.contents out.new) sheet.new)
-        (rows_text (user_rows pages.now last.now))) }
+    requires { All (λ page. ForSome page (λ p. p < length names.now)) last.now }
+    ensures { OnOk result (WritesRows (W.contents out.old) sheet.old (W.contents out.new) sheet.new
+        (user_rows names.now last.now)) }
 {
     for (user, page) in last.iter().enumerate() {
         let Some(page) = *page else {
             continue;
         };
-        fill_user(row, pages, user as u64, page)?;
-        sheet.put(row, out)?;
+        add_user(sheet, names, user as u64, page)?;
+        sheet.hand_on_enough(out)?;
     }
     Ok(())
 }

@@ -32,7 +32,8 @@ fn report(
     phases: u32,
 ) -> Result<Report, AllocError>
     ensures { let replies = map (λ row. row.items) rows.items in
-        let shown : Reported = record { replies = replies; counts = count ∷ []; last = last.items } in
+        let shown : Reported =
+        record { replies = replies; counts = count ∷ []; last = last.items } in
         IfOk result (λ r. reported r ≡ shown) }
 {
     Ok(Report {
@@ -44,20 +45,28 @@ fn report(
     })
 }
 
+// The answer of a request that ran at once in this phase.
+fn answer(phase: u32, reply: Reply) -> Answer
+    ensures { result ≡ record { phase = phase; stashed = false; reply = reply } }
+{
+    Answer {
+        phase,
+        stashed: false,
+        reply,
+    }
+}
+
 // An answer of phase 0.
 fn refused(verdict: Verdict) -> Answer
     ensures { result ≡ record { phase = 0; stashed = false; reply = Refused verdict } }
 {
-    Answer {
-        phase: 0,
-        stashed: false,
-        reply: Reply::Refused(verdict),
-    }
+    answer(0, Reply::Refused(verdict))
 }
 
 // The report on four requests that are refused.
 fn verdicts_report(alloc: Global) -> Result<Report, AllocError>
-    ensures { IfOk result (λ r. (pages : List Page) → length pages ≡ 1 → IsWritable pages (reported r)) }
+    ensures { IfOk result
+        (λ r. (pages : List Page) → length pages ≡ 1 → IsWritable pages (reported r)) }
 {
     let first = vec![in alloc;
         refused(Verdict::UnknownUser),
@@ -72,14 +81,10 @@ fn verdicts_report(alloc: Global) -> Result<Report, AllocError>
 
 // The report on a like.
 fn like_report(alloc: Global) -> Result<Report, AllocError>
-    ensures { IfOk result (λ r. (pages : List Page) → length pages ≡ 1 → IsWritable pages (reported r)) }
+    ensures { IfOk result
+        (λ r. (pages : List Page) → length pages ≡ 1 → IsWritable pages (reported r)) }
 {
-    let liked = Answer {
-        phase: 0,
-        stashed: false,
-        reply: Reply::Liked,
-    };
-    let first = vec![in alloc; liked]?;
+    let first = vec![in alloc; answer(0, Reply::Liked)]?;
     let rows = vec![in alloc; first]?;
     let last = vec![in alloc; Some(0)]?;
     report(alloc, rows, 1, last, 0)
@@ -87,22 +92,15 @@ fn like_report(alloc: Global) -> Result<Report, AllocError>
 
 // The report on a like in phase 1, and on a look that waited for phase 2.
 fn stashed_report(alloc: Global) -> Result<Report, AllocError>
-    ensures { IfOk result (λ r. (pages : List Page) → length pages ≡ 1 → IsWritable pages (reported r)) }
+    ensures { IfOk result
+        (λ r. (pages : List Page) → length pages ≡ 1 → IsWritable pages (reported r)) }
 {
-    let liked = Answer {
-        phase: 1,
-        stashed: false,
-        reply: Reply::Liked,
-    };
+    let last = Some(0);
     let seen = Answer {
-        phase: 2,
         stashed: true,
-        reply: Reply::Seen {
-            last: Some(0),
-            count: 11,
-        },
+        ..answer(2, Reply::Seen { last, count: 11 })
     };
-    let first = vec![in alloc; liked, seen]?;
+    let first = vec![in alloc; answer(1, Reply::Liked), seen]?;
     let rows = vec![in alloc; first]?;
     let last = vec![in alloc; Some(0), None]?;
     report(alloc, rows, 11, last, 4)
@@ -118,47 +116,58 @@ fn assert_rows(rt: &impl Abort, text: &[u8], rows: &str) {
     assert_eq!(rt; body, rows.as_bytes());
 }
 
+// Asserts that a report on the page of a file is written as the header row and these.
+fn assert_written(
+    rt: &impl Abort,
+    alloc: Global,
+    file: &str,
+    report: &Report,
+    rows: &str,
+) -> Result<(), WriteFault>
+    requires { (pages : List Page) → length pages ≡ 1 → IsWritable pages (reported report.now) }
+{
+    let pages = one_page(rt, alloc, file);
+    let mut out = Vec::new(alloc);
+    write_report(alloc, report, &pages, &mut out)?;
+    assert_rows(rt, &out, rows);
+    Ok(())
+}
+
 #[test]
 fn verdicts(rt: HostRuntime) -> Result<(), Fail> {
-    let pages = one_page(&rt, rt.alloc(), "name,count,split\na,10,no\n");
-    let mut out = Vec::new(rt.alloc());
     let report = verdicts_report(rt.alloc())?;
-    write_report(rt.alloc(), &report, &pages, &mut out)?;
-    assert_rows(
+    let rows = "reply,0,1,0,unknown-user,,\nreply,0,2,0,other-home,,\nreply,0,3,0,unknown-page,,\n\
+         reply,0,4,0,unknown-user,,\npage,0,,,,a,10\n";
+    assert_written(
         &rt,
-        &out,
-        "reply,0,1,0,unknown-user,,\nreply,0,2,0,other-home,,\nreply,0,3,0,unknown-page,,\n\
-         reply,0,4,0,unknown-user,,\npage,0,,,,a,10\n",
-    );
+        rt.alloc(),
+        "name,count,split\na,10,no\n",
+        &report,
+        rows,
+    )?;
     Ok(())
 }
 
 #[test]
 fn quoted_names(rt: HostRuntime) -> Result<(), Fail> {
     let file = "name,count,split\r\n\"x,\"\"y\"\"\",0,no\r\n";
-    let pages = one_page(&rt, rt.alloc(), file);
-    let mut out = Vec::new(rt.alloc());
     let report = like_report(rt.alloc())?;
-    write_report(rt.alloc(), &report, &pages, &mut out)?;
-    assert_rows(
-        &rt,
-        &out,
-        "reply,0,1,0,liked,,\npage,0,,,,\"x,\"\"y\"\"\",1\nuser,0,,,,\"x,\"\"y\"\"\",\n",
-    );
+    let rows = "reply,0,1,0,liked,,\npage,0,,,,\"x,\"\"y\"\"\",1\nuser,0,,,,\"x,\"\"y\"\"\",\n";
+    assert_written(&rt, rt.alloc(), file, &report, rows)?;
     Ok(())
 }
 
 #[test]
 fn split_and_stash(rt: HostRuntime) -> Result<(), Fail> {
-    let pages = one_page(&rt, rt.alloc(), "name,count,split\na,10,yes\n");
-    let mut out = Vec::new(rt.alloc());
     let report = stashed_report(rt.alloc())?;
-    write_report(rt.alloc(), &report, &pages, &mut out)?;
-    assert_rows(
+    let rows = "reply,0,1,1,liked,,\nreply,0,2,2,seen,a,11\npage,0,,,,a,11\nuser,0,,,,a,\n";
+    assert_written(
         &rt,
-        &out,
-        "reply,0,1,1,liked,,\nreply,0,2,2,seen,a,11\npage,0,,,,a,11\nuser,0,,,,a,\n",
-    );
+        rt.alloc(),
+        "name,count,split\na,10,yes\n",
+        &report,
+        rows,
+    )?;
     Ok(())
 }
 

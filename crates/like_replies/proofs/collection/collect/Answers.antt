@@ -33,8 +33,8 @@ loop-log-preserved c =
     let held = c.in_ok-put_all.ensures sizes (entries_in (take i logs)) c.loop-log.invariant in
     rw (entries_in-more logs i log c.loop-log-test.true c.log-item.is) (rw c.deref.ensures.value at held)
 
-pub replies-requires-clause-short : goal.replies-requires-clause-short
-replies-requires-clause-short c = short_rows c.args.sizes.now c.loop-log.slots c.loop-log.invariant.sized (λ k. Fits-lt-pow (c.type_inv.sizes k))
+pub into_replies-requires-clause-short : goal.into_replies-requires-clause-short
+into_replies-requires-clause-short c = short_rows c.args.sizes.now c.loop-log.slots c.loop-log.invariant.sized (λ k. Fits-lt-pow (c.type_inv.sizes k))
 
 pub returns : goal.returns
 returns c =
@@ -43,6 +43,6 @@ returns c =
     let slots = c.loop-log.slots in
     let whole = take_all c.loop-log.log-index logs c.loop-log-test.false in
     let held = subst (λ (l : List WorkerLog). HoldsAll sizes (entries_in l) slots) whole c.loop-log.invariant in
-    MatchResult-weaker c.replies.result c.replies.ensures
+    MatchResult-weaker c.into_replies.result c.into_replies.ensures
     (λ replies full. IsCollected-held sizes (entries_in logs) slots (rows_of replies) held full)
     (λ fault found. IsCollectFault-empty sizes (entries_in logs) slots fault held found)

@@ -1,9 +1,10 @@
 use Rattle.std.proofs.Common.{◌≡◌, ◌<◌, ◌≤◌, ◌+◌, ◌++◌, ◌∷◌, [], ◌∙◌, ap, sym, length, map, get_or, take, All, List, Vec, Global, arith}
 use Rattle.std.proofs.lemmas.List.{length-map, length-take-le, map-append, take_all, take_more}
+use Rattle.csv.specs.Writing.{default_writer, row_text}
 use Rattle.like_replies.specs.declared.answer.Answer.{Answer}
 use Rattle.like_replies.specs.Reported.{reported}
-use Rattle.like_replies.specs.Rows.{IsShowable, page_rows, reply_rows, submitter_rows, user_rows}
-use Rattle.like_replies.proofs.Texts.{All-image, Appends-report, Appends-rows, reply_rows-push}
+use Rattle.like_replies.specs.Rows.{IsShowable, header_row, page_rows, reply_rows, submitter_rows, user_rows}
+use Rattle.like_replies.proofs.Texts.{All-image, Appends-added, Appends-report, Appends-rows, reply_rows-push}
 use Rattle.like_replies.proofs.report.text.write_report.Goals as goal
 
 -- the answers in a submitter's vector
@@ -17,7 +18,7 @@ write_answers-requires g c =
     let same = c.deref-answers-items.ensures.value in
     let there : c.loop-submitter.submitter < length rows = rw same at c.loop-submitter-test.true in
     let is : row ≡ get_or rows c.loop-submitter.submitter row = rw same at c.answers-item.is in
-    rw c.deref.ensures.value (All-image (All (λ a. IsShowable c.args.pages.now a.reply)) answers_in rows c.loop-submitter.submitter row c.requires.shown there is)
+    rw (c.in_ok-names.ensures, c.deref.ensures.value) (All-image (All (λ a. IsShowable c.args.pages.now a.reply)) answers_in rows c.loop-submitter.submitter row c.requires.shown there is)
 
 pub loop-submitter-preserved : goal.loop-submitter-preserved
 loop-submitter-preserved g c =
@@ -33,7 +34,8 @@ loop-submitter-preserved g c =
     ap (map answers_in) (take_more rows n row there ∙ ap (λ x. take n rows ++ x ∷ []) (sym is)) ∙ map-append answers_in (take n rows) (row ∷ []) in
     let pushed = reply_rows-push c.args.pages.now done (answers_in row) in
     rw (more, pushed, size)
-    (Appends-rows _ _ _ (reply_rows c.args.pages.now done) (submitter_rows c.args.pages.now n (answers_in row)) c.loop-submitter.invariant (rw c.deref.ensures.value at c.in_ok-write_answers.ensures))
+    (Appends-rows _ _ _ (reply_rows c.args.pages.now done) (submitter_rows c.args.pages.now n (answers_in row)) c.loop-submitter.invariant
+    (rw (c.in_ok-names.ensures, c.deref.ensures.value) at (c.in_ok-write_answers.ensures n c.in_ok-start.ensures)))
 
 pub returns : goal.returns
 returns g c =
@@ -41,9 +43,9 @@ returns g c =
     let same = c.deref-answers-items.ensures.value in
     let past : length rows ≤ c.loop-submitter.submitter = rw same at c.loop-submitter-test.false in
     let whole : take c.loop-submitter.submitter rows ≡ rows = take_all c.loop-submitter.submitter rows past in
-    let header = rw (c.new-sheet.ensures, c.in_ok-fill_header.ensures) at c.in_ok-put.ensures in
+    let header = Appends-added _ [] (row_text default_writer header_row) _ (rw c.new-sheet.ensures at c.in_ok-add_header.ensures) in
     let replies = rw whole at c.loop-submitter.invariant in
-    let pages = rw c.deref-2.ensures.value at c.in_ok-write_pages.ensures in
-    let users = rw c.deref-3.ensures.value at c.in_ok-write_users.ensures in
+    let pages = rw (c.in_ok-names.ensures, c.deref-2.ensures.value) at c.in_ok-write_pages.ensures in
+    let users = rw (c.in_ok-names.ensures, c.deref-3.ensures.value) at c.in_ok-write_users.ensures in
     let others = Appends-rows _ _ _ (page_rows c.args.pages.now c.args.report.now.counts.items) (user_rows c.args.pages.now c.args.report.now.last.items) pages users in
     Appends-report c.args.pages.now (reported c.args.report.now) _ _ _ _ _ _ _ header replies others c.in_ok-hand_on.ensures.handed c.flush.ensures.bytes

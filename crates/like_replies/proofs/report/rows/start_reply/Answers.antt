@@ -1,0 +1,6 @@
+use Rattle.std.proofs.Common.{rules, append_assoc}
+use Rattle.like_replies.proofs.RowTexts.{start-text}
+use Rattle.like_replies.proofs.report.rows.start_reply.Goals as goal
+
+pub returns : goal.returns
+returns c = rw (start-text c.args.submitter) (search (rules, append_assoc))

@@ -1,0 +1,6 @@
+use Rattle.std.proofs.Common.{rules}
+use Rattle.like_replies.proofs.Plain.{field_text-decimal}
+use Rattle.like_replies.proofs.report.sheet.Sheet.add_number.Goals as goal
+
+pub returns : goal.returns
+returns c = rw (field_text-decimal c.args.number c.ranges.number.fits) (search rules)
