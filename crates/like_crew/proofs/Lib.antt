@@ -16,3 +16,4 @@ pub mod Once
 pub mod Ending
 pub mod Leaving
 pub mod Asked
+pub mod LastLikes

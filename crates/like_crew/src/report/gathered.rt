@@ -43,10 +43,9 @@ pub fn last_likes(
         → slice_get logs.now (worker_of (length logs.now) (home submitters user)) ≡ Some log
         → slice_get last.items user ≡ Some (last_of log.last user)) }
 {
-    let mut last = Vec::new(alloc);
-    for user in 0..users {
-        let worker = (user % submitters) as usize % logs.len();
-        last.push(logs[worker].last.last(user))?;
+    let mut last = vec![in alloc; None; users as usize]?;
+    for log in logs {
+        log.last.give_to(&mut last);
     }
     Ok(last)
 }
