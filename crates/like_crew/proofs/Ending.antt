@@ -5,9 +5,7 @@ use Rattle.std.proofs.Math.Nat.{div-add-mod}
 use Rattle.std.proofs.lemmas.List.{length-map}
 use Rattle.std.proofs.lemmas.List.FromFn.{length-range_with_len}
 use Rattle.std.proofs.lemmas.Option.{slice_get-get_or, slice_get_within}
-use Rattle.like_core.specs.declared.opening.Opening.{Opening}
-use Rattle.like_board.specs.declared.worker_seat.WorkerSeat.{WorkerSeat}
-use Rattle.like_board.specs.Seats.{AreFresh, BoardId, board_id, board_numbers}
+use Rattle.like_board.specs.Seats.{board_id, board_numbers}
 use Rattle.like_tables.specs.Share.{Share, place_of}
 use Rattle.like_roles.specs.Service.{Service, submitters}
 use Rattle.like_crew.specs.declared.ended.Ended.{Ended}

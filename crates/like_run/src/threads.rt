@@ -122,7 +122,7 @@ fn on_threads<R: Threads + Wait + Sync, G: Gate>(
             requires { AreNewEnds ends.items }
             ensures ended { IfOk result (HasEnded crew.entry) }
             ensures enough { OnOk result
-        (length crew.entry.servers.items + length ends.entry.items ≤ starts) }
+                (length crew.entry.servers.items + length ends.entry.items ≤ starts) }
             ensures fault { IfErr result IsFaultUnderWay }
         { in_scope(scope, rt, alloc, signal, crew, ends, gate, starts) },
     )

@@ -87,10 +87,7 @@ impl Likes {
         let mut rows = Vec::new(alloc);
         let mut sum = [0u64, 0];
         for row in self.rows.iter() {
-            sum = [
-                sum[0].saturating_add(row[0]),
-                sum[1].saturating_add(row[1]),
-            ];
+            sum = [sum[0].saturating_add(row[0]), sum[1].saturating_add(row[1])];
             rows.push(sum)?;
         }
         Ok(Likes { rows })
@@ -112,7 +109,9 @@ fn has_right_counts(alloc: Global, ran: &[Ran], all: &Likes) -> Result<bool, Fai
         if let Reply::Seen { count, .. } = entry.reply {
             let so_far = up_to.within(phase, page);
             let made = before.within(phase, page);
-            let least = so_far.saturating_sub(all.within(phase, page)).saturating_add(made);
+            let least = so_far
+                .saturating_sub(all.within(phase, page))
+                .saturating_add(made);
             let later = own.within(phase, page).saturating_sub(made);
             if count < least || count > so_far.saturating_sub(later) {
                 return Ok(false);

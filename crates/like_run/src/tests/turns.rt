@@ -106,7 +106,8 @@ fn assert_answers(rt: &impl Abort, alloc: Global, case: &Case, expected: &str) {
 }
 
 // Three rounds of four workers, of which three have no submitter, and the turns that end the run.
-const IDLE: &str = "Announced Acknowledged Retired Retired Retired Released Ran Retired Retired Retired \
+const IDLE: &str =
+    "Announced Acknowledged Retired Retired Retired Released Ran Retired Retired Retired \
     Announced Reported Retired Retired Retired Released TookEnd Retired Retired Retired \
     Announced Retired Retired Retired Retired Ended";
 

@@ -105,7 +105,8 @@ impl Gate for Watch {
     }
 
     fn phase(&self, _w: u32, k: u32) {
-        self.entered.fetch_max(k.saturating_add(1), Ordering::SeqCst);
+        self.entered
+            .fetch_max(k.saturating_add(1), Ordering::SeqCst);
         match (self.held, k) {
             (Held::Workers, 0) => {
                 self.note();

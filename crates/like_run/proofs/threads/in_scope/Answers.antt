@@ -55,8 +55,8 @@ returns-clause-ended g c =
 pub returns-clause-enough : goal.returns-clause-enough
 returns-clause-enough g c = elim c.if-start_workers.branch [
   | then-start_workers w ↦
-    let many = as-many c.start_workers.new.threads.items c.args.crew.servers.items (c.start_workers.ensures.servers w.if-start_workers.true) in
-    let sent = w.start_submitters-all.ensures.many (cc (w.all-is, c.in-Some.ensures.all)) in
-    omega (arith, many, sent, c.start_workers.ensures.few, w.start_submitters-all.ensures.few, c.saturating_sub-left.ensures, c.len-5.ensures, c.args.crew.servers.ok.0)
+      let many = as-many c.start_workers.new.threads.items c.args.crew.servers.items (c.start_workers.ensures.servers w.if-start_workers.true) in
+      let sent = w.start_submitters-all.ensures.many (cc (w.all-is, c.in-Some.ensures.all)) in
+      omega (arith, many, sent, c.start_workers.ensures.few, w.start_submitters-all.ensures.few, c.saturating_sub-left.ensures, c.len-5.ensures, c.args.crew.servers.ok.0)
   | else-start_workers w ↦ absurd (cc (w.all-is, c.in-Some.ensures.all))
 ]

@@ -1,12 +1,17 @@
-use Rattle.std.proofs.Common.{map, sym, ap}
-use Rattle.like_tables.specs.UserTable.{UserTable}
+use Rattle.std.proofs.Common.{◌≡◌, length, map, sym, ap}
+use Rattle.like_tables.specs.Share.{Share, share_of}
+use Rattle.like_tables.specs.UserTable.{UserTable, table_without_likes}
 use Rattle.like_crew.proofs.Finishing.{agree-new}
 use Rattle.like_crew.proofs.crew.server.Server.new.Goals as goal
+
+-- the workers among which a table without likes is shared
+workers-new : (t : UserTable) (s : Share) → t ≡ table_without_likes s → s.workers ≡ t.share.workers
+workers-new t s new = sym (ap (λ (u : UserTable). u.share.workers) new)
 
 pub invariant_of-result : goal.invariant_of-result
 invariant_of-result g c =
     let new = c.in_ok-worker.ensures.new in (
       new.pending,
-      sym (ap (λ (t : UserTable). t.share.workers) new.last),
+      workers-new _ (share_of c.args.setup.now.users (length c.args.sizes.now) c.args.setup.now.workers c.args.number) new.last,
       agree-new c.args.setup.now c.args.sizes.now c.args.number _ c.in_ok-worker.worker (map g.I.Inbox.view c.args.inboxes.items) c.requires.is_worker c.requires.post c.requires.inboxes new,
     )
