@@ -11,7 +11,8 @@ pub record ArePlaces (share : Share) (pages : List (Option ℕ)) : Type 0 where
 
 -- what stands for a user: the page at the place that is numbered by the share's users below it
 abbrev pub last_at : Share → List (Option ℕ) → ℕ → Option ℕ
-last_at share pages user = if owns share user then slice_index_or pages (owned_below share user) None else None
+last_at share pages user =
+    if owns share user then slice_index_or pages (owned_below share user) None else None
 
 -- what was written of so many places: to each user with such a place what stands for it, and nothing to the users of
 -- other workers
@@ -19,7 +20,8 @@ pub record IsGiven (share : Share) (pages was now : List (Option ℕ)) (places :
   pub len : length now ≡ length was
   pub own : (user : ℕ) → owns share user ≡ true → owned_below share user < places
       → slice_index_or now user None ≡ last_at share pages user
-  pub others : (user : ℕ) → owns share user ≡ false → slice_index_or now user None ≡ slice_index_or was user None
+  pub others : (user : ℕ) → owns share user ≡ false
+      → slice_index_or now user None ≡ slice_index_or was user None
 
 -- the table that the places make
 abbrev pub table_of : Share → List (Option ℕ) → UserTable

@@ -35,7 +35,8 @@ impl PageSet {
         requires { page < 64 * length self.old }
         ensures len { length self.new ≡ length self.old }
         ensures page { bit_of self.new page ≡ 1 }
-        ensures others { (other : ℕ) → other ≢ page → bit_of self.new other ≡ bit_of self.old other }
+        ensures others { (other : ℕ) → other ≢ page
+            → bit_of self.new other ≡ bit_of self.old other }
     {
         self.words[page as usize / 64] |= 1 << (page % 64);
     }
@@ -44,7 +45,8 @@ impl PageSet {
         requires { page < 64 * length self.old }
         ensures len { length self.new ≡ length self.old }
         ensures page { bit_of self.new page ≡ 0 }
-        ensures others { (other : ℕ) → other ≢ page → bit_of self.new other ≡ bit_of self.old other }
+        ensures others { (other : ℕ) → other ≢ page
+            → bit_of self.new other ≡ bit_of self.old other }
     {
         self.words[page as usize / 64] &= !(1 << (page % 64));
     }

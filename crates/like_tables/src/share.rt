@@ -25,7 +25,8 @@ impl Model for UserShare {
 
     ghost view = { λ s. share_of s.users s.submitters s.workers s.worker };
 
-    ghost invariant = { λ s. IsKept (share_of s.users s.submitters s.workers s.worker) s.homes_below.items };
+    ghost invariant = { λ s. let share = share_of s.users s.submitters s.workers s.worker in
+        IsKept share s.homes_below.items };
 }
 
 impl UserShare {
@@ -80,8 +81,8 @@ impl UserShare {
         rounds * self.homes_below[self.submitters as usize] + self.homes_below[submitter as usize]
     }
 
-    // Writes the pages at the places of the worker's users to the places of all users. It walks over the users submitter
-    // by submitter and round by round, so that none costs a division.
+    // Writes the pages at the places of the worker's users to the places of all users. It walks over the users
+    // submitter by submitter and round by round, so that none costs a division.
     pub fn give(&self, pages: &[Option<u32>], last: &mut [Option<u32>])
         requires places { ArePlaces self.now pages.now }
         requires users { length last.old ≡ self.now.users }

@@ -69,7 +69,8 @@ impl Users {
 
     /// The submitter at a place of the worker.
     pub fn submitter_at(&self, place: usize) -> u32
-        requires { submitter_of self.now.share.workers self.now.share.worker place < self.now.share.submitters }
+        requires { submitter_of self.now.share.workers self.now.share.worker place
+            < self.now.share.submitters }
         ensures { result ≡ submitter_of self.now.share.workers self.now.share.worker place }
     {
         self.share.submitter_at(place)
@@ -77,9 +78,11 @@ impl Users {
 
     /// Judges a request of `submitter`.
     pub fn judge(&self, submitter: u32, request: &Request) -> Verdict
-        ensures verdict { result ≡ verdict_of self.now.share.users self.now.share.submitters submitter request.now }
+        ensures verdict { result
+            ≡ verdict_of self.now.share.users self.now.share.submitters submitter request.now }
         ensures accepted { (result ≡ Verdict.Accepted)
-            ↔ IsTrue (is_accepted self.now.share.users self.now.share.submitters submitter request.now) }
+            ↔ IsTrue (is_accepted self.now.share.users self.now.share.submitters submitter
+            request.now) }
     {
         judge(request, submitter, self.share.submitters, self.share.users)
     }
