@@ -1,6 +1,7 @@
 //! Each public call once, and the faults of files and settings.
 mod limits;
 mod malformed;
+mod refused;
 
 use crate::{
     Op, PageRef, Pages, PagesFault, Request, RequestsFault, SettingsFault, Setup, Verdict,

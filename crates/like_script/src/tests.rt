@@ -1,4 +1,6 @@
 //! Script files, and scripts that fit a run.
+mod malformed;
+
 use crate::{ScriptFault, Turned, check_script, read_script};
 use like_requests::SettingsFault;
 use std::alloc::{AllocError, Global};
@@ -24,6 +26,25 @@ fn reads_a_script(rt: HostRuntime) -> Result<(), Fail> {
         Turned::OpenOne(4_294_967_295),
     ];
     assert_eq!(rt; entries.as_slice(), wanted.as_slice());
+    Ok(())
+}
+
+// Want of memory is told, and the next call is right.
+#[test]
+fn a_refused_growth_is_told(rt: HostRuntime) -> Result<(), Fail> {
+    let mut refused = false;
+    for _ in 0..2 {
+        match read_script(rt.alloc(), b"turn,index\nworker,1\n".as_slice()) {
+            Ok(entries) => assert_eq!(rt; entries.as_slice(), [Turned::Worker(1)].as_slice()),
+            Err(fault) => {
+                assert_eq!(rt; fault, ScriptFault::Memory);
+                refused = true;
+            }
+        }
+    }
+    if refused {
+        return Err(Fail::new("out of memory, and then right"));
+    }
     Ok(())
 }
 

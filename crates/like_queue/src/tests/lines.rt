@@ -1,4 +1,4 @@
-ghost use Rattle.std.specs.Prelude.{◌≡◌, ◌≤◌, length};
+ghost use Rattle.std.specs.Prelude.{◌≡◌, ◌≤◌, IfOk, length};
 ghost use Rattle.like_requests.specs.Limits.{max_requests};
 
 use super::LIKE;
@@ -129,6 +129,32 @@ fn holds_sixty_four(rt: HostRuntime) -> Result<(), Fail> {
     }
     assert_eq!(rt; take.take(&rt), Taken::End);
     assert_eq!(rt; take.take(&rt), Taken::End);
+    Ok(())
+}
+
+// A line of one request.
+fn line_of_one(alloc: Global) -> Result<(Line, SendPass, TakePass), AllocError>
+    ensures { IfOk result (λ r. (r.1.line ≡ r.0) × (r.2.line ≡ r.0)) }
+{
+    Line::new(alloc, Vec::from_elem(alloc, LIKE, 1)?)
+}
+
+// Want of memory is told, and the next call is right.
+#[test]
+fn a_refused_growth_is_told(rt: HostRuntime) -> Result<(), Fail> {
+    let mut refused = false;
+    for _ in 0..2 {
+        match line_of_one(rt.alloc()) {
+            Ok((line, send, take)) => {
+                assert_eq!(rt; push_next(&rt, &mut send.at(&line)), Some(Ok(1)));
+                assert!(rt; matches!(take.at(&line).take(&rt), Taken::Ask(_)));
+            }
+            Err(AllocError) => refused = true,
+        }
+    }
+    if refused {
+        return Err(Fail::new("out of memory, and then right"));
+    }
     Ok(())
 }
 
