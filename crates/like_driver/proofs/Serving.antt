@@ -1,38 +1,35 @@
 -- What the program has done for its words, by what its parts answered.
 use Rattle.std.proofs.Common.{◌≡◌, ◌==◌, ℕ, List, [], ◌∷◌, Option, Result, Ok, Err, IfErr, ap, false, inl, inr, length, map, refl, subst, sym, true≢false}
 use Rattle.std.specs.Prelude.{◌⊎◌, OnOk}
-use Rattle.clap.specs.Kinds.{IsAmong}
-use Rattle.clap.specs.Words.{Text, fault_of}
-use Rattle.clap.specs.declared.error.kind.ErrorKind.TheVariants.{DisplayHelp}
-use Rattle.like_driver.specs.Asked.{Asks}
-use Rattle.like_driver.specs.CommandLine.{likes}
-use Rattle.like_driver.specs.Faults.{IsBeforeOutput, of_files, status_after}
+use Rattle.like_words.specs.Asked.{Asks, AsksForHelp, Words}
+use Rattle.like_files.specs.Faults.{IsBeforeOutput}
+use Rattle.like_driver.specs.Fault.{of_files, status_after}
 use Rattle.like_driver.specs.Program.{Ends, HasDone, HasServed, IsServeFault, IsWordsFault}
-use Rattle.like_driver.specs.declared.command_line.Asked.{Asked}
-use Rattle.like_driver.specs.declared.command_line.Asked.TheVariants.{Run, Replay}
-use Rattle.like_driver.specs.declared.command_line.Options.{Options}
-use Rattle.like_driver.specs.declared.files.fault.DriverFault.{DriverFault}
+use Rattle.like_words.specs.declared.asked.Asked.{Asked}
+use Rattle.like_words.specs.declared.asked.Asked.TheVariants.{Run, Replay}
+use Rattle.like_words.specs.declared.options.Options.{Options}
+use Rattle.like_files.specs.declared.fault.DriverFault.{DriverFault}
 use Rattle.like_driver.specs.declared.program.fault.ProgramFault.{ProgramFault}
 use Rattle.like_driver.specs.declared.program.fault.ProgramFault.TheVariants.{Files, Output}
 
 -- the program ends as what it served
-pub ends : {A : Type 0} (words : List Text) (old new : Option (List ℕ)) (done : Result A ProgramFault) (status : ℕ) → OnOk done (HasServed words old new)
+pub ends : {A : Type 0} (words : Words) (old new : Option (List ℕ)) (done : Result A ProgramFault) (status : ℕ) → OnOk done (HasServed words old new)
     → IfErr done (IsServeFault words old new) → status ≡ status_after done → Ends words old new status
 ends words old new (Ok x) status served fault e = inl (e, served)
 ends words old new (Err why) status served fault e = inr (why, e, fault)
 
 -- what is asked for by some words was done
-pub served : (words : List Text) (old new : Option (List ℕ)) (asked : Asked) → ¬ (words ≡ []) → Asks words asked → HasDone asked old new → HasServed words old new
+pub served : (words : Words) (old new : Option (List ℕ)) (asked : Asked) → ¬ (words ≡ []) → Asks words asked → HasDone asked old new → HasServed words old new
 served [] old new asked some asks done = absurd (some refl)
 served (w ∷ words) old new asked some asks done = (asked, asks, done)
 
 -- why it was not
-pub not_served : (words : List Text) (old new : Option (List ℕ)) (fault : ProgramFault) → ¬ (words ≡ []) → IsWordsFault words old new fault → IsServeFault words old new fault
+pub not_served : (words : Words) (old new : Option (List ℕ)) (fault : ProgramFault) → ¬ (words ≡ []) → IsWordsFault words old new fault → IsServeFault words old new fault
 not_served [] old new fault some why = absurd (some refl)
 not_served (w ∷ words) old new fault some why = why
 
 -- words that are there
-pub some-words : {S : Type 0} (text : S → Text) (words : List S) → (length words == 0) ≡ false → ¬ (map text words ≡ [])
+pub some-words : {S : Type 0} (text : S → List ℕ) (words : List S) → (length words == 0) ≡ false → ¬ (map text words ≡ [])
 some-words text [] h e = true≢false h
 some-words text (w ∷ words) h e = let no : text w ∷ map text words ≡ [] = e in cc no
 
@@ -42,19 +39,19 @@ of_files-ok P options (Ok x) h = h
 of_files-ok P options (Err fault) h = tt
 
 -- a run or a replay was done that the words ask for
-pub files-served : {A : Type 0} (words : List Text) (old new : Option (List ℕ)) (options : Options) (asked : Asked) (done : Result A DriverFault) → ¬ (words ≡ []) → Asks words asked
+pub files-served : {A : Type 0} (words : Words) (old new : Option (List ℕ)) (options : Options) (asked : Asked) (done : Result A DriverFault) → ¬ (words ≡ []) → Asks words asked
     → OnOk done (HasDone asked old new) → OnOk (of_files options done) (HasServed words old new)
 files-served words old new options asked (Ok x) some asks h = served words old new asked some asks h
 files-served words old new options asked (Err fault) some asks h = tt
 
 -- why it was not
-pub files-fault : {A W : Type 0} (contents : W → Option (List ℕ)) (words : List Text) (options : Options) (done : Result A DriverFault) (before after : W) → ¬ (words ≡ [])
+pub files-fault : {A W : Type 0} (contents : W → Option (List ℕ)) (words : Words) (options : Options) (done : Result A DriverFault) (before after : W) → ¬ (words ≡ [])
     → Asks words (Run options) ⊎ Asks words (Replay options) → IfErr done (λ fault. IsBeforeOutput fault → after ≡ before) → IfErr (of_files options done) (IsServeFault words (contents before) (contents after))
 files-fault contents words options (Ok x) before after some asks same = tt
 files-fault contents words options (Err fault) before after some asks same = not_served words _ _ (Files options fault) some (asks, λ early. ap contents (same early))
 
 -- why help was not printed
-pub help-fault : {A : Type 0} (words : List Text) (old new : Option (List ℕ)) (done : Result A ProgramFault) → ¬ (words ≡ []) → IsAmong DisplayHelp (fault_of likes words)
+pub help-fault : {A : Type 0} (words : Words) (old new : Option (List ℕ)) (done : Result A ProgramFault) → ¬ (words ≡ []) → AsksForHelp words
     → IfErr done (λ fault. fault ≡ Output) → IfErr done (IsServeFault words old new)
 help-fault words old new (Ok x) some asks h = tt
 help-fault words old new (Err fault) some asks h = not_served words old new fault some (subst (IsWordsFault words old new) (sym h) asks)

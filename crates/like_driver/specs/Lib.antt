@@ -1,8 +1,2 @@
-pub mod Asked
-pub mod CommandLine
-pub mod Faults
-pub mod Inputs
-pub mod Lines
+pub mod Fault
 pub mod Program
-pub mod Replay
-pub mod Run

@@ -1,18 +1,15 @@
 -- What the program has done for its words, and the status with which it ends.
 use Rattle.std.specs.Prelude.{◌≡◌, ◌⊎◌, ℕ, List, [], ◌∷◌, Option, None, Some, codes, string_bytes}
 use Rattle.std.specs.Io.KnownBytes.{Appends}
-use Rattle.clap.specs.Kinds.{IsAmong}
-use Rattle.clap.specs.Words.{Text, fault_of}
-use Rattle.clap.specs.declared.error.kind.ErrorKind.TheVariants.{DisplayHelp}
-use Rattle.like_driver.specs.Asked.{Asks, IsParseFault}
-use Rattle.like_driver.specs.CommandLine.{likes}
-use Rattle.like_driver.specs.Faults.{IsBeforeOutput, program_status}
-use Rattle.like_driver.specs.Inputs.{Inputs}
-use Rattle.like_driver.specs.Replay.{HasReplayed, HasReplayedSome}
-use Rattle.like_driver.specs.Run.{HasRunSome}
-use Rattle.like_driver.specs.declared.command_line.Asked.{Asked}
-use Rattle.like_driver.specs.declared.command_line.Asked.TheVariants.{Run, Replay, Help}
-use Rattle.like_driver.specs.declared.command_line.Options.{Options}
+use Rattle.like_words.specs.Asked.{Asks, AsksForHelp, IsParseFault, Words}
+use Rattle.like_files.specs.Faults.{IsBeforeOutput}
+use Rattle.like_driver.specs.Fault.{program_status}
+use Rattle.like_files.specs.Inputs.{Inputs}
+use Rattle.like_files.specs.Replay.{HasReplayed, HasReplayedSome}
+use Rattle.like_files.specs.Run.{HasRunSome}
+use Rattle.like_words.specs.declared.asked.Asked.{Asked}
+use Rattle.like_words.specs.declared.asked.Asked.TheVariants.{Run, Replay, Help}
+use Rattle.like_words.specs.declared.options.Options.{Options}
 use Rattle.like_driver.specs.declared.program.fault.ProgramFault.{ProgramFault}
 use Rattle.like_driver.specs.declared.program.fault.ProgramFault.TheVariants as program
 
@@ -43,7 +40,7 @@ HasDone (Replay options) old new = HasReplayedSome options old new
 HasDone (Help text) old new = Appends old new (string_bytes text)
 
 -- the program has done what its words ask for: without any word it has replayed its example
-abbrev pub HasServed : List Text → Option (List ℕ) → Option (List ℕ) → Type 0
+abbrev pub HasServed : Words → Option (List ℕ) → Option (List ℕ) → Type 0
 HasServed [] old new = HasReplayedExample old new
 HasServed (word ∷ words) old new = (asked : Asked) × Asks (word ∷ words) asked × HasDone asked old new
 
@@ -54,19 +51,19 @@ IsExampleFault old new program.Memory = new ≡ old
 IsExampleFault old new fault = ⊥
 
 -- why what the words ask for was not done
-abbrev pub IsWordsFault : List Text → Option (List ℕ) → Option (List ℕ) → ProgramFault → Type 0
+abbrev pub IsWordsFault : Words → Option (List ℕ) → Option (List ℕ) → ProgramFault → Type 0
 IsWordsFault words old new (program.Words fault) = IsParseFault words fault × (new ≡ old)
 IsWordsFault words old new (program.Files options fault) =
     (Asks words (Run options) ⊎ Asks words (Replay options)) × (IsBeforeOutput fault → new ≡ old)
-IsWordsFault words old new program.Output = IsAmong DisplayHelp (fault_of likes words)
+IsWordsFault words old new program.Output = AsksForHelp words
 IsWordsFault words old new program.Memory = ⊥
 
 -- why the program has not done what its words ask for
-abbrev pub IsServeFault : List Text → Option (List ℕ) → Option (List ℕ) → ProgramFault → Type 0
+abbrev pub IsServeFault : Words → Option (List ℕ) → Option (List ℕ) → ProgramFault → Type 0
 IsServeFault [] old new fault = IsExampleFault old new fault
 IsServeFault (word ∷ words) old new fault = IsWordsFault (word ∷ words) old new fault
 
 -- the program ends with 0 where it has done what its words ask for, or else with the status of a fault
-abbrev pub Ends : List Text → Option (List ℕ) → Option (List ℕ) → ℕ → Type 0
+abbrev pub Ends : Words → Option (List ℕ) → Option (List ℕ) → ℕ → Type 0
 Ends words old new status = ((status ≡ 0) × HasServed words old new)
     ⊎ ((fault : ProgramFault) × (status ≡ program_status fault) × IsServeFault words old new fault)

@@ -1,9 +1,9 @@
 ghost use Rattle.std.specs.Prelude.{◌≡◌, ◌∷◌, [], IfErr, IfOk, None, OnOk, Some, length, map};
 ghost use Rattle.like_driver.specs.Program.{HasReplayedExample, IsExample, IsExampleFault, example_requests};
 
-use crate::command_line::Options;
-use crate::files::replay_files;
 use crate::program::fault::{ProgramFault, with_options};
+use like_files::replay_files;
+use like_words::Options;
 use std::alloc::{AllocError, Global};
 use std::io::Write;
 

@@ -1,16 +1,14 @@
 //! The like service's program.
 #![tactic(auto)]
 
-pub mod command_line;
 pub mod example;
-pub mod files;
 pub mod program;
 #[cfg(test)]
 mod tests;
 
-use crate::command_line::fault::ParseFault;
 use crate::program::fault::ProgramFault;
 use crate::program::{serve_words, told};
+use like_words::ParseFault;
 use std::alloc::Global;
 use std::env;
 use std::io::ErrorKind;

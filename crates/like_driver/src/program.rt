@@ -1,19 +1,18 @@
 ghost use Rattle.std.specs.Prelude.{◌≡◌, IfErr, OnOk, map, string_bytes};
 ghost use Rattle.std.specs.Io.KnownBytes.{Appends};
-ghost use Rattle.like_driver.specs.Faults.{IsBeforeOutput, status_after};
+ghost use Rattle.like_files.specs.Faults.{IsBeforeOutput};
+ghost use Rattle.like_driver.specs.Fault.{status_after};
 ghost use Rattle.like_driver.specs.Program.{Ends, HasServed, IsServeFault};
-ghost use Rattle.like_driver.specs.Replay.{HasReplayedSome};
-ghost use Rattle.like_driver.specs.Run.{HasRunSome};
+ghost use Rattle.like_files.specs.Replay.{HasReplayedSome};
+ghost use Rattle.like_files.specs.Run.{HasRunSome};
 ghost use Rattle.like_driver.specs.declared.program.fault.ProgramFault.TheVariants as program;
 
 pub mod fault;
 
-use crate::command_line::{Asked, Options, parse};
 use crate::example::replay_example;
-use crate::files::fault::DriverFault;
-use crate::files::opened::{Opened, open_files};
-use crate::files::{replay_files, run_files};
 use crate::program::fault::{ProgramFault, with_options};
+use like_files::{DriverFault, Opened, open_files, replay_files, run_files};
+use like_words::{Asked, Options, parse};
 use std::alloc::Global;
 use std::fs::Files;
 use std::io::{Read, Write};
@@ -32,7 +31,7 @@ pub fn serve_words<R: Files + Threads + Wait + Sync, W: Write, E: Write>(
     errors: &mut E,
 ) -> u8
 where
-    R::File: Read + Drop,
+    R::File: Read + Drop + Send,
     ensures { Ends (map string_bytes words.now) (W.contents out.old) (W.contents out.new) result }
 {
     let done = serve(rt, alloc, words, out);
@@ -61,7 +60,7 @@ fn serve<R: Files + Threads + Wait + Sync, W: Write>(
     out: &mut W,
 ) -> Result<(), ProgramFault>
 where
-    R::File: Read + Drop,
+    R::File: Read + Drop + Send,
     ensures served { OnOk result (HasServed (map string_bytes words.now) (W.contents out.old) (W.contents out.new)) }
     ensures fault { IfErr result
         (IsServeFault (map string_bytes words.now) (W.contents out.old) (W.contents out.new)) }
@@ -102,7 +101,7 @@ pub fn run_named<R: Files + Threads + Wait + Sync, W: Write>(
     out: &mut W,
 ) -> Result<(), DriverFault>
 where
-    R::File: Read + Drop,
+    R::File: Read + Drop + Send,
     ensures run { OnOk result (HasRunSome options.now (W.contents out.old) (W.contents out.new)) }
     ensures untouched { IfErr result (λ fault. IsBeforeOutput fault → out.new ≡ out.old) }
 {

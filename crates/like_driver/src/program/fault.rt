@@ -1,11 +1,9 @@
 ghost use Rattle.std.specs.Prelude.{◌≡◌, IsTrue};
-ghost use Rattle.like_driver.specs.Faults.{of_files, program_status};
-ghost use Rattle.like_driver.specs.Lines.{ShowsProgramLine};
+ghost use Rattle.like_driver.specs.Fault.{of_files, program_status};
+ghost use Rattle.like_driver.specs.Fault.{ShowsProgramLine};
 
-use crate::command_line::Options;
-use crate::command_line::fault::ParseFault;
-use crate::files::fault::DriverFault;
-use crate::files::line::{OUT_OF_MEMORY, WRITE_FAILED};
+use like_files::{DriverFault, WRITE_FAILED};
+use like_words::{OUT_OF_MEMORY, Options, ParseFault};
 use std::alloc::{AllocError, AllocFailed};
 use std::io::Write;
 

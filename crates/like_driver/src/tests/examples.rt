@@ -1,9 +1,8 @@
 //! The worked examples, by `replay_files`, from the texts of the files to the text of the report.
 ghost use Rattle.std.specs.Prelude.{◌≡◌, IfOk, is_some, length, None};
 
-use crate::command_line::Options;
-use crate::files::fault::DriverFault;
-use crate::files::replay_files;
+use like_files::{DriverFault, replay_files};
+use like_words::Options;
 use std::alloc::{AllocError, Global};
 use std::process::Abort;
 

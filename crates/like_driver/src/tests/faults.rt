@@ -1,10 +1,10 @@
 //! The line of each fault. The statuses and the lines that name no file are proved.
 use super::devices::Full;
 use super::examples::options;
-use crate::command_line::Options;
-use crate::files::fault::DriverFault;
+use like_files::DriverFault;
 use like_requests::{PagesFault, RequestsFault, SettingsFault};
 use like_run::ScriptFault;
+use like_words::Options;
 use std::alloc::Global;
 use std::process::Abort;
 use std::test::Fail;

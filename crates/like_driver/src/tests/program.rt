@@ -30,7 +30,7 @@ fn served<R: Files + Threads + Wait + Sync>(
     text: &str,
 ) -> Result<(u8, Vec<u8>, Vec<u8>), AllocError>
 where
-    R::File: Read + Drop,
+    R::File: Read + Drop + Send,
 {
     let words = texts(alloc, text)?;
     let (mut out, mut errors) = (Vec::new(alloc), Vec::new(alloc));

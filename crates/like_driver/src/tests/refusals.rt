@@ -3,11 +3,10 @@ ghost use Rattle.std.specs.Prelude.{◌≡◌, is_some, length};
 
 use super::devices::{Full, Shaky};
 use super::examples::options;
-use crate::command_line::Options;
-use crate::files::fault::DriverFault;
-use crate::files::replay_files;
+use like_files::{DriverFault, replay_files};
 use like_requests::{PagesFault, RequestsFault, SettingsFault};
 use like_run::ScriptFault;
+use like_words::Options;
 use std::alloc::{AllocError, Global};
 use std::test::Fail;
 

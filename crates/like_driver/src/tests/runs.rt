@@ -2,9 +2,8 @@
 ghost use Rattle.std.specs.Prelude.{◌≡◌, length};
 
 use super::examples::options;
-use crate::command_line::Options;
-use crate::files::fault::DriverFault;
-use crate::files::run_files;
+use like_files::{DriverFault, run_files};
+use like_words::Options;
 use std::alloc::{AllocError, Global};
 use std::sync::Wait;
 use std::test::Fail;
@@ -58,5 +57,51 @@ fn keeps_to_the_turns(rt: HostRuntime) -> Result<(), Fail> {
     let requests = likes(rt.alloc(), 4_000)?;
     let out = ran(&rt, rt.alloc(), &options, PAGES, requests.as_str())?;
     assert!(rt; out.ends_with(b"reply,0,4000,0,liked,,\npage,0,,,,a,4010\nuser,0,,,,a,\n"));
+    Ok(())
+}
+
+// The phase of each reply, by number.
+fn phases(alloc: Global, report: &str) -> Result<Vec<u32>, AllocError> {
+    let mut phases = Vec::new(alloc);
+    for row in report.lines() {
+        if row.starts_with("reply,") {
+            let phase = row.split(',').nth(3).and_then(|field| field.parse().ok());
+            phases.push(phase.unwrap_or(0))?;
+        }
+    }
+    Ok(phases)
+}
+
+// The most looks that were put off in one phase, each overtaken by the like behind it.
+fn most_overtaken(phases: &[u32]) -> u32 {
+    let (mut most, mut phase, mut looks) = (0_u32, 0, 0_u32);
+    for pair in phases.chunks(2) {
+        if let [look, like] = pair {
+            if look > like {
+                looks = if *like == phase { looks.saturating_add(1) } else { 1 };
+                phase = *like;
+                most = most.max(looks);
+            }
+        }
+    }
+    most
+}
+
+// A worker whose stash is full takes nothing, so with a stash of two a like overtakes one look in a phase at most,
+// whatever the threads do. With a larger stash it would overtake as many as a split phase has time for.
+#[test]
+fn keeps_to_the_stash(rt: HostRuntime) -> Result<(), Fail> {
+    let mut options = options(rt.alloc(), 1, 1)?;
+    options.stash = 2;
+    let mut requests = String::from_str(rt.alloc(), "op,user,page\n")?;
+    for _ in 0..20_000 {
+        requests.push_str("look,0,a\nlike,0,b\n")?;
+    }
+    let pages = "name,count,split\na,0,yes\nb,0,no\n";
+    let out = ran(&rt, rt.alloc(), &options, pages, requests.as_str())?;
+    let report = str::from_utf8(out.as_slice()).map_err(|_| Fail::new("no text"))?;
+    let phases = phases(rt.alloc(), report)?;
+    assert_eq!(rt; phases.len(), 40_000);
+    assert!(rt; most_overtaken(&phases) <= 1);
     Ok(())
 }

@@ -1,4 +1,3 @@
-use Rattle.std.proofs.Common.{map}
 use Rattle.std.proofs.lemmas.Result.{on_ok_weaker}
 use Rattle.like_driver.specs.Program.{HasReplayedExample}
 use Rattle.like_driver.proofs.Serving.{of_files-ok}

@@ -1,10 +1,10 @@
-use Rattle.std.proofs.Common.{◌≡◌, ◌∙◌, ℕ, List, Option, None, Some, length, map, option_map, refl}
+use Rattle.std.proofs.Common.{◌≡◌, ◌∙◌, ℕ, List, Option, None, Some, length, option_map, refl}
 use Rattle.std.specs.Prelude.{is_some}
 use Rattle.std.proofs.lemmas.List.{length-map}
 use Rattle.std.proofs.lemmas.Result.{on_ok_weaker}
-use Rattle.like_driver.specs.Inputs.{inputs_of}
-use Rattle.like_driver.specs.Replay.{HasReplayed, HasReplayedSome}
-use Rattle.like_driver.specs.declared.command_line.Options.{Options}
+use Rattle.like_files.specs.Inputs.{inputs_of}
+use Rattle.like_files.specs.Replay.{HasReplayed, HasReplayedSome}
+use Rattle.like_words.specs.declared.options.Options.{Options}
 use Rattle.like_driver.proofs.program.replay_named.Goals as goal
 
 -- what a reader tells is there just where the reader is

@@ -1,56 +1,56 @@
-use Rattle.std.proofs.Common.{List, inl, inr, map, refl, string_bytes, ◌∙◌, sym}
+use Rattle.std.proofs.Common.{inl, inr, map, refl, string_bytes, ◌∙◌, sym}
 use Rattle.std.proofs.lemmas.Result.{err_from_is_err_and, on_ok_weaker}
-use Rattle.clap.specs.Words.{Text}
-use Rattle.like_driver.specs.declared.command_line.Asked.TheVariants.{Run, Replay, Help}
-use Rattle.like_driver.specs.declared.program.fault.ProgramFault.TheVariants.{Words}
+use Rattle.like_words.specs.Asked.{Words}
+use Rattle.like_words.specs.declared.asked.Asked.TheVariants.{Run, Replay, Help}
+use Rattle.like_driver.specs.declared.program.fault.ProgramFault.TheVariants as program
 use Rattle.like_driver.proofs.Serving.{files-fault, files-served, help-fault, not_served, served, some-words}
 use Rattle.like_driver.proofs.program.serve.Goals as goal
 
 pub returns-in_err-options-clause-fault : goal.returns-in_err-options-clause-fault
 returns-in_err-options-clause-fault g c =
-    let words : List Text = map string_bytes c.args.words.now in
+    let words : Words = map string_bytes c.args.words.now in
     let some = some-words string_bytes c.args.words.now (sym c.is_empty.ensures ∙ c.if-is_empty.false) in
     let p = err_from_is_err_and c.from_residual.result c.from_residual.ensures.1 in
-    rw (p.1, p.2) (not_served words _ _ (Words c.in_err-options.field-0.0) some (c.in_err-options.ensures.fault, refl))
+    rw (p.1, p.2) (not_served words _ _ (program.Words c.in_err-options.field-0.0) some (c.in_err-options.ensures.fault, refl))
 
 pub returns-in-Run-clause-served : goal.returns-in-Run-clause-served
 returns-in-Run-clause-served g c =
-    let words : List Text = map string_bytes c.args.words.now in
+    let words : Words = map string_bytes c.args.words.now in
     let some = some-words string_bytes c.args.words.now (sym c.is_empty.ensures ∙ c.if-is_empty.false) in
     let asks = rw c.in-Run.is at c.in_ok-options.ensures.asked in
     rw c.with_options.ensures (files-served words _ _ c.in-Run.options (Run c.in-Run.options) c.run_named-done.result some asks c.run_named-done.ensures.run)
 
 pub returns-in-Run-clause-fault : goal.returns-in-Run-clause-fault
 returns-in-Run-clause-fault g c =
-    let words : List Text = map string_bytes c.args.words.now in
+    let words : Words = map string_bytes c.args.words.now in
     let some = some-words string_bytes c.args.words.now (sym c.is_empty.ensures ∙ c.if-is_empty.false) in
     let asks = rw c.in-Run.is at c.in_ok-options.ensures.asked in
     rw c.with_options.ensures (files-fault g.W.Write.contents words c.in-Run.options c.run_named-done.result c.args.out.now c.run_named-done.new.out some (inl asks) c.run_named-done.ensures.untouched)
 
 pub returns-in-Replay-clause-served : goal.returns-in-Replay-clause-served
 returns-in-Replay-clause-served g c =
-    let words : List Text = map string_bytes c.args.words.now in
+    let words : Words = map string_bytes c.args.words.now in
     let some = some-words string_bytes c.args.words.now (sym c.is_empty.ensures ∙ c.if-is_empty.false) in
     let asks = rw c.in-Replay.is at c.in_ok-options.ensures.asked in
     rw c.with_options-in-Replay.ensures (files-served words _ _ c.in-Replay.options (Replay c.in-Replay.options) c.replay_named-done.result some asks c.replay_named-done.ensures.replayed)
 
 pub returns-in-Replay-clause-fault : goal.returns-in-Replay-clause-fault
 returns-in-Replay-clause-fault g c =
-    let words : List Text = map string_bytes c.args.words.now in
+    let words : Words = map string_bytes c.args.words.now in
     let some = some-words string_bytes c.args.words.now (sym c.is_empty.ensures ∙ c.if-is_empty.false) in
     let asks = rw c.in-Replay.is at c.in_ok-options.ensures.asked in
     rw c.with_options-in-Replay.ensures (files-fault g.W.Write.contents words c.in-Replay.options c.replay_named-done.result c.args.out.now c.replay_named-done.new.out some (inr asks) c.replay_named-done.ensures.untouched)
 
 pub returns-in-Help-clause-served : goal.returns-in-Help-clause-served
 returns-in-Help-clause-served g c =
-    let words : List Text = map string_bytes c.args.words.now in
+    let words : Words = map string_bytes c.args.words.now in
     let some = some-words string_bytes c.args.words.now (sym c.is_empty.ensures ∙ c.if-is_empty.false) in
     let asks = rw c.in-Help.is at c.in_ok-options.ensures.asked in
     on_ok_weaker c.show.result (λ shown. served words _ _ (Help c.in-Help.text) some asks (rw c.deref.ensures at shown)) c.show.ensures.shown
 
 pub returns-in-Help-clause-fault : goal.returns-in-Help-clause-fault
 returns-in-Help-clause-fault g c =
-    let words : List Text = map string_bytes c.args.words.now in
+    let words : Words = map string_bytes c.args.words.now in
     let some = some-words string_bytes c.args.words.now (sym c.is_empty.ensures ∙ c.if-is_empty.false) in
     let asks = rw c.in-Help.is at c.in_ok-options.ensures.asked in
     help-fault words _ _ c.show.result some asks c.show.ensures.fault

@@ -1,0 +1,4 @@
+pub mod Ended
+pub mod Examples
+pub mod Planned
+pub mod Writable

@@ -1,0 +1,165 @@
+-- The plans that the request files give, one file after the other.
+use Rattle.std.proofs.Common.{◌≡◌, ℕ, zero, suc, ◌+◌, ◌<◌, List, [], ◌∷◌, ◌++◌, length, map, get_or, take, min, Option, None, Some, Result, Ok, Err, MatchResult, Vec, Global, refl, sym, ap, ◌∙◌, subst, inl, inr, arith, option_map}
+use Rattle.std.proofs.lemmas.List.{length-append, length-map, map-append, take-map, take_more}
+use Rattle.std.proofs.lemmas.Option.{get_or_from_slice_get, slice_get-map, slice_get_read, slice_get_within}
+use Rattle.std.proofs.lemmas.Slice.Zip.{AllZip-long, AllZip-right}
+use denote.Param.Members.{Shared}
+use Rattle.std.specs.Fn.{FnReturns}
+use Rattle.std.specs.Fork.{GivesJobs}
+use Rattle.std.specs.List.{AllZip, slice_get, slice_index_or}
+use Rattle.std.specs.Prelude.{IsSomeAnd, MatchOption, ◌⊎◌}
+use Rattle.like_records.specs.Reading.{records_of}
+use Rattle.like_requests.specs.Pages.{Page}
+use Rattle.like_records.specs.Rows.{Record}
+use Rattle.like_requests.specs.declared.request.Request.{Request}
+use Rattle.like_requests.specs.declared.requests_file.RequestsFault.{RequestsFault}
+use Rattle.like_requests.specs.declared.requests_file.RequestsFault.TheVariants.{Memory}
+use Rattle.like_files.specs.Inputs.{GivesPlan, GivesPlans, OfRecords, RefusesPlan, RefusesPlans}
+use Rattle.like_files.specs.Plans.{AddsPlan, Answer, IsFirstStop, Stops}
+use Rattle.like_files.specs.declared.fault.DriverFault.{DriverFault}
+use Rattle.like_files.specs.declared.fault.DriverFault.TheVariants as driver
+
+-- what holds of each answer for the records of a file holds of it
+pub of_records : {A E : Type 0} (source : Option (List ℕ)) (P : List Record → A → Type 0) (Q : List Record → E → Type 0) (r : Result A E)
+    → ((rows : List Record) → option_map records_of source ≡ Some rows → MatchResult r (P rows) (Q rows))
+    → MatchResult r (λ x. OfRecords source (λ rows. P rows x)) (λ e. OfRecords source (λ rows. Q rows e))
+of_records source P Q (Ok x) h = h
+of_records source P Q (Err e) h = h
+
+-- ---- lists that match
+
+-- one more pair that matches
+pub AllZip-more : {A B : Type 0} (R : A → B → Type 0) (xs : List A) (ys : List B) (x : A) (y : B) → AllZip R xs ys → R x y → AllZip R (xs ++ x ∷ []) (ys ++ y ∷ [])
+AllZip-more R [] [] x y h last = (last, tt)
+AllZip-more R [] (b ∷ bs) x y h last = absurd h
+AllZip-more R (a ∷ more) [] x y h last = absurd h
+AllZip-more R (a ∷ more) (b ∷ bs) x y h last = (h.0, AllZip-more R more bs x y h.1 last)
+
+-- the first pairs match
+AllZip-take : {A B : Type 0} (R : A → B → Type 0) (n : ℕ) (xs : List A) (ys : List B) → AllZip R xs ys → AllZip R (take n xs) (take n ys)
+AllZip-take R zero xs ys h = tt
+AllZip-take R (suc n) [] [] h = tt
+AllZip-take R (suc n) [] (y ∷ ys) h = absurd h
+AllZip-take R (suc n) (x ∷ xs) [] h = absurd h
+AllZip-take R (suc n) (x ∷ xs) (y ∷ ys) h = (h.0, AllZip-take R n xs ys h.1)
+
+-- lists of one length match where they do at each place
+AllZip-by_place : {A B : Type 0} (R : A → B → Type 0) (xs : List A) (ys : List B) → length ys ≡ length xs
+    → ((i : ℕ) (x : A) (y : B) → slice_get xs i ≡ Some x → slice_get ys i ≡ Some y → R x y) → AllZip R xs ys
+AllZip-by_place R [] [] same each = tt
+AllZip-by_place R [] (y ∷ ys) same each = let no : suc (length ys) ≡ 0 = same in omega (arith, no)
+AllZip-by_place R (x ∷ xs) [] same each = let no : 0 ≡ suc (length xs) = same in omega (arith, no)
+AllZip-by_place R (x ∷ xs) (y ∷ ys) same each =
+    let rest : length ys ≡ length xs = let all : suc (length ys) ≡ suc (length xs) = same in omega (arith, all) in
+    (each 0 x y refl refl, AllZip-by_place R xs ys rest (λ i a b at there. each (suc i) a b at there))
+
+-- ---- files that are read one after the other
+
+abbrev pub requests_of : Vec Request Global → List Request
+requests_of plan = plan.items
+
+-- what the reader of a file answers is its plan, or why it is refused
+abbrev pub Reads : {R : Type 0} → (R → Option (List ℕ)) → List Page → R → Answer → Type 0
+Reads source_of pages reader answer = MatchResult answer (λ plan. GivesPlan pages (source_of reader) plan.items) (RefusesPlan (source_of reader))
+
+-- one more element of a list was taken
+pub take-more_taken : {X : Type 0} (xs done : List X) (x : X) → take (length done) xs ≡ done → length done < length xs → x ≡ get_or xs (length done) x → take (length (done ++ x ∷ [])) xs ≡ done ++ x ∷ []
+take-more_taken xs done x front there is =
+    let n : length (done ++ x ∷ []) ≡ length done + 1 = length-append done (x ∷ []) in
+    rw (n, take_more xs (length done) x there, front, ← is) refl
+
+-- why the file is refused whose answer adds no plan
+refused_by : {R : Type 0} (source_of : R → Option (List ℕ)) (pages : List Page) (reader : R) (answer : Answer) (why : RequestsFault) → Reads source_of pages reader answer
+    → (answer ≡ Err why) ⊎ (why ≡ Memory) → RefusesPlan (source_of reader) why
+refused_by source_of pages reader answer why reads (inl is) = subst (Reads source_of pages reader) is reads
+refused_by source_of pages reader answer why reads (inr is) = subst (RefusesPlan (source_of reader)) (sym is) (λ rows there. tt)
+
+-- the plan of the next file was added
+pub GivesPlans-next : {R : Type 0} (source_of : R → Option (List ℕ)) (pages : List Page) (done : List R) (reader : R) (answer : Answer) (old new : List (Vec Request Global))
+    → GivesPlans pages (map source_of done) (map requests_of old) → Reads source_of pages reader answer → AddsPlan answer old new
+    → GivesPlans pages (map source_of (done ++ reader ∷ [])) (map requests_of new)
+GivesPlans-next source_of pages done reader answer old new given reads adds =
+    let plan : GivesPlan pages (source_of reader) adds.plan.items = subst (Reads source_of pages reader) adds.given reads in
+    rw (adds.added, map-append source_of done (reader ∷ []), map-append requests_of old (adds.plan ∷ []))
+    (AllZip-more (GivesPlan pages) (map source_of done) (map requests_of old) (source_of reader) adds.plan.items given plan)
+
+-- the next file gave none
+pub RefusesPlans-next : {R : Type 0} (source_of : R → Option (List ℕ)) (pages : List Page) (readers done : List R) (reader : R) (answer : Answer) (plans : List (Vec Request Global)) (fault : DriverFault)
+    → take (length done) readers ≡ done → length done < length readers → reader ≡ get_or readers (length done) reader
+    → GivesPlans pages (map source_of done) (map requests_of plans) → Reads source_of pages reader answer → Stops answer (length plans) fault
+    → RefusesPlans pages (map source_of readers) fault
+RefusesPlans-next source_of pages readers done reader answer plans fault front there is given reads stops =
+    let size : length plans ≡ length done = sym (length-map plans requests_of) ∙ (AllZip-long (GivesPlan pages) (map source_of done) (map requests_of plans) given ∙ length-map done source_of) in
+    let at : slice_get (map source_of readers) (length done) ≡ Some (source_of reader) =
+    slice_get-map source_of readers (length done) ∙ ap (λ o. option_map source_of o) (slice_get_read readers (length readers) (length done) reader refl there is) in
+    let before : take (length done) (map source_of readers) ≡ map source_of done = take-map source_of (length done) readers ∙ ap (map source_of) front in
+    subst (RefusesPlans pages (map source_of readers)) (sym stops.named) (
+      length done,
+      ap (λ n. min n 4294967295) size,
+      record {
+        plans = map requests_of plans;
+        before = rw before given;
+        refused = rw at (refused_by source_of pages reader answer stops.why reads stops.stood);
+      },
+    )
+
+-- ---- files that are read at once
+
+-- what the readers' calls answer matches the readers
+pub AllZip-jobs : {F J R : Type 0} (g : Shared F (J × Unit {0}) R) (f : F) (P : J → R → Type 0) (jobs : List J) (answers : List R) → length answers ≡ length jobs → GivesJobs g f jobs answers
+    → ((job : J) (r : R) → FnReturns g f (job, tt) r → P job r) → AllZip P jobs answers
+AllZip-jobs {J = Job} {R = Reply} g f P jobs answers same gives each = AllZip-by_place P jobs answers same by_place where
+  by_place : (i : ℕ) (x : Job) (y : Reply) → slice_get jobs i ≡ Some x → slice_get answers i ≡ Some y → P x y
+  by_place i x y at there =
+      let given = (gives i y (slice_get_within jobs i x at)).1 in
+      let source : given.job ≡ x = sym (given.job_is x) ∙ get_or_from_slice_get jobs i x x at in
+      let is : P given.job (slice_index_or answers i y) = each given.job (slice_index_or answers i y) given.call in
+      subst (λ r. P x r) (get_or_from_slice_get answers i y y there) (subst (λ j. P j (slice_index_or answers i y)) source is)
+
+-- all files gave their plans
+pub GivesPlans-at_once : {R : Type 0} (source_of : R → Option (List ℕ)) (pages : List Page) (readers : List R) (answers : List Answer) (plans : List (Vec Request Global))
+    → AllZip (Reads source_of pages) readers answers → answers ≡ map Ok plans → GivesPlans pages (map source_of readers) (map requests_of plans)
+GivesPlans-at_once source_of pages readers answers plans reads is = by_lists readers plans (subst (AllZip (Reads source_of pages) readers) is reads) where
+  by_lists : (rs : List _) (ps : List (Vec Request Global)) → AllZip (Reads source_of pages) rs (map Ok ps) → GivesPlans pages (map source_of rs) (map requests_of ps)
+  by_lists [] [] h = tt
+  by_lists [] (p ∷ ps) h = absurd h
+  by_lists (r ∷ rs) [] h = absurd h
+  by_lists (r ∷ rs) (p ∷ ps) h = (h.0, by_lists rs ps h.1)
+
+-- the first file may always be refused for want of memory
+pub RefusesPlans-memory : {R : Type 0} (source_of : R → Option (List ℕ)) (pages : List Page) (readers : List R) → 0 < length readers → RefusesPlans pages (map source_of readers) (driver.Requests 0 Memory)
+RefusesPlans-memory source_of pages [] some = absurd (let no : 0 < 0 = some in omega (arith, no))
+RefusesPlans-memory source_of pages (reader ∷ readers) some = (0, refl, record { plans = []; before = tt; refused = λ rows there. tt })
+
+-- the first that gave none is refused
+pub RefusesPlans-at_once : {R : Type 0} (source_of : R → Option (List ℕ)) (pages : List Page) (readers : List R) (answers : List Answer) (fault : DriverFault)
+    → AllZip (Reads source_of pages) readers answers → IsFirstStop answers fault → RefusesPlans pages (map source_of readers) fault
+RefusesPlans-at_once source_of pages readers answers fault reads first =
+    by_answer (slice_get answers first.place) first.stops (AllZip-right (Reads source_of pages) readers answers reads first.place) where
+  sources : List (Option (List ℕ))
+  sources = map source_of readers
+
+  before : GivesPlans pages (take first.place sources) (map requests_of first.plans)
+  before =
+      rw (take-map source_of first.place readers)
+      (GivesPlans-at_once source_of pages (take first.place readers) (take first.place answers) first.plans (AllZip-take (Reads source_of pages) first.place readers answers reads) first.before)
+
+  by_reader : (o : Option _) (answer : Answer) → slice_get readers first.place ≡ o → Stops answer first.place fault → IsSomeAnd o (λ reader. Reads source_of pages reader answer) → RefusesPlans pages sources fault
+  by_reader None answer at stops reads_it = absurd reads_it
+  by_reader (Some reader) answer at stops reads_it =
+      let source : slice_get sources first.place ≡ Some (source_of reader) = slice_get-map source_of readers first.place ∙ ap (λ o. option_map source_of o) at in
+      let refused : RefusesPlan (source_of reader) stops.why = refused_by source_of pages reader answer stops.why reads_it stops.stood in
+      subst (RefusesPlans pages sources) (sym stops.named)
+      (first.place, refl, record { plans = map requests_of first.plans; before = before; refused = rw source refused })
+
+  by_answer : (o : Option Answer) → IsSomeAnd o (λ answer. Stops answer first.place fault) → MatchOption o (Unit {0}) (λ answer. IsSomeAnd (slice_get readers first.place) (λ reader. Reads source_of pages reader answer))
+      → RefusesPlans pages sources fault
+  by_answer None stops reads_it = absurd stops
+  by_answer (Some answer) stops reads_it = by_reader (slice_get readers first.place) answer refl stops reads_it
+
+-- so the plans of all files are given, or the first fault stands
+pub at_once : {R : Type 0} (source_of : R → Option (List ℕ)) (pages : List Page) (readers : List R) (answers : List Answer) (result : Result (Vec (Vec Request Global) Global) DriverFault)
+    → AllZip (Reads source_of pages) readers answers → MatchResult result (λ plans. answers ≡ map Ok plans.items) (IsFirstStop answers)
+    → MatchResult result (λ plans. GivesPlans pages (map source_of readers) (map requests_of plans.items)) (RefusesPlans pages (map source_of readers))
+at_once source_of pages readers answers (Ok plans) reads gathered = GivesPlans-at_once source_of pages readers answers plans.items reads gathered
+at_once source_of pages readers answers (Err fault) reads gathered = RefusesPlans-at_once source_of pages readers answers fault reads gathered

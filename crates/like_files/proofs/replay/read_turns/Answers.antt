@@ -1,0 +1,9 @@
+use Rattle.std.proofs.Common.{List, Vec, Global}
+use Rattle.like_records.specs.Rows.{Record}
+use Rattle.like_script.specs.File.{IsScriptFault, IsScriptFile}
+use Rattle.like_script.specs.declared.turned.Turned.{Turned}
+use Rattle.like_files.proofs.Planned.{of_records}
+use Rattle.like_files.proofs.replay.read_turns.Goals as goal
+
+pub returns-in-Some-clause-given : goal.returns-in-Some-clause-given
+returns-in-Some-clause-given g c = rw c.in-Some.is (of_records (g.R.Read.remaining c.in-Some.reader) (λ (rows : List Record) (entries : Vec Turned Global). IsScriptFile rows entries.items) IsScriptFault c.read_script.result c.read_script.ensures.file)

@@ -1,0 +1,41 @@
+use Rattle.std.proofs.Common.{map}
+use Rattle.std.proofs.lemmas.Result.{err_from_is_err_and}
+use Rattle.like_requests.proofs.Planned.{plans-within}
+use Rattle.like_crew.specs.Asked.{service_of}
+use Rattle.like_files.specs.Inputs.{Inputs, inputs_of}
+use Rattle.like_files.specs.Replay.{GivesAll}
+use Rattle.like_files.proofs.Ended.{replay-refused, replay-unwritten, writes}
+use Rattle.like_files.proofs.Planned.{requests_of}
+use Rattle.like_files.proofs.Writable.{IsWritable-end_to_end}
+use Rattle.like_files.proofs.replay.replay_files.Goals as goal
+
+pub write_report-requires : goal.write_report-requires
+write_report-requires g c =
+    IsWritable-end_to_end (service_of c.with_pages-setup.result (map requests_of c.in_ok-plans.plans.items)) (plans-within _ _ c.in_ok-report.ensures.fits.within)
+    c.with_pages-setup.result.workers c.in_ok-report.report c.in_ok-report.ensures.report
+
+pub returns-in_err-report-clause-fault : goal.returns-in_err-report-clause-fault
+returns-in_err-report-clause-fault g c =
+    let inputs : Inputs = inputs_of g.R.Read.remaining c.args.pages c.args.requests.items c.args.script in
+    let given : GivesAll inputs c.in_ok-pages.pages (map requests_of c.in_ok-plans.plans.items) c.in_ok-script.script.items = record { lists = record { pages_given = c.in_ok-pages.ensures; plans_given = c.in_ok-plans.ensures }; script_given = c.in_ok-script.ensures.given } in
+    let p = err_from_is_err_and c.from_residual-in_err-report.result c.from_residual-in_err-report.ensures.1 in
+    rw (p.1, p.2) (replay-refused c.args.options.now inputs c.in_ok-pages.pages (map requests_of c.in_ok-plans.plans.items) c.in_ok-script.script.items given c.in_err-report.field-0.0
+    (rw (c.with_pages-setup.ensures, c.deref.ensures.value) at c.in_err-report.ensures.fault))
+
+pub returns-in_err-write_report-clause-fault : goal.returns-in_err-write_report-clause-fault
+returns-in_err-write_report-clause-fault g c =
+    let inputs : Inputs = inputs_of g.R.Read.remaining c.args.pages c.args.requests.items c.args.script in
+    let given : GivesAll inputs c.in_ok-pages.pages (map requests_of c.in_ok-plans.plans.items) c.in_ok-script.script.items = record { lists = record { pages_given = c.in_ok-pages.ensures; plans_given = c.in_ok-plans.ensures }; script_given = c.in_ok-script.ensures.given } in
+    let p = err_from_is_err_and c.from_residual-in_err-write_report.result c.from_residual-in_err-write_report.ensures.1 in
+    rw (p.1, p.2) (replay-unwritten c.args.options.now inputs c.in_ok-pages.pages (map requests_of c.in_ok-plans.plans.items) c.in_ok-script.script.items given c.in_err-write_report.field-0.0
+    (rw (c.with_pages-setup.ensures, c.deref.ensures.value) at c.in_ok-report.ensures.fits))
+
+pub returns-clause-replayed : goal.returns-clause-replayed
+returns-clause-replayed g c = record {
+  pages = c.in_ok-pages.pages;
+  plans = map requests_of c.in_ok-plans.plans.items;
+  script = c.in_ok-script.script.items;
+  given = record { lists = record { pages_given = c.in_ok-pages.ensures; plans_given = c.in_ok-plans.ensures }; script_given = c.in_ok-script.ensures.given };
+  fits = rw (c.with_pages-setup.ensures, c.deref.ensures.value) at c.in_ok-report.ensures.fits;
+  reported = writes c.with_pages-setup.result _ (map requests_of c.in_ok-plans.plans.items) c.in_ok-report.report _ _ c.with_pages-setup.ensures c.in_ok-report.ensures.report c.in_ok-write_report.ensures;
+}

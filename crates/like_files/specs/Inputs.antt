@@ -1,0 +1,107 @@
+-- What the files of a run or a replay give, as far as their bytes are known.
+use Rattle.std.specs.Prelude.{◌≡◌, ◌-◌, ◌^◌, ℕ, List, [], map, min, take, slice_get, Option, Some, None, IsSomeAnd, option_map}
+use Rattle.std.specs.Io.KnownBytes.{Appends}
+use Rattle.std.specs.List.{AllZip}
+use Rattle.like_records.specs.Reading.{records_of}
+use Rattle.like_requests.specs.Pages.{Page}
+use Rattle.like_requests.specs.PagesFile.{IsPagesFault, IsPagesFile}
+use Rattle.like_requests.specs.RequestsFile.{IsRequestsFault, IsRequestsFile}
+use Rattle.like_records.specs.Rows.{Record}
+use Rattle.like_requests.specs.declared.pages_file.PagesFault.{PagesFault}
+use Rattle.like_requests.specs.declared.request.Request.{Request}
+use Rattle.like_requests.specs.declared.requests_file.RequestsFault.{RequestsFault}
+use Rattle.like_requests.specs.declared.setup.Setup.{Setup}
+use Rattle.like_replies.specs.Reported.{reported}
+use Rattle.like_replies.specs.Rows.{report_text}
+use Rattle.like_replies.specs.declared.report.Report.{Report}
+use Rattle.like_crew.specs.EndToEnd.{IsEndToEnd}
+use Rattle.like_crew.specs.Asked.{service_of}
+use Rattle.like_script.specs.File.{IsScriptFault, IsScriptFile}
+use Rattle.like_script.specs.declared.file.ScriptFault.{ScriptFault}
+use Rattle.like_script.specs.declared.turned.Turned.{Turned}
+use Rattle.like_words.specs.declared.options.Options.{Options}
+use Rattle.like_files.specs.declared.fault.DriverFault.{DriverFault}
+use Rattle.like_files.specs.declared.fault.DriverFault.TheVariants as driver
+
+-- the bytes of the pages file and of each request file, where they are known, and those of the script file where there is one
+pub record Inputs : Type 0 where
+  pub pages : Option (List ℕ)
+  pub requests : List (Option (List ℕ))
+  pub script : Option (Option (List ℕ))
+
+-- what readers have left to give, by what each has
+abbrev pub inputs_of : {R : Type 0} → (R → Option (List ℕ)) → R → List R → Option R → Inputs
+inputs_of left pages requests script = record { pages = left pages; requests = map left requests; script = option_map left script }
+
+-- the settings that options ask for with these pages
+abbrev pub setup_of : Options → List Page → Setup
+setup_of o pages = record { workers = o.workers; users = o.users; stash = o.stash; turns = o.turns; pages = pages }
+
+-- a fact of the records of a file, where its bytes are known
+abbrev pub OfRecords : Option (List ℕ) → (List Record → Type 0) → Type 0
+OfRecords source P = (rows : List Record) → option_map records_of source ≡ Some rows → P rows
+
+-- a pages file gives these pages
+abbrev pub GivesPages : Option (List ℕ) → List Page → Type 0
+GivesPages source pages = OfRecords source (λ rows. IsPagesFile rows pages)
+
+-- a pages file is refused with this fault
+abbrev pub RefusesPages : Option (List ℕ) → PagesFault → Type 0
+RefusesPages source fault = OfRecords source (λ rows. IsPagesFault rows fault)
+
+-- a request file gives this plan
+abbrev pub GivesPlan : List Page → Option (List ℕ) → List Request → Type 0
+GivesPlan pages source plan = OfRecords source (λ rows. IsRequestsFile pages rows plan)
+
+-- a request file is refused with this fault
+abbrev pub RefusesPlan : Option (List ℕ) → RequestsFault → Type 0
+RefusesPlan source fault = OfRecords source (λ rows. IsRequestsFault rows fault)
+
+-- a script file gives these entries; where there is none, there are none
+abbrev pub GivesScript : Option (Option (List ℕ)) → List Turned → Type 0
+GivesScript None entries = entries ≡ []
+GivesScript (Some source) entries = OfRecords source (λ rows. IsScriptFile rows entries)
+
+-- a script file is refused with this fault
+abbrev pub RefusesScript : Option (Option (List ℕ)) → ScriptFault → Type 0
+RefusesScript None fault = ⊥
+RefusesScript (Some source) fault = OfRecords source (λ rows. IsScriptFault rows fault)
+
+-- the request files give these plans
+abbrev pub GivesPlans : List Page → List (Option (List ℕ)) → List (List Request) → Type 0
+GivesPlans pages sources plans = AllZip (GivesPlan pages) sources plans
+
+-- the request file at this place is the first that is refused
+pub record IsFirstRefused (pages : List Page) (sources : List (Option (List ℕ))) (place : ℕ) (fault : RequestsFault) : Type 0 where
+  pub plans : List (List Request)
+  pub before : GivesPlans pages (take place sources) plans
+  pub refused : IsSomeAnd (slice_get sources place) (λ source. RefusesPlan source fault)
+
+-- why the request files give no plans: the first that is refused, whose number stops at the last of a u32
+abbrev pub RefusesPlans : List Page → List (Option (List ℕ)) → DriverFault → Type 0
+RefusesPlans pages sources (driver.Requests submitter fault) =
+    (place : ℕ) × (submitter ≡ min place (2 ^ 32 - 1)) × IsFirstRefused pages sources place fault
+RefusesPlans pages sources fault = ⊥
+
+-- a pages file and request files give these values
+pub record GivesLists (file : Option (List ℕ)) (files : List (Option (List ℕ))) (pages : List Page) (plans : List (List Request)) : Type 0 where
+  pub pages_given : GivesPages file pages
+  pub plans_given : GivesPlans pages files plans
+
+-- the request files were refused, where the pages file gives these pages
+pub record PlansRefused (file : Option (List ℕ)) (files : List (Option (List ℕ))) (fault : DriverFault) : Type 0 where
+  pub pages : List Page
+  pub pages_given : GivesPages file pages
+  pub refused : RefusesPlans pages files fault
+
+-- why a pages file and request files give no values: the first fault of the pages file, or else of the request files
+abbrev pub RefusesLists : Option (List ℕ) → List (Option (List ℕ)) → DriverFault → Type 0
+RefusesLists file files (driver.Pages fault) = RefusesPages file fault
+RefusesLists file files (driver.Requests submitter fault) = PlansRefused file files (driver.Requests submitter fault)
+RefusesLists file files fault = ⊥
+
+-- the text of a report was written that is right end to end
+pub record WritesReport (setup : Setup) (plans : List (List Request)) (old new : Option (List ℕ)) : Type 0 where
+  pub report : Report
+  pub right : IsEndToEnd (service_of setup plans) setup.workers report
+  pub written : Appends old new (report_text setup.pages (reported report))

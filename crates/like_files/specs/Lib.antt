@@ -1,0 +1,6 @@
+pub mod Faults
+pub mod Inputs
+pub mod Lines
+pub mod Plans
+pub mod Replay
+pub mod Run

@@ -1,0 +1,69 @@
+-- What a replay of files has done, or why it has not.
+use Rattle.std.specs.Prelude.{◌≡◌, ℕ, List, length, is_some, Option}
+use Rattle.like_requests.specs.Pages.{Page}
+use Rattle.like_requests.specs.declared.request.Request.{Request}
+use Rattle.like_run.specs.Rounds as replay
+use Rattle.like_run.specs.declared.rounds.fault.ReplayFault.{ReplayFault}
+use Rattle.like_run.specs.declared.rounds.fault.ReplayFault.TheVariants as why
+use Rattle.like_script.specs.declared.file.ScriptFault.{ScriptFault}
+use Rattle.like_script.specs.declared.turned.Turned.{Turned}
+use Rattle.like_files.specs.Inputs.{GivesLists, GivesScript, Inputs, RefusesLists, RefusesScript, WritesReport, setup_of}
+use Rattle.like_words.specs.declared.options.Options.{Options}
+use Rattle.like_files.specs.declared.fault.DriverFault.{DriverFault}
+use Rattle.like_files.specs.declared.fault.DriverFault.TheVariants.{Pages, Requests, Script, Settings, Start, Unfinished, Write, Memory}
+
+-- all files give these values
+pub record GivesAll (inputs : Inputs) (pages : List Page) (plans : List (List Request)) (script : List Turned) : Type 0 where
+  pub lists : GivesLists inputs.pages inputs.requests pages plans
+  pub script_given : GivesScript inputs.script script
+
+-- the values of the files were replayed, and the report was written
+pub record HasReplayed (options : Options) (inputs : Inputs) (old new : Option (List ℕ)) : Type 0 where
+  pub pages : List Page
+  pub plans : List (List Request)
+  pub script : List Turned
+  pub given : GivesAll inputs pages plans script
+  pub fits : replay.Fits (setup_of options pages) plans script
+  pub reported : WritesReport (setup_of options pages) plans old new
+
+-- some files were replayed, as many request files as the options name, and with a script just where they name one
+pub record HasReplayedSome (options : Options) (old new : Option (List ℕ)) : Type 0 where
+  pub inputs : Inputs
+  pub all_requests : length inputs.requests ≡ length options.requests.items
+  pub scripted : is_some inputs.script ≡ is_some options.script
+  pub replayed : HasReplayed options inputs old new
+
+-- the script file was refused, where the other files give these values
+pub record ScriptRefused (inputs : Inputs) (fault : ScriptFault) : Type 0 where
+  pub pages : List Page
+  pub plans : List (List Request)
+  pub lists : GivesLists inputs.pages inputs.requests pages plans
+  pub refused : RefusesScript inputs.script fault
+
+-- the files give values of which a replay was refused with this fault
+pub record ReplayRefused (options : Options) (inputs : Inputs) (fault : ReplayFault) : Type 0 where
+  pub pages : List Page
+  pub plans : List (List Request)
+  pub script : List Turned
+  pub given : GivesAll inputs pages plans script
+  pub refused : replay.IsReplayFault (setup_of options pages) plans script fault
+
+-- the files give values that can be replayed
+pub record CanReplay (options : Options) (inputs : Inputs) : Type 0 where
+  pub pages : List Page
+  pub plans : List (List Request)
+  pub script : List Turned
+  pub given : GivesAll inputs pages plans script
+  pub fits : replay.Fits (setup_of options pages) plans script
+
+-- why a replay ended: the first fault of the pages file, the request files, the script file, the settings, the replay and the
+-- output; want of memory is that of the replay or of its report
+abbrev pub IsReplayFault : Options → Inputs → DriverFault → Type 0
+IsReplayFault options inputs (Pages fault) = RefusesLists inputs.pages inputs.requests (Pages fault)
+IsReplayFault options inputs (Requests submitter fault) = RefusesLists inputs.pages inputs.requests (Requests submitter fault)
+IsReplayFault options inputs (Script fault) = ScriptRefused inputs fault
+IsReplayFault options inputs (Settings fault) = ReplayRefused options inputs (why.Settings fault)
+IsReplayFault options inputs Start = ⊥
+IsReplayFault options inputs Unfinished = ReplayRefused options inputs why.Unfinished
+IsReplayFault options inputs Write = CanReplay options inputs
+IsReplayFault options inputs Memory = CanReplay options inputs

@@ -1,0 +1,52 @@
+-- What a run of files has done, or why it has not.
+use Rattle.std.specs.Prelude.{◌≡◌, ℕ, List, length, Option}
+use Rattle.like_requests.specs.Pages.{Page}
+use Rattle.like_requests.specs.Setup.{IsWithinLimits}
+use Rattle.like_requests.specs.declared.request.Request.{Request}
+use Rattle.like_run.specs.Threads as run
+use Rattle.like_run.specs.declared.threads.fault.RunFault.{RunFault}
+use Rattle.like_run.specs.declared.threads.fault.RunFault.TheVariants as why
+use Rattle.like_files.specs.Inputs.{GivesLists, Inputs, RefusesLists, WritesReport, setup_of}
+use Rattle.like_words.specs.declared.options.Options.{Options}
+use Rattle.like_files.specs.declared.fault.DriverFault.{DriverFault}
+use Rattle.like_files.specs.declared.fault.DriverFault.TheVariants.{Pages, Requests, Script, Settings, Start, Unfinished, Write, Memory}
+
+-- the run that the files ask for was made, and its report was written
+pub record HasRun (options : Options) (inputs : Inputs) (old new : Option (List ℕ)) : Type 0 where
+  pub pages : List Page
+  pub plans : List (List Request)
+  pub given : GivesLists inputs.pages inputs.requests pages plans
+  pub within : IsWithinLimits (setup_of options pages) plans
+  pub reported : WritesReport (setup_of options pages) plans old new
+
+-- some files were run, as many request files as the options name
+pub record HasRunSome (options : Options) (old new : Option (List ℕ)) : Type 0 where
+  pub inputs : Inputs
+  pub all_requests : length inputs.requests ≡ length options.requests.items
+  pub run : HasRun options inputs old new
+
+-- the files give values of which a run was refused with this fault
+pub record RunRefused (options : Options) (inputs : Inputs) (fault : RunFault) : Type 0 where
+  pub pages : List Page
+  pub plans : List (List Request)
+  pub given : GivesLists inputs.pages inputs.requests pages plans
+  pub refused : run.IsRunFault (setup_of options pages) plans fault
+
+-- the files give values that are within the limits
+pub record CanRun (options : Options) (inputs : Inputs) : Type 0 where
+  pub pages : List Page
+  pub plans : List (List Request)
+  pub given : GivesLists inputs.pages inputs.requests pages plans
+  pub within : IsWithinLimits (setup_of options pages) plans
+
+-- why a run ended: the first fault of the pages file, the request files, the settings, the run and the output; want of memory
+-- is that of the run or of its report
+abbrev pub IsRunFault : Options → Inputs → DriverFault → Type 0
+IsRunFault options inputs (Pages fault) = RefusesLists inputs.pages inputs.requests (Pages fault)
+IsRunFault options inputs (Requests submitter fault) = RefusesLists inputs.pages inputs.requests (Requests submitter fault)
+IsRunFault options inputs (Script fault) = ⊥
+IsRunFault options inputs (Settings fault) = RunRefused options inputs (why.Settings fault)
+IsRunFault options inputs Start = RunRefused options inputs why.Start
+IsRunFault options inputs Unfinished = ⊥
+IsRunFault options inputs Write = CanRun options inputs
+IsRunFault options inputs Memory = CanRun options inputs

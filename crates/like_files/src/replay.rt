@@ -1,0 +1,56 @@
+ghost use Rattle.std.specs.Prelude.{◌≡◌, ◌≤◌, IfErr, IfOk, MatchResult, OnOk, is_some, length, option_map};
+ghost use Rattle.like_script.specs.Limits.{max_entries};
+ghost use Rattle.like_files.specs.Faults.{IsBeforeOutput};
+ghost use Rattle.like_files.specs.Inputs.{GivesScript, RefusesScript, inputs_of};
+ghost use Rattle.like_files.specs.Replay.{HasReplayed, IsReplayFault};
+
+use crate::fault::DriverFault;
+use crate::plans::read_plans;
+use crate::setup::with_pages;
+use like_replies::write_report;
+use like_requests::read_pages;
+use like_run::{ScriptFault, Turned, read_script, replay};
+use like_words::Options;
+use std::alloc::Global;
+use std::io::{Read, Write};
+
+/// Reads the pages file, the request files in their order and the script file, replays the run that they ask for, and
+/// writes its report. Where there is no script, no turn is taken before the rounds. After `Write` and `Memory` nothing
+/// is said of how much was written.
+pub fn replay_files<R: Read + Drop, W: Write>(
+    alloc: Global,
+    options: &Options,
+    pages: R,
+    requests: Vec<R>,
+    script: Option<R>,
+    out: &mut W,
+) -> Result<(), DriverFault>
+    requires request_names { length requests.items ≡ length options.now.requests.items }
+    requires script_name { is_some script ≡ is_some options.now.script }
+    ensures replayed { let inputs = inputs_of R.remaining pages requests.items script in
+        OnOk result (HasReplayed options.now inputs (W.contents out.old) (W.contents out.new)) }
+    ensures fault { let inputs = inputs_of R.remaining pages requests.items script in
+        IfErr result (IsReplayFault options.now inputs) }
+    ensures untouched { IfErr result (λ fault. IsBeforeOutput fault → out.new ≡ out.old) }
+{
+    let pages = read_pages(alloc, pages)?;
+    let plans = read_plans(alloc, &pages, requests)?;
+    let script = read_turns(alloc, script)?;
+    let setup = with_pages(options, pages);
+    let report = replay(alloc, &setup, plans, &script)?;
+    write_report(alloc, &report, &setup.pages, out)?;
+    Ok(())
+}
+
+// The entries of the script, and none where there is no script.
+fn read_turns<R: Read + Drop>(alloc: Global, script: Option<R>) -> Result<Vec<Turned>, ScriptFault>
+    ensures few { IfOk result (λ entries. length entries.items ≤ max_entries) }
+    ensures given { MatchResult result
+        (λ entries. GivesScript (option_map R.remaining script) entries.items)
+        (RefusesScript (option_map R.remaining script)) }
+{
+    match script {
+        None => Ok(Vec::new(alloc)),
+        Some(reader) => read_script(alloc, reader),
+    }
+}

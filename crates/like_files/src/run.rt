@@ -1,0 +1,42 @@
+ghost use Rattle.std.specs.Prelude.{◌≡◌, IfErr, None, OnOk, length};
+ghost use Rattle.like_files.specs.Faults.{IsBeforeOutput};
+ghost use Rattle.like_files.specs.Inputs.{inputs_of};
+ghost use Rattle.like_files.specs.Run.{HasRun, IsRunFault};
+
+use crate::fault::DriverFault;
+use crate::plans::read_plans_at_once;
+use crate::setup::with_pages;
+use like_replies::write_report;
+use like_requests::read_pages;
+use like_roles::NoGate;
+use like_run::run;
+use like_words::Options;
+use std::alloc::Global;
+use std::io::{Read, Write};
+use std::sync::Wait;
+use std::thread::Threads;
+
+/// Reads the pages file and then the request files, each on a thread where one can be had, makes the run that they ask
+/// for, on threads, and writes its report. The fault of the first file at fault stands. After `Write` and `Memory` nothing is said of how much was written.
+pub fn run_files<T: Threads + Wait + Sync, R: Read + Drop + Send, W: Write>(
+    rt: &T,
+    alloc: Global,
+    options: &Options,
+    pages: R,
+    requests: Vec<R>,
+    out: &mut W,
+) -> Result<(), DriverFault>
+    requires { length requests.items ≡ length options.now.requests.items }
+    ensures run { let inputs = inputs_of R.remaining pages requests.items None in
+        OnOk result (HasRun options.now inputs (W.contents out.old) (W.contents out.new)) }
+    ensures fault { let inputs = inputs_of R.remaining pages requests.items None in
+        IfErr result (IsRunFault options.now inputs) }
+    ensures untouched { IfErr result (λ fault. IsBeforeOutput fault → out.new ≡ out.old) }
+{
+    let pages = read_pages(alloc, pages)?;
+    let plans = read_plans_at_once(rt, alloc, &pages, requests)?;
+    let setup = with_pages(options, pages);
+    let report = run(rt, alloc, &setup, plans, &NoGate)?;
+    write_report(alloc, &report, &setup.pages, out)?;
+    Ok(())
+}

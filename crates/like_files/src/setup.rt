@@ -1,0 +1,18 @@
+ghost use Rattle.std.specs.Prelude.{◌≡◌};
+ghost use Rattle.like_files.specs.Inputs.{setup_of};
+
+use like_requests::{Pages, Setup};
+use like_words::Options;
+
+/// The settings that options ask for with these pages.
+pub fn with_pages(options: &Options, pages: Pages) -> Setup
+    ensures { result ≡ setup_of options.now pages }
+{
+    Setup {
+        workers: options.workers,
+        users: options.users,
+        stash: options.stash,
+        turns: options.turns,
+        pages,
+    }
+}

@@ -1,0 +1,24 @@
+use Rattle.std.proofs.Common.{◌≡◌, ◌∙◌, true, ap, codes}
+use Rattle.std.proofs.lemmas.Result.{IfOk-weaker}
+use Rattle.clap.specs.Simple.{app_of_fields}
+use Rattle.clap.specs.Words.{App, app_of, new_app, with_subcommand}
+use Rattle.like_words.specs.CommandLine.{replay_command, run_command}
+use Rattle.like_words.proofs.Commands.{sub_added}
+use Rattle.like_words.proofs.command.likes_command.Goals as goal
+
+abbrev app0 : App
+app0 = new_app (codes "likes")
+
+abbrev app1 : App
+app1 = record app0 { top = record app0.top { no_binary_name = true; subcommand_required = true; disable_help_subcommand = true } }
+
+pub returns : goal.returns
+returns c =
+    let s0 : app_of c.in_ok-bin_name.field-0 ≡ app0 = ap app_of_fields c.in_ok-bin_name.ensures.0 ∙ c.new.ensures.app in
+    let s1 = ap app_of_fields c.no_binary_name.ensures ∙ ap (λ (a : App). record a { top = record a.top { no_binary_name = true } }) s0 in
+    let s2 = ap app_of_fields c.subcommand_required.ensures ∙ ap (λ (a : App). record a { top = record a.top { subcommand_required = true } }) s1 in
+    let s3 = ap app_of_fields c.disable_help_subcommand.ensures ∙ ap (λ (a : App). record a { top = record a.top { disable_help_subcommand = true } }) s2 in
+    let s4 : app_of c.after_help.result ≡ app1 = ap app_of_fields c.after_help.ensures ∙ (ap app_of_fields c.about.ensures ∙ s3) in
+    let s5 = sub_added c.after_help.result c.in_ok-run.field-0 c.in_ok-subcommand.field-0 run_command app1 c.in_ok-subcommand.ensures c.in_ok-run.ensures.local c.in_ok-run.ensures.shape s4 in
+    IfOk-weaker c.subcommand-2.result _ _
+    (λ x h. sub_added c.in_ok-subcommand.field-0 c.in_ok-replay.field-0 x replay_command (with_subcommand app1 run_command) h c.in_ok-replay.ensures.local c.in_ok-replay.ensures.shape s5) c.subcommand-2.ensures

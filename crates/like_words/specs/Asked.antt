@@ -1,0 +1,94 @@
+-- What words ask for.
+use Rattle.std.specs.Prelude.{◌≡◌, ◌≢◌, ◌≤◌, ◌<◌, ◌⊎◌, ℕ, List, [], length, map, codes, pos, Option, None, Some, option_map, IsSomeAnd, string_bytes, MatchResult, Result, ⊤}
+use Rattle.std.specs.Str.Parse.{IsNumeral, digits_value, without_leading_plus}
+use Rattle.clap.specs.Kinds.{IsAmong}
+use Rattle.clap.specs.Lexer.{without_minus}
+use Rattle.clap.specs.Values.{IsSignedIn}
+use Rattle.clap.specs.Words.{Row, Text, all_of, fault_of, first_of, one_of, subcommand_of}
+use Rattle.clap.specs.declared.error.kind.ErrorKind.{ErrorKind}
+use Rattle.clap.specs.declared.error.kind.ErrorKind.TheVariants.{DisplayHelp}
+use Rattle.like_words.specs.CommandLine.{likes}
+use Rattle.like_words.specs.declared.asked.Asked.{Asked}
+use Rattle.like_words.specs.declared.asked.Asked.TheVariants.{Run, Replay, Help}
+use Rattle.like_words.specs.declared.options.Options.{Options}
+use Rattle.like_words.specs.declared.fault.ParseFault.{ParseFault}
+use Rattle.like_words.specs.declared.fault.ParseFault.TheVariants.{Usage, Memory}
+
+-- a text writes a number: decimal digits, with a plus before them or not
+abbrev pub Writes : Text → ℕ → Type 0
+Writes text n = IsNumeral 10 (without_leading_plus text) × (n ≡ digits_value 10 (without_leading_plus text))
+
+-- an option's value, or its default, writes this number, within the bounds
+abbrev pub IsNumber : List Row → Text → ℕ → ℕ → ℕ → Type 0
+IsNumber rows name least most n = IsSomeAnd (one_of name rows) (λ text. Writes text n) × (least ≤ n) × (n ≤ most)
+
+-- an option has a value that its bounds let through
+abbrev pub HasNumber : List Row → Text → ℕ → ℕ → Type 0
+HasNumber rows name least most =
+    (text : Text) × (one_of name rows ≡ Some (without_minus text)) × IsSignedIn (pos least) (pos most) text
+
+-- clap found what a run and a replay need
+pub record HasAll (rows : List Row) : Type 0 where
+  pub workers : HasNumber rows (codes "workers") 1 16
+  pub users : HasNumber rows (codes "users") 1 1000000
+  pub stash : HasNumber rows (codes "stash") 1 4096
+  pub turns : HasNumber rows (codes "turns") 0 1000000
+  pub pages : (name : Text) × (first_of (codes "pages") rows ≡ Some name)
+  pub requests : (names : List Text) × (all_of (codes "requests") rows ≡ Some names) × (0 < length names)
+
+-- options have the values that clap found for a run or a replay, the script aside
+pub record HasValues (rows : List Row) (o : Options) : Type 0 where
+  pub workers : IsNumber rows (codes "workers") 1 16 o.workers
+  pub users : IsNumber rows (codes "users") 1 1000000 o.users
+  pub stash : IsNumber rows (codes "stash") 1 4096 o.stash
+  pub turns : IsNumber rows (codes "turns") 0 1000000 o.turns
+  pub pages : first_of (codes "pages") rows ≡ Some (string_bytes o.pages)
+  pub requests : all_of (codes "requests") rows ≡ Some (map string_bytes o.requests.items)
+  pub some_requests : 0 < length o.requests.items
+
+-- what was entered is one of the subcommands, with these rows
+abbrev pub IsEntered : Option (Text × List Row) → List Row → Type 0
+IsEntered entered rows = (entered ≡ Some (codes "run", rows)) ⊎ (entered ≡ Some (codes "replay", rows))
+
+-- what was entered gives a run these options
+pub record GivesRun (entered : Option (Text × List Row)) (o : Options) : Type 0 where
+  pub rows : List Row
+  pub matched : entered ≡ Some (codes "run", rows)
+  pub values : HasValues rows o
+  pub script : o.script ≡ None
+
+-- what was entered gives a replay these options
+pub record GivesReplay (entered : Option (Text × List Row)) (o : Options) : Type 0 where
+  pub rows : List Row
+  pub matched : entered ≡ Some (codes "replay", rows)
+  pub values : HasValues rows o
+  pub script : first_of (codes "script") rows ≡ option_map string_bytes o.script
+
+-- what was entered asks for that
+abbrev pub Gives : Option (Text × List Row) → Asked → Type 0
+Gives entered (Run options) = GivesRun entered options
+Gives entered (Replay options) = GivesReplay entered options
+Gives entered (Help text) = ⊥
+
+-- the words after the program's name, each by its bytes
+abbrev pub Words : Type 0
+Words = List Text
+
+-- the words ask for help
+abbrev pub AsksForHelp : Words → Type 0
+AsksForHelp words = IsAmong DisplayHelp (fault_of likes words)
+
+-- what the words ask for: a run or a replay where they have no fault
+abbrev pub Asks : Words → Asked → Type 0
+Asks words (Run options) = (fault_of likes words ≡ []) × GivesRun (subcommand_of likes words) options
+Asks words (Replay options) = (fault_of likes words ≡ []) × GivesReplay (subcommand_of likes words) options
+Asks words (Help text) = AsksForHelp words
+
+-- why the words ask for nothing: they have a fault that is no request for help, or want of memory
+abbrev pub IsParseFault : Words → ParseFault → Type 0
+IsParseFault words (Usage text) = (kind : ErrorKind) × IsAmong kind (fault_of likes words) × (kind ≢ DisplayHelp)
+IsParseFault words Memory = ⊤
+
+-- what words are answered that clap gives no matches
+abbrev pub Refuses : Words → Result Asked ParseFault → Type 0
+Refuses words result = MatchResult result (Asks words) (IsParseFault words)

@@ -1,0 +1,3 @@
+pub mod Asked
+pub mod CommandLine
+pub mod Fault

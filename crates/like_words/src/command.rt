@@ -1,0 +1,121 @@
+ghost use Rattle.std.specs.Prelude.{◌≡◌, IfOk, codes, false, fold};
+ghost use Rattle.clap.specs.Words.{app_of, rule_of, shape_of, with_rule};
+ghost use Rattle.clap.specs.declared.builder.command.Command.TheViews.{out-Command};
+ghost use Rattle.like_words.specs.CommandLine.{likes, number_rule, replay_command, required_list_rule, required_rule, run_command, settings_rules, text_rule};
+
+use crate::help;
+use clap::builder::ValueParser;
+use clap::{Arg, ArgAction, Command};
+use std::alloc::{AllocError, Global};
+
+// An option for a whole number within bounds, with its default.
+fn number_option<'a>(
+    alloc: Global,
+    name: &'a str,
+    value_name: &'a str,
+    default: &'a str,
+    least: u32,
+    most: u32,
+) -> Arg<'a>
+    ensures rule { rule_of result ≡ number_rule name.entry.now default.entry.now least most }
+    ensures local { result.global ≡ false }
+{
+    Arg::new(alloc, name)
+        .long(name)
+        .value_name(value_name)
+        .action(ArgAction::Set)
+        .value_parser(ValueParser::signed(i64::from(least), i64::from(most)))
+        .default_value(default)
+}
+
+// The option for the script file.
+fn script_option<'a>(alloc: Global) -> Arg<'a>
+    ensures rule { rule_of result ≡ text_rule (codes "script") }
+    ensures local { result.global ≡ false }
+{
+    Arg::new(alloc, "script")
+        .long("script")
+        .value_name("FILE")
+        .action(ArgAction::Set)
+        .help(help::SCRIPT)
+}
+
+// The name of the pages file.
+fn pages_argument<'a>(alloc: Global) -> Arg<'a>
+    ensures rule { rule_of result ≡ required_rule (codes "pages") }
+    ensures local { result.global ≡ false }
+{
+    Arg::new(alloc, "pages")
+        .value_name("PAGES")
+        .required(true)
+        .action(ArgAction::Set)
+        .help(help::PAGES)
+}
+
+// The names of the request files.
+fn requests_argument<'a>(alloc: Global) -> Arg<'a>
+    ensures rule { rule_of result ≡ required_list_rule (codes "requests") }
+    ensures local { result.global ≡ false }
+{
+    Arg::new(alloc, "requests")
+        .value_name("REQUESTS")
+        .required(true)
+        .num_args(1..)
+        .action(ArgAction::Append)
+        .help(help::REQUESTS)
+}
+
+// The command with the options of a run's settings.
+fn with_settings<'a>(alloc: Global, command: Command<'a>) -> Result<Command<'a>, AllocError>
+    ensures rules { IfOk result (λ c. app_of c ≡ fold with_rule (app_of command.entry) settings_rules) }
+    ensures local { (out-Command command.entry).has_globals ≡ false
+        → IfOk result (λ c. (out-Command c).has_globals ≡ false) }
+{
+    let workers = number_option(alloc, "workers", "N", "4", 1, 16).help(help::WORKERS);
+    let users = number_option(alloc, "users", "U", "1000", 1, 1_000_000).help(help::USERS);
+    let stash = number_option(alloc, "stash", "C", "256", 1, 4_096).help(help::STASH);
+    let turns = number_option(alloc, "turns", "T", "1000", 0, 1_000_000).help(help::TURNS);
+    command.arg(workers)?.arg(users)?.arg(stash)?.arg(turns)
+}
+
+// The subcommand `run`.
+fn run<'a>(alloc: Global) -> Result<Command<'a>, AllocError>
+    ensures shape { IfOk result (λ c. shape_of c ≡ run_command) }
+    ensures local { IfOk result (λ c. (out-Command c).has_globals ≡ false) }
+{
+    let command = Command::new(alloc, "run")
+        .about(help::RUN)
+        .after_help(help::FILES);
+    with_settings(alloc, command)?
+        .arg(pages_argument(alloc))?
+        .arg(requests_argument(alloc))
+}
+
+// The subcommand `replay`.
+fn replay<'a>(alloc: Global) -> Result<Command<'a>, AllocError>
+    ensures shape { IfOk result (λ c. shape_of c ≡ replay_command) }
+    ensures local { IfOk result (λ c. (out-Command c).has_globals ≡ false) }
+{
+    let command = Command::new(alloc, "replay")
+        .about(help::REPLAY)
+        .after_help(help::FILES);
+    with_settings(alloc, command)?
+        .arg(script_option(alloc))?
+        .arg(pages_argument(alloc))?
+        .arg(requests_argument(alloc))
+}
+
+/// The command line of the program, of which the first word is the first after the program's name.
+pub fn likes_command<'a>(alloc: Global) -> Result<Command<'a>, AllocError>
+    ensures { IfOk result (λ c. app_of c ≡ likes) }
+{
+    Command::new(alloc, "likes")
+        .bin_name("likes")?
+        .no_binary_name(true)
+        .subcommand_required(true)
+        .disable_help_subcommand(true)
+        .about(help::LIKES)
+        .after_help(help::EXAMPLE)
+        .subcommand(run(alloc)?)?
+        .subcommand(replay(alloc)?)
+}

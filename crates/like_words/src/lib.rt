@@ -1,0 +1,17 @@
+//! What the words of the command line ask for.
+#![tactic(auto)]
+
+mod asked;
+mod command;
+mod fault;
+mod help;
+mod matches;
+mod options;
+#[cfg(test)]
+mod tests;
+mod words;
+
+pub use asked::Asked;
+pub use fault::{OUT_OF_MEMORY, ParseFault};
+pub use options::Options;
+pub use words::parse;

@@ -1,0 +1,14 @@
+/// What the command line asks of a run.
+#[derive(Debug, Drop)]
+pub struct Options {
+    pub workers: u32,
+    pub users: u32,
+    pub stash: u32,
+    pub turns: u32,
+    /// The name of the pages file.
+    pub pages: String,
+    /// The names of the request files, by submitter.
+    pub requests: Vec<String>,
+    /// The name of the script file.
+    pub script: Option<String>,
+}
