@@ -136,26 +136,26 @@ pub RefusesPlans-at_once : {R : Type 0} (source_of : R → Option (List ℕ)) (p
     → AllZip (Reads source_of pages) readers answers → IsFirstStop answers fault → RefusesPlans pages (map source_of readers) fault
 RefusesPlans-at_once source_of pages readers answers fault reads first =
     by_answer (slice_get answers first.place) first.stops (AllZip-right (Reads source_of pages) readers answers reads first.place) where
-  sources : List (Option (List ℕ))
-  sources = map source_of readers
+      sources : List (Option (List ℕ))
+      sources = map source_of readers
 
-  before : GivesPlans pages (take first.place sources) (map requests_of first.plans)
-  before =
-      rw (take-map source_of first.place readers)
-      (GivesPlans-at_once source_of pages (take first.place readers) (take first.place answers) first.plans (AllZip-take (Reads source_of pages) first.place readers answers reads) first.before)
+      before : GivesPlans pages (take first.place sources) (map requests_of first.plans)
+      before =
+          rw (take-map source_of first.place readers)
+          (GivesPlans-at_once source_of pages (take first.place readers) (take first.place answers) first.plans (AllZip-take (Reads source_of pages) first.place readers answers reads) first.before)
 
-  by_reader : (o : Option _) (answer : Answer) → slice_get readers first.place ≡ o → Stops answer first.place fault → IsSomeAnd o (λ reader. Reads source_of pages reader answer) → RefusesPlans pages sources fault
-  by_reader None answer at stops reads_it = absurd reads_it
-  by_reader (Some reader) answer at stops reads_it =
-      let source : slice_get sources first.place ≡ Some (source_of reader) = slice_get-map source_of readers first.place ∙ ap (λ o. option_map source_of o) at in
-      let refused : RefusesPlan (source_of reader) stops.why = refused_by source_of pages reader answer stops.why reads_it stops.stood in
-      subst (RefusesPlans pages sources) (sym stops.named)
-      (first.place, refl, record { plans = map requests_of first.plans; before = before; refused = rw source refused })
+      by_reader : (o : Option _) (answer : Answer) → slice_get readers first.place ≡ o → Stops answer first.place fault → IsSomeAnd o (λ reader. Reads source_of pages reader answer) → RefusesPlans pages sources fault
+      by_reader None answer at stops reads_it = absurd reads_it
+      by_reader (Some reader) answer at stops reads_it =
+          let source : slice_get sources first.place ≡ Some (source_of reader) = slice_get-map source_of readers first.place ∙ ap (λ o. option_map source_of o) at in
+          let refused : RefusesPlan (source_of reader) stops.why = refused_by source_of pages reader answer stops.why reads_it stops.stood in
+          subst (RefusesPlans pages sources) (sym stops.named)
+          (first.place, refl, record { plans = map requests_of first.plans; before = before; refused = rw source refused })
 
-  by_answer : (o : Option Answer) → IsSomeAnd o (λ answer. Stops answer first.place fault) → MatchOption o (Unit {0}) (λ answer. IsSomeAnd (slice_get readers first.place) (λ reader. Reads source_of pages reader answer))
-      → RefusesPlans pages sources fault
-  by_answer None stops reads_it = absurd stops
-  by_answer (Some answer) stops reads_it = by_reader (slice_get readers first.place) answer refl stops reads_it
+      by_answer : (o : Option Answer) → IsSomeAnd o (λ answer. Stops answer first.place fault) → MatchOption o (Unit {0}) (λ answer. IsSomeAnd (slice_get readers first.place) (λ reader. Reads source_of pages reader answer))
+          → RefusesPlans pages sources fault
+      by_answer None stops reads_it = absurd stops
+      by_answer (Some answer) stops reads_it = by_reader (slice_get readers first.place) answer refl stops reads_it
 
 -- so the plans of all files are given, or the first fault stands
 pub at_once : {R : Type 0} (source_of : R → Option (List ℕ)) (pages : List Page) (readers : List R) (answers : List Answer) (result : Result (Vec (Vec Request Global) Global) DriverFault)

@@ -78,7 +78,11 @@ fn most_overtaken(phases: &[u32]) -> u32 {
     for pair in phases.chunks(2) {
         if let [look, like] = pair {
             if look > like {
-                looks = if *like == phase { looks.saturating_add(1) } else { 1 };
+                looks = if *like == phase {
+                    looks.saturating_add(1)
+                } else {
+                    1
+                };
                 phase = *like;
                 most = most.max(looks);
             }
