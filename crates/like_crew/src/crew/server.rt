@@ -67,6 +67,13 @@ impl<P: Post, I: Inbox> Server<P, I> {
         })
     }
 
+    /// How many inboxes it has.
+    pub fn inbox_count(&self) -> usize
+        ensures { result ≡ length self.now.inboxes }
+    {
+        self.inboxes.len()
+    }
+
     /// Makes one whole turn of the worker: where it tries a submitter, it is given what that one's inbox has.
     pub fn turn<G: Gate, R>(&mut self, rt: &R, gate: &G) -> Turn
     where

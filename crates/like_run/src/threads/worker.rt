@@ -54,7 +54,8 @@ pub fn serve<'a, R: Wait, G: Gate>(
     Served::Left(log, post.back())
 }
 
-// Makes turns until the worker is gone.
+// Makes turns until the worker is gone. It lets others run where it has to wait, and where it found nothing in as many
+// turns as it has inboxes.
 fn make_turns<R: Wait, G: Gate, P: Post, I: TakeWith<R>>(
     rt: &R,
     gate: &G,
@@ -63,11 +64,17 @@ fn make_turns<R: Wait, G: Gate, P: Post, I: TakeWith<R>>(
     ensures goes_on { ServerGoesOn server.old server.new }
     ensures gone { server.new.worker.post.state ≡ Gone }
 {
+    let round = server.inbox_count();
+    let mut tries = round;
     for _ in rt.forever() {
         match server.turn(rt, gate) {
             Turn::Retired => return,
-            Turn::Waiting | Turn::Idle | Turn::Nothing => yield_now(),
-            _ => {}
+            Turn::Nothing if tries > 1 => tries -= 1,
+            Turn::Waiting | Turn::Idle | Turn::Nothing => {
+                yield_now();
+                tries = round;
+            }
+            _ => tries = round,
         }
     }
     unreachable!()
