@@ -47,6 +47,7 @@ IsPlaced-held post d w p = record {
   few_pages = p.few_pages;
   slice = p.slice;
   standing = p.standing;
+  started = p.started;
 }
 
 ArePlaces-held : (d : Desk) (w : Waiting) → ArePlaces d → ArePlaces (record d { held = w })
@@ -114,6 +115,7 @@ IsSound-taken post d n place s none there some left taken capacity rest =
           few_pages = p.few_pages;
           slice = p.slice;
           standing = p.standing;
+          started = p.started;
         };
         places = record { sized = omega (arith, n.left.ok.0, d.left.ok.0, s.places.sized); submitters = s.places.submitters; cursor = s.places.cursor };
         room = record { taken = omega (arith, s.room.taken); ran = omega (arith, s.room.ran); few = omega (arith, s.room.few) };
@@ -181,6 +183,7 @@ IsSound-last post d t s same = record {
     few_pages = p.few_pages;
     slice = p.slice;
     standing = p.standing;
+    started = p.started;
   };
   places = record { sized = s.places.sized; submitters = λ place h. rw same (s.places.submitters place h); cursor = s.places.cursor };
   room = record { taken = s.room.taken; ran = s.room.ran; few = s.room.few };

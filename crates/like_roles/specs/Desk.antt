@@ -1,5 +1,5 @@
 -- What a worker keeps, beside its post.
-use Rattle.std.specs.Prelude.{◌≡◌, ◌↔◌, IsTrue, ℕ, ◌+◌, ◌<◌, ◌≤◌, Bool, true, false, List, [], length, sum, All, Some, None, replicate, vec_len, vec_capacity}
+use Rattle.std.specs.Prelude.{◌≡◌, ◌↔◌, IsTrue, ℕ, ◌+◌, ◌<◌, ◌≤◌, Bool, true, false, List, [], length, sum, All, Some, None, is_some, replicate, vec_len, vec_capacity}
 use Rattle.like_requests.specs.Verdict.{is_accepted, verdict_of}
 use Rattle.like_requests.specs.declared.verdict.Verdict.{Verdict}
 use Rattle.like_requests.specs.declared.verdict.Verdict.TheVariants.{Accepted}
@@ -61,13 +61,14 @@ pub record IsTried (post : PostView) (d : Desk) (place : ℕ) : Type 0 where
   pub joined : IsJoined d.phase → d.held.held ≡ []
   pub split : IsSplit d.phase → length d.held.held < d.held.capacity
 
--- the numbers of the run and of the worker's post
+-- the numbers of the run and of the worker's post; it has started once the post looked
 pub record IsPlaced (post : PostView) (d : Desk) : Type 0 where
   pub is_worker : d.last.share.worker < d.last.share.workers
   pub marks : post.marks ≡ d.marks.items
   pub few_pages : vec_len d.marks ≤ max_pages
   pub slice : length d.slice ≡ vec_len d.marks
   pub standing : IsStanding post.state d.phase d.gone
+  pub started : d.started ≡ is_some post.last
 
 -- the submitters by place
 pub record ArePlaces (d : Desk) : Type 0 where
@@ -116,6 +117,7 @@ pub record IsNewDesk (s : Setup) (sizes : List ℕ) (worker : ℕ) (d : Desk) : 
   pub marks : d.marks.items ≡ marks_of s.pages
   pub few_pages : length s.pages ≤ max_pages
   pub phase : d.phase ≡ 0
+  pub started : d.started ≡ false
   pub here : d.gone ≡ false
   pub held : d.held ≡ record { held = []; capacity = s.stash }
   pub slice : d.slice ≡ replicate (length s.pages) 0

@@ -46,10 +46,11 @@ impl Desk {
             ≡ saw (view_of (P.view post.old) self.old) result }
     {
         let sight = post.look();
-        if sight.waits || (self.started && sight.number == self.phase) {
+        let started = self.started;
+        self.started = true;
+        if sight.waits || (started && sight.number == self.phase) {
             return sight;
         }
-        self.started = true;
         self.phase = sight.number;
         gate.phase(self.last.worker(), sight.number);
         sight
