@@ -12,4 +12,3 @@ pub mod InOrder
 pub mod Meanings
 pub mod Opens
 pub mod Allowed
-mod FirstAdds

@@ -2,4 +2,3 @@ pub mod Known
 pub mod Rule
 pub mod Plays
 pub mod Seats
-pub mod Walk

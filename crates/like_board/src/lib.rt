@@ -10,8 +10,6 @@ mod key;
 mod making;
 mod plays;
 mod rule;
-#[cfg(test)]
-mod tests;
 mod worker_seat;
 
 pub use board::Board;

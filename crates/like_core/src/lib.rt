@@ -13,8 +13,6 @@ mod post;
 mod pure_core;
 mod shown;
 mod sight;
-#[cfg(test)]
-mod tests;
 mod view;
 mod worker_state;
 

@@ -11,8 +11,6 @@ mod send_end;
 mod send_pass;
 mod take_end;
 mod take_pass;
-#[cfg(test)]
-mod tests;
 
 pub use inbox::{Inbox, TakeWith};
 pub use line::Line;

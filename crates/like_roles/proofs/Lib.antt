@@ -14,5 +14,4 @@ pub mod Shown
 pub mod RightCounts
 pub mod Started
 pub mod Tallied
-pub mod Testing
 pub mod Coordinating

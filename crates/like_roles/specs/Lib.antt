@@ -10,5 +10,4 @@ pub mod Desk
 pub mod Places
 pub mod New
 pub mod Follows
-pub mod Testing
 pub mod CoordTurns

@@ -10,8 +10,6 @@ mod coordinator;
 mod gate;
 mod log;
 mod reply;
-#[cfg(test)]
-mod tests;
 mod turn;
 mod worker;
 

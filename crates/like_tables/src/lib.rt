@@ -13,6 +13,3 @@ pub use held::Held;
 pub use slice::Slice;
 pub use stash::Stash;
 pub use users::Users;
-
-#[cfg(test)]
-mod tests;

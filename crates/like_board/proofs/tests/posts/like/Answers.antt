@@ -1,6 +1,0 @@
-use Rattle.like_board.proofs.FirstAdds.{may_like}
-use Rattle.like_board.proofs.tests.posts.like.Goals as goal
-
-pub add-requires : goal.add-requires
-add-requires g c =
-    may_like (g.P.Post.view c.args.post.now) c.args.page c.requires.fresh.runs c.requires.page c.requires.fresh.added_nothing

@@ -1,0 +1,2 @@
+mod FirstAdds
+mod Playing

@@ -1,0 +1,183 @@
+ghost use Rattle.std.specs.Prelude.{◌≡◌, ◌≤◌, IfOk, length};
+ghost use Rattle.like_requests.specs.Limits.{max_requests};
+
+use super::LIKE;
+use like_queue::{EndRefused, Line, ListInbox, PushRefused, SendEnd, SendPass, TakePass, TakeWith};
+use like_requests::{Numbered, Request, Taken};
+use std::alloc::{AllocError, Global};
+use std::sync::Wait;
+use std::test::Fail;
+use std::thread;
+use std::thread::Threads;
+
+// Pushes the next request, where one is left.
+fn push_next<R: Wait>(rt: &R, end: &mut SendEnd<'_>) -> Option<Result<u32, PushRefused>> {
+    let request = end.next()?;
+    Some(end.push(rt, request))
+}
+
+// Pushes the end mark, where no request is left.
+fn push_end<R: Wait>(rt: &R, end: &mut SendEnd<'_>) -> Option<Result<(), EndRefused>> {
+    match end.next() {
+        Some(_) => None,
+        None => Some(end.end(rt)),
+    }
+}
+
+// What a push of the end mark answers, where no request is left and the line is not full, and then a push.
+fn push_past<R: Wait>(
+    rt: &R,
+    end: &mut SendEnd<'_>,
+    request: Request,
+) -> Option<(Result<(), EndRefused>, Result<u32, PushRefused>)> {
+    if end.next().is_some() {
+        return None;
+    }
+    match end.end(rt) {
+        Err(EndRefused::Full) => None,
+        ended => Some((ended, end.push(rt, request))),
+    }
+}
+
+// Takes from an inbox until its end mark comes, and gives the last number.
+fn last_number<R: Wait, I: TakeWith<R>>(rt: &R, mut inbox: I) -> u32 {
+    let mut last = 0;
+    for _ in rt.forever() {
+        match inbox.take_with(rt) {
+            Taken::Ask(ask) => last = ask.number,
+            Taken::End => return last,
+            Taken::Nothing => thread::yield_now(),
+        }
+    }
+    unreachable!()
+}
+
+// Sends a whole plan.
+fn send_all<R: Wait>(rt: &R, line: &Line, pass: SendPass)
+    requires { pass.line ≡ line.now }
+{
+    let mut end = pass.at(line);
+    for _ in rt.forever() {
+        let sent = match end.next() {
+            Some(request) => end.push(rt, request).is_ok(),
+            None => match end.end(rt) {
+                Err(EndRefused::Full) => false,
+                _ => return,
+            },
+        };
+        if !sent {
+            thread::yield_now();
+        }
+    }
+    unreachable!()
+}
+
+// Takes a whole plan.
+fn take_all<R: Wait>(rt: &R, line: &Line, pass: TakePass) -> u32
+    requires { pass.line ≡ line.now }
+{
+    last_number(rt, pass.at(line))
+}
+
+// Sends a plan from one thread to another.
+fn through<R: Threads + Wait + Sync>(
+    rt: &R,
+    alloc: Global,
+    plan: Vec<Request>,
+) -> Result<u32, AllocError>
+    requires { length plan.items ≤ max_requests }
+{
+    let (line, send, take) = Line::new(alloc, plan)?;
+    let line = &line;
+    let (_, last) = thread::join(
+        rt,
+        move ||
+            requires { send.line ≡ line.now }
+        { send_all(rt, line, send) },
+        move ||
+            requires { take.line ≡ line.now }
+        { take_all(rt, line, take) },
+    );
+    Ok(last)
+}
+
+#[test]
+fn holds_sixty_four(rt: HostRuntime) -> Result<(), Fail> {
+    let (line, send, take) = Line::new(rt.alloc(), Vec::from_elem(rt.alloc(), LIKE, 66)?)?;
+    let (mut send, mut take) = (send.at(&line), take.at(&line));
+    let ask = |number| Taken::Ask(Numbered {
+        number,
+        request: LIKE,
+    });
+    let full = Some(Err(PushRefused::Full(LIKE)));
+    for number in 1..=64 {
+        assert_eq!(rt; push_next(&rt, &mut send), Some(Ok(number)));
+    }
+    assert_eq!(rt; push_next(&rt, &mut send), full);
+    assert_eq!(rt; take.take(&rt), ask(1));
+    assert_eq!(rt; push_next(&rt, &mut send), Some(Ok(65)));
+    assert_eq!(rt; push_next(&rt, &mut send), full);
+    assert_eq!(rt; take.take(&rt), ask(2));
+    assert_eq!(rt; push_next(&rt, &mut send), Some(Ok(66)));
+    assert_eq!(rt; push_end(&rt, &mut send), Some(Err(EndRefused::Full)));
+    assert_eq!(rt; take.take(&rt), ask(3));
+    let past = Err(PushRefused::Ended(LIKE));
+    assert_eq!(rt; push_past(&rt, &mut send, LIKE), Some((Ok(()), past)));
+    assert_eq!(rt; push_end(&rt, &mut send), Some(Err(EndRefused::Ended)));
+    for number in 4..=66 {
+        assert_eq!(rt; take.take(&rt), ask(number));
+    }
+    assert_eq!(rt; take.take(&rt), Taken::End);
+    assert_eq!(rt; take.take(&rt), Taken::End);
+    Ok(())
+}
+
+// A line of one request.
+fn line_of_one(alloc: Global) -> Result<(Line, SendPass, TakePass), AllocError>
+    ensures { IfOk result (λ r. (r.1.line ≡ r.0) × (r.2.line ≡ r.0)) }
+{
+    Line::new(alloc, Vec::from_elem(alloc, LIKE, 1)?)
+}
+
+// Want of memory is told, and the next call is right.
+#[test]
+fn a_refused_growth_is_told(rt: HostRuntime) -> Result<(), Fail> {
+    let mut refused = false;
+    for _ in 0..2 {
+        match line_of_one(rt.alloc()) {
+            Ok((line, send, take)) => {
+                assert_eq!(rt; push_next(&rt, &mut send.at(&line)), Some(Ok(1)));
+                assert!(rt; matches!(take.at(&line).take(&rt), Taken::Ask(_)));
+            }
+            Err(AllocError) => refused = true,
+        }
+    }
+    if refused {
+        return Err(Fail::new("out of memory, and then right"));
+    }
+    Ok(())
+}
+
+#[test]
+fn goes_to_another_thread(rt: HostRuntime) -> Result<(), Fail> {
+    let plan = Vec::from_elem(rt.alloc(), LIKE, 10_000)?;
+    assert_eq!(rt; through(&rt, rt.alloc(), plan)?, 10_000);
+    Ok(())
+}
+
+#[test]
+fn takes_from_a_list_as_from_a_line(rt: HostRuntime) -> Result<(), Fail> {
+    let mut inbox = ListInbox::new(Vec::from_elem(rt.alloc(), LIKE, 3)?);
+    inbox.open_all();
+    assert_eq!(rt; last_number(&rt, inbox), 3);
+    Ok(())
+}
+
+#[test]
+fn takes_a_plan_of_a_million(rt: HostRuntime) -> Result<(), Fail> {
+    let plan = Vec::from_elem(rt.alloc(), LIKE, 1_000_000)?;
+    let (line, sends, _takes) = Line::new(rt.alloc(), plan)?;
+    let end = sends.at(&line);
+    assert_eq!(rt; end.next(), Some(LIKE));
+    Ok(())
+}

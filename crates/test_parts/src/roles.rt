@@ -1,0 +1,340 @@
+//! The turns of the worked examples, of workers and the coordinator at one board.
+mod gates;
+mod play;
+mod player;
+
+use gates::Call::{Phase, Run};
+use gates::{Call, Expecting};
+use like_requests::{Op, PageRef, Request, Setup, check_setup, read_pages};
+use like_roles::{CoordTurn, Ran, Reply, Took, Turn, WorkerLog};
+use play::Step::{Coord, Worker};
+use play::{Play, Step, board_of};
+use std::alloc::Global;
+use std::process::Abort;
+use std::test::Fail;
+
+/// The settings of a run with two users, no counted turns and these pages.
+fn setup_of(alloc: Global, workers: u32, stash: u32, pages: &[u8]) -> Result<Setup, Fail> {
+    Ok(Setup {
+        workers,
+        users: 2,
+        stash,
+        turns: 0,
+        pages: read_pages(alloc, pages)?,
+    })
+}
+
+/// A request of user 0.
+fn ask(op: Op, page: u32) -> Request {
+    Request {
+        op,
+        user: 0,
+        page: PageRef::Known(page),
+    }
+}
+
+/// Submitter 0's request of this number, taken in a phase.
+fn took(phase: u32, number: u32) -> Took {
+    Took {
+        phase,
+        submitter: 0,
+        number,
+    }
+}
+
+/// The same, run in a phase.
+fn ran(phase: u32, number: u32, stashed: bool, reply: Reply) -> Ran {
+    Ran {
+        phase,
+        submitter: 0,
+        number,
+        stashed,
+        reply,
+    }
+}
+
+fn seen(last: Option<u32>, count: u64) -> Reply {
+    Reply::Seen { last, count }
+}
+
+/// The last phase that the coordinator saw, and what the first worker has done, in a run with one submitter: the steps
+/// and then the rounds, with the answer of each, and the calls of the gate.
+fn end_of(
+    rt: &impl Abort,
+    alloc: Global,
+    setup: Setup,
+    plan: Vec<Request>,
+    steps: &[Step],
+    rounds: &[Step],
+    calls: &[Call],
+) -> Result<(u32, WorkerLog), Fail> {
+    let plans = [plan];
+    check_setup(&setup, &plans)?;
+    let (board, coord, seats) = board_of(alloc, &setup)?;
+    let gate = Expecting::new(alloc, calls)?;
+    let mut play = Play::new(alloc, &setup, plans[0].as_slice(), &board, coord, seats)?;
+    play.make(rt, &gate, steps);
+    play.make(rt, &gate, rounds);
+    let end = play.finish(rt, &gate);
+    assert!(rt; gate.is_content());
+    Ok(end)
+}
+
+/// The log says that these requests were taken and run, and that user 0 liked this page last.
+fn expect(rt: &impl Abort, log: &WorkerLog, taken: &[Took], ran: &[Ran], last: Option<u32>) {
+    assert_eq!(rt; log.taken.as_slice(), taken);
+    assert_eq!(rt; log.ran.as_slice(), ran);
+    assert!(rt; log.last.owns(0));
+    assert_eq!(rt; log.last.last(0), last);
+}
+
+/// The steps of `split-and-stash` and `stash-then-like`, whose turns in the first split phase are answered like this.
+fn steps_of(first: Turn, second: Turn) -> [Step; 9] {
+    [
+        Coord(CoordTurn::Announced),
+        Worker(0, Turn::Acknowledged),
+        Coord(CoordTurn::Released),
+        Worker(0, first),
+        Worker(0, second),
+        Coord(CoordTurn::Announced),
+        Worker(0, Turn::Reported),
+        Coord(CoordTurn::Released),
+        Worker(0, Turn::Ran),
+    ]
+}
+
+/// The rounds after phase 2, in which everything was run.
+fn rounds() -> [Step; 9] {
+    [
+        Coord(CoordTurn::Announced),
+        Worker(0, Turn::Acknowledged),
+        Coord(CoordTurn::Released),
+        Worker(0, Turn::TookEnd),
+        Coord(CoordTurn::Announced),
+        Worker(0, Turn::Reported),
+        Coord(CoordTurn::Released),
+        Worker(0, Turn::Retired),
+        Coord(CoordTurn::Ended),
+    ]
+}
+
+/// The calls of the gate in these runs, in which the requests run in this order.
+fn calls_of(first: u32, second: u32) -> [Call; 7] {
+    [
+        Phase(0, 0),
+        Phase(0, 1),
+        Run(0, 0, first),
+        Phase(0, 2),
+        Run(0, 0, second),
+        Phase(0, 3),
+        Phase(0, 4),
+    ]
+}
+
+#[test]
+fn splits_and_stashes(rt: HostRuntime) -> Result<(), Fail> {
+    let setup = setup_of(rt.alloc(), 1, 256, b"name,count,split\na,10,yes\n")?;
+    let plan = vec![in rt.alloc(); ask(Op::Like, 0), ask(Op::Look, 0)]?;
+    let steps = steps_of(Turn::Ran, Turn::Stashed);
+    let (phase, log) = end_of(
+        &rt,
+        rt.alloc(),
+        setup,
+        plan,
+        &steps,
+        &rounds(),
+        &calls_of(1, 2),
+    )?;
+    assert_eq!(rt; phase, 4);
+    let entries = [
+        ran(1, 1, false, Reply::Liked),
+        ran(2, 2, true, seen(Some(0), 11)),
+    ];
+    expect(&rt, &log, &[took(1, 1), took(1, 2)], &entries, Some(0));
+    assert!(rt; log.last.owns(1));
+    assert_eq!(rt; log.last.last(1), None);
+    Ok(())
+}
+
+#[test]
+fn stashes_and_then_likes(rt: HostRuntime) -> Result<(), Fail> {
+    let setup = setup_of(rt.alloc(), 1, 256, b"name,count,split\na,5,yes\nb,0,no\n")?;
+    let plan = vec![in rt.alloc(); ask(Op::Look, 0), ask(Op::Like, 1)]?;
+    let steps = steps_of(Turn::Stashed, Turn::Ran);
+    let (_, log) = end_of(
+        &rt,
+        rt.alloc(),
+        setup,
+        plan,
+        &steps,
+        &rounds(),
+        &calls_of(2, 1),
+    )?;
+    let entries = [
+        ran(1, 2, false, Reply::Liked),
+        ran(2, 1, true, seen(Some(1), 5)),
+    ];
+    expect(&rt, &log, &[took(1, 1), took(1, 2)], &entries, Some(1));
+    Ok(())
+}
+
+#[test]
+fn idles_with_a_full_stash(rt: HostRuntime) -> Result<(), Fail> {
+    let setup = setup_of(rt.alloc(), 1, 1, b"name,count,split\na,0,yes\n")?;
+    let plan = vec![in rt.alloc(); ask(Op::Look, 0), ask(Op::Look, 0)]?;
+    let steps = [
+        Coord(CoordTurn::Announced),
+        Worker(0, Turn::Acknowledged),
+        Coord(CoordTurn::Released),
+        Worker(0, Turn::Stashed),
+        Worker(0, Turn::Idle),
+        Coord(CoordTurn::Announced),
+        Worker(0, Turn::Reported),
+        Coord(CoordTurn::Released),
+        Worker(0, Turn::Ran),
+        Worker(0, Turn::Ran),
+    ];
+    let calls = [
+        Phase(0, 0),
+        Phase(0, 1),
+        Phase(0, 2),
+        Run(0, 0, 1),
+        Run(0, 0, 2),
+        Phase(0, 3),
+        Phase(0, 4),
+    ];
+    let (_, log) = end_of(&rt, rt.alloc(), setup, plan, &steps, &rounds(), &calls)?;
+    let entries = [
+        ran(2, 1, true, seen(None, 0)),
+        ran(2, 2, false, seen(None, 0)),
+    ];
+    expect(&rt, &log, &[took(1, 1), took(2, 2)], &entries, None);
+    Ok(())
+}
+
+#[test]
+fn runs_unsplit_pages_in_a_split_phase(rt: HostRuntime) -> Result<(), Fail> {
+    let setup = setup_of(rt.alloc(), 1, 256, b"name,count,split\na,7,no\n")?;
+    let plan = vec![in rt.alloc(); ask(Op::Like, 0), ask(Op::Look, 0)]?;
+    let steps = [
+        Coord(CoordTurn::Announced),
+        Worker(0, Turn::Acknowledged),
+        Coord(CoordTurn::Released),
+        Worker(0, Turn::Ran),
+        Worker(0, Turn::Ran),
+        Coord(CoordTurn::Announced),
+        Worker(0, Turn::Reported),
+        Coord(CoordTurn::Released),
+        Worker(0, Turn::TookEnd),
+        Coord(CoordTurn::Announced),
+        Worker(0, Turn::Retired),
+        Coord(CoordTurn::Ended),
+    ];
+    let calls = [
+        Phase(0, 0),
+        Phase(0, 1),
+        Run(0, 0, 1),
+        Run(0, 0, 2),
+        Phase(0, 2),
+    ];
+    let (phase, log) = end_of(&rt, rt.alloc(), setup, plan, &steps, &[], &calls)?;
+    assert_eq!(rt; phase, 2);
+    let entries = [
+        ran(1, 1, false, Reply::Liked),
+        ran(1, 2, false, seen(Some(0), 8)),
+    ];
+    expect(&rt, &log, &[took(1, 1), took(1, 2)], &entries, Some(0));
+    Ok(())
+}
+
+/// The steps of `idle-workers`.
+fn steps_of_idle_workers() -> [Step; 15] {
+    [
+        Coord(CoordTurn::Announced),
+        Worker(0, Turn::Acknowledged),
+        Worker(1, Turn::Retired),
+        Worker(2, Turn::Retired),
+        Worker(3, Turn::Retired),
+        Coord(CoordTurn::Released),
+        Worker(0, Turn::Ran),
+        Worker(1, Turn::Retired),
+        Coord(CoordTurn::Announced),
+        Worker(0, Turn::Reported),
+        Coord(CoordTurn::Released),
+        Worker(0, Turn::TookEnd),
+        Coord(CoordTurn::Announced),
+        Worker(0, Turn::Retired),
+        Coord(CoordTurn::Ended),
+    ]
+}
+
+/// The calls of the gate in that run.
+fn calls_of_idle_workers() -> [Call; 7] {
+    [
+        Phase(0, 0),
+        Phase(1, 0),
+        Phase(2, 0),
+        Phase(3, 0),
+        Phase(0, 1),
+        Run(0, 0, 1),
+        Phase(0, 2),
+    ]
+}
+
+#[test]
+fn runs_beside_idle_workers(rt: HostRuntime) -> Result<(), Fail> {
+    let setup = setup_of(rt.alloc(), 4, 256, b"name,count,split\na,0,yes\n")?;
+    let plan = vec![in rt.alloc(); ask(Op::Like, 0)]?;
+    let (phase, log) = end_of(
+        &rt,
+        rt.alloc(),
+        setup,
+        plan,
+        &steps_of_idle_workers(),
+        &[],
+        &calls_of_idle_workers(),
+    )?;
+    assert_eq!(rt; phase, 2);
+    let entries = [ran(1, 1, false, Reply::Liked)];
+    expect(&rt, &log, &[took(1, 1)], &entries, Some(0));
+    Ok(())
+}
+
+/// The steps of a run in which one turn is counted in each phase.
+fn steps_of_counted_turns() -> [Step; 14] {
+    [
+        Coord(CoordTurn::Counted),
+        Coord(CoordTurn::Announced),
+        Coord(CoordTurn::Waiting),
+        Worker(0, Turn::Acknowledged),
+        Worker(0, Turn::Waiting),
+        Coord(CoordTurn::Released),
+        Worker(0, Turn::Ran),
+        Coord(CoordTurn::Counted),
+        Coord(CoordTurn::Announced),
+        Worker(0, Turn::Reported),
+        Coord(CoordTurn::Released),
+        Worker(0, Turn::TookEnd),
+        Worker(0, Turn::Retired),
+        Coord(CoordTurn::Ended),
+    ]
+}
+
+#[test]
+fn counts_turns_in_each_phase(rt: HostRuntime) -> Result<(), Fail> {
+    let mut setup = setup_of(rt.alloc(), 1, 256, b"name,count,split\na,0,yes\n")?;
+    setup.turns = 1;
+    let plan = vec![in rt.alloc(); ask(Op::Like, 0)]?;
+    let calls = [Phase(0, 0), Phase(0, 1), Run(0, 0, 1), Phase(0, 2)];
+    let (phase, _) = end_of(
+        &rt,
+        rt.alloc(),
+        setup,
+        plan,
+        &steps_of_counted_turns(),
+        &[],
+        &calls,
+    )?;
+    assert_eq!(rt; phase, 2);
+    Ok(())
+}

@@ -1,0 +1,130 @@
+ghost use Rattle.std.specs.Prelude.{◌≡◌, ◌≤◌, [], ◌∷◌, IfOk, length};
+ghost use Rattle.like_requests.specs.Limits.{max_workers};
+ghost use Rattle.like_requests.specs.Setup.{IsWithinLimits};
+ghost use Rattle.like_board.specs.Seats.{board_id, coord_board};
+ghost use Rattle.like_roles.specs.New.{AreNewSeats};
+
+use super::gates::Expecting;
+use super::player::Player;
+use like_board::{Board, CoordSeat, WorkerSeat};
+use like_requests::{Request, Setup};
+use like_roles::{CoordTurn, Coordinator, Turn, WorkerLog};
+use std::alloc::{AllocError, Global};
+use std::process::Abort;
+use std::test::Fail;
+
+/// A step of a script, with its answer.
+#[derive(Clone, Copy, Debug)]
+pub enum Step {
+    /// A turn of the coordinator.
+    Coord(CoordTurn),
+    /// A turn of this worker.
+    Worker(u32, Turn),
+}
+
+/// Workers and the coordinator at one board, on one thread.
+#[derive(Drop)]
+pub struct Play<'a> {
+    board: &'a Board,
+    coordinator: Coordinator,
+    players: Vec<Player<'a>>,
+    ghost here: { coordinator.board ≡ board_id board.now },
+}
+
+/// The board of some settings, with the coordinator's seat and each worker's.
+pub fn board_of(
+    alloc: Global,
+    setup: &Setup,
+) -> Result<(Board, CoordSeat, Vec<WorkerSeat>), AllocError>
+    requires some { 1 ≤ setup.now.workers }
+    requires few { setup.now.workers ≤ max_workers }
+    ensures coord { IfOk result (λ r. coord_board r.1 ≡ board_id r.0) }
+    ensures seats { IfOk result (λ r. AreNewSeats (board_id r.0) setup.now.pages r.2.items) }
+    ensures len { IfOk result (λ r. length r.2.items ≡ setup.now.workers) }
+{
+    let counts = setup.pages.counts(alloc)?;
+    let marks = setup.pages.marks(alloc)?;
+    Board::new(alloc, setup.workers, counts.as_slice(), marks.as_slice())
+}
+
+/// The workers of a run with one submitter, in order.
+fn players_of<'a>(
+    alloc: Global,
+    setup: &Setup,
+    plan: &'a [Request],
+    board: &'a Board,
+    mut seats: Vec<WorkerSeat>,
+) -> Result<Vec<Player<'a>>, Fail>
+    requires within { IsWithinLimits setup.now (plan.now ∷ []) }
+    requires seats { AreNewSeats (board_id board.now) setup.now.pages seats.items }
+    requires len { length seats.items ≤ setup.now.workers }
+{
+    let mut players = Vec::new(alloc);
+    while let Some(seat) = seats.pop() {
+        let number = seats.len() as u32;
+        players.push(Player::new(alloc, setup, plan, number, seat.at(board))?)?;
+    }
+    players.reverse();
+    Ok(players)
+}
+
+impl<'a> Play<'a> {
+    /// The start of a run with one submitter.
+    pub fn new(
+        alloc: Global,
+        setup: &Setup,
+        plan: &'a [Request],
+        board: &'a Board,
+        coord: CoordSeat,
+        seats: Vec<WorkerSeat>,
+    ) -> Result<Play<'a>, Fail>
+        requires within { IsWithinLimits setup.now (plan.now ∷ []) }
+        requires coord { coord_board coord ≡ board_id board.now }
+        requires seats { AreNewSeats (board_id board.now) setup.now.pages seats.items }
+        requires len { length seats.items ≤ setup.now.workers }
+    {
+        Ok(Play {
+            board,
+            coordinator: Coordinator::new(coord, setup.turns),
+            players: players_of(alloc, setup, plan, board, seats)?,
+        })
+    }
+
+    /// Makes the steps, and asserts that they are answered as they say.
+    pub fn make(&mut self, rt: &impl Abort, gate: &Expecting, steps: &[Step]) {
+        for step in steps {
+            match *step {
+                Step::Coord(expected) => {
+                    let answer = self.coordinator.turn(self.board);
+                    assert_eq!(rt; answer, expected);
+                }
+                Step::Worker(worker, expected) => {
+                    let answer = self.worker_turn(rt, gate, worker as usize);
+                    assert_eq!(rt; answer, expected);
+                }
+            }
+        }
+    }
+
+    // A turn of a worker.
+    fn worker_turn(&mut self, rt: &impl Abort, gate: &Expecting, worker: usize) -> Turn {
+        match self.players.get_mut(worker) {
+            Some(player) => player.turn(gate),
+            None => panic!(rt; "no worker {worker}"),
+        }
+    }
+
+    /// The phase that the coordinator saw last, and what the first worker has done, which is gone.
+    pub fn finish(self, rt: &impl Abort, gate: &Expecting) -> (u32, WorkerLog) {
+        let Play {
+            coordinator,
+            mut players,
+            ..
+        } = self;
+        let phase = coordinator.phase();
+        let _seat = coordinator.finish();
+        players.truncate(1);
+        let first = players.pop().expect(rt, "a worker is there");
+        (phase, first.finish(rt, gate))
+    }
+}

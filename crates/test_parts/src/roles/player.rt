@@ -1,0 +1,94 @@
+ghost use Rattle.std.specs.Prelude.{◌≡◌, ◌<◌, ◌≤◌, [], ◌∷◌, length};
+ghost use Rattle.like_requests.specs.Limits.{max_requests};
+ghost use Rattle.like_requests.specs.Setup.{IsWithinLimits};
+ghost use Rattle.like_board.specs.Seats.{post_meaning};
+ghost use Rattle.like_roles.specs.New.{IsPostOf};
+ghost use Rattle.test_parts.specs.Playing.{IsGiven};
+
+use super::gates::Expecting;
+use like_board::BoardPost;
+use like_requests::{Numbered, Request, Setup, Taken};
+use like_roles::{Turn, Worker, WorkerLog};
+use std::alloc::Global;
+use std::marker::Model;
+use std::process::Abort;
+use std::test::Fail;
+
+/// A worker of a run with one submitter. It is given the next request of the plan each time, and then the end mark.
+#[derive(Drop)]
+pub struct Player<'a> {
+    worker: Worker<BoardPost<'a>>,
+    plan: &'a [Request],
+    /// How many requests were taken.
+    next: usize,
+}
+
+impl<'a> Model for Player<'a> {
+    ghost use Rattle.test_parts.specs.Playing.{IsPlaying};
+    ghost use Rattle.like_roles.specs.WorkerView.{WorkerView};
+
+    ghost Value = { WorkerView };
+
+    ghost view = { λ p. p.worker };
+
+    ghost invariant = { λ p. IsPlaying p.plan.now p.next p.worker };
+}
+
+/// What is there for a worker that takes: the next request of the plan, and after the last one the end mark.
+fn next_of(plan: &[Request], next: &mut usize) -> Taken
+    requires { length plan.now ≤ max_requests }
+    ensures { IsGiven plan.now next.old result next.new }
+{
+    let Some(request) = plan.get(*next) else {
+        return Taken::End;
+    };
+    *next += 1;
+    Taken::Ask(Numbered {
+        number: *next as u32,
+        request: *request,
+    })
+}
+
+impl<'a> Player<'a> {
+    /// The worker with this number, at its post.
+    pub fn new(
+        alloc: Global,
+        setup: &Setup,
+        plan: &'a [Request],
+        number: u32,
+        post: BoardPost<'a>,
+    ) -> Result<Player<'a>, Fail>
+        requires within { IsWithinLimits setup.now (plan.now ∷ []) }
+        requires is_worker { number < setup.now.workers }
+        requires post { IsPostOf number setup.now.pages (post_meaning post) }
+    {
+        match Worker::new(alloc, setup, &[plan.len() as u32], number, post) {
+            Ok(worker) => Ok(Player {
+                worker,
+                plan,
+                next: 0,
+            }),
+            Err(_) => Err("no memory for a worker".into()),
+        }
+    }
+
+    /// Makes the worker's next turn, with the take where it tries its submitter.
+    pub fn turn(&mut self, gate: &Expecting) -> Turn {
+        match self.worker.turn(gate) {
+            Turn::Try { .. } => {
+                let taken = next_of(self.plan, &mut self.next);
+                self.worker.give(gate, taken)
+            }
+            answer => answer,
+        }
+    }
+
+    /// What the worker has done, which is gone.
+    pub fn finish(self, rt: &impl Abort, gate: &Expecting) -> WorkerLog {
+        let Player { mut worker, .. } = self;
+        let again = worker.turn(gate);
+        assert!(rt; again == Turn::Retired);
+        let (log, _) = worker.finish();
+        log
+    }
+}
