@@ -28,17 +28,26 @@ opening-acts v sight answer w (turns.announces g e l n a x) = ap (λ (y : Coordi
 opening-acts v sight answer w (turns.releases g e i a x) = ap (λ (y : CoordinatorView). y.seat.opening) x
 opening-acts v sight answer w (turns.waits g e i a x) = ap (λ (y : CoordinatorView). y.seat.opening) x
 
+turns-acts : (v : CoordinatorView) (sight : CoordSight) (answer : CoordTurn) (w : CoordinatorView) → Acts v sight answer w → w.turns ≡ v.turns
+turns-acts v sight answer w (turns.ends g a x) = ap (λ (y : CoordinatorView). y.turns) x
+turns-acts v sight answer w (turns.counts g e l a x) = ap (λ (y : CoordinatorView). y.turns) x
+turns-acts v sight answer w (turns.stays g e l n a x) = ap (λ (y : CoordinatorView). y.turns) x
+turns-acts v sight answer w (turns.announces g e l n a x) = ap (λ (y : CoordinatorView). y.turns) x
+turns-acts v sight answer w (turns.releases g e i a x) = ap (λ (y : CoordinatorView). y.turns) x
+turns-acts v sight answer w (turns.waits g e i a x) = ap (λ (y : CoordinatorView). y.turns) x
+
 pub lead-goes-on : (v : CoordinatorView) (answer : CoordTurn) (w : CoordinatorView) → CoordTurns v answer w → LeadGoesOn v w
 lead-goes-on v answer w t = record {
   board = board-acts (surveyed v t.word t.sight) t.sight answer w t.acts;
   opening = opening-acts (surveyed v t.word t.sight) t.sight answer w t.acts;
+  turns = turns-acts (surveyed v t.word t.sight) t.sight answer w t.acts;
 }
 
 pub lead-same : (v : CoordinatorView) → LeadGoesOn v v
-lead-same v = record { board = refl; opening = refl }
+lead-same v = record { board = refl; opening = refl; turns = refl }
 
 pub lead-further : (u v w : CoordinatorView) → LeadGoesOn u v → LeadGoesOn v w → LeadGoesOn u w
-lead-further u v w a b = record { board = b.board ∙ a.board; opening = b.opening ∙ a.opening }
+lead-further u v w a b = record { board = b.board ∙ a.board; opening = b.opening ∙ a.opening; turns = b.turns ∙ a.turns }
 
 -- the crew
 pub crew-same : {I : Type 0} (c : Crew I) → GoesOn c c

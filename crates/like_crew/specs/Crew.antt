@@ -14,10 +14,11 @@ use Rattle.like_crew.specs.Server.{ServerGoesOn, ServerView}
 use Rattle.like_crew.specs.Servers.{AreServers}
 use Rattle.like_crew.specs.Site.{opening_of}
 
--- the same coordinator, later: of the same board, which opened in the same way
+-- the same coordinator, later: of the same board, which opened in the same way, with as many turns in each phase
 pub record LeadGoesOn (v w : CoordinatorView) : Type 0 where
   pub board : w.board ≡ v.board
   pub opening : w.seat.opening ≡ v.seat.opening
+  pub turns : w.turns ≡ v.turns
 
 -- the same crew, later
 pub record GoesOn {I : Type 0} (c d : Crew I) : Type 0 where
@@ -28,6 +29,7 @@ pub record GoesOn {I : Type 0} (c d : Crew I) : Type 0 where
 pub record IsCrew {I : Type 0} (setup : Setup) (plans : List (List Request)) (site : Site) (c : Crew I) : Type 0 where
   pub board : c.lead.board ≡ board_id site.board
   pub opening : c.lead.seat.opening ≡ opening_of setup
+  pub turns : c.lead.turns ≡ setup.turns
   pub servers : AreServers (service_of setup plans) setup.workers (board_numbers (board_id site.board)) c.servers.items
 
 -- among these servers a submitter has an inbox: that of its worker has it

@@ -33,6 +33,7 @@ impl<'a> Lead<'a> {
         requires new { (coord_view seat).phase ≡ 0 }
         ensures board { result.board ≡ board_id board.now }
         ensures seat { result.seat ≡ coord_view seat }
+        ensures turns { result.turns ≡ turns }
     {
         Lead {
             board,
