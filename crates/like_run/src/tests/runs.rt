@@ -64,6 +64,21 @@ fn runs_many_submitters(rt: HostRuntime) {
     }
 }
 
+// Submitter 0 has two requests, submitter 1 three.
+#[test]
+fn tells_the_gate_who_pushes(rt: HostRuntime) {
+    let case = Case {
+        requests: &["like,0,a\nlike,0,a\n", "like,1,a\nlike,1,a\nlike,1,a\n"],
+        ..ONE_PAGE
+    };
+    let setup = case.setup(&rt, rt.alloc());
+    let plans = case.plans(&rt, rt.alloc(), &setup);
+    let gate = Watch::new(Held::Nobody, 0);
+    let report = run(&rt, rt.alloc(), &setup, plans, &gate).expect(&rt, "a report");
+    assert_eq!(rt; report.counts.as_slice(), [5].as_slice());
+    assert_eq!(rt; gate.sums(), (1 + 2, 1 + 2 + 3));
+}
+
 // Asserts that a run with a gate that holds calls ends with two likes, that both calls were made, and that none waited
 // in vain.
 fn assert_held(

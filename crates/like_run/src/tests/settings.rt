@@ -13,12 +13,14 @@ use std::thread::Threads;
 // The most runs that a test makes.
 const RUNS: u32 = 50;
 
-// Makes a run of two likes with so many turns, whose second one waits for phase 2, for so many looks at most.
-fn run_with_turns(
+// Makes a run of so many likes of each submitter, with one worker and so many turns, and gives its gate back.
+fn watched(
     rt: &(impl Abort + Threads + Wait + Sync),
     alloc: Global,
     turns: u32,
-    looks: u32,
+    submitters: u32,
+    each: u32,
+    gate: Watch,
 ) -> Watch {
     let case = Case {
         workers: 1,
@@ -26,28 +28,31 @@ fn run_with_turns(
         ..ONE_PAGE
     };
     let setup = case.setup(rt, alloc);
-    let gate = Watch::new(Held::SecondRequest, looks);
-    let plans = likes(rt, alloc, 1, 2);
+    let plans = likes(rt, alloc, submitters, each);
     let report = run(rt, alloc, &setup, plans, &gate).expect(rt, "a report");
     assert_eq!(rt; report.phases.saturating_add(1), gate.phases());
     gate
 }
 
-// A coordinator that counts 1,000 turns makes 2,000 before phase 2, while the submitter looks about as often.
+// 16 submitters look until phase 400, and let others run after each look, as the coordinator does after each turn. So on
+// any machine one of them at least looks as often as it makes turns, or nearly: in phases of 1,000 turns each of them has
+// given up long before, loaded or not, and in phases of none no one has, save in a run now and then.
 #[test]
 fn comes_soon_to_phases_of_no_turns(rt: HostRuntime) {
-    for _ in 0..RUNS {
-        if !run_with_turns(&rt, rt.alloc(), 0, 500).gave_up() {
+    for _ in 0..10 {
+        let gate = Watch::new(Held::FirstRequests(400), 50_000);
+        if !watched(&rt, rt.alloc(), 0, 16, 1, gate).gave_up() {
             return;
         }
     }
-    panic!(rt; "phase 2 was late in each run");
+    panic!(rt; "phase 400 was late in each run");
 }
 
 #[test]
 fn stays_in_a_phase_of_many_turns(rt: HostRuntime) {
     for _ in 0..RUNS {
-        let gate = run_with_turns(&rt, rt.alloc(), 1_000_000, 20_000);
+        let gate = Watch::new(Held::SecondRequest, 20_000);
+        let gate = watched(&rt, rt.alloc(), 1_000_000, 1, 2, gate);
         if gate.gave_up() && gate.phases() == 1 {
             return;
         }
@@ -81,7 +86,7 @@ fn fill_stash(rt: &(impl Abort + Threads + Wait + Sync), alloc: Global, stash: u
         ..ONE_PAGE
     };
     let setup = case.setup(rt, alloc);
-    let gate = Watch::new(Held::FirstRequest, 1 << 24);
+    let gate = Watch::new(Held::FirstRequests(1), 1 << 24);
     let plans = requests(rt, alloc, Op::Look, 1, 200);
     let report = run(rt, alloc, &setup, plans, &gate).expect(rt, "a report");
     assert!(rt; !gate.gave_up());

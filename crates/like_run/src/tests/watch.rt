@@ -11,8 +11,8 @@ pub enum Held {
     Workers,
     /// Each of two submitters at its first request, for the other.
     Submitters,
-    /// A submitter's first request, for phase 1.
-    FirstRequest,
+    /// The first request of each submitter, for this phase.
+    FirstRequests(u32),
     /// A submitter's second request, for phase 2.
     SecondRequest,
 }
@@ -26,6 +26,8 @@ pub struct Watch {
     made: AtomicU32,
     given_up: AtomicU32,
     pushed: AtomicU32,
+    // The sums of the numbers that submitters 0 and 1 pushed.
+    sums: [AtomicU32; 2],
     ran: AtomicU32,
     // One more than the greatest phase that a worker entered.
     entered: AtomicU32,
@@ -39,6 +41,7 @@ impl Watch {
             made: AtomicU32::new(0),
             given_up: AtomicU32::new(0),
             pushed: AtomicU32::new(0),
+            sums: [AtomicU32::new(0), AtomicU32::new(0)],
             ran: AtomicU32::new(0),
             entered: AtomicU32::new(0),
         }
@@ -49,6 +52,14 @@ impl Watch {
         (
             self.pushed.load(Ordering::SeqCst),
             self.ran.load(Ordering::SeqCst),
+        )
+    }
+
+    /// The sums of the numbers of the requests that submitters 0 and 1 pushed.
+    pub fn sums(&self) -> (u32, u32) {
+        (
+            self.sums[0].load(Ordering::SeqCst),
+            self.sums[1].load(Ordering::SeqCst),
         )
     }
 
@@ -84,14 +95,17 @@ impl Watch {
 }
 
 impl Gate for Watch {
-    fn push(&self, _s: u32, n: u32) {
+    fn push(&self, s: u32, n: u32) {
         self.pushed.fetch_add(1, Ordering::SeqCst);
+        if let Some(sum) = self.sums.get(s as usize) {
+            sum.fetch_add(n, Ordering::SeqCst);
+        }
         match (self.held, n) {
             (Held::Submitters, 1) => {
                 self.note();
                 self.wait(2);
             }
-            (Held::FirstRequest, 1) => self.wait(1),
+            (Held::FirstRequests(_), 1) => self.wait(1),
             (Held::SecondRequest, 2) => {
                 self.wait(1);
                 self.note();
@@ -112,7 +126,8 @@ impl Gate for Watch {
                 self.note();
                 self.wait(2);
             }
-            (Held::FirstRequest, 1) | (Held::SecondRequest, 2) => self.note(),
+            (Held::FirstRequests(phase), k) if phase == k => self.note(),
+            (Held::SecondRequest, 2) => self.note(),
             _ => {}
         }
     }
