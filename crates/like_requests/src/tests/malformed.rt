@@ -31,6 +31,28 @@ fn a_prefix_of_a_pages_file(rt: HostRuntime) {
     }
 }
 
+// The fault of a requests file that ends after so many bytes of `op,user,page`, LF, `like,0,a`, LF.
+fn fault_of_requests_prefix(length: usize) -> Option<RequestsFault> {
+    match length {
+        0..=11 => Some(RequestsFault::Header),
+        14..=19 => Some(RequestsFault::Fields { row: 1 }),
+        _ => None,
+    }
+}
+
+#[test]
+fn a_prefix_of_a_requests_file(rt: HostRuntime) {
+    let pages = one_page(&rt, rt.alloc());
+    let text = b"op,user,page\nlike,0,a\n";
+    for length in 0..text.len() + 1 {
+        assert_eq!(rt;
+            read_requests(rt.alloc(), &text[..length], &pages).err(),
+            fault_of_requests_prefix(length),
+            "at {length}"
+        );
+    }
+}
+
 #[test]
 fn a_read_that_fails(rt: HostRuntime) {
     let alloc = rt.alloc();
@@ -58,6 +80,25 @@ fn a_byte_that_is_changed(rt: HostRuntime) {
             text[place] = byte;
             let whole = read_pages(alloc, text.as_slice()).err();
             let bytewise = read_pages(alloc, Trickle::new(text.as_slice(), 1_000)).err();
+            assert_eq!(rt; bytewise, whole, "at {place}: {byte}");
+            assert!(rt; byte != good || whole.is_none());
+        }
+        text[place] = good;
+    }
+}
+
+#[test]
+fn a_byte_that_is_changed_in_requests(rt: HostRuntime) {
+    let alloc = rt.alloc();
+    let pages = one_page(&rt, alloc);
+    let mut text = *b"op,user,page\nlike,0,\"a\"\n";
+    for place in 0..text.len() {
+        let good = text[place];
+        for byte in 0..=255 {
+            text[place] = byte;
+            let whole = read_requests(alloc, text.as_slice(), &pages).err();
+            let slow = Trickle::new(text.as_slice(), 1_000);
+            let bytewise = read_requests(alloc, slow, &pages).err();
             assert_eq!(rt; bytewise, whole, "at {place}: {byte}");
             assert!(rt; byte != good || whole.is_none());
         }

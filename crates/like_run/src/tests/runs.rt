@@ -135,8 +135,7 @@ fn starts_no_more_than_it_may(rt: HostRuntime) {
                 assert_liked(&rt, &report, 2, 1, 2, 2);
             }
             Err(fault) => {
-                assert!(rt; starts < 4);
-                assert_eq!(rt; fault, RunFault::Start);
+                assert_eq!(rt; (fault, starts < 4), (RunFault::Start, true));
                 assert_eq!(rt; gate.calls(), (0, 0));
                 assert_eq!(rt; gate.phases(), 0);
             }

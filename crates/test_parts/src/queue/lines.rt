@@ -80,25 +80,29 @@ fn take_all<R: Wait>(rt: &R, line: &Line, pass: TakePass) -> u32
 }
 
 // Sends a plan from one thread to another.
-fn through<R: Threads + Wait + Sync>(
-    rt: &R,
-    alloc: Global,
-    plan: Vec<Request>,
-) -> Result<u32, AllocError>
+fn through<R: Threads + Wait + Sync>(rt: &R, alloc: Global, plan: Vec<Request>) -> Result<u32, Fail>
     requires { length plan.items ≤ max_requests }
 {
     let (line, send, take) = Line::new(alloc, plan)?;
     let line = &line;
-    let (_, last) = thread::join(
+    thread::scope(
+        thread::scope_env(),
         rt,
-        move ||
-            requires { send.line ≡ line.now }
-        { send_all(rt, line, send) },
-        move ||
-            requires { take.line ≡ line.now }
-        { take_all(rt, line, take) },
-    );
-    Ok(last)
+        move |scope| -> Result<u32, Fail>
+            requires sends { send.line ≡ line.now }
+            requires takes { take.line ≡ line.now }
+        {
+            let sender = scope.spawn(
+                move ||
+                    requires { send.line ≡ line.now }
+                { send_all(rt, line, send) },
+            );
+            match sender {
+                Ok(_) => Ok(take_all(rt, line, take)),
+                Err(_) => Err(Fail::new("out of memory, or no thread")),
+            }
+        },
+    )
 }
 
 #[test]
