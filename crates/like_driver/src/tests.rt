@@ -1,4 +1,3 @@
-mod devices;
 mod examples;
 mod faults;
 mod program;

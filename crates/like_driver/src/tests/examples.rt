@@ -53,13 +53,23 @@ const LONE: Case = Case {
 const LOOK_AND_MERGE: &str = "turn,index\nopen,0\nopen,0\ncoordinator,0\nworker,0\ncoordinator,0\n\
     worker,0\nworker,0\ncoordinator,0\nworker,0\ncoordinator,0\nworker,0\n";
 
-// The bytes of texts.
-fn bytes(alloc: Global, texts: &'static [&'static str]) -> Result<Vec<&'static [u8]>, AllocError>
+// The first bytes of a text, up to so many.
+fn cut(text: &'static str, most: usize) -> &'static [u8] {
+    let bytes = text.as_bytes();
+    bytes.get(..most).unwrap_or(bytes)
+}
+
+// The first bytes of texts, up to so many of each.
+fn bytes(
+    alloc: Global,
+    texts: &'static [&'static str],
+    most: usize,
+) -> Result<Vec<&'static [u8]>, AllocError>
     ensures { IfOk result (λ files. length files.items ≡ length texts.now) }
 {
     let mut files = Vec::new(alloc);
     for text in texts {
-        files.push(text.as_bytes())?;
+        files.push(cut(text, most))?;
     }
     Ok(files)
 }
@@ -81,24 +91,93 @@ fn options_of(alloc: Global, case: Case) -> Result<Options, AllocError>
     Ok(options)
 }
 
+// How many bytes the files of a replay have at most.
+#[derive(Clone, Copy)]
+struct Cuts {
+    pages: usize,
+    requests: usize,
+    script: usize,
+}
+
+const WHOLE: Cuts = Cuts {
+    pages: usize::MAX,
+    requests: usize::MAX,
+    script: usize::MAX,
+};
+
 // What a replay writes.
-fn replayed(alloc: Global, case: Case) -> Result<Vec<u8>, DriverFault> {
+fn replayed(alloc: Global, case: Case, cuts: Cuts) -> Result<Vec<u8>, DriverFault> {
     let memory = |_| DriverFault::Memory;
     let options = options_of(alloc, case).map_err(memory)?;
-    let files = bytes(alloc, case.requests).map_err(memory)?;
+    let files = bytes(alloc, case.requests, cuts.requests).map_err(memory)?;
     let script = match case.script {
         None => None,
-        Some(text) => Some(text.as_bytes()),
+        Some(text) => Some(cut(text, cuts.script)),
     };
     let mut out = Vec::new(alloc);
-    let pages = case.pages.as_bytes();
+    let pages = cut(case.pages, cuts.pages);
     replay_files(alloc, &options, pages, files, script, &mut out)?;
     Ok(out)
 }
 
-// Asserts that a replay writes the header row and these.
+// The bytes of the longest file of a case.
+fn longest(case: Case) -> usize {
+    let mut most = case.pages.len();
+    if let Some(text) = case.script {
+        most = most.max(text.len());
+    }
+    for text in case.requests {
+        most = most.max(text.len());
+    }
+    most
+}
+
+// Asserts that a file of which any end is missing is replayed, or is at fault itself.
+fn assert_prefixes(rt: &impl Abort, alloc: Global, case: Case) {
+    for length in 0..longest(case) {
+        let pages = replayed(
+            alloc,
+            case,
+            Cuts {
+                pages: length,
+                ..WHOLE
+            },
+        );
+        assert!(rt;
+            matches!(pages, Ok(_) | Err(DriverFault::Pages(_))),
+            "{length}"
+        );
+        let requests = replayed(
+            alloc,
+            case,
+            Cuts {
+                requests: length,
+                ..WHOLE
+            },
+        );
+        assert!(rt;
+            matches!(requests, Ok(_) | Err(DriverFault::Requests { .. })),
+            "{length}"
+        );
+        let script = replayed(
+            alloc,
+            case,
+            Cuts {
+                script: length,
+                ..WHOLE
+            },
+        );
+        assert!(rt;
+            matches!(script, Ok(_) | Err(DriverFault::Script(_))),
+            "{length}"
+        );
+    }
+}
+
+// Asserts that a replay writes the header row and these, and that a file that is cut short does no harm.
 fn assert_report(rt: &impl Abort, alloc: Global, case: Case, rows: &str) {
-    let Ok(text) = replayed(alloc, case) else {
+    assert_prefixes(rt, alloc, case);
+    let Ok(text) = replayed(alloc, case, WHOLE) else {
         panic!(rt; "no report");
     };
     let header = "row,id,number,phase,answer,page,count\n".as_bytes();

@@ -1,6 +1,6 @@
 //! The line of each fault. The statuses and the lines that name no file are proved.
-use super::devices::Full;
 use super::examples::options;
+use like_devices::Narrow;
 use like_files::DriverFault;
 use like_requests::{PagesFault, RequestsFault, SettingsFault};
 use like_run::ScriptFault;
@@ -80,11 +80,11 @@ fn assert_line(
     assert!(rt; fault.line(options, &mut line));
     let want = format!(in alloc; "likes: {file}: {text}\n").expect(rt, "memory");
     assert_eq!(rt; line.as_slice(), want.as_bytes());
-    let mut full = Full {
-        writes_left: 0,
-        flushes: true,
-    };
-    assert!(rt; !fault.line(options, &mut full));
+    for writes in 0..want.len() {
+        let mut out = Narrow::new(1, writes, true);
+        assert!(rt; !fault.line(options, &mut out));
+    }
+    assert!(rt; fault.line(options, &mut Narrow::new(1, want.len(), true)));
 }
 
 #[test]

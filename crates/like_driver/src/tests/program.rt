@@ -1,7 +1,7 @@
 //! The program on files, by `serve_words`.
-use super::devices::Full;
 use super::examples::LATE_WORKER;
 use crate::program::serve_words;
+use like_devices::Narrow;
 use std::alloc::{AllocError, Global};
 use std::fs;
 use std::fs::Files;
@@ -157,20 +157,41 @@ fn tells_wrong_words(rt: HostRuntime) -> Result<(), Fail> {
     Ok(())
 }
 
-// Help whose output fails at its first write, or where it is flushed, ends as a report does.
+// What words end in on an output of one byte a write, of which so many succeed: the status and the line.
+fn served_onto<R: Files + Threads + Wait + Sync>(
+    rt: &R,
+    alloc: Global,
+    words: &[String],
+    writes: usize,
+    flushes: bool,
+) -> (u8, Vec<u8>)
+where
+    R::File: Read + Drop + Send,
+{
+    let mut out = Narrow::new(1, writes, flushes);
+    let mut errors = Vec::new(alloc);
+    let status = serve_words(rt, alloc, words, &mut out, &mut errors);
+    (status, errors)
+}
+
+// An output that fails at any write, or where it is flushed: of the stored example, and of help.
 #[test]
-fn tells_that_help_failed(rt: HostRuntime) -> Result<(), Fail> {
-    let words = texts(rt.alloc(), "--help")?;
-    for (writes_left, flushes) in [(0, true), (1_000, false)] {
-        let mut out = Full {
-            writes_left,
-            flushes,
-        };
-        let mut errors = Vec::new(rt.alloc());
-        let status = serve_words(&rt, rt.alloc(), words.as_slice(), &mut out, &mut errors);
-        assert_eq!(rt; status, 3);
-        let want = "likes: standard output: write failed\n";
-        assert_eq!(rt; errors.as_slice(), want.as_bytes());
+fn tells_that_its_output_failed(rt: HostRuntime) -> Result<(), Fail> {
+    for text in ["", "--help"] {
+        let (_, out, _) = served(&rt, rt.alloc(), text)?;
+        let words = texts(rt.alloc(), text)?;
+        for writes in 0..=out.len() {
+            let flushes = writes < out.len();
+            let (status, errors) = served_onto(&rt, rt.alloc(), &words, writes, flushes);
+            assert_eq!(rt;
+                errors.as_slice(),
+                b"likes: standard output: write failed\n".as_slice()
+            );
+            assert_eq!(rt; status, 3, "after {writes} writes");
+        }
+        let (status, errors) = served_onto(&rt, rt.alloc(), &words, out.len(), true);
+        assert!(rt; errors.is_empty());
+        assert_eq!(rt; status, 0);
     }
     Ok(())
 }

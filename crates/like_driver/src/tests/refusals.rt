@@ -1,8 +1,8 @@
 //! What `replay_files` refuses, and that nothing is written then.
 ghost use Rattle.std.specs.Prelude.{◌≡◌, is_some, length};
 
-use super::devices::{Full, Shaky};
 use super::examples::options;
+use like_devices::{Narrow, Trickle};
 use like_files::{DriverFault, replay_files};
 use like_requests::{PagesFault, RequestsFault, SettingsFault};
 use like_run::ScriptFault;
@@ -23,18 +23,14 @@ fn of_requests(fault: RequestsFault) -> DriverFault {
 }
 
 // The plain example's files, which fail after so many reads.
-fn replay_shaky(alloc: Global, pages: usize, requests: usize) -> Result<Vec<u8>, DriverFault> {
+fn replay_slowly(alloc: Global, pages: usize, requests: usize) -> Result<Vec<u8>, DriverFault> {
     let options = options(alloc, 2, 1).map_err(|_| DriverFault::Memory)?;
-    let pages = Shaky {
-        text: PAGES.as_bytes(),
-        reads_left: pages,
-    };
-    let file = Shaky {
-        text: REQUESTS.as_bytes(),
-        reads_left: requests,
-    };
+    let pages = Trickle::new(PAGES.as_bytes(), pages);
     let mut files = Vec::new(alloc);
-    if files.push(file).is_err() {
+    if files
+        .push(Trickle::new(REQUESTS.as_bytes(), requests))
+        .is_err()
+    {
         return Err(DriverFault::Memory);
     }
     let mut out = Vec::new(alloc);
@@ -44,50 +40,45 @@ fn replay_shaky(alloc: Global, pages: usize, requests: usize) -> Result<Vec<u8>,
 
 #[test]
 fn failing_reads(rt: HostRuntime) {
-    for reads in 0..PAGES.len() {
-        let fault = replay_shaky(rt.alloc(), reads, usize::MAX).err();
+    for reads in 0..PAGES.len() + 1 {
+        let fault = replay_slowly(rt.alloc(), reads, usize::MAX).err();
         assert_eq!(rt;
             fault,
             Some(DriverFault::Pages(PagesFault::Read)),
             "after {reads} reads"
         );
     }
-    for reads in 0..REQUESTS.len() {
-        let fault = replay_shaky(rt.alloc(), usize::MAX, reads).err();
+    for reads in 0..REQUESTS.len() + 1 {
+        let fault = replay_slowly(rt.alloc(), usize::MAX, reads).err();
         let want = of_requests(RequestsFault::Read);
         assert_eq!(rt; fault, Some(want), "after {reads} reads");
     }
-    assert!(rt; replay_shaky(rt.alloc(), usize::MAX, usize::MAX).is_ok());
+    assert!(rt; replay_slowly(rt.alloc(), usize::MAX, usize::MAX).is_ok());
 }
 
-// The plain example onto a writer.
-fn replay_onto(alloc: Global, mut out: Full) -> Result<(), DriverFault> {
+// The plain example onto a writer of one byte a write, of which so many succeed.
+fn replay_onto(alloc: Global, writes: usize, flushes: bool) -> Result<(), DriverFault> {
     let options = options(alloc, 2, 1).map_err(|_| DriverFault::Memory)?;
     let mut files = Vec::new(alloc);
     if files.push(REQUESTS.as_bytes()).is_err() {
         return Err(DriverFault::Memory);
     }
+    let mut out = Narrow::new(1, writes, flushes);
     replay_files(alloc, &options, PAGES.as_bytes(), files, None, &mut out)
 }
 
-// The report has 139 bytes, which take 14 writes of up to ten. Then it is flushed.
+// The report has 139 bytes. Then it is flushed.
 #[test]
 fn failing_writes(rt: HostRuntime) {
-    for writes_left in 0..14 {
-        let out = Full {
-            writes_left,
-            flushes: true,
-        };
-        let done = replay_onto(rt.alloc(), out);
-        assert_eq!(rt; done, Err(DriverFault::Write), "after {writes_left} writes");
+    for writes in 0..139 {
+        let done = replay_onto(rt.alloc(), writes, true);
+        assert_eq!(rt; done, Err(DriverFault::Write), "after {writes} writes");
     }
-    for (flushes, want) in [(true, Ok(())), (false, Err(DriverFault::Write))] {
-        let out = Full {
-            writes_left: 14,
-            flushes,
-        };
-        assert_eq!(rt; replay_onto(rt.alloc(), out), want);
-    }
+    assert_eq!(rt;
+        replay_onto(rt.alloc(), 139, false),
+        Err(DriverFault::Write)
+    );
+    assert_eq!(rt; replay_onto(rt.alloc(), 139, true), Ok(()));
 }
 
 // The fault of a replay with these options, as many request files and a script where they name one, and whether nothing

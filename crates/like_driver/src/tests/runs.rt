@@ -2,6 +2,7 @@
 ghost use Rattle.std.specs.Prelude.{◌≡◌, length};
 
 use super::examples::options;
+use like_devices::Narrow;
 use like_files::{DriverFault, run_files};
 use like_words::Options;
 use std::alloc::{AllocError, Global};
@@ -37,6 +38,20 @@ fn ran<T: Threads + Wait + Sync>(
     let mut out = Vec::new(alloc);
     run_files(rt, alloc, options, pages.as_bytes(), files, &mut out)?;
     Ok(out)
+}
+
+// The report has 53 bytes. Then it is flushed.
+#[test]
+fn tells_a_write_that_fails(rt: HostRuntime) -> Result<(), Fail> {
+    let options = options(rt.alloc(), 1, 1)?;
+    for writes in 0..=53 {
+        let mut files = Vec::new(rt.alloc());
+        files.push(b"op,user,page\n".as_slice())?;
+        let mut out = Narrow::new(1, writes, writes < 53);
+        let done = run_files(&rt, rt.alloc(), &options, PAGES.as_bytes(), files, &mut out);
+        assert_eq!(rt; done, Err(DriverFault::Write), "after {writes} writes");
+    }
+    Ok(())
 }
 
 // A replay would be `Unfinished`: a worker runs one request a round.
