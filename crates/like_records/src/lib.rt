@@ -10,6 +10,3 @@ pub use crate::fault::RecordsFault;
 pub use crate::number::decimal;
 pub use crate::records::Records;
 pub use crate::rows::{FileKind, read_file};
-
-#[cfg(test)]
-mod tests;

@@ -6,8 +6,6 @@ mod collect_fault;
 mod collection;
 mod replies;
 mod report;
-#[cfg(test)]
-mod tests;
 mod write_fault;
 
 pub use answer::Answer;

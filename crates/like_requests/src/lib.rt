@@ -18,6 +18,3 @@ pub use setup::{
     Setup, check_setup,
 };
 pub use verdict::{Verdict, judge};
-
-#[cfg(test)]
-mod tests;

@@ -8,6 +8,3 @@ mod turned;
 pub use file::{MAX_ENTRIES, MAX_INDEX, ScriptFault, read_script};
 pub use fit::check_script;
 pub use turned::Turned;
-
-#[cfg(test)]
-mod tests;

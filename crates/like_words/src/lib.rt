@@ -7,8 +7,6 @@ mod fault;
 mod help;
 mod matches;
 mod options;
-#[cfg(test)]
-mod tests;
 mod words;
 
 pub use asked::Asked;

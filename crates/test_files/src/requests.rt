@@ -3,7 +3,7 @@ mod limits;
 mod malformed;
 mod refused;
 
-use crate::{
+use like_requests::{
     Op, PageRef, Pages, PagesFault, Request, RequestsFault, SettingsFault, Setup, Verdict,
     check_setup, judge, read_pages, read_requests,
 };

@@ -1,6 +1,6 @@
 //! Scripts that are cut short, fail in mid-stream, have a byte changed, or are texts of CSV of another kind.
-use crate::{ScriptFault, read_script};
 use like_devices::{CASES, Trickle};
+use like_script::{ScriptFault, read_script};
 
 const SCRIPT: &[u8] = b"turn,index\nworker,0\nfly,1\n";
 

@@ -1,6 +1,6 @@
 //! What is taken at each limit, and refused one past it.
 use super::{one_page, request};
-use crate::{
+use like_requests::{
     Op, PageRef, PagesFault, Request, RequestsFault, SettingsFault, Setup, check_setup, read_pages,
     read_requests,
 };

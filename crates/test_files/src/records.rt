@@ -1,5 +1,5 @@
-use crate::{Records, RecordsFault, decimal};
 use like_devices::{CASES, Trickle};
+use like_records::{Records, RecordsFault, decimal};
 use std::alloc::Global;
 use std::test::Fail;
 

@@ -1,8 +1,8 @@
 //! Script files, and scripts that fit a run.
 mod malformed;
 
-use crate::{ScriptFault, Turned, check_script, read_script};
 use like_requests::SettingsFault;
+use like_script::{ScriptFault, Turned, check_script, read_script};
 use std::alloc::{AllocError, Global};
 use std::process::Abort;
 use std::test::Fail;

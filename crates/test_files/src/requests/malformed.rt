@@ -1,7 +1,7 @@
 //! Files that are cut short, fail in mid-stream, have a byte changed, or are texts of CSV of another kind.
-use super::one_page;
-use crate::{PagesFault, RequestsFault, read_pages, read_requests};
+use super::{one_page, request};
 use like_devices::{CASES, Trickle};
+use like_requests::{Op, PageRef, PagesFault, RequestsFault, read_pages, read_requests};
 
 // A good pages file and a good requests file, with quoted names and CRLF.
 const PAGES: &[u8] = b"name,count,split\r\n\"x,\"\"y\"\"\",0,no\r\n";
@@ -133,6 +133,6 @@ fn a_name_that_is_no_text(rt: HostRuntime) {
     );
     assert_eq!(rt;
         requests.as_slice(),
-        [super::request(crate::Op::Like, 0, crate::PageRef::Unknown)].as_slice()
+        [request(Op::Like, 0, PageRef::Unknown)].as_slice()
     );
 }

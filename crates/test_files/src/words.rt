@@ -1,5 +1,5 @@
 //! What words ask for, by `parse`.
-use crate::{Asked, Options, ParseFault, parse};
+use like_words::{Asked, Options, ParseFault, parse};
 use std::alloc::{AllocError, Global};
 use std::test::Fail;
 

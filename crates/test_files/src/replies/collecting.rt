@@ -1,7 +1,7 @@
 //! What logs are collected to.
 ghost use Rattle.std.specs.Prelude.{◌≤◌, length};
 
-use crate::{Answer, CollectFault, Replies, collect};
+use like_replies::{Answer, CollectFault, Replies, collect};
 use like_roles::{Ran, Reply, WorkerLog};
 use like_tables::Users;
 use std::alloc::{AllocError, Global};

@@ -1,6 +1,6 @@
 //! Growths that are refused, as checks/refusals does it: want of memory is told, and the next call is right.
 use super::request;
-use crate::{Op, PageRef, PagesFault, RequestsFault, read_pages, read_requests};
+use like_requests::{Op, PageRef, PagesFault, RequestsFault, read_pages, read_requests};
 use std::test::Fail;
 
 // The end of a test, of which a call may have been refused memory.

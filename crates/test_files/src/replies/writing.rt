@@ -5,7 +5,7 @@ ghost use Rattle.like_roles.specs.declared.reply.Reply.TheVariants.{Refused};
 ghost use Rattle.like_replies.specs.Reported.{Reported, reported};
 ghost use Rattle.like_replies.specs.Rows.{IsWritable};
 
-use crate::{Answer, Replies, Report, WriteFault, write_report};
+use like_replies::{Answer, Replies, Report, WriteFault, write_report};
 use like_requests::{Pages, Verdict, read_pages};
 use like_roles::Reply;
 use std::alloc::{AllocError, Global};

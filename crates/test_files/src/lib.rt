@@ -1,0 +1,13 @@
+//! Tests of what is read and written: records, pages, requests, scripts, replies and the words of the command line.
+#![tactic(auto)]
+
+#[cfg(test)]
+mod records;
+#[cfg(test)]
+mod replies;
+#[cfg(test)]
+mod requests;
+#[cfg(test)]
+mod script;
+#[cfg(test)]
+mod words;
