@@ -7,6 +7,3 @@ mod threads;
 pub use like_script::{MAX_ENTRIES, MAX_INDEX, ScriptFault, Turned, read_script};
 pub use rounds::{MAX_ROUNDS, ReplayFault, replay};
 pub use threads::{RunFault, run, run_limited};
-
-#[cfg(test)]
-mod tests;

@@ -1,7 +1,7 @@
 //! Cases of the worked examples.
-use crate::{MAX_ENTRIES, ReplayFault, Turned, replay};
 use like_replies::Report;
 use like_requests::{Op, PageRef, Request, Setup, read_pages, read_requests};
+use like_run::{MAX_ENTRIES, ReplayFault, Turned, replay};
 use std::alloc::Global;
 use std::process::Abort;
 

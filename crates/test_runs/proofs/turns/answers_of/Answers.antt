@@ -2,7 +2,7 @@ use Rattle.std.proofs.Common.{get_or}
 use Rattle.like_script.specs.declared.turned.Turned.TheVariants.{OpenOne}
 use Rattle.like_crew.proofs.Coordinated.{crew-further, crew-same}
 use Rattle.like_run.proofs.Entries.{can-make-later}
-use Rattle.like_run.proofs.tests.turns.answers_of.Goals as goal
+use Rattle.test_runs.proofs.turns.answers_of.Goals as goal
 
 pub loop-entry-init : goal.loop-entry-init
 loop-entry-init c = crew-same c.args.crew.now

@@ -2,9 +2,9 @@
 //! until one has shown it, and so many at most.
 use super::cases::{Case, ONE_PAGE, likes, requests};
 use super::watch::{Held, Watch};
-use crate::run;
 use like_replies::Report;
 use like_requests::Op;
+use like_run::run;
 use std::alloc::Global;
 use std::process::Abort;
 use std::sync::Wait;

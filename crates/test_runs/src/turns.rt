@@ -11,11 +11,11 @@ use super::cases::{
     Case, FULL_STASH, IDLE_WORKERS, LATE_WORKER, PLAIN_LIKES, SPLIT_AND_STASH, STASH_THEN_LIKE,
     TWO_SLICES, turns,
 };
-use crate::{MAX_ENTRIES, ReplayFault, Turned};
 use like_crew::{Crew, Site};
 use like_queue::ListInbox;
 use like_requests::{Request, Setup, check_setup};
 use like_roles::{CoordTurn, Turn};
+use like_run::{MAX_ENTRIES, ReplayFault, Turned};
 use like_script::check_script;
 use std::alloc::{AllocError, Global};
 use std::process::Abort;

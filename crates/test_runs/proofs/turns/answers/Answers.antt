@@ -3,7 +3,7 @@ use Rattle.std.specs.List.{All}
 use Rattle.like_requests.specs.Setup.{IsWithinLimits}
 use Rattle.like_requests.specs.declared.request.Request.{Request}
 use Rattle.like_script.specs.Fit.{IsInRun}
-use Rattle.like_run.proofs.tests.turns.answers.Goals as goal
+use Rattle.test_runs.proofs.turns.answers.Goals as goal
 
 abbrev requests_of : Vec Request Global → List Request
 requests_of plan = plan.items

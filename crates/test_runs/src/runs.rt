@@ -1,10 +1,10 @@
 //! Runs on threads. What is asserted of them is the same on every schedule.
 use super::cases::{Case, ONE_PAGE, PLAIN_LIKES, likes};
 use super::watch::{Held, Watch};
-use crate::{RunFault, run, run_limited};
 use like_replies::Report;
 use like_requests::SettingsFault;
 use like_roles::Reply;
+use like_run::{RunFault, run, run_limited};
 use std::alloc::Global;
 use std::process::Abort;
 use std::sync::Wait;

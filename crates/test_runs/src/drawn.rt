@@ -2,8 +2,8 @@
 ghost use Rattle.std.specs.Prelude.{◌+◌, ◌<◌, ◌≤◌, ◌^◌, IfOk};
 
 use super::by_the_tables::play;
-use crate::{MAX_ENTRIES, Turned, replay};
 use like_requests::{Op, PageRef, Request, Setup, read_pages};
+use like_run::{MAX_ENTRIES, Turned, replay};
 use std::alloc::{AllocError, Global};
 use std::test::Fail;
 

@@ -6,7 +6,7 @@ use Rattle.like_script.specs.Fit.{IsInRun}
 use Rattle.like_crew.specs.Asked.{lists_of}
 use Rattle.like_crew.proofs.Asked.{requests_of}
 use Rattle.like_run.proofs.Entries.{can-make}
-use Rattle.like_run.proofs.tests.turns.answers_within.Goals as goal
+use Rattle.test_runs.proofs.turns.answers_within.Goals as goal
 
 pub new-requires : goal.new-requires
 new-requires c = subst (λ (xs : List (Vec Request Global)). IsWithinLimits c.args.setup.now (lists_of xs)) (sym c.deref.ensures.value) c.requires.within

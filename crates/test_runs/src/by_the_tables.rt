@@ -2,10 +2,10 @@
 //! workers, coordinator and lists nothing is used here but the types of their entries.
 ghost use Rattle.std.specs.Prelude.{◌≤◌};
 
-use crate::{MAX_ROUNDS, Turned};
 use like_core::{Core, Event, Shown};
 use like_requests::{Numbered, Op, PageRef, Request, Setup, Taken, Verdict};
 use like_roles::{Ran, Reply, Took};
+use like_run::{MAX_ROUNDS, Turned};
 use like_tables::Held;
 use std::alloc::{AllocError, Global};
 use std::collections::{BTreeMap, VecDeque};

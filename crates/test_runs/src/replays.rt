@@ -1,8 +1,8 @@
 //! Replays of scripts: what the workers took and ran, refused scripts, and how long a replay may last.
 use super::cases::{Case, FULL_STASH, LATE_WORKER, SPLIT_AND_STASH, STASH_THEN_LIKE, TWO_SLICES};
-use crate::{ReplayFault, replay};
 use like_replies::Report;
 use like_requests::{Op, PageRef, Request, SettingsFault, Setup, read_pages};
+use like_run::{ReplayFault, replay};
 use std::alloc::Global;
 use std::process::Abort;
 

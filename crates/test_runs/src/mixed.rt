@@ -2,9 +2,9 @@
 //! between which each count has to lie, are computed here from what the workers took and from which likes they ran.
 use super::cases::{Case, ONE_PAGE};
 use super::watch::{Held, Watch};
-use crate::run;
 use like_requests::{Op, PageRef, Request};
 use like_roles::{Ran, Reply, Took, WorkerLog};
+use like_run::run;
 use std::alloc::{AllocError, Global};
 use std::test::Fail;
 

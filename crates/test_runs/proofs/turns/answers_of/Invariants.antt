@@ -1,5 +1,5 @@
 use Rattle.like_crew.specs.Crew.{GoesOn}
-use Rattle.like_run.proofs.tests.turns.answers_of.Given as goal
+use Rattle.test_runs.proofs.turns.answers_of.Given as goal
 
 abbrev pub invariant-loop-entry : goal.invariant-loop-entry
 invariant-loop-entry l = GoesOn l.initial.crew l.crew

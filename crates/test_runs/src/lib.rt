@@ -1,0 +1,22 @@
+//! Tests of runs and replays: worked examples, with values that were worked out by hand, and drawn replays, beside the
+//! tables of turns.
+#![tactic(auto)]
+
+#[cfg(test)]
+mod by_the_tables;
+#[cfg(test)]
+mod cases;
+#[cfg(test)]
+mod drawn;
+#[cfg(test)]
+mod mixed;
+#[cfg(test)]
+mod replays;
+#[cfg(test)]
+mod runs;
+#[cfg(test)]
+mod settings;
+#[cfg(test)]
+mod turns;
+#[cfg(test)]
+mod watch;
