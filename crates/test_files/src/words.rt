@@ -9,27 +9,28 @@ fn asked(alloc: Global, text: &str) -> Result<Asked, ParseFault> {
     parse(alloc, words.as_slice())
 }
 
-// The options of the replay that the words ask for, if they ask for one.
-fn replay(alloc: Global, text: &str) -> Option<Options> {
-    match asked(alloc, text) {
-        Ok(Asked::Replay(options)) => Some(options),
-        _ => None,
+// The options of the replay that the words ask for.
+fn replay(alloc: Global, text: &str) -> Result<Options, Fail> {
+    match asked(alloc, text)? {
+        Asked::Replay(options) => Ok(options),
+        _ => Err(Fail::new("not a replay")),
     }
 }
 
-// The options of the run that the words ask for, if they ask for one.
-fn run(alloc: Global, text: &str) -> Option<Options> {
-    match asked(alloc, text) {
-        Ok(Asked::Run(options)) => Some(options),
-        _ => None,
+// The options of the run that the words ask for.
+fn run(alloc: Global, text: &str) -> Result<Options, Fail> {
+    match asked(alloc, text)? {
+        Asked::Run(options) => Ok(options),
+        _ => Err(Fail::new("not a run")),
     }
 }
 
-// The text for wrong words, if they are wrong.
-fn usage(alloc: Global, text: &str) -> Option<String> {
+// The fault of wrong words.
+fn usage(alloc: Global, text: &str) -> Result<ParseFault, Fail> {
     match asked(alloc, text) {
-        Err(ParseFault::Usage(text)) => Some(text),
-        _ => None,
+        Ok(_) => Err(Fail::new("words that ask for something")),
+        Err(ParseFault::Memory) => Err(Fail::from(ParseFault::Memory)),
+        Err(fault) => Ok(fault),
     }
 }
 
@@ -49,7 +50,7 @@ fn files(alloc: Global, options: &Options) -> Result<String, AllocError> {
 
 #[test]
 fn defaults(rt: HostRuntime) -> Result<(), Fail> {
-    let options = replay(rt.alloc(), "replay p.csv r.csv").ok_or("a replay")?;
+    let options = replay(rt.alloc(), "replay p.csv r.csv")?;
     assert_eq!(rt; options.workers, 4);
     assert_eq!(rt; options.users, 1_000);
     assert_eq!(rt; options.stash, 256);
@@ -61,13 +62,13 @@ fn defaults(rt: HostRuntime) -> Result<(), Fail> {
 #[test]
 fn values(rt: HostRuntime) -> Result<(), Fail> {
     let words = "replay --stash 7 --workers 2 p.csv a.csv b.csv";
-    let options = replay(rt.alloc(), words).ok_or("a replay")?;
+    let options = replay(rt.alloc(), words)?;
     assert_eq!(rt; options.stash, 7);
     assert_eq!(rt; options.workers, 2);
     assert_eq!(rt; options.users, 1_000);
     assert_eq!(rt; files(rt.alloc(), &options)?.as_str(), "p.csv a.csv b.csv");
     let words = "replay p.csv --turns=0 a.csv --users=9 --script s.csv";
-    let options = replay(rt.alloc(), words).ok_or("a replay")?;
+    let options = replay(rt.alloc(), words)?;
     assert_eq!(rt; options.turns, 0);
     assert_eq!(rt; options.users, 9);
     assert_eq!(rt; files(rt.alloc(), &options)?.as_str(), "p.csv a.csv, s.csv");
@@ -76,23 +77,23 @@ fn values(rt: HostRuntime) -> Result<(), Fail> {
 
 #[test]
 fn asks_for_runs(rt: HostRuntime) -> Result<(), Fail> {
-    let options = run(rt.alloc(), "run p.csv r.csv").ok_or("a run")?;
+    let options = run(rt.alloc(), "run p.csv r.csv")?;
     assert_eq!(rt; options.workers, 4);
     assert_eq!(rt; options.users, 1_000);
     assert_eq!(rt; options.stash, 256);
     assert_eq!(rt; options.turns, 1_000);
     assert_eq!(rt; files(rt.alloc(), &options)?.as_str(), "p.csv r.csv");
     let words = "run --workers=16 p.csv --turns 0 a.csv b.csv";
-    let options = run(rt.alloc(), words).ok_or("a run")?;
+    let options = run(rt.alloc(), words)?;
     assert_eq!(rt; options.workers, 16);
     assert_eq!(rt; options.turns, 0);
     assert_eq!(rt; files(rt.alloc(), &options)?.as_str(), "p.csv a.csv b.csv");
-    assert!(rt; usage(rt.alloc(), "run --script s.csv p.csv r.csv").is_some());
+    usage(rt.alloc(), "run --script s.csv p.csv r.csv")?;
     Ok(())
 }
 
 #[test]
-fn bounds(rt: HostRuntime) {
+fn bounds(rt: HostRuntime) -> Result<(), Fail> {
     for option in [
         "--workers=1",
         "--workers=16",
@@ -103,8 +104,8 @@ fn bounds(rt: HostRuntime) {
         "--turns=0",
         "--turns=1000000",
     ] {
-        let words = format!(in rt.alloc(); "replay {option} p.csv r.csv").expect(&rt, "memory");
-        assert!(rt; replay(rt.alloc(), &words).is_some(), "{option}");
+        let words = format!(in rt.alloc(); "replay {option} p.csv r.csv")?;
+        replay(rt.alloc(), &words)?;
     }
     for option in [
         "--workers=0",
@@ -116,13 +117,14 @@ fn bounds(rt: HostRuntime) {
         "--turns=-1",
         "--turns=1000001",
     ] {
-        let words = format!(in rt.alloc(); "replay {option} p.csv r.csv").expect(&rt, "memory");
-        assert!(rt; usage(rt.alloc(), &words).is_some(), "{option}");
+        let words = format!(in rt.alloc(); "replay {option} p.csv r.csv")?;
+        usage(rt.alloc(), &words)?;
     }
+    Ok(())
 }
 
 #[test]
-fn wrong_words(rt: HostRuntime) {
+fn wrong_words(rt: HostRuntime) -> Result<(), Fail> {
     for words in [
         "",
         "walk p.csv r.csv",
@@ -137,29 +139,32 @@ fn wrong_words(rt: HostRuntime) {
         "replay --speed 9 p.csv r.csv",
         "replay p.csv r.csv --script",
     ] {
-        assert!(rt; usage(rt.alloc(), words).is_some(), "{words}");
+        usage(rt.alloc(), words)?;
     }
+    Ok(())
 }
 
 #[test]
-fn help(rt: HostRuntime) {
+fn help(rt: HostRuntime) -> Result<(), Fail> {
     for words in ["--help", "-h", "replay --help", "replay p.csv -h"] {
-        let is_help = matches!(asked(rt.alloc(), words), Ok(Asked::Help(_)));
-        assert!(rt; is_help, "{words}");
+        assert!(rt;
+            matches!(asked(rt.alloc(), words)?, Asked::Help(_)),
+            "{words}"
+        );
     }
+    Ok(())
 }
 
 #[test]
 fn faults(rt: HostRuntime) -> Result<(), Fail> {
-    let words = "replay --workers 17 p.csv r.csv";
-    let fault = asked(rt.alloc(), words).err().ok_or("a fault")?;
+    let fault = usage(rt.alloc(), "replay --workers 17 p.csv r.csv")?;
     assert_eq!(rt; fault.status(), 2);
-    let mut text = Vec::new(rt.alloc());
+    let mut text = Vec::with_capacity(rt.alloc(), 256)?;
     assert!(rt; fault.line(&mut text));
     let want =
         "error: invalid value '17' for '--workers <N>': 17 is not in 1..=16\n\nFor more information, try '--help'.\n";
     assert_eq!(rt; text.as_slice(), want.as_bytes());
-    let mut text = Vec::new(rt.alloc());
+    let mut text = Vec::with_capacity(rt.alloc(), 256)?;
     assert_eq!(rt; ParseFault::Memory.status(), 4);
     assert!(rt; ParseFault::Memory.line(&mut text));
     assert_eq!(rt; text.as_slice(), b"likes: out of memory\n".as_slice());

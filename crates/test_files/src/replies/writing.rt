@@ -16,8 +16,9 @@ use std::test::Fail;
 fn one_page(rt: &impl Abort, alloc: Global, text: &str) -> Pages
     ensures { length result ≡ 1 }
 {
-    let Ok(pages) = read_pages(alloc, text.as_bytes()) else {
-        panic!(rt; "no pages");
+    let pages = match read_pages(alloc, text.as_bytes()) {
+        Ok(pages) => pages,
+        Err(fault) => panic!(rt; "no pages: {fault}"),
     };
     assert_eq!(rt; pages.len(), 1);
     pages
@@ -127,7 +128,7 @@ fn assert_written(
     requires { (pages : List Page) → length pages ≡ 1 → IsWritable pages (reported report.now) }
 {
     let pages = one_page(rt, alloc, file);
-    let mut out = Vec::new(alloc);
+    let mut out = Vec::with_capacity(alloc, 256)?;
     write_report(alloc, report, &pages, &mut out)?;
     assert_rows(rt, &out, rows);
     Ok(())
@@ -175,7 +176,8 @@ fn split_and_stash(rt: HostRuntime) -> Result<(), Fail> {
 #[test]
 fn appends(rt: HostRuntime) -> Result<(), Fail> {
     let pages = one_page(&rt, rt.alloc(), "name,count,split\na,10,no\n");
-    let mut out = Vec::from_slice(rt.alloc(), b"before\n")?;
+    let mut out = Vec::with_capacity(rt.alloc(), 256)?;
+    out.extend_from_slice(b"before\n")?;
     let report = like_report(rt.alloc())?;
     write_report(rt.alloc(), &report, &pages, &mut out)?;
     let Some(text) = out.as_slice().strip_prefix(b"before\n".as_slice()) else {
