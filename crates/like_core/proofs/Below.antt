@@ -2,8 +2,7 @@ use Rattle.std.proofs.Common.{◌≡◌, ℕ, zero, suc, ◌-◌, ◌^◌, ◌<�
 use Rattle.std.specs.Int.{bit_at}
 use Rattle.std.proofs.lemmas.Bool.{cases_eq, eqb-true}
 use Rattle.std.proofs.lemmas.Nat.Bits.{bit_at-lt, bit_at_or, bit_at_ones, same_from_bits_below}
-use Rattle.like_core.specs.Functions.{each_below}
-use Rattle.like_core.specs.Sights.{has_bit}
+use Rattle.like_core.specs.Functions.{each_below, has_bit}
 
 -- both tests say yes
 and-both : (a b : Bool) → (a && b) ≡ true → (a ≡ true) × (b ≡ true)

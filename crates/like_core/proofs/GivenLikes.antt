@@ -61,11 +61,11 @@ given_to-nil s i =
     λ m. record s { unmerged = λ j. each j m }
 
 -- a sliced like gives its worker one page
-pub after-like : (z : Opening) (s : CoreState) (i page : ℕ) → split (marked z) s.phase page ≡ true → after z s (Like i page) ≡ given_to s i (page ∷ [])
-after-like z s i page sliced = cond-true (split (marked z) s.phase page) _ _ sliced
+pub after-like : (z : Opening) (s : CoreState) (i page : ℕ) → split (marked z) s.hot s.phase page ≡ true → after z s (Like i page) ≡ given_to s i (page ∷ [])
+after-like z s i page sliced = cond-true (split (marked z) s.hot s.phase page) _ _ sliced
 
 -- the state stays reachable with likes for one worker
-pub reach_given_to : (z : Opening) (s : CoreState) (i : ℕ) (likes : List ℕ) → Reachable z s → ((page : ℕ) → 0 < times page likes → (s.state i ≡ Runs s.phase) × (page < length z.counts) × (split (marked z) s.phase page ≡ true)) → ((page : ℕ) → total (numbers z (given_to s i likes)) page < total_bound) → Reachable z (given_to s i likes)
+pub reach_given_to : (z : Opening) (s : CoreState) (i : ℕ) (likes : List ℕ) → Reachable z s → ((page : ℕ) → 0 < times page likes → (s.state i ≡ Runs s.phase) × (page < length z.counts) × (split (marked z) s.hot s.phase page ≡ true)) → ((page : ℕ) → total (numbers z (given_to s i likes)) page < total_bound) → Reachable z (given_to s i likes)
 reach_given_to z s i [] r pages totals = subst (Reachable z) (sym (given_to-nil s i)) r
 reach_given_to z s i (page ∷ likes) r pages totals =
     let more = times-cons_same page likes in

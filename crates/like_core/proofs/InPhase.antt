@@ -1,12 +1,12 @@
-use Rattle.std.proofs.Common.{◌≡◌, ◌≢◌, ℕ, ◌+◌, ◌%◌, ◌<◌, ◌≤◌, ◌==◌, nat_lt, ◌⊎◌, inl, inr, Bool, true, false, cond, List, [], ◌∷◌, ◌++◌, subst, ap, sym, ◌∙◌, refl, arith}
+use Rattle.std.proofs.Common.{◌≡◌, ◌≢◌, ℕ, ◌+◌, ◌%◌, ◌<◌, ◌≤◌, ◌==◌, nat_lt, ◌⊎◌, inl, inr, Bool, true, false, ◌||◌, cond, List, [], ◌∷◌, ◌++◌, subst, ap, sym, ◌∙◌, refl, arith}
 use Rattle.std.proofs.lemmas.Bool.{cases_lt, eqb-true, and_parts, cond-false, le-ltb}
 use Rattle.like_core.specs.declared.worker_state.WorkerState.{WorkerState}
 use Rattle.like_core.specs.declared.worker_state.WorkerState.TheVariants.{Runs, Answered, Gone}
 use Rattle.like_core.specs.declared.event.Event.{Event}
-use Rattle.like_core.specs.declared.event.Event.TheVariants.{Look, Acknowledge, Report, Retire, Like, Read, Merge, CoordLook, Announce, Release}
+use Rattle.like_core.specs.declared.event.Event.TheVariants.{Look, Acknowledge, Report, Retire, Like, Read, Merge, Hot, CoordLook, CoordRead, Announce, Release}
 use Rattle.like_core.specs.declared.opening.Opening.{Opening}
 use Rattle.like_core.specs.Functions.{update, times}
-use Rattle.like_core.specs.Phase.{last_phase, IsJoined, IsSplit, split}
+use Rattle.like_core.specs.Phase.{last_phase, IsJoined, IsSplit, is_hot, split}
 use Rattle.like_core.specs.WorkerState.{IsIn, looked}
 use Rattle.like_core.specs.Numbers.{Numbers}
 use Rattle.like_core.specs.Table.{Permits}
@@ -25,8 +25,9 @@ empty_from_times (x ∷ xs) none =
     absurd (omega arith)
 
 -- a page is split in no joined phase
-pub split-IsSplit : (marks : ℕ → Bool) (phase page : ℕ) → split marks phase page ≡ true → IsSplit phase
-split-IsSplit marks phase page is = eqb-true (phase % 2) 1 (and_parts (phase % 2 == 1) (marks page) is).0
+pub split-IsSplit : (marks : ℕ → Bool) (hot : ℕ → ℕ) (phase page : ℕ) → split marks hot phase page ≡ true → IsSplit phase
+split-IsSplit marks hot phase page is =
+    eqb-true (phase % 2) 1 (and_parts (phase % 2 == 1) (marks page || is_hot (hot phase) page) is).0
 
 -- a state in phase is exclusive
 pub exclusive : (z : Opening) (s : CoreState) → IsInPhase z s → IsExclusive s
@@ -155,8 +156,8 @@ keeps_in_phase z s (Like i page) p may =
     let sliced_like : CoreState = record s { unmerged = update s.unmerged i (s.unmerged i ++ page ∷ []) } in
     let label : Label = record { worker = i; phase = s.phase } in
     let plain_like : CoreState = record s { applied = update s.applied page (s.applied page ++ label ∷ []) } in
-    in_phase_either z (split (marked z) s.phase page) sliced_like plain_like
-    (λ sliced. moves_likes z s i (s.unmerged i ++ page ∷ []) p may.suits (split-IsSplit (marked z) s.phase page sliced))
+    in_phase_either z (split (marked z) s.hot s.phase page) sliced_like plain_like
+    (λ sliced. moves_likes z s i (s.unmerged i ++ page ∷ []) p may.suits (split-IsSplit (marked z) s.hot s.phase page sliced))
     (record {
       runs = p.runs;
       answered = p.answered;
@@ -167,7 +168,7 @@ keeps_in_phase z s (Like i page) p may =
     })
 keeps_in_phase z s (Read i page) p may = p
 keeps_in_phase z s (Merge i page) p may =
-    let odd = split-IsSplit (marked z) s.phase page may.suits.1 in
+    let odd = split-IsSplit (marked z) s.hot s.phase page may.suits.1 in
     let q = moves_likes z s i (without page (s.unmerged i)) p may.suits.0 odd in
     record {
       runs = q.runs;
@@ -177,7 +178,9 @@ keeps_in_phase z s (Merge i page) p may =
       within = q.within;
       last = q.last;
     }
+keeps_in_phase z s (Hot i) p may = p
 keeps_in_phase z s CoordLook p may = p
+keeps_in_phase z s (CoordRead page) p may = p
 keeps_in_phase z s Announce p may = record {
   runs = p.runs;
   answered = p.answered;
@@ -186,7 +189,7 @@ keeps_in_phase z s Announce p may = record {
   within = p.within;
   last = λ _. may.leaves_last;
 }
-keeps_in_phase z s Release p may =
+keeps_in_phase z s (Release mask) p may =
     let inside : (i : ℕ) → IsIn s.phase (s.state i) =
     λ i. elim (cases_lt i z.workers) [
       | inl there ↦ may.suits.1 i there
@@ -194,7 +197,7 @@ keeps_in_phase z s Release p may =
     ]
     in
     let below = p.last may.suits.0 in
-    in_phase z (record s { phase = s.phase + 1; ending = false })
+    in_phase z (after z s (Release mask))
     (λ i. fits_released s.phase (s.state i) (s.unmerged i) (inside i) (fits_each z s p i))
     p.outside
     (omega arith)

@@ -10,9 +10,9 @@ use Rattle.like_core.proofs.Updates.{get_or-set, update-apply, update-same, upda
 use Rattle.like_core.proofs.Sums.{sum_below-same, sum_below-update}
 
 -- a worker's row after a write in it is an updated row
-pub kept-set_row : (phase : ℕ) (ending : Bool) (states : List WorkerState) (rows : List (List ℕ)) (counts : List ℕ) (marks : List Bool) (i page likes : ℕ) (row : List ℕ) → i < length rows → page < length (get_or rows i []) → row ≡ set (get_or rows i []) page likes → kept phase ending states (set rows i row) counts marks ≡ with_unmerged (kept phase ending states rows counts marks) i page likes
-kept-set_row phase ending states rows counts marks i page likes row within there is =
-    let n = kept phase ending states rows counts marks in
+pub kept-set_row : (phase : ℕ) (ending : Bool) (hot : ℕ) (states : List WorkerState) (rows : List (List ℕ)) (counts : List ℕ) (marks : List Bool) (i page likes : ℕ) (row : List ℕ) → i < length rows → page < length (get_or rows i []) → row ≡ set (get_or rows i []) page likes → kept phase ending hot states (set rows i row) counts marks ≡ with_unmerged (kept phase ending hot states rows counts marks) i page likes
+kept-set_row phase ending hot states rows counts marks i page likes row within there is =
+    let n = kept phase ending hot states rows counts marks in
     let new_row : (p : ℕ) → slice_index row p ≡ update (n.unmerged i) page likes p =
     λ p. ap (λ (r : List ℕ). slice_index r p) is ∙ get_or-set (get_or rows i []) page likes 0 there p in
     let new_rows : (j p : ℕ) → slice_index (get_or (set rows i row) j []) p ≡ update n.unmerged i (update (n.unmerged i) page likes) j p =
@@ -31,6 +31,7 @@ kept-set_row phase ending states rows counts marks i page likes row within there
       marked = n.marked;
       phase = phase;
       ending = ending;
+      hot = hot;
       state = n.state;
       unmerged = λ j p. new_rows j p m;
       count = n.count;

@@ -1,9 +1,10 @@
-use Rattle.std.proofs.Common.{◌≡◌, ◌≢◌, ℕ, zero, suc, ◌+◌, ◌-◌, ◌*◌, ◌^◌, ◌<◌, ◌≤◌, ◌==◌, bit_and, Bool, true, false, inl, inr, sym, subst, ap, ◌∙◌, refl, arith, pow-suc, zero-mul, one-mul}
+use Rattle.std.proofs.Common.{◌≡◌, ◌≢◌, ℕ, zero, suc, ◌+◌, ◌-◌, ◌*◌, ◌/◌, ◌^◌, ◌<◌, ◌≤◌, ◌==◌, ◌↔◌, bit_and, Bool, true, false, inl, inr, sym, subst, ap, ◌∙◌, refl, arith, pow-suc, zero-mul, one-mul}
 use Rattle.std.specs.Int.{bit_at}
-use Rattle.std.proofs.lemmas.Nat.{and_comm}
+use Rattle.std.proofs.Math.Nat.{div-lt_iff_lt-mul}
+use Rattle.std.proofs.lemmas.Nat.{and_comm, pow_pos}
 use Rattle.std.proofs.lemmas.Nat.Bits.{bit_at_above, bit_at_cat_high, bit_at_cat_low, bit_at_lowest}
 use Rattle.std.proofs.lemmas.Bool.{cases_eq}
-use Rattle.like_core.specs.Sights.{has_bit}
+use Rattle.like_core.specs.Functions.{has_bit}
 use Rattle.like_core.specs.ShownWord.{weight, mask}
 use Rattle.like_core.proofs.WordSteps.{more_bits-apart}
 
@@ -113,3 +114,12 @@ mask_apart f g (suc n) apart =
     ]
     in
     by_f (apart n)
+
+-- a number has no bit from k on just where it is below 2 ^ k
+pub shr_none : (n k : ℕ) → (n / 2 ^ k ≡ 0) ↔ (n < 2 ^ k)
+shr_none n k =
+    let less = div-lt_iff_lt-mul {k = 2 ^ k} {x = n} {y = 1} (pow_pos k) in
+    let one = one-mul (2 ^ k) in (
+      λ none. (let below = less.0 (omega arith) in omega arith),
+      λ below. (let none = less.1 (omega arith) in omega arith),
+    )

@@ -1,7 +1,7 @@
 use Rattle.std.proofs.Common.{◌≡◌, ℕ, ◌+◌, Bool, true, false, cond, List, [], ◌∷◌, ◌++◌, length, replicate, slice_index, length-append, ap, sym, ◌∙◌, refl, arith}
 use Rattle.std.proofs.lemmas.List.{length-replicate}
 use Rattle.like_core.specs.declared.event.Event.{Event}
-use Rattle.like_core.specs.declared.event.Event.TheVariants.{Look, Acknowledge, Report, Retire, Like, Read, Merge, CoordLook, Announce, Release}
+use Rattle.like_core.specs.declared.event.Event.TheVariants.{Look, Acknowledge, Report, Retire, Like, Read, Merge, Hot, CoordLook, CoordRead, Announce, Release}
 use Rattle.like_core.specs.declared.opening.Opening.{Opening}
 use Rattle.like_core.specs.Functions.{update, times}
 use Rattle.like_core.specs.Phase.{split}
@@ -57,7 +57,7 @@ numbers-after z s (Like i page) =
     let in_count : numbers z plain_like ≡ with_count n page (n.count page + 1) =
     λ m. record n { count = λ q. count-update z.counts s.applied page (label ∷ []) q m }
     in
-    ap-cond (numbers z) (split (marked z) s.phase page) sliced_like plain_like _ _ in_slice in_count
+    ap-cond (numbers z) (split (marked z) s.hot s.phase page) sliced_like plain_like _ _ in_slice in_count
 numbers-after z s (Read i page) = refl
 numbers-after z s (Merge i page) =
     let n = numbers z s in
@@ -73,6 +73,9 @@ numbers-after z s (Merge i page) =
       unmerged = λ j q. times-update s.unmerged i (without page (s.unmerged i)) page 0 (times-without (s.unmerged i) page) j q m;
       count = λ q. counts q m;
     }
+numbers-after z s (Hot i) = refl
 numbers-after z s CoordLook = refl
+numbers-after z s (CoordRead page) = refl
 numbers-after z s Announce = refl
-numbers-after z s Release = refl
+numbers-after z s (Release mask) =
+    λ m. record (next (numbers z s) (Release mask)) { hot = update-same s.hot (s.phase + 1) mask m }

@@ -4,14 +4,14 @@ use Rattle.std.proofs.lemmas.Bool.{cases_eq, eqb-true, ne_eqb, cond-true, cond-f
 use Rattle.like_core.specs.declared.worker_state.WorkerState.{WorkerState}
 use Rattle.like_core.specs.declared.worker_state.WorkerState.TheVariants.{Runs, Answered, Gone}
 use Rattle.like_core.specs.declared.opening.Opening.{Opening}
-use Rattle.like_core.specs.Functions.{update}
+use Rattle.like_core.specs.Functions.{update, has_bit}
 use Rattle.like_core.specs.Phase.{last_phase}
 use Rattle.like_core.specs.WorkerState.{IsIn, looked}
 use Rattle.like_core.specs.Numbers.{AllIn, Sees, CoordSees}
 use Rattle.like_core.specs.Word.{Fields, packed, IsLawful, announced, answered_by, retired_by, released, answer_bit, retirement_bit}
 use Rattle.like_core.specs.State.{CoreState, numbers}
 use Rattle.like_core.specs.Exclusive.{IsInPhase}
-use Rattle.like_core.specs.Sights.{has_bit, sight_of, coord_sight_of}
+use Rattle.like_core.specs.Sights.{sight_of, coord_sight_of}
 use Rattle.like_core.specs.ShownWord.{weight, mask, has_answered, is_gone, shown_fields, shown_word}
 use Rattle.like_core.specs.Shows.{IsOpening}
 use Rattle.like_core.proofs.Updates.{update-same, update-other}

@@ -3,7 +3,7 @@ use Rattle.std.proofs.lemmas.Bool.{ne_eqb, ltb-true}
 use Rattle.like_core.specs.declared.worker_state.WorkerState.{WorkerState}
 use Rattle.like_core.specs.declared.worker_state.WorkerState.TheVariants.{Runs, Answered, Gone}
 use Rattle.like_core.specs.declared.event.Event.{Event}
-use Rattle.like_core.specs.declared.event.Event.TheVariants.{Look, Acknowledge, Report, Retire, Like, Read, Merge, CoordLook, Announce, Release}
+use Rattle.like_core.specs.declared.event.Event.TheVariants.{Look, Acknowledge, Report, Retire, Like, Read, Merge, Hot, CoordLook, CoordRead, Announce, Release}
 use Rattle.like_core.specs.declared.opening.Opening.{Opening}
 use Rattle.like_core.specs.Functions.{update}
 use Rattle.like_core.specs.Phase.{split}
@@ -76,16 +76,18 @@ keeps_unanswered z s (Report i) p none may = λ running. let ends = may.suits.2 
 keeps_unanswered z s (Retire i) p none may = moves s i Gone none (λ _. refl)
 keeps_unanswered z s (Like i page) p none may =
     let label : Label = record { worker = i; phase = s.phase } in
-    either (split (marked z) s.phase page)
+    either (split (marked z) s.hot s.phase page)
     (record s { unmerged = _ })
     (record s { applied = _ })
     none
     none
 keeps_unanswered z s (Read i page) p none may = none
 keeps_unanswered z s (Merge i page) p none may = none
+keeps_unanswered z s (Hot i) p none may = none
 keeps_unanswered z s CoordLook p none may = none
+keeps_unanswered z s (CoordRead page) p none may = none
 keeps_unanswered z s Announce p none may = λ running. absurd (cc)
-keeps_unanswered z s Release p none may =
+keeps_unanswered z s (Release mask) p none may =
     λ running i. answered_not (s.phase + 1) (s.state i)
     (λ j is same. elim (p.answered i j is) [ inl now ↦ absurd (omega arith) | inr before ↦ absurd (omega arith) ])
 

@@ -8,13 +8,14 @@ abbrev pub AreRowsOf : ℕ → List (List ℕ) → Type 0
 AreRowsOf pages rows = (i : ℕ) → i < length rows → length (slice_index_or rows i []) ≡ pages
 
 -- the numbers that lists by worker and page keep; who is no worker is gone
-abbrev pub kept : ℕ → Bool → List WorkerState → List (List ℕ) → List ℕ → List Bool → Numbers
-kept phase ending states unmerged counts marks = record {
+abbrev pub kept : ℕ → Bool → ℕ → List WorkerState → List (List ℕ) → List ℕ → List Bool → Numbers
+kept phase ending hot states unmerged counts marks = record {
   workers = length unmerged;
   pages = length counts;
   marked = λ page. slice_index_or marks page false;
   phase = phase;
   ending = ending;
+  hot = hot;
   state = λ i. slice_index_or states i Gone;
   unmerged = λ i page. slice_index (slice_index_or unmerged i []) page;
   count = λ page. slice_index counts page;

@@ -6,6 +6,7 @@ pub mod Word
 pub mod PhaseWord
 pub mod Functions
 pub mod WorkerState
+pub mod PhaseMasks
 pub mod Numbers
 pub mod Table
 pub mod Kept

@@ -17,6 +17,10 @@ max_count = 10 ^ 18
 abbrev pub max_likes : ℕ
 max_likes = 64000000
 
+-- how many pages can be hot: the first ones
+abbrev pub hot_pages : ℕ
+hot_pages = 64
+
 -- a page's total, which is its count and all its unmerged likes, stays below this
 abbrev pub total_bound : ℕ
 total_bound = 2 ^ 63

@@ -9,14 +9,15 @@ use Rattle.like_core.specs.Phase.{split}
 use Rattle.like_core.specs.WorkerState.{IsIn, looked}
 
 -- what the table of events speaks of: how many workers and pages there are and which pages are marked as split; the
--- phase and whether its end was announced; each worker's state; how many likes of a page a worker has not merged; and
--- each page's count
+-- phase, whether its end was announced, and the mask of its hot pages; each worker's state; how many likes of a page a
+-- worker has not merged; and each page's count
 pub record Numbers : Type 0 where
   pub workers : ℕ
   pub pages : ℕ
   pub marked : ℕ → Bool
   pub phase : ℕ
   pub ending : Bool
+  pub hot : ℕ
   pub state : ℕ → WorkerState
   pub unmerged : ℕ → ℕ → ℕ
   pub count : ℕ → ℕ
@@ -48,7 +49,7 @@ with_more n page likes = with_count n page (n.count page + likes)
 
 -- whether likes of the page go into slices in the present phase
 abbrev pub sliced : Numbers → ℕ → Bool
-sliced n page = split n.marked n.phase page
+sliced n page = split n.marked (λ _. n.hot) n.phase page
 
 -- the page's count and all its unmerged likes
 abbrev pub total : Numbers → ℕ → ℕ

@@ -1,4 +1,6 @@
-use Rattle.std.specs.Prelude.{◌≡◌, ℕ, ◌%◌, ◌==◌, Bool, ◌&&◌}
+use Rattle.std.specs.Prelude.{◌≡◌, ℕ, ◌%◌, ◌==◌, nat_lt, Bool, ◌&&◌, ◌||◌}
+use Rattle.like_core.specs.Limits.{hot_pages}
+use Rattle.like_core.specs.Functions.{has_bit}
 
 -- the number of the last phase
 abbrev pub last_phase : ℕ
@@ -12,6 +14,11 @@ IsJoined phase = phase % 2 ≡ 0
 abbrev pub IsSplit : ℕ → Type 0
 IsSplit phase = phase % 2 ≡ 1
 
--- whether a page is split in a phase, where `marked` says which pages are marked as split
-abbrev pub split : (ℕ → Bool) → ℕ → ℕ → Bool
-split marked phase page = (phase % 2 == 1) && marked page
+-- whether a page is hot by a mask: it is one of the first 64, and its bit is set
+abbrev pub is_hot : ℕ → ℕ → Bool
+is_hot mask page = nat_lt page hot_pages && has_bit mask page
+
+-- whether a page is split in a phase, where `marked` says which pages are marked as split, and `hot` is each phase's
+-- mask of hot pages
+abbrev pub split : (ℕ → Bool) → (ℕ → ℕ) → ℕ → ℕ → Bool
+split marked hot phase page = (phase % 2 == 1) && (marked page || is_hot (hot phase) page)

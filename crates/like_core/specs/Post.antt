@@ -4,14 +4,16 @@ use Rattle.like_core.specs.declared.worker_state.WorkerState.TheVariants.{Runs, 
 use Rattle.like_core.specs.declared.sight.Sight.{Sight}
 use Rattle.like_core.specs.declared.view.Addition.{Addition}
 use Rattle.like_core.specs.declared.view.PageRead.{PageRead}
-use Rattle.like_core.specs.Limits.{max_likes}
+use Rattle.like_core.specs.declared.view.PhaseMask.{PhaseMask}
+use Rattle.like_core.specs.Limits.{max_likes, hot_pages}
 use Rattle.like_core.specs.Additions.{all_added, added_to, added_in}
-use Rattle.like_core.specs.Phase.{split}
+use Rattle.like_core.specs.Phase.{IsSplit, split}
+use Rattle.like_core.specs.PhaseMasks.{mask_of, HasMask}
 use Rattle.like_core.specs.WorkerState.{IsRunning, SawEnding, phase_of, seen}
 
 -- what a post means: at which board it stands, as numbers that tell boards apart; whose it is; for each page of its board,
--- whether it is marked as split; the worker's state and its last sight, if it looked; and what it has added to pages and
--- read of them, in order
+-- whether it is marked as split; the worker's state and its last sight, if it looked; what it has added to pages and
+-- read of them, in order; and the masks of hot pages that it read, the latest first
 pub record PostView : Type 0 where
   pub board : List ℕ
   pub worker : ℕ
@@ -20,6 +22,7 @@ pub record PostView : Type 0 where
   pub last : Option Sight
   pub additions : List Addition
   pub reads : List PageRead
+  pub masks : List PhaseMask
 
 -- how many pages there are
 abbrev pub pages_of : PostView → ℕ
@@ -43,10 +46,18 @@ pub record IsFresh (v : PostView) : Type 0 where
   pub never_looked : v.last ≡ None
   pub added_nothing : v.additions ≡ []
   pub read_nothing : v.reads ≡ []
+  pub no_masks : v.masks ≡ []
 
 -- whether the page is sliced in the post's phase
 abbrev pub slices : PostView → ℕ → Bool
-slices v page = split (is_marked v) (phase_of v.state) page
+slices v page = split (is_marked v) (mask_of v.masks) (phase_of v.state) page
+
+-- whether it is sliced is known to the post: an unmarked page of the first 64 may be hot in a split phase, so there the
+-- post has read the phase's mask
+abbrev pub KnowsSlices : PostView → ℕ → Type 0
+KnowsSlices v page =
+    IsSplit (phase_of v.state) → is_marked v page ≡ false → page < hot_pages
+    → HasMask (phase_of v.state) v.masks
 
 -- the post after a look
 abbrev pub looked_at : PostView → Sight → PostView
@@ -77,11 +88,16 @@ has_read v page count = record v {
   } ∷ [];
 }
 
+-- the post after it read the mask of its phase's hot pages, which was this
+abbrev pub with_mask : PostView → ℕ → PostView
+with_mask v mask = record v { masks = record { phase = phase_of v.state; mask = mask } ∷ v.masks }
+
 -- n may be added to the page: 1 at a like of a page that is not sliced; a slice that is merged in the ending phase; and
 -- all additions of a post together stay within its worker's requests
 pub record MayAdd (v : PostView) (page n : ℕ) : Type 0 where
   pub runs : IsRunning v.state
   pub there : page < pages_of v
+  pub known : KnowsSlices v page
   pub like : slices v page ≡ false → n ≡ 1
   pub merge : slices v page ≡ true → (1 ≤ n) × SawEnding v.last
   pub few : all_added v.additions + n ≤ max_likes
@@ -90,4 +106,5 @@ pub record MayAdd (v : PostView) (page n : ℕ) : Type 0 where
 pub record MayRead (v : PostView) (page : ℕ) : Type 0 where
   pub runs : IsRunning v.state
   pub there : page < pages_of v
+  pub known : KnowsSlices v page
   pub plain : slices v page ≡ false

@@ -5,6 +5,7 @@ use mathlib.Core.Option.{some}
 use lib.ListN.{get_elem?}
 use Rattle.like_core.specs.declared.view.Addition.{Addition}
 use Rattle.like_core.specs.declared.view.PageRead.{PageRead}
+use Rattle.like_core.specs.declared.view.PageCount.{PageCount}
 use Rattle.like_core.specs.declared.view.WorkerSeatView.{WorkerSeatView}
 use Rattle.like_core.specs.declared.view.CoordSeatView.{CoordSeatView}
 use Rattle.like_core.specs.declared.view.View.{View}
@@ -52,6 +53,10 @@ abbrev pub ReadsFit : List ℕ → ℕ → List View → Type 0
 ReadsFit counts phase views =
     (place : ℕ) (view : View) → get_elem? views place ≡ some view
     → HasReads counts (all_before views) phase view
+
+-- a count that the coordinator read is the one at the start and all that was added up to its phase
+abbrev pub IsCounted : List ℕ → (ℕ → ℕ → ℕ) → PageCount → Type 0
+IsCounted counts before r = r.count ≡ slice_index counts r.page + before (r.phase + 1) r.page
 
 -- an addition in the phase keeps it so
 abbrev pub AdditionKeepsReads : Type 0

@@ -1,4 +1,4 @@
-use Rattle.std.specs.Prelude.{◌≡◌, ℕ, ◌+◌, ◌<◌, ◌≤◌, All, nat_lt, true, if◌then◌else◌, List, [], length, slice_index, slice_set, IfSome}
+use Rattle.std.specs.Prelude.{◌≡◌, ℕ, ◌+◌, ◌^◌, ◌<◌, ◌≤◌, All, nat_lt, true, if◌then◌else◌, List, [], length, slice_index, slice_set, IfSome}
 use Rattle.std.specs.List.{sum_by}
 use mathlib.Core.Option.{some}
 use lib.ListN.{get_elem?}
@@ -12,6 +12,7 @@ use Rattle.like_core.specs.declared.view.View.{View}
 use Rattle.like_core.specs.declared.view.View.TheVariants.{Coord, Worker, Spent}
 use Rattle.like_core.specs.Limits.{max_workers, max_pages, max_count}
 use Rattle.like_core.specs.Phase.{IsSplit}
+use Rattle.like_core.specs.PhaseMasks.{mask_of}
 use Rattle.like_core.specs.Numbers.{AllIn, AllGone, CoordSees}
 use Rattle.like_core.specs.Table.{Permits, IsShown}
 use Rattle.like_core.specs.State.{CoreState, labelled, after, numbers}
@@ -20,7 +21,7 @@ use Rattle.like_core.specs.ShownWord.{shown_word}
 use Rattle.like_core.specs.WorkerState.{IsRunning, SawEnding, SawNoLater}
 use Rattle.like_core.specs.Additions.{added_in}
 use Rattle.like_core.specs.Views.{seats_of}
-use Rattle.like_core.specs.Reads.{ReadsFit}
+use Rattle.like_core.specs.Reads.{all_before, IsCounted, ReadsFit}
 use Rattle.like_core.specs.Tallies.{Tallied}
 
 -- an opening that a board may have: there are 1 to 16 workers and at most 1,024 pages, each with a mark and a count of
@@ -33,7 +34,8 @@ pub record IsOpening (z : Opening) : Type 0 where
   pub counts : All (λ n. n ≤ max_count) z.counts
 
 -- a worker's view of a state: its worker's state there; it saw no later phase; what it saw of the phase that it runs is
--- still so; and of each page's likes as many have the label of its worker and a phase as it added to the page in the phase
+-- still so; of each page's likes as many have the label of its worker and a phase as it added to the page in the phase;
+-- and the masks that it read are those of their phases
 pub record FitsWorker (z : Opening) (s : CoreState) (v : WorkerSeatView) : Type 0 where
   pub opening : v.opening ≡ z
   pub there : v.worker < z.workers
@@ -42,10 +44,13 @@ pub record FitsWorker (z : Opening) (s : CoreState) (v : WorkerSeatView) : Type 
   pub ending : IsRunning v.state → SawEnding v.last → s.ending ≡ true
   pub labels : (phase page : ℕ)
       → labelled v.worker phase (s.applied page) ≡ added_in phase page v.additions
+  pub masks : All (λ m. (m.phase ≤ s.phase) × (m.mask ≡ s.hot m.phase)) v.masks
 
 -- the coordinator's view of a state: its phase, and whether that is ending; who has no seat yet runs phase 0 and added
 -- nothing; a sight that showed all in is still what a look would show; all are gone in a split phase only where the last
--- sight before its release showed that; and the views of the seats that were given back are still so
+-- sight before its release showed that; each count that it read was of a phase that is over, or in which all are in; a
+-- mask that it published has bits of pages that are there alone; each phase's mask is the one with which it released
+-- it; and the views of the seats that were given back are still so
 pub record FitsCoord (z : Opening) (s : CoreState) (c : CoordSeatView) : Type 0 where
   pub opening : c.opening ≡ z
   pub made : c.made ≤ z.workers
@@ -59,6 +64,9 @@ pub record FitsCoord (z : Opening) (s : CoreState) (c : CoordSeatView) : Type 0 
       → CoordSees (numbers z s) sight × (c.word ≡ shown_word z s))
   pub all_in : c.all_in ≡ true → AllIn (numbers z s)
   pub gone : IsSplit s.phase → AllGone (numbers z s) → c.gone ≡ true
+  pub counted : All (λ r. (r.phase ≤ s.phase) × (r.phase ≡ s.phase → AllIn (numbers z s))) c.counted
+  pub published : IfSome c.published (λ mask. mask < 2 ^ length z.counts)
+  pub masks : (phase : ℕ) → mask_of c.masks phase ≡ s.hot phase
   pub joined : (place : ℕ) (v : WorkerSeatView) → get_elem? c.joined place ≡ some v
       → FitsWorker z s v
 
@@ -68,22 +76,27 @@ Fits z s (Coord c) = FitsCoord z s c
 Fits z s (Worker v) = FitsWorker z s v
 Fits z s Spent = Unit {0}
 
--- the words and the views of all seats show the state: word 0 is its phase word, and then stands each page's count;
--- no likes are unmerged; the first seat is the coordinator's, and no other is; each worker that has a seat has one; and
--- each count that was read lies between what the views have added
+-- the words and the views of all seats show the state: word 0 is its phase word, then stands each page's count, and last
+-- the mask word, which is the mask of a split phase, and the one that the coordinator published since its last look; no
+-- likes are unmerged; the first seat is the coordinator's, and no other is; each worker that has a seat has one; each
+-- count that a worker read lies between what the views have added; and each that the coordinator read is what they had
+-- added up to its phase
 pub record Shows (z : Opening) (s : CoreState) (words : List ℕ) (views : List View) : Type 0 where
   pub opening : IsOpening z
-  pub width : length words ≡ length z.counts + 1
+  pub width : length words ≡ length z.counts + 2
   pub word : slice_index words 0 ≡ shown_word z s
   pub pages : (page : ℕ) → page < length z.counts
       → slice_index words (page + 1) ≡ slice_index z.counts page + length (s.applied page)
+  pub mask : IsSplit s.phase → slice_index words (length z.counts + 1) ≡ s.hot s.phase
   pub merged : (i : ℕ) → s.unmerged i ≡ []
   pub coord : CoordSeatView
   pub first : get_elem? views 0 ≡ some (Coord coord)
   pub only : (place : ℕ) (c : CoordSeatView) → get_elem? views place ≡ some (Coord c) → place ≡ 0
   pub each : (place : ℕ) (v : View) → get_elem? views place ≡ some v → Fits z s v
   pub once : (i : ℕ) → sum_by (seats_of i) views ≡ (if nat_lt i coord.made then 1 else 0)
+  pub published : IfSome coord.published (λ mask. slice_index words (length z.counts + 1) ≡ mask)
   pub reads : ReadsFit z.counts s.phase views
+  pub counted : All (IsCounted z.counts (all_before views)) coord.counted
 
 -- the words and the views show some state that can be reached; beside it stand the tallies of the views' additions
 pub record ShowsSome (z : Opening) (words : List ℕ) (views : List View) : Type 0 where

@@ -1,17 +1,12 @@
 use Rattle.std.specs.Prelude.{ℕ, ◌%◌, ◌==◌, Bool, ◌||◌}
-use Rattle.std.specs.Int.{bit_at}
 use Rattle.like_core.specs.declared.sight.Sight.{Sight}
 use Rattle.like_core.specs.declared.sight.CoordSight.{CoordSight}
-use Rattle.like_core.specs.Functions.{each_below}
+use Rattle.like_core.specs.Functions.{each_below, has_bit}
 use Rattle.like_core.specs.Word.{Fields}
 
 -- the fields of the phase word at the start
 abbrev pub first_fields : ℕ → Fields
 first_fields workers = record { kind = 0; workers = workers; answered = 0; retired = 0; number = 0 }
-
--- whether a mask has bit i
-abbrev pub has_bit : ℕ → ℕ → Bool
-has_bit mask i = bit_at mask i == 1
 
 -- what worker i sees in a phase word with these fields: it waits where its bit of `answered` is set
 abbrev pub sight_of : Fields → ℕ → Sight

@@ -1,11 +1,11 @@
-use Rattle.std.specs.Prelude.{List, [], ◌∷◌, take, slice_get, Some, ◌≡◌, ◌≢◌, ℕ, ◌+◌, ◌<◌, true, false, if◌then◌else◌}
+use Rattle.std.specs.Prelude.{List, [], ◌∷◌, take, slice_get, Some, ◌≡◌, ◌≢◌, ℕ, ◌+◌, ◌^◌, ◌<◌, true, false, if◌then◌else◌}
 use Rattle.like_core.specs.declared.worker_state.WorkerState.TheVariants.{Runs, Answered, Gone}
 use Rattle.like_core.specs.declared.sight.Sight.{Sight}
 use Rattle.like_core.specs.declared.sight.CoordSight.{CoordSight}
 use Rattle.like_core.specs.declared.event.Event.{Event}
-use Rattle.like_core.specs.declared.event.Event.TheVariants.{Look, Acknowledge, Report, Retire, Like, Read, Merge, CoordLook, Announce, Release}
+use Rattle.like_core.specs.declared.event.Event.TheVariants.{Look, Acknowledge, Report, Retire, Like, Read, Merge, Hot, CoordLook, CoordRead, Announce, Release}
 use Rattle.like_core.specs.declared.shown.Shown.{Shown}
-use Rattle.like_core.specs.declared.shown.Shown.TheVariants.{Seen, Coord, Done, Sliced, Old, Count}
+use Rattle.like_core.specs.declared.shown.Shown.TheVariants.{Seen, Coord, Done, Sliced, Old, Count, Hot as HotShown}
 use Rattle.like_core.specs.declared.pure_core.refusal.NotNow.{NotNow}
 use Rattle.like_core.specs.declared.pure_core.refusal.Wrong.{Wrong}
 use Rattle.like_core.specs.declared.pure_core.refusal.NotNow.TheVariants.{NoSuch, Phase, Last, Full}
@@ -13,7 +13,7 @@ use Rattle.like_core.specs.Limits.{total_bound}
 use Rattle.like_core.specs.Phase.{last_phase, IsJoined, IsSplit}
 use Rattle.like_core.specs.Numbers.{Numbers, with_state, with_unmerged, sliced, total, AllIn, Sees, CoordSees, with_look, with_like, with_more}
 
--- the worker and the page that the event names are there
+-- the worker and the page that the event names are there, and the page of each bit of its mask
 abbrev pub IsThere : Numbers → Event → Type 0
 IsThere n (Look i) = i < n.workers
 IsThere n (Acknowledge i) = i < n.workers
@@ -22,9 +22,11 @@ IsThere n (Retire i) = i < n.workers
 IsThere n (Like i page) = (i < n.workers) × (page < n.pages)
 IsThere n (Read i page) = (i < n.workers) × (page < n.pages)
 IsThere n (Merge i page) = (i < n.workers) × (page < n.pages)
+IsThere n (Hot i) = i < n.workers
 IsThere n CoordLook = Unit {0}
+IsThere n (CoordRead page) = page < n.pages
 IsThere n Announce = Unit {0}
-IsThere n Release = Unit {0}
+IsThere n (Release mask) = mask < 2 ^ n.pages
 
 -- the event suits the workers' states, the kind of the phase and the unmerged likes
 abbrev pub Suits : Numbers → Event → Type 0
@@ -37,9 +39,11 @@ Suits n (Retire i) = (n.state i ≡ Runs n.phase) × IsJoined n.phase
 Suits n (Like i page) = n.state i ≡ Runs n.phase
 Suits n (Read i page) = (n.state i ≡ Runs n.phase) × (sliced n page ≡ false)
 Suits n (Merge i page) = (n.state i ≡ Runs n.phase) × (sliced n page ≡ true) × (n.ending ≡ true)
+Suits n (Hot i) = (n.state i ≡ Runs n.phase) × IsSplit n.phase
 Suits n CoordLook = Unit {0}
+Suits n (CoordRead page) = Unit {0}
 Suits n Announce = n.ending ≡ false
-Suits n Release = (n.ending ≡ true) × AllIn n
+Suits n (Release mask) = (n.ending ≡ true) × AllIn n × (IsSplit n.phase → mask ≡ 0)
 
 -- the event does not announce the end of the last phase
 abbrev pub LeavesLast : Numbers → Event → Type 0
@@ -74,9 +78,11 @@ IsShown n (Retire i) shown = shown ≡ Done
 IsShown n (Like i page) shown = shown ≡ (if sliced n page then Sliced else Old (n.count page))
 IsShown n (Read i page) shown = shown ≡ Count (n.count page)
 IsShown n (Merge i page) shown = shown ≡ Old (n.count page)
+IsShown n (Hot i) shown = shown ≡ HotShown n.hot
 IsShown n CoordLook shown = ((sight : CoordSight) × (shown ≡ Coord sight) × CoordSees n sight)
+IsShown n (CoordRead page) shown = shown ≡ Count (n.count page)
 IsShown n Announce shown = shown ≡ Done
-IsShown n Release shown = shown ≡ Done
+IsShown n (Release mask) shown = shown ≡ Done
 
 -- the numbers after the event
 abbrev pub next : Numbers → Event → Numbers
@@ -88,9 +94,11 @@ next n (Like i page) =
     (if sliced n page then with_like n i page else with_more n page 1)
 next n (Read i page) = n
 next n (Merge i page) = with_more (with_unmerged n i page 0) page (n.unmerged i page)
+next n (Hot i) = n
 next n CoordLook = n
+next n (CoordRead page) = n
 next n Announce = record n { ending = true }
-next n Release = record n { phase = n.phase + 1; ending = false }
+next n (Release mask) = record n { phase = n.phase + 1; ending = false; hot = mask }
 
 -- the numbers after a list of events
 abbrev pub next_all : Numbers → List Event → Numbers

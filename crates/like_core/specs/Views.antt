@@ -1,4 +1,5 @@
-use Rattle.std.specs.Prelude.{◌≡◌, ℕ, ◌+◌, ◌==◌, ◌<◌, Bool, true, false, if◌then◌else◌, List, [], ◌∷◌, ◌++◌, length, replicate, count_by, Option, Some, None, IsSomeAnd}
+use Rattle.std.specs.Prelude.{◌≡◌, ℕ, ◌+◌, ◌==◌, ◌<◌, Bool, true, false, ◌%◌, ◌^◌, if◌then◌else◌, List, [], ◌∷◌, ◌++◌, length, replicate, count_by, Option, Some, None, IsSome, IsSomeAnd}
+use Rattle.std.specs.Option.{unwrap_or}
 use Rattle.like_core.specs.declared.worker_state.WorkerState.TheVariants.{Runs, Answered, Gone}
 use Rattle.like_core.specs.declared.sight.Sight.{Sight}
 use Rattle.like_core.specs.declared.sight.CoordSight.{CoordSight}
@@ -9,11 +10,11 @@ use Rattle.like_core.specs.declared.view.WorkerSeatView.{WorkerSeatView}
 use Rattle.like_core.specs.declared.view.CoordSeatView.{CoordSeatView}
 use Rattle.like_core.specs.declared.view.View.{View}
 use Rattle.like_core.specs.declared.view.View.TheVariants.{Coord, Worker, Spent}
-use Rattle.like_core.specs.Phase.{last_phase}
+use Rattle.like_core.specs.Phase.{last_phase, IsJoined}
 use Rattle.like_core.specs.WorkerState.{phase_of, seen}
 use Rattle.like_core.specs.Post.{PostView, slices}
 
--- a worker's view before its seat made a step: it runs phase 0, looked never and added nothing
+-- a worker's view before its seat made a step: it runs phase 0, looked never, added nothing and read nothing
 abbrev pub fresh : Opening → ℕ → WorkerSeatView
 fresh z worker = record {
   opening = z;
@@ -22,6 +23,7 @@ fresh z worker = record {
   last = None;
   additions = [];
   reads = [];
+  masks = [];
 }
 
 -- the coordinator's view before its first step, where this is the phase word
@@ -35,6 +37,9 @@ fresh_coord z word = record {
   word = word;
   all_in = false;
   gone = false;
+  counted = [];
+  published = None;
+  masks = [];
   joined = [];
 }
 
@@ -67,6 +72,11 @@ read_view v page count = record v {
   } ∷ [];
 }
 
+-- a worker's view after it read the mask of its phase's hot pages, which was this
+abbrev pub masked_view : WorkerSeatView → ℕ → WorkerSeatView
+masked_view v mask =
+    record v { masks = record { phase = phase_of v.state; mask = mask } ∷ v.masks }
+
 -- what a worker's view means as a post, the board aside
 abbrev pub post_of : WorkerSeatView → PostView
 post_of v = record {
@@ -77,6 +87,7 @@ post_of v = record {
   last = v.last;
   additions = v.additions;
   reads = v.reads;
+  masks = v.masks;
 }
 
 -- the likes that an addition of n to a page merges; where the page is not sliced there are none, and it is a like itself
@@ -89,7 +100,8 @@ adding v page = (if slices (post_of v) page then Merge v.worker page else Like v
 
 -- the coordinator's view after a look at a word
 abbrev pub looked_coord : CoordSeatView → ℕ → CoordSight → CoordSeatView
-looked_coord c word sight = record c { last = Some sight; word = word; all_in = sight.all_in }
+looked_coord c word sight =
+    record c { last = Some sight; word = word; all_in = sight.all_in; published = None }
 
 -- the coordinator's view after an announcement
 abbrev pub announced_coord : CoordSeatView → CoordSeatView
@@ -100,6 +112,19 @@ abbrev pub saw_all_gone : Option CoordSight → Bool
 saw_all_gone (Some sight) = sight.all_gone
 saw_all_gone None = false
 
+-- the coordinator's view after it read a page's count, which was this
+abbrev pub counted_coord : CoordSeatView → ℕ → ℕ → CoordSeatView
+counted_coord c page count =
+    record c { counted = record { phase = c.phase; page = page; count = count } ∷ c.counted }
+
+-- the coordinator's view after it published a mask
+abbrev pub published_coord : CoordSeatView → ℕ → CoordSeatView
+published_coord c mask = record c { published = Some mask }
+
+-- the mask with which the coordinator releases: the one that it published last, and 0 for a joined phase
+abbrev pub mask_released : CoordSeatView → ℕ
+mask_released c = (if c.phase % 2 == 0 then unwrap_or c.published 0 else 0)
+
 -- the coordinator's view after a release
 abbrev pub released_coord : CoordSeatView → CoordSeatView
 released_coord c = record c {
@@ -108,6 +133,7 @@ released_coord c = record c {
   last = None;
   all_in = false;
   gone = saw_all_gone c.last;
+  masks = record { phase = c.phase + 1; mask = mask_released c } ∷ c.masks;
 }
 
 -- the coordinator's view after it made one worker's seat more
@@ -126,9 +152,21 @@ gathered_all c vs = record c { joined = vs ++ c.joined }
 abbrev pub MayAnnounce : CoordSeatView → Type 0
 MayAnnounce c = IsSomeAnd c.last (λ sight. (sight.ending ≡ false) × (sight.number < last_phase))
 
--- the coordinator may release: the last look, since which it made no step, showed an ending phase and all in
+-- the last look, since which nothing was announced or released, showed an ending phase and all in
+abbrev pub SawAllIn : CoordSeatView → Type 0
+SawAllIn c = IsSomeAnd c.last (λ sight. (sight.ending ≡ true) × (sight.all_in ≡ true))
+
+-- the coordinator may read the count of a page that is there: it saw all in, in a joined phase
+abbrev pub MayCount : CoordSeatView → ℕ → Type 0
+MayCount c page = SawAllIn c × IsJoined c.phase × (page < length c.opening.counts)
+
+-- it may publish a mask, each bit of which is that of a page that is there
+abbrev pub MayPublish : CoordSeatView → ℕ → Type 0
+MayPublish c mask = SawAllIn c × IsJoined c.phase × (mask < 2 ^ length c.opening.counts)
+
+-- it may release: it saw all in, and before a split phase it published a mask since
 abbrev pub MayRelease : CoordSeatView → Type 0
-MayRelease c = IsSomeAnd c.last (λ sight. (sight.ending ≡ true) × (sight.all_in ≡ true))
+MayRelease c = SawAllIn c × (IsJoined c.phase → IsSome c.published)
 
 -- how many workers' seats with the number i a view stands for: its own, or those that were given back
 abbrev pub seats_of : ℕ → View → ℕ

@@ -15,10 +15,14 @@ pub enum Event {
     Read(u32, u32),
     /// The worker adds its slice of a page to the page's count.
     Merge(u32, u32),
+    /// The worker, in a split phase, reads the mask of its hot pages.
+    Hot(u32),
     /// The coordinator looks at the phase word.
     CoordLook,
+    /// The coordinator reads the count of this page.
+    CoordRead(u32),
     /// The coordinator announces the end of the phase.
     Announce,
-    /// The coordinator releases the next phase.
-    Release,
+    /// The coordinator releases the next phase with this mask of hot pages, which is 0 where that phase is joined.
+    Release(u64),
 }

@@ -6,6 +6,7 @@
 #![tactic(auto)]
 
 mod event;
+mod hot;
 pub mod laws;
 mod opening;
 mod phase_word;
@@ -17,11 +18,12 @@ mod view;
 mod worker_state;
 
 pub use event::Event;
+pub use hot::is_hot;
 pub use opening::Opening;
 pub use phase_word::{Kind, LAST_PHASE, PhaseWord};
 pub use post::Post;
 pub use pure_core::{Core, NotNow, Wrong, check_events};
 pub use shown::Shown;
 pub use sight::{CoordSight, Sight};
-pub use view::{Addition, CoordSeatView, PageRead, View, WorkerSeatView};
+pub use view::{Addition, CoordSeatView, PageCount, PageRead, PhaseMask, View, WorkerSeatView};
 pub use worker_state::WorkerState;

@@ -1,7 +1,7 @@
 ghost use Rattle.std.specs.Prelude.{◌≡◌, ◌≢◌, ◌≤◌, true};
 ghost use Rattle.like_core.specs.declared.worker_state.WorkerState.TheVariants.{Gone};
 ghost use Rattle.like_core.specs.WorkerState.{RunsJoined, RunsSplit, SawEnding, IsSightOf, SeesEndingStill};
-ghost use Rattle.like_core.specs.Post.{PostView, looked_at, answered, retired, added, has_read, additions_of, MayAdd, MayRead};
+ghost use Rattle.like_core.specs.Post.{PostView, looked_at, answered, retired, added, has_read, with_mask, additions_of, MayAdd, MayRead};
 
 use crate::sight::Sight;
 
@@ -50,4 +50,9 @@ pub trait Post {
         requires { MayRead (view self.old) page }
         ensures view { view self.new ≡ has_read (view self.old) page result }
         ensures own { additions_of (view self.old) page ≤ result };
+
+    /// The mask of the hot pages of the split phase that the worker runs: bit `p` is that of page `p`.
+    fn hot(&mut self) -> u64
+        requires { RunsSplit (view self.old).state }
+        ensures { view self.new ≡ with_mask (view self.old) result };
 }

@@ -19,12 +19,14 @@ use page_numbers::PageNumbers;
 pub use refusal::{NotNow, Wrong};
 pub use sequence::check_events;
 
-/// The core as a state machine over events: it keeps the phase, each worker's state, how many likes of each page each
-/// worker has not merged, and each page's count.
+/// The core as a state machine over events: it keeps the phase and the mask of its hot pages, each worker's state, how
+/// many likes of each page each worker has not merged, and each page's count.
 #[derive(Debug, Drop)]
 pub struct Core {
     phase: u32,
     ending: bool,
+    /// The mask of the present phase's hot pages.
+    hot: u64,
     states: Vec<WorkerState>,
     /// By worker.
     unmerged: Vec<PageNumbers>,
@@ -34,7 +36,7 @@ pub struct Core {
     ghost states_sized: { length states.items ≡ length unmerged.items },
     ghost marks_sized: { length marks.items ≡ length counts },
     ghost rows_sized: { AreRowsOf (length counts) unmerged.items },
-    ghost bounded: { AreBounded (kept phase ending states.items unmerged.items counts marks.items) },
+    ghost bounded: { AreBounded (kept phase ending hot states.items unmerged.items counts marks.items) },
     ghost within: { phase ≤ last_phase },
     ghost last: { ending ≡ true → phase < last_phase },
 }
@@ -56,7 +58,7 @@ impl Core {
     ghost use Rattle.like_core.specs.Core.{numbers_of, StandsForStart, TakesStates, IsReachable, KeepsReachable, IsCoreExclusive};
 
     /// The core at the start of phase 0, running, with these counts and marks by page. Pages that are marked in `split`
-    /// are split in each odd phase.
+    /// are split in each odd phase, and others of the first 64 in those that are released with their bit.
     pub fn new(
         alloc: Global,
         workers: u32,
@@ -75,6 +77,7 @@ impl Core {
         Ok(Core {
             phase: 0,
             ending: false,
+            hot: 0,
             states: vec![in alloc; WorkerState::Runs(0); workers as usize]?,
             unmerged: empty_rows(alloc, workers, counts.len())?,
             counts: PageNumbers::from_slice(alloc, counts)?,

@@ -20,6 +20,19 @@ pub struct PageRead {
     pub after: u64,
 }
 
+/// The mask of a phase's hot pages: bit `p` is that of page `p`.
+pub struct PhaseMask {
+    pub phase: u32,
+    pub mask: u64,
+}
+
+/// A count that the coordinator read.
+pub struct PageCount {
+    pub phase: u32,
+    pub page: u32,
+    pub count: u64,
+}
+
 /// What a worker's seat knows.
 pub struct WorkerSeatView {
     pub opening: Opening,
@@ -29,6 +42,8 @@ pub struct WorkerSeatView {
     pub last: Option<Sight>,
     pub additions: LinkedList<Addition>,
     pub reads: LinkedList<PageRead>,
+    /// The masks that it read, the latest first.
+    pub masks: LinkedList<PhaseMask>,
 }
 
 /// What the coordinator's seat knows.
@@ -46,6 +61,12 @@ pub struct CoordSeatView {
     pub all_in: bool,
     /// Whether the last sight before this phase's release showed all workers gone.
     pub gone: bool,
+    /// The counts that it read, the latest first.
+    pub counted: LinkedList<PageCount>,
+    /// The mask that it published last since its last look.
+    pub published: Option<u64>,
+    /// The masks with which it released phases, the latest first.
+    pub masks: LinkedList<PhaseMask>,
     /// What the workers' seats knew that were given back.
     pub joined: LinkedList<WorkerSeatView>,
 }

@@ -10,13 +10,13 @@ fn refuses_early_release(rt: HostRuntime) -> Result<(), Fail> {
         Event::Announce,
         Event::Acknowledge(0),
         Event::Acknowledge(1),
-        Event::Release,
+        Event::Release(0),
         Event::Look(0),
         Event::Like(0, 0),
         Event::Announce,
         Event::Look(1),
         Event::Report(1),
-        Event::Release,
+        Event::Release(0),
     ];
     let wrong = Wrong {
         index: 9,
@@ -25,7 +25,7 @@ fn refuses_early_release(rt: HostRuntime) -> Result<(), Fail> {
     assert_eq!(rt; check_events(&mut core, &events), Err(wrong));
     assert_eq!(rt; core.step(Event::Merge(0, 0)), Ok(Shown::Old(0)));
     assert_eq!(rt; core.step(Event::Report(0)), Ok(Shown::Done));
-    assert_eq!(rt; core.step(Event::Release), Ok(Shown::Done));
+    assert_eq!(rt; core.step(Event::Release(0)), Ok(Shown::Done));
     Ok(())
 }
 
@@ -36,7 +36,7 @@ fn refuses_retirement_in_split_phase(rt: HostRuntime) -> Result<(), Fail> {
         Event::Announce,
         Event::Acknowledge(0),
         Event::Acknowledge(1),
-        Event::Release,
+        Event::Release(0),
         Event::Look(0),
         Event::Like(0, 0),
         Event::Retire(0),
@@ -76,7 +76,7 @@ fn refuses_announcement_in_last_phase(rt: HostRuntime) -> Result<(), Fail> {
         } else {
             Event::Report(0)
         };
-        let events = [Event::Announce, answer, Event::Release, Event::Look(0)];
+        let events = [Event::Announce, answer, Event::Release(0), Event::Look(0)];
         assert_eq!(rt;
             check_events(&mut core, &events),
             Ok(()),
@@ -108,7 +108,7 @@ fn shows_each_step(rt: HostRuntime) -> Result<(), Fail> {
         (Event::Announce, Shown::Done),
         (Event::Acknowledge(0), Shown::Done),
         (Event::CoordLook, Shown::Coord(all_in)),
-        (Event::Release, Shown::Done),
+        (Event::Release(0), Shown::Done),
         (
             Event::Look(0),
             Shown::Seen(Sight {
@@ -129,7 +129,7 @@ fn shows_each_step(rt: HostRuntime) -> Result<(), Fail> {
                 waits: true,
             }),
         ),
-        (Event::Release, Shown::Done),
+        (Event::Release(0), Shown::Done),
         (
             Event::Look(0),
             Shown::Seen(Sight {
@@ -143,6 +143,44 @@ fn shows_each_step(rt: HostRuntime) -> Result<(), Fail> {
     ];
     for (event, shown) in steps {
         assert_eq!(rt; core.step(event), Ok(shown), "at {event:?}");
+    }
+    Ok(())
+}
+
+/// Page 0 is hot in phase 1, page 1 is marked, and there is no page 2.
+#[test]
+fn splits_hot_pages(rt: HostRuntime) -> Result<(), Fail> {
+    let mut core = Core::new(rt.alloc(), 1, &[0, 0], &[false, true])?;
+    let running = |number: u32| {
+        Ok(Shown::Seen(Sight {
+            number,
+            ending: false,
+            waits: false,
+        }))
+    };
+    let steps = [
+        (Event::Announce, Ok(Shown::Done)),
+        (Event::Acknowledge(0), Ok(Shown::Done)),
+        (Event::Release(4), Err(NotNow::NoSuch)),
+        (Event::Release(1), Ok(Shown::Done)),
+        (Event::Look(0), running(1)),
+        (Event::Hot(0), Ok(Shown::Hot(1))),
+        (Event::Like(0, 0), Ok(Shown::Sliced)),
+        (Event::Like(0, 1), Ok(Shown::Sliced)),
+        (Event::Read(0, 0), Err(NotNow::Phase)),
+        (Event::Announce, Ok(Shown::Done)),
+        (Event::Merge(0, 0), Ok(Shown::Old(0))),
+        (Event::Merge(0, 1), Ok(Shown::Old(0))),
+        (Event::Report(0), Ok(Shown::Done)),
+        (Event::Release(1), Err(NotNow::Phase)),
+        (Event::Release(0), Ok(Shown::Done)),
+        (Event::Look(0), running(2)),
+        (Event::Read(0, 0), Ok(Shown::Count(1))),
+        (Event::Hot(0), Err(NotNow::Phase)),
+        (Event::CoordRead(1), Ok(Shown::Count(1))),
+    ];
+    for (event, shown) in steps {
+        assert_eq!(rt; core.step(event), shown, "at {event:?}");
     }
     Ok(())
 }

@@ -1,4 +1,4 @@
-ghost use Rattle.std.specs.Prelude.{◌≡◌, ◌<◌, ◌↔◌, ℕ, IsTrue, MatchOption};
+ghost use Rattle.std.specs.Prelude.{◌≡◌, ◌<◌, ◌^◌, ◌↔◌, ℕ, IsTrue, MatchOption};
 ghost use Rattle.like_core.specs.declared.worker_state.WorkerState.TheVariants.{Runs};
 ghost use Rattle.like_core.specs.Numbers.{sliced, total, AllIn, AllGone};
 ghost use Rattle.like_core.specs.Table.{IsThere, Suits, LeavesLast, HasRoom, Permits, Refuses};
@@ -6,6 +6,7 @@ ghost use Rattle.like_core.specs.Core.{numbers_of};
 
 use super::{Core, NotNow};
 use crate::event::Event;
+use crate::hot::is_hot;
 use crate::phase_word::LAST_PHASE;
 use crate::worker_state::WorkerState;
 
@@ -25,6 +26,14 @@ impl Core {
         (page as usize) < self.counts.len()
     }
 
+    /// Whether each bit of the mask is that of a page that is there.
+    fn has_pages(&self, mask: u64) -> bool
+        ensures { IsTrue result ↔ (mask < 2 ^ (numbers_of self.now).pages) }
+    {
+        let pages = self.counts.len();
+        pages >= 64 || mask >> pages == 0
+    }
+
     pub(super) fn is_there(&self, event: Event) -> bool
         ensures { IsTrue result ↔ IsThere (numbers_of self.now) event }
     {
@@ -32,11 +41,14 @@ impl Core {
             Event::Look(worker)
             | Event::Acknowledge(worker)
             | Event::Report(worker)
-            | Event::Retire(worker) => self.has_worker(worker),
+            | Event::Retire(worker)
+            | Event::Hot(worker) => self.has_worker(worker),
             Event::Like(worker, page) | Event::Read(worker, page) | Event::Merge(worker, page) => {
                 self.has_worker(worker) && self.has_page(page)
             }
-            Event::CoordLook | Event::Announce | Event::Release => true,
+            Event::CoordRead(page) => self.has_page(page),
+            Event::Release(mask) => self.has_pages(mask),
+            Event::CoordLook | Event::Announce => true,
         }
     }
 
@@ -51,7 +63,7 @@ impl Core {
         requires { page < (numbers_of self.now).pages }
         ensures { result ≡ sliced (numbers_of self.now) page }
     {
-        self.phase % 2 == 1 && self.marks[page as usize]
+        self.phase % 2 == 1 && (self.marks[page as usize] || is_hot(self.hot, page))
     }
 
     fn has_no_unmerged(&self, worker: u32) -> bool
@@ -102,9 +114,10 @@ impl Core {
             Event::Merge(worker, page) => {
                 self.runs(worker) && self.is_sliced(page) && self.ending
             }
-            Event::CoordLook => true,
+            Event::Hot(worker) => self.runs(worker) && !joined,
+            Event::CoordLook | Event::CoordRead(_) => true,
             Event::Announce => !self.ending,
-            Event::Release => self.ending && self.all_in(),
+            Event::Release(mask) => self.ending && self.all_in() && (joined || mask == 0),
         }
     }
 

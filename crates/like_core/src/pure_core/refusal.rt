@@ -1,7 +1,7 @@
 /// Why an event may not happen now: the first of these that stands.
 #[derive(Clone, Copy, Debug, PartialEq, Eq)]
 pub enum NotNow {
-    /// The worker or the page is not there.
+    /// The worker or the page is not there, or the page of a bit.
     NoSuch,
     /// The worker's state, the kind of the phase or the unmerged likes do not allow it.
     Phase,

@@ -1,0 +1,14 @@
+-- Masks of hot pages by phase, as lists that have the latest first.
+use Rattle.std.specs.Prelude.{◌≡◌, ℕ, ◌==◌, true, List, [], ◌∷◌}
+use Rattle.std.specs.List.{list_any}
+use Rattle.like_core.specs.declared.view.PhaseMask.{PhaseMask}
+use Rattle.like_core.specs.Functions.{update}
+
+-- each phase's mask, which is 0 where the list has none
+abbrev pub mask_of : List PhaseMask → ℕ → ℕ
+mask_of [] = λ _. 0
+mask_of (m ∷ masks) = update (mask_of masks) m.phase m.mask
+
+-- the list has a mask of the phase
+abbrev pub HasMask : ℕ → List PhaseMask → Type 0
+HasMask phase masks = list_any (λ m. m.phase == phase) masks ≡ true
