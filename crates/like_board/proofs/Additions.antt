@@ -1,7 +1,7 @@
 -- An addition to a page's word is its events, and keeps what the board shows.
 use Rattle.std.proofs.Common.{◌≡◌, ◌≢◌, ℕ, ◌+◌, ◌*◌, ◌-◌, ◌%◌, ◌^◌, ◌<◌, ◌≤◌, ◌==◌, ◌&&◌, nat_lt, cond, inl, inr, List, ◌++◌, All, length, get_or, set, replicate, subst, ap, sym, ◌∙◌, refl, arith}
 use Rattle.std.specs.List.{sum_by}
-use Rattle.std.proofs.lemmas.Bool.{cases_eq, lt-ltb}
+use Rattle.std.proofs.lemmas.Bool.{cases_eq, cases_lt, lt-ltb}
 use Rattle.std.proofs.lemmas.List.{length-append, length-replicate}
 use Rattle.std.proofs.lemmas.List.Elements.{All-get_or}
 use mathlib.Core.Option.{some}
@@ -9,32 +9,33 @@ use lib.ListN.{get_elem?}
 use Rattle.like_core.specs.declared.worker_state.WorkerState.TheVariants.{Runs}
 use Rattle.like_core.specs.declared.shown.Shown.TheVariants.{Old}
 use Rattle.like_core.specs.declared.opening.Opening.{Opening}
+use Rattle.like_core.specs.declared.view.PageCount.{PageCount}
 use Rattle.like_core.specs.declared.view.WorkerSeatView.{WorkerSeatView}
 use Rattle.like_core.specs.declared.view.View.{View}
-use Rattle.like_core.specs.declared.view.View.TheVariants.{Worker}
+use Rattle.like_core.specs.declared.view.View.TheVariants.{Coord, Worker}
 use Rattle.like_core.specs.Limits.{max_workers, max_count, max_likes}
 use Rattle.like_core.specs.Functions.{update}
 use Rattle.like_core.specs.Phase.{split}
 use Rattle.like_core.specs.Table.{IsShown}
 use Rattle.like_core.specs.State.{CoreState, Label, labelled, marked, after, numbers}
 use Rattle.like_core.specs.Reachable.{Reachable, after_all}
-use Rattle.like_core.specs.WorkerState.{phase_of}
+use Rattle.like_core.specs.WorkerState.{IsIn, phase_of}
 use Rattle.like_core.specs.Post.{MayAdd, slices}
 use Rattle.like_core.specs.Additions.{added_to, added_in}
 use Rattle.like_core.specs.Views.{added_view, post_of, likes_merged, adding}
-use Rattle.like_core.specs.Reads.{before_in, all_before, ReadsFit}
+use Rattle.like_core.specs.Reads.{before_in, all_before, IsCounted, ReadsFit}
 use Rattle.like_core.specs.Tallies.{Tallied, paged, room}
-use Rattle.like_core.specs.Shows.{Shows, ShowsSome, FitsWorker, IsSteps}
+use Rattle.like_core.specs.Shows.{Shows, ShowsSome, FitsWorker, FitsCoord, IsSteps}
 use Rattle.like_core.proofs.Updates.{update-same, update-other, update_cases}
 use Rattle.like_core.proofs.Reached.{goes_on, goes_on_by}
 use Rattle.like_core.proofs.InPhase.{reached_in_phase}
 use Rattle.like_core.proofs.Labels.{label, labelled-append, labels_else, labels_here, added_in-push, added_before-push, added_to-push, added_in_else, added_to_here, added_to_else}
 use Rattle.like_core.proofs.Adding.{Adding, with_applied, adds_either}
-use Rattle.like_core.proofs.KeptReads.{addition_keeps_reads}
+use Rattle.like_core.proofs.KeptReads.{addition_before, counted_on, addition_keeps_reads}
 use Rattle.like_core.proofs.Posts.{added_to-le}
 use Rattle.like_core.proofs.ViewLists.{sum_part, sum_set, sum_swap}
 use Rattle.like_board.proofs.WorkerSteps.{running_is}
-use Rattle.like_board.proofs.Pages.{KeepsOthers, page_steps}
+use Rattle.like_board.proofs.Pages.{KeepsOthers, slices_are, page_steps}
 
 -- what stands of likes that worker i applied to a page in phase k
 abbrev pub applied_by : CoreState → ℕ → ℕ → ℕ → ℕ → List Label
@@ -73,6 +74,7 @@ fits_added z s v page n rest f present = record {
   number = f.number;
   ending = f.ending;
   labels = own_labels z s v page n f present;
+  masks = f.masks;
 }
 
 -- how long the lists are after the addition
@@ -140,6 +142,23 @@ tallied_added s views place v page n rest at present few old =
     in
     record { sums = sums_now; rooms = rooms_now; past = past_now }
 
+-- the counts that the coordinator read have none of it: in their phases nobody runs any more
+counted_added : (z : Opening) (s : CoreState) (words : List ℕ) (views : List View) (place : ℕ) (v : WorkerSeatView) (page n : ℕ) → (sh : Shows z s words views) → get_elem? views place ≡ some (Worker v) → s.state v.worker ≡ Runs s.phase → phase_of v.state ≡ s.phase → All (IsCounted z.counts (all_before (set views place (Worker (added_view v page n))))) sh.coord.counted
+counted_added z s words views place v page n sh at runs present =
+    let old : FitsWorker z s v = sh.each place (Worker v) at in
+    let coord : FitsCoord z s sh.coord = sh.each 0 (Coord sh.coord) sh.first in
+    counted_on z.counts (all_before views) (all_before (set views place (Worker (added_view v page n)))) sh.coord.counted
+    (λ k d inside.
+    let r : PageCount = get_or sh.coord.counted k d in
+    let of = coord.counted k d inside in
+    elim (cases_lt r.phase s.phase) [
+      | inl over ↦ addition_before views place v page n (r.phase + 1) r.page at (omega arith)
+      | inr not ↦
+          let within = of.0 in
+          absurd (subst (IsIn s.phase) runs (of.1 (omega arith) v.worker old.there))
+    ])
+    sh.counted
+
 -- a count is at most as large as counts may be at the start
 count_low : (counts : List ℕ) (page : ℕ) → page < length counts → All (λ n. n ≤ max_count) counts → get_or counts page 0 ≤ max_count
 count_low counts page on low = All-get_or (λ (n : ℕ). n ≤ max_count) counts page 0 on low
@@ -168,9 +187,7 @@ adds z words views place v page n some_state at may =
     let sums = some_state.tallied.sums page in
     let part = sum_part (paged page) views place (Worker v) at in
     let found : get_or words (page + 1) 0 ≡ get_or z.counts page 0 + length (s.applied page) = sh.pages page on in
-    let same : split (marked z) s.phase page ≡ slices (post_of v) page =
-    sym (λ m. split (marked (old.opening m)) (present m) page)
-    in
+    let same : split (marked z) s.hot s.phase page ≡ slices (post_of v) page = slices_are z s v page old present may.known in
     let a : Adding z s i page n (likes_merged v page n) (adding v page) =
     adds_either z s i page n (slices (post_of v) page) same may.like
     (λ sliced. old.ending may.runs (may.merge sliced).1)
@@ -189,6 +206,7 @@ adds z words views place v page n some_state at may =
     (fits_added z s v page n a.rest old present)
     (subst (λ (now : ℕ). ReadsFit z.counts now (set views place (Worker w))) present
     (addition_keeps_reads z.counts views place v page n at (subst (λ (now : ℕ). ReadsFit z.counts now views) (sym present) sh.reads)))
+    (counted_added z s words views place v page n sh at (here ∙ ap Runs now) present)
     in
     let last : CoreState = after z (after_all z s (likes_merged v page n)) (adding v page) in
     let reached : Reachable z last =

@@ -1,11 +1,11 @@
 -- Each step is allowed by the rule, and tells what it is said to tell.
-use Rattle.std.proofs.Common.{◌≡◌, ◌≢◌, ℕ, ◌+◌, ◌%◌, ◌^◌, ◌<◌, bit_or, List, [], ◌∷◌, ◌++◌, get_or, slice_set, subst, ap, sym, ◌∙◌, refl, arith}
+use Rattle.std.proofs.Common.{◌≡◌, ◌≢◌, ℕ, ◌+◌, ◌%◌, ◌^◌, ◌<◌, bit_or, List, [], ◌∷◌, ◌++◌, length, get_or, slice_set, subst, ap, sym, ◌∙◌, refl, arith}
 use mathlib.Core.Option.{some}
 use lib.ListN.{get_elem?}
 use Rattle.atomic_table.specs.Table.{Me, keeps, Allows, Splits, Joins}
 use Rattle.like_core.specs.declared.worker_state.WorkerState.TheVariants.{Gone}
-use Rattle.like_core.specs.declared.event.Event.TheVariants.{Acknowledge, Report, Retire, Read, Announce, Release}
-use Rattle.like_core.specs.declared.shown.Shown.TheVariants.{Done, Old, Count}
+use Rattle.like_core.specs.declared.event.Event.TheVariants.{Acknowledge, Report, Retire, Read, Hot, CoordRead, Announce, Release}
+use Rattle.like_core.specs.declared.shown.Shown.TheVariants.{Done, Old, Count, Hot as HotShown}
 use Rattle.like_core.specs.declared.opening.Opening.{Opening}
 use Rattle.like_core.specs.declared.view.WorkerSeatView.{WorkerSeatView}
 use Rattle.like_core.specs.declared.view.CoordSeatView.{CoordSeatView}
@@ -15,20 +15,21 @@ use Rattle.like_core.specs.Word.{Fields, packed, IsLawful, released, answer_bit,
 use Rattle.like_core.specs.Sights.{sight_of, coord_sight_of}
 use Rattle.like_core.specs.Post.{IsFresh, MayAdd, MayRead}
 use Rattle.like_core.specs.WorkerState.{RunsJoined, RunsSplit, SawEnding}
-use Rattle.like_core.specs.Views.{MayAnnounce, MayRelease, fresh, looked_view, answered_view, retired_view, added_view, read_view, post_of, likes_merged, adding, looked_coord, announced_coord, released_coord, made_coord, gathered_coord}
+use Rattle.like_core.specs.Views.{MayAnnounce, MayCount, MayPublish, MayRelease, fresh, looked_view, answered_view, retired_view, added_view, read_view, masked_view, post_of, likes_merged, adding, looked_coord, announced_coord, counted_coord, published_coord, mask_released, released_coord, made_coord, gathered_coord}
 use Rattle.like_core.specs.Actions.{Acknowledges, Reports, Retires, Announces, Releases}
 use Rattle.like_core.specs.Shows.{ShowsSome, FitsWorker, FitsCoord, IsStep, IsSteps}
 use Rattle.like_core.proofs.Posts.{post_fresh}
 use Rattle.like_board.specs.declared.key.Key.{Key}
 use Rattle.like_board.specs.Known.{worker_view_of, coord_view_of}
 use Rattle.like_board.specs.Rule.{opening_of, IsShowing}
-use Rattle.like_board.specs.Plays.{Looked, Surveyed, TellsLook, TellsSurvey, TellsWorker, TellsCoord, TellsAdd, TellsRead, TellsAddAt, TellsReadAt}
+use Rattle.like_board.specs.Plays.{Looked, Surveyed, TellsLook, TellsSurvey, TellsWorker, TellsCoord, TellsAdd, TellsRead, TellsAddAt, TellsReadAt, TellsMask, TellsCount, TellsCountAt}
 use Rattle.like_board.proofs.Leads.{splits}
 use Rattle.like_board.proofs.WorkerSteps.{looks, acknowledges, reports, retires}
 use Rattle.like_board.proofs.CoordSteps.{surveys, announces, releases}
+use Rattle.like_board.proofs.Choosing.{counts, publishes}
 use Rattle.like_board.proofs.Tallying.{tallied_made}
 use Rattle.like_board.proofs.Additions.{adds}
-use Rattle.like_board.proofs.Readings.{reads}
+use Rattle.like_board.proofs.Readings.{reads, reads_mask}
 use Rattle.like_board.proofs.Gathering.{gathers}
 
 -- the opening in a worker's view is the board's
@@ -167,9 +168,47 @@ releasing {S} key slots id me seen new new_is lawful seen_is is may = λ st show
       tt,
       subst (λ (n : ℕ). ShowsSome z (slice_set st.words 0 n) (slice_set st.views id (Coord (released_coord c)))) (sym new_is) r.1,
       (
-        record { view = refl; step = subst (λ (y : Opening). IsStep y Release Done (Coord c) (Coord (released_coord c))) (sym same) r.0 },
+        record { view = refl; step = subst (λ (y : Opening). IsStep y (Release (mask_released c)) Done (Coord c) (Coord (released_coord c))) (sym same) r.0 },
         ap (λ (m : Me S View). m.1) is,
       ),
+    )
+
+pub counting : {S : Type 0} (key : Key) (slots id : ℕ) (me : Me S View) (page : ℕ) → me ≡ (Coord (coord_view_of me.0), []) → MayCount (coord_view_of me.0) page → Allows (IsShowing key) slots id me (page + 1) (λ n. n) (λ found after. TellsCountAt (page + 1) me.0 found after.0 × (after.1 ≡ []))
+counting {S} key slots id me page is may = λ st shows _ at _.
+    let z = opening_of key in
+    let c : CoordSeatView = coord_view_of me.0 in
+    let found : ℕ = get_or st.words (page + 1) 0 in
+    let d : CoordSeatView = counted_coord c page found in
+    let here : get_elem? st.views id ≡ some (Coord c) = at ∙ ap (λ (m : Me S View). some m.0) is in
+    let same = coord_opening z st.words st.views id c shows here in
+    let r = counts z st.words st.views id c page shows here may in
+    let told : TellsCount page me.0 found (Coord d) =
+    record { view = refl; step = subst (λ (y : Opening). IsStep y (CoordRead page) (Count found) (Coord c) (Coord d)) (sym same) r.0 }
+    in (
+      Coord d,
+      keeps,
+      tt,
+      r.1,
+      (
+        λ q on. subst (λ (p : ℕ). TellsCount p me.0 found (Coord d)) (let e : page ≡ q = omega arith in e) told,
+        ap (λ (m : Me S View). m.1) is,
+      ),
+    )
+
+pub publishing : {S : Type 0} (key : Key) (slots id : ℕ) (me : Me S View) (word mask : ℕ) → word ≡ length (coord_view_of me.0).opening.counts + 1 → me ≡ (Coord (coord_view_of me.0), []) → MayPublish (coord_view_of me.0) mask → Allows (IsShowing key) slots id me word (λ _. mask) (λ found after. (after.0 ≡ Coord (published_coord (coord_view_of me.0) mask)) × (after.1 ≡ []))
+publishing {S} key slots id me word mask word_is is may = λ st shows _ at _.
+    let z = opening_of key in
+    let c : CoordSeatView = coord_view_of me.0 in
+    let d : CoordSeatView = published_coord c mask in
+    let here : get_elem? st.views id ≡ some (Coord c) = at ∙ ap (λ (m : Me S View). some m.0) is in
+    let last : word ≡ length z.counts + 1 =
+    word_is ∙ ap (λ (y : Opening). length y.counts + 1) (coord_opening z st.words st.views id c shows here)
+    in (
+      Coord d,
+      keeps,
+      tt,
+      subst (λ (i : ℕ). ShowsSome z (slice_set st.words i mask) (slice_set st.views id (Coord d))) (sym last) (publishes z st.words st.views id c mask shows here may),
+      (refl, ap (λ (m : Me S View). m.1) is),
     )
 
 pub making : {S : Type 0} (key : Key) (id : ℕ) (v : View) → v ≡ Coord (coord_view_of v) → (coord_view_of v).made < (coord_view_of v).opening.workers → Splits {S = S} (IsShowing key) id v (Coord (made_coord (coord_view_of v))) (Worker (fresh (coord_view_of v).opening (coord_view_of v).made))
@@ -237,6 +276,33 @@ reading {S} key slots id me page is may = λ st shows _ at _.
       r.1,
       (
         λ q on. subst (λ (p : ℕ). TellsRead p me.0 found (Worker w)) (let e : page ≡ q = omega arith in e) told,
+        ap (λ (m : Me S View). m.1) is,
+      ),
+    )
+
+pub reading_mask : {S : Type 0} (key : Key) (slots id : ℕ) (me : Me S View) (word : ℕ) → word ≡ length (worker_view_of me.0).opening.marks + 1 → me ≡ (Worker (worker_view_of me.0), []) → RunsSplit (worker_view_of me.0).state → Allows (IsShowing key) slots id me word (λ k. k) (λ found after. TellsMask me.0 found after.0 × (after.1 ≡ []))
+reading_mask {S} key slots id me word word_is is split = λ st shows _ at _.
+    let z = opening_of key in
+    let v : WorkerSeatView = worker_view_of me.0 in
+    let here : get_elem? st.views id ≡ some (Worker v) = at ∙ ap (λ (m : Me S View). some m.0) is in
+    let same = worker_opening z st.words st.views id v shows here in
+    let last : length z.counts + 1 ≡ word =
+    sym (word_is ∙ ap (λ (y : Opening). length y.marks + 1) same ∙ ap (λ (n : ℕ). n + 1) shows.shows.opening.marks)
+    in
+    let P : ℕ → Type 0 =
+    λ i.
+    IsStep z (Hot v.worker) (HotShown (get_or st.words i 0)) (Worker v) (Worker (masked_view v (get_or st.words i 0)))
+    × ShowsSome z (slice_set st.words i (get_or st.words i 0)) (slice_set st.views id (Worker (masked_view v (get_or st.words i 0))))
+    in
+    let r = subst P last (reads_mask z st.words st.views id v shows here split) in
+    let found : ℕ = get_or st.words word 0 in
+    let w : WorkerSeatView = masked_view v found in (
+      Worker w,
+      keeps,
+      tt,
+      r.1,
+      (
+        record { view = refl; step = subst (λ (y : Opening). IsStep y (Hot v.worker) (HotShown found) (Worker v) (Worker w)) (sym same) r.0 },
         ap (λ (m : Me S View). m.1) is,
       ),
     )

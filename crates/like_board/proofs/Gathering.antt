@@ -1,5 +1,5 @@
 -- A worker's seat is given back to the coordinator, and what the words show where all were.
-use Rattle.std.proofs.Common.{◌≡◌, ◌≢◌, ℕ, zero, suc, ◌+◌, ◌<◌, ◌==◌, nat_lt, cond, inl, inr, List, ◌∷◌, length, get_or, set, subst, ap, sym, ◌∙◌, refl, eq-eqb, arith}
+use Rattle.std.proofs.Common.{◌≡◌, ◌≢◌, ℕ, zero, suc, ◌+◌, ◌<◌, ◌==◌, nat_lt, cond, inl, inr, List, ◌∷◌, All, length, get_or, set, subst, ap, sym, ◌∙◌, refl, eq-eqb, arith}
 use Rattle.std.specs.List.{sum_by}
 use Rattle.std.proofs.lemmas.List.Sums.{sum_by-cons}
 use Rattle.std.proofs.lemmas.Bool.{cond-true}
@@ -14,12 +14,13 @@ use Rattle.like_core.specs.declared.view.View.TheVariants.{Coord, Worker, Spent}
 use Rattle.like_core.specs.State.{CoreState}
 use Rattle.like_core.specs.Additions.{added_to, added_before}
 use Rattle.like_core.specs.Views.{gathered_coord, seats_of}
-use Rattle.like_core.specs.Reads.{before_in, all_before, AreBetween}
+use Rattle.like_core.specs.Reads.{before_in, all_before, AreBetween, IsCounted}
 use Rattle.like_core.specs.Tallies.{paged, left_to, room}
 use Rattle.like_core.specs.Shows.{Shows, ShowsSome, Fits, FitsWorker, FitsCoord}
 use Rattle.like_core.proofs.ViewLists.{within, sum_two, sum_lone, sum_gathered}
-use Rattle.like_core.proofs.KeptReads.{between_on, join_keeps_reads}
+use Rattle.like_core.proofs.KeptReads.{between_on, counted_on, join_keeps_reads}
 use Rattle.like_board.proofs.Moves.{same_coord, has_seat, once_at_most}
+use Rattle.like_board.proofs.Leads.{of_coord}
 
 -- the views after the seat at `other` was given back to the coordinator's at `place`
 abbrev pub gathered : List View → ℕ → ℕ → CoordSeatView → WorkerSeatView → List View
@@ -38,6 +39,9 @@ fits_gathered z s c v f g = record {
   stays = f.stays;
   all_in = f.all_in;
   gone = f.gone;
+  counted = f.counted;
+  published = f.published;
+  masks = f.masks;
   joined = either f g;
 }
   where
@@ -53,6 +57,7 @@ gathers z words views place other c v some_state at apart mine =
     let d : CoordSeatView = gathered_coord c v in
     let changed : List View = set views place (Coord d) in
     let is = same_coord z s words views place c sh at in
+    let known = of_coord z s words views place c sh at in
     let old : FitsCoord z s c = sh.each place (Coord c) at in
     let there : get_elem? views other ≡ some (Worker v) = sym (set_else views place other (Coord d) apart) ∙ mine in
     let own : FitsWorker z s v = sh.each other (Worker v) there in
@@ -68,6 +73,7 @@ gathers z words views place other c v some_state at apart mine =
         width = sh.width;
         word = sh.word;
         pages = sh.pages;
+        mask = sh.mask;
         merged = sh.merged;
         coord = d;
         first = set_else changed other 0 Spent (λ same. apart (sym same ∙ sym is.0)) ∙ here;
@@ -89,7 +95,15 @@ gathers z words views place other c v some_state at apart mine =
             sum_gathered (seats_of i) views place other c v at mine refl
             (sum_by-cons (λ (w : WorkerSeatView). cond (w.worker == i) 1 0) v c.joined) ∙
             (sh.once i ∙ ap (λ (e : CoordSeatView). cond (nat_lt i e.made) 1 0) is.1);
+        published = known.0;
         reads = join_keeps_reads z.counts s.phase views place other c v at there sh.reads;
+        counted = counted_on z.counts (all_before views) (all_before (gathered views place other c v)) c.counted
+            (λ i r inside.
+            let k : ℕ = (get_or c.counted i r).phase + 1 in
+            let p : ℕ = (get_or c.counted i r).page in
+            sum_gathered (before_in k p) views place other c v at mine refl
+            (sum_by-cons (λ (w : WorkerSeatView). added_before k p w.additions) v c.joined))
+            known.1;
       };
       tallied = record {
         sums = λ page.
@@ -152,3 +166,15 @@ last_reads z words views place c some_state at all j w found =
     (λ k p _. (let e = lone k p in omega arith))
     (λ k p. (let e = lone k p in omega arith))
     (sh.reads place (Coord c) at j w found)
+
+-- and each count that the coordinator read is the one at the start and what they have added up to its phase
+pub last_counted : (z : Opening) (words : List ℕ) (views : List View) (place : ℕ) (c : CoordSeatView) → ShowsSome z words views → get_elem? views place ≡ some (Coord c) → ((i : ℕ) → i < c.made → seats_of i (Coord c) ≡ 1) → All (IsCounted z.counts (λ phase page. before_in phase page (Coord c))) c.counted
+last_counted z words views place c some_state at all =
+    let s = some_state.state in
+    let sh = some_state.shows in
+    counted_on z.counts (all_before views) (λ phase page. before_in phase page (Coord c)) c.counted
+    (λ i r inside.
+    let k : ℕ = (get_or c.counted i r).phase + 1 in
+    let p : ℕ = (get_or c.counted i r).page in
+    sym (sum_coord (before_in k p) z s words views place c refl sh at all))
+    (of_coord z s words views place c sh at).1

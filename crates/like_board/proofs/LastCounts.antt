@@ -15,16 +15,17 @@ use Rattle.like_core.specs.declared.view.View.TheVariants.{Coord}
 use Rattle.like_core.specs.Post.{additions_of}
 use Rattle.like_core.specs.Additions.{added_before}
 use Rattle.like_core.specs.Views.{post_of, seats_of}
-use Rattle.like_core.specs.Reads.{before_in, AreBetween}
+use Rattle.like_core.specs.Reads.{before_in, AreBetween, IsCounted}
+use Rattle.like_core.specs.PhaseMasks.{mask_of}
 use Rattle.like_core.specs.Shows.{ShowsSome, FitsWorker, FitsCoord}
-use Rattle.like_core.proofs.KeptReads.{between_on}
+use Rattle.like_core.proofs.KeptReads.{between_on, counted_on}
 use Rattle.like_board.specs.declared.key.Key.{Key}
 use Rattle.like_board.specs.declared.worker_seat.WorkerSeat.{WorkerSeat}
 use Rattle.like_board.specs.Known.{coord_view_of}
 use Rattle.like_board.specs.Rule.{opening_of, IsShowing}
-use Rattle.like_board.specs.Seats.{seat_view, seat_meaning, AreAll, last_count, seats_before, HaveReadBetween}
+use Rattle.like_board.specs.Seats.{seat_view, seat_meaning, AreAll, last_count, seats_before, HaveReadBetween, AreCounted, HaveReadMasks}
 use Rattle.like_board.proofs.Moves.{if_some}
-use Rattle.like_board.proofs.Gathering.{last_word, last_reads}
+use Rattle.like_board.proofs.Gathering.{last_word, last_reads, last_counted}
 
 -- what stands at a place is what is read there
 pub read_at : (l : List ℕ) (i n : ℕ) → get_elem? l i ≡ some n → get_or l i 0 ≡ n
@@ -80,8 +81,32 @@ closed_reads z words views place c before some_state at made all same k w found 
     (λ k p. (let e = same k p in omega arith))
     reads)
 
+-- each count that the coordinator read is the one at the start and what all those workers have added up to its phase
+closed_counted : (z : Opening) (words : List ℕ) (views : List View) (place : ℕ) (c : CoordSeatView) (before : ℕ → ℕ → ℕ) → ShowsSome z words views → get_elem? views place ≡ some (Coord c) → c.made ≡ c.opening.workers → ((i : ℕ) → i < c.opening.workers → seats_of i (Coord c) ≡ 1) → ((k p : ℕ) → before_in k p (Coord c) ≡ before k p) → All (IsCounted c.opening.counts before) c.counted
+closed_counted z words views place c before some_state at made all same =
+    let old : FitsCoord z some_state.state c = some_state.shows.each place (Coord c) at in
+    subst (λ (y : Opening). All (IsCounted y.counts before) c.counted) (sym old.opening)
+    (counted_on z.counts (λ k p. before_in k p (Coord c)) before c.counted
+    (λ i r inside. sym (same ((get_or c.counted i r).phase + 1) (get_or c.counted i r).page))
+    (last_counted z words views place c some_state at (λ i below. all i (omega arith))))
+
+-- each mask that a worker whose seat was given back read is the one with which its phase was released
+closed_masks : (z : Opening) (words : List ℕ) (views : List View) (place : ℕ) (c : CoordSeatView) → ShowsSome z words views → get_elem? views place ≡ some (Coord c) → (k : ℕ) (w : WorkerSeatView) → get_elem? c.joined k ≡ some w → All (λ m. m.mask ≡ mask_of c.masks m.phase) w.masks
+closed_masks z words views place c some_state at k w found =
+    let old : FitsCoord z some_state.state c = some_state.shows.each place (Coord c) at in
+    let fits : FitsWorker z some_state.state w = old.joined k w found in
+    λ i m inside. (fits.masks i m inside).1 ∙ sym (old.masks (get_or w.masks i m).phase)
+
+-- what a board is that ended: its last words and phases, and what its seats read
+pub record IsClosed (words : List ℕ) (c : CoordSeatView) (seats : List WorkerSeat) : Type 0 where
+  pub counts : (page : ℕ) → page < length c.opening.counts → get_or words (page + 1) 0 ≡ last_count c.opening seats page
+  pub phases : All (λ seat. IfSome (seat_meaning seat).last (λ sight. sight.number ≤ c.phase)) seats
+  pub reads : HaveReadBetween c.opening c.phase seats
+  pub counted : AreCounted c seats
+  pub masks : HaveReadMasks c.masks seats
+
 -- the last words, phases and reads, where the coordinator's seat has all workers' seats
-pub closes : {S : Type 0} (key : Key) (id : ℕ) (me : View) (words : List ℕ) (slots : List S) (c : CoordSeatView) (seats : List WorkerSeat) → Final (Seen (IsShowing key) id me) words slots → me ≡ Coord (record c { joined = map seat_view seats ++ c.joined }) → c.joined ≡ [] → c.made ≡ c.opening.workers → AreAll c.opening.workers seats → ((page : ℕ) → page < length c.opening.counts → get_or words (page + 1) 0 ≡ last_count c.opening seats page) × All (λ seat. IfSome (seat_meaning seat).last (λ sight. sight.number ≤ c.phase)) seats × HaveReadBetween c.opening c.phase seats
+pub closes : {S : Type 0} (key : Key) (id : ℕ) (me : View) (words : List ℕ) (slots : List S) (c : CoordSeatView) (seats : List WorkerSeat) → Final (Seen (IsShowing key) id me) words slots → me ≡ Coord (record c { joined = map seat_view seats ++ c.joined }) → c.joined ≡ [] → c.made ≡ c.opening.workers → AreAll c.opening.workers seats → IsClosed words c seats
 closes key id me words slots c seats final me_is none made all =
     let z = opening_of key in
     let views : List View = final.0.views in
@@ -94,17 +119,23 @@ closes key id me words slots c seats final me_is none made all =
     let shows : ShowsSome z words views = subst (λ (l : List ℕ). ShowsSome z l views) final.2 final.1.0 in
     let each : (i : ℕ) → i < c.opening.workers → seats_of i (Coord d) ≡ 1 =
     λ i below. sum_by-map seat_view (λ (w : WorkerSeatView). cond (w.worker == i) 1 0) seats ∙ all i below
-    in (
-      λ page on.
+    in
+    let added : (phase page : ℕ) → before_in phase page (Coord d) ≡ seats_before seats phase page =
+    λ phase page. sum_by-map seat_view (λ (w : WorkerSeatView). added_before phase page w.additions) seats
+    in
+    record {
+      counts = λ page on.
           closed_word z words views id d shows at made each page on ∙
-          ap (λ (k : ℕ). get_or c.opening.counts page 0 + k) (sum_by-map seat_view (λ (w : WorkerSeatView). additions_of (post_of w) page) seats),
-      λ k seat below.
-          closed_phase z words views id d shows at k (seat_view (get_or seats k seat)) (at_mapped seat_view seats k seat below),
-      λ k seat below.
-          closed_reads z words views id d (seats_before seats) shows at made each
-          (λ phase page. sum_by-map seat_view (λ (w : WorkerSeatView). added_before phase page w.additions) seats)
-          k (seat_view (get_or seats k seat)) (at_mapped seat_view seats k seat below),
-    )
+          ap (λ (k : ℕ). get_or c.opening.counts page 0 + k) (sum_by-map seat_view (λ (w : WorkerSeatView). additions_of (post_of w) page) seats);
+      phases = λ k seat below.
+          closed_phase z words views id d shows at k (seat_view (get_or seats k seat)) (at_mapped seat_view seats k seat below);
+      reads = λ k seat below.
+          closed_reads z words views id d (seats_before seats) shows at made each added
+          k (seat_view (get_or seats k seat)) (at_mapped seat_view seats k seat below);
+      counted = closed_counted z words views id d (seats_before seats) shows at made each added;
+      masks = λ k seat below.
+          closed_masks z words views id d shows at k (seat_view (get_or seats k seat)) (at_mapped seat_view seats k seat below);
+    }
 
 -- a view that is some coordinator's is the coordinator's that it is read as
 pub as_coord : (v : View) (c : CoordSeatView) → v ≡ Coord c → v ≡ Coord (coord_view_of v)

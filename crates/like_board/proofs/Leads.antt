@@ -1,5 +1,5 @@
 -- A step of the coordinator keeps what the board shows.
-use Rattle.std.proofs.Common.{◌≡◌, ◌≢◌, ℕ, ◌+◌, ◌<◌, ◌≤◌, ◌==◌, nat_lt, Bool, cond, inl, inr, List, [], ◌∷◌, ◌++◌, set, count_by, subst, ap, sym, ◌∙◌, refl, eq-eqb, arith}
+use Rattle.std.proofs.Common.{◌≡◌, ◌≢◌, ℕ, ◌+◌, ◌<◌, ◌≤◌, ◌==◌, nat_lt, Bool, cond, inl, inr, List, [], ◌∷◌, ◌++◌, All, IfSome, length, get_or, set, count_by, subst, ap, sym, ◌∙◌, refl, eq-eqb, arith}
 use Rattle.std.proofs.Math.ListN.{length-set}
 use Rattle.std.proofs.lemmas.List.{get_or-set_same, get_or-set_other}
 use Rattle.std.specs.List.{sum_by}
@@ -11,36 +11,48 @@ use lib.ListN.{get_elem?}
 use Rattle.atomic_table.proofs.Lists.{at_set, at_snoc, at_longer, set_here}
 use Rattle.like_core.specs.declared.opening.Opening.{Opening}
 use Rattle.like_core.specs.declared.view.PageRead.{PageRead}
+use Rattle.like_core.specs.declared.view.PhaseMask.{PhaseMask}
 use Rattle.like_core.specs.declared.view.WorkerSeatView.{WorkerSeatView}
 use Rattle.like_core.specs.declared.view.CoordSeatView.{CoordSeatView}
 use Rattle.like_core.specs.declared.view.View.{View}
 use Rattle.like_core.specs.declared.view.View.TheVariants.{Coord, Worker, Spent}
+use Rattle.like_core.specs.Phase.{IsSplit}
 use Rattle.like_core.specs.State.{CoreState}
 use Rattle.like_core.specs.ShownWord.{shown_word}
 use Rattle.like_core.specs.Additions.{added_before}
 use Rattle.like_core.specs.Views.{fresh, made_coord, seats_of}
-use Rattle.like_core.specs.Reads.{IsBetween, AreBetween}
+use Rattle.like_core.specs.Reads.{before_in, all_before, IsBetween, AreBetween, IsCounted}
 use Rattle.like_core.specs.Shows.{Shows, Fits, FitsWorker, FitsCoord}
 use Rattle.like_core.proofs.ViewLists.{within, sum_set}
-use Rattle.like_core.proofs.KeptReads.{reads_same, reads_push}
-use Rattle.like_board.proofs.Moves.{same_coord, counts_none, counts_one}
+use Rattle.like_core.proofs.KeptReads.{reads_same, reads_push, counted_on, counted_same}
+use Rattle.like_board.proofs.Moves.{if_some, same_coord, counts_none, counts_one}
 
 -- the reads of the views of seats that were given back lie between
 abbrev HasJoinedReads : List ℕ → (ℕ → ℕ → ℕ) → ℕ → List WorkerSeatView → Type 0
 HasJoinedReads counts before phase joined =
     (place : ℕ) (v : WorkerSeatView) → get_elem? joined place ≡ some v → AreBetween counts before phase v.additions v.reads
 
--- the state in another phase
-abbrev pub phased : CoreState → ℕ → Bool → CoreState
-phased s phase ending = record s { phase = phase; ending = ending }
+-- the state in another phase, where these are the masks of phases
+abbrev pub phased : CoreState → ℕ → Bool → (ℕ → ℕ) → CoreState
+phased s phase ending hot = record s { phase = phase; ending = ending; hot = hot }
 
--- after the coordinator led to this phase, with a new view of its own that fits, the words and the views show the state
--- after, where all workers' views fit that too
-pub leads : (z : Opening) (s : CoreState) (words : List ℕ) (views : List View) (place : ℕ) (c d : CoordSeatView) (phase : ℕ) (ending : Bool) (word : ℕ) → Shows z s words views → get_elem? views place ≡ some (Coord c) → d.made ≡ c.made → d.joined ≡ c.joined → s.phase ≤ phase → word ≡ shown_word z (phased s phase ending) → FitsCoord z (phased s phase ending) d → ((v : WorkerSeatView) → FitsWorker z s v → FitsWorker z (phased s phase ending) v) → Shows z (phased s phase ending) (set words 0 word) (set views place (Coord d))
-leads z s words views place c d phase ending word sh at made joined on word_is fits workers =
-    let t : CoreState = phased s phase ending in
-    let wide = sh.width in
+-- what the words and the views show of what the coordinator published and counted
+pub of_coord : (z : Opening) (s : CoreState) (words : List ℕ) (views : List View) (place : ℕ) (c : CoordSeatView) → Shows z s words views → get_elem? views place ≡ some (Coord c) → IfSome c.published (λ mask. get_or words (length z.counts + 1) 0 ≡ mask) × All (IsCounted z.counts (all_before views)) c.counted
+of_coord z s words views place c sh at =
+    let is = same_coord z s words views place c sh at in (
+      subst (λ (e : CoordSeatView). IfSome e.published (λ mask. get_or words (length z.counts + 1) 0 ≡ mask)) is.1 sh.published,
+      subst (λ (e : CoordSeatView). All (IsCounted z.counts (all_before views)) e.counted) is.1 sh.counted,
+    )
+
+-- after the coordinator led to this phase, with a new view of its own that fits, the words, of which one was written, and
+-- the views show the state after, where the words do and all workers' views fit that too
+pub leads : (z : Opening) (s : CoreState) (words : List ℕ) (views : List View) (place : ℕ) (c d : CoordSeatView) (phase : ℕ) (ending : Bool) (hot : ℕ → ℕ) (changed word : ℕ) → Shows z s words views → get_elem? views place ≡ some (Coord c) → d.made ≡ c.made → d.joined ≡ c.joined → s.phase ≤ phase → get_or (set words changed word) 0 0 ≡ shown_word z (phased s phase ending hot) → ((page : ℕ) → page < length z.counts → get_or (set words changed word) (page + 1) 0 ≡ get_or words (page + 1) 0) → (IsSplit phase → get_or (set words changed word) (length z.counts + 1) 0 ≡ hot phase) → IfSome d.published (λ mask. get_or (set words changed word) (length z.counts + 1) 0 ≡ mask) → All (IsCounted z.counts (all_before views)) d.counted → FitsCoord z (phased s phase ending hot) d → ((v : WorkerSeatView) → FitsWorker z s v → FitsWorker z (phased s phase ending hot) v) → Shows z (phased s phase ending hot) (set words changed word) (set views place (Coord d))
+leads z s words views place c d phase ending hot changed word sh at made joined on word_is pages_are mask_is published_is counted_are fits workers =
+    let t : CoreState = phased s phase ending hot in
     let is = same_coord z s words views place c sh at in
+    let same_additions : (k p : ℕ) → before_in k p (Coord d) ≡ before_in k p (Coord c) =
+    λ k p. ap (sum_by (λ (v : WorkerSeatView). added_before k p v.additions)) joined
+    in
     let others : (j : ℕ) (u : View) → j ≢ place → get_elem? views j ≡ some u → Fits z s u → Fits z t u =
     λ j u other found f.
     let P : View → Type 0 = λ x. ((e : CoordSeatView) → x ≡ Coord e → ⊥) → Fits z s x → Fits z t x in
@@ -55,9 +67,10 @@ leads z s words views place c d phase ending word sh at made joined on word_is f
     in
     record {
       opening = sh.opening;
-      width = length-set words 0 word ∙ sh.width;
-      word = get_or-set_same words 0 word 0 (omega arith) ∙ word_is;
-      pages = λ page below. get_or-set_other words 0 (page + 1) word 0 (λ eq. absurd (omega arith)) ∙ sh.pages page below;
+      width = length-set words changed word ∙ sh.width;
+      word = word_is;
+      pages = λ page below. pages_are page below ∙ sh.pages page below;
+      mask = mask_is;
       merged = sh.merged;
       coord = d;
       first = ap (get_elem? (set views place (Coord d))) (sym is.0) ∙ set_here views place (Coord d) (within views place (Coord c) at);
@@ -72,11 +85,27 @@ leads z s words views place c d phase ending word sh at made joined on word_is f
       once = λ i.
           sum_set (seats_of i) views place (Coord c) (Coord d) at (ap (count_by (λ (w : WorkerSeatView). w.worker == i)) joined) ∙
           (sh.once i ∙ ap (λ n. cond (nat_lt i n) 1 0) (ap (λ (e : CoordSeatView). e.made) is.1 ∙ sym made));
-      reads = reads_same z.counts s.phase phase views place (Coord c) (Coord d) on at
-          (λ k p. ap (sum_by (λ (v : WorkerSeatView). added_before k p v.additions)) joined)
+      published = published_is;
+      reads = reads_same z.counts s.phase phase views place (Coord c) (Coord d) on at same_additions
           (λ f has. subst (HasJoinedReads z.counts f phase) (sym joined) has)
           sh.reads;
+      counted = counted_same z.counts views place (Coord c) (Coord d) d.counted at same_additions counted_are;
     }
+
+-- the same of a step on the phase word
+pub leads_word : (z : Opening) (s : CoreState) (words : List ℕ) (views : List View) (place : ℕ) (c d : CoordSeatView) (phase : ℕ) (ending : Bool) (hot : ℕ → ℕ) (word : ℕ) → Shows z s words views → get_elem? views place ≡ some (Coord c) → d.made ≡ c.made → d.joined ≡ c.joined → d.counted ≡ c.counted → s.phase ≤ phase → word ≡ shown_word z (phased s phase ending hot) → (IsSplit phase → get_or words (length z.counts + 1) 0 ≡ hot phase) → IfSome d.published (λ mask. get_or words (length z.counts + 1) 0 ≡ mask) → FitsCoord z (phased s phase ending hot) d → ((v : WorkerSeatView) → FitsWorker z s v → FitsWorker z (phased s phase ending hot) v) → Shows z (phased s phase ending hot) (set words 0 word) (set views place (Coord d))
+leads_word z s words views place c d phase ending hot word sh at made joined counted on word_is mask_is published_is fits workers =
+    let wide = sh.width in
+    let last : ℕ = length z.counts + 1 in
+    let same : get_or (set words 0 word) last 0 ≡ get_or words last 0 = get_or-set_other words 0 last word 0 (λ eq. absurd (omega arith)) in
+    leads z s words views place c d phase ending hot 0 word sh at made joined on
+    (get_or-set_same words 0 word 0 (omega arith) ∙ word_is)
+    (λ page below. get_or-set_other words 0 (page + 1) word 0 (λ eq. absurd (omega arith)))
+    (λ odd. same ∙ mask_is odd)
+    (if_some d.published (λ mask. get_or words last 0 ≡ mask) (λ mask. get_or (set words 0 word) last 0 ≡ mask) (λ mask is. same ∙ is) published_is)
+    (subst (All (IsCounted z.counts (all_before views))) (sym counted) (of_coord z s words views place c sh at).1)
+    fits
+    workers
 
 one_more : (i n : ℕ) → cond (nat_lt i n) 1 0 + cond (n == i) 1 0 ≡ cond (nat_lt i (n + 1)) 1 0
 one_more i n = elim (cases_lt i n) [
@@ -119,6 +148,9 @@ splits z s words views place c sh at room =
       stays = old.stays;
       all_in = old.all_in;
       gone = old.gone;
+      counted = old.counted;
+      published = old.published;
+      masks = old.masks;
       joined = old.joined;
     }
     in
@@ -130,6 +162,7 @@ splits z s words views place c sh at room =
       number = tt;
       ending = λ _ saw. absurd (saw);
       labels = λ phase page. old.unlabelled c.made phase page (omega arith) room;
+      masks = All-nil (λ (m : PhaseMask). (m.phase ≤ s.phase) × (m.mask ≡ s.hot m.phase));
     }
     in
     record {
@@ -137,6 +170,7 @@ splits z s words views place c sh at room =
       width = sh.width;
       word = sh.word;
       pages = sh.pages;
+      mask = sh.mask;
       merged = sh.merged;
       coord = d;
       first = at_longer changed (Worker new ∷ []) 0 (Coord d)
@@ -166,4 +200,14 @@ splits z s words views place c sh at room =
           (reads_same z.counts s.phase s.phase views place (Coord c) (Coord d) (omega arith) at (λ k p. refl) (λ f has. has) sh.reads)
           j u
           (at_snoc changed (Worker new) u j found);
+      published = (of_coord z s words views place c sh at).0;
+      counted = counted_on z.counts (all_before views) (all_before (changed ++ Worker new ∷ [])) c.counted
+          (λ i r inside.
+          let k : ℕ = (get_or c.counted i r).phase + 1 in
+          let p : ℕ = (get_or c.counted i r).page in
+          let push = sum_by_push (before_in k p) changed (Worker new) in
+          let none : before_in k p (Worker new) ≡ 0 = refl in
+          let same = sum_set (before_in k p) views place (Coord c) (Coord d) at refl in
+          omega arith)
+          (of_coord z s words views place c sh at).1;
     }

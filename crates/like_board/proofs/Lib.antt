@@ -3,6 +3,7 @@ pub mod Tallying
 pub mod Leads
 pub mod WorkerSteps
 pub mod CoordSteps
+pub mod Choosing
 pub mod Pages
 pub mod Additions
 pub mod Readings

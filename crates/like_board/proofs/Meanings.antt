@@ -9,10 +9,10 @@ abbrev pub at_board : List ℕ → PostView → PostView
 at_board board v = record v { board = board }
 
 pub may_add : (board : List ℕ) (v : PostView) (page n : ℕ) → MayAdd (at_board board v) page n → MayAdd v page n
-may_add board v page n m = record { runs = m.runs; there = m.there; like = m.like; merge = m.merge; few = m.few }
+may_add board v page n m = record { runs = m.runs; there = m.there; known = m.known; like = m.like; merge = m.merge; few = m.few }
 
 pub may_read : (board : List ℕ) (v : PostView) (page : ℕ) → MayRead (at_board board v) page → MayRead v page
-may_read board v page m = record { runs = m.runs; there = m.there; plain = m.plain }
+may_read board v page m = record { runs = m.runs; there = m.there; known = m.known; plain = m.plain }
 
 pub is_fresh : (board : List ℕ) (v : PostView) → IsFresh v → IsFresh (at_board board v)
 is_fresh board v f = record {
@@ -20,6 +20,7 @@ is_fresh board v f = record {
   never_looked = f.never_looked;
   added_nothing = f.added_nothing;
   read_nothing = f.read_nothing;
+  no_masks = f.no_masks;
 }
 
 -- the board with these numbers

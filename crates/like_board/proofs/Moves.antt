@@ -1,5 +1,5 @@
 -- A step of one worker keeps what the board shows.
-use Rattle.std.proofs.Common.{◌≡◌, ◌≢◌, ℕ, ◌+◌, ◌<◌, ◌≤◌, ◌==◌, nat_lt, Bool, true, false, cond, inl, inr, List, [], length, get_or, set, Option, Some, None, IfSome, subst, ap, sym, ◌∙◌, refl, eq-eqb, arith}
+use Rattle.std.proofs.Common.{◌≡◌, ◌≢◌, ℕ, ◌+◌, ◌<◌, ◌≤◌, ◌==◌, nat_lt, Bool, true, false, cond, inl, inr, List, [], All, length, get_or, set, Option, Some, None, IfSome, subst, ap, sym, ◌∙◌, refl, eq-eqb, arith}
 use Rattle.std.proofs.Math.ListN.{length-set}
 use Rattle.std.proofs.lemmas.List.{get_or-set_same, get_or-set_other}
 use Rattle.std.proofs.lemmas.Bool.{cases_eq, cases_lt, le-ltb, cond-true, cond-false}
@@ -22,11 +22,11 @@ use Rattle.like_core.specs.State.{CoreState, numbers}
 use Rattle.like_core.specs.ShownWord.{shown_word}
 use Rattle.like_core.specs.Additions.{added_before}
 use Rattle.like_core.specs.Views.{seats_of}
-use Rattle.like_core.specs.Reads.{AreBetween, ReadsFit}
+use Rattle.like_core.specs.Reads.{all_before, AreBetween, IsCounted, ReadsFit}
 use Rattle.like_core.specs.Shows.{Shows, Fits, FitsWorker, FitsCoord}
 use Rattle.like_core.proofs.Updates.{update-same, update-other, update_cases}
 use Rattle.like_core.proofs.ShownEvents.{moved}
-use Rattle.like_core.proofs.KeptReads.{reads_same}
+use Rattle.like_core.proofs.KeptReads.{reads_same, counted_same}
 use Rattle.like_core.proofs.ViewLists.{sum_part, sum_two, sum_set}
 
 -- what holds of the value of an option may be exchanged for what follows from it
@@ -50,6 +50,7 @@ fits_worker_moved z s i state v other f = record {
   number = f.number;
   ending = f.ending;
   labels = f.labels;
+  masks = f.masks;
 }
 
 -- a worker of which no seat was given back is none of those whose seats were
@@ -92,6 +93,15 @@ fits_coord_moved z s c i state there has_seat none stays gone f =
                 ap s.state here ∙ gone split now
             | inr other ↦ sym (update-other s.state i state j other) ∙ all j below
           ]);
+      counted = λ k d inside.
+          let before = f.counted k d inside in (
+            before.0,
+            λ now.
+                let P : CoreState → Type 0 = λ u. AllIn (numbers z u) in
+                subst P (sym (same (before.1 now))) (before.1 now),
+          );
+      published = f.published;
+      masks = f.masks;
       joined = λ place v at. fits_worker_moved z s i state v (joined_other c i place v none at) (f.joined place v at);
     }
 
@@ -147,8 +157,8 @@ same_coord z s words views place c sh at =
 
 -- after a worker's step, with a new view of its own that fits, the words and the views show the state after, where the
 -- words do and each view fits it that is no seat of the worker's
-pub worker_steps : (z : Opening) (s t : CoreState) (words later : List ℕ) (views : List View) (place : ℕ) (v w : WorkerSeatView) → Shows z s words views → get_elem? views place ≡ some (Worker v) → w.worker ≡ v.worker → length later ≡ length words → get_or later 0 0 ≡ shown_word z t → ((page : ℕ) → page < length z.counts → get_or later (page + 1) 0 ≡ get_or z.counts page 0 + length (t.applied page)) → ((i : ℕ) → t.unmerged i ≡ []) → FitsWorker z t w → ((u : View) → seats_of v.worker u ≡ 0 → ((c : CoordSeatView) → u ≡ Coord c → v.worker < c.made) → Fits z s u → Fits z t u) → ReadsFit z.counts t.phase (set views place (Worker w)) → Shows z t later (set views place (Worker w))
-worker_steps z s t words later views place v w sh at number width word pages merged fits others reads =
+pub worker_steps : (z : Opening) (s t : CoreState) (words later : List ℕ) (views : List View) (place : ℕ) (v w : WorkerSeatView) → (sh : Shows z s words views) → get_elem? views place ≡ some (Worker v) → w.worker ≡ v.worker → length later ≡ length words → get_or later 0 0 ≡ shown_word z t → ((page : ℕ) → page < length z.counts → get_or later (page + 1) 0 ≡ get_or z.counts page 0 + length (t.applied page)) → get_or later (length z.counts + 1) 0 ≡ get_or words (length z.counts + 1) 0 → (IsSplit t.phase → get_or words (length z.counts + 1) 0 ≡ t.hot t.phase) → ((i : ℕ) → t.unmerged i ≡ []) → FitsWorker z t w → ((u : View) → seats_of v.worker u ≡ 0 → ((c : CoordSeatView) → u ≡ Coord c → v.worker < c.made) → Fits z s u → Fits z t u) → ReadsFit z.counts t.phase (set views place (Worker w)) → All (IsCounted z.counts (all_before (set views place (Worker w)))) sh.coord.counted → Shows z t later (set views place (Worker w))
+worker_steps z s t words later views place v w sh at number width word pages same_mask mask merged fits others reads counted =
     let seated = has_seat z s words views place v sh at in
     let not_first : place ≢ 0 = λ zeroth.
     let here : get_elem? views 0 ≡ some (Worker v) = ap (get_elem? views) (sym zeroth) ∙ at in
@@ -161,6 +171,7 @@ worker_steps z s t words later views place v w sh at number width word pages mer
       width = width ∙ sh.width;
       word = word;
       pages = pages;
+      mask = λ odd. same_mask ∙ mask odd;
       merged = merged;
       coord = sh.coord;
       first = set_else views place 0 (Worker w) (λ eq. not_first (sym eq)) ∙ sh.first;
@@ -181,7 +192,13 @@ worker_steps z s t words later views place v w sh at number width word pages mer
       ];
       once = λ i.
           sum_set (seats_of i) views place (Worker v) (Worker w) at (ap (λ k. cond (k == i) 1 0) number) ∙ sh.once i;
+      published = if_some sh.coord.published
+          (λ mask. get_or words (length z.counts + 1) 0 ≡ mask)
+          (λ mask. get_or later (length z.counts + 1) 0 ≡ mask)
+          (λ mask is. same_mask ∙ is)
+          sh.published;
       reads = reads;
+      counted = counted;
     }
 
 -- after worker i moved, with a new view of its own that fits and has the same additions and reads, the words and the
@@ -194,6 +211,8 @@ worker_moves z s words views place v w state word sh at rest word_is fits stays 
     (length-set words 0 word)
     (get_or-set_same words 0 word 0 (omega arith) ∙ word_is)
     (λ page below. get_or-set_other words 0 (page + 1) word 0 (λ eq. absurd (omega arith)) ∙ sh.pages page below)
+    (get_or-set_other words 0 (length z.counts + 1) word 0 (λ eq. absurd (omega arith)))
+    sh.mask
     sh.merged
     fits
     (λ u none seat f. fits_other z s v.worker state old.there stays gone u none seat f)
@@ -201,3 +220,6 @@ worker_moves z s words views place v w state word sh at rest word_is fits stays 
     (λ k p. ap (λ (x : WorkerSeatView). added_before k p x.additions) rest)
     (λ f has. subst (λ (x : WorkerSeatView). AreBetween z.counts f s.phase x.additions x.reads) (sym rest) has)
     sh.reads)
+    (counted_same z.counts views place (Worker v) (Worker w) sh.coord.counted at
+    (λ k p. ap (λ (x : WorkerSeatView). added_before k p x.additions) rest)
+    sh.counted)

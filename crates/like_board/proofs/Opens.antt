@@ -1,22 +1,27 @@
 -- What a new board shows.
-use Rattle.std.proofs.Common.{◌≡◌, ℕ, zero, suc, ◌<◌, ◌≤◌, nat_lt, Bool, false, List, [], ◌∷◌, All, length, get_or, subst, ap, sym, ◌∙◌, refl, arith, add-one, add-zero}
+use Rattle.std.proofs.Common.{◌≡◌, ℕ, zero, suc, ◌<◌, ◌≤◌, nat_lt, Bool, false, List, [], ◌∷◌, ◌++◌, All, length, get_or, subst, ap, sym, ◌∙◌, refl, arith, add-one, add-zero}
 use Rattle.std.proofs.lemmas.Bool.{cond-true, lt-ltb, le-ltb}
+use Rattle.std.proofs.Math.ListN.{get_or-append}
+use Rattle.std.proofs.lemmas.List.{length-append}
+use Rattle.std.proofs.lemmas.List.Elements.{All-nil}
 use mathlib.Core.Option.{some, some-injective, some-ne-none}
 use lib.ListN.{get_elem?}
 use Rattle.like_core.specs.declared.worker_state.WorkerState.{WorkerState}
 use Rattle.like_core.specs.declared.worker_state.WorkerState.TheVariants.{Runs, Gone}
 use Rattle.like_core.specs.declared.opening.Opening.{Opening}
+use Rattle.like_core.specs.declared.view.PageCount.{PageCount}
 use Rattle.like_core.specs.declared.view.WorkerSeatView.{WorkerSeatView}
 use Rattle.like_core.specs.declared.view.CoordSeatView.{CoordSeatView}
 use Rattle.like_core.specs.declared.view.View.{View}
 use Rattle.like_core.specs.declared.view.View.TheVariants.{Coord}
 use Rattle.like_core.specs.Limits.{max_workers, max_pages, max_count}
+use Rattle.like_core.specs.Numbers.{AllIn}
 use Rattle.like_core.specs.Word.{packed}
-use Rattle.like_core.specs.State.{start}
+use Rattle.like_core.specs.State.{start, numbers}
 use Rattle.like_core.specs.ShownWord.{mask, has_answered, is_gone, shown_fields}
 use Rattle.like_core.specs.Sights.{first_fields}
 use Rattle.like_core.specs.Views.{fresh_coord}
-use Rattle.like_core.specs.Reads.{all_before, HasReads, ReadsFit}
+use Rattle.like_core.specs.Reads.{all_before, IsCounted, HasReads, ReadsFit}
 use Rattle.like_core.specs.Shows.{IsOpening, ShowsSome, Fits, FitsCoord}
 use Rattle.like_core.proofs.Reached.{start_reached}
 use Rattle.like_core.proofs.Masks.{mask_none}
@@ -39,7 +44,7 @@ start_fields z =
     λ m. record { kind = 0; workers = z.workers; answered = answered m; retired = retired m; number = 0 }
 
 -- a new board shows the core's start
-pub opens : (z : Opening) → IsOpening z → ShowsSome z (packed (first_fields z.workers) ∷ z.counts) (Coord (fresh_coord z (packed (first_fields z.workers))) ∷ [])
+pub opens : (z : Opening) → IsOpening z → ShowsSome z (packed (first_fields z.workers) ∷ z.counts ++ 0 ∷ []) (Coord (fresh_coord z (packed (first_fields z.workers))) ∷ [])
 opens z opening =
     let c : CoordSeatView = fresh_coord z (packed (first_fields z.workers)) in
     let fits : FitsCoord z (start z) c =
@@ -54,6 +59,9 @@ opens z opening =
       stays = tt;
       all_in = λ is. absurd (cc);
       gone = λ split _. absurd (omega arith);
+      counted = All-nil (λ (r : PageCount). (r.phase ≤ 0) × (r.phase ≡ 0 → AllIn (numbers z (start z))));
+      published = tt;
+      masks = λ phase. refl;
       joined = λ place v at. absurd (some-ne-none v (sym at));
     }
     in
@@ -62,16 +70,19 @@ opens z opening =
       reachable = start_reached z;
       shows = record {
         opening = opening;
-        width = omega arith;
+        width = (let long = length-append z.counts (0 ∷ []) in omega arith);
         word = ap packed (sym (start_fields z));
-        pages = λ page below. rw add-one (sym (add-zero (get_or z.counts page 0)));
+        pages = λ page below. rw add-one (get_or-append z.counts (0 ∷ []) 0 page below ∙ sym (add-zero (get_or z.counts page 0)));
+        mask = λ odd. absurd (omega arith);
         merged = λ i. refl;
         coord = c;
         first = refl;
         only = only_first c;
         each = each_first z c fits;
         once = λ i. sym (counts_none (nat_lt i 0) (le-ltb i 0 (omega arith)));
+        published = tt;
         reads = no_reads z c refl;
+        counted = All-nil (IsCounted z.counts (all_before (Coord c ∷ [])));
       };
       tallied = record { sums = λ page. refl; rooms = λ page. omega arith; past = λ phase page later. refl };
     }
@@ -93,7 +104,7 @@ opens z opening =
     no_reads z c none (suc place) v at = absurd (some-ne-none v (sym at))
 
 -- a table that is made with these words starts by the rule
-pub opens_key : (key : Key) (counts : List ℕ) (marks : List Bool) (word : ℕ) (words : List ℕ) → key.counts.items ≡ counts → key.marks.items ≡ marks → word ≡ packed (first_fields key.workers) → words ≡ word ∷ counts → 1 ≤ key.workers → key.workers ≤ max_workers → length marks ≡ length counts → length counts ≤ max_pages → All (λ n. n ≤ max_count) counts → ShowsSome (opening_of key) words (first_view key ∷ [])
+pub opens_key : (key : Key) (counts : List ℕ) (marks : List Bool) (word : ℕ) (words : List ℕ) → key.counts.items ≡ counts → key.marks.items ≡ marks → word ≡ packed (first_fields key.workers) → words ≡ word ∷ counts ++ 0 ∷ [] → 1 ≤ key.workers → key.workers ≤ max_workers → length marks ≡ length counts → length counts ≤ max_pages → All (λ n. n ≤ max_count) counts → ShowsSome (opening_of key) words (first_view key ∷ [])
 opens_key key counts marks word words counts_are marks_are word_is words_are some_worker few_workers same_pages few_pages low =
     let z : Opening = opening_of key in
     let sized : length key.counts.items ≡ length counts = ap length counts_are in
@@ -106,5 +117,5 @@ opens_key key counts marks word words counts_are marks_are word_is words_are som
       counts = subst (All (λ (n : ℕ). n ≤ max_count)) (sym counts_are) low;
     }
     in
-    let same : words ≡ packed (first_fields key.workers) ∷ key.counts.items = words_are ∙ (λ m. word_is m ∷ sym counts_are m) in
+    let same : words ≡ packed (first_fields key.workers) ∷ key.counts.items ++ 0 ∷ [] = words_are ∙ (λ m. word_is m ∷ sym counts_are m ++ 0 ∷ []) in
     subst (λ (ws : List ℕ). ShowsSome z ws (first_view key ∷ [])) (sym same) (opens z opening)

@@ -1,5 +1,5 @@
 -- A step on a page's word keeps what the board shows.
-use Rattle.std.proofs.Common.{◌≡◌, ◌≢◌, ℕ, ◌+◌, ◌<◌, true, inl, inr, List, [], length, get_or, set, ap, sym, ◌∙◌, refl, arith}
+use Rattle.std.proofs.Common.{◌≡◌, ◌≢◌, ℕ, ◌+◌, ◌<◌, true, inl, inr, List, [], All, length, get_or, set, ap, sym, ◌∙◌, refl, arith}
 use Rattle.std.proofs.Math.ListN.{length-set}
 use Rattle.std.proofs.lemmas.List.{get_or-set_same, get_or-set_other}
 use Rattle.std.proofs.lemmas.Bool.{cases_eq}
@@ -12,12 +12,22 @@ use Rattle.like_core.specs.declared.view.CoordSeatView.{CoordSeatView}
 use Rattle.like_core.specs.declared.view.View.{View}
 use Rattle.like_core.specs.declared.view.View.TheVariants.{Coord, Worker, Spent}
 use Rattle.like_core.specs.Numbers.{CoordSees}
-use Rattle.like_core.specs.State.{CoreState, Label, labelled, numbers}
+use Rattle.like_core.specs.Phase.{split}
+use Rattle.like_core.specs.WorkerState.{phase_of}
+use Rattle.like_core.specs.Post.{slices, KnowsSlices}
+use Rattle.like_core.specs.State.{CoreState, Label, labelled, marked, numbers}
 use Rattle.like_core.specs.ShownWord.{shown_word}
-use Rattle.like_core.specs.Views.{seats_of}
-use Rattle.like_core.specs.Reads.{ReadsFit}
+use Rattle.like_core.specs.Views.{post_of, seats_of}
+use Rattle.like_core.specs.Reads.{all_before, IsCounted, ReadsFit}
 use Rattle.like_core.specs.Shows.{Shows, Fits, FitsWorker}
+use Rattle.like_core.proofs.PhaseMasks.{split-known}
 use Rattle.like_board.proofs.Moves.{if_some, joined_other, worker_other, worker_steps}
+
+-- what the post knows of slices is what is split in the state
+pub slices_are : (z : Opening) (s : CoreState) (v : WorkerSeatView) (page : ℕ) → FitsWorker z s v → phase_of v.state ≡ s.phase → KnowsSlices (post_of v) page → split (marked z) s.hot s.phase page ≡ slices (post_of v) page
+slices_are z s v page f present knows =
+    sym (λ m. split (marked (f.opening m)) s.hot (present m) page) ∙
+    split-known (marked v.opening) s.hot v.masks (phase_of v.state) page (λ i d inside. (f.masks i d inside).1) knows
 
 -- the state with these unmerged and applied likes
 abbrev pub with_likes : CoreState → (ℕ → List ℕ) → (ℕ → List Label) → CoreState
@@ -36,6 +46,7 @@ fits_worker_else z s unmerged applied i v keeps other f = record {
   number = f.number;
   ending = f.ending;
   labels = λ phase page. keeps v.worker phase page other ∙ f.labels phase page;
+  masks = f.masks;
 }
 
 -- the view of another seat keeps fitting
@@ -63,6 +74,9 @@ fits_else z s unmerged applied i keeps (Coord c) none has_seat f =
           f.stays;
       all_in = f.all_in;
       gone = f.gone;
+      counted = f.counted;
+      published = f.published;
+      masks = f.masks;
       joined = λ place v at.
           fits_worker_else z s unmerged applied i v keeps (joined_other c i place v none at) (f.joined place v at);
     }
@@ -71,8 +85,8 @@ fits_else z s unmerged applied i keeps (Worker v) none has_seat f =
 fits_else z s unmerged applied i keeps Spent none has_seat f = tt
 
 -- after a step on a page's word, with a new view of its own that fits, the words and the views show the state after
-pub page_steps : (z : Opening) (s : CoreState) (unmerged : ℕ → List ℕ) (applied : ℕ → List Label) (words : List ℕ) (views : List View) (place : ℕ) (v w : WorkerSeatView) (page word : ℕ) → Shows z s words views → get_elem? views place ≡ some (Worker v) → w.worker ≡ v.worker → page < length z.counts → word ≡ get_or z.counts page 0 + length (applied page) → ((q : ℕ) → q ≢ page → length (applied q) ≡ length (s.applied q)) → ((j : ℕ) → unmerged j ≡ []) → KeepsOthers s applied v.worker → FitsWorker z (with_likes s unmerged applied) w → ReadsFit z.counts s.phase (set views place (Worker w)) → Shows z (with_likes s unmerged applied) (set words (page + 1) word) (set views place (Worker w))
-page_steps z s unmerged applied words views place v w page word sh at number on word_is others merged keeps fits reads =
+pub page_steps : (z : Opening) (s : CoreState) (unmerged : ℕ → List ℕ) (applied : ℕ → List Label) (words : List ℕ) (views : List View) (place : ℕ) (v w : WorkerSeatView) (page word : ℕ) → (sh : Shows z s words views) → get_elem? views place ≡ some (Worker v) → w.worker ≡ v.worker → page < length z.counts → word ≡ get_or z.counts page 0 + length (applied page) → ((q : ℕ) → q ≢ page → length (applied q) ≡ length (s.applied q)) → ((j : ℕ) → unmerged j ≡ []) → KeepsOthers s applied v.worker → FitsWorker z (with_likes s unmerged applied) w → ReadsFit z.counts s.phase (set views place (Worker w)) → All (IsCounted z.counts (all_before (set views place (Worker w)))) sh.coord.counted → Shows z (with_likes s unmerged applied) (set words (page + 1) word) (set views place (Worker w))
+page_steps z s unmerged applied words views place v w page word sh at number on word_is others merged keeps fits reads counted =
     let wide = sh.width in
     let t : CoreState = with_likes s unmerged applied in
     let later : List ℕ = set words (page + 1) word in
@@ -89,7 +103,10 @@ page_steps z s unmerged applied words views place v w page word sh at number on 
     (length-set words (page + 1) word)
     (get_or-set_other words (page + 1) 0 word 0 (λ eq. absurd (omega arith)) ∙ sh.word)
     pages
+    (get_or-set_other words (page + 1) (length z.counts + 1) word 0 (λ eq. absurd (omega arith)))
+    sh.mask
     merged
     fits
     (λ u none seat f. fits_else z s unmerged applied v.worker keeps u none seat f)
     reads
+    counted

@@ -1,29 +1,34 @@
--- A read of a page's word is the event, and keeps what the board shows.
+-- A worker's read of a page's word, or of the mask word, is the event, and keeps what the board shows.
 use Rattle.std.proofs.Common.{◌≡◌, ℕ, ◌+◌, ◌<◌, ◌≤◌, List, length, get_or, set, subst, ap, sym, ◌∙◌, refl, arith}
+use Rattle.std.proofs.Math.ListN.{length-set}
+use Rattle.std.proofs.lemmas.List.{get_or-set_same, get_or-set_other}
+use Rattle.std.proofs.lemmas.List.Elements.{All-cons}
 use mathlib.Core.Option.{some}
 use lib.ListN.{get_elem?}
 use Rattle.like_core.specs.declared.worker_state.WorkerState.TheVariants.{Runs}
-use Rattle.like_core.specs.declared.event.Event.TheVariants.{Read}
-use Rattle.like_core.specs.declared.shown.Shown.TheVariants.{Count}
+use Rattle.like_core.specs.declared.event.Event.TheVariants.{Read, Hot}
+use Rattle.like_core.specs.declared.shown.Shown.TheVariants.{Count, Hot as HotShown}
 use Rattle.like_core.specs.declared.opening.Opening.{Opening}
+use Rattle.like_core.specs.declared.view.PhaseMask.{PhaseMask}
 use Rattle.like_core.specs.declared.view.WorkerSeatView.{WorkerSeatView}
 use Rattle.like_core.specs.declared.view.View.{View}
 use Rattle.like_core.specs.declared.view.View.TheVariants.{Worker}
-use Rattle.like_core.specs.Phase.{split}
+use Rattle.like_core.specs.Phase.{IsSplit, split}
 use Rattle.like_core.specs.Table.{Permits}
 use Rattle.like_core.specs.State.{marked, numbers}
-use Rattle.like_core.specs.WorkerState.{phase_of}
+use Rattle.like_core.specs.WorkerState.{phase_of, RunsSplit}
 use Rattle.like_core.specs.Post.{MayRead, slices}
 use Rattle.like_core.specs.Additions.{added_to}
-use Rattle.like_core.specs.Views.{read_view, post_of}
+use Rattle.like_core.specs.Views.{read_view, masked_view, post_of}
 use Rattle.like_core.specs.Reads.{all_before, ReadsFit}
 use Rattle.like_core.specs.Tallies.{paged}
 use Rattle.like_core.specs.Shows.{Shows, ShowsSome, FitsWorker, IsStep}
 use Rattle.like_core.proofs.InPhase.{reached_in_phase}
-use Rattle.like_core.proofs.KeptReads.{read_keeps_reads}
+use Rattle.like_core.proofs.KeptReads.{read_keeps_reads, reads_same, counted_same}
 use Rattle.like_core.proofs.ViewLists.{sum_part}
+use Rattle.like_board.proofs.Moves.{worker_steps}
 use Rattle.like_board.proofs.WorkerSteps.{running_is}
-use Rattle.like_board.proofs.Pages.{page_steps}
+use Rattle.like_board.proofs.Pages.{slices_are, page_steps}
 use Rattle.like_board.proofs.Tallying.{tallied_on}
 
 -- a read is the event
@@ -42,9 +47,7 @@ reads z words views place v page some_state at may =
     in
     let may_there = may.there in
     let on : page < length z.counts = omega arith in
-    let same : split (marked z) s.phase page ≡ slices (post_of v) page =
-    sym (λ m. split (marked (old.opening m)) (present m) page)
-    in
+    let same : split (marked z) s.hot s.phase page ≡ slices (post_of v) page = slices_are z s v page old present may.known in
     let sums = some_state.tallied.sums page in
     let part = sum_part (paged page) views place (Worker v) at in
     let found : get_or words (page + 1) 0 ≡ get_or z.counts page 0 + length (s.applied page) = sh.pages page on in
@@ -65,6 +68,7 @@ reads z words views place v page some_state at may =
       number = old.number;
       ending = old.ending;
       labels = old.labels;
+      masks = old.masks;
     }
     in
     let permits : Permits (numbers z s) (Read i page) =
@@ -77,6 +81,7 @@ reads z words views place v page some_state at may =
     (λ j phase q other. refl)
     fits
     (subst (λ (now : ℕ). Q now (set views place (Worker w))) present kept)
+    (counted_same z.counts views place (Worker v) (Worker w) sh.coord.counted at (λ k p. refl) sh.counted)
     in (
       record {
         words = words;
@@ -100,4 +105,73 @@ reads z words views place v page some_state at may =
         tallied = tallied_on s s views place (Worker v) (Worker w) (omega arith) (λ _. refl) at (λ _. refl) (λ _. refl) (λ _ _. refl) some_state.tallied;
       },
       omega arith,
+    )
+
+-- a read of the mask word is the event
+pub reads_mask : (z : Opening) (words : List ℕ) (views : List View) (place : ℕ) (v : WorkerSeatView) → ShowsSome z words views → get_elem? views place ≡ some (Worker v) → RunsSplit v.state → IsStep z (Hot v.worker) (HotShown (get_or words (length z.counts + 1) 0)) (Worker v) (Worker (masked_view v (get_or words (length z.counts + 1) 0))) × ShowsSome z (set words (length z.counts + 1) (get_or words (length z.counts + 1) 0)) (set views place (Worker (masked_view v (get_or words (length z.counts + 1) 0))))
+reads_mask z words views place v some_state at split_phase =
+    let s = some_state.state in
+    let sh = some_state.shows in
+    let i = v.worker in
+    let last : ℕ = length z.counts + 1 in
+    let found : ℕ = get_or words last 0 in
+    let later : List ℕ = set words last found in
+    let w : WorkerSeatView = masked_view v found in
+    let old : FitsWorker z s v = sh.each place (Worker v) at in
+    let runs = running_is IsSplit v.state split_phase in
+    let here : s.state i ≡ Runs runs.0 = old.state ∙ runs.1 in
+    let now : runs.0 ≡ s.phase = (reached_in_phase z s some_state.reachable).runs i runs.0 here in
+    let present : phase_of v.state ≡ s.phase = ap phase_of runs.1 ∙ now in
+    let odd : IsSplit s.phase = subst IsSplit now runs.2 in
+    let found_is : found ≡ s.hot s.phase = sh.mask odd in
+    let wide = sh.width in
+    let P : PhaseMask → Type 0 = λ m. (m.phase ≤ s.phase) × (m.mask ≡ s.hot m.phase) in
+    let fits : FitsWorker z s w =
+    record {
+      opening = old.opening;
+      there = old.there;
+      state = old.state;
+      number = old.number;
+      ending = old.ending;
+      labels = old.labels;
+      masks = All-cons P (record { phase = phase_of v.state; mask = found }) v.masks (omega arith, found_is ∙ ap s.hot (sym present)) old.masks;
+    }
+    in
+    let permits : Permits (numbers z s) (Hot i) =
+    record { there = old.there; suits = (here ∙ ap Runs now, odd); leaves_last = tt; room = tt }
+    in
+    let shows : Shows z s later (set views place (Worker w)) =
+    worker_steps z s s words later views place v w sh at refl
+    (length-set words last found)
+    (get_or-set_other words last 0 found 0 (λ eq. absurd (omega arith)) ∙ sh.word)
+    (λ page below. get_or-set_other words last (page + 1) found 0 (λ eq. absurd (omega arith)) ∙ sh.pages page below)
+    (get_or-set_same words last found 0 (omega arith))
+    sh.mask
+    sh.merged
+    fits
+    (λ u none seat f. f)
+    (reads_same z.counts s.phase s.phase views place (Worker v) (Worker w) (omega arith) at (λ k p. refl) (λ f has. has) sh.reads)
+    (counted_same z.counts views place (Worker v) (Worker w) sh.coord.counted at (λ k p. refl) sh.counted)
+    in (
+      record {
+        words = words;
+        views = views;
+        place = place;
+        state = s;
+        reachable = some_state.reachable;
+        shows = sh;
+        mine = at;
+        before = tt;
+        permits = permits;
+        tells = ap HotShown found_is;
+        changed = last;
+        word = found;
+        shows_after = shows;
+      },
+      record {
+        state = s;
+        reachable = some_state.reachable;
+        shows = shows;
+        tallied = tallied_on s s views place (Worker v) (Worker w) (omega arith) (λ _. refl) at (λ _. refl) (λ _. refl) (λ _ _. refl) some_state.tallied;
+      },
     )

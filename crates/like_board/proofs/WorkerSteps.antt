@@ -119,6 +119,7 @@ looks z words views place v some_state at there =
       number = (let e : sight.number ≡ s.phase = sees.number in omega arith);
       ending = λ _ saw. sym sees.ending ∙ saw;
       labels = old.labels;
+      masks = old.masks;
     }
     in
     let shows_after : Shows z t (set words 0 found) (set views place (Worker w)) =
@@ -178,6 +179,7 @@ answers z s words views place v phase reached sh at runs present =
       number = old.number;
       ending = λ running _. absurd running;
       labels = old.labels;
+      masks = old.masks;
     }
     in
     worker_moves z s words views place v (answered_view v) state (bit_or (get_or words 0 0) (answer_bit i)) sh at refl
@@ -295,6 +297,7 @@ retires z words views place v some_state at joined =
       number = old.number;
       ending = λ running _. absurd running;
       labels = old.labels;
+      masks = old.masks;
     }
     in
     let after_it : Shows z (moved s i Gone) (set words 0 (bit_or (get_or words 0 0) (retirement_bit i))) (set views place (Worker (retired_view v))) =

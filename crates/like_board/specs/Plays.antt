@@ -11,9 +11,9 @@ use Rattle.like_core.specs.Word.{Fields, packed, IsLawful}
 use Rattle.like_core.specs.Sights.{sight_of, coord_sight_of}
 use Rattle.like_core.specs.WorkerState.{IsSightOf, SeesEndingStill}
 use Rattle.like_core.specs.Additions.{added_to}
-use Rattle.like_core.specs.Views.{looked_view, added_view, read_view, looked_coord}
+use Rattle.like_core.specs.Views.{looked_view, added_view, read_view, masked_view, looked_coord, counted_coord}
 use Rattle.like_core.specs.Shows.{IsStep}
-use Rattle.like_core.specs.Actions.{Adds, Reads}
+use Rattle.like_core.specs.Actions.{Adds, Reads, ReadsMask, Counts}
 use Rattle.like_board.specs.Known.{worker_view_of, coord_view_of}
 
 -- what a worker's look finds and shows
@@ -90,3 +90,17 @@ pub record TellsRead (page : ℕ) (v : View) (found : ℕ) (w : View) : Type 0 w
 -- the same of a word
 abbrev pub TellsReadAt : ℕ → View → ℕ → View → Type 0
 TellsReadAt word v found w = (page : ℕ) → word ≡ page + 1 → TellsRead page v found w
+
+-- what a read of the mask word tells: the view after has the mask that it found, and it is the action
+pub record TellsMask (v : View) (found : ℕ) (w : View) : Type 0 where
+  pub view : w ≡ Worker (masked_view (worker_view_of v) found)
+  pub step : let me = worker_view_of v in ReadsMask me found (masked_view me found)
+
+-- what the coordinator's read of a page's count tells: the view after has it, and it is the action
+pub record TellsCount (page : ℕ) (v : View) (found : ℕ) (w : View) : Type 0 where
+  pub view : w ≡ Coord (counted_coord (coord_view_of v) page found)
+  pub step : let me = coord_view_of v in Counts me page found (counted_coord me page found)
+
+-- the same of a word
+abbrev pub TellsCountAt : ℕ → View → ℕ → View → Type 0
+TellsCountAt word v found w = (page : ℕ) → word ≡ page + 1 → TellsCount page v found w

@@ -4,6 +4,7 @@ use Rattle.atomic_table.specs.Seated.{TableId}
 use Rattle.like_core.specs.declared.opening.Opening.{Opening}
 use Rattle.like_core.specs.declared.view.WorkerSeatView.{WorkerSeatView}
 use Rattle.like_core.specs.declared.view.CoordSeatView.{CoordSeatView}
+use Rattle.like_core.specs.declared.view.PhaseMask.{PhaseMask}
 use Rattle.like_board.specs.declared.board.Board.{Board}
 use Rattle.like_board.specs.declared.coord_seat.CoordSeat.{CoordSeat}
 use Rattle.like_board.specs.declared.worker_seat.WorkerSeat.{WorkerSeat}
@@ -11,7 +12,8 @@ use Rattle.like_board.specs.declared.board_post.BoardPost.{BoardPost}
 use Rattle.like_core.specs.Additions.{added_before}
 use Rattle.like_core.specs.Post.{PostView, IsFresh, additions_of}
 use Rattle.like_core.specs.Views.{fresh, post_of}
-use Rattle.like_core.specs.Reads.{AreBetween}
+use Rattle.like_core.specs.Reads.{AreBetween, IsCounted}
+use Rattle.like_core.specs.PhaseMasks.{mask_of}
 use Rattle.like_board.specs.Known.{worker_view_of, coord_view_of}
 
 -- what tells a board from others
@@ -85,3 +87,13 @@ abbrev pub HaveReadBetween : Opening → ℕ → List WorkerSeat → Type 0
 HaveReadBetween z phase seats =
     All (λ seat. let post = seat_meaning seat in
     AreBetween z.counts (seats_before seats) phase post.additions post.reads) seats
+
+-- each count that the coordinator read is the one at the start and all that the workers of these seats have added up to
+-- its phase
+abbrev pub AreCounted : CoordSeatView → List WorkerSeat → Type 0
+AreCounted c seats = All (IsCounted c.opening.counts (seats_before seats)) c.counted
+
+-- each mask that a worker of these seats read is the one of its phase, as the phases were released with these
+abbrev pub HaveReadMasks : List PhaseMask → List WorkerSeat → Type 0
+HaveReadMasks released seats =
+    All (λ seat. All (λ m. m.mask ≡ mask_of released m.phase) (seat_meaning seat).masks) seats

@@ -1,4 +1,4 @@
-ghost use Rattle.std.specs.Prelude.{◌≡◌, ◌^◌, ◌<◌, ◌≤◌, All, length, IfOk};
+ghost use Rattle.std.specs.Prelude.{◌≡◌, ◌+◌, ◌^◌, ◌<◌, ◌≤◌, All, length, IfOk};
 ghost use Rattle.like_core.specs.Limits.{max_workers, max_pages, max_count};
 
 use crate::coord_seat::CoordSeat;
@@ -10,7 +10,7 @@ use atomic_table::Table;
 use like_core::{PhaseWord, View};
 use std::alloc::{AllocError, Global};
 
-/// The phase word and then one word per page, which threads share.
+/// The phase word, then one word per page, and last the mask word, which threads share.
 #[derive(Drop)]
 pub struct Board {
     pub(crate) table: Table<(), View, Key, BoardRule, Global>,
@@ -24,7 +24,8 @@ impl Board {
     ghost use Rattle.like_board.specs.Seats.{board_id, coord_board, coord_view, AreFresh};
 
     /// A board in phase 0, running, with these counts by page, the coordinator's seat and each worker's seat in order.
-    /// Pages that are marked in `split` are split in each odd phase.
+    /// Pages that are marked in `split` are split in each odd phase, others of the first 64 in those that are released
+    /// with a mask that has their bit.
     pub fn new(
         alloc: Global,
         workers: u32,
@@ -44,9 +45,10 @@ impl Board {
             AreFresh (board_id r.0) (opening workers counts.now split.now) r.2.items) }
     {
         let first = PhaseWord::first(workers);
-        let mut words = Vec::with_capacity(alloc, counts.len() + 1)?;
+        let mut words = Vec::with_capacity(alloc, counts.len() + 2)?;
         words.push_reserved(first.pack());
         words.extend_from_slice(counts)?;
+        words.push(0)?;
         let key = Key {
             workers,
             counts: Vec::from_slice(alloc, counts)?,
@@ -56,5 +58,12 @@ impl Board {
         let board = Board { table };
         let seats = make_seats(alloc, &board, &mut seat, workers)?;
         Ok((board, CoordSeat { seat, seen: first }, seats))
+    }
+
+    /// The place of the mask word, which is the last.
+    pub(crate) fn mask_word(&self) -> usize
+        ensures { result + 1 ≡ (board_id self.now).words }
+    {
+        self.table.word_count() - 1
     }
 }

@@ -29,9 +29,9 @@ impl BoardPost<'_> {
 impl Post for BoardPost<'_> {
     ghost use Rattle.like_core.specs.declared.worker_state.WorkerState.TheVariants.{Gone};
     ghost use Rattle.like_core.specs.WorkerState.{RunsJoined, RunsSplit, SawEnding, IsSightOf, SeesEndingStill};
-    ghost use Rattle.like_core.specs.Post.{looked_at, answered, retired, added, has_read, additions_of, MayAdd, MayRead};
-    ghost use Rattle.like_core.specs.Views.{looked_view, answered_view, retired_view, added_view, read_view};
-    ghost use Rattle.like_core.specs.Actions.{Looks, Acknowledges, Reports, Retires, Adds, Reads};
+    ghost use Rattle.like_core.specs.Post.{looked_at, answered, retired, added, has_read, with_mask, additions_of, MayAdd, MayRead};
+    ghost use Rattle.like_core.specs.Views.{looked_view, answered_view, retired_view, added_view, read_view, masked_view};
+    ghost use Rattle.like_core.specs.Actions.{Looks, Acknowledges, Reports, Retires, Adds, Reads, ReadsMask};
     ghost use Rattle.like_board.specs.Seats.{post_board, post_view, post_meaning};
 
     ghost view = { post_meaning };
@@ -106,5 +106,16 @@ impl Post for BoardPost<'_> {
     {
         let board = self.board;
         self.seat.read(board, page)
+    }
+
+    fn hot(&mut self) -> u64
+        requires { RunsSplit (post_meaning self.old).state }
+        ensures view { post_meaning self.new ≡ with_mask (post_meaning self.old) result }
+        ensures board { post_board self.new ≡ post_board self.old }
+        ensures known { post_view self.new ≡ masked_view (post_view self.old) result }
+        ensures event { ReadsMask (post_view self.old) result (post_view self.new) }
+    {
+        let board = self.board;
+        self.seat.hot(board)
     }
 }

@@ -8,7 +8,7 @@ ghost use Rattle.like_core.specs.declared.worker_state.WorkerState.TheVariants.{
 ghost use Rattle.like_core.specs.WorkerState.{SawNoLater};
 ghost use Rattle.like_core.specs.Views.{gathered_all};
 ghost use Rattle.like_board.specs.Known.{coord_view_of};
-ghost use Rattle.like_board.specs.Seats.{board_id, coord_board, coord_view, seat_board, seat_view, seat_meaning, AreAll, last_count, HaveReadBetween};
+ghost use Rattle.like_board.specs.Seats.{board_id, coord_board, coord_view, seat_board, seat_view, seat_meaning, AreAll, last_count, HaveReadBetween, HaveReadMasks, AreCounted};
 
 use crate::board::Board;
 use crate::coord_seat::CoordSeat;
@@ -36,7 +36,7 @@ fn gather(board: &Board, coord: &mut Seat<(), View>, mut seats: Vec<WorkerSeat>)
 /// Writes each page's word.
 fn write_counts(closed: &Closed<(), Global>, counts: &mut [u64])
     requires full { IsFull closed.now.words }
-    requires sized { slots_len closed.now.words ≡ length counts.old + 1 }
+    requires sized { slots_len closed.now.words ≡ length counts.old + 2 }
     ensures len { length counts.new ≡ length counts.old }
     ensures words { (page : ℕ) → page < length counts.old →
         get_elem? (slots_items closed.now.words) (page + 1) ≡ some (slice_index counts.new page) }
@@ -50,7 +50,8 @@ impl Board {
     /// Ends the board, where each worker's seat is given back and all are gone, and writes each page's last count: its
     /// count at the start and all that was added to it. No worker saw a later phase than the coordinator's. Each count
     /// that a worker read has all additions of earlier phases and its own before in that phase, and none of a later phase
-    /// nor of its own later ones.
+    /// nor of its own later ones; each that the coordinator read has all additions up to its phase. Each mask that a
+    /// worker read is the one with which the coordinator released its phase.
     pub fn close(self, coord: CoordSeat, seats: Vec<WorkerSeat>, counts: &mut [u64])
         requires coord_here { coord_board coord ≡ board_id self }
         requires seats_here { All (λ seat. seat_board seat ≡ board_id self) seats.items }
@@ -62,6 +63,8 @@ impl Board {
             slice_index counts.new page ≡ last_count (coord_view coord).opening seats.items page }
         ensures phases { All (λ seat. SawNoLater (coord_view coord).phase (seat_meaning seat).last) seats.items }
         ensures reads { HaveReadBetween (coord_view coord).opening (coord_view coord).phase seats.items }
+        ensures counted { AreCounted (coord_view coord) seats.items }
+        ensures masks { HaveReadMasks (coord_view coord).masks seats.items }
     {
         let CoordSeat {
             seat: mut coord,

@@ -7,7 +7,7 @@ ghost use Rattle.like_core.specs.Sights.{coord_sight_of};
 ghost use Rattle.like_board.specs.Known.{coord_view_of};
 
 use crate::board::Board;
-use crate::plays::{Announcing, Releasing, Surveying};
+use crate::plays::{Announcing, Counting, Publishing, Releasing, Surveying};
 use atomic_table::Seat;
 use like_core::{CoordSight, PhaseWord, View};
 
@@ -19,7 +19,7 @@ pub struct CoordSeat {
     pub(crate) seen: PhaseWord,
     ghost is_coord: { seat.me ≡ (Coord (coord_view_of seat.me.0), []) },
     ghost saw: { packed (fields_of seen) ≡ (coord_view_of seat.me.0).word },
-    ghost sized: { seat.table_id.words ≡ length (coord_view_of seat.me.0).opening.counts + 1 },
+    ghost sized: { seat.table_id.words ≡ length (coord_view_of seat.me.0).opening.counts + 2 },
     ghost made_all: { (coord_view_of seat.me.0).made ≡ (coord_view_of seat.me.0).opening.workers },
     ghost none_back: { (coord_view_of seat.me.0).joined ≡ [] },
     ghost showed: { let last = (coord_view_of seat.me.0).last in
@@ -28,8 +28,8 @@ pub struct CoordSeat {
 
 impl CoordSeat {
     ghost use Rattle.like_core.specs.Phase.{IsSplit};
-    ghost use Rattle.like_core.specs.Views.{looked_coord, announced_coord, released_coord, MayAnnounce, MayRelease};
-    ghost use Rattle.like_core.specs.Actions.{Surveys, Announces, Releases};
+    ghost use Rattle.like_core.specs.Views.{looked_coord, announced_coord, counted_coord, published_coord, released_coord, MayAnnounce, MayCount, MayPublish, MayRelease};
+    ghost use Rattle.like_core.specs.Actions.{Surveys, Announces, Counts, Releases};
     ghost use Rattle.like_board.specs.Seats.{board_id, coord_board, coord_view};
 
     /// Looks at the phase word. Once it showed all workers in, it shows that until the release.
@@ -62,10 +62,37 @@ impl CoordSeat {
             .fetch_add::<Announcing>(&mut self.seat, 0, 1);
     }
 
-    /// Releases the next phase.
+    /// A page's count at the end of a joined phase: its count at the start and all that was added up to that phase.
+    pub fn count(&mut self, board: &Board, page: u32) -> u64
+        requires here { coord_board self.old ≡ board_id board.now }
+        requires may { MayCount (coord_view self.old) page }
+        ensures board { coord_board self.new ≡ coord_board self.old }
+        ensures view { coord_view self.new ≡ counted_coord (coord_view self.old) page result }
+        ensures event { Counts (coord_view self.old) page result (coord_view self.new) }
+    {
+        let word = page as usize + 1;
+        board.table.shared.load::<Counting>(&mut self.seat, word)
+    }
+
+    /// Stores the mask of hot pages with which the split phase that comes next is to be released. It is no event of the
+    /// core: the release is.
+    pub fn publish(&mut self, board: &Board, mask: u64)
+        requires here { coord_board self.old ≡ board_id board.now }
+        requires may { MayPublish (coord_view self.old) mask }
+        ensures board { coord_board self.new ≡ coord_board self.old }
+        ensures view { coord_view self.new ≡ published_coord (coord_view self.old) mask }
+    {
+        let word = board.mask_word();
+        board
+            .table
+            .shared
+            .store::<Publishing>(&mut self.seat, word, mask);
+    }
+
+    /// Releases the next phase, a split one with the mask that was published last.
     pub fn release(&mut self, board: &Board)
         requires here { coord_board self.old ≡ board_id board.now }
-        requires all_in { MayRelease (coord_view self.old) }
+        requires may { MayRelease (coord_view self.old) }
         ensures board { coord_board self.new ≡ coord_board self.old }
         ensures view { coord_view self.new ≡ released_coord (coord_view self.old) }
         ensures event { Releases (coord_view self.old) (coord_view self.new) }

@@ -1,5 +1,5 @@
-//! The board of the like service: the phase word and the pages' counts, as words that change in single atomic steps,
-//! over which the coordinator and the workers step with seats of their own.
+//! The board of the like service: the phase word, the pages' counts and the mask of hot pages, as words that change in
+//! single atomic steps, over which the coordinator and the workers step with seats of their own.
 #![tactic(auto)]
 
 mod board;

@@ -18,7 +18,7 @@ use std::alloc::{AllocError, Global};
 fn make_seat(board: &Board, coord: &mut Seat<(), View>, number: u32) -> WorkerSeat
     requires here { coord.old.table_id ≡ board_id board.now }
     requires coord { coord.old.me ≡ (Coord (coord_view_of coord.old.me.0), []) }
-    requires sized { coord.old.table_id.words ≡ length (coord_view_of coord.old.me.0).opening.marks + 1 }
+    requires sized { coord.old.table_id.words ≡ length (coord_view_of coord.old.me.0).opening.marks + 2 }
     requires next { number ≡ (coord_view_of coord.old.me.0).made }
     requires room { number < (coord_view_of coord.old.me.0).opening.workers }
     requires few { number < max_workers }
@@ -41,7 +41,7 @@ pub(crate) fn make_seats(
 ) -> Result<Vec<WorkerSeat>, AllocError>
     requires here { coord.old.table_id ≡ board_id board.now }
     requires coord { coord.old.me ≡ (Coord (coord_view_of coord.old.me.0), []) }
-    requires sized { coord.old.table_id.words ≡ length (coord_view_of coord.old.me.0).opening.marks + 1 }
+    requires sized { coord.old.table_id.words ≡ length (coord_view_of coord.old.me.0).opening.marks + 2 }
     requires none { (coord_view_of coord.old.me.0).made ≡ 0 }
     requires all { workers ≡ (coord_view_of coord.old.me.0).opening.workers }
     requires few { workers ≤ max_workers }

@@ -1,10 +1,10 @@
 //! What each kind of step tells the seat that makes it, and how a worker's seat is made and given back.
 ghost use Rattle.std.specs.Prelude.{◌≡◌, []};
 ghost use Rattle.like_core.specs.declared.view.View.TheVariants.{Coord, Worker, Spent};
-ghost use Rattle.like_core.specs.Views.{fresh, answered_view, retired_view, announced_coord, released_coord, made_coord, gathered_coord};
+ghost use Rattle.like_core.specs.Views.{fresh, answered_view, retired_view, announced_coord, released_coord, published_coord, made_coord, gathered_coord};
 ghost use Rattle.like_core.specs.Actions.{Acknowledges, Reports, Retires, Announces, Releases};
 ghost use Rattle.like_board.specs.Known.{coord_view_of, worker_view_of};
-ghost use Rattle.like_board.specs.Plays.{TellsLook, TellsSurvey, TellsWorker, TellsCoord, TellsAddAt, TellsReadAt};
+ghost use Rattle.like_board.specs.Plays.{TellsLook, TellsSurvey, TellsWorker, TellsCoord, TellsAddAt, TellsReadAt, TellsMask, TellsCountAt};
 
 use atomic_table::{Join, Play, Split};
 use like_core::View;
@@ -51,6 +51,13 @@ impl Play<(), View> for Reading {
     ghost then = { λ step me found after. TellsReadAt step.word me.0 found after.0 × (after.1 ≡ []) };
 }
 
+/// A worker's read of the mask word.
+pub struct ReadingMask;
+
+impl Play<(), View> for ReadingMask {
+    ghost then = { λ _ me found after. TellsMask me.0 found after.0 × (after.1 ≡ []) };
+}
+
 /// The coordinator's look.
 pub struct Surveying;
 
@@ -63,6 +70,21 @@ pub struct Announcing;
 
 impl Play<(), View> for Announcing {
     ghost then = { λ _ me _ after. TellsCoord Announces announced_coord me.0 after.0 × (after.1 ≡ []) };
+}
+
+/// The coordinator's read of the count of the page whose word it steps on.
+pub struct Counting;
+
+impl Play<(), View> for Counting {
+    ghost then = { λ step me found after. TellsCountAt step.word me.0 found after.0 × (after.1 ≡ []) };
+}
+
+/// A mask that is published.
+pub struct Publishing;
+
+impl Play<(), View> for Publishing {
+    ghost then = { λ step me _ after.
+        (after.0 ≡ Coord (published_coord (coord_view_of me.0) step.first)) × (after.1 ≡ []) };
 }
 
 /// A release.

@@ -5,7 +5,7 @@ ghost use Rattle.like_board.specs.Known.{worker_view_of};
 
 use crate::board::Board;
 use crate::board_post::BoardPost;
-use crate::plays::{Acknowledging, Adding, Looking, Reading, Reporting, Retiring};
+use crate::plays::{Acknowledging, Adding, Looking, Reading, ReadingMask, Reporting, Retiring};
 use atomic_table::Seat;
 use like_core::{PhaseWord, Sight, View};
 
@@ -17,7 +17,7 @@ pub struct WorkerSeat {
     ghost is_worker: { seat.me ≡ (Worker (worker_view_of seat.me.0), []) },
     ghost numbered: { number ≡ (worker_view_of seat.me.0).worker },
     ghost few: { number < max_workers },
-    ghost sized: { seat.table_id.words ≡ length (worker_view_of seat.me.0).opening.marks + 1 },
+    ghost sized: { seat.table_id.words ≡ length (worker_view_of seat.me.0).opening.marks + 2 },
 }
 
 impl WorkerSeat {
@@ -25,8 +25,8 @@ impl WorkerSeat {
     ghost use Rattle.like_core.specs.WorkerState.{IsSightOf, RunsJoined, RunsSplit, SawEnding, SeesEndingStill};
     ghost use Rattle.like_core.specs.Post.{MayAdd, MayRead};
     ghost use Rattle.like_core.specs.Additions.{added_to};
-    ghost use Rattle.like_core.specs.Views.{looked_view, answered_view, retired_view, added_view, read_view};
-    ghost use Rattle.like_core.specs.Actions.{Looks, Acknowledges, Reports, Retires, Adds, Reads};
+    ghost use Rattle.like_core.specs.Views.{looked_view, answered_view, retired_view, added_view, read_view, masked_view};
+    ghost use Rattle.like_core.specs.Actions.{Looks, Acknowledges, Reports, Retires, Adds, Reads, ReadsMask};
     ghost use Rattle.like_board.specs.Seats.{board_id, seat_board, seat_view, seat_meaning, post_board, post_view, post_meaning};
 
     /// Takes the seat to its board.
@@ -121,5 +121,16 @@ impl WorkerSeat {
     {
         let word = page as usize + 1;
         board.table.shared.load::<Reading>(&mut self.seat, word)
+    }
+
+    pub(crate) fn hot(&mut self, board: &Board) -> u64
+        requires here { seat_board self.old ≡ board_id board.now }
+        requires runs { RunsSplit (seat_view self.old).state }
+        ensures board { seat_board self.new ≡ seat_board self.old }
+        ensures view { seat_view self.new ≡ masked_view (seat_view self.old) result }
+        ensures event { ReadsMask (seat_view self.old) result (seat_view self.new) }
+    {
+        let word = board.mask_word();
+        board.table.shared.load::<ReadingMask>(&mut self.seat, word)
     }
 }

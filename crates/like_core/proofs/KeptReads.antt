@@ -1,5 +1,5 @@
 -- What stands of the counts that workers read is kept by each step.
-use Rattle.std.proofs.Common.{◌≡◌, ◌≢◌, ℕ, zero, suc, ◌+◌, ◌≤◌, ◌==◌, nat_lt, Bool, ◌&&◌, cond, ◌⊎◌, inl, inr, List, [], ◌∷◌, ◌++◌, All, length, get_or, drop, set, subst, ap, sym, ◌∙◌, refl, arith}
+use Rattle.std.proofs.Common.{◌≡◌, ◌≢◌, ℕ, zero, suc, ◌+◌, ◌≤◌, ◌==◌, nat_lt, Bool, ◌&&◌, cond, ◌⊎◌, inl, inr, List, [], ◌∷◌, ◌++◌, All, length, get_or, slice_index, drop, set, subst, ap, sym, ◌∙◌, refl, arith}
 use Rattle.std.proofs.Math.Seq.{take-length}
 use Rattle.std.proofs.lemmas.Bool.{le-ltb}
 use Rattle.std.proofs.lemmas.List.{take-append-le, drop-append-le, drop_all, length-append}
@@ -9,6 +9,7 @@ use mathlib.Core.Option.{some, some-injective}
 use lib.ListN.{get_elem?}
 use Rattle.like_core.specs.declared.view.Addition.{Addition}
 use Rattle.like_core.specs.declared.view.PageRead.{PageRead}
+use Rattle.like_core.specs.declared.view.PageCount.{PageCount}
 use Rattle.like_core.specs.declared.view.WorkerSeatView.{WorkerSeatView}
 use Rattle.like_core.specs.declared.view.CoordSeatView.{CoordSeatView}
 use Rattle.like_core.specs.declared.view.View.{View}
@@ -16,7 +17,7 @@ use Rattle.like_core.specs.declared.view.View.TheVariants.{Coord, Worker, Spent}
 use Rattle.like_core.specs.Additions.{added_in, added_before}
 use Rattle.like_core.specs.WorkerState.{phase_of}
 use Rattle.like_core.specs.Views.{added_view, read_view, gathered_coord}
-use Rattle.like_core.specs.Reads.{before_in, all_before, IsBetween, AreBetween, HasReads, ReadsFit, AdditionKeepsReads, ReadKeepsReads, JoinKeepsReads}
+use Rattle.like_core.specs.Reads.{before_in, all_before, IsBetween, AreBetween, IsCounted, HasReads, ReadsFit, AdditionKeepsReads, ReadKeepsReads, JoinKeepsReads}
 use Rattle.like_core.proofs.Labels.{addition, added_in-push, added_before-push, added_before-next, one_before-next}
 use Rattle.like_core.proofs.ViewLists.{sum_mono, sum_more, sum_swap, sum_gathered, replaced, kept}
 
@@ -85,6 +86,27 @@ own_later now phase n page = let e = one_before-next now phase n page in omega a
 -- it counts for none before its phase
 not_before : (now phase n : ℕ) (page : Bool) → phase ≤ now → cond {A = ℕ} (nat_lt now phase && page) n 0 ≡ 0
 not_before now phase n page past = ap (λ (b : Bool). cond {A = ℕ} (b && page) n 0) (le-ltb now phase past)
+
+-- an addition counts for none before its phase, nor for one that is not later
+pub addition_before : (views : List View) (place : ℕ) (v : WorkerSeatView) (page n k p : ℕ) → get_elem? views place ≡ some (Worker v) → k ≤ phase_of v.state → all_before (set views place (Worker (added_view v page n))) k p ≡ all_before views k p
+addition_before views place v page n k p at past =
+    let now : ℕ = phase_of v.state in
+    let swap = sum_swap (before_in k p) views place (Worker v) (Worker (added_view v page n)) at in
+    let push = added_before-push v.additions now page n k p in
+    let none = not_before now k n (page == p) past in
+    omega arith
+
+-- counts stay those up to their phases, where as much was added before
+pub counted_on : (counts : List ℕ) (f g : ℕ → ℕ → ℕ) (rs : List PageCount) → All (λ r. g (r.phase + 1) r.page ≡ f (r.phase + 1) r.page) rs → All (IsCounted counts f) rs → All (IsCounted counts g) rs
+counted_on counts f g rs same all = λ i d inside.
+    let r : PageCount = get_or rs i d in
+    all i d inside ∙ ap (λ (n : ℕ). slice_index counts r.page + n) (sym (same i d inside))
+
+-- and where one view is replaced by one that has added as much
+pub counted_same : (counts : List ℕ) (views : List View) (place : ℕ) (a b : View) (rs : List PageCount) → get_elem? views place ≡ some a → ((k p : ℕ) → before_in k p b ≡ before_in k p a) → All (IsCounted counts (all_before views)) rs → All (IsCounted counts (all_before (set views place b))) rs
+counted_same counts views place a b rs at same =
+    counted_on counts (all_before views) (all_before (set views place b)) rs
+    (λ i d inside. let r : PageCount = get_or rs i d in same_before views place a b at same (r.phase + 1) r.page)
 
 -- one addition of the present phase
 pub addition_keeps_reads : AdditionKeepsReads

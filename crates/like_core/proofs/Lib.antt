@@ -20,6 +20,7 @@ pub mod ShownEvents
 pub mod FromFields
 pub mod Labels
 pub mod Adding
+pub mod PhaseMasks
 pub mod Posts
 pub mod ViewLists
 pub mod KeptReads

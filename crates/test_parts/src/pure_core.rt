@@ -151,19 +151,17 @@ fn shows_each_step(rt: HostRuntime) -> Result<(), Fail> {
 #[test]
 fn splits_hot_pages(rt: HostRuntime) -> Result<(), Fail> {
     let mut core = Core::new(rt.alloc(), 1, &[0, 0], &[false, true])?;
-    let running = |number: u32| {
-        Ok(Shown::Seen(Sight {
-            number,
-            ending: false,
-            waits: false,
-        }))
+    let running = |number: u32| Sight {
+        number,
+        ending: false,
+        waits: false,
     };
     let steps = [
         (Event::Announce, Ok(Shown::Done)),
         (Event::Acknowledge(0), Ok(Shown::Done)),
         (Event::Release(4), Err(NotNow::NoSuch)),
         (Event::Release(1), Ok(Shown::Done)),
-        (Event::Look(0), running(1)),
+        (Event::Look(0), Ok(Shown::Seen(running(1)))),
         (Event::Hot(0), Ok(Shown::Hot(1))),
         (Event::Like(0, 0), Ok(Shown::Sliced)),
         (Event::Like(0, 1), Ok(Shown::Sliced)),
@@ -174,7 +172,7 @@ fn splits_hot_pages(rt: HostRuntime) -> Result<(), Fail> {
         (Event::Report(0), Ok(Shown::Done)),
         (Event::Release(1), Err(NotNow::Phase)),
         (Event::Release(0), Ok(Shown::Done)),
-        (Event::Look(0), running(2)),
+        (Event::Look(0), Ok(Shown::Seen(running(2)))),
         (Event::Read(0, 0), Ok(Shown::Count(1))),
         (Event::Hot(0), Err(NotNow::Phase)),
         (Event::CoordRead(1), Ok(Shown::Count(1))),

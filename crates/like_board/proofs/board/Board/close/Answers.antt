@@ -20,7 +20,7 @@ returns-clause-counts c =
     in
     λ page on.
     let places = c.requires.places in
-    sym (read_at (slots_items closed.words) (page + 1) _ (c.write_counts.ensures.words page on)) ∙ last.0 page (omega arith)
+    sym (read_at (slots_items closed.words) (page + 1) _ (c.write_counts.ensures.words page on)) ∙ last.counts page (omega arith)
 
 pub returns-clause-phases : goal.returns-clause-phases
 returns-clause-phases c =
@@ -34,7 +34,7 @@ returns-clause-phases c =
     coord.made_all
     c.requires.all
     in
-    last.1
+    last.phases
 
 pub returns-clause-reads : goal.returns-clause-reads
 returns-clause-reads c =
@@ -48,4 +48,32 @@ returns-clause-reads c =
     coord.made_all
     c.requires.all
     in
-    last.2
+    last.reads
+
+pub returns-clause-counted : goal.returns-clause-counted
+returns-clause-counted c =
+    let coord = c.args.coord in
+    let closed = c.close_with-closed.result in
+    let last =
+    closes c.args.self.table.shared.key _ _ (slots_items closed.words) (slots_items closed.slots) (coord_view coord) c.args.seats.items
+    c.close_with-closed.ensures.values.2
+    (ap (λ (m : Me (Unit {0}) View). m.0) c.gather.ensures.coord)
+    coord.none_back
+    coord.made_all
+    c.requires.all
+    in
+    last.counted
+
+pub returns-clause-masks : goal.returns-clause-masks
+returns-clause-masks c =
+    let coord = c.args.coord in
+    let closed = c.close_with-closed.result in
+    let last =
+    closes c.args.self.table.shared.key _ _ (slots_items closed.words) (slots_items closed.slots) (coord_view coord) c.args.seats.items
+    c.close_with-closed.ensures.values.2
+    (ap (λ (m : Me (Unit {0}) View). m.0) c.gather.ensures.coord)
+    coord.none_back
+    coord.made_all
+    c.requires.all
+    in
+    last.masks

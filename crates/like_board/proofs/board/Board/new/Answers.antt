@@ -20,9 +20,11 @@ of_words-requires c =
     c.in_ok-from_slice-2.ensures.items
     (c.pack.ensures ∙ ap packed c.first-first.ensures)
     (c.as_slice.ensures.value ∙
+    (c.in_ok-push.ensures.items ∙
+    ap (λ (xs : List ℕ). xs ++ 0 ∷ [])
     (c.in_ok-extend_from_slice.ensures.items ∙
     ap (λ (xs : List ℕ). xs ++ c.args.counts.now)
-    (c.push_reserved.ensures.items ∙ ap (λ (xs : List ℕ). xs ++ word ∷ []) c.in_ok-words.ensures.items)))
+    (c.push_reserved.ensures.items ∙ ap (λ (xs : List ℕ). xs ++ word ∷ []) c.in_ok-words.ensures.items))))
     c.requires.some_worker
     c.requires.few_workers
     c.requires.same_pages

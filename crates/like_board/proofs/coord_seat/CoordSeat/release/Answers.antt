@@ -9,5 +9,5 @@ store-requires c =
     let seat = c.args.self.now in (
       c.requires.here,
       c.args.board.now.some_word,
-      releasing c.args.board.now.table.shared.key _ _ _ (fields_of seat.seen) _ (c.pack.ensures ∙ ap packed c.released-next.ensures.fields) seat.seen.lawful seat.saw seat.is_coord c.requires.all_in,
+      releasing c.args.board.now.table.shared.key _ _ _ (fields_of seat.seen) _ (c.pack.ensures ∙ ap packed c.released-next.ensures.fields) seat.seen.lawful seat.saw seat.is_coord c.requires.may,
     )

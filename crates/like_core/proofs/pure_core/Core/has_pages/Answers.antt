@@ -1,4 +1,4 @@
-use Rattle.std.proofs.Common.{◌≡◌, ℕ, ◌^◌, ◌<◌, ◌≤◌, length, subst, sym, arith, eq-eqb}
+use Rattle.std.proofs.Common.{ℕ, ◌^◌, ◌<◌, ◌≤◌, length, subst, sym, arith, eq-eqb}
 use Rattle.std.proofs.lemmas.Bool.{eqb-true, le-leb}
 use lib.Pow.{pow_mono}
 use Rattle.like_core.proofs.Masks.{shr_none}

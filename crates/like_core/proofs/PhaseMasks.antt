@@ -1,0 +1,43 @@
+-- Masks of hot pages by phase.
+use Rattle.std.proofs.Common.{◌≡◌, ℕ, ◌%◌, ◌<◌, ◌==◌, Bool, true, false, ◌&&◌, ◌||◌, inl, inr, List, [], ◌∷◌, All, subst, ap, sym, ◌∙◌, refl, eq-eqb, arith}
+use Rattle.std.specs.List.{list_any}
+use Rattle.std.proofs.lemmas.Bool.{cases_eq, cases_lt, cond-true, ne_eqb, le-ltb}
+use Rattle.std.proofs.lemmas.List.Elements.{All-tail}
+use Rattle.like_core.specs.declared.view.PhaseMask.{PhaseMask}
+use Rattle.like_core.specs.Limits.{hot_pages}
+use Rattle.like_core.specs.Functions.{has_bit}
+use Rattle.like_core.specs.Phase.{IsSplit, is_hot, split}
+use Rattle.like_core.specs.PhaseMasks.{mask_of, HasMask}
+use Rattle.like_core.proofs.Updates.{update-other}
+
+-- where a list has the right mask of each phase that it has, and has one of this phase, that is the right one
+pub mask_of-right : (hot : ℕ → ℕ) (masks : List PhaseMask) (phase : ℕ) → All (λ m. m.mask ≡ hot m.phase) masks → HasMask phase masks → mask_of masks phase ≡ hot phase
+mask_of-right hot [] phase right has = absurd (cc)
+mask_of-right hot (m ∷ masks) phase right has = elim (cases_eq phase m.phase) [
+  | inl same ↦
+      cond-true (phase == m.phase) m.mask (mask_of masks phase) (eq-eqb phase m.phase same) ∙ (right 0 m (omega arith) ∙ ap hot (sym same))
+  | inr other ↦
+      let P : Bool → Type 0 = λ b. (b || list_any (λ (n : PhaseMask). n.phase == phase) masks) ≡ true in
+      let later : HasMask phase masks = subst P (ne_eqb m.phase phase (λ same. other (sym same))) has in
+      update-other (mask_of masks) m.phase m.mask phase other ∙
+      mask_of-right hot masks phase (All-tail (λ (n : PhaseMask). n.mask ≡ hot n.phase) m masks right) later
+]
+
+-- a page is split as the right masks say, where the list has the phase's mask wherever that is asked
+pub split-known : (marked : ℕ → Bool) (hot : ℕ → ℕ) (masks : List PhaseMask) (phase page : ℕ) → All (λ m. m.mask ≡ hot m.phase) masks → (IsSplit phase → marked page ≡ false → page < hot_pages → HasMask phase masks) → split marked hot phase page ≡ split marked (mask_of masks) phase page
+split-known marked hot masks phase page right knows = elim (cases_eq (phase % 2) 1) [
+  | inl odd ↦ ap (λ (b : Bool). (phase % 2 == 1) && b) (marked_or (marked page) (knows odd))
+  | inr even ↦
+      let none : (phase % 2 == 1) ≡ false = ne_eqb (phase % 2) 1 even in
+      (λ m. none m && (marked page || is_hot (hot phase) page)) ∙
+      sym (λ m. none m && (marked page || is_hot (mask_of masks phase) page))
+]
+  where
+    marked_or : (b : Bool) → (b ≡ false → page < hot_pages → HasMask phase masks) → (b || is_hot (hot phase) page) ≡ (b || is_hot (mask_of masks phase) page)
+    marked_or true asks = refl
+    marked_or false asks = elim (cases_lt page hot_pages) [
+      | inl first ↦ ap (λ n. is_hot n page) (sym (mask_of-right hot masks phase right (asks refl first)))
+      | inr past ↦
+          let none = le-ltb page hot_pages past in
+          (λ m. none m && has_bit (hot phase) page) ∙ sym (λ m. none m && has_bit (mask_of masks phase) page)
+    ]
