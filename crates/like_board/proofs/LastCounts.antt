@@ -16,7 +16,7 @@ use Rattle.like_core.specs.Post.{additions_of}
 use Rattle.like_core.specs.Additions.{added_before}
 use Rattle.like_core.specs.Views.{post_of, seats_of}
 use Rattle.like_core.specs.Reads.{before_in, AreBetween, IsCounted}
-use Rattle.like_core.specs.PhaseMasks.{mask_of}
+use Rattle.like_core.specs.PhaseMasks.{mask_of, AreMasksOf}
 use Rattle.like_core.specs.Shows.{ShowsSome, FitsWorker, FitsCoord}
 use Rattle.like_core.proofs.KeptReads.{between_on, counted_on}
 use Rattle.like_board.specs.declared.key.Key.{Key}
@@ -91,7 +91,7 @@ closed_counted z words views place c before some_state at made all same =
     (last_counted z words views place c some_state at (λ i below. all i (omega arith))))
 
 -- each mask that a worker whose seat was given back read is the one with which its phase was released
-closed_masks : (z : Opening) (words : List ℕ) (views : List View) (place : ℕ) (c : CoordSeatView) → ShowsSome z words views → get_elem? views place ≡ some (Coord c) → (k : ℕ) (w : WorkerSeatView) → get_elem? c.joined k ≡ some w → All (λ m. m.mask ≡ mask_of c.masks m.phase) w.masks
+closed_masks : (z : Opening) (words : List ℕ) (views : List View) (place : ℕ) (c : CoordSeatView) → ShowsSome z words views → get_elem? views place ≡ some (Coord c) → (k : ℕ) (w : WorkerSeatView) → get_elem? c.joined k ≡ some w → AreMasksOf (mask_of c.masks) w.masks
 closed_masks z words views place c some_state at k w found =
     let old : FitsCoord z some_state.state c = some_state.shows.each place (Coord c) at in
     let fits : FitsWorker z some_state.state w = old.joined k w found in

@@ -13,7 +13,7 @@ use Rattle.like_core.specs.Additions.{added_before}
 use Rattle.like_core.specs.Post.{PostView, IsFresh, additions_of}
 use Rattle.like_core.specs.Views.{fresh, post_of}
 use Rattle.like_core.specs.Reads.{AreBetween, IsCounted}
-use Rattle.like_core.specs.PhaseMasks.{mask_of}
+use Rattle.like_core.specs.PhaseMasks.{mask_of, AreMasksOf}
 use Rattle.like_board.specs.Known.{worker_view_of, coord_view_of}
 
 -- what tells a board from others
@@ -96,4 +96,4 @@ AreCounted c seats = All (IsCounted c.opening.counts (seats_before seats)) c.cou
 -- each mask that a worker of these seats read is the one of its phase, as the phases were released with these
 abbrev pub HaveReadMasks : List PhaseMask → List WorkerSeat → Type 0
 HaveReadMasks released seats =
-    All (λ seat. All (λ m. m.mask ≡ mask_of released m.phase) (seat_meaning seat).masks) seats
+    All (λ seat. AreMasksOf (mask_of released) (seat_meaning seat).masks) seats

@@ -1,5 +1,5 @@
 -- Masks of hot pages by phase.
-use Rattle.std.proofs.Common.{◌≡◌, ℕ, ◌%◌, ◌<◌, ◌==◌, Bool, true, false, ◌&&◌, ◌||◌, inl, inr, List, [], ◌∷◌, All, subst, ap, sym, ◌∙◌, refl, eq-eqb, arith}
+use Rattle.std.proofs.Common.{◌≡◌, ℕ, ◌%◌, ◌<◌, ◌==◌, Bool, true, false, ◌&&◌, ◌||◌, inl, inr, List, [], ◌∷◌, ◌++◌, append_assoc, subst, ap, sym, ◌∙◌, refl, eq-eqb, arith}
 use Rattle.std.specs.List.{list_any}
 use Rattle.std.proofs.lemmas.Bool.{cases_eq, cases_lt, cond-true, ne_eqb, le-ltb}
 use Rattle.std.proofs.lemmas.List.Elements.{All-tail}
@@ -7,11 +7,11 @@ use Rattle.like_core.specs.declared.view.PhaseMask.{PhaseMask}
 use Rattle.like_core.specs.Limits.{hot_pages}
 use Rattle.like_core.specs.Functions.{has_bit}
 use Rattle.like_core.specs.Phase.{IsSplit, is_hot, split}
-use Rattle.like_core.specs.PhaseMasks.{mask_of, HasMask}
+use Rattle.like_core.specs.PhaseMasks.{mask_of, HasMask, AreMasksOf, KeepsMasks}
 use Rattle.like_core.proofs.Updates.{update-other}
 
 -- where a list has the right mask of each phase that it has, and has one of this phase, that is the right one
-pub mask_of-right : (hot : ℕ → ℕ) (masks : List PhaseMask) (phase : ℕ) → All (λ m. m.mask ≡ hot m.phase) masks → HasMask phase masks → mask_of masks phase ≡ hot phase
+pub mask_of-right : (hot : ℕ → ℕ) (masks : List PhaseMask) (phase : ℕ) → AreMasksOf hot masks → HasMask phase masks → mask_of masks phase ≡ hot phase
 mask_of-right hot [] phase right has = absurd (cc)
 mask_of-right hot (m ∷ masks) phase right has = elim (cases_eq phase m.phase) [
   | inl same ↦
@@ -24,7 +24,7 @@ mask_of-right hot (m ∷ masks) phase right has = elim (cases_eq phase m.phase) 
 ]
 
 -- a page is split as the right masks say, where the list has the phase's mask wherever that is asked
-pub split-known : (marked : ℕ → Bool) (hot : ℕ → ℕ) (masks : List PhaseMask) (phase page : ℕ) → All (λ m. m.mask ≡ hot m.phase) masks → (IsSplit phase → marked page ≡ false → page < hot_pages → HasMask phase masks) → split marked hot phase page ≡ split marked (mask_of masks) phase page
+pub split-known : (marked : ℕ → Bool) (hot : ℕ → ℕ) (masks : List PhaseMask) (phase page : ℕ) → AreMasksOf hot masks → (IsSplit phase → marked page ≡ false → page < hot_pages → HasMask phase masks) → split marked hot phase page ≡ split marked (mask_of masks) phase page
 split-known marked hot masks phase page right knows = elim (cases_eq (phase % 2) 1) [
   | inl odd ↦ ap (λ (b : Bool). (phase % 2 == 1) && b) (marked_or (marked page) (knows odd))
   | inr even ↦
@@ -41,3 +41,27 @@ split-known marked hot masks phase page right knows = elim (cases_eq (phase % 2)
           let none = le-ltb page hot_pages past in
           (λ m. none m && has_bit (hot phase) page) ∙ sym (λ m. none m && has_bit (mask_of masks phase) page)
     ]
+
+-- of masks that are kept, the old ones are right where the new ones are
+pub masks-before : (hot : ℕ → ℕ) (old new : List PhaseMask) → KeepsMasks old new → AreMasksOf hot new → AreMasksOf hot old
+masks-before hot old new keeps right = behind keeps.0 (subst (AreMasksOf hot) keeps.1 right)
+  where
+    behind : (later : List PhaseMask) → AreMasksOf hot (later ++ old) → AreMasksOf hot old
+    behind [] all = all
+    behind (m ∷ later) all = behind later (All-tail (λ (n : PhaseMask). n.mask ≡ hot n.phase) m (later ++ old) all)
+
+-- masks are kept by two steps
+pub masks-both : (a b c : List PhaseMask) → KeepsMasks a b → KeepsMasks b c → KeepsMasks a c
+masks-both a b c first then_keeps = (
+  then_keeps.0 ++ first.0,
+  then_keeps.1 ∙ (ap (λ (l : List PhaseMask). then_keeps.0 ++ l) first.1 ∙ sym (append_assoc then_keeps.0 first.0 a)),
+)
+
+-- a page is split in the same way by another mask of a split phase that is the same
+pub split-by : (marked : ℕ → Bool) (hot other : ℕ → ℕ) (phase page : ℕ) → (IsSplit phase → hot phase ≡ other phase) → split marked hot phase page ≡ split marked other phase page
+split-by marked hot other phase page same = elim (cases_eq (phase % 2) 1) [
+  | inl odd ↦ ap (λ n. (phase % 2 == 1) && (marked page || is_hot n page)) (same odd)
+  | inr even ↦
+      let none : (phase % 2 == 1) ≡ false = ne_eqb (phase % 2) 1 even in
+      (λ m. none m && (marked page || is_hot (hot phase) page)) ∙ sym (λ m. none m && (marked page || is_hot (other phase) page))
+]

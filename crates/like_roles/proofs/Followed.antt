@@ -1,6 +1,6 @@
 -- Each turn leads a worker that follows the plans to one that does.
-use Rattle.std.proofs.Common.{◌≡◌, ◌≢◌, ℕ, ◌+◌, ◌%◌, ◌≤◌, ◌==◌, ◌&&◌, Bool, true, false, cond, List, [], ◌∷◌, ◌++◌, length, map, get_or, set, Some, None, refl, ap, sym, ◌∙◌, inl, inr, arith, subst, append-nil, append_assoc}
-use Rattle.std.proofs.lemmas.Bool.{cases_eq, eq-eqb}
+use Rattle.std.proofs.Common.{◌≡◌, ◌≢◌, ℕ, ◌+◌, ◌%◌, ◌≤◌, ◌==◌, ◌&&◌, not, Bool, true, false, cond, List, [], ◌∷◌, ◌++◌, length, map, get_or, set, Some, None, refl, ap, sym, ◌∙◌, inl, inr, arith, subst, append-nil, append_assoc}
+use Rattle.std.proofs.lemmas.Bool.{cases_eq}
 use Rattle.std.proofs.lemmas.List.{map-append, length-replicate}
 use Rattle.std.proofs.lemmas.List.Elements.{All-head, All-tail, All-push}
 use Rattle.std.proofs.lemmas.List.Sums.{sum_by-append}
@@ -14,9 +14,12 @@ use Rattle.like_core.specs.declared.sight.Sight.{Sight}
 use Rattle.like_core.specs.declared.worker_state.WorkerState.{WorkerState}
 use Rattle.like_core.specs.declared.worker_state.WorkerState.TheVariants as state
 use Rattle.like_core.specs.declared.view.Addition.{Addition}
+use Rattle.like_core.specs.declared.view.PhaseMask.{PhaseMask}
+use Rattle.like_core.specs.PhaseMasks.{AreMasksOf}
+use Rattle.like_core.proofs.PhaseMasks.{masks-before, split-known}
 use Rattle.like_core.specs.Phase.{IsJoined, IsSplit, split}
 use Rattle.like_core.specs.WorkerState.{IsRunning, RunsJoined, RunsSplit, RunsSome, phase_of, seen}
-use Rattle.like_core.specs.Post.{additions_in, additions_of, answered, pages_of, slices}
+use Rattle.like_core.specs.Post.{additions_in, additions_of, answered, looked_at, pages_of, slices}
 use Rattle.like_tables.specs.declared.held.Held.{Held}
 use Rattle.like_roles.specs.declared.log.Took.{Took}
 use Rattle.like_roles.specs.declared.turn.Turn.{Turn}
@@ -26,14 +29,17 @@ use Rattle.like_roles.specs.Replies.{page_looked_at}
 use Rattle.like_roles.specs.Serve.{Runs, ran_now, verdict_at}
 use Rattle.like_roles.specs.Service.{Service, is_split_in, marks, request_at, submitters}
 use Rattle.like_roles.specs.Turns as turns
-use Rattle.like_roles.specs.Turns.{CanGive, Gives, TakesAsk, Turns, Works, held_from, merged, merging, saw, settled, trying, with_stashed, with_taken, without_first}
+use Rattle.like_roles.specs.Turns.{CanGive, Gives, TakesAsk, Turns, Works, held_from, masks_in, merged, merging, saw, settled, trying, with_stashed, with_taken, without_first}
 use Rattle.like_requests.specs.Setup.{IsThere}
-use Rattle.like_roles.specs.WorkerView.{WorkerView, IsSliceInSplit, has_to_wait, phase_at, submitter_at}
+use Rattle.like_roles.specs.WorkerView.{WorkerView, HasPhaseMask, IsSliceInSplit, has_to_wait, phase_at, submitter_at}
 use Rattle.like_roles.proofs.Blocks.{block-after_joined, block-later, order_below-more, block-next-prompt, block-next-waits, order_below-prompt, order_below-waits, waits-joined}
 use Rattle.like_roles.proofs.Effects.{HasRunOne, Runs-effects}
 use Rattle.like_roles.proofs.InBlocks.{before-next, blocks-of_running, order-of_blocks, parity, running-of_blocks, runs-phase, runs-weaker}
 use Rattle.like_roles.proofs.Lists.{same_everywhere}
+use Rattle.like_roles.proofs.Keeps.{works-keeps}
+use Rattle.like_roles.proofs.Looking.{saw-splits}
 use Rattle.like_roles.proofs.Merging.{merging-all}
+use Rattle.like_roles.proofs.Served.{runs-split}
 use Rattle.like_roles.proofs.Shown.{after-more, cond_same, shown_by-more}
 use Rattle.like_roles.proofs.Tallied.{GivesReply-tallied, accepted-true}
 
@@ -58,7 +64,7 @@ follows-run service v after h stashed run here none served sized t asked clear h
     let done = GivesReply-tallied service v h stashed run.reply run.served served sized t asked clear run.serves in
     let all : IsServed service after × IsSized after × IsTallied service after =
     subst (λ x. IsServed service x × IsSized x × IsTallied service x) (sym run.noted) (
-      record { users = done.0.users; submitters_alike = done.0.submitters_alike; marks_alike = done.0.marks_alike },
+      record { users = done.0.users; submitters_alike = done.0.submitters_alike; marks_alike = done.0.marks_alike; hot_alike = done.0.hot_alike },
       record { slice = done.1.slice; users = done.1.users },
       done.2,
     ) in
@@ -93,14 +99,18 @@ enters service v k b empty =
           block-later service v.taken (k + 1) ((k + 1) + 1) before (omega arith) ∙ ap (map (entry_held ((k + 1) + 1))) (sym (empty even));
     }
 
+-- the worker after a look, where its post has then read these masks
+abbrev looking : WorkerView → Sight → List PhaseMask → WorkerView
+looking v sight masks = record v { post = record (looked_at v.post sight) { masks = masks } }
+
 -- what a look says of a worker that is not gone
-saw-stands : (service : Service) (v : WorkerView) (sight : Sight) (s : WorkerState) → Stands service v s → s ≢ state.Gone → Stands service (saw v sight) (seen s sight)
-saw-stands service v sight (state.Runs k) b n = record { within = b.within; joined = b.joined; split_ran = b.split_ran; split_held = b.split_held }
-saw-stands service v sight (state.Answered k) b n = by_test sight.waits where
-  by_test : (w : Bool) → Stands service (saw v sight) (cond w (state.Answered k) (state.Runs (k + 1)))
+saw-stands : (service : Service) (v : WorkerView) (sight : Sight) (masks : List PhaseMask) (s : WorkerState) → Stands service v s → s ≢ state.Gone → Stands service (looking v sight masks) (seen s sight)
+saw-stands service v sight masks (state.Runs k) b n = record { within = b.within; joined = b.joined; split_ran = b.split_ran; split_held = b.split_held }
+saw-stands service v sight masks (state.Answered k) b n = by_test sight.waits where
+  by_test : (w : Bool) → Stands service (looking v sight masks) (cond w (state.Answered k) (state.Runs (k + 1)))
   by_test true = (record { within = b.0.within; joined = b.0.joined; split_ran = b.0.split_ran; split_held = b.0.split_held }, b.1)
   by_test false = let e = enters service v k b.0 b.1 in record { within = e.within; joined = e.joined; split_ran = e.split_ran; split_held = e.split_held }
-saw-stands service v sight state.Gone b n = absurd (n refl)
+saw-stands service v sight masks state.Gone b n = absurd (n refl)
 
 -- and of the joined phase in which what it holds runs
 saw-next : (service : Service) (v : WorkerView) (sight : Sight) (s : WorkerState) → Stands service v s → s ≢ state.Gone
@@ -143,21 +153,15 @@ saw-kept slice sight (state.Answered k) splits here phase page =
     zero_at (k == phase) ∙ sym (zero_at (phase_of (seen (state.Answered k) sight) == phase))
 saw-kept slice sight state.Gone splits here phase page = absurd (here refl)
 
--- a slice is in a split phase after a look, too
-saw-splits : (slice : List ℕ) (sight : Sight) (s : WorkerState) → ((page : ℕ) → get_or slice page 0 ≢ 0 → RunsSplit s) → (page : ℕ) → get_or slice page 0 ≢ 0 → RunsSplit (seen s sight)
-saw-splits slice sight (state.Runs k) splits page some = splits page some
-saw-splits slice sight (state.Answered k) splits page some = absurd (splits page some)
-saw-splits slice sight state.Gone splits page some = absurd (splits page some)
-
 -- a look
-follows-saw : (service : Service) (v : WorkerView) (sight : Sight) → Follows service v → IsSliceInSplit v.post v.slice → v.post.state ≢ state.Gone → v.pending ≡ None → Follows service (saw v sight)
-follows-saw service v sight f kept here none = record {
-  served = record { users = f.served.users; submitters_alike = f.served.submitters_alike; marks_alike = f.served.marks_alike };
+follows-saw : (service : Service) (v : WorkerView) (sight : Sight) (masks : List PhaseMask) → AreMasksOf service.hot masks → Follows service v → IsSliceInSplit v.post v.slice → v.post.state ≢ state.Gone → v.pending ≡ None → Follows service (looking v sight masks)
+follows-saw service v sight masks right f kept here none = record {
+  served = record { users = f.served.users; submitters_alike = f.served.submitters_alike; marks_alike = f.served.marks_alike; hot_alike = right };
   sized = record { slice = f.sized.slice; users = f.sized.users };
   tallied = record { likes = f.tallied.likes; by_phase = λ phase page. f.tallied.by_phase phase page ∙ ap (λ n. additions_in v.post phase page + n) (saw-kept v.slice sight v.post.state (λ p some. (kept p some).0) here phase page); looks = f.tallied.looks; after = f.tallied.after; replies = f.tallied.replies; last = f.tallied.last };
   in_order = ap (λ zs. map entry_of v.ran ++ zs) (saw-next service v sight v.post.state f.stands here) ∙ f.in_order;
   held = f.held;
-  stands = saw-stands service v sight v.post.state f.stands here;
+  stands = saw-stands service v sight masks v.post.state f.stands here;
   trying = λ place e. absurd (cc (none, e));
 }
 
@@ -170,7 +174,7 @@ follows-held service v first rest after none f kept j e run =
     let all : All (IsAsked service) (first ∷ rest) = subst (All (IsAsked service)) e f.held in
     let k = phase_at v in
     follows-run service (without_first v rest) after first true run (runs-weaker IsJoined (λ _. Unit {0}) v.post.state (λ _ _. tt) j) none
-    (record { users = f.served.users; submitters_alike = f.served.submitters_alike; marks_alike = f.served.marks_alike })
+    (record { users = f.served.users; submitters_alike = f.served.submitters_alike; marks_alike = f.served.marks_alike; hot_alike = f.served.hot_alike })
     (record { slice = f.sized.slice; users = f.sized.users })
     (record { likes = f.tallied.likes; by_phase = f.tallied.by_phase; looks = f.tallied.looks; after = f.tallied.after; replies = f.tallied.replies; last = f.tallied.last })
     (All-head (IsAsked service) first rest all) (λ page _ _. empty-unsplit v.post.state v.slice (λ p some. (kept p some).0) (not-split v.post.state j) page) (All-tail (IsAsked service) first rest all)
@@ -209,7 +213,7 @@ follows-trying : (service : Service) (v : WorkerView) (place : ℕ) → Follows 
 follows-trying service v place f run empty =
     let b = blocks-of_running service v (λ _. Unit {0}) v.post.state run f.stands in
     follows-running service (trying v place) run
-    (record { users = f.served.users; submitters_alike = f.served.submitters_alike; marks_alike = f.served.marks_alike })
+    (record { users = f.served.users; submitters_alike = f.served.submitters_alike; marks_alike = f.served.marks_alike; hot_alike = f.served.hot_alike })
     (record { slice = f.sized.slice; users = f.sized.users })
     (record { likes = f.tallied.likes; by_phase = f.tallied.by_phase; looks = f.tallied.looks; after = f.tallied.after; replies = f.tallied.replies; last = f.tallied.last })
     f.held (record { within = b.within; joined = b.joined; split_ran = b.split_ran; split_held = b.split_held }) (λ _ _. empty)
@@ -219,7 +223,7 @@ follows-answered : (service : Service) (v : WorkerView) (P : ℕ → Type 0) →
 follows-answered service v P f run none empty =
     let b = blocks-of_running service v P v.post.state run f.stands in
     record {
-      served = record { users = f.served.users; submitters_alike = f.served.submitters_alike; marks_alike = f.served.marks_alike };
+      served = record { users = f.served.users; submitters_alike = f.served.submitters_alike; marks_alike = f.served.marks_alike; hot_alike = f.served.hot_alike };
       sized = record { slice = f.sized.slice; users = f.sized.users };
       tallied = record { likes = f.tallied.likes; by_phase = f.tallied.by_phase; looks = f.tallied.looks; after = f.tallied.after; replies = f.tallied.replies; last = f.tallied.last };
       in_order = f.in_order;
@@ -232,7 +236,7 @@ follows-merged : (service : Service) (v : WorkerView) (P : ℕ → Type 0) → F
 follows-merged service v P f run none =
     let b = blocks-of_running service v P v.post.state run f.stands in
     follows-running service (merged v) (runs-weaker P (λ _. Unit {0}) v.post.state (λ _ _. tt) run)
-    (record { users = f.served.users; submitters_alike = f.served.submitters_alike; marks_alike = f.served.marks_alike })
+    (record { users = f.served.users; submitters_alike = f.served.submitters_alike; marks_alike = f.served.marks_alike; hot_alike = f.served.hot_alike })
     (record { slice = length-replicate (pages_of v.post) 0; users = f.sized.users })
     (record {
       likes = λ page. f.tallied.likes page ∙ sym (merged-likes v f.sized page);
@@ -254,7 +258,7 @@ follows-works service v ending answer after none f kept (turns.retires j e ended
     λ phase page. zero_at (phase_at v == phase) page ∙ sym (zero_at (0 == phase) page)
     in
     subst (Follows service) (sym x) (record {
-      served = record { users = f.served.users; submitters_alike = f.served.submitters_alike; marks_alike = f.served.marks_alike };
+      served = record { users = f.served.users; submitters_alike = f.served.submitters_alike; marks_alike = f.served.marks_alike; hot_alike = f.served.hot_alike };
       sized = record { slice = f.sized.slice; users = f.sized.users };
       tallied = record { likes = f.tallied.likes; by_phase = λ phase page. f.tallied.by_phase phase page ∙ ap (λ n. additions_in v.post phase page + n) (empties phase page); looks = f.tallied.looks; after = f.tallied.after; replies = f.tallied.replies; last = f.tallied.last };
       in_order = ap (λ hs. map entry_of v.ran ++ map (entry_held 0) hs) e ∙ ap (λ hs. map entry_of v.ran ++ map (entry_held (next_joined v)) hs) (sym e) ∙ f.in_order;
@@ -276,10 +280,13 @@ follows-works service v ending answer after none f kept (turns.tries_split place
     (λ j. let even = runs-phase IsJoined v.post.state j in absurd (omega arith)))
 
 -- a turn
-pub follows-turn : (service : Service) (v : WorkerView) (answer : Turn) (after : WorkerView) → v.pending ≡ None → IsSliceInSplit v.post v.slice → Turns v answer after → Follows service v → Follows service after
-follows-turn service v answer after none kept (turns.is_gone gone a x) f = subst (Follows service) (sym x) f
-follows-turn service v answer after none kept (turns.waits sight here i w a x) f = subst (Follows service) (sym x) (follows-saw service v sight f kept here none)
-follows-turn service v answer after none kept (turns.works sight here i w x) f = follows-works service (saw v sight) sight.ending answer after none (follows-saw service v sight f kept here none) (λ page some. (saw-splits v.slice sight v.post.state (λ p q. (kept p q).0) page some, (kept page some).1)) x
+pub follows-turn : (service : Service) (v : WorkerView) (answer : Turn) (after : WorkerView) → v.pending ≡ None → IsSliceInSplit v.post v.slice → AreMasksOf service.hot after.post.masks → Turns v answer after → Follows service v → Follows service after
+follows-turn service v answer after none kept right (turns.is_gone gone a x) f = subst (Follows service) (sym x) f
+follows-turn service v answer after none kept right (turns.waits sight here i w a x) f =
+    subst (Follows service) (sym x) (follows-saw service v sight v.post.masks f.served.hot_alike f kept here none)
+follows-turn service v answer after none kept right (turns.works sight mask here i w x) f =
+    let all = masks-before service.hot (masks_in v.post.masks (phase_at v) sight.number mask) after.post.masks (works-keeps (saw v sight mask) sight.ending answer after x).masks right in
+    follows-works service (saw v sight mask) sight.ending answer after none (follows-saw service v sight (masks_in v.post.masks (phase_at v) sight.number mask) all f kept here none) (saw-splits v sight mask i kept) x
 
 -- what is tried is no part of what a state says
 settled-stands : (service : Service) (v : WorkerView) (s : WorkerState) → Stands service v s → Stands service (settled v) s
@@ -296,7 +303,7 @@ runs-joined state.Gone r j = absurd r
 -- nothing is tried any more
 follows-settled : (service : Service) (v : WorkerView) → Follows service v → Follows service (settled v)
 follows-settled service v f = record {
-  served = record { users = f.served.users; submitters_alike = f.served.submitters_alike; marks_alike = f.served.marks_alike };
+  served = record { users = f.served.users; submitters_alike = f.served.submitters_alike; marks_alike = f.served.marks_alike; hot_alike = f.served.hot_alike };
   sized = record { slice = f.sized.slice; users = f.sized.users };
   tallied = record { likes = f.tallied.likes; by_phase = f.tallied.by_phase; looks = f.tallied.looks; after = f.tallied.after; replies = f.tallied.replies; last = f.tallied.last };
   in_order = f.in_order;
@@ -305,12 +312,14 @@ follows-settled service v f = record {
   trying = λ place e. absurd (cc e);
 }
 
--- whether a request has to wait is the same by the service and by the worker
-waits-alike : (service : Service) (v : WorkerView) (submitter : ℕ) (r : Request) → IsServed service v → waits service (phase_at v) submitter r ≡ has_to_wait v submitter r
-waits-alike service v submitter r s =
+-- whether a request has to wait is the same by the service and by the worker, which has read its split phase's mask
+waits-alike : (service : Service) (v : WorkerView) (submitter : ℕ) (r : Request) → IsServed service v → IsRunning v.post.state → HasPhaseMask v.post → waits service (phase_at v) submitter r ≡ has_to_wait v submitter r
+waits-alike service v submitter r s run has =
     ap (λ u. is_look_at_sliced u (submitters service) (is_split_in service (phase_at v)) submitter r) s.users
     ∙ ap (λ m. is_look_at_sliced v.last.share.users m (is_split_in service (phase_at v)) submitter r) s.submitters_alike
-    ∙ ap (λ xs. is_look_at_sliced v.last.share.users v.last.share.submitters (λ page. split (λ p. get_or xs p false) (phase_at v) page) submitter r) s.marks_alike
+    ∙ ap (λ xs. is_look_at_sliced v.last.share.users v.last.share.submitters (λ page. split (λ p. get_or xs p false) service.hot (phase_at v) page) submitter r) s.marks_alike
+    ∙ (λ m. is_look_at_sliced v.last.share.users v.last.share.submitters
+    (λ page. split-known (λ p. get_or v.post.marks p false) service.hot v.post.masks (phase_at v) page s.hot_alike (λ odd _ _. has (runs-split v.post.state run odd)) m) submitter r)
 
 -- the slice has nothing of the page of a look that need not wait
 clear-prompt : (v : WorkerView) (submitter : ℕ) (r : Request) (page : ℕ) → IsSliceInSplit v.post v.slice → has_to_wait v submitter r ≡ false → verdict_at v submitter r ≡ Accepted → page_looked_at r.op r.page ≡ Some page
@@ -319,27 +328,25 @@ clear-prompt v submitter r page kept prompt accepted look = elim (cases_eq (get_
   | inl none ↦ none
   | inr some ↦
       let k = kept page some in
-      let odd : phase_at v % 2 ≡ 1 = runs-phase IsSplit v.post.state k.0 in
-      let sliced : slices v.post page ≡ true = λ m. eq-eqb (phase_at v % 2) 1 odd m && k.1 m in
       let yes = accepted-true v.last.share.users v.last.share.submitters submitter r accepted in
-      let waiting : has_to_wait v submitter r ≡ true = (λ m. yes m && option_map_or (slices v.post) (look m) false) ∙ sliced in
+      let waiting : has_to_wait v submitter r ≡ true = (λ m. yes m && option_map_or (slices v.post) (look m) false) ∙ k.1 in
       absurd (cc (waiting, prompt))
 ]
 
 -- a request that is taken from the submitter at a place
-follows-takes : (service : Service) (v : WorkerView) (place : ℕ) (ask : Numbered) (answer : Turn) (after : WorkerView) → v.pending ≡ None → Follows service v → IsSliceInSplit v.post v.slice → IsRunning v.post.state
+follows-takes : (service : Service) (v : WorkerView) (place : ℕ) (ask : Numbered) (answer : Turn) (after : WorkerView) → v.pending ≡ None → Follows service v → IsSliceInSplit v.post v.slice → HasPhaseMask v.post → IsRunning v.post.state
     → (RunsJoined v.post.state → v.held.held ≡ []) → request_at service (submitter_at v place) ask.number ≡ Some ask.request → IsThere (length (marks service)) ask.request.page
     → TakesAsk v place ask answer after → Follows service after
-follows-takes service v place ask answer after none f kept run empty asked there (turns.stashes w a x) =
+follows-takes service v place ask answer after none f kept has run empty asked there (turns.stashes w a x) =
     let b = blocks-of_running service v (λ _. Unit {0}) v.post.state run f.stands in
     let t : Took = record { phase = phase_at v; submitter = submitter_at v place; number = ask.number } in
     let h : Held = held_from v place ask in
-    let waiting : waits service (phase_at v) (submitter_at v place) ask.request ≡ true = waits-alike service v (submitter_at v place) ask.request f.served ∙ w in
+    let waiting : waits service (phase_at v) (submitter_at v place) ask.request ≡ true = waits-alike service v (submitter_at v place) ask.request f.served run has ∙ w in
     let to_wait : took_to_wait service t ≡ true = ap (λ o. option_map_or (waits service (phase_at v) (submitter_at v place)) o false) asked ∙ waiting in
     let not_even : IsJoined (phase_at v) → ⊥ = λ j. cc (waiting, waits-joined service (phase_at v) (submitter_at v place) ask.request j) in
     let p = phase_at v in
     subst (Follows service) (sym x) (follows-running service (with_stashed (with_taken v place ask) h) run
-    (record { users = f.served.users; submitters_alike = f.served.submitters_alike; marks_alike = f.served.marks_alike })
+    (record { users = f.served.users; submitters_alike = f.served.submitters_alike; marks_alike = f.served.marks_alike; hot_alike = f.served.hot_alike })
     (record { slice = f.sized.slice; users = f.sized.users })
     (record { likes = f.tallied.likes; by_phase = f.tallied.by_phase; looks = f.tallied.looks; after = f.tallied.after; replies = f.tallied.replies; last = f.tallied.last })
     (All-push (IsAsked service) v.held.held h f.held (record { asked = asked; there = there }))
@@ -351,16 +358,16 @@ follows-takes service v place ask answer after none f kept run empty asked there
           ∙ ap (λ zs. zs ++ entry_held (p + 1) h ∷ []) (b.split_held s) ∙ sym (map-append (entry_held (p + 1)) v.held.held (h ∷ []));
     })
     (λ k e. absurd (cc (none, e))))
-follows-takes service v place ask answer after none f kept run empty asked there (turns.runs w a r) =
+follows-takes service v place ask answer after none f kept has run empty asked there (turns.runs w a r) =
     let b = blocks-of_running service v (λ _. Unit {0}) v.post.state run f.stands in
     let t : Took = record { phase = phase_at v; submitter = submitter_at v place; number = ask.number } in
     let h : Held = held_from v place ask in
     let p = phase_at v in
-    let prompt : waits service p (submitter_at v place) ask.request ≡ false = waits-alike service v (submitter_at v place) ask.request f.served ∙ w in
+    let prompt : waits service p (submitter_at v place) ask.request ≡ false = waits-alike service v (submitter_at v place) ask.request f.served run has ∙ w in
     let at_once : took_to_wait service t ≡ false = ap (λ o. option_map_or (waits service p (submitter_at v place)) o false) asked ∙ prompt in
     let none_held : IsJoined p → v.held.held ≡ [] = λ j. empty (runs-joined v.post.state run j) in
     follows-run service (with_taken v place ask) after h false r run none
-    (record { users = f.served.users; submitters_alike = f.served.submitters_alike; marks_alike = f.served.marks_alike })
+    (record { users = f.served.users; submitters_alike = f.served.submitters_alike; marks_alike = f.served.marks_alike; hot_alike = f.served.hot_alike })
     (record { slice = f.sized.slice; users = f.sized.users })
     (record { likes = f.tallied.likes; by_phase = f.tallied.by_phase; looks = f.tallied.looks; after = f.tallied.after; replies = f.tallied.replies; last = f.tallied.last })
     (record { asked = asked; there = there }) (λ page a look. clear-prompt v (submitter_at v place) ask.request page kept w a look) f.held
@@ -378,22 +385,22 @@ follows-takes service v place ask answer after none f kept run empty asked there
     })
 
 -- what is given
-pub follows-give : (service : Service) (v : WorkerView) (took : Taken) (answer : Turn) (after : WorkerView) → CanGive v took → IsAskedBy service v took → IsSliceInSplit v.post v.slice → Gives v took answer after → Follows service v
+pub follows-give : (service : Service) (v : WorkerView) (took : Taken) (answer : Turn) (after : WorkerView) → CanGive v took → IsAskedBy service v took → IsSliceInSplit v.post v.slice → HasPhaseMask v.post → Gives v took answer after → Follows service v
     → Follows service after
-follows-give service v took answer after can asked kept (turns.nothing t a x) f = subst (Follows service) (sym x) (follows-settled service v f)
-follows-give service v took answer after can asked kept (turns.ends place p t a x) f =
+follows-give service v took answer after can asked kept has (turns.nothing t a x) f = subst (Follows service) (sym x) (follows-settled service v f)
+follows-give service v took answer after can asked kept has (turns.ends place p t a x) f =
     let run = (f.trying place p).0 in
     let s = follows-settled service v f in
     let b = blocks-of_running service (settled v) (λ _. Unit {0}) v.post.state run s.stands in
     subst (Follows service) (sym x) (follows-running service (record (settled v) { ended = set v.ended place true }) run
-    (record { users = f.served.users; submitters_alike = f.served.submitters_alike; marks_alike = f.served.marks_alike })
+    (record { users = f.served.users; submitters_alike = f.served.submitters_alike; marks_alike = f.served.marks_alike; hot_alike = f.served.hot_alike })
     (record { slice = f.sized.slice; users = f.sized.users })
     (record { likes = f.tallied.likes; by_phase = f.tallied.by_phase; looks = f.tallied.looks; after = f.tallied.after; replies = f.tallied.replies; last = f.tallied.last })
     f.held (record { within = b.within; joined = b.joined; split_ran = b.split_ran; split_held = b.split_held }) (λ k e. absurd (cc e)))
-follows-give service v took answer after can asked kept (turns.asks place ask p t x) f =
+follows-give service v took answer after can asked kept has (turns.asks place ask p t x) f =
     let run = f.trying place p in
     let by_plan = (subst (λ y. IsAskedBy service v y) t asked) place p in
     let next = (subst (λ y. CanGive v y) t can) place p in
     let P : ℕ → Type 0 = λ n. IsThere n ask.request.page in
     let there = subst P (ap length (sym f.served.marks_alike)) next.there in
-    follows-takes service (settled v) place ask answer after refl (follows-settled service v f) kept run.0 run.1 by_plan there x
+    follows-takes service (settled v) place ask answer after refl (follows-settled service v f) kept has run.0 run.1 by_plan there x

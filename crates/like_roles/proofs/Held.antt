@@ -1,8 +1,8 @@
 -- What a worker holds, and that it stays sound.
-use Rattle.std.proofs.Common.{◌≡◌, ℕ, ◌+◌, ◌-◌, ◌*◌, ◌%◌, ◌<◌, ◌≤◌, Bool, true, false, List, [], ◌∷◌, ◌++◌, length, drop, get_or, set, sum, Option, Some, None, refl, ap, sym, ◌∙◌, arith, subst, eqb, vec_len, vec_capacity}
+use Rattle.std.proofs.Common.{◌≡◌, ℕ, ◌+◌, ◌-◌, ◌*◌, ◌%◌, ◌<◌, ◌≤◌, Bool, true, false, List, [], ◌∷◌, ◌++◌, length, drop, get_or, set, sum, Option, Some, None, refl, ap, sym, ◌∙◌, arith, subst, vec_len, vec_capacity}
 use Rattle.std.proofs.lemmas.List.{length-append, length-drop, length-set}
 use Rattle.std.proofs.lemmas.List.Sums.{sum_by-set}
-use Rattle.std.proofs.lemmas.Bool.{and_parts, eqb-true}
+use Rattle.std.proofs.lemmas.Bool.{and_parts}
 use Rattle.std.proofs.Math.Nat.{add-mul-mod_self_left, mod-eq_of_lt}
 use Rattle.std.proofs.lemmas.List.Elements.{All-drop, All-append, All-cons}
 use Rattle.std.specs.List.{All, slice_get}
@@ -18,7 +18,10 @@ use Rattle.like_tables.specs.Share.{submitter_of}
 use Rattle.like_tables.specs.UserTable.{UserTable}
 use Rattle.like_core.specs.Phase.{split}
 use Rattle.like_core.specs.WorkerState.{IsRunning, phase_of}
-use Rattle.like_core.specs.Post.{PostView}
+use Rattle.like_core.specs.PhaseMasks.{mask_of}
+use Rattle.like_core.specs.Post.{PostView, is_marked, slices}
+use Rattle.like_core.proofs.InPhase.{split-IsSplit}
+use Rattle.like_core.proofs.PhaseMasks.{split-by}
 use Rattle.like_tables.specs.Waiting.{Waiting}
 use Rattle.like_tables.specs.declared.held.Held.{Held}
 use Rattle.like_roles.specs.declared.worker.desk.Desk.{Desk}
@@ -27,7 +30,7 @@ use Rattle.like_roles.specs.Order.{is_look_at_sliced}
 use Rattle.like_requests.specs.Setup.{IsThere}
 use Rattle.like_roles.specs.Turns.{trying}
 use Rattle.like_roles.specs.WorkerView.{has_to_wait}
-use Rattle.like_roles.proofs.Served.{running_phase}
+use Rattle.like_roles.proofs.Served.{running_phase, runs-split}
 
 -- a list whose first element is known
 pub first_of : {X : Type 0} (xs : List X) (x : X) → slice_get xs 0 ≡ Some x → xs ≡ x ∷ drop 1 xs
@@ -47,6 +50,7 @@ IsPlaced-held post d w p = record {
   few_pages = p.few_pages;
   slice = p.slice;
   standing = p.standing;
+  hot = p.hot;
   started = p.started;
 }
 
@@ -85,15 +89,19 @@ IsSound-push post d h pushed s room fits own n e =
       tried = λ place t. cc (n, t);
     })
 
--- the desk's numbers say whether a request has to wait
+-- the desk's numbers say which pages are sliced
+pub slices-by_desk : (post : PostView) (d : Desk) (page : ℕ) → IsPlaced post d → IsRunning post.state → slices post page ≡ split (λ p. get_or d.marks.items p false) (λ _. d.hot) d.phase page
+slices-by_desk post d page p run =
+    let phase = running_phase (λ _. Unit {0}) post.state d.phase d.gone p.standing run in
+    split-by (is_marked post) (mask_of post.masks) (λ _. d.hot) (phase_of post.state) page (λ odd. sym (p.hot (runs-split post.state run odd)).1)
+    ∙ (λ m. split (λ q. get_or (p.marks m) q false) (λ _. d.hot) (phase m) page)
+
+-- and whether a request has to wait
 pub has_to_wait-is : (post : PostView) (d : Desk) (submitter : ℕ) (r : Request) → IsPlaced post d → IsRunning post.state
     → has_to_wait (view_of post d) submitter r
-    ≡ is_look_at_sliced d.last.share.users d.last.share.submitters (λ page. split (λ p. get_or d.marks.items p false) d.phase page) submitter r
+    ≡ is_look_at_sliced d.last.share.users d.last.share.submitters (λ page. split (λ p. get_or d.marks.items p false) (λ _. d.hot) d.phase page) submitter r
 has_to_wait-is post d submitter r p run =
-    let phase = running_phase (λ _. Unit {0}) post.state d.phase d.gone p.standing run in
-    let s = d.last.share in
-    ap (λ xs. is_look_at_sliced s.users s.submitters (λ page. split (λ q. get_or xs q false) (phase_of post.state) page) submitter r) p.marks
-    ∙ ap (λ k. is_look_at_sliced s.users s.submitters (λ page. split (λ q. get_or d.marks.items q false) k page) submitter r) phase
+    λ m. is_look_at_sliced d.last.share.users d.last.share.submitters (λ page. slices-by_desk post d page p run m) submitter r
 
 -- one request less is left
 sum-less : (xs : List ℕ) (i : ℕ) → i < length xs → 1 ≤ get_or xs i 0 → sum (set xs i (get_or xs i 0 - 1)) + 1 ≡ sum xs
@@ -115,6 +123,7 @@ IsSound-taken post d n place s none there some left taken capacity rest =
           few_pages = p.few_pages;
           slice = p.slice;
           standing = p.standing;
+          hot = p.hot;
           started = p.started;
         };
         places = record { sized = omega (arith, n.left.ok.0, d.left.ok.0, s.places.sized); submitters = s.places.submitters; cursor = s.places.cursor };
@@ -128,13 +137,13 @@ IsSound-taken post d n place s none there some left taken capacity rest =
     )
 
 -- a request that waits was taken in a split phase
-pub waits-split : (users submitters submitter phase : ℕ) (marked : ℕ → Bool) (r : Request) (waits : Bool)
-    → waits ≡ is_look_at_sliced users submitters (λ page. split marked phase page) submitter r → waits ≡ true → phase % 2 ≡ 1
-waits-split users submitters submitter phase marked r waits is h =
+pub waits-split : (users submitters submitter phase : ℕ) (marked : ℕ → Bool) (hot : ℕ → ℕ) (r : Request) (waits : Bool)
+    → waits ≡ is_look_at_sliced users submitters (λ page. split marked hot phase page) submitter r → waits ≡ true → phase % 2 ≡ 1
+waits-split users submitters submitter phase marked hot r waits is h =
     of_page (page_looked_at r.op r.page) (and_parts (is_accepted users submitters submitter r) _ (sym is ∙ h)).1 where
-      of_page : (o : Option ℕ) → option_map_or (λ page. split marked phase page) o false ≡ true → phase % 2 ≡ 1
+      of_page : (o : Option ℕ) → option_map_or (λ page. split marked hot phase page) o false ≡ true → phase % 2 ≡ 1
       of_page None e = cc
-      of_page (Some page) e = eqb-true (phase % 2) 1 (and_parts (eqb (phase % 2) 1) (marked page) e).0
+      of_page (Some page) e = split-IsSplit marked hot phase page e
 
 -- the submitter at a place is one of the worker's
 pub place-served : (worker workers place : ℕ) → worker < workers → (worker + workers * place) % workers ≡ worker
@@ -160,7 +169,7 @@ IsOwn-taken post d n place submitter ask p rest s there judged =
 pub CanServe-taken : (post : PostView) (d n : Desk) (place : ℕ) (h : Held) (verdict : Verdict) (waits : Bool) → IsPlaced post d → n ≡ record d { left = n.left; taken = n.taken }
     → h.submitter ≡ submitter_of d.last.share.workers d.last.share.worker place → IsThere (length post.marks) h.ask.request.page
     → IsJudged d.last.share h verdict → IsRunning post.state
-    → waits ≡ is_look_at_sliced d.last.share.users d.last.share.submitters (λ page. split (λ p. get_or d.marks.items p false) d.phase page) h.submitter h.ask.request
+    → waits ≡ is_look_at_sliced d.last.share.users d.last.share.submitters (λ page. split (λ p. get_or d.marks.items p false) (λ _. d.hot) d.phase page) h.submitter h.ask.request
     → waits ≡ false
     → CanServe post n h verdict
 CanServe-taken post d n place h verdict waits p rest s there judged run is prompt =
@@ -183,6 +192,7 @@ IsSound-last post d t s same = record {
     few_pages = p.few_pages;
     slice = p.slice;
     standing = p.standing;
+    hot = p.hot;
     started = p.started;
   };
   places = record { sized = s.places.sized; submitters = λ place h. rw same (s.places.submitters place h); cursor = s.places.cursor };

@@ -6,6 +6,7 @@ pub mod Held
 pub mod InBlocks
 pub mod Keeps
 pub mod Lists
+pub mod Looking
 pub mod Made
 pub mod Merging
 pub mod Seats

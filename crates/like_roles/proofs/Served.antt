@@ -3,7 +3,8 @@ use Rattle.std.proofs.Common.{◌≡◌, ◌≢◌, ℕ, ◌+◌, Bool, true, fa
 use Rattle.like_requests.specs.declared.request.Request.{Request}
 use Rattle.like_core.specs.declared.worker_state.WorkerState.{WorkerState}
 use Rattle.like_core.specs.declared.worker_state.WorkerState.TheVariants as state
-use Rattle.like_core.specs.WorkerState.{RunsSome, phase_of}
+use Rattle.like_core.specs.Phase.{IsSplit}
+use Rattle.like_core.specs.WorkerState.{RunsSome, RunsSplit, phase_of}
 use Rattle.like_core.specs.Post.{added, slices}
 use Rattle.like_tables.specs.declared.held.Held.{Held}
 use Rattle.like_roles.specs.declared.log.Ran.{Ran}
@@ -17,6 +18,12 @@ pub running_phase : (P : ℕ → Type 0) (s : WorkerState) (phase : ℕ) (gone :
 running_phase P (state.Runs j) phase gone s r = s.0
 running_phase P (state.Answered j) phase gone s r = absurd r
 running_phase P state.Gone phase gone s r = absurd r
+
+-- a worker that runs a phase that is split runs a split phase
+pub runs-split : (s : WorkerState) → RunsSome (λ _. Unit {0}) s → IsSplit (phase_of s) → RunsSplit s
+runs-split (state.Runs k) r odd = odd
+runs-split (state.Answered k) r odd = absurd r
+runs-split state.Gone r odd = absurd r
 
 -- what holds with one more like in the slice, and with one more on the board, holds once a like is counted
 pub counted_by : (P : WorkerView → Type 0) (v : WorkerView) (page : ℕ) → P (record v { slice = slice_set v.slice page (slice_index v.slice page + 1) })

@@ -8,6 +8,7 @@ use Rattle.like_core.specs.declared.worker_state.WorkerState.{WorkerState}
 use Rattle.like_core.specs.declared.worker_state.WorkerState.TheVariants as state
 use Rattle.like_core.specs.WorkerState.{RunsSplit}
 use Rattle.like_core.specs.Additions.{added_in, added_to}
+use Rattle.like_core.specs.PhaseMasks.{AreMasksOf}
 use Rattle.like_core.specs.Post.{PostView, additions_in, additions_of, pages_of}
 use Rattle.like_tables.specs.UserTable.{last_of}
 use Rattle.like_roles.specs.declared.turn.Turn.{Turn}
@@ -34,6 +35,7 @@ follows-new s sizes worker post v service p new same =
     let state_is : v.post.state ≡ state.Runs 0 = ap (λ x. x.state) new.at_post ∙ p.fresh.runs in
     let held : v.held.held ≡ [] = ap (λ x. x.held) new.held in
     let reads : v.post.reads ≡ [] = ap (λ x. x.reads) new.at_post ∙ p.fresh.read_nothing in
+    let masks : v.post.masks ≡ [] = ap (λ x. x.masks) new.at_post ∙ p.fresh.no_masks in
     let nothing : (page : ℕ) → additions_of v.post page ≡ 0 = λ page. ap (added_to page) additions in
     let in_slice : (page : ℕ) → get_or v.slice page 0 ≡ 0 = λ page. ap (λ xs. get_or xs page 0) new.slice ∙ same_everywhere (length s.pages) page 0 in
     let blocks : IsInBlocks service v 0 = record {
@@ -47,6 +49,7 @@ follows-new s sizes worker post v service p new same =
         users = same.users_are ∙ sym (ap (λ x. x.share.users) new.last);
         submitters_alike = sym (length-map service.plans length) ∙ ap length same.sizes_are ∙ sym (ap (λ x. x.share.submitters) new.last);
         marks_alike = sym marks_are;
+        hot_alike = subst (AreMasksOf service.hot) (sym masks) (All-nil (λ m. m.mask ≡ service.hot m.phase));
       };
       sized = record {
         slice = ap length new.slice ∙ length-replicate (length s.pages) 0 ∙ sym pages;
@@ -113,7 +116,7 @@ works-pends v ending answer after none (turns.tries_split place s seen room next
 pub turns-pends : (v : WorkerView) (answer : Turn) (after : WorkerView) → v.pending ≡ None → Turns v answer after → Pends answer after
 turns-pends v answer after none (turns.is_gone gone a x) = subst (λ y. Pends y after) (sym a) (ap (λ y. y.pending) x ∙ none)
 turns-pends v answer after none (turns.waits sight here i w a x) = subst (λ y. Pends y after) (sym a) (ap (λ y. y.pending) x ∙ none)
-turns-pends v answer after none (turns.works sight here i w x) = works-pends (turns.saw v sight) sight.ending answer after none x
+turns-pends v answer after none (turns.works sight mask here i w x) = works-pends (turns.saw v sight mask) sight.ending answer after none x
 
 -- who answers that it is gone is gone
 works-retired : (v : WorkerView) (ending : Bool) (answer : Turn) (after : WorkerView) → Works v ending answer after → answer ≡ turn.Retired → after.post.state ≡ state.Gone
@@ -128,4 +131,4 @@ works-retired v ending answer after (turns.tries_split place s seen room next a 
 pub turns-retired : (v : WorkerView) (answer : Turn) (after : WorkerView) → Turns v answer after → answer ≡ turn.Retired → after.post.state ≡ state.Gone
 turns-retired v answer after (turns.is_gone gone a x) r = ap (λ y. y.post.state) x ∙ gone
 turns-retired v answer after (turns.waits sight here i w a x) r = cc (a, r)
-turns-retired v answer after (turns.works sight here i w x) r = works-retired (turns.saw v sight) sight.ending answer after x r
+turns-retired v answer after (turns.works sight mask here i w x) r = works-retired (turns.saw v sight mask) sight.ending answer after x r

@@ -25,6 +25,7 @@ use Rattle.like_tables.specs.declared.held.Held.{Held}
 use Rattle.like_roles.specs.declared.log.Ran.{Ran}
 use Rattle.like_roles.specs.declared.reply.Reply.{Reply}
 use Rattle.like_roles.specs.declared.reply.Reply.TheVariants as reply
+use Rattle.like_core.specs.PhaseMasks.{AreMasksOf}
 use Rattle.like_roles.specs.Follows.{IsAsked, IsServed, IsSized, IsTallied}
 use Rattle.like_roles.specs.Likes.{AcceptedLike, accepted_like, last_like, last_page, like_ran, likes_among, likes_ran, likes_within, page_likes}
 use Rattle.like_roles.specs.Looks.{ShownCount, accepted_look, look_ran, shown_by, shown_in, shown_to}
@@ -194,12 +195,13 @@ counted-sized v page s =
 
 counted-served : (service : Service) (v : WorkerView) (page : ℕ) → IsServed service v → IsServed service (counted v page)
 counted-served service v page s =
-    let same : (w : WorkerView) → w.last ≡ v.last → w.post.marks ≡ v.post.marks → IsServed service w = λ w last marks. record {
+    let same : (w : WorkerView) → w.last ≡ v.last → w.post.marks ≡ v.post.marks → w.post.masks ≡ v.post.masks → IsServed service w = λ w last marks masks. record {
       users = s.users ∙ ap (λ x. x.share.users) (sym last);
       submitters_alike = s.submitters_alike ∙ ap (λ x. x.share.submitters) (sym last);
       marks_alike = s.marks_alike ∙ sym marks;
+      hot_alike = subst (AreMasksOf service.hot) (sym masks) s.hot_alike;
     } in
-    counted_by (IsServed service) v page (same _ refl refl) (same _ refl refl)
+    counted_by (IsServed service) v page (same _ refl refl refl) (same _ refl refl refl)
 
 -- one more entry that ran no like changes no number of a phase
 pub within-none : (service : Service) (ran : List Ran) (e : Ran) (page phase : ℕ) → like_ran service e ≡ None → likes_within service page (ran ++ e ∷ []) phase ≡ likes_within service page ran phase
@@ -242,7 +244,7 @@ unchanged : (service : Service) (v : WorkerView) (h : Held) (stashed : Bool) (an
 unchanged service v h stashed answer reads served sized t none right shows later =
     let e = ran_now v h stashed answer in
     let same : likes_ran service (v.ran ++ e ∷ []) ≡ likes_ran service v.ran = likes_ran-push service v.ran e None none ∙ append-nil _ in (
-      record { users = served.users; submitters_alike = served.submitters_alike; marks_alike = served.marks_alike },
+      record { users = served.users; submitters_alike = served.submitters_alike; marks_alike = served.marks_alike; hot_alike = served.hot_alike },
       record { slice = sized.slice; users = sized.users },
       record {
         likes = λ page. ap (page_likes page) same ∙ t.likes page;
@@ -268,7 +270,7 @@ one_like service v h stashed page served sized t like no_look right in_pages in_
     let in_table : user < length v.last.last = omega (arith, sized.users) in
     let s = counted-served service v page served in
     let z = counted-sized v page sized in (
-      record { users = served.users; submitters_alike = served.submitters_alike; marks_alike = s.marks_alike },
+      record { users = served.users; submitters_alike = served.submitters_alike; marks_alike = s.marks_alike; hot_alike = s.hot_alike },
       record { slice = z.slice; users = length-set v.last.last user (Some page) ∙ sized.users },
       record {
         likes = λ other. ap (page_likes other) more ∙ page_likes-push other (likes_ran service v.ran) l ∙ ap (λ n. n + cond (eqb page other) 1 0) (t.likes other)

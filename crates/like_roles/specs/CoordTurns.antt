@@ -1,5 +1,5 @@
 -- The turns of the coordinator, case by case.
-use Rattle.std.specs.Prelude.{◌≡◌, ℕ, ◌-◌, ◌<◌, true, false, IsSomeAnd}
+use Rattle.std.specs.Prelude.{◌≡◌, ℕ, ◌-◌, ◌%◌, ◌<◌, ◌==◌, if◌then◌else◌, true, false, Some, IsSomeAnd}
 use Rattle.like_core.specs.declared.sight.CoordSight.{CoordSight}
 use Rattle.like_core.specs.declared.view.CoordSeatView.{CoordSeatView}
 use Rattle.like_core.specs.Phase.{last_phase, IsJoined, IsSplit}
@@ -30,6 +30,10 @@ pub record IsCoordSight (c : CoordSeatView) (sight : CoordSight) : Type 0 where
 abbrev pub surveyed : CoordinatorView → ℕ → CoordSight → CoordinatorView
 surveyed v word sight = record v { seat = looked_coord v.seat word sight; phase = sight.number }
 
+-- what its seat knows before a release: before that of a split phase it published that no page is hot
+abbrev pub prepared : CoordSeatView → CoordSeatView
+prepared c = record c { published = (if c.phase % 2 == 0 then Some 0 else c.published) }
+
 -- what the coordinator does that saw this: the answer, and the coordinator after
 pub data Acts (v : CoordinatorView) (sight : CoordSight) (answer : CoordTurn)
     (after : CoordinatorView) : Type 0 where
@@ -42,7 +46,7 @@ pub data Acts (v : CoordinatorView) (sight : CoordSight) (answer : CoordTurn)
       → answer ≡ Announced → after ≡ record v { seat = announced_coord v.seat }
       → Acts v sight answer after
   releases : sight.all_gone ≡ false → sight.ending ≡ true → sight.all_in ≡ true
-      → answer ≡ Released → after ≡ record v { seat = released_coord v.seat; left = v.turns }
+      → answer ≡ Released → after ≡ record v { seat = released_coord (prepared v.seat); left = v.turns }
       → Acts v sight answer after
   waits : sight.all_gone ≡ false → sight.ending ≡ true → sight.all_in ≡ false
       → answer ≡ Waiting → after ≡ v → Acts v sight answer after

@@ -9,7 +9,8 @@ use Rattle.like_core.specs.declared.worker_state.WorkerState.{WorkerState}
 use Rattle.like_core.specs.declared.worker_state.WorkerState.TheVariants.{Runs, Answered, Gone}
 use Rattle.like_core.specs.Additions.{all_added}
 use Rattle.like_core.specs.Phase.{IsJoined, IsSplit}
-use Rattle.like_core.specs.WorkerState.{IsRunning}
+use Rattle.like_core.specs.PhaseMasks.{mask_of, HasMask}
+use Rattle.like_core.specs.WorkerState.{IsRunning, RunsSplit, phase_of}
 use Rattle.like_core.specs.Post.{PostView}
 use Rattle.like_tables.specs.Waiting.{IsWaiting}
 use Rattle.like_tables.specs.declared.held.Held.{Held}
@@ -61,6 +62,12 @@ pub record IsTried (post : PostView) (d : Desk) (place : ℕ) : Type 0 where
   pub joined : IsJoined d.phase → d.held.held ≡ []
   pub split : IsSplit d.phase → length d.held.held < d.held.capacity
 
+-- in a split phase its post has read the phase's mask, which is this
+abbrev pub KnowsHot : PostView → ℕ → Type 0
+KnowsHot post hot =
+    RunsSplit post.state
+    → HasMask (phase_of post.state) post.masks × (hot ≡ mask_of post.masks (phase_of post.state))
+
 -- the numbers of the run and of the worker's post; it has started once the post looked
 pub record IsPlaced (post : PostView) (d : Desk) : Type 0 where
   pub is_worker : d.last.share.worker < d.last.share.workers
@@ -68,6 +75,7 @@ pub record IsPlaced (post : PostView) (d : Desk) : Type 0 where
   pub few_pages : vec_len d.marks ≤ max_pages
   pub slice : length d.slice ≡ vec_len d.marks
   pub standing : IsStanding post.state d.phase d.gone
+  pub hot : KnowsHot post d.hot
   pub started : d.started ≡ is_some post.last
 
 -- the submitters by place

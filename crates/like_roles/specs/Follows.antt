@@ -6,6 +6,7 @@ use Rattle.like_requests.specs.declared.request.Taken.TheVariants as taken
 use Rattle.like_core.specs.declared.worker_state.WorkerState.{WorkerState}
 use Rattle.like_core.specs.declared.worker_state.WorkerState.TheVariants.{Runs, Answered, Gone}
 use Rattle.like_core.specs.Phase.{IsJoined, IsSplit}
+use Rattle.like_core.specs.PhaseMasks.{AreMasksOf}
 use Rattle.like_core.specs.WorkerState.{IsRunning, RunsJoined}
 use Rattle.like_core.specs.Post.{additions_of, additions_in, pages_of}
 use Rattle.like_tables.specs.UserTable.{last_of}
@@ -18,11 +19,12 @@ use Rattle.like_roles.specs.Service.{Service, marks, request_at, submitters}
 use Rattle.like_requests.specs.Setup.{IsThere}
 use Rattle.like_roles.specs.WorkerView.{WorkerView, HasEnded, phase_at, submitter_at}
 
--- the service is the one that the worker serves
+-- the service is the one that the worker serves, and the masks that its post read are the service's
 pub record IsServed (service : Service) (v : WorkerView) : Type 0 where
   pub users : service.users ≡ v.last.share.users
   pub submitters_alike : submitters service ≡ v.last.share.submitters
   pub marks_alike : marks service ≡ v.post.marks
+  pub hot_alike : AreMasksOf service.hot v.post.masks
 
 -- the worker has a place for each page, and for each user
 pub record IsSized (v : WorkerView) : Type 0 where

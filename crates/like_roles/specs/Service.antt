@@ -5,10 +5,12 @@ use Rattle.like_requests.specs.declared.request.Request.{Request}
 use Rattle.like_core.specs.Phase.{split}
 use Rattle.like_roles.specs.declared.log.Ran.{Ran}
 
--- so many users, these pages, and the plan of each submitter: its requests in their order
+-- so many users, these pages, the mask of each phase's hot pages, and the plan of each submitter: its requests in their
+-- order
 pub record Service : Type 0 where
   pub users : ℕ
   pub pages : List Page
+  pub hot : ℕ → ℕ
   pub plans : List (List Request)
 
 -- how many submitters there are
@@ -35,4 +37,5 @@ marks service = map (λ p. p.split) service.pages
 
 -- split pages: whether a page is split in a phase, which no page is in an even one
 abbrev pub is_split_in : Service → ℕ → ℕ → Bool
-is_split_in service phase page = split (λ p. slice_index_or (marks service) p false) phase page
+is_split_in service phase page =
+    split (λ p. slice_index_or (marks service) p false) service.hot phase page

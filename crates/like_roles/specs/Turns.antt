@@ -1,5 +1,5 @@
 -- The turns of a worker, case by case.
-use Rattle.std.specs.Prelude.{◌≡◌, ◌≢◌, ◌⊎◌, ℕ, ◌+◌, ◌-◌, ◌%◌, ◌<◌, ◌≤◌, ◌==◌, not, count_by, filter, ⊤, Bool, true, false, List, [], ◌∷◌, ◌++◌, length, map, replicate, slice_index, slice_index_or, slice_set, Some, None}
+use Rattle.std.specs.Prelude.{◌≡◌, ◌≢◌, ◌⊎◌, ℕ, ◌+◌, ◌-◌, ◌%◌, ◌<◌, ◌≤◌, ◌==◌, not, count_by, filter, ⊤, ◌&&◌, if◌then◌else◌, Bool, true, false, List, [], ◌∷◌, ◌++◌, length, map, replicate, slice_index, slice_index_or, slice_set, Some, None}
 use Rattle.std.specs.List.{range_with_len}
 use Rattle.like_requests.specs.declared.request.Numbered.{Numbered}
 use Rattle.like_requests.specs.declared.request.Taken.{Taken}
@@ -8,6 +8,8 @@ use Rattle.like_core.specs.declared.sight.Sight.{Sight}
 use Rattle.like_core.specs.declared.worker_state.WorkerState.TheVariants.{Gone}
 use Rattle.like_core.specs.WorkerState.{IsSightOf, RunsJoined, RunsSplit}
 use Rattle.like_core.specs.declared.view.Addition.{Addition}
+use Rattle.like_core.specs.declared.view.PhaseMask.{PhaseMask}
+use Rattle.like_core.specs.PhaseMasks.{KeepsMasks}
 use Rattle.like_core.specs.Post.{looked_at, answered, retired, added, pages_of}
 use Rattle.like_tables.specs.declared.held.Held.{Held}
 use Rattle.like_roles.specs.declared.turn.Turn.{Turn}
@@ -16,9 +18,23 @@ use Rattle.like_requests.specs.Setup.{IsThere}
 use Rattle.like_roles.specs.WorkerView.{WorkerView, HasEnded, IsNextPlace, phase_at, submitter_at, has_to_wait}
 use Rattle.like_roles.specs.Serve.{Runs}
 
--- the worker after a look
-abbrev pub saw : WorkerView → Sight → WorkerView
-saw v sight = record v { post = looked_at v.post sight }
+-- who goes from one phase to another enters a split phase
+abbrev pub enters_split : ℕ → ℕ → Bool
+enters_split from to = not (to == from) && (to % 2 == 1)
+
+-- the masks that were read by who went from one phase to another: in a split phase that it entered also that one's,
+-- which is this
+abbrev pub masks_in : List PhaseMask → ℕ → ℕ → ℕ → List PhaseMask
+masks_in masks from to mask =
+    if enters_split from to then record { phase = to; mask = mask } ∷ masks else masks
+
+-- the worker after a look: where it enters a split phase it has also read that phase's mask, which is this
+abbrev pub saw : WorkerView → Sight → ℕ → WorkerView
+saw v sight mask = record v {
+  post = record (looked_at v.post sight) {
+    masks = masks_in v.post.masks (phase_at v) sight.number mask;
+  };
+}
 
 -- without the first look that it held
 abbrev pub without_first : WorkerView → List Held → WorkerView
@@ -88,9 +104,11 @@ pub data Works (v : WorkerView) (ending : Bool) (answer : Turn) (after : WorkerV
 pub data Turns (v : WorkerView) (answer : Turn) (after : WorkerView) : Type 0 where
   is_gone : v.post.state ≡ Gone → answer ≡ turn.Retired → after ≡ v → Turns v answer after
   waits : (sight : Sight) → v.post.state ≢ Gone → IsSightOf v.post.state sight → sight.waits ≡ true
-      → answer ≡ turn.Waiting → after ≡ saw v sight → Turns v answer after
-  works : (sight : Sight) → v.post.state ≢ Gone → IsSightOf v.post.state sight → sight.waits ≡ false
-      → Works (saw v sight) sight.ending answer after → Turns v answer after
+      → answer ≡ turn.Waiting → after ≡ record v { post = looked_at v.post sight }
+      → Turns v answer after
+  works : (sight : Sight) (mask : ℕ) → v.post.state ≢ Gone → IsSightOf v.post.state sight
+      → sight.waits ≡ false → Works (saw v sight mask) sight.ending answer after
+      → Turns v answer after
 
 -- the request is the next one of the submitter at a place, which has one left, and its page is there, where it is known
 pub record IsNext (v : WorkerView) (place : ℕ) (ask : Numbered) : Type 0 where
@@ -152,13 +170,14 @@ Pends (turn.Try submitter) v =
     × (place < length v.ended) × (slice_index_or v.ended place true ≡ false))
 Pends answer v = v.pending ≡ None
 
--- the run and the board are the same, and what was taken from the submitters is
+-- the run and the board are the same, the masks that were read stay, and what was taken from the submitters is the same
 pub record TakesNothing (old new : WorkerView) : Type 0 where
   pub share : new.last.share ≡ old.last.share
   pub marks : new.post.marks ≡ old.post.marks
   pub taken : new.taken ≡ old.taken
   pub left : new.left ≡ old.left
   pub ended : new.ended ≡ old.ended
+  pub masks : KeepsMasks old.post.masks new.post.masks
 
 -- this alone was taken from the submitter that was tried
 abbrev pub HasTaken : WorkerView → Taken → WorkerView → Type 0

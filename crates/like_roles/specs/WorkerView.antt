@@ -2,7 +2,8 @@
 use Rattle.std.specs.Prelude.{◌≡◌, ◌≢◌, ℕ, ◌+◌, ◌-◌, ◌<◌, nat_le, if◌then◌else◌, Bool, true, false, List, length, slice_index, slice_index_or, Option}
 use Rattle.like_requests.specs.declared.request.Request.{Request}
 use Rattle.like_core.specs.WorkerState.{RunsSplit, phase_of}
-use Rattle.like_core.specs.Post.{PostView, is_marked, slices}
+use Rattle.like_core.specs.PhaseMasks.{HasMask}
+use Rattle.like_core.specs.Post.{PostView, slices}
 use Rattle.like_tables.specs.Share.{submitter_of}
 use Rattle.like_tables.specs.UserTable.{UserTable}
 use Rattle.like_tables.specs.Waiting.{Waiting}
@@ -55,7 +56,11 @@ abbrev pub has_to_wait : WorkerView → ℕ → Request → Bool
 has_to_wait v submitter r =
     is_look_at_sliced v.last.share.users v.last.share.submitters (slices v.post) submitter r
 
--- a slice that is not empty belongs to a worker that runs a split phase, and has pages that are marked as split alone
+-- in a split phase the post has read the phase's mask
+abbrev pub HasPhaseMask : PostView → Type 0
+HasPhaseMask post = RunsSplit post.state → HasMask (phase_of post.state) post.masks
+
+-- a slice that is not empty belongs to a worker that runs a split phase, and has pages that are split in it alone
 abbrev pub IsSliceInSplit : PostView → List ℕ → Type 0
 IsSliceInSplit post slice =
-    (page : ℕ) → slice_index slice page ≢ 0 → RunsSplit post.state × (is_marked post page ≡ true)
+    (page : ℕ) → slice_index slice page ≢ 0 → RunsSplit post.state × (slices post page ≡ true)

@@ -1,6 +1,7 @@
 ghost use Rattle.std.specs.Prelude.{◌≡◌};
 ghost use Rattle.like_board.specs.Seats.{board_id, coord_board, coord_view};
-ghost use Rattle.like_roles.specs.CoordTurns.{CoordTurns, HasEndedJoined, IsBeforeEnd};
+ghost use Rattle.like_core.specs.Views.{released_coord, SawAllIn};
+ghost use Rattle.like_roles.specs.CoordTurns.{CoordTurns, HasEndedJoined, IsBeforeEnd, prepared};
 
 use crate::coord_turn::CoordTurn;
 use like_board::{Board, CoordSeat};
@@ -32,6 +33,20 @@ impl Model for Coordinator {
       left = c.left;
       phase = c.phase;
     } };
+}
+
+// Releases the phase that follows this one; before that of a split phase it publishes that no page is hot.
+fn release(seat: &mut CoordSeat, board: &Board, phase: u32)
+    requires here { coord_board seat.old ≡ board_id board.now }
+    requires saw { SawAllIn (coord_view seat.old) }
+    requires phase { phase ≡ (coord_view seat.old).phase }
+    ensures board { coord_board seat.new ≡ coord_board seat.old }
+    ensures view { coord_view seat.new ≡ released_coord (prepared (coord_view seat.old)) }
+{
+    if phase % 2 == 0 {
+        seat.publish(board, 0);
+    }
+    seat.release(board);
 }
 
 impl Coordinator {
@@ -90,7 +105,7 @@ impl Coordinator {
             return CoordTurn::Ended;
         }
         if sight.ending && sight.all_in {
-            self.seat.release(board);
+            release(&mut self.seat, board, sight.number);
             self.left = self.turns;
             return CoordTurn::Released;
         }

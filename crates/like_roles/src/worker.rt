@@ -1,5 +1,6 @@
 ghost use Rattle.std.specs.Prelude.{◌≡◌, ◌<◌, IfOk, IfErr, IsSome, None};
 ghost use Rattle.like_core.specs.declared.worker_state.WorkerState.TheVariants.{Gone};
+ghost use Rattle.like_core.specs.PhaseMasks.{AreMasksOf};
 ghost use Rattle.like_requests.specs.Setup.{IsWithin};
 ghost use Rattle.like_roles.specs.New.{IsNew, IsPostOf};
 ghost use Rattle.like_roles.specs.Follows.{Follows, IsAskedBy, IsDone, IsServiceOf};
@@ -76,7 +77,7 @@ impl<P: Post> Worker<P> {
     pub fn turn<G: Gate>(&mut self, gate: &G) -> Turn
         requires { self.old.pending ≡ None }
         ensures case { Turns self.old result self.new }
-        ensures follows { (service : Service)
+        ensures follows { (service : Service) → AreMasksOf service.hot self.new.post.masks
             → Follows service self.old → Follows service self.new }
         ensures takes { TakesNothing self.old self.new }
         ensures pending { Pends result self.new }

@@ -8,6 +8,7 @@ mod serving;
 mod turning;
 
 use crate::log::{Ran, Took};
+use like_core::is_hot;
 use like_tables::{Slice, Stash, Users};
 
 /// What a worker keeps, beside its post.
@@ -17,6 +18,8 @@ pub(crate) struct Desk {
     pub marks: Vec<bool>,
     /// The phase that the worker runs or has answered.
     pub phase: u32,
+    /// The mask of that phase's hot pages, where it is split.
+    pub hot: u64,
     /// Whether it has entered phase 0.
     pub started: bool,
     pub gone: bool,
@@ -42,8 +45,8 @@ impl Desk {
     pub fn is_sliced(&self, page: u32) -> bool
         requires { page < length self.now.marks.items }
         ensures { result
-            ≡ split (λ p. slice_index_or self.now.marks.items p false) self.now.phase page }
+            ≡ split (λ p. slice_index_or self.now.marks.items p false) (λ _. self.now.hot) self.now.phase page }
     {
-        self.phase % 2 == 1 && self.marks[page as usize]
+        self.phase % 2 == 1 && (self.marks[page as usize] || is_hot(self.hot, page))
     }
 }

@@ -22,6 +22,7 @@ impl Desk {
         Ok(Desk {
             marks: setup.pages.marks(alloc)?,
             phase: 0,
+            hot: 0,
             started: false,
             gone: false,
             held: Stash::new(alloc, setup.stash)?,

@@ -23,7 +23,7 @@ impl Desk {
         requires there { IsThere (length self.now.marks.items) held.now.ask.request.page }
         ensures waits { let share = self.now.last.share in
             result ≡ is_look_at_sliced share.users share.submitters
-            (λ page. split (λ p. slice_index_or self.now.marks.items p false) self.now.phase page)
+            (λ page. split (λ p. slice_index_or self.now.marks.items p false) (λ _. self.now.hot) self.now.phase page)
             held.now.submitter held.now.ask.request }
         ensures accepted { result ≡ true → verdict ≡ Verdict.Accepted }
     {

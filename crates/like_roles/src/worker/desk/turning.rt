@@ -1,9 +1,9 @@
-ghost use Rattle.std.specs.Prelude.{◌≡◌, ◌≢◌, ◌<◌, ◌+◌, ◌*◌, ◌%◌, true, length, None, Some};
+ghost use Rattle.std.specs.Prelude.{◌≡◌, ◌≢◌, ◌<◌, ◌+◌, ◌*◌, ◌%◌, true, false, length, None, Some};
 ghost use Rattle.like_core.specs.declared.worker_state.WorkerState.TheVariants.{Gone};
-ghost use Rattle.like_core.specs.WorkerState.{IsSightOf, RunsJoined, RunsSplit, SawEnding};
+ghost use Rattle.like_core.specs.WorkerState.{IsSightOf, RunsJoined, RunsSplit, SawEnding, phase_of};
 ghost use Rattle.like_tables.specs.Share.{submitter_of};
 ghost use Rattle.like_roles.specs.Desk.{view_of, ArePlaces, IsSound};
-ghost use Rattle.like_roles.specs.Turns.{Turns, Works, saw};
+ghost use Rattle.like_roles.specs.Turns.{Turns, Works, enters_split, masks_in, saw};
 
 use crate::gate::Gate;
 use crate::turn::Turn;
@@ -35,7 +35,7 @@ impl Desk {
         }
     }
 
-    // Looks at the phase word, and enters the next phase where it was released.
+    // Looks at the phase word, and enters the next phase where it was released; of a split one it then reads the mask.
     fn look<P: Post, G: Gate>(&mut self, post: &mut P, gate: &G) -> Sight
         requires sound { IsSound (P.view post.old) self.old }
         requires settled { self.old.pending ≡ None }
@@ -43,17 +43,32 @@ impl Desk {
         ensures sound { IsSound (P.view post.new) self.new }
         ensures sight { IsSightOf (P.view post.old).state result }
         ensures saw { view_of (P.view post.new) self.new
-            ≡ saw (view_of (P.view post.old) self.old) result }
+            ≡ saw (view_of (P.view post.old) self.old) result self.new.hot }
     {
         let sight = post.look();
-        let started = self.started;
-        self.started = true;
-        if sight.waits || (started && sight.number == self.phase) {
+        if self.started && sight.number == self.phase {
             return sight;
         }
+        self.hot = self.hot_in(post, sight.number);
         self.phase = sight.number;
+        self.started = true;
         gate.phase(self.last.worker(), sight.number);
         sight
+    }
+
+    // The mask of a phase that the worker enters or runs: of a split phase that it enters, its post reads it.
+    fn hot_in<P: Post>(&self, post: &mut P, phase: u32) -> u64
+        requires { let state = (P.view post.old).state in
+            enters_split self.now.phase phase ≡ true → RunsSplit state × (phase_of state ≡ phase) }
+        ensures post { P.view post.new ≡ record (P.view post.old) {
+          masks = masks_in (P.view post.old).masks self.now.phase phase result;
+        } }
+        ensures stays { enters_split self.now.phase phase ≡ false → result ≡ self.now.hot }
+    {
+        if phase == self.phase || phase % 2 == 0 {
+            return self.hot;
+        }
+        post.hot()
     }
 
     // The turn of a worker that runs a joined phase.

@@ -35,7 +35,7 @@ returns-then-sight-3 c =
       event = c.look-sight.ensures.event;
       is = λ m. record { board = c.look-sight.ensures.board m; seat = c.look-sight.ensures.view m; turns = inside.turns; left = inside.left; phase = sight.number };
     } in
-    let after : CoordinatorView = record { board = coord_board c.release.new.self; seat = coord_view c.release.new.self; turns = inside.turns; left = inside.turns; phase = sight.number } in
+    let after : CoordinatorView = record { board = coord_board c.release.new.seat; seat = coord_view c.release.new.seat; turns = inside.turns; left = inside.turns; phase = sight.number } in
     subst (λ (x : CoordinatorView). CoordTurns x turn.Released after) c.self.view_is
     (by_case v w sight turn.Released after looked (releases c.if-sight.false c.if-sight-2.true c.if-sight-3.true refl (λ m. record w { board = c.release.ensures.board m; seat = c.release.ensures.view m; left = inside.turns })))
 

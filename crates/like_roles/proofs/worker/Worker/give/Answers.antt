@@ -1,6 +1,6 @@
 use Rattle.std.proofs.Common.{subst}
 use Rattle.like_roles.specs.Desk.{view_of}
-use Rattle.like_roles.specs.WorkerView.{WorkerView, IsSliceInSplit}
+use Rattle.like_roles.specs.WorkerView.{WorkerView, HasPhaseMask, IsSliceInSplit}
 use Rattle.like_roles.specs.Turns.{Gives}
 use Rattle.like_roles.proofs.Keeps.{gives-takes}
 use Rattle.like_roles.proofs.Followed.{follows-give}
@@ -12,7 +12,8 @@ returns-clause-case g c = subst (λ v. Gives v c.args.taken c.give.result (view_
 pub returns-clause-follows : goal.returns-clause-follows
 returns-clause-follows g c = λ service asked f.
     let kept = subst (λ (v : WorkerView). IsSliceInSplit v.post v.slice) c.self.view_is c.self.invariant.slice in
-    follows-give service c.args.self.now c.args.taken c.give.result (view_of (g.P.Post.view c.give.new.post) c.give.new.self) c.requires.next asked kept (returns-clause-case g c) f
+    let has = subst (λ (v : WorkerView). HasPhaseMask v.post) c.self.view_is (λ split. (c.self.invariant.placed.hot split).0) in
+    follows-give service c.args.self.now c.args.taken c.give.result (view_of (g.P.Post.view c.give.new.post) c.give.new.self) c.requires.next asked kept has (returns-clause-case g c) f
 
 pub returns-clause-takes : goal.returns-clause-takes
 returns-clause-takes g c = gives-takes c.args.self.now c.args.taken c.give.result (view_of (g.P.Post.view c.give.new.post) c.give.new.self) (returns-clause-case g c)

@@ -11,9 +11,9 @@ pub returns-clause-case : goal.returns-clause-case
 returns-clause-case g c = subst (λ v. Turns v c.turn.result (view_of (g.P.Post.view c.turn.new.post) c.turn.new.self)) c.self.view_is c.turn.ensures.case
 
 pub returns-clause-follows : goal.returns-clause-follows
-returns-clause-follows g c = λ service f.
+returns-clause-follows g c = λ service right f.
     let kept = subst (λ (v : WorkerView). IsSliceInSplit v.post v.slice) c.self.view_is c.self.invariant.slice in
-    follows-turn service c.args.self.now c.turn.result (view_of (g.P.Post.view c.turn.new.post) c.turn.new.self) c.requires kept (returns-clause-case g c) f
+    follows-turn service c.args.self.now c.turn.result (view_of (g.P.Post.view c.turn.new.post) c.turn.new.self) c.requires kept right (returns-clause-case g c) f
 
 pub returns-clause-pending : goal.returns-clause-pending
 returns-clause-pending g c = turns-pends c.args.self.now c.turn.result (view_of (g.P.Post.view c.turn.new.post) c.turn.new.self) c.requires (returns-clause-case g c)

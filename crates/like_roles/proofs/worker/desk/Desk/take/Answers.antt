@@ -16,7 +16,7 @@ returns-then-waits-clause-sound g c =
     let held : Held = record { submitter = c.submitter_at.result; ask = c.args.ask } in
     let here : c.args.place < length d.left.items = omega (arith, c.requires.tried.there, c.requires.sound.places.sized, d.left.ok.0) in
     let taken = IsSound-taken p d n c.args.place c.requires.sound c.requires.settled here c.requires.given.some c.note_taken.ensures.left c.note_taken.ensures.len c.note_taken.ensures.capacity rest in
-    let odd = waits-split s.users s.submitters held.submitter d.phase (λ q. get_or d.marks.items q false) c.args.ask.request c.waits-waits.result c.waits-waits.ensures.waits c.if-waits.true in
+    let odd = waits-split s.users s.submitters held.submitter d.phase (λ q. get_or d.marks.items q false) (λ _. d.hot) c.args.ask.request c.waits-waits.result c.waits-waits.ensures.waits c.if-waits.true in
     let judged : IsJudged s held c.judge-verdict.result = record { is = c.judge-verdict.ensures.verdict; accepted = c.judge-verdict.ensures.accepted } in
     let accepted = subst (IsJudged s held) (c.waits-waits.ensures.accepted c.if-waits.true) judged in
     IsSound-push p n held c.push.new.self taken.0 taken.1
