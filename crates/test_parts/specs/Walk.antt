@@ -1,10 +1,11 @@
-use Rattle.std.specs.Prelude.{◌≡◌, ℕ, Bool, true, List, [], ◌∷◌}
+use Rattle.std.specs.Prelude.{◌≡◌, ℕ, Bool, true, false, List, [], ◌∷◌}
 use Rattle.like_core.specs.declared.worker_state.WorkerState.{WorkerState}
 use Rattle.like_core.specs.declared.sight.Sight.{Sight}
 use Rattle.like_core.specs.declared.sight.CoordSight.{CoordSight}
 use Rattle.like_core.specs.declared.opening.Opening.{Opening}
 use Rattle.like_core.specs.declared.view.Addition.{Addition}
 use Rattle.like_core.specs.declared.view.PageRead.{PageRead}
+use Rattle.like_core.specs.declared.view.PhaseMask.{PhaseMask}
 use Rattle.like_core.specs.declared.view.WorkerSeatView.{WorkerSeatView}
 use Rattle.like_core.specs.Post.{PostView}
 
@@ -38,7 +39,24 @@ pub record Walks (v : WorkerSeatView) (worker : ℕ) (state : WorkerState) (addi
   pub opening_is : v.opening ≡ walk
   pub additions_are : v.additions ≡ additions
 
--- all but the state and the last sight of a post is as before
+-- a board of one worker and one page, which is not marked and begins at 5
+abbrev pub hot_walk : Opening
+hot_walk = record { workers = 1; counts = 5 ∷ []; marks = false ∷ [] }
+
+-- a mask that was read in a phase
+abbrev pub mask_in : ℕ → ℕ → PhaseMask
+mask_in phase mask = record { phase = phase; mask = mask }
+
+-- the view of the worker on that board: its state, what it has added, and the masks that it read
+pub record HotWalks (v : WorkerSeatView) (state : WorkerState) (additions : List Addition) (masks : List PhaseMask)
+    : Type 0 where
+  pub worker_is : v.worker ≡ 0
+  pub state_is : v.state ≡ state
+  pub opening_is : v.opening ≡ hot_walk
+  pub additions_are : v.additions ≡ additions
+  pub masks_are : v.masks ≡ masks
+
+-- all but the state, the last sight and the masks of a post is as before
 pub record KeepsBoard (old new : PostView) : Type 0 where
   pub marks : new.marks ≡ old.marks
   pub additions : new.additions ≡ old.additions

@@ -5,6 +5,7 @@ ghost use Rattle.like_core.specs.Views.{looked_view, looked_coord};
 ghost use Rattle.like_board.specs.Seats.{board_id, coord_board, coord_view, seat_board, seat_view, post_board, post_view, post_meaning, AreFresh};
 ghost use Rattle.test_parts.specs.Walk.{walk, addition, page_read, sight, coord_sight, Walks};
 
+mod hot;
 mod posts;
 
 use like_board::{Board, BoardPost, CoordSeat, WorkerSeat};
@@ -39,6 +40,7 @@ fn surveys(
     ensures board { coord_board coord.new ≡ coord_board coord.old }
     ensures view { let seen = coord_sight number ending all_in all_gone in
         coord_view coord.new ≡ looked_coord (coord_view coord.old) (coord_view coord.new).word seen }
+    ensures phase { (coord_view coord.new).phase ≡ number }
 {
     let sight = coord.look(board);
     assert!(rt; sight.number == number);
@@ -89,6 +91,7 @@ fn second_acknowledges(
     sees(rt, second, 0, true, false);
     second.acknowledge();
     surveys(rt, coord, board, 0, true, true, false);
+    coord.publish(board, 0);
     coord.release(board);
     sees(rt, first, 1, false, false);
 }

@@ -3,7 +3,7 @@ ghost use Rattle.std.specs.Prelude.{◌≡◌, ◌+◌, ◌<◌, ◌≤◌, true
 ghost use Rattle.std.specs.Bool.{OnTrue, OnFalse};
 ghost use Rattle.like_core.specs.declared.worker_state.WorkerState.TheVariants.{Runs, Answered, Gone};
 ghost use Rattle.like_core.specs.Limits.{max_likes};
-ghost use Rattle.like_core.specs.Phase.{last_phase, IsJoined};
+ghost use Rattle.like_core.specs.Phase.{last_phase, IsJoined, IsSplit};
 ghost use Rattle.like_core.specs.Post.{IsFresh, is_marked, pages_of};
 ghost use Rattle.like_board.specs.Seats.{board_id, coord_board};
 ghost use Rattle.test_parts.specs.Walk.{KeepsBoard};
@@ -79,6 +79,16 @@ fn read<P: Post>(post: &mut P, phase: u32, page: u32) -> u64
     post.read(page)
 }
 
+// Reads the mask of a split phase.
+fn learn<P: Post>(post: &mut P, phase: u32) -> u64
+    requires runs { (P.view post.old).state ≡ Runs phase }
+    requires split { IsSplit phase }
+    ensures runs { (P.view post.new).state ≡ Runs phase }
+    ensures board { KeepsBoard (P.view post.old) (P.view post.new) }
+{
+    post.hot()
+}
+
 // Retires from a joined phase.
 fn leave<P: Post>(post: &mut P, phase: u32)
     requires runs { (P.view post.old).state ≡ Runs phase }
@@ -104,6 +114,9 @@ fn release(rt: &impl Abort, coord: &mut CoordSeat, board: &Board, phase: u32)
     ensures { coord_board coord.new ≡ coord_board coord.old }
 {
     surveys(rt, coord, board, phase, true, true, false);
+    if phase % 2 == 0 {
+        coord.publish(board, 0);
+    }
     coord.release(board);
 }
 
@@ -120,6 +133,7 @@ fn leads_posts_through_phases(rt: HostRuntime) -> Result<(), Fail> {
     release(&rt, &mut coord, &board, 0);
     assert!(rt; enter(&mut first, 0));
     assert!(rt; enter(&mut second, 0));
+    assert_eq!(rt; learn(&mut first, 1), 0);
     announce(&rt, &mut coord, &board, 1);
     assert_eq!(rt; merge(&mut first, 3), Some(10));
     assert!(rt; answer(&mut first, 1));
