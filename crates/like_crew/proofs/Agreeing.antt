@@ -9,7 +9,9 @@ use Rattle.like_requests.specs.declared.request.Numbered.{Numbered}
 use Rattle.like_requests.specs.declared.request.Request.{Request}
 use Rattle.like_requests.specs.declared.request.Taken.{Taken}
 use Rattle.like_requests.specs.declared.request.Taken.TheVariants as taken
+use Rattle.like_core.specs.PhaseMasks.{AreMasksOf, KeepsMasks}
 use Rattle.like_core.specs.Post.{pages_of}
+use Rattle.like_core.proofs.PhaseMasks.{masks-before}
 use Rattle.like_queue.specs.Inbox.{HandsOver, InboxView, item_count}
 use Rattle.like_tables.specs.Share.{Share, dealt}
 use Rattle.like_roles.specs.declared.log.Took.{Took}
@@ -48,16 +50,17 @@ agree-turn v w inboxes answer turns k a =
     }
 
 -- a worker of the same run, with inboxes of the same plans, that follows the plans too
-serves-on : (service : Service) (v w : WorkerView) (before after : List InboxView) → w.last.share ≡ v.last.share → plans_of after ≡ plans_of before → Follows service w
+serves-on : (service : Service) (v w : WorkerView) (before after : List InboxView) → w.last.share ≡ v.last.share → plans_of after ≡ plans_of before → (AreMasksOf service.hot w.post.masks → Follows service w)
     → WorksFor service (record { worker = v; inboxes = before }) → WorksFor service (record { worker = w; inboxes = after })
 serves-on service v w before after share plans follows h = record {
   plans = plans ∙ h.plans ∙ ap (λ (s : Share). dealt s.workers s.worker service.plans) (sym share);
   follows = follows;
 }
 
-pub serves-turn : (service : Service) (v w : WorkerView) (inboxes : List InboxView) → TakesNothing v w → (Follows service v → Follows service w)
+pub serves-turn : (service : Service) (v w : WorkerView) (inboxes : List InboxView) → TakesNothing v w → (AreMasksOf service.hot w.post.masks → Follows service v → Follows service w)
     → WorksFor service (record { worker = v; inboxes = inboxes }) → WorksFor service (record { worker = w; inboxes = inboxes })
-serves-turn service v w inboxes k follows h = serves-on service v w inboxes inboxes k.share refl (follows h.follows) h
+serves-turn service v w inboxes k follows h =
+    serves-on service v w inboxes inboxes k.share refl (λ right. follows right (h.follows (masks-before service.hot v.post.masks w.post.masks k.masks right))) h
 
 -- what was taken from the inbox at a place, in the worker's own words
 record Changes (v w : WorkerView) (place left : ℕ) (ended : Bool) : Type 0 where
@@ -109,6 +112,12 @@ pub share-given : (v w : WorkerView) (place : ℕ) (took : Taken) → v.pending 
 share-given v w place (taken.Ask ask) trying has = (has place trying).share
 share-given v w place taken.End trying has = (has place trying).share
 share-given v w place taken.Nothing trying has = has.share
+
+-- and the masks that were read
+masks-given : (v w : WorkerView) (place : ℕ) (took : Taken) → v.pending ≡ Some place → HasTaken v took w → KeepsMasks v.post.masks w.post.masks
+masks-given v w place (taken.Ask ask) trying has = (has place trying).masks
+masks-given v w place taken.End trying has = (has place trying).masks
+masks-given v w place taken.Nothing trying has = has.masks
 
 -- a take leaves the plan as it is
 pub plan-taken : (i j : InboxView) (took : Taken) → HandsOver i took j → j.plan ≡ i.plan
@@ -202,7 +211,8 @@ module _ (v : WorkerView) (inboxes : List InboxView) (place : ℕ) (i j : InboxV
   serves-give service w took t has follows h =
       let plans : plans_of (set inboxes place j) ≡ plans_of inboxes =
       map-set_same (λ (x : InboxView). x.plan) inboxes place j i (plan-taken i j took t ∙ ap (λ (x : InboxView). x.plan) (sym (get_or_from_slice_get inboxes place i i here))) in
-      serves-on service v w inboxes (set inboxes place j) (share-given v w place took trying has) plans (follows (asks took t) h.follows) h where
+      serves-on service v w inboxes (set inboxes place j) (share-given v w place took trying has) plans
+      (λ right. follows (asks took t) (h.follows (masks-before service.hot v.post.masks w.post.masks (masks-given v w place took trying has) right))) h where
         asks : (x : Taken) → HandsOver i x j → IsAskedBy service v x
         asks (taken.Ask ask) u = λ p e.
             subst (λ q. request_at service (submitter_at v q) ask.number ≡ Some ask.request) (same_Some _ _ (sym trying ∙ e)) (asked service v inboxes place i ask here u.0 u.1 (omega (arith, a.is_worker)) h.plans)

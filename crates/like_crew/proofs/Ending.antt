@@ -12,12 +12,14 @@ use Rattle.like_crew.specs.declared.ended.Ended.{Ended}
 use Rattle.like_crew.specs.declared.crew.Crew.{Crew}
 use Rattle.like_crew.specs.declared.site.Site.{Site}
 use Rattle.like_crew.specs.Asked.{service_of}
-use Rattle.like_crew.specs.Crew.{GoesOn, HasInbox, IsCrew}
+use Rattle.like_crew.specs.Crew.{GoesOn, HasInbox, IsCrew, NoneHot}
 use Rattle.like_crew.specs.Ended.{HasEnded, IsEnded}
 use Rattle.like_crew.specs.Site.{opening_of}
 use Rattle.like_requests.specs.declared.request.Request.{Request}
 use Rattle.like_requests.specs.declared.setup.Setup.{Setup}
 use Rattle.like_core.specs.declared.view.CoordSeatView.{CoordSeatView}
+use Rattle.like_core.specs.declared.view.PhaseMask.{PhaseMask}
+use Rattle.like_core.specs.PhaseMasks.{mask_of}
 use Rattle.like_crew.specs.Servers.{AreServers, IsServer}
 use Rattle.like_crew.specs.Server.{ServerGoesOn, ServerView, plans_of}
 use Rattle.like_crew.proofs.Coordinated.{lead-further}
@@ -76,6 +78,7 @@ has-ended setup plans site c e is h = record {
   opening = ap (λ (v : CoordSeatView). v.opening) h.lead_is.view ∙ h.later.opening ∙ is.opening;
   phases = h.lead_is.phases ∙ h.lead_is.ended.phase ∙ ap (λ (v : CoordSeatView). v.phase) (sym h.lead_is.view);
   joined = subst (λ n. n % 2 ≡ 0) (sym h.lead_is.phases) h.lead_is.ended.joined;
+  hot = subst (λ (v : CoordSeatView). NoneHot v.masks) (sym h.lead_is.view) (h.later.hot (λ phase. ap (λ (l : List PhaseMask). mask_of l phase) is.no_masks));
 }
 
 -- what is left of a crew later is left of the crew

@@ -42,7 +42,7 @@ works-whose v ending answer after (turns.tries_split place s seen room next a x)
 pub turns-whose : (v : WorkerView) (answer : Turn) (after : WorkerView) → Turns v answer after → whose after ≡ whose v
 turns-whose v answer after (turns.is_gone gone a x) = ap whose x
 turns-whose v answer after (turns.waits sight here i w a x) = ap whose x
-turns-whose v answer after (turns.works sight here i w x) = works-whose (saw v sight) sight.ending answer after x
+turns-whose v answer after (turns.works sight mask here i w x) = works-whose (saw v sight mask) sight.ending answer after x
 
 takes-whose : (v : WorkerView) (place : ℕ) (ask : Numbered) (answer : Turn) (after : WorkerView) → TakesAsk v place ask answer after → whose after ≡ whose v
 takes-whose v place ask answer after (turns.stashes w a x) = ap whose x

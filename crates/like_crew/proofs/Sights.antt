@@ -70,8 +70,8 @@ not_gone (state.Runs k) sight h = λ e. cc e
 not_gone (state.Answered k) sight h = λ e. cc e
 not_gone state.Gone sight h = absurd h
 
-seen-look : (v : WorkerView) (sight : Sight) → IsSightOf v.post.state sight → HasSeen v → HasSeen (saw v sight)
-seen-look v sight i h = (
+seen-look : (v : WorkerView) (sight : Sight) (mask : ℕ) → IsSightOf v.post.state sight → HasSeen v → HasSeen (saw v sight mask)
+seen-look v sight mask i h = (
   above-look v.post.last v.taken sight.number h.0
       (if_some_le v.post.last (phase_of v.post.state) sight.number (h.1 (not_gone v.post.state sight i)) (later v.post.state sight i)),
   λ _. present_after v.post.state sight i,
@@ -117,8 +117,8 @@ works-seen v ending answer after (turns.tries_split place s seen room next a x) 
 -- a turn
 pub turns-seen : (v : WorkerView) (answer : Turn) (after : WorkerView) → Turns v answer after → HasSeen v → HasSeen after
 turns-seen v answer after (turns.is_gone gone a x) h = subst HasSeen (sym x) h
-turns-seen v answer after (turns.waits sight here i w a x) h = subst HasSeen (sym x) (seen-look v sight i h)
-turns-seen v answer after (turns.works sight here i w x) h = works-seen (saw v sight) sight.ending answer after x (seen-look v sight i h)
+turns-seen v answer after (turns.waits sight here i w a x) h = subst HasSeen (sym x) (seen-look v sight 0 i h)
+turns-seen v answer after (turns.works sight mask here i w x) h = works-seen (saw v sight mask) sight.ending answer after x (seen-look v sight mask i h)
 
 -- a worker that tries a submitter has looked, and is there
 pub record IsTrying (v : WorkerView) : Type 0 where
@@ -141,7 +141,7 @@ works-tries v ending answer after sight submitter l (turns.tries_split place s s
 pub turns-tries : (v : WorkerView) (answer : Turn) (after : WorkerView) (submitter : ℕ) → Turns v answer after → answer ≡ turn.Try submitter → IsTrying after
 turns-tries v answer after submitter (turns.is_gone gone a x) r = cc (a, r)
 turns-tries v answer after submitter (turns.waits sight here i w a x) r = cc (a, r)
-turns-tries v answer after submitter (turns.works sight here i w x) r = works-tries (saw v sight) sight.ending answer after sight submitter refl x r
+turns-tries v answer after submitter (turns.works sight mask here i w x) r = works-tries (saw v sight mask) sight.ending answer after sight submitter refl x r
 
 -- what was taken so far was taken in no later phase than the present one
 earlier : (v : WorkerView) → IsTrying v → HasSeen v → (k : ℕ) (d : Took) → k < length v.taken → (get_or v.taken k d).phase ≤ phase_at v

@@ -15,10 +15,11 @@ use Rattle.like_requests.specs.declared.request.Request.{Request}
 use Rattle.like_core.specs.declared.sight.Sight.{Sight}
 use Rattle.like_core.specs.declared.opening.Opening.{Opening}
 use Rattle.like_core.specs.Additions.{added_before}
+use Rattle.like_core.specs.PhaseMasks.{mask_of, AreMasksOf}
 use Rattle.like_core.specs.Post.{PostView, additions_of}
 use Rattle.like_core.specs.Reads.{AreBetween}
 use Rattle.like_board.specs.declared.worker_seat.WorkerSeat.{WorkerSeat}
-use Rattle.like_board.specs.Seats.{AreAll, BoardId, board_numbers, coord_view, last_count, seat_board, seat_meaning, seats_before, HaveReadBetween}
+use Rattle.like_board.specs.Seats.{AreAll, BoardId, board_numbers, coord_view, last_count, seat_board, seat_meaning, seats_before, HaveReadBetween, HaveReadMasks}
 use Rattle.like_board.proofs.InOrder.{all_in_order}
 use Rattle.like_board.proofs.Meanings.{same_board}
 use Rattle.like_core.specs.declared.worker_state.WorkerState.TheVariants.{Gone}
@@ -35,7 +36,7 @@ use Rattle.like_crew.specs.declared.ended.Ended.{Ended}
 use Rattle.like_crew.specs.EndToEnd.{AreCounts, AreLastLikes, AreLogs, AreRightCounts, run_of, runs_of}
 use Rattle.like_crew.specs.Gathered.{AreTables, RunsOnce}
 use Rattle.like_crew.specs.Log.{IsLog, NoneAbove, plan_of}
-use Rattle.like_crew.specs.Server.{IsLogOf, ServerView, WorksFor}
+use Rattle.like_crew.specs.Server.{HasWorkedFor, IsLogOf, ReadMasksOf, ServerView}
 use Rattle.like_crew.specs.Ended.{IsEnded, IsSeatOf}
 use Rattle.like_crew.specs.Servers.{IsServer}
 use Rattle.like_crew.proofs.Counted.{count-in-all, in_range}
@@ -91,11 +92,22 @@ module _ (service : Service) (workers : ℕ) (board : BoardId) (z : Opening) (e 
   pub seats-size : length e.seats.items ≡ workers
   seats-size = sym (pairs-length IsSeatOf h.servers e.seats.items h.seats) ∙ servers-size
 
-  pub log-at : (worker : ℕ) (log : WorkerLog) → slice_get e.logs.items worker ≡ Some log → IsLog service workers worker log
-  log-at worker log at =
+  -- the masks that the workers read are the service's
+  right-at-server : HaveReadMasks (coord_view e.coord).masks e.seats.items → (worker : ℕ) (s : ServerView) → slice_get h.servers worker ≡ Some s → ReadMasksOf service s
+  right-at-server masks worker s at =
+      let seat = right-at IsSeatOf h.servers e.seats.items worker s h.seats at in
+      let right : AreMasksOf (mask_of (coord_view e.coord).masks) (seat_meaning seat.0).masks =
+      subst (λ (x : WorkerSeat). AreMasksOf (mask_of (coord_view e.coord).masks) (seat_meaning x).masks) (get_or_from_slice_get e.seats.items worker seat.0 seat.0 seat.1.0)
+      (masks worker seat.0 (slice_get_within e.seats.items worker seat.0 seat.1.0)) in
+      let P : PostView → (ℕ → ℕ) → Type 0 = λ p hot. AreMasksOf hot p.masks in
+      let same : mask_of (coord_view e.coord).masks ≡ service.hot = λ m phase. h.hot phase m in
+      subst (P s.worker.post) same (subst (λ (p : PostView). P p (mask_of (coord_view e.coord).masks)) seat.1.1 right)
+
+  pub log-at : HaveReadMasks (coord_view e.coord).masks e.seats.items → (worker : ℕ) (log : WorkerLog) → slice_get e.logs.items worker ≡ Some log → IsLog service workers worker log
+  log-at masks worker log at =
       let s = left-at IsLogOf h.servers e.logs.items worker log h.logs at in
       let is = server-at worker s.0 s.1.0 in
-      subst (λ (x : Share). IsLog service x.workers x.worker log) is.share (s.1.1.log_is service is.works)
+      subst (λ (x : Share). IsLog service x.workers x.worker log) is.share (s.1.1.log_is service (is.works, right-at-server masks worker s.0 s.1.0))
 
   pub tables : AreTables service.users (submitters service) e.logs.items
   tables worker log at =
@@ -108,8 +120,8 @@ module _ (service : Service) (workers : ℕ) (board : BoardId) (z : Opening) (e 
   below None taken phase none le = λ k d within. absurd (omega (arith, within, ap (λ (xs : List Took). length xs) none))
   below (Some sight) taken phase all le = λ k d within. omega (arith, all k d within, le)
 
-  pub logs-are : All (λ seat. IfSome (seat_meaning seat).last (λ sight. sight.number ≤ (coord_view e.coord).phase)) e.seats.items → AreLogs service workers e.phases e.logs.items
-  logs-are phases worker log at =
+  pub logs-are : HaveReadMasks (coord_view e.coord).masks e.seats.items → All (λ seat. IfSome (seat_meaning seat).last (λ sight. sight.number ≤ (coord_view e.coord).phase)) e.seats.items → AreLogs service workers e.phases e.logs.items
+  logs-are masks phases worker log at =
       let s = left-at IsLogOf h.servers e.logs.items worker log h.logs at in
       let seat = right-at IsSeatOf h.servers e.seats.items worker s.0 h.seats s.1.0 in
       let seen : IfSome (seat_meaning seat.0).last (λ sight. sight.number ≤ (coord_view e.coord).phase) =
@@ -117,25 +129,25 @@ module _ (service : Service) (workers : ℕ) (board : BoardId) (z : Opening) (e 
       (phases worker seat.0 (slice_get_within e.seats.items worker seat.0 seat.1.0)) in
       let saw : IfSome s.0.worker.post.last (λ sight. sight.number ≤ e.phases) =
       subst (λ n. IfSome s.0.worker.post.last (λ sight. sight.number ≤ n)) (sym h.phases) (subst (λ (p : PostView). IfSome p.last (λ sight. sight.number ≤ (coord_view e.coord).phase)) seat.1.1 seen) in
-      (log-at worker log at, below s.0.worker.post.last log.taken.items e.phases s.1.1.above saw)
+      (log-at masks worker log at, below s.0.worker.post.last log.taken.items e.phases s.1.1.above saw)
 
   -- the additions of all seats are the accepted likes of all logs
-  pub all-likes : (page : ℕ) → sum_by (λ seat. additions_of (seat_meaning seat) page) e.seats.items ≡ likes service page (runs_of e.logs.items)
-  all-likes page =
+  pub all-likes : HaveReadMasks (coord_view e.coord).masks e.seats.items → (page : ℕ) → sum_by (λ seat. additions_of (seat_meaning seat) page) e.seats.items ≡ likes service page (runs_of e.logs.items)
+  all-likes masks page =
       sym (pairs-sum IsSeatOf (λ (s : ServerView). additions_of s.worker.post page) (λ (seat : WorkerSeat). additions_of (seat_meaning seat) page) h.servers e.seats.items
       (λ s seat m. ap (λ (p : PostView). additions_of p page) (sym m)) h.seats)
       ∙ pairs-sum (λ (s : ServerView) (log : WorkerLog). ((page : ℕ) → likes_among service page log.ran.items ≡ additions_of s.worker.post page))
       (λ (s : ServerView). additions_of s.worker.post page) (λ (log : WorkerLog). likes_among service page log.ran.items) h.servers e.logs.items (λ s log m. sym (m page)) matched
       ∙ sym (sum-of-map (likes_among service page) (λ (log : WorkerLog). log.ran.items) e.logs.items) where
-        both : (ss : List ServerView) (logs : List WorkerLog) → ((k : ℕ) (s : ServerView) → slice_get ss k ≡ Some s → (w : ℕ) × IsServer service workers (board_numbers board) w s) → AllZip IsLogOf ss logs
+        both : (ss : List ServerView) (logs : List WorkerLog) → ((k : ℕ) (s : ServerView) → slice_get ss k ≡ Some s → HasWorkedFor service s) → AllZip IsLogOf ss logs
             → AllZip (λ (s : ServerView) (log : WorkerLog). ((page : ℕ) → likes_among service page log.ran.items ≡ additions_of s.worker.post page)) ss logs
         both [] [] each all = tt
         both [] (log ∷ logs) each all = absurd all
         both (s ∷ ss) [] each all = absurd all
-        both (s ∷ ss) (log ∷ logs) each all = (all.0.additions service (each zero s refl).1.works, both ss logs (λ k t x. each (suc k) t x) all.1)
+        both (s ∷ ss) (log ∷ logs) each all = (all.0.additions service (each zero s refl), both ss logs (λ k t x. each (suc k) t x) all.1)
 
         matched : AllZip (λ (s : ServerView) (log : WorkerLog). ((page : ℕ) → likes_among service page log.ran.items ≡ additions_of s.worker.post page)) h.servers e.logs.items
-        matched = both h.servers e.logs.items (λ k s at. (k, server-at k s at)) h.logs
+        matched = both h.servers e.logs.items (λ k s at. ((server-at k s at).works, right-at-server masks k s at)) h.logs
 
   -- the seats that were left
   seat-at : (k : ℕ) (seat : WorkerSeat) → slice_get e.seats.items k ≡ Some seat → (s : ServerView) × ((slice_get h.servers k ≡ Some s) × IsSeatOf s seat)
@@ -168,32 +180,32 @@ module _ (service : Service) (workers : ℕ) (board : BoardId) (z : Opening) (e 
   are-all same = subst (λ n. AreAll n e.seats.items) (sym (ap (λ (x : Opening). x.workers) h.opening ∙ same)) (all_in_order e.seats.items workers seats-size seat-worker)
 
   -- the final counts
-  pub counts-are : (counts : List ℕ) → z.counts ≡ map (λ p. p.count) service.pages → length counts ≡ length service.pages
+  pub counts-are : HaveReadMasks (coord_view e.coord).masks e.seats.items → (counts : List ℕ) → z.counts ≡ map (λ p. p.count) service.pages → length counts ≡ length service.pages
       → ((page : ℕ) → page < length service.pages → get_or counts page 0 ≡ last_count (coord_view e.coord).opening e.seats.items page) → AreCounts service (runs_of e.logs.items) counts
-  counts-are counts initial sized told = record {
+  counts-are masks counts initial sized told = record {
     pages = sized;
     each = λ page there.
         told page there
         ∙ ap (λ x. last_count x e.seats.items page) h.opening
         ∙ ap (λ cs. get_or cs page 0 + sum_by (λ seat. additions_of (seat_meaning seat) page) e.seats.items) initial
         ∙ ap (λ n. n + sum_by (λ seat. additions_of (seat_meaning seat) page) e.seats.items) (initial-at service page)
-        ∙ ap (λ n. initial_count service.pages page + n) (all-likes page);
+        ∙ ap (λ n. initial_count service.pages page + n) (all-likes masks page);
   }
 
   -- what all seats have added before a phase are the accepted likes that all workers ran before it
-  all-before : (phase page : ℕ) → seats_before e.seats.items phase page ≡ likes_below service page (runs_of e.logs.items) phase
-  all-before phase page =
+  all-before : HaveReadMasks (coord_view e.coord).masks e.seats.items → (phase page : ℕ) → seats_before e.seats.items phase page ≡ likes_below service page (runs_of e.logs.items) phase
+  all-before masks phase page =
       sym (pairs-sum IsSeatOf (λ (s : ServerView). added_before phase page s.worker.post.additions) (λ (seat : WorkerSeat). added_before phase page (seat_meaning seat).additions) h.servers e.seats.items
       (λ s seat m. ap (λ (p : PostView). added_before phase page p.additions) (sym m)) h.seats)
-      ∙ pairs-sum (λ (s : ServerView) (log : WorkerLog). WorksFor service s × IsLogOf s log)
+      ∙ pairs-sum (λ (s : ServerView) (log : WorkerLog). HasWorkedFor service s × IsLogOf s log)
       (λ (s : ServerView). added_before phase page s.worker.post.additions) (λ (log : WorkerLog). likes_among service page (filter (λ x. nat_lt x.phase phase) log.ran.items)) h.servers e.logs.items
       (λ s log m. sym (below-is service log.ran.items s.worker.post.additions (m.1.by_phase service m.0) phase page))
-      (with-fact IsLogOf (WorksFor service) h.servers e.logs.items (λ k s at. (server-at k s at).works) h.logs)
+      (with-fact IsLogOf (HasWorkedFor service) h.servers e.logs.items (λ k s at. ((server-at k s at).works, right-at-server masks k s at)) h.logs)
       ∙ sym (sum-of-map (λ (ran : List Ran). likes_among service page (filter (λ x. nat_lt x.phase phase) ran)) (λ (log : WorkerLog). log.ran.items) e.logs.items)
 
   -- the counts that looks were answered
-  pub seen-counts : z.counts ≡ map (λ p. p.count) service.pages → HaveReadBetween (coord_view e.coord).opening (coord_view e.coord).phase e.seats.items → AreRightCounts service e.logs.items
-  seen-counts initial reads = λ worker d within.
+  pub seen-counts : HaveReadMasks (coord_view e.coord).masks e.seats.items → z.counts ≡ map (λ p. p.count) service.pages → HaveReadBetween (coord_view e.coord).opening (coord_view e.coord).phase e.seats.items → AreRightCounts service e.logs.items
+  seen-counts masks initial reads = λ worker d within.
       let log : WorkerLog = get_or e.logs.items worker d in
       let at : slice_get e.logs.items worker ≡ Some log = slice_get-get_or e.logs.items worker d within in
       let s = left-at IsLogOf h.servers e.logs.items worker log h.logs at in
@@ -208,11 +220,11 @@ module _ (service : Service) (workers : ℕ) (board : BoardId) (z : Opening) (e 
       let between : P z s.0.worker.post = subst (λ (y : Opening). P y s.0.worker.post) h.opening (subst (P (coord_view e.coord).opening) seat.1.1 own) in
       right-counts service (runs_of e.logs.items) log.ran.items s.0.worker.post.additions s.0.worker.post.reads z.counts (seats_before e.seats.items) last
       (λ page. ap (λ cs. get_or cs page 0) initial ∙ initial-at service page)
-      all-before
-      (s.1.1.by_phase service is.works)
-      (s.1.1.looks service is.works)
+      (all-before masks)
+      (s.1.1.by_phase service (is.works, right-at-server masks worker s.0 s.1.0))
+      (s.1.1.looks service (is.works, right-at-server masks worker s.0 s.1.0))
       between
-      (log-at worker log at).answers
+      (log-at masks worker log at).answers
 
 -- the last likes of all users
 pub last-likes-are : (service : Service) (workers : ℕ) (logs : List WorkerLog) (last : List (Option ℕ)) → length logs ≡ workers → 0 < workers

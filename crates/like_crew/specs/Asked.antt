@@ -5,9 +5,10 @@ use Rattle.like_requests.specs.declared.request.Request.{Request}
 use Rattle.like_requests.specs.declared.setup.Setup.{Setup}
 use Rattle.like_roles.specs.Service.{Service}
 
--- the run of these users and pages, and of these lists of requests
+-- the run of these users and pages, and of these lists of requests; no page is hot in any phase
 abbrev pub service_of : Setup → List (List Request) → Service
-service_of setup plans = record { users = setup.users; pages = setup.pages; plans = plans }
+service_of setup plans =
+    record { users = setup.users; pages = setup.pages; hot = λ _. 0; plans = plans }
 
 -- the requests of plans
 abbrev pub lists_of : List (Vec Request Global) → List (List Request)

@@ -2,6 +2,7 @@
 use Rattle.std.specs.Prelude.{◌≡◌, ℕ, List}
 use Rattle.std.specs.List.{AllZip}
 use Rattle.like_core.specs.Phase.{IsJoined}
+use Rattle.like_core.specs.PhaseMasks.{mask_of}
 use Rattle.like_core.specs.declared.worker_state.WorkerState.TheVariants.{Gone}
 use Rattle.like_core.specs.declared.opening.Opening.{Opening}
 use Rattle.like_board.specs.declared.worker_seat.WorkerSeat.{WorkerSeat}
@@ -50,7 +51,7 @@ pub record HasEnded {I : Type 0} (c : Crew I) (e : Ended) : Type 0 where
   pub lead_is : IsLeadOf lead e
 
 -- a run that has ended: its workers are gone, and their servers left these logs and seats; and it ended in a joined
--- phase, which is the last one that the coordinator's seat knows
+-- phase, which is the last one that the coordinator's seat knows; and it released each phase with the service's mask
 pub record IsEnded (service : Service) (workers : ℕ) (board : BoardId) (z : Opening) (e : Ended) : Type 0 where
   pub servers : List ServerView
   pub are_servers : AreServers service workers (board_numbers board) servers
@@ -61,3 +62,4 @@ pub record IsEnded (service : Service) (workers : ℕ) (board : BoardId) (z : Op
   pub opening : (coord_view e.coord).opening ≡ z
   pub phases : e.phases ≡ (coord_view e.coord).phase
   pub joined : IsJoined e.phases
+  pub hot : (phase : ℕ) → mask_of (coord_view e.coord).masks phase ≡ service.hot phase

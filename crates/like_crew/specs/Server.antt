@@ -6,6 +6,7 @@ use Rattle.like_requests.specs.Setup.{IsPlan, IsThere}
 use Rattle.like_requests.specs.declared.setup.Setup.{Setup}
 use Rattle.like_requests.specs.declared.request.Request.{Request}
 use Rattle.like_core.specs.declared.worker_state.WorkerState.TheVariants.{Gone}
+use Rattle.like_core.specs.PhaseMasks.{AreMasksOf}
 use Rattle.like_core.specs.Post.{additions_in, additions_of, pages_of}
 use Rattle.like_queue.specs.Inbox.{InboxView}
 use Rattle.like_tables.specs.Share.{Share, dealt, place_of, serves}
@@ -56,10 +57,15 @@ pub record AgreesAt (v : WorkerView) (place : ℕ) (i : InboxView) : Type 0 wher
 abbrev pub AreOwnPlans : Service → ℕ → ℕ → List InboxView → Type 0
 AreOwnPlans service workers worker inboxes = plans_of inboxes ≡ dealt workers worker service.plans
 
--- a server works for a service: its inboxes have the plans of its submitters, and its worker does as they say
+-- the masks that a server's worker read are those of the service
+abbrev pub ReadMasksOf : Service → ServerView → Type 0
+ReadMasksOf service s = AreMasksOf service.hot s.worker.post.masks
+
+-- a server works for a service: its inboxes have the plans of its submitters, and its worker does as they say, where
+-- the masks that it read are the service's
 pub record WorksFor (service : Service) (s : ServerView) : Type 0 where
   pub plans : AreOwnPlans service s.worker.last.share.workers s.worker.last.share.worker s.inboxes
-  pub follows : Follows service s.worker
+  pub follows : ReadMasksOf service s → Follows service s.worker
 
 -- a worker and its inboxes agree: it took from each submitter what the inbox handed over; and the phases in which it took
 -- never fell, and none is above the phase that it saw last, which is the one that it runs or has answered
@@ -87,15 +93,19 @@ pub record ServerGoesOn (s t : ServerView) : Type 0 where
   pub inboxes : length t.inboxes ≡ length s.inboxes
   pub works : (service : Service) → WorksFor service s → WorksFor service t
 
+-- a server has worked for a service: it works for it, and the masks that it read are the service's
+abbrev pub HasWorkedFor : Service → ServerView → Type 0
+HasWorkedFor service s = WorksFor service s × ReadMasksOf service s
+
 -- the log that a server leaves
 pub record IsLogOf (s : ServerView) (log : WorkerLog) : Type 0 where
   pub share : log.last.share ≡ s.worker.last.share
-  pub log_is : (service : Service) → WorksFor service s
+  pub log_is : (service : Service) → HasWorkedFor service s
       → IsLog service s.worker.last.share.workers s.worker.last.share.worker log
-  pub additions : (service : Service) → WorksFor service s
+  pub additions : (service : Service) → HasWorkedFor service s
       → (page : ℕ) → likes_among service page log.ran.items ≡ additions_of s.worker.post page
-  pub by_phase : (service : Service) → WorksFor service s
+  pub by_phase : (service : Service) → HasWorkedFor service s
       → (phase page : ℕ) → likes_within service page log.ran.items phase ≡ additions_in s.worker.post phase page
-  pub looks : (service : Service) → WorksFor service s
+  pub looks : (service : Service) → HasWorkedFor service s
       → shown_in service log.ran.items ≡ map (shown_by s.worker.post.additions) s.worker.post.reads
   pub above : NoneAbove s.worker.post.last log.taken.items

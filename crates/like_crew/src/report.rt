@@ -1,6 +1,6 @@
 ghost use Rattle.std.specs.Prelude.{◌≡◌, ◌<◌, ◌≤◌, ℕ, All, IfOk, IfSome, length, slice_index};
 ghost use Rattle.like_requests.specs.Setup.{IsWithinLimits};
-ghost use Rattle.like_board.specs.Seats.{AreAll, board_id, coord_board, coord_view, last_count, seat_board, seat_meaning, HaveReadBetween};
+ghost use Rattle.like_board.specs.Seats.{AreAll, board_id, coord_board, coord_view, last_count, seat_board, seat_meaning, HaveReadBetween, HaveReadMasks};
 ghost use Rattle.like_core.specs.declared.worker_state.WorkerState.TheVariants.{Gone};
 ghost use Rattle.like_crew.specs.Asked.{asked, lists_of};
 ghost use Rattle.like_crew.specs.EndToEnd.{IsEndToEnd};
@@ -73,6 +73,7 @@ fn final_counts(
     ensures phases { All (λ seat. IfSome (seat_meaning seat).last (λ sight. sight.number ≤ (coord_view coord).phase))
         seats.items }
     ensures reads { HaveReadBetween (coord_view coord).opening (coord_view coord).phase seats.items }
+    ensures masks { HaveReadMasks (coord_view coord).masks seats.items }
 {
     let mut counts = initial;
     board.close(coord, seats, &mut counts);

@@ -27,7 +27,7 @@ runs_at phase submitter number reply = record { phase = phase; submitter = submi
 
 -- three likes of two users
 abbrev plain : Service
-plain = record { users = 2; pages = page_a 10 ∷ []; plans = (asks_like 0 ∷ asks_like 1 ∷ asks_like 0 ∷ []) ∷ [] }
+plain = record { users = 2; pages = page_a 10 ∷ []; hot = λ _. 0; plans = (asks_like 0 ∷ asks_like 1 ∷ asks_like 0 ∷ []) ∷ [] }
 
 abbrev plain_ran : List Ran
 plain_ran = runs_at 0 0 1 Liked ∷ runs_at 0 0 2 Liked ∷ runs_at 0 0 3 Liked ∷ []
@@ -43,7 +43,7 @@ plain_first = refl
 
 -- two submitters, and the verdicts on three requests of the first
 abbrev judged : Service
-judged = record { users = 2; pages = page_a 10 ∷ []; plans = (asks_like 2 ∷ asks_look 1 ∷ (record { op = Like; user = 0; page = Unknown }) ∷ []) ∷ [] ∷ [] }
+judged = record { users = 2; pages = page_a 10 ∷ []; hot = λ _. 0; plans = (asks_like 2 ∷ asks_look 1 ∷ (record { op = Like; user = 0; page = Unknown }) ∷ []) ∷ [] ∷ [] }
 
 unknown_user : IsRightAnswer judged [] (runs_at 0 0 1 (Refused UnknownUser))
 unknown_user = refl
@@ -56,7 +56,7 @@ unknown_page = refl
 
 -- two workers: two likes in phase 1, then a look in phase 2
 abbrev sliced : Service
-sliced = record { users = 2; pages = page_a 100 ∷ []; plans = (asks_like 0 ∷ asks_look 0 ∷ []) ∷ (asks_like 1 ∷ []) ∷ [] }
+sliced = record { users = 2; pages = page_a 100 ∷ []; hot = λ _. 0; plans = (asks_like 0 ∷ asks_look 0 ∷ []) ∷ (asks_like 1 ∷ []) ∷ [] }
 
 abbrev look : Ran
 look = record { phase = 2; submitter = 0; number = 2; stashed = true; reply = Seen (Some 0) 102 }

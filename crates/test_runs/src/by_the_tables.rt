@@ -62,7 +62,7 @@ impl Shared<'_> {
         } else if !sight.ending {
             self.core.step(Event::Announce)?;
         } else if sight.all_in {
-            self.core.step(Event::Release)?;
+            self.core.step(Event::Release(0))?;
             self.turns_left = self.setup.turns;
         }
         Ok(None)

@@ -39,7 +39,7 @@ replies_of-requires-clause-once c =
     let z : Opening = opening_of c.args.setup.now in
     subst (λ (logs : List WorkerLog). RunsOnce c.deref.result.now (entries_in logs)) (sym c.deref-2.ensures.value)
     (runs-once service workers e.logs.items c.deref.result.now (c.deref.ensures.value ∙ c.requires.site.sizes) (logs-size service workers (board_id c.args.site.board) z e c.requires.ended)
-    c.requires.within.numbers.workers.0 (log-at service workers (board_id c.args.site.board) z e c.requires.ended))
+    c.requires.within.numbers.workers.0 (log-at service workers (board_id c.args.site.board) z e c.requires.ended c.final_counts-counts.ensures.masks))
 
 -- the number of submitters
 submitters-are : (many : ℕ) (sizes : List ℕ) (plans : List (List Request)) → many ≡ length sizes → sizes ≡ map length plans → many ≡ length plans
@@ -76,16 +76,16 @@ returns c =
     let before : length c.args.site.counts.items ≡ length c.args.setup.now.pages = ap (λ (xs : List ℕ). length xs) c.requires.site.counts ∙ length-map c.args.setup.now.pages (λ (p : Page). p.count) in
     record {
       workers_all = size;
-      logs = logs-are service workers (board_id c.args.site.board) z e h c.final_counts-counts.ensures.phases;
+      logs = logs-are service workers (board_id c.args.site.board) z e h c.final_counts-counts.ensures.masks c.final_counts-counts.ensures.phases;
       replies = subst (λ sizes. IsCollected sizes (entries_in e.logs.items) (rows_of c.in_ok-replies.replies)) sized
           (subst (λ (logs : List WorkerLog). IsCollected c.deref.result.now (entries_in logs) (rows_of c.in_ok-replies.replies)) c.deref-2.ensures.value c.in_ok-replies.ensures);
-      counts = counts-are service workers (board_id c.args.site.board) z e h c.final_counts-counts.result.items refl (c.final_counts-counts.ensures.len ∙ before)
+      counts = counts-are service workers (board_id c.args.site.board) z e h c.final_counts-counts.ensures.masks c.final_counts-counts.result.items refl (c.final_counts-counts.ensures.len ∙ before)
           (λ page there. c.final_counts-counts.ensures.counts page (omega (arith, there, before)));
-      last = last-likes-are service workers e.logs.items c.in_ok-last.last.items size c.requires.within.numbers.workers.0 (log-at service workers (board_id c.args.site.board) z e h) c.in_ok-last.ensures.len
+      last = last-likes-are service workers e.logs.items c.in_ok-last.last.items size c.requires.within.numbers.workers.0 (log-at service workers (board_id c.args.site.board) z e h c.final_counts-counts.ensures.masks) c.in_ok-last.ensures.len
           (λ user log there at.
           c.in_ok-last.ensures.last user log there
           (ap (λ (logs : List WorkerLog). slice_get logs (worker_of (length logs) (home c.len.result user))) c.deref-3.ensures.value
           ∙ ap (λ n. slice_get e.logs.items (worker_of (length e.logs.items) (home n user))) many ∙ at));
       joined = h.joined;
-      seen = seen-counts service workers (board_id c.args.site.board) z e h refl c.final_counts-counts.ensures.reads;
+      seen = seen-counts service workers (board_id c.args.site.board) z e h c.final_counts-counts.ensures.masks refl c.final_counts-counts.ensures.reads;
     }

@@ -34,6 +34,7 @@ returns-clause-seats c =
     record {
       board = c.in_ok-board.ensures.coord_here;
       start = ap (λ (v : CoordSeatView). v.phase) c.in_ok-board.ensures.coord;
+      no_masks = ap (λ (v : CoordSeatView). v.masks) c.in_ok-board.ensures.coord;
       opening = ap (λ (v : CoordSeatView). v.opening) c.in_ok-board.ensures.coord
           ∙ ap (λ (xs : List ℕ). record { workers = c.args.setup.now.workers; counts = xs; marks = c.deref-2.result.now }) counts
           ∙ ap (λ (xs : List Bool). record { workers = c.args.setup.now.workers; counts = map (λ (p : Page). p.count) c.args.setup.now.pages; marks = xs }) marks;
