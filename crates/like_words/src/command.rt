@@ -85,7 +85,7 @@ fn run<'a>(alloc: Global) -> Result<Command<'a>, AllocError>
 {
     let command = Command::new(alloc, "run")
         .about(help::RUN)
-        .after_help(help::FILES);
+        .after_help(help::REPORT);
     with_settings(alloc, command)?
         .arg(pages_argument(alloc))?
         .arg(requests_argument(alloc))
@@ -98,7 +98,7 @@ fn replay<'a>(alloc: Global) -> Result<Command<'a>, AllocError>
 {
     let command = Command::new(alloc, "replay")
         .about(help::REPLAY)
-        .after_help(help::FILES);
+        .after_help(help::REPORT);
     with_settings(alloc, command)?
         .arg(script_option(alloc))?
         .arg(pages_argument(alloc))?
@@ -115,7 +115,7 @@ pub fn likes_command<'a>(alloc: Global) -> Result<Command<'a>, AllocError>
         .subcommand_required(true)
         .disable_help_subcommand(true)
         .about(help::LIKES)
-        .after_help(help::EXAMPLE)
+        .after_help(help::STATUSES)
         .subcommand(run(alloc)?)?
         .subcommand(replay(alloc)?)
 }

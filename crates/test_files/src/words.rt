@@ -1,4 +1,6 @@
 //! What words ask for, by `parse`.
+mod help;
+
 use like_words::{Asked, Options, ParseFault, parse};
 use std::alloc::{AllocError, Global};
 use std::test::Fail;
@@ -140,17 +142,6 @@ fn wrong_words(rt: HostRuntime) -> Result<(), Fail> {
         "replay p.csv r.csv --script",
     ] {
         usage(rt.alloc(), words)?;
-    }
-    Ok(())
-}
-
-#[test]
-fn help(rt: HostRuntime) -> Result<(), Fail> {
-    for words in ["--help", "-h", "replay --help", "replay p.csv -h"] {
-        assert!(rt;
-            matches!(asked(rt.alloc(), words)?, Asked::Help(_)),
-            "{words}"
-        );
     }
     Ok(())
 }

@@ -139,7 +139,10 @@ fn opens_in_order(rt: HostRuntime) -> Result<(), Fail> {
 fn shows_help(rt: HostRuntime) -> Result<(), Fail> {
     let (status, out, errors) = served(&rt, rt.alloc(), "replay --help")?;
     assert_eq!(rt; status, 0);
-    assert!(rt; out.as_slice().starts_with(b"Replays files of requests"));
+    assert!(rt;
+        out.as_slice()
+            .starts_with(b"Runs the requests on one thread")
+    );
     assert!(rt; errors.is_empty());
     Ok(())
 }
