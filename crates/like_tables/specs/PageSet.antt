@@ -1,10 +1,16 @@
 -- A set of pages, as a bit for each page in words of 64.
-use Rattle.std.specs.Prelude.{◌≡◌, ℕ, ◌/◌, ◌%◌, ◌<◌, ◌≤◌, List, slice_index_or}
+use Rattle.std.specs.Prelude.{◌≡◌, ◌≢◌, ℕ, ◌/◌, ◌%◌, ◌<◌, ◌≤◌, List, length, slice_index_or}
 use Rattle.std.specs.Int.{bit_at}
 
 -- 1 where the page is in the set, else 0
 abbrev pub bit_of : List ℕ → ℕ → ℕ
 bit_of words page = bit_at (slice_index_or words (page / 64) 0) (page % 64)
+
+-- the page's bit is this afterwards, and each other is as before
+pub record SetsBit (page bit : ℕ) (old new : List ℕ) : Type 0 where
+  pub len : length new ≡ length old
+  pub here : bit_of new page ≡ bit
+  pub others : (other : ℕ) → other ≢ page → bit_of new other ≡ bit_of old other
 
 -- no page from one on and below another is in the set
 abbrev pub HasNone : List ℕ → ℕ → ℕ → Type 0

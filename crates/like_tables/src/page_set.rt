@@ -1,6 +1,6 @@
-ghost use Rattle.std.specs.Prelude.{◌≡◌, ◌≢◌, ℕ, ◌*◌, ◌/◌, ◌<◌, ◌≤◌, IfNone, IfOk, IfSome, length, replicate};
+ghost use Rattle.std.specs.Prelude.{◌≡◌, ◌*◌, ◌/◌, ◌<◌, ◌≤◌, IfNone, IfOk, IfSome, length, replicate};
 ghost use Rattle.std.specs.Int.{div_ceil};
-ghost use Rattle.like_tables.specs.PageSet.{HasNone, IsNextIn, bit_of};
+ghost use Rattle.like_tables.specs.PageSet.{HasNone, IsNextIn, SetsBit};
 
 use std::alloc::{AllocError, Global};
 use std::marker::Model;
@@ -33,20 +33,14 @@ impl PageSet {
 
     pub fn insert(&mut self, page: u32)
         requires { page < 64 * length self.old }
-        ensures len { length self.new ≡ length self.old }
-        ensures page { bit_of self.new page ≡ 1 }
-        ensures others { (other : ℕ) → other ≢ page
-            → bit_of self.new other ≡ bit_of self.old other }
+        ensures { SetsBit page 1 self.old self.new }
     {
         self.words[page as usize / 64] |= 1 << (page % 64);
     }
 
     pub fn remove(&mut self, page: u32)
         requires { page < 64 * length self.old }
-        ensures len { length self.new ≡ length self.old }
-        ensures page { bit_of self.new page ≡ 0 }
-        ensures others { (other : ℕ) → other ≢ page
-            → bit_of self.new other ≡ bit_of self.old other }
+        ensures { SetsBit page 0 self.old self.new }
     {
         self.words[page as usize / 64] &= !(1 << (page % 64));
     }

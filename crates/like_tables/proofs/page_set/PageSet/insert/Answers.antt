@@ -1,19 +1,18 @@
 use Rattle.std.proofs.Common.{◌*◌, ◌/◌, ◌%◌, ◌<◌, length, ap, ◌∙◌, arith, w64}
 use Rattle.std.specs.Int.{bit_at}
-use Rattle.std.proofs.lemmas.List.{get_or_read}
+use Rattle.std.proofs.lemmas.List.{get_or_read, length-set}
 use Rattle.std.proofs.lemmas.Nat.Bits.{bit_at_set_same, bit_at_set_other}
 use Rattle.like_tables.proofs.PageSets.{bit_of-others, bit_of-written}
 use Rattle.like_tables.proofs.page_set.PageSet.insert.Goals as goal
 
-pub returns-clause-page : goal.returns-clause-page
-returns-clause-page c =
+pub returns : goal.returns
+returns c =
     let words = c.self.inside.words.items in
-    let there : c.args.page < 64 * length words = rw c.self.view_is c.requires in
-    bit_of-written words c.args.page _ there ∙ bit_at_set_same w64 _ (c.args.page % 64) (omega arith)
-
-pub returns-clause-others : goal.returns-clause-others
-returns-clause-others c other apart =
-    let words = c.self.inside.words.items in
-    let there : c.args.page < 64 * length words = rw c.self.view_is c.requires in
-    let here = get_or_read words (c.args.page / 64) _ (omega arith) c.index_mut.ensures.value 0 in
-    rw (← c.self.view_is) (bit_of-others words c.args.page _ other there (λ i small differs. bit_at_set_other w64 _ (c.args.page % 64) (omega arith) i differs ∙ ap (λ w. bit_at w i) here) apart)
+    let page = c.args.page in
+    let there : page < 64 * length words = rw c.self.view_is c.requires in
+    let read = get_or_read words (page / 64) _ (omega arith) c.index_mut.ensures.value 0 in
+    record {
+      len = length-set words (page / 64) _ ∙ ap length c.self.view_is;
+      here = bit_of-written words page _ there ∙ bit_at_set_same w64 _ (page % 64) (omega arith);
+      others = λ other apart. rw (← c.self.view_is) (bit_of-others words page _ other there (λ i small differs. bit_at_set_other w64 _ (page % 64) (omega arith) i differs ∙ ap (λ w. bit_at w i) read) apart);
+    }
