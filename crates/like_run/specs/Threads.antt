@@ -1,9 +1,11 @@
 -- A run on threads: what the threads of its workers end with, and why it gives no report.
-use Rattle.std.specs.Prelude.{◌≡◌, ℕ, List, ⊤, false}
+use Rattle.std.specs.Prelude.{◌≡◌, ◌+◌, ◌≤◌, ℕ, List, length, ⊤, false}
 use Rattle.like_requests.specs.Setup.{IsFirstBroken, IsWithinLimits}
 use Rattle.like_requests.specs.declared.request.Request.{Request}
 use Rattle.like_requests.specs.declared.setup.Setup.{Setup}
-use Rattle.like_crew.specs.Ended.{HasLeft, IsSeatOf}
+use Rattle.like_crew.specs.declared.crew.Crew.{Crew}
+use Rattle.like_crew.specs.declared.ended.Ended.{Ended}
+use Rattle.like_crew.specs.Ended.{HasEnded, HasLeft, IsSeatOf}
 use Rattle.like_crew.specs.Server.{ServerView}
 use Rattle.like_run.specs.declared.threads.fault.RunFault.{RunFault}
 use Rattle.like_run.specs.declared.threads.fault.RunFault.TheVariants.{Settings, Memory, Start}
@@ -15,6 +17,12 @@ use Rattle.like_run.specs.declared.threads.worker.Served.TheVariants.{Left, Stop
 abbrev pub Keeps : ℕ → ServerView → Served → Type 0
 Keeps start first (Left log seat) = HasLeft first log seat
 Keeps start first (Stopped token seat) = (token.of ≡ start) × (token.value ≡ false) × IsSeatOf first seat
+
+-- a crew went on until its run had ended, and left this; its servers and these submitters' ends were no more than the
+-- threads that could be started
+pub record HasEndedOn {I E : Type 0} (starts : ℕ) (c : Crew I) (ends : List E) (e : Ended) : Type 0 where
+  pub ended : HasEnded c e
+  pub enough : length c.servers.items + length ends ≤ starts
 
 -- no fault of the settings or the lists
 abbrev pub IsFaultUnderWay : RunFault → Type 0

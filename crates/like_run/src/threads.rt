@@ -2,9 +2,8 @@ ghost use Rattle.std.specs.Prelude.{◌≡◌, ◌+◌, ◌≤◌, IfErr, IfOk, 
 ghost use Rattle.like_requests.specs.Setup.{IsWithinLimits};
 ghost use Rattle.like_crew.specs.Asked.{asked, lists_of};
 ghost use Rattle.like_crew.specs.EndToEnd.{IsEndToEnd};
-ghost use Rattle.like_crew.specs.Ended.{HasEnded};
 ghost use Rattle.like_run.specs.Lines.{AreNewEnds};
-ghost use Rattle.like_run.specs.Threads.{IsFaultUnderWay, IsRunFault};
+ghost use Rattle.like_run.specs.Threads.{HasEndedOn, IsFaultUnderWay, IsRunFault};
 
 use crate::threads::end::{coordinate, join_all};
 use crate::threads::lines::{Lines, send_ends, take_ends};
@@ -108,9 +107,7 @@ fn on_threads<R: Threads + Wait + Sync, G: Gate>(
     starts: usize,
 ) -> Result<Ended, RunFault>
     requires { AreNewEnds ends.items }
-    ensures ended { IfOk result (HasEnded crew.entry) }
-    ensures enough { OnOk result
-        (length crew.entry.servers.items + length ends.entry.items ≤ starts) }
+    ensures ended { IfOk result (HasEndedOn starts crew.entry ends.entry.items) }
     ensures fault { IfErr result IsFaultUnderWay }
 {
     let start = OnceLock::new();
@@ -120,9 +117,7 @@ fn on_threads<R: Threads + Wait + Sync, G: Gate>(
         rt,
         move |scope| -> Result<Ended, RunFault>
             requires { AreNewEnds ends.items }
-            ensures ended { IfOk result (HasEnded crew.entry) }
-            ensures enough { OnOk result
-                (length crew.entry.servers.items + length ends.entry.items ≤ starts) }
+            ensures ended { IfOk result (HasEndedOn starts crew.entry ends.entry.items) }
             ensures fault { IfErr result IsFaultUnderWay }
         { in_scope(scope, rt, alloc, signal, crew, ends, gate, starts) },
     )
@@ -140,9 +135,7 @@ fn in_scope<'s, E, R: Threads + Wait + Sync, G: Gate>(
     starts: usize,
 ) -> Result<Ended, RunFault>
     requires { AreNewEnds ends.items }
-    ensures ended { IfOk result (HasEnded crew.entry) }
-    ensures enough { OnOk result
-        (length crew.entry.servers.items + length ends.entry.items ≤ starts) }
+    ensures ended { IfOk result (HasEndedOn starts crew.entry ends.entry.items) }
     ensures fault { IfErr result IsFaultUnderWay }
 {
     let Crew { mut lead, servers } = crew;

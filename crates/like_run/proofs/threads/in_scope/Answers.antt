@@ -45,18 +45,18 @@ returns-clause-ended g c =
     let left : HaveLeft servers c.join_all.new.logs.items c.join_all.new.seats.items =
     subst (λ xs. HaveLeft xs c.join_all.new.logs.items c.join_all.new.seats.items) (c.start_workers.ensures.servers served) c.join_all.ensures in
     record {
-      left = subst (λ (logs : Vec WorkerLog Global). HaveLeft servers logs.items c.new.result.seats.items) (sym c.new.ensures.logs)
-          (subst (λ (seats : Vec WorkerSeat Global). HaveLeft servers c.join_all.new.logs.items seats.items) (sym c.new.ensures.seats) left);
-      lead = c.coordinate.new.lead;
-      later = c.coordinate.ensures.goes_on;
-      lead_is = c.new.ensures.lead;
+      ended = record {
+        left = subst (λ (logs : Vec WorkerLog Global). HaveLeft servers logs.items c.new.result.seats.items) (sym c.new.ensures.logs)
+            (subst (λ (seats : Vec WorkerSeat Global). HaveLeft servers c.join_all.new.logs.items seats.items) (sym c.new.ensures.seats) left);
+        lead = c.coordinate.new.lead;
+        later = c.coordinate.ensures.goes_on;
+        lead_is = c.new.ensures.lead;
+      };
+      enough = elim c.if-start_workers.branch [
+        | then-start_workers w ↦
+            let many = as-many c.start_workers.new.threads.items servers (c.start_workers.ensures.servers w.if-start_workers.true) in
+            let sent = w.start_submitters-all.ensures.many (cc (w.all-is, c.in-Some.ensures.all)) in
+            omega (arith, many, sent, c.start_workers.ensures.few, w.start_submitters-all.ensures.few, c.saturating_sub-left.ensures, c.len-5.ensures, c.args.crew.servers.ok.0)
+        | else-start_workers w ↦ absurd (cc (w.all-is, c.in-Some.ensures.all))
+      ];
     }
-
-pub returns-clause-enough : goal.returns-clause-enough
-returns-clause-enough g c = elim c.if-start_workers.branch [
-  | then-start_workers w ↦
-      let many = as-many c.start_workers.new.threads.items c.args.crew.servers.items (c.start_workers.ensures.servers w.if-start_workers.true) in
-      let sent = w.start_submitters-all.ensures.many (cc (w.all-is, c.in-Some.ensures.all)) in
-      omega (arith, many, sent, c.start_workers.ensures.few, w.start_submitters-all.ensures.few, c.saturating_sub-left.ensures, c.len-5.ensures, c.args.crew.servers.ok.0)
-  | else-start_workers w ↦ absurd (cc (w.all-is, c.in-Some.ensures.all))
-]

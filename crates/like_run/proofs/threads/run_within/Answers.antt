@@ -62,7 +62,7 @@ report_of-requires-clause-ended g c =
     let crew : IsCrew c.args.setup.now (lists_of c.args.plans.items) c.in_ok-site.site c.in_ok-crew.crew =
     subst (λ asked. IsCrew c.args.setup.now asked c.in_ok-site.site c.in_ok-crew.crew) plans c.in_ok-crew.ensures in
     subst (λ (v : Vec (Vec Request Global) Global). IsEnded (asked c.args.setup.now v.items) c.args.setup.now.workers (board_id c.in_ok-site.site.board) (opening_of c.args.setup.now) c.in_ok-ended.ended) (sym c.of-lists.ensures)
-    (has-ended c.args.setup.now (lists_of c.args.plans.items) c.in_ok-site.site c.in_ok-crew.crew c.in_ok-ended.ended crew c.in_ok-ended.ensures.ended)
+    (has-ended c.args.setup.now (lists_of c.args.plans.items) c.in_ok-site.site c.in_ok-crew.crew c.in_ok-ended.ended crew c.in_ok-ended.ensures.ended.ended)
 
 -- an answer of a run says what an answer of its threads says
 pub returns-clause-enough : goal.returns-clause-enough
@@ -74,4 +74,4 @@ returns-clause-enough g c =
     subst (λ asked. IsCrew c.args.setup.now asked c.in_ok-site.site c.in_ok-crew.crew) plans c.in_ok-crew.ensures in
     let servers = as-many (service_of c.args.setup.now (lists_of c.args.plans.items)) c.args.setup.now.workers (board_numbers (board_id c.in_ok-site.site.board)) c.in_ok-crew.crew.servers.items crew.servers in
     let ends = many-ends (lists_of c.args.plans.items) c.in_ok-lines.field-0 c.in_ok-ends.ends.items c.in_ok-lines.ensures (c.in_ok-ends.ensures ∙ ap (map new_sender) c.deref-3.ensures.value) in
-    omega (arith, c.in_ok-ended.ensures.enough, servers, ends, length-map c.args.plans.items requests_of)
+    omega (arith, c.in_ok-ended.ensures.ended.enough, servers, ends, length-map c.args.plans.items requests_of)
