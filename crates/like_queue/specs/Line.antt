@@ -43,6 +43,10 @@ HasSentEnd v = length v.line.plan < v.sent
 abbrev pub one_sent : Sender → Sender
 one_sent v = record v { sent = v.sent + 1 }
 
+-- one item more was taken
+abbrev pub one_taken : Taker → Taker
+one_taken v = record v { taken = v.taken + 1 }
+
 -- what a push answers, and what it leaves: the number of the request, or the request again, where the line was full or
 -- the end mark was sent
 abbrev pub Pushes : Sender → Request → Result ℕ PushRefused → Sender → Type 0

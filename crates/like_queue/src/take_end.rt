@@ -4,34 +4,27 @@ ghost use Rattle.like_queue.specs.Line.{inbox_of};
 
 use crate::inbox::{Inbox, TakeWith};
 use crate::line::Line;
-use crate::rule::{QueuePass, Taking};
+use crate::take_pass::TakePass;
 use like_requests::Taken;
 use std::marker::Model;
 use std::sync::Wait;
 
-/// The end of a line at which a worker takes a submitter's plan.
+/// The end of a line at which a worker takes a submitter's plan: the pass, at its line.
 #[derive(Drop)]
 pub struct TakeEnd<'a> {
     pub(crate) line: &'a Line,
-    pub(crate) pass: QueuePass,
-    // How many items were taken.
-    pub(crate) taken: usize,
+    pub(crate) pass: TakePass,
 }
 
 impl<'a> Model for TakeEnd<'a> {
-    ghost use Rattle.std.specs.Prelude.{◌≡◌, []};
-    ghost use Rattle.crossbeam_queue.specs.Passes.{view as known_by};
-    ghost use Rattle.like_queue.specs.declared.known.Role.TheVariants.{Takes};
+    ghost use Rattle.std.specs.Prelude.{◌≡◌};
     ghost use Rattle.like_queue.specs.Line.{Taker};
-    ghost use Rattle.like_queue.specs.Rule.{Knows};
 
     ghost Value = { Taker };
 
-    ghost view = { λ e. record { line = e.line.now; taken = e.taken } };
+    ghost view = { λ e. e.pass };
 
-    ghost invariant = { λ e. let line = e.line.now in
-        (e.pass.table_id ≡ line.queue) × (e.pass.me.1 ≡ [])
-        × Knows (known_by e.pass) Takes line.plan e.taken };
+    ghost invariant = { λ e. e.pass.line ≡ e.line.now };
 }
 
 impl TakeEnd<'_> {
@@ -41,13 +34,12 @@ impl TakeEnd<'_> {
         ensures taken { HandsOver (inbox_of self.old) result (inbox_of self.new) }
     {
         let line = self.line;
-        if self.taken > line.plan.len() {
+        if self.pass.taken() > line.plan.len() {
             return Taken::End;
         }
-        let Some(item) = line.queue.pop_as::<Taking, R>(rt, &mut self.pass) else {
+        let Some(item) = self.pass.pop(rt, line) else {
             return Taken::Nothing;
         };
-        self.taken += 1;
         match item {
             Some(ask) => Taken::Ask(ask),
             None => Taken::End,

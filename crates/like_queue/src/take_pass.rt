@@ -1,9 +1,13 @@
-ghost use Rattle.std.specs.Prelude.{◌≡◌};
+ghost use Rattle.std.specs.Prelude.{◌≡◌, ◌≤◌, IfNone, IfSome, Some, slice_get};
+ghost use Rattle.like_queue.specs.Inbox.{item_count};
+ghost use Rattle.like_queue.specs.Line.{one_taken};
+ghost use Rattle.like_queue.specs.Rule.{items_of};
 
 use crate::line::Line;
-use crate::rule::QueuePass;
+use crate::rule::{Item, QueuePass, Taking};
 use crate::take_end::TakeEnd;
 use std::marker::Model;
+use std::sync::Wait;
 
 /// The right to take from a line. It borrows nothing, so any thread may take it.
 #[derive(Drop)]
@@ -38,7 +42,27 @@ impl TakePass {
         requires { self.line ≡ line.now }
         ensures { result ≡ self }
     {
-        let TakePass { pass, taken } = self;
-        TakeEnd { line, pass, taken }
+        TakeEnd { line, pass: self }
+    }
+
+    // How many items were taken.
+    pub(crate) fn taken(&self) -> usize
+        ensures taken { result ≡ self.now.taken }
+        ensures few { result ≤ item_count self.now.line.plan }
+    {
+        self.taken
+    }
+
+    // Takes the next item of the plan from its line, where the queue is not empty.
+    pub(crate) fn pop<R: Wait>(&mut self, rt: &R, line: &Line) -> Option<Item>
+        requires { self.old.line ≡ line.now }
+        ensures nothing { IfNone result (self.new ≡ self.old) }
+        ensures next { IfSome result (λ item.
+            (slice_get (items_of self.old.line.plan) self.old.taken ≡ Some item)
+            × (self.new ≡ one_taken self.old)) }
+    {
+        let item = line.queue.pop_as::<Taking, R>(rt, &mut self.pass)?;
+        self.taken += 1;
+        Some(item)
     }
 }
