@@ -1,5 +1,6 @@
 -- What the files of a run or a replay give, as far as their bytes are known.
-use Rattle.std.specs.Prelude.{◌≡◌, ◌-◌, ◌^◌, ℕ, List, [], map, min, take, slice_get, Option, Some, None, IsSomeAnd, option_map}
+use Rattle.std.specs.Prelude.{◌≡◌, ◌-◌, ◌^◌, ℕ, List, [], map, min, take, slice_get, Option, Some, None, IsSomeAnd, option_map, Result, MatchResult, Vec}
+use Rattle.std.specs.declared.alloc.Global.{Global}
 use Rattle.std.specs.Io.KnownBytes.{Appends}
 use Rattle.std.specs.List.{AllZip}
 use Rattle.like_records.specs.Reading.{records_of}
@@ -82,6 +83,12 @@ abbrev pub RefusesPlans : List Page → List (Option (List ℕ)) → DriverFault
 RefusesPlans pages sources (driver.Requests submitter fault) =
     (place : ℕ) × (submitter ≡ min place (2 ^ 32 - 1)) × IsFirstRefused pages sources place fault
 RefusesPlans pages sources fault = ⊥
+
+-- the answer of a reading of the request files: their plans, or why they give none
+abbrev pub ReadsPlans : List Page → List (Option (List ℕ)) → Result (Vec (Vec Request Global) Global) DriverFault → Type 0
+ReadsPlans pages sources answer =
+    MatchResult answer (λ plans. GivesPlans pages sources (map (λ plan. plan.items) plans.items))
+    (RefusesPlans pages sources)
 
 -- a pages file and request files give these values
 pub record GivesLists (file : Option (List ℕ)) (files : List (Option (List ℕ))) (pages : List Page) (plans : List (List Request)) : Type 0 where

@@ -1,5 +1,5 @@
 ghost use Rattle.std.specs.Prelude.{◌≡◌, ◌-◌, ◌<◌, ◌^◌, IfErr, MatchResult, Ok, OnOk, length, map, min};
-ghost use Rattle.like_files.specs.Inputs.{GivesPlan, GivesPlans, RefusesPlan, RefusesPlans};
+ghost use Rattle.like_files.specs.Inputs.{GivesPlan, ReadsPlans, RefusesPlan};
 ghost use Rattle.like_files.specs.Plans.{AddsPlan, IsFirstStop, Stops};
 
 use crate::fault::DriverFault;
@@ -16,9 +16,7 @@ pub fn read_plans<R: Read + Drop>(
     pages: &Pages,
     requests: Vec<R>,
 ) -> Result<Vec<Vec<Request>>, DriverFault>
-    ensures { let sources = map R.remaining requests.items in MatchResult result
-        (λ plans. GivesPlans pages.now sources (map (λ plan. plan.items) plans.items))
-        (RefusesPlans pages.now sources) }
+    ensures { ReadsPlans pages.now (map R.remaining requests.items) result }
 {
     let mut plans = Vec::new(alloc);
     for reader in requests {
@@ -36,9 +34,7 @@ pub fn read_plans_at_once<T: Threads + Sync, R: Read + Drop + Send>(
     pages: &Pages,
     requests: Vec<R>,
 ) -> Result<Vec<Vec<Request>>, DriverFault>
-    ensures { let sources = map R.remaining requests.items in MatchResult result
-        (λ plans. GivesPlans pages.now sources (map (λ plan. plan.items) plans.items))
-        (RefusesPlans pages.now sources) }
+    ensures { ReadsPlans pages.now (map R.remaining requests.items) result }
 {
     if requests.len() < 2 || requests.len() > MAX_SUBMITTERS {
         return read_plans(alloc, pages, requests);
