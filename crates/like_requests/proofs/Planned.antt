@@ -4,14 +4,14 @@ use Rattle.std.specs.List.{All}
 use Rattle.std.proofs.lemmas.List.{get_or-map, length-map}
 use Rattle.std.proofs.lemmas.List.Elements.{All-map}
 use Rattle.like_requests.specs.Limits.{max_requests}
-use Rattle.like_requests.specs.Setup.{AreNumbersWithin, Holds, IsPlan, IsWithinLimits}
+use Rattle.like_requests.specs.Setup.{AreNumbersWithin, Holds, IsHotLimit, IsPlan, IsWithinLimits}
 use Rattle.like_requests.specs.declared.request.Request.{Request}
 use Rattle.like_requests.specs.declared.setup.Setup.{Setup}
 use Rattle.like_requests.specs.declared.setup.SettingsFault.TheVariants.{Submitters}
 
 -- where the numbers and the lists are within the limits, every limit holds
-pub limits-hold : (s : Setup) (plans : List (List Request)) → AreNumbersWithin s (length plans) → All (IsPlan s.pages) plans → IsWithinLimits s plans
-limits-hold s plans n each = record {
+pub limits-hold : (s : Setup) (plans : List (List Request)) → AreNumbersWithin s (length plans) → All (IsPlan s.pages) plans → IsHotLimit s.hot → IsWithinLimits s plans
+limits-hold s plans n each hot = record {
   numbers = record {
     workers = n.0;
     submitters = subst (λ k. Holds s k Submitters) (sym (length-map plans length)) n.1.0;
@@ -21,6 +21,7 @@ limits-hold s plans n each = record {
   users = n.1.1.0;
   turns = n.1.1.1.1.0;
   there = λ k d h. (each k d h).there;
+  hot = hot;
 }
 
 -- where every limit holds, each list is within it

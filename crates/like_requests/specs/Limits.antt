@@ -37,6 +37,10 @@ max_stash = 4096
 abbrev pub max_turns : ℕ
 max_turns = 1000000
 
+-- the most likes that may be asked of a page before it is chosen as hot
+abbrev pub max_hot : ℕ
+max_hot = 1000000
+
 -- the most requests of a submitter
 abbrev pub max_requests : ℕ
 max_requests = 1000000

@@ -1,15 +1,16 @@
 -- The limits of a run.
-use Rattle.std.specs.Prelude.{◌≡◌, ◌⊎◌, ℕ, ◌<◌, ◌≤◌, List, [], ◌∷◌, length, map, All, ⊤}
+use Rattle.std.specs.Prelude.{◌≡◌, ◌⊎◌, ℕ, ◌<◌, ◌≤◌, List, [], ◌∷◌, length, map, All, Option, ⊤}
 use Rattle.std.specs.List.{AllByRecursion}
+use Rattle.std.specs.Option.{ForSome}
 use Rattle.like_records.specs.First.{FailsFirst, IsFirstBad}
 use Rattle.like_requests.specs.Pages.{Page}
 use Rattle.like_requests.specs.declared.request.PageRef.{PageRef}
 use Rattle.like_requests.specs.declared.request.PageRef.TheVariants.{Known, Unknown}
 use Rattle.like_requests.specs.declared.request.Request.{Request}
-use Rattle.like_requests.specs.Limits.{max_workers, max_submitters, max_users, max_stash, max_turns, max_requests}
+use Rattle.like_requests.specs.Limits.{max_workers, max_submitters, max_users, max_stash, max_turns, max_requests, max_hot}
 use Rattle.like_requests.specs.declared.setup.Setup.{Setup}
 use Rattle.like_requests.specs.declared.setup.SettingsFault.{SettingsFault}
-use Rattle.like_requests.specs.declared.setup.SettingsFault.TheVariants.{Workers, Submitters, Users, Stash, Turns, Plan, Script}
+use Rattle.like_requests.specs.declared.setup.SettingsFault.TheVariants.{Workers, Submitters, Users, Stash, Turns, Plan, Script, Hot}
 
 -- a page that a request knows is one of so many
 abbrev pub IsThere : ℕ → PageRef → Type 0
@@ -25,6 +26,10 @@ pub record IsPlan (pages : List Page) (plan : List Request) : Type 0 where
   pub few : length plan ≤ max_requests
   pub there : AreThere pages plan
 
+-- how many likes make a page hot, if any do
+abbrev pub IsHotLimit : Option ℕ → Type 0
+IsHotLimit hot = ForSome hot (λ least. (1 ≤ least) × (least ≤ max_hot))
+
 -- what the limit asks that is named by the fault of breaking it, where there are so many submitters
 abbrev pub Holds : Setup → ℕ → SettingsFault → Type 0
 Holds s submitters Workers = (1 ≤ s.workers) × (s.workers ≤ max_workers)
@@ -34,6 +39,7 @@ Holds s submitters Stash = (1 ≤ s.stash) × (s.stash ≤ max_stash)
 Holds s submitters Turns = s.turns ≤ max_turns
 Holds s submitters (Plan submitter) = ⊤
 Holds s submitters (Script at) = ⊤
+Holds s submitters Hot = IsHotLimit s.hot
 
 -- the limits on numbers, in the order of their tests
 abbrev pub number_limits : List SettingsFault
@@ -56,8 +62,11 @@ pub record IsWithinLimits (s : Setup) (plans : List (List Request)) : Type 0 whe
   pub users : Holds s (length plans) Users
   pub turns : Holds s (length plans) Turns
   pub there : All (AreThere s.pages) plans
+  pub hot : Holds s (length plans) Hot
 
--- the first limit that is broken: one on a number, or else that of the first list that is not within it
+-- the first limit that is broken: one on a number, or else that of the first list that is not within it, or else that of
+-- the likes that make a page hot
 abbrev pub IsFirstBroken : Setup → List (List Request) → SettingsFault → Type 0
 IsFirstBroken s plans fault = FailsFirst (Holds s (length plans)) number_limits fault
     ⊎ ((i : ℕ) × (fault ≡ Plan i) × AreNumbersWithin s (length plans) × IsFirstBad (IsPlan s.pages) plans i)
+    ⊎ ((fault ≡ Hot) × AreNumbersWithin s (length plans) × All (IsPlan s.pages) plans × ¬ IsHotLimit s.hot)

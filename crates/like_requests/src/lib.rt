@@ -14,7 +14,7 @@ pub use pages_file::{PagesFault, read_pages};
 pub use request::{Numbered, Op, PageRef, Request, Taken};
 pub use requests_file::{MAX_USER, RequestsFault, read_requests};
 pub use setup::{
-    MAX_REQUESTS, MAX_STASH, MAX_SUBMITTERS, MAX_TURNS, MAX_USERS, MAX_WORKERS, SettingsFault,
-    Setup, check_setup,
+    MAX_HOT, MAX_REQUESTS, MAX_STASH, MAX_SUBMITTERS, MAX_TURNS, MAX_USERS, MAX_WORKERS,
+    SettingsFault, Setup, check_setup,
 };
 pub use verdict::{Verdict, judge};

@@ -2,7 +2,7 @@ ghost use Rattle.std.specs.Prelude.{◌≡◌, ◌≤◌, ◌↔◌, List, IsTru
 ghost use Rattle.like_records.specs.First.{FailsFirst};
 ghost use Rattle.like_requests.specs.Limits.{max_submitters};
 ghost use Rattle.like_requests.specs.Pages.{Page};
-ghost use Rattle.like_requests.specs.Setup.{AreNumbersWithin, Holds, IsFirstBroken, IsPlan, IsWithinLimits, number_limits};
+ghost use Rattle.like_requests.specs.Setup.{AreNumbersWithin, Holds, IsFirstBroken, IsHotLimit, IsPlan, IsWithinLimits, number_limits};
 
 use crate::pages::Pages;
 use crate::request::{PageRef, Request};
@@ -23,6 +23,9 @@ pub const MAX_STASH: u32 = 4_096;
 /// The most turns that the coordinator may count in a phase.
 pub const MAX_TURNS: u32 = 1_000_000;
 
+/// The most likes that may be asked of a page before the coordinator chooses it as hot.
+pub const MAX_HOT: u32 = 1_000_000;
+
 /// The most requests of a submitter.
 pub const MAX_REQUESTS: u32 = 1_000_000;
 
@@ -37,6 +40,8 @@ pub struct Setup {
     pub stash: u32,
     /// How many turns the coordinator counts before it ends a phase: 0 to 1,000,000.
     pub turns: u32,
+    /// How many likes make a page hot, 1 to 1,000,000, where the coordinator is to choose hot pages.
+    pub hot: Option<u32>,
     pub pages: Pages,
 }
 
@@ -59,9 +64,13 @@ pub enum SettingsFault {
     /// The script's entry at this place, from 0, names a submitter or a worker that is not there.
     #[error("no such worker or submitter")]
     Script { at: u32 },
+    /// The number of likes that make a page hot. It is tested after the submitters' lists.
+    #[error("settings")]
+    Hot,
 }
 
-/// Tests the settings and the submitters' lists against every limit of a run, in the order of `SettingsFault`.
+/// Tests the settings and the submitters' lists against every limit of a run, in the order of `SettingsFault`, whose
+/// `Script` it never answers.
 pub fn check_setup(setup: &Setup, plans: &[Vec<Request>]) -> Result<(), SettingsFault>
     ensures { let lists = map (λ plan. plan.items) plans.now in
         MatchResult result (λ _. IsWithinLimits setup.now lists) (IsFirstBroken setup.now lists) }
@@ -75,6 +84,9 @@ pub fn check_setup(setup: &Setup, plans: &[Vec<Request>]) -> Result<(), Settings
                 submitter: submitter as u32,
             });
         }
+    }
+    if !is_hot_limit(setup.hot) {
+        return Err(SettingsFault::Hot);
     }
     Ok(())
 }
@@ -102,6 +114,16 @@ fn broken_number(setup: &Setup, submitters: usize) -> Option<SettingsFault>
         return Some(SettingsFault::Turns);
     }
     None
+}
+
+// Whether so many likes may be asked of a hot page.
+fn is_hot_limit(hot: Option<u32>) -> bool
+    ensures { IsTrue result ↔ IsHotLimit hot }
+{
+    match hot {
+        Some(least) => 1 <= least && least <= MAX_HOT,
+        None => true,
+    }
 }
 
 // Whether a list is within the limit and knows pages below `pages` alone.

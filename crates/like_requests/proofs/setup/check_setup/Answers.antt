@@ -30,3 +30,4 @@ returns c =
     limits-hold c.args.setup.now lists
     (subst (AreNumbersWithin c.args.setup.now) (sym many) c.in_default.ensures.broken)
     (λ k d h. c.loop-submitter.invariant k d (omega (arith, h, many)))
+    (λ least is. c.is_hot_limit.ensures.0 c.if-not-is_hot_limit.false least is)
