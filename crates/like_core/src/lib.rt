@@ -18,7 +18,7 @@ mod view;
 mod worker_state;
 
 pub use event::Event;
-pub use hot::is_hot;
+pub use hot::{HOT_PAGES, is_hot};
 pub use opening::Opening;
 pub use phase_word::{Kind, LAST_PHASE, PhaseWord};
 pub use post::Post;

@@ -8,12 +8,15 @@ use Rattle.like_core.specs.declared.sight.CoordSight.{CoordSight}
 use Rattle.like_core.specs.declared.view.CoordSeatView.{CoordSeatView}
 use Rattle.like_core.specs.declared.view.View.{View}
 use Rattle.like_core.specs.declared.view.View.TheVariants.{Coord}
+use Rattle.like_core.specs.Views.{announced_coord}
 use Rattle.like_core.specs.Phase.{last_phase, IsJoined, IsSplit}
 use Rattle.like_core.specs.Shows.{FitsCoord, IsStep}
 use Rattle.like_core.proofs.InPhase.{reached_in_phase}
 use Rattle.like_roles.specs.declared.coord_turn.CoordTurn.{CoordTurn}
 use Rattle.like_roles.specs.declared.coord_turn.CoordTurn.TheVariants.{Ended}
-use Rattle.like_roles.specs.CoordTurns.{Acts, ends, counts, stays, announces, releases, waits, CoordinatorView, CoordTurns, HasEndedJoined, IsBeforeEnd, IsCoordSight, looks, surveyed}
+use Rattle.like_roles.proofs.Choosing.{release-gone}
+use Rattle.like_roles.proofs.Releasing.{release-on}
+use Rattle.like_roles.specs.CoordTurns.{Acts, ends, counts, stays, announces, releases, waits, ChoseByCounts, CoordinatorView, CoordTurns, HasEndedJoined, IsBeforeEnd, IsCoordSight, looks, surveyed}
 
 -- no phase is above the last
 pub phase_within : (z : Opening) (shown : Shown) (c : CoordSeatView) (w : View) → IsStep z CoordLook shown (Coord c) w → c.phase ≤ last_phase
@@ -31,7 +34,7 @@ before_end v answer after t before = kept t.acts
     kept (counts g n l a e) = subst IsBeforeEnd (sym e) before
     kept (stays g n l k a e) = subst IsBeforeEnd (sym e) before
     kept (announces g n l k a e) = subst IsBeforeEnd (sym e) before
-    kept (releases g n i a e) = subst IsBeforeEnd (sym e) (λ _. g)
+    kept (releases g n i seat choice r a e) = subst IsBeforeEnd (sym e) (λ _. release-gone _ _ _ _ r ∙ g)
     kept (waits g n i a e) = subst IsBeforeEnd (sym e) before
 
 -- a phase that is not split is joined
@@ -55,7 +58,7 @@ ended_joined v answer after t before is = shown t.acts
     shown (counts g n l a e) = absurd (let clash = sym a ∙ is in cc)
     shown (stays g n l k a e) = absurd (let clash = sym a ∙ is in cc)
     shown (announces g n l k a e) = absurd (let clash = sym a ∙ is in cc)
-    shown (releases g n i a e) = absurd (let clash = sym a ∙ is in cc)
+    shown (releases g n i seat choice r a e) = absurd (let clash = sym a ∙ is in cc)
     shown (waits g n i a e) = absurd (let clash = sym a ∙ is in cc)
 
 -- the coordinator after a look
@@ -83,5 +86,23 @@ same_board v answer after t = kept t.acts
     kept (counts g n l a e) = ap (λ (x : CoordinatorView). x.board) e
     kept (stays g n l k a e) = ap (λ (x : CoordinatorView). x.board) e
     kept (announces g n l k a e) = ap (λ (x : CoordinatorView). x.board) e
-    kept (releases g n i a e) = ap (λ (x : CoordinatorView). x.board) e
+    kept (releases g n i seat choice r a e) = ap (λ (x : CoordinatorView). x.board) e
     kept (waits g n i a e) = ap (λ (x : CoordinatorView). x.board) e
+
+-- a turn keeps that it chose by its counts
+pub chose-on : (v : CoordinatorView) (answer : CoordTurn) (after : CoordinatorView) → CoordTurns v answer after → ChoseByCounts v → ChoseByCounts after
+chose-on v answer after t old = kept t.acts
+  where
+    looked : ChoseByCounts (surveyed v t.word t.sight)
+    looked total all = let h = old total all in record { masks = h.masks; chosen = h.chosen; sized = h.sized; before = h.before }
+
+    announced : ChoseByCounts (record (surveyed v t.word t.sight) { seat = announced_coord (surveyed v t.word t.sight).seat })
+    announced total all = let h = old total all in record { masks = h.masks; chosen = h.chosen; sized = h.sized; before = h.before }
+
+    kept : Acts (surveyed v t.word t.sight) t.sight answer after → ChoseByCounts after
+    kept (ends g a e) = subst ChoseByCounts (sym e) looked
+    kept (counts g n l a e) = subst ChoseByCounts (sym e) looked
+    kept (stays g n l k a e) = subst ChoseByCounts (sym e) looked
+    kept (announces g n l k a e) = subst ChoseByCounts (sym e) announced
+    kept (releases g n i seat choice r a e) = subst ChoseByCounts (sym e) (release-on (surveyed v t.word t.sight).seat seat v.choice choice r looked)
+    kept (waits g n i a e) = subst ChoseByCounts (sym e) looked

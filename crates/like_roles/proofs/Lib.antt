@@ -15,4 +15,6 @@ pub mod Shown
 pub mod RightCounts
 pub mod Started
 pub mod Tallied
+pub mod Choosing
+pub mod Releasing
 pub mod Coordinating

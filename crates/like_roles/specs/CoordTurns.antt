@@ -1,22 +1,24 @@
 -- The turns of the coordinator, case by case.
-use Rattle.std.specs.Prelude.{◌≡◌, ℕ, ◌-◌, ◌%◌, ◌<◌, ◌==◌, if◌then◌else◌, true, false, Some, IsSomeAnd}
+use Rattle.std.specs.Prelude.{◌≡◌, ℕ, ◌-◌, ◌<◌, true, false, IsSomeAnd}
 use Rattle.like_core.specs.declared.sight.CoordSight.{CoordSight}
 use Rattle.like_core.specs.declared.view.CoordSeatView.{CoordSeatView}
 use Rattle.like_core.specs.Phase.{last_phase, IsJoined, IsSplit}
 use Rattle.like_core.specs.Actions.{Surveys}
-use Rattle.like_core.specs.Views.{announced_coord, looked_coord, released_coord}
+use Rattle.like_core.specs.Views.{announced_coord, looked_coord}
 use Rattle.like_board.specs.Seats.{BoardId}
 use Rattle.like_roles.specs.declared.coord_turn.CoordTurn.{CoordTurn}
 use Rattle.like_roles.specs.declared.coord_turn.CoordTurn.TheVariants.{Counted, Announced, Waiting, Released, Ended, Stays}
+use Rattle.like_roles.specs.Choice.{AreTotals, ChoiceView, HasChosen, ReleasesNext}
 
 -- the coordinator as contracts see it: its board; what its seat knows; how many turns it counts in each phase, and how
--- many of them the present phase has left; and the phase of its last look
+-- many of them the present phase has left; the phase of its last look; and what it chooses hot pages by
 pub record CoordinatorView : Type 0 where
   pub board : BoardId
   pub seat : CoordSeatView
   pub turns : ℕ
   pub left : ℕ
   pub phase : ℕ
+  pub choice : ChoiceView
 
 -- what a look can show: the present phase, and whether it is ending; all in, once a look at this phase showed that; and
 -- all gone in a split phase only where the last sight before its release showed that
@@ -30,10 +32,6 @@ pub record IsCoordSight (c : CoordSeatView) (sight : CoordSight) : Type 0 where
 abbrev pub surveyed : CoordinatorView → ℕ → CoordSight → CoordinatorView
 surveyed v word sight = record v { seat = looked_coord v.seat word sight; phase = sight.number }
 
--- what its seat knows before a release: before that of a split phase it published that no page is hot
-abbrev pub prepared : CoordSeatView → CoordSeatView
-prepared c = record c { published = (if c.phase % 2 == 0 then Some 0 else c.published) }
-
 -- what the coordinator does that saw this: the answer, and the coordinator after
 pub data Acts (v : CoordinatorView) (sight : CoordSight) (answer : CoordTurn)
     (after : CoordinatorView) : Type 0 where
@@ -46,7 +44,8 @@ pub data Acts (v : CoordinatorView) (sight : CoordSight) (answer : CoordTurn)
       → answer ≡ Announced → after ≡ record v { seat = announced_coord v.seat }
       → Acts v sight answer after
   releases : sight.all_gone ≡ false → sight.ending ≡ true → sight.all_in ≡ true
-      → answer ≡ Released → after ≡ record v { seat = released_coord (prepared v.seat); left = v.turns }
+      → (seat : CoordSeatView) (choice : ChoiceView) → ReleasesNext v.seat v.choice seat choice
+      → answer ≡ Released → after ≡ record v { seat = seat; choice = choice; left = v.turns }
       → Acts v sight answer after
   waits : sight.all_gone ≡ false → sight.ending ≡ true → sight.all_in ≡ false
       → answer ≡ Waiting → after ≡ v → Acts v sight answer after
@@ -73,3 +72,8 @@ pub record HasEndedJoined (v : CoordinatorView) : Type 0 where
   pub gone : IsSomeAnd v.seat.last (λ sight. sight.all_gone ≡ true)
   pub phase : v.phase ≡ v.seat.phase
   pub joined : IsJoined v.phase
+
+-- it chose by the counts that it read
+abbrev pub ChoseByCounts : CoordinatorView → Type 0
+ChoseByCounts v =
+    (total : ℕ → ℕ → ℕ) → AreTotals total v.seat.counted → HasChosen v.seat v.choice total

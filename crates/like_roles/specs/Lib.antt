@@ -10,4 +10,6 @@ pub mod Desk
 pub mod Places
 pub mod New
 pub mod Follows
+pub mod HotPages
+pub mod Choice
 pub mod CoordTurns

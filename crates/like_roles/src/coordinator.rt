@@ -1,11 +1,18 @@
-ghost use Rattle.std.specs.Prelude.{◌≡◌};
+ghost use Rattle.std.specs.Prelude.{◌≡◌, ◌≤◌, [], IfErr, IfOk, length};
 ghost use Rattle.like_board.specs.Seats.{board_id, coord_board, coord_view};
-ghost use Rattle.like_core.specs.Views.{released_coord, SawAllIn};
-ghost use Rattle.like_roles.specs.CoordTurns.{CoordTurns, HasEndedJoined, IsBeforeEnd, prepared};
+ghost use Rattle.like_core.specs.Phase.{last_phase};
+ghost use Rattle.like_core.specs.Views.{SawAllIn};
+ghost use Rattle.like_roles.specs.Choice.{first_choice, ReleasesNext};
+ghost use Rattle.like_roles.specs.CoordTurns.{ChoseByCounts, CoordTurns, HasEndedJoined, IsBeforeEnd};
 
+mod choice;
+
+use self::choice::Choice;
+use crate::chosen::Chosen;
 use crate::coord_turn::CoordTurn;
 use like_board::{Board, CoordSeat};
 use like_core::LAST_PHASE;
+use std::alloc::Global;
 use std::marker::Model;
 
 /// The coordinator: it ends each phase after some turns, and releases the next when all workers have answered.
@@ -18,10 +25,13 @@ pub struct Coordinator {
     left: u32,
     /// The phase of its last look.
     phase: u32,
+    choice: Choice,
 }
 
 impl Model for Coordinator {
+    ghost use Rattle.std.specs.Prelude.{◌≡◌, length, min};
     ghost use Rattle.like_board.specs.Seats.{coord_board, coord_view};
+    ghost use Rattle.like_core.specs.Limits.{hot_pages};
     ghost use Rattle.like_roles.specs.CoordTurns.{CoordinatorView};
 
     ghost Value = { CoordinatorView };
@@ -32,39 +42,67 @@ impl Model for Coordinator {
       turns = c.turns;
       left = c.left;
       phase = c.phase;
+      choice = c.choice;
     } };
+
+    ghost invariant = { λ c. length c.choice.before ≡ min hot_pages (length (coord_view c.seat).opening.counts) };
 }
 
-// Releases the phase that follows this one; before that of a split phase it publishes that no page is hot.
-fn release(seat: &mut CoordSeat, board: &Board, phase: u32)
+/// There is no memory for a coordinator. The seat that was passed comes back.
+#[derive(Drop)]
+pub struct NoCoordinator {
+    pub seat: CoordSeat,
+}
+
+// Releases the phase that follows this one; before a split one it chooses that phase's hot pages.
+fn release(seat: &mut CoordSeat, choice: &mut Choice, board: &Board, phase: u32)
     requires here { coord_board seat.old ≡ board_id board.now }
     requires saw { SawAllIn (coord_view seat.old) }
     requires phase { phase ≡ (coord_view seat.old).phase }
+    requires within { phase ≤ last_phase }
+    requires there { length choice.old.before ≤ length (coord_view seat.old).opening.counts }
     ensures board { coord_board seat.new ≡ coord_board seat.old }
-    ensures view { coord_view seat.new ≡ released_coord (prepared (coord_view seat.old)) }
+    ensures releases { ReleasesNext (coord_view seat.old) choice.old (coord_view seat.new) choice.new }
 {
     if phase % 2 == 0 {
-        seat.publish(board, 0);
+        choice.choose(seat, board, phase);
     }
     seat.release(board);
 }
 
 impl Coordinator {
-    /// The coordinator that counts so many turns in each phase.
-    pub fn new(seat: CoordSeat, turns: u32) -> Coordinator
-        ensures { result ≡ record {
+    /// The coordinator that counts so many turns in each phase, of a board that was made with these counts. Where `hot`
+    /// is a number, a page is hot in a split phase if it got as many likes since the choice before. All its room is made
+    /// here: its turns take no memory.
+    pub fn new(
+        alloc: Global,
+        seat: CoordSeat,
+        turns: u32,
+        hot: Option<u32>,
+        counts: &[u64],
+    ) -> Result<Coordinator, NoCoordinator>
+        requires { counts.now ≡ (coord_view seat).opening.counts }
+        ensures new { IfOk result (λ coordinator. coordinator ≡ record {
           board = coord_board seat;
           seat = coord_view seat;
           turns = turns;
           left = turns;
           phase = 0;
-        } }
+          choice = first_choice hot counts.now;
+        }) }
+        ensures chose { IfOk result (λ coordinator. (coord_view seat).phase ≡ 0 → (coord_view seat).masks ≡ []
+            → ChoseByCounts coordinator) }
+        ensures seat { IfErr result (λ refused. refused.seat ≡ seat) }
     {
-        Coordinator {
-            seat,
-            turns,
-            left: turns,
-            phase: 0,
+        match Choice::new(alloc, hot, counts) {
+            Ok(choice) => Ok(Coordinator {
+                seat,
+                turns,
+                left: turns,
+                phase: 0,
+                choice,
+            }),
+            Err(_) => Err(NoCoordinator { seat }),
         }
     }
 
@@ -75,6 +113,7 @@ impl Coordinator {
         ensures board { self.new.board ≡ self.old.board }
         ensures keeps { IsBeforeEnd self.old → IsBeforeEnd self.new }
         ensures ended { IsBeforeEnd self.old → result ≡ CoordTurn.Ended → HasEndedJoined self.new }
+        ensures chose { ChoseByCounts self.old → ChoseByCounts self.new }
     {
         self.act(board)
     }
@@ -86,12 +125,13 @@ impl Coordinator {
         self.phase
     }
 
-    /// Gives the seat back.
-    pub fn finish(self) -> CoordSeat
-        ensures board { coord_board result ≡ self.board }
-        ensures view { coord_view result ≡ self.seat }
+    /// Gives the seat back, and the choices of some page in order.
+    pub fn finish(self) -> (CoordSeat, Vec<Chosen>)
+        ensures board { coord_board result.0 ≡ self.board }
+        ensures view { coord_view result.0 ≡ self.seat }
+        ensures chosen { result.1.items ≡ self.choice.chosen }
     {
-        self.seat
+        (self.seat, self.choice.chosen)
     }
 
     // Looks, and does what the sight asks for.
@@ -105,7 +145,7 @@ impl Coordinator {
             return CoordTurn::Ended;
         }
         if sight.ending && sight.all_in {
-            release(&mut self.seat, board, sight.number);
+            release(&mut self.seat, &mut self.choice, board, sight.number);
             self.left = self.turns;
             return CoordTurn::Released;
         }

@@ -5,6 +5,7 @@
 //! In-Memory Transactions" (OSDI 2014).
 #![tactic(auto)]
 
+mod chosen;
 mod coord_turn;
 mod coordinator;
 mod gate;
@@ -13,8 +14,9 @@ mod reply;
 mod turn;
 mod worker;
 
+pub use chosen::Chosen;
 pub use coord_turn::CoordTurn;
-pub use coordinator::Coordinator;
+pub use coordinator::{Coordinator, NoCoordinator};
 pub use gate::{Gate, NoGate};
 pub use log::{Ran, Took, WorkerLog};
 pub use reply::Reply;

@@ -12,14 +12,14 @@ returns-then-sight c =
     let inside = c.self.inside in
     let sight = c.look-sight.result in
     let known = coord_view c.look-sight.new.self in
-    let v : CoordinatorView = record { board = coord_board inside.seat; seat = coord_view inside.seat; turns = inside.turns; left = inside.left; phase = inside.phase } in
-    let w : CoordinatorView = record { board = coord_board c.look-sight.new.self; seat = known; turns = inside.turns; left = inside.left; phase = sight.number } in
+    let v : CoordinatorView = record { board = coord_board inside.seat; seat = coord_view inside.seat; turns = inside.turns; left = inside.left; phase = inside.phase; choice = inside.choice } in
+    let w : CoordinatorView = record { board = coord_board c.look-sight.new.self; seat = known; turns = inside.turns; left = inside.left; phase = sight.number; choice = inside.choice } in
     let looked : Looked v w sight = record {
       shows = record { number = c.look-sight.ensures.number; ending = c.look-sight.ensures.ending; all_in = c.look-sight.ensures.all_in; all_gone = c.look-sight.ensures.all_gone };
       event = c.look-sight.ensures.event;
-      is = λ m. record { board = c.look-sight.ensures.board m; seat = c.look-sight.ensures.view m; turns = inside.turns; left = inside.left; phase = sight.number };
+      is = λ m. record { board = c.look-sight.ensures.board m; seat = c.look-sight.ensures.view m; turns = inside.turns; left = inside.left; phase = sight.number; choice = inside.choice };
     } in
-    let after : CoordinatorView = record { board = coord_board c.look-sight.new.self; seat = coord_view c.look-sight.new.self; turns = inside.turns; left = inside.left; phase = sight.number } in
+    let after : CoordinatorView = record { board = coord_board c.look-sight.new.self; seat = coord_view c.look-sight.new.self; turns = inside.turns; left = inside.left; phase = sight.number; choice = inside.choice } in
     subst (λ (x : CoordinatorView). CoordTurns x turn.Ended after) c.self.view_is
     (by_case v w sight turn.Ended after looked (ends c.if-sight.true refl refl))
 
@@ -28,30 +28,30 @@ returns-then-sight-3 c =
     let inside = c.self.inside in
     let sight = c.look-sight.result in
     let known = coord_view c.look-sight.new.self in
-    let v : CoordinatorView = record { board = coord_board inside.seat; seat = coord_view inside.seat; turns = inside.turns; left = inside.left; phase = inside.phase } in
-    let w : CoordinatorView = record { board = coord_board c.look-sight.new.self; seat = known; turns = inside.turns; left = inside.left; phase = sight.number } in
+    let v : CoordinatorView = record { board = coord_board inside.seat; seat = coord_view inside.seat; turns = inside.turns; left = inside.left; phase = inside.phase; choice = inside.choice } in
+    let w : CoordinatorView = record { board = coord_board c.look-sight.new.self; seat = known; turns = inside.turns; left = inside.left; phase = sight.number; choice = inside.choice } in
     let looked : Looked v w sight = record {
       shows = record { number = c.look-sight.ensures.number; ending = c.look-sight.ensures.ending; all_in = c.look-sight.ensures.all_in; all_gone = c.look-sight.ensures.all_gone };
       event = c.look-sight.ensures.event;
-      is = λ m. record { board = c.look-sight.ensures.board m; seat = c.look-sight.ensures.view m; turns = inside.turns; left = inside.left; phase = sight.number };
+      is = λ m. record { board = c.look-sight.ensures.board m; seat = c.look-sight.ensures.view m; turns = inside.turns; left = inside.left; phase = sight.number; choice = inside.choice };
     } in
-    let after : CoordinatorView = record { board = coord_board c.release.new.seat; seat = coord_view c.release.new.seat; turns = inside.turns; left = inside.turns; phase = sight.number } in
+    let after : CoordinatorView = record { board = coord_board c.release.new.seat; seat = coord_view c.release.new.seat; turns = inside.turns; left = inside.turns; phase = sight.number; choice = c.release.new.choice } in
     subst (λ (x : CoordinatorView). CoordTurns x turn.Released after) c.self.view_is
-    (by_case v w sight turn.Released after looked (releases c.if-sight.false c.if-sight-2.true c.if-sight-3.true refl (λ m. record w { board = c.release.ensures.board m; seat = c.release.ensures.view m; left = inside.turns })))
+    (by_case v w sight turn.Released after looked (releases c.if-sight.false c.if-sight-2.true c.if-sight-3.true (coord_view c.release.new.seat) c.release.new.choice c.release.ensures.releases refl (λ m. record after { board = c.release.ensures.board m })))
 
 pub returns-then-sight-4 : goal.returns-then-sight-4
 returns-then-sight-4 c =
     let inside = c.self.inside in
     let sight = c.look-sight.result in
     let known = coord_view c.look-sight.new.self in
-    let v : CoordinatorView = record { board = coord_board inside.seat; seat = coord_view inside.seat; turns = inside.turns; left = inside.left; phase = inside.phase } in
-    let w : CoordinatorView = record { board = coord_board c.look-sight.new.self; seat = known; turns = inside.turns; left = inside.left; phase = sight.number } in
+    let v : CoordinatorView = record { board = coord_board inside.seat; seat = coord_view inside.seat; turns = inside.turns; left = inside.left; phase = inside.phase; choice = inside.choice } in
+    let w : CoordinatorView = record { board = coord_board c.look-sight.new.self; seat = known; turns = inside.turns; left = inside.left; phase = sight.number; choice = inside.choice } in
     let looked : Looked v w sight = record {
       shows = record { number = c.look-sight.ensures.number; ending = c.look-sight.ensures.ending; all_in = c.look-sight.ensures.all_in; all_gone = c.look-sight.ensures.all_gone };
       event = c.look-sight.ensures.event;
-      is = λ m. record { board = c.look-sight.ensures.board m; seat = c.look-sight.ensures.view m; turns = inside.turns; left = inside.left; phase = sight.number };
+      is = λ m. record { board = c.look-sight.ensures.board m; seat = c.look-sight.ensures.view m; turns = inside.turns; left = inside.left; phase = sight.number; choice = inside.choice };
     } in
-    let after : CoordinatorView = record { board = coord_board c.look-sight.new.self; seat = coord_view c.look-sight.new.self; turns = inside.turns; left = inside.left; phase = sight.number } in
+    let after : CoordinatorView = record { board = coord_board c.look-sight.new.self; seat = coord_view c.look-sight.new.self; turns = inside.turns; left = inside.left; phase = sight.number; choice = inside.choice } in
     let not_in : sight.all_in ≡ false = elim c.else-sight-2.branch [
       | else-sight-2-via-then-sight-2+else-sight-3 x ↦ x.if-sight-3.false
       | else-sight-2-via-else-sight-2 x ↦ let clash : true ≡ false = sym c.if-sight-4.true ∙ x.if-sight-2.false in cc
@@ -64,14 +64,14 @@ returns-then-self-gt0 c =
     let inside = c.self.inside in
     let sight = c.look-sight.result in
     let known = coord_view c.look-sight.new.self in
-    let v : CoordinatorView = record { board = coord_board inside.seat; seat = coord_view inside.seat; turns = inside.turns; left = inside.left; phase = inside.phase } in
-    let w : CoordinatorView = record { board = coord_board c.look-sight.new.self; seat = known; turns = inside.turns; left = inside.left; phase = sight.number } in
+    let v : CoordinatorView = record { board = coord_board inside.seat; seat = coord_view inside.seat; turns = inside.turns; left = inside.left; phase = inside.phase; choice = inside.choice } in
+    let w : CoordinatorView = record { board = coord_board c.look-sight.new.self; seat = known; turns = inside.turns; left = inside.left; phase = sight.number; choice = inside.choice } in
     let looked : Looked v w sight = record {
       shows = record { number = c.look-sight.ensures.number; ending = c.look-sight.ensures.ending; all_in = c.look-sight.ensures.all_in; all_gone = c.look-sight.ensures.all_gone };
       event = c.look-sight.ensures.event;
-      is = λ m. record { board = c.look-sight.ensures.board m; seat = c.look-sight.ensures.view m; turns = inside.turns; left = inside.left; phase = sight.number };
+      is = λ m. record { board = c.look-sight.ensures.board m; seat = c.look-sight.ensures.view m; turns = inside.turns; left = inside.left; phase = sight.number; choice = inside.choice };
     } in
-    let after : CoordinatorView = record { board = coord_board c.look-sight.new.self; seat = coord_view c.look-sight.new.self; turns = inside.turns; left = inside.left - 1; phase = sight.number } in
+    let after : CoordinatorView = record { board = coord_board c.look-sight.new.self; seat = coord_view c.look-sight.new.self; turns = inside.turns; left = inside.left - 1; phase = sight.number; choice = inside.choice } in
     subst (λ (x : CoordinatorView). CoordTurns x turn.Counted after) c.self.view_is
     (by_case v w sight turn.Counted after looked (counts c.if-sight.false c.if-sight-4.false c.if-self-gt0.true refl refl))
 
@@ -80,14 +80,14 @@ returns-then-sight-eq-LAST_PHASE c =
     let inside = c.self.inside in
     let sight = c.look-sight.result in
     let known = coord_view c.look-sight.new.self in
-    let v : CoordinatorView = record { board = coord_board inside.seat; seat = coord_view inside.seat; turns = inside.turns; left = inside.left; phase = inside.phase } in
-    let w : CoordinatorView = record { board = coord_board c.look-sight.new.self; seat = known; turns = inside.turns; left = inside.left; phase = sight.number } in
+    let v : CoordinatorView = record { board = coord_board inside.seat; seat = coord_view inside.seat; turns = inside.turns; left = inside.left; phase = inside.phase; choice = inside.choice } in
+    let w : CoordinatorView = record { board = coord_board c.look-sight.new.self; seat = known; turns = inside.turns; left = inside.left; phase = sight.number; choice = inside.choice } in
     let looked : Looked v w sight = record {
       shows = record { number = c.look-sight.ensures.number; ending = c.look-sight.ensures.ending; all_in = c.look-sight.ensures.all_in; all_gone = c.look-sight.ensures.all_gone };
       event = c.look-sight.ensures.event;
-      is = λ m. record { board = c.look-sight.ensures.board m; seat = c.look-sight.ensures.view m; turns = inside.turns; left = inside.left; phase = sight.number };
+      is = λ m. record { board = c.look-sight.ensures.board m; seat = c.look-sight.ensures.view m; turns = inside.turns; left = inside.left; phase = sight.number; choice = inside.choice };
     } in
-    let after : CoordinatorView = record { board = coord_board c.look-sight.new.self; seat = coord_view c.look-sight.new.self; turns = inside.turns; left = inside.left; phase = sight.number } in
+    let after : CoordinatorView = record { board = coord_board c.look-sight.new.self; seat = coord_view c.look-sight.new.self; turns = inside.turns; left = inside.left; phase = sight.number; choice = inside.choice } in
     subst (λ (x : CoordinatorView). CoordTurns x turn.Stays after) c.self.view_is
     (by_case v w sight turn.Stays after looked (stays c.if-sight.false c.if-sight-4.false (omega arith) c.if-sight-eq-LAST_PHASE.true refl refl))
 
@@ -96,14 +96,14 @@ returns c =
     let inside = c.self.inside in
     let sight = c.look-sight.result in
     let known = coord_view c.look-sight.new.self in
-    let v : CoordinatorView = record { board = coord_board inside.seat; seat = coord_view inside.seat; turns = inside.turns; left = inside.left; phase = inside.phase } in
-    let w : CoordinatorView = record { board = coord_board c.look-sight.new.self; seat = known; turns = inside.turns; left = inside.left; phase = sight.number } in
+    let v : CoordinatorView = record { board = coord_board inside.seat; seat = coord_view inside.seat; turns = inside.turns; left = inside.left; phase = inside.phase; choice = inside.choice } in
+    let w : CoordinatorView = record { board = coord_board c.look-sight.new.self; seat = known; turns = inside.turns; left = inside.left; phase = sight.number; choice = inside.choice } in
     let looked : Looked v w sight = record {
       shows = record { number = c.look-sight.ensures.number; ending = c.look-sight.ensures.ending; all_in = c.look-sight.ensures.all_in; all_gone = c.look-sight.ensures.all_gone };
       event = c.look-sight.ensures.event;
-      is = λ m. record { board = c.look-sight.ensures.board m; seat = c.look-sight.ensures.view m; turns = inside.turns; left = inside.left; phase = sight.number };
+      is = λ m. record { board = c.look-sight.ensures.board m; seat = c.look-sight.ensures.view m; turns = inside.turns; left = inside.left; phase = sight.number; choice = inside.choice };
     } in
-    let after : CoordinatorView = record { board = coord_board c.announce.new.self; seat = coord_view c.announce.new.self; turns = inside.turns; left = inside.left; phase = sight.number } in
+    let after : CoordinatorView = record { board = coord_board c.announce.new.self; seat = coord_view c.announce.new.self; turns = inside.turns; left = inside.left; phase = sight.number; choice = inside.choice } in
     let within = phase_within _ _ _ _ c.look-sight.ensures.event in
     let number = c.look-sight.ensures.number in
     let other = c.if-sight-eq-LAST_PHASE.false in

@@ -1,4 +1,4 @@
-use Rattle.like_roles.proofs.Coordinating.{before_end, ended_joined, same_board}
+use Rattle.like_roles.proofs.Coordinating.{before_end, chose-on, ended_joined, same_board}
 use Rattle.like_roles.proofs.coordinator.Coordinator.turn.Goals as goal
 
 pub returns : goal.returns
@@ -7,4 +7,5 @@ returns c = record {
   board = same_board _ _ _ c.act.ensures;
   keeps = before_end _ _ _ c.act.ensures;
   ended = ended_joined _ _ _ c.act.ensures;
+  chose = chose-on _ _ _ c.act.ensures;
 }

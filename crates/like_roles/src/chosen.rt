@@ -1,0 +1,6 @@
+/// The hot pages that the coordinator chose for a split phase: bit `p` of the mask is that of page `p`.
+#[derive(Clone, Copy, Debug, PartialEq, Eq)]
+pub struct Chosen {
+    pub phase: u32,
+    pub mask: u64,
+}
