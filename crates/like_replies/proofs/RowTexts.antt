@@ -8,7 +8,7 @@ use Rattle.like_requests.specs.declared.verdict.Verdict.TheVariants.{OtherHome, 
 use Rattle.like_roles.specs.declared.reply.Reply.TheVariants.{Refused, Seen}
 use Rattle.like_replies.specs.declared.answer.Answer.{Answer}
 use Rattle.like_replies.specs.RowParts.{reply_start, shown_text}
-use Rattle.like_replies.specs.Rows.{answer_word, name_of, page_row, reply_row, shown_count, shown_page, user_row}
+use Rattle.like_replies.specs.Rows.{answer_word, hot_row, name_of, page_row, reply_row, shown_count, shown_page, user_row}
 
 -- the text of a number
 abbrev pub number_text : ℕ → List ℕ
@@ -78,3 +78,13 @@ pub user-text : (pages : List Page) (user page : ℕ)
     → row_text default_writer (user_row pages user page) ≡ codes "user," ++ (number_text user ++ (codes ",,,," ++ (name_text pages page ++ codes ",\n")))
 unfolding fields_text is_blank
 user-text pages user page = ap (λ t. codes "user," ++ t) (user_in_parts (number_text user) (name_text pages page))
+
+-- the row of a hot page
+hot_in_parts : (page phase name : List ℕ)
+    → (page ++ 44 ∷ 44 ∷ (phase ++ 44 ∷ 44 ∷ (name ++ 44 ∷ []))) ++ 10 ∷ [] ≡ page ++ 44 ∷ 44 ∷ (phase ++ 44 ∷ 44 ∷ (name ++ 44 ∷ 10 ∷ []))
+hot_in_parts page phase name = simp append_assoc
+
+pub hot-text : (pages : List Page) (phase page : ℕ)
+    → row_text default_writer (hot_row pages phase page) ≡ codes "hot," ++ (number_text page ++ (codes ",," ++ (number_text phase ++ (codes ",," ++ (name_text pages page ++ codes ",\n")))))
+unfolding fields_text is_blank
+hot-text pages phase page = ap (λ t. codes "hot," ++ t) (hot_in_parts (number_text page) (number_text phase) (name_text pages page))

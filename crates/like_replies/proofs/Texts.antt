@@ -1,19 +1,22 @@
 -- How the text of rows grows, and what was written of it.
-use Rattle.std.proofs.Common.{◌≡◌, ℕ, suc, ◌+◌, List, [], ◌∷◌, ◌++◌, length, map, Option, None, Some, sym, ap, ◌∙◌, arith, append_assoc, append-nil, zero-add, get_or, subst, ◌<◌, All}
+use Rattle.std.proofs.Common.{◌≡◌, ℕ, suc, ◌+◌, cond, refl, List, [], ◌∷◌, ◌++◌, length, map, Option, None, Some, sym, ap, ◌∙◌, arith, append_assoc, append-nil, zero-add, get_or, subst, ◌<◌, All}
 use Rattle.std.proofs.KnownBytes.{Appends-trans, Appends-kept}
 use Rattle.std.proofs.lemmas.Grind.{flat_map-append}
-use Rattle.std.proofs.lemmas.List.{length-map, map-append}
+use Rattle.std.proofs.lemmas.List.{length-map, map-append, map-id}
+use Rattle.std.proofs.lemmas.List.FromFn.{map-range_with_len_more}
 use Rattle.std.proofs.Math.ListN.{get_or-map}
-use Rattle.std.proofs.lemmas.List.Elements.{filter_map-append}
+use Rattle.std.proofs.lemmas.List.Elements.{filter-append, filter_map-append}
 use Rattle.std.specs.Io.KnownBytes.{Appends, Keeps, append_known}
-use Rattle.std.specs.List.{enumerate_from, filter_map, flat_map}
+use Rattle.std.specs.List.{enumerate_from, filter, filter_map, flat_map, range_with_len}
 use Rattle.std.proofs.Common.{option_map}
 use Rattle.csv.specs.Writing.{default_writer, row_text}
 use Rattle.like_requests.specs.Pages.{Page}
+use Rattle.like_core.specs.Phase.{is_hot}
+use Rattle.like_roles.specs.declared.chosen.Chosen.{Chosen}
 use Rattle.like_replies.specs.declared.answer.Answer.{Answer}
 use Rattle.like_replies.specs.Reported.{Reported}
 use Rattle.like_replies.specs.RowParts.{WritesRows}
-use Rattle.like_replies.specs.Rows.{header_row, page_row, page_rows, reply_row, reply_rows, report_text, rows_text, submitter_rows, user_row, user_rows}
+use Rattle.like_replies.specs.Rows.{header_row, hot_row, hot_rows, hot_rows_below, page_row, page_rows, reply_row, reply_rows, report_text, rows_text, submitter_rows, user_row, user_rows}
 
 -- an element at the end has the place after the others
 pub enumerate_from-push : {X : Type 0} (n : ℕ) (xs : List X) (x : X) → enumerate_from n (xs ++ x ∷ []) ≡ enumerate_from n xs ++ (n + length xs, x) ∷ []
@@ -57,6 +60,20 @@ reply_rows-push pages replies answers =
     let e : enumerate_from 0 (replies ++ answers ∷ []) ≡ enumerate_from 0 replies ++ (length replies, answers) ∷ [] = simp (enumerate_from-push, zero-add) in
     ap (flat_map (λ p. submitter_rows pages p.0 p.1)) e ∙ flat_map-append (λ p. submitter_rows pages p.0 p.1) (enumerate_from 0 replies) ((length replies, answers) ∷ []) ∙ ap (λ r. reply_rows pages replies ++ r) (append-nil (submitter_rows pages (length replies) answers))
 
+-- the rows of one more page, where it is hot and where it is not
+range-more : (a n : ℕ) → range_with_len a (n + 1) ≡ range_with_len a n ++ (a + n) ∷ []
+range-more a n = sym (map-id (range_with_len a (n + 1))) ∙ map-range_with_len_more (λ (k : ℕ). k) a n (a + n) refl ∙ ap (λ xs. xs ++ (a + n) ∷ []) (map-id (range_with_len a n))
+
+pub hot_rows-more : (pages : List Page) (c : Chosen) (page : ℕ) → hot_rows_below pages c (page + 1) ≡ hot_rows_below pages c page ++ map (hot_row pages c.phase) (cond (is_hot c.mask page) (page ∷ []) [])
+hot_rows-more pages c page =
+    ap (λ xs. map (hot_row pages c.phase) (filter (is_hot c.mask) xs)) (range-more 0 page ∙ ap (λ k. range_with_len 0 page ++ k ∷ []) (zero-add page))
+    ∙ ap (map (hot_row pages c.phase)) (filter-append (is_hot c.mask) (range_with_len 0 page) (page ∷ []))
+    ∙ map-append (hot_row pages c.phase) (filter (is_hot c.mask) (range_with_len 0 page)) (cond (is_hot c.mask page) (page ∷ []) [])
+
+-- the rows of one more phase
+pub hot_rows-push : (pages : List Page) (hot : List Chosen) (c : Chosen) → hot_rows pages (hot ++ c ∷ []) ≡ hot_rows pages hot ++ hot_rows_below pages c (length pages)
+hot_rows-push pages hot c = flat_map-append (λ (x : Chosen). hot_rows_below pages x (length pages)) hot (c ∷ []) ∙ ap (λ r. hot_rows pages hot ++ r) (append-nil (hot_rows_below pages c (length pages)))
+
 -- text that is added to a sheet follows what was known and what the sheet had
 pub Appends-added : (known : Option (List ℕ)) (sheet text more : List ℕ) → more ≡ sheet ++ text → Appends (append_known known sheet) (append_known known more) text
 Appends-added None sheet text more e = tt
@@ -87,17 +104,17 @@ Appends-handed (Some x) None c sheet text p q = absurd p
 Appends-handed (Some x) (Some y) None sheet text p q = absurd q
 Appends-handed (Some x) (Some y) (Some z) sheet text p q = q ∙ p
 
--- the header, the requests, the pages and the users were written, the rest was handed on, and the writer was flushed
+-- the header, the requests, the pages, the users and the hot pages were written, the rest was handed on, and the writer was flushed
 pub Appends-report : (pages : List Page) (r : Reported) (start a b known handed done : Option (List ℕ)) (sheet : List ℕ)
-    → Appends (append_known start []) a (row_text default_writer header_row) → Appends a b (rows_text (reply_rows pages r.replies)) → Appends b (append_known known sheet) (rows_text (page_rows pages r.counts ++ user_rows pages r.last))
+    → Appends (append_known start []) a (row_text default_writer header_row) → Appends a b (rows_text (reply_rows pages r.replies)) → Appends b (append_known known sheet) (rows_text (page_rows pages r.counts ++ user_rows pages r.last ++ hot_rows pages r.hot))
     → Appends known handed sheet → Keeps handed done → Appends start done (report_text pages r)
 Appends-report pages r start a b known handed done sheet header replies others given flushed =
-    let rest : List (List (List ℕ)) = page_rows pages r.counts ++ user_rows pages r.last in
+    let rest : List (List (List ℕ)) = page_rows pages r.counts ++ user_rows pages r.last ++ hot_rows pages r.hot in
     let rows = Appends-rows a b (append_known known sheet) (reply_rows pages r.replies) rest replies others in
     let all = Appends-trans (append_known start []) a (append_known known sheet) (row_text default_writer header_row) (rows_text (reply_rows pages r.replies ++ rest)) header rows in
     let text : List ℕ = row_text default_writer header_row ++ rows_text (reply_rows pages r.replies ++ rest) in
     let out = Appends-handed start known handed sheet text (Appends-from_empty start (append_known known sheet) text all) given in
-    let same : text ≡ report_text pages r = ap (λ rows. row_text default_writer header_row ++ rows_text rows) (sym (append_assoc (reply_rows pages r.replies) (page_rows pages r.counts) (user_rows pages r.last))) in
+    let same : text ≡ report_text pages r = ap (λ rows. row_text default_writer header_row ++ rows_text rows) (sym (append_assoc (reply_rows pages r.replies ++ page_rows pages r.counts) (user_rows pages r.last) (hot_rows pages r.hot) ∙ append_assoc (reply_rows pages r.replies) (page_rows pages r.counts) (user_rows pages r.last ++ hot_rows pages r.hot) ∙ ap (λ t. reply_rows pages r.replies ++ t) (sym (append_assoc (page_rows pages r.counts) (user_rows pages r.last) (hot_rows pages r.hot))))) in
     rw (← same) (Appends-kept start handed done text out flushed)
 
 -- a fact of each image holds of the image of an element

@@ -1,14 +1,18 @@
 -- What a report's text shows of it, as lists.
 use Rattle.std.specs.Prelude.{ℕ, List, Option}
+use Rattle.like_roles.specs.declared.chosen.Chosen.{Chosen}
 use Rattle.like_replies.specs.declared.answer.Answer.{Answer}
 use Rattle.like_replies.specs.declared.report.Report.{Report}
 use Rattle.like_replies.specs.Collected.{rows_of}
 
--- the answers by submitter and number, the final count of each page, and the page of each user's last like
+-- the answers by submitter and number, the final count of each page, the page of each user's last like, and the phases
+-- with hot pages
 pub record Reported : Type 0 where
   pub replies : List (List Answer)
   pub counts : List ℕ
   pub last : List (Option ℕ)
+  pub hot : List Chosen
 
 abbrev pub reported : Report → Reported
-reported r = record { replies = rows_of r.replies; counts = r.counts.items; last = r.last.items }
+reported r =
+    record { replies = rows_of r.replies; counts = r.counts.items; last = r.last.items; hot = r.hot.items }

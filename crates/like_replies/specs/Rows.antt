@@ -1,11 +1,13 @@
 -- The rows of a report, and their text.
-use Rattle.std.specs.Prelude.{◌≡◌, ◌≢◌, ◌<◌, ⊤, ℕ, All, length, List, [], ◌∷◌, ◌++◌, map, codes, decimal, slice_get, Option, option_map}
-use Rattle.std.specs.List.{enumerate_from, filter_map, flat_map}
+use Rattle.std.specs.Prelude.{◌≡◌, ◌≢◌, ◌<◌, ⊤, ℕ, All, length, List, [], ◌∷◌, ◌++◌, map, filter, codes, decimal, slice_get, Option, option_map}
+use Rattle.std.specs.List.{enumerate_from, filter_map, flat_map, range_with_len}
 use Rattle.std.specs.Option.{ForSome, option_map_or}
 use Rattle.csv.specs.Writing.{default_writer, row_text}
 use Rattle.like_requests.specs.Pages.{Page}
 use Rattle.like_requests.specs.declared.verdict.Verdict.{Verdict}
 use Rattle.like_requests.specs.declared.verdict.Verdict.TheVariants.{Accepted, UnknownUser, OtherHome, UnknownPage}
+use Rattle.like_core.specs.Phase.{is_hot}
+use Rattle.like_roles.specs.declared.chosen.Chosen.{Chosen}
 use Rattle.like_roles.specs.declared.reply.Reply.{Reply}
 use Rattle.like_roles.specs.declared.reply.Reply.TheVariants.{Liked, Seen, Refused}
 use Rattle.like_replies.specs.declared.answer.Answer.{Answer}
@@ -57,6 +59,11 @@ page_row pages page count =
 abbrev pub user_row : List Page → ℕ → ℕ → List (List ℕ)
 user_row pages user page = codes "user" ∷ decimal user ∷ [] ∷ [] ∷ [] ∷ name_of pages page ∷ [] ∷ []
 
+-- the row of a page that is hot in a phase
+abbrev pub hot_row : List Page → ℕ → ℕ → List (List ℕ)
+hot_row pages phase page =
+    codes "hot" ∷ decimal page ∷ [] ∷ decimal phase ∷ [] ∷ name_of pages page ∷ [] ∷ []
+
 -- the rows of a submitter's requests, by their numbers from 1
 abbrev pub submitter_rows : List Page → ℕ → List Answer → List (List (List ℕ))
 submitter_rows pages submitter answers = map (λ p. reply_row pages submitter p.0 p.1) (enumerate_from 1 answers)
@@ -73,9 +80,18 @@ page_rows pages counts = map (λ p. page_row pages p.0 p.1) (enumerate_from 0 co
 abbrev pub user_rows : List Page → List (Option ℕ) → List (List (List ℕ))
 user_rows pages last = filter_map (λ p. option_map (user_row pages p.0) p.1) (enumerate_from 0 last)
 
--- the rows of a report: the header, the requests, the pages, the users
+-- the rows of a phase's hot pages, of the first so many pages
+abbrev pub hot_rows_below : List Page → Chosen → ℕ → List (List (List ℕ))
+hot_rows_below pages c below = map (hot_row pages c.phase) (filter (is_hot c.mask) (range_with_len 0 below))
+
+-- the rows of the hot pages, by phase
+abbrev pub hot_rows : List Page → List Chosen → List (List (List ℕ))
+hot_rows pages hot = flat_map (λ c. hot_rows_below pages c (length pages)) hot
+
+-- the rows of a report: the header, the requests, the pages, the users, the hot pages
 abbrev pub report_rows : List Page → Reported → List (List (List ℕ))
-report_rows pages r = header_row ∷ (reply_rows pages r.replies ++ page_rows pages r.counts ++ user_rows pages r.last)
+report_rows pages r =
+    header_row ∷ (reply_rows pages r.replies ++ page_rows pages r.counts ++ user_rows pages r.last ++ hot_rows pages r.hot)
 
 -- the text of rows
 abbrev pub rows_text : List (List (List ℕ)) → List ℕ

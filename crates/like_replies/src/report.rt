@@ -4,7 +4,7 @@ mod sheet;
 pub(crate) mod text;
 
 use crate::replies::Replies;
-use like_roles::WorkerLog;
+use like_roles::{Chosen, WorkerLog};
 
 /// What a run reports.
 #[derive(Debug, Drop)]
@@ -18,4 +18,6 @@ pub struct Report {
     pub last: Vec<Option<u32>>,
     /// The phase in which the run ended.
     pub phases: u32,
+    /// The phases with hot pages, rising, each with the mask of its own.
+    pub hot: Vec<Chosen>,
 }

@@ -2,7 +2,7 @@ ghost use Rattle.std.specs.Prelude.{◌≡◌, ◌<◌, ◌++◌, ℕ, List, IfO
 ghost use Rattle.csv.specs.Writing.{default_writer, row_text};
 ghost use Rattle.like_requests.specs.Pages.{Page};
 ghost use Rattle.like_roles.specs.declared.reply.Reply.TheVariants.{Refused};
-ghost use Rattle.like_replies.specs.Rows.{IsAnswer, IsShowable, header_row, page_row, reply_row, user_row};
+ghost use Rattle.like_replies.specs.Rows.{IsAnswer, IsShowable, header_row, hot_row, page_row, reply_row, user_row};
 ghost use Rattle.like_replies.specs.RowParts.{reply_start, shown_text};
 
 use crate::answer::Answer;
@@ -107,6 +107,21 @@ pub fn add_user(sheet: &mut Sheet, names: &Names, user: u64, page: u32) -> Resul
     sheet.add(b"user,")?;
     sheet.add_number(user)?;
     sheet.add(b",,,,")?;
+    sheet.add(names.text(page))?;
+    sheet.add(b",\n")
+}
+
+/// Adds the row of a page that is hot in a phase.
+pub fn add_hot(sheet: &mut Sheet, names: &Names, phase: u32, page: u32) -> Result<(), AllocError>
+    requires { page < length names.now }
+    ensures { OnOk result (sheet.new ≡ sheet.old
+        ++ row_text default_writer (hot_row names.now phase page)) }
+{
+    sheet.add(b"hot,")?;
+    sheet.add_number(u64::from(page))?;
+    sheet.add(b",,")?;
+    sheet.add_number(u64::from(phase))?;
+    sheet.add(b",,")?;
     sheet.add(names.text(page))?;
     sheet.add(b",\n")
 }

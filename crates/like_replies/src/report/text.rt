@@ -3,15 +3,17 @@ ghost use Rattle.std.specs.Option.{ForSome};
 ghost use Rattle.std.specs.Io.KnownBytes.{Appends};
 ghost use Rattle.like_replies.specs.Reported.{reported};
 ghost use Rattle.like_replies.specs.RowParts.{WritesRows, reply_start};
-ghost use Rattle.like_replies.specs.Rows.{IsShowable, IsWritable, page_rows, report_text, submitter_rows, user_rows};
+ghost use Rattle.like_replies.specs.Rows.{IsShowable, IsWritable, hot_rows, hot_rows_below, page_rows, report_text, submitter_rows, user_rows};
 
 use crate::answer::Answer;
 use crate::report::Report;
 use crate::report::names::Names;
-use crate::report::rows::{add_header, add_page, add_reply, add_user, start_reply};
+use crate::report::rows::{add_header, add_hot, add_page, add_reply, add_user, start_reply};
 use crate::report::sheet::Sheet;
 use crate::write_fault::WriteFault;
+use like_core::is_hot;
 use like_requests::Pages;
+use like_roles::Chosen;
 use std::alloc::Global;
 use std::io::Write;
 
@@ -37,6 +39,7 @@ pub fn write_report<W: Write>(
     }
     write_pages(out, &mut sheet, &names, &report.counts)?;
     write_users(out, &mut sheet, &names, &report.last)?;
+    write_hot(out, &mut sheet, &names, &report.hot)?;
     sheet.hand_on(out)?;
     if out.flush().is_err() {
         return Err(WriteFault::Write);
@@ -98,6 +101,42 @@ fn write_users<W: Write>(
             continue;
         };
         add_user(sheet, names, user as u64, page)?;
+        sheet.hand_on_enough(out)?;
+    }
+    Ok(())
+}
+
+// Writes the rows of the hot pages, phase by phase.
+fn write_hot<W: Write>(
+    out: &mut W,
+    sheet: &mut Sheet,
+    names: &Names,
+    hot: &[Chosen],
+) -> Result<(), WriteFault>
+    ensures { OnOk result (WritesRows (W.contents out.old) sheet.old (W.contents out.new) sheet.new
+        (hot_rows names.now hot.now)) }
+{
+    for chosen in hot {
+        write_chosen(out, sheet, names, *chosen)?;
+    }
+    Ok(())
+}
+
+// Writes the rows of a phase's hot pages.
+fn write_chosen<W: Write>(
+    out: &mut W,
+    sheet: &mut Sheet,
+    names: &Names,
+    chosen: Chosen,
+) -> Result<(), WriteFault>
+    ensures { OnOk result (WritesRows (W.contents out.old) sheet.old (W.contents out.new) sheet.new
+        (hot_rows_below names.now chosen (length names.now))) }
+{
+    for page in 0..names.len() {
+        if !is_hot(chosen.mask, page) {
+            continue;
+        }
+        add_hot(sheet, names, chosen.phase, page)?;
         sheet.hand_on_enough(out)?;
     }
     Ok(())

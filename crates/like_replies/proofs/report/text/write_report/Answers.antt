@@ -3,7 +3,7 @@ use Rattle.std.proofs.lemmas.List.{length-map, length-take-le, map-append, take_
 use Rattle.csv.specs.Writing.{default_writer, row_text}
 use Rattle.like_replies.specs.declared.answer.Answer.{Answer}
 use Rattle.like_replies.specs.Reported.{reported}
-use Rattle.like_replies.specs.Rows.{IsShowable, header_row, page_rows, reply_rows, submitter_rows, user_rows}
+use Rattle.like_replies.specs.Rows.{IsShowable, header_row, hot_rows, page_rows, reply_rows, submitter_rows, user_rows}
 use Rattle.like_replies.proofs.Texts.{All-image, Appends-added, Appends-report, Appends-rows, reply_rows-push}
 use Rattle.like_replies.proofs.report.text.write_report.Goals as goal
 
@@ -47,5 +47,7 @@ returns g c =
     let replies = rw whole at c.loop-submitter.invariant in
     let pages = rw (c.in_ok-names.ensures, c.deref-2.ensures.value) at c.in_ok-write_pages.ensures in
     let users = rw (c.in_ok-names.ensures, c.deref-3.ensures.value) at c.in_ok-write_users.ensures in
-    let others = Appends-rows _ _ _ (page_rows c.args.pages.now c.args.report.now.counts.items) (user_rows c.args.pages.now c.args.report.now.last.items) pages users in
+    let hot = rw (c.in_ok-names.ensures, c.deref-4.ensures.value) at c.in_ok-write_hot.ensures in
+    let both = Appends-rows _ _ _ (page_rows c.args.pages.now c.args.report.now.counts.items) (user_rows c.args.pages.now c.args.report.now.last.items) pages users in
+    let others = Appends-rows _ _ _ (page_rows c.args.pages.now c.args.report.now.counts.items ++ user_rows c.args.pages.now c.args.report.now.last.items) (hot_rows c.args.pages.now c.args.report.now.hot.items) both hot in
     Appends-report c.args.pages.now (reported c.args.report.now) _ _ _ _ _ _ _ header replies others c.in_ok-hand_on.ensures.handed c.flush.ensures.bytes
