@@ -1,18 +1,18 @@
 -- The same coordinator, and the same crew, later.
-use Rattle.std.proofs.Common.{◌≡◌, ℕ, zero, suc, ◌+◌, ◌%◌, ◌<◌, ◌==◌, Bool, true, false, cond, sym, List, [], ◌∷◌, length, slice_get, Some, refl, ap, ◌∙◌, subst, arith}
+use Rattle.std.proofs.Common.{◌≡◌, ℕ, zero, suc, ◌%◌, ◌<◌, List, [], ◌∷◌, length, slice_get, Some, refl, ap, ◌∙◌, subst, arith}
 use Rattle.std.specs.List.{AllZip}
-use Rattle.std.specs.Option.{unwrap_or}
 use Rattle.like_core.specs.declared.sight.CoordSight.{CoordSight}
 use Rattle.like_core.specs.declared.view.CoordSeatView.{CoordSeatView}
-use Rattle.like_core.specs.PhaseMasks.{mask_of}
-use Rattle.like_core.specs.Views.{released_coord}
 use Rattle.like_tables.specs.Share.{Share, place_of}
 use Rattle.like_roles.specs.declared.coord_turn.CoordTurn.{CoordTurn}
+use Rattle.like_roles.specs.Choice as choice
+use Rattle.like_roles.specs.Choice.{ChoiceView, ReleasesNext}
+use Rattle.like_roles.proofs.Choosing.{release-opening}
 use Rattle.like_roles.specs.CoordTurns as turns
-use Rattle.like_roles.specs.CoordTurns.{Acts, CoordTurns, CoordinatorView, prepared, surveyed}
+use Rattle.like_roles.specs.CoordTurns.{Acts, CoordTurns, CoordinatorView, surveyed}
 use Rattle.like_crew.specs.Server.{ServerGoesOn, ServerView}
 use Rattle.like_crew.specs.declared.crew.Crew.{Crew}
-use Rattle.like_crew.specs.Crew.{GoesOn, HasInbox, LeadGoesOn, NoneHot}
+use Rattle.like_crew.specs.Crew.{GoesOn, HasInbox, LeadGoesOn}
 use Rattle.like_crew.proofs.Later.{all-further-both, all-same}
 use Rattle.like_crew.proofs.Pairs.{pairs-length}
 
@@ -21,7 +21,7 @@ board-acts v sight answer w (turns.ends g a x) = ap (λ (y : CoordinatorView). y
 board-acts v sight answer w (turns.counts g e l a x) = ap (λ (y : CoordinatorView). y.board) x
 board-acts v sight answer w (turns.stays g e l n a x) = ap (λ (y : CoordinatorView). y.board) x
 board-acts v sight answer w (turns.announces g e l n a x) = ap (λ (y : CoordinatorView). y.board) x
-board-acts v sight answer w (turns.releases g e i a x) = ap (λ (y : CoordinatorView). y.board) x
+board-acts v sight answer w (turns.releases g e i seat choice r a x) = ap (λ (y : CoordinatorView). y.board) x
 board-acts v sight answer w (turns.waits g e i a x) = ap (λ (y : CoordinatorView). y.board) x
 
 opening-acts : (v : CoordinatorView) (sight : CoordSight) (answer : CoordTurn) (w : CoordinatorView) → Acts v sight answer w → w.seat.opening ≡ v.seat.opening
@@ -29,7 +29,7 @@ opening-acts v sight answer w (turns.ends g a x) = ap (λ (y : CoordinatorView).
 opening-acts v sight answer w (turns.counts g e l a x) = ap (λ (y : CoordinatorView). y.seat.opening) x
 opening-acts v sight answer w (turns.stays g e l n a x) = ap (λ (y : CoordinatorView). y.seat.opening) x
 opening-acts v sight answer w (turns.announces g e l n a x) = ap (λ (y : CoordinatorView). y.seat.opening) x
-opening-acts v sight answer w (turns.releases g e i a x) = ap (λ (y : CoordinatorView). y.seat.opening) x
+opening-acts v sight answer w (turns.releases g e i seat choice r a x) = ap (λ (y : CoordinatorView). y.seat.opening) x ∙ release-opening _ _ _ _ r
 opening-acts v sight answer w (turns.waits g e i a x) = ap (λ (y : CoordinatorView). y.seat.opening) x
 
 turns-acts : (v : CoordinatorView) (sight : CoordSight) (answer : CoordTurn) (w : CoordinatorView) → Acts v sight answer w → w.turns ≡ v.turns
@@ -37,25 +37,22 @@ turns-acts v sight answer w (turns.ends g a x) = ap (λ (y : CoordinatorView). y
 turns-acts v sight answer w (turns.counts g e l a x) = ap (λ (y : CoordinatorView). y.turns) x
 turns-acts v sight answer w (turns.stays g e l n a x) = ap (λ (y : CoordinatorView). y.turns) x
 turns-acts v sight answer w (turns.announces g e l n a x) = ap (λ (y : CoordinatorView). y.turns) x
-turns-acts v sight answer w (turns.releases g e i a x) = ap (λ (y : CoordinatorView). y.turns) x
+turns-acts v sight answer w (turns.releases g e i seat choice r a x) = ap (λ (y : CoordinatorView). y.turns) x
 turns-acts v sight answer w (turns.waits g e i a x) = ap (λ (y : CoordinatorView). y.turns) x
 
--- a release without hot pages
-none-hot : (c : CoordSeatView) → NoneHot c.masks → NoneHot (released_coord (prepared c)).masks
-none-hot c none phase = none_at (phase == c.phase + 1) (c.phase % 2 == 0)
-  where
-    none_at : (here even : Bool) → cond here (cond even (unwrap_or (cond even (Some 0) c.published) 0) 0) (mask_of c.masks phase) ≡ 0
-    none_at true true = refl
-    none_at true false = refl
-    none_at false even = none phase
+-- how many likes make a page hot is the same
+release-hot : (c d : CoordSeatView) (v w : ChoiceView) → ReleasesNext c v d w → w.hot ≡ v.hot
+release-hot c d v w (choice.releases_joined split is same) = ap (λ (x : ChoiceView). x.hot) same
+release-hot c d v w (choice.releases_split joined ready (choice.chooses_none none published same) is) = ap (λ (x : ChoiceView). x.hot) same
+release-hot c d v w (choice.releases_split joined ready (choice.chooses_risen least counts some many m limit published same) is) = ap (λ (x : ChoiceView). x.hot) same
 
-hot-acts : (v : CoordinatorView) (sight : CoordSight) (answer : CoordTurn) (w : CoordinatorView) → Acts v sight answer w → NoneHot v.seat.masks → NoneHot w.seat.masks
-hot-acts v sight answer w (turns.ends g a x) none = subst (λ (y : CoordinatorView). NoneHot y.seat.masks) (sym x) none
-hot-acts v sight answer w (turns.counts g e l a x) none = subst (λ (y : CoordinatorView). NoneHot y.seat.masks) (sym x) none
-hot-acts v sight answer w (turns.stays g e l n a x) none = subst (λ (y : CoordinatorView). NoneHot y.seat.masks) (sym x) none
-hot-acts v sight answer w (turns.announces g e l n a x) none = subst (λ (y : CoordinatorView). NoneHot y.seat.masks) (sym x) none
-hot-acts v sight answer w (turns.releases g e i a x) none = subst (λ (y : CoordinatorView). NoneHot y.seat.masks) (sym x) (none-hot v.seat none)
-hot-acts v sight answer w (turns.waits g e i a x) none = subst (λ (y : CoordinatorView). NoneHot y.seat.masks) (sym x) none
+hot-acts : (v : CoordinatorView) (sight : CoordSight) (answer : CoordTurn) (w : CoordinatorView) → Acts v sight answer w → w.choice.hot ≡ v.choice.hot
+hot-acts v sight answer w (turns.ends g a x) = ap (λ (y : CoordinatorView). y.choice.hot) x
+hot-acts v sight answer w (turns.counts g e l a x) = ap (λ (y : CoordinatorView). y.choice.hot) x
+hot-acts v sight answer w (turns.stays g e l n a x) = ap (λ (y : CoordinatorView). y.choice.hot) x
+hot-acts v sight answer w (turns.announces g e l n a x) = ap (λ (y : CoordinatorView). y.choice.hot) x
+hot-acts v sight answer w (turns.releases g e i seat choice r a x) = ap (λ (y : CoordinatorView). y.choice.hot) x ∙ release-hot _ _ _ _ r
+hot-acts v sight answer w (turns.waits g e i a x) = ap (λ (y : CoordinatorView). y.choice.hot) x
 
 pub lead-goes-on : (v : CoordinatorView) (answer : CoordTurn) (w : CoordinatorView) → CoordTurns v answer w → LeadGoesOn v w
 lead-goes-on v answer w t = record {
@@ -66,10 +63,10 @@ lead-goes-on v answer w t = record {
 }
 
 pub lead-same : (v : CoordinatorView) → LeadGoesOn v v
-lead-same v = record { board = refl; opening = refl; turns = refl; hot = λ none. none }
+lead-same v = record { board = refl; opening = refl; turns = refl; hot = refl }
 
 pub lead-further : (u v w : CoordinatorView) → LeadGoesOn u v → LeadGoesOn v w → LeadGoesOn u w
-lead-further u v w a b = record { board = b.board ∙ a.board; opening = b.opening ∙ a.opening; turns = b.turns ∙ a.turns; hot = λ none. b.hot (a.hot none) }
+lead-further u v w a b = record { board = b.board ∙ a.board; opening = b.opening ∙ a.opening; turns = b.turns ∙ a.turns; hot = b.hot ∙ a.hot }
 
 -- the crew
 pub crew-same : {I : Type 0} (c : Crew I) → GoesOn c c

@@ -12,14 +12,12 @@ use Rattle.like_crew.specs.declared.ended.Ended.{Ended}
 use Rattle.like_crew.specs.declared.crew.Crew.{Crew}
 use Rattle.like_crew.specs.declared.site.Site.{Site}
 use Rattle.like_crew.specs.Asked.{service_of}
-use Rattle.like_crew.specs.Crew.{GoesOn, HasInbox, IsCrew, NoneHot}
+use Rattle.like_crew.specs.Crew.{GoesOn, HasInbox, IsCrew}
 use Rattle.like_crew.specs.Ended.{HasEnded, IsEnded}
-use Rattle.like_crew.specs.Site.{opening_of}
 use Rattle.like_requests.specs.declared.request.Request.{Request}
 use Rattle.like_requests.specs.declared.setup.Setup.{Setup}
 use Rattle.like_core.specs.declared.view.CoordSeatView.{CoordSeatView}
-use Rattle.like_core.specs.declared.view.PhaseMask.{PhaseMask}
-use Rattle.like_core.specs.PhaseMasks.{mask_of}
+use Rattle.like_roles.specs.Choice.{AreTotals, HasChosen}
 use Rattle.like_crew.specs.Servers.{AreServers, IsServer}
 use Rattle.like_crew.specs.Server.{ServerGoesOn, ServerView, plans_of}
 use Rattle.like_crew.proofs.Coordinated.{lead-further}
@@ -35,7 +33,7 @@ servers-later service workers board ss ts are later =
       share = on.share ∙ is.share;
       whose = on.whose ∙ is.whose;
       board_is = on.board ∙ is.board_is;
-      works = on.works service is.works;
+      works = λ hot. on.works (record service { hot = hot }) (is.works hot);
     }) are later
 
 -- there are as many servers as workers
@@ -57,7 +55,7 @@ has-inbox service workers board servers submitter are some there =
           let mine : share.worker ≡ worker = ap (λ (x : Share). x.worker) is.share in
           let place : ℕ = place_of share.workers submitter in
           let whole : share.worker + share.workers * place ≡ submitter = by_place submitter share.worker share.workers (length servers) by mine in
-          let plan : slice_get (plans_of s.inboxes) place ≡ slice_get service.plans submitter = plan-at service share.workers share.worker s.inboxes place (omega (arith, some, sized, by)) is.works.plans ∙ ap (slice_get service.plans) whole in
+          let plan : slice_get (plans_of s.inboxes) place ≡ slice_get service.plans submitter = plan-at service share.workers share.worker s.inboxes place (omega (arith, some, sized, by)) (is.works service.hot).plans ∙ ap (slice_get service.plans) whole in
           let found : slice_get (plans_of s.inboxes) place ≡ Some (get_or service.plans submitter []) = plan ∙ slice_get-get_or service.plans submitter [] there in
           omega (arith, slice_get_within (plans_of s.inboxes) place (get_or service.plans submitter []) found, length-map s.inboxes (λ i. i.plan)),
     ) where
@@ -67,7 +65,7 @@ has-inbox service workers board servers submitter are some there =
 
 -- a crew of this run that went on until its run had ended leaves an ended run
 pub has-ended : {I : Type 0} (setup : Setup) (plans : List (List Request)) (site : Site) (c : Crew I) (e : Ended) → IsCrew setup plans site c → HasEnded c e
-    → IsEnded (service_of setup plans) setup.workers (board_id site.board) (opening_of setup) e
+    → IsEnded setup plans (board_id site.board) e
 has-ended setup plans site c e is h = record {
   servers = h.left.servers;
   are_servers = servers-later (service_of setup plans) setup.workers (board_numbers (board_id site.board)) c.servers.items h.left.servers is.servers h.left.later;
@@ -78,7 +76,10 @@ has-ended setup plans site c e is h = record {
   opening = ap (λ (v : CoordSeatView). v.opening) h.lead_is.view ∙ h.later.opening ∙ is.opening;
   phases = h.lead_is.phases ∙ h.lead_is.ended.phase ∙ ap (λ (v : CoordSeatView). v.phase) (sym h.lead_is.view);
   joined = subst (λ n. n % 2 ≡ 0) (sym h.lead_is.phases) h.lead_is.ended.joined;
-  hot = subst (λ (v : CoordSeatView). NoneHot v.masks) (sym h.lead_is.view) (h.later.hot (λ phase. ap (λ (l : List PhaseMask). mask_of l phase) is.no_masks));
+  choice = h.lead.choice;
+  hot = h.later.hot ∙ is.hot;
+  chosen = h.lead_is.chosen;
+  chose = subst (λ (v : CoordSeatView). (total : ℕ → ℕ → ℕ) → AreTotals total v.counted → HasChosen v h.lead.choice total) (sym h.lead_is.view) h.lead_is.chose;
 }
 
 -- what is left of a crew later is left of the crew

@@ -11,6 +11,7 @@ pub mod Later
 pub mod Pairs
 pub mod Coordinated
 pub mod Makings
+pub mod Hot
 pub mod Whole
 pub mod Once
 pub mod Ending

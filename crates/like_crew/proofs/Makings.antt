@@ -70,7 +70,7 @@ is-server setup sizes worker inboxes own post board s sized is fresh here share 
   share = share ∙ ap (λ n. share_of setup.users n setup.workers worker) (ap (λ (xs : List ℕ). length xs) sized ∙ length-map (plans_of inboxes) length);
   whose = ap (λ (p : PostView). p.worker) at ∙ fresh.is_his;
   board_is = ap (λ (p : PostView). p.board) at ∙ here;
-  works = works (service_of setup (plans_of inboxes)) (record { users_are = refl; pages_are = refl; sizes_are = sym sized }) (own-plans setup worker inboxes own is);
+  works = λ hot. works (record (service_of setup (plans_of inboxes)) { hot = hot }) (record { users_are = refl; pages_are = refl; sizes_are = sym sized }) (own-plans setup worker inboxes own is);
 }
 
 -- one server more

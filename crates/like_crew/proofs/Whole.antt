@@ -1,9 +1,9 @@
 -- What a run that has ended reports, end to end.
-use Rattle.std.proofs.Common.{◌≡◌, ℕ, zero, suc, ◌+◌, ◌<◌, ◌≤◌, ◌&&◌, nat_lt, eqb, List, [], ◌∷◌, length, map, get_or, slice_get, Option, Some, None, option_map, IfSome, refl, sym, ap, ◌∙◌, subst, arith, inl, inr, zero-add}
+use Rattle.std.proofs.Common.{◌≡◌, ℕ, zero, suc, ◌+◌, ◌<◌, ◌≤◌, ◌&&◌, nat_lt, cond, eqb, ltb, List, [], ◌∷◌, ◌++◌, append-nil, length, map, get_or, slice_get, Option, Some, None, option_map, IfSome, refl, sym, ap, ◌∙◌, subst, arith, inl, inr, zero-add}
 use Rattle.std.specs.List.{All, AllZip, filter, range_with_len, sum_by}
 use Rattle.std.specs.Option.{option_map_or, unwrap_or}
 use Rattle.std.proofs.Math.Nat.{mod-lt}
-use Rattle.std.proofs.lemmas.List.{get_or_past}
+use Rattle.std.proofs.lemmas.List.{get_or_past, length-map}
 use Rattle.std.proofs.lemmas.List.FromFn.{length-range_with_len}
 use Rattle.std.proofs.lemmas.List.Sums.{length-filter, sum_by-cons}
 use Rattle.std.proofs.lemmas.Bool.Decides.{leb_tells}
@@ -12,14 +12,16 @@ use Rattle.std.proofs.lemmas.Option.{get_or_from_slice_get, slice_get-get_or, sl
 use Rattle.like_requests.specs.Pages.{Page}
 use Rattle.like_requests.specs.Verdict.{home}
 use Rattle.like_requests.specs.declared.request.Request.{Request}
+use Rattle.like_requests.specs.declared.setup.Setup.{Setup}
 use Rattle.like_core.specs.declared.sight.Sight.{Sight}
 use Rattle.like_core.specs.declared.opening.Opening.{Opening}
+use Rattle.like_core.specs.declared.view.PageCount.{PageCount}
 use Rattle.like_core.specs.Additions.{added_before}
 use Rattle.like_core.specs.PhaseMasks.{mask_of, AreMasksOf}
 use Rattle.like_core.specs.Post.{PostView, additions_of}
 use Rattle.like_core.specs.Reads.{AreBetween}
 use Rattle.like_board.specs.declared.worker_seat.WorkerSeat.{WorkerSeat}
-use Rattle.like_board.specs.Seats.{AreAll, BoardId, board_numbers, coord_view, last_count, seat_board, seat_meaning, seats_before, HaveReadBetween, HaveReadMasks}
+use Rattle.like_board.specs.Seats.{AreAll, AreCounted, BoardId, board_numbers, coord_view, last_count, seat_board, seat_meaning, seats_before, HaveReadBetween, HaveReadMasks}
 use Rattle.like_board.proofs.InOrder.{all_in_order}
 use Rattle.like_board.proofs.Meanings.{same_board}
 use Rattle.like_core.specs.declared.worker_state.WorkerState.TheVariants.{Gone}
@@ -29,7 +31,11 @@ use Rattle.like_roles.specs.declared.log.Ran.{Ran}
 use Rattle.like_roles.specs.declared.log.Took.{Took}
 use Rattle.like_roles.specs.declared.log.WorkerLog.{WorkerLog}
 use Rattle.like_roles.specs.Likes.{initial_count, last_like, likes, likes_among, likes_below}
+use Rattle.like_roles.proofs.Choosing.{chosen-more}
+use Rattle.like_roles.proofs.Releasing.{none-even}
 use Rattle.like_roles.proofs.RightCounts.{below-is, right-counts}
+use Rattle.like_roles.specs.Choice.{AreTotals, likes_counted}
+use Rattle.like_roles.specs.HotPages.{chosen_below, hot_by, likes_lately}
 use Rattle.like_roles.specs.Service.{Service, submitters}
 use Rattle.like_replies.specs.Entries.{IsRequest, entries_in, entries_of}
 use Rattle.like_crew.specs.declared.ended.Ended.{Ended}
@@ -37,8 +43,11 @@ use Rattle.like_crew.specs.EndToEnd.{AreCounts, AreLastLikes, AreLogs, AreRightC
 use Rattle.like_crew.specs.Gathered.{AreTables, RunsOnce}
 use Rattle.like_crew.specs.Log.{IsLog, NoneAbove, plan_of}
 use Rattle.like_crew.specs.Server.{HasWorkedFor, IsLogOf, ReadMasksOf, ServerView}
+use Rattle.like_crew.specs.Asked.{asked, service_of}
 use Rattle.like_crew.specs.Ended.{IsEnded, IsSeatOf}
+use Rattle.like_crew.specs.Site.{opening_of}
 use Rattle.like_crew.specs.Servers.{IsServer}
+use Rattle.like_crew.proofs.Hot.{hot-same, order-same, total}
 use Rattle.like_crew.proofs.Counted.{count-in-all, in_range}
 use Rattle.like_crew.proofs.Pairs.{pairs-at, pairs-length, pairs-sum}
 
@@ -78,76 +87,78 @@ initial-at service page =
     by_page None = refl
     by_page (Some p) = refl
 
-module _ (service : Service) (workers : ℕ) (board : BoardId) (z : Opening) (e : Ended) (h : IsEnded service workers board z e) where
+module _ (setup : Setup) (plans : List (List Request)) (board : BoardId) (e : Ended) (h : IsEnded setup plans board e) where
+  -- the masks of the phases that were released
+  abbrev pub hot_known : ℕ → ℕ
+  hot_known = mask_of (coord_view e.coord).masks
+
+  -- the run with these masks
+  abbrev pub known : Service
+  known = record (service_of setup plans) { hot = hot_known }
+
+  abbrev z : Opening
+  z = opening_of setup
+
+  -- the run that is asked for, with the hot pages that its run lists tell
+  abbrev pub served : Service
+  served = asked setup plans (runs_of e.logs.items)
+
   -- the server of a worker
-  server-at : (worker : ℕ) (s : ServerView) → slice_get h.servers worker ≡ Some s → IsServer service workers (board_numbers board) worker s
-  server-at worker s at = subst (λ n. IsServer service workers (board_numbers board) n s) (zero-add worker) (pairs-at (IsServer service workers (board_numbers board)) 0 workers h.servers worker s h.are_servers at)
+  server-at : (worker : ℕ) (s : ServerView) → slice_get h.servers worker ≡ Some s → IsServer (service_of setup plans) setup.workers (board_numbers board) worker s
+  server-at worker s at = subst (λ n. IsServer (service_of setup plans) setup.workers (board_numbers board) n s) (zero-add worker) (pairs-at (IsServer (service_of setup plans) setup.workers (board_numbers board)) 0 setup.workers h.servers worker s h.are_servers at)
 
-  servers-size : length h.servers ≡ workers
-  servers-size = sym (pairs-length (IsServer service workers (board_numbers board)) (range_with_len 0 workers) h.servers h.are_servers) ∙ length-range_with_len 0 workers
+  servers-size : length h.servers ≡ setup.workers
+  servers-size = sym (pairs-length (IsServer (service_of setup plans) setup.workers (board_numbers board)) (range_with_len 0 setup.workers) h.servers h.are_servers) ∙ length-range_with_len 0 setup.workers
 
-  pub logs-size : length e.logs.items ≡ workers
+  pub logs-size : length e.logs.items ≡ setup.workers
   logs-size = sym (pairs-length IsLogOf h.servers e.logs.items h.logs) ∙ servers-size
 
-  pub seats-size : length e.seats.items ≡ workers
+  pub seats-size : length e.seats.items ≡ setup.workers
   seats-size = sym (pairs-length IsSeatOf h.servers e.seats.items h.seats) ∙ servers-size
 
-  -- the masks that the workers read are the service's
-  right-at-server : HaveReadMasks (coord_view e.coord).masks e.seats.items → (worker : ℕ) (s : ServerView) → slice_get h.servers worker ≡ Some s → ReadMasksOf service s
+  -- the masks that the workers read are those
+  right-at-server : HaveReadMasks (coord_view e.coord).masks e.seats.items → (worker : ℕ) (s : ServerView) → slice_get h.servers worker ≡ Some s → ReadMasksOf known s
   right-at-server masks worker s at =
       let seat = right-at IsSeatOf h.servers e.seats.items worker s h.seats at in
       let right : AreMasksOf (mask_of (coord_view e.coord).masks) (seat_meaning seat.0).masks =
       subst (λ (x : WorkerSeat). AreMasksOf (mask_of (coord_view e.coord).masks) (seat_meaning x).masks) (get_or_from_slice_get e.seats.items worker seat.0 seat.0 seat.1.0)
       (masks worker seat.0 (slice_get_within e.seats.items worker seat.0 seat.1.0)) in
-      let P : PostView → (ℕ → ℕ) → Type 0 = λ p hot. AreMasksOf hot p.masks in
-      let same : mask_of (coord_view e.coord).masks ≡ service.hot = λ m phase. h.hot phase m in
-      subst (P s.worker.post) same (subst (λ (p : PostView). P p (mask_of (coord_view e.coord).masks)) seat.1.1 right)
+      subst (λ (p : PostView). AreMasksOf hot_known p.masks) seat.1.1 right
 
-  pub log-at : HaveReadMasks (coord_view e.coord).masks e.seats.items → (worker : ℕ) (log : WorkerLog) → slice_get e.logs.items worker ≡ Some log → IsLog service workers worker log
+  pub log-at : HaveReadMasks (coord_view e.coord).masks e.seats.items → (worker : ℕ) (log : WorkerLog) → slice_get e.logs.items worker ≡ Some log → IsLog known setup.workers worker log
   log-at masks worker log at =
       let s = left-at IsLogOf h.servers e.logs.items worker log h.logs at in
       let is = server-at worker s.0 s.1.0 in
-      subst (λ (x : Share). IsLog service x.workers x.worker log) is.share (s.1.1.log_is service (is.works, right-at-server masks worker s.0 s.1.0))
+      subst (λ (x : Share). IsLog known x.workers x.worker log) is.share (s.1.1.log_is known (is.works hot_known, right-at-server masks worker s.0 s.1.0))
 
-  pub tables : AreTables service.users (submitters service) e.logs.items
+  pub tables : AreTables known.users (submitters known) e.logs.items
   tables worker log at =
       let s = left-at IsLogOf h.servers e.logs.items worker log h.logs at in
       let is = server-at worker s.0 s.1.0 in
-      s.1.1.share ∙ is.share ∙ ap (λ n. share_of service.users (submitters service) n worker) (sym logs-size)
+      s.1.1.share ∙ is.share ∙ ap (λ n. share_of known.users (submitters known) n worker) (sym logs-size)
 
   -- nothing was taken after the phase in which the run ended
   below : (last : Option Sight) (taken : List Took) (phase : ℕ) → NoneAbove last taken → IfSome last (λ sight. sight.number ≤ phase) → All (λ t. t.phase ≤ phase) taken
   below None taken phase none le = λ k d within. absurd (omega (arith, within, ap (λ (xs : List Took). length xs) none))
   below (Some sight) taken phase all le = λ k d within. omega (arith, all k d within, le)
 
-  pub logs-are : HaveReadMasks (coord_view e.coord).masks e.seats.items → All (λ seat. IfSome (seat_meaning seat).last (λ sight. sight.number ≤ (coord_view e.coord).phase)) e.seats.items → AreLogs service workers e.phases e.logs.items
-  logs-are masks phases worker log at =
-      let s = left-at IsLogOf h.servers e.logs.items worker log h.logs at in
-      let seat = right-at IsSeatOf h.servers e.seats.items worker s.0 h.seats s.1.0 in
-      let seen : IfSome (seat_meaning seat.0).last (λ sight. sight.number ≤ (coord_view e.coord).phase) =
-      subst (λ (x : WorkerSeat). IfSome (seat_meaning x).last (λ sight. sight.number ≤ (coord_view e.coord).phase)) (get_or_from_slice_get e.seats.items worker seat.0 seat.0 seat.1.0)
-      (phases worker seat.0 (slice_get_within e.seats.items worker seat.0 seat.1.0)) in
-      let saw : IfSome s.0.worker.post.last (λ sight. sight.number ≤ e.phases) =
-      subst (λ n. IfSome s.0.worker.post.last (λ sight. sight.number ≤ n)) (sym h.phases) (subst (λ (p : PostView). IfSome p.last (λ sight. sight.number ≤ (coord_view e.coord).phase)) seat.1.1 seen) in
-      (log-at masks worker log at, below s.0.worker.post.last log.taken.items e.phases s.1.1.above saw)
-
   -- the additions of all seats are the accepted likes of all logs
-  pub all-likes : HaveReadMasks (coord_view e.coord).masks e.seats.items → (page : ℕ) → sum_by (λ seat. additions_of (seat_meaning seat) page) e.seats.items ≡ likes service page (runs_of e.logs.items)
+  pub all-likes : HaveReadMasks (coord_view e.coord).masks e.seats.items → (page : ℕ) → sum_by (λ seat. additions_of (seat_meaning seat) page) e.seats.items ≡ likes known page (runs_of e.logs.items)
   all-likes masks page =
       sym (pairs-sum IsSeatOf (λ (s : ServerView). additions_of s.worker.post page) (λ (seat : WorkerSeat). additions_of (seat_meaning seat) page) h.servers e.seats.items
       (λ s seat m. ap (λ (p : PostView). additions_of p page) (sym m)) h.seats)
-      ∙ pairs-sum (λ (s : ServerView) (log : WorkerLog). ((page : ℕ) → likes_among service page log.ran.items ≡ additions_of s.worker.post page))
-      (λ (s : ServerView). additions_of s.worker.post page) (λ (log : WorkerLog). likes_among service page log.ran.items) h.servers e.logs.items (λ s log m. sym (m page)) matched
-      ∙ sym (sum-of-map (likes_among service page) (λ (log : WorkerLog). log.ran.items) e.logs.items) where
-        both : (ss : List ServerView) (logs : List WorkerLog) → ((k : ℕ) (s : ServerView) → slice_get ss k ≡ Some s → HasWorkedFor service s) → AllZip IsLogOf ss logs
-            → AllZip (λ (s : ServerView) (log : WorkerLog). ((page : ℕ) → likes_among service page log.ran.items ≡ additions_of s.worker.post page)) ss logs
+      ∙ pairs-sum (λ (s : ServerView) (log : WorkerLog). ((page : ℕ) → likes_among known page log.ran.items ≡ additions_of s.worker.post page))
+      (λ (s : ServerView). additions_of s.worker.post page) (λ (log : WorkerLog). likes_among known page log.ran.items) h.servers e.logs.items (λ s log m. sym (m page)) matched
+      ∙ sym (sum-of-map (likes_among known page) (λ (log : WorkerLog). log.ran.items) e.logs.items) where
+        both : (ss : List ServerView) (logs : List WorkerLog) → ((k : ℕ) (s : ServerView) → slice_get ss k ≡ Some s → HasWorkedFor known s) → AllZip IsLogOf ss logs
+            → AllZip (λ (s : ServerView) (log : WorkerLog). ((page : ℕ) → likes_among known page log.ran.items ≡ additions_of s.worker.post page)) ss logs
         both [] [] each all = tt
         both [] (log ∷ logs) each all = absurd all
         both (s ∷ ss) [] each all = absurd all
-        both (s ∷ ss) (log ∷ logs) each all = (all.0.additions service (each zero s refl), both ss logs (λ k t x. each (suc k) t x) all.1)
+        both (s ∷ ss) (log ∷ logs) each all = (all.0.additions known (each zero s refl), both ss logs (λ k t x. each (suc k) t x) all.1)
 
-        matched : AllZip (λ (s : ServerView) (log : WorkerLog). ((page : ℕ) → likes_among service page log.ran.items ≡ additions_of s.worker.post page)) h.servers e.logs.items
-        matched = both h.servers e.logs.items (λ k s at. ((server-at k s at).works, right-at-server masks k s at)) h.logs
+        matched : AllZip (λ (s : ServerView) (log : WorkerLog). ((page : ℕ) → likes_among known page log.ran.items ≡ additions_of s.worker.post page)) h.servers e.logs.items
+        matched = both h.servers e.logs.items (λ k s at. ((server-at k s at).works hot_known, right-at-server masks k s at)) h.logs
 
   -- the seats that were left
   seat-at : (k : ℕ) (seat : WorkerSeat) → slice_get e.seats.items k ≡ Some seat → (s : ServerView) × ((slice_get h.servers k ≡ Some s) × IsSeatOf s seat)
@@ -176,35 +187,87 @@ module _ (service : Service) (workers : ℕ) (board : BoardId) (z : Opening) (e 
   pub all-gone : All (λ seat. (seat_meaning seat).state ≡ Gone) e.seats.items
   all-gone = λ k d within. seat-gone k (get_or e.seats.items k d) (slice_get-get_or e.seats.items k d within)
 
-  pub are-all : z.workers ≡ workers → AreAll (coord_view e.coord).opening.workers e.seats.items
-  are-all same = subst (λ n. AreAll n e.seats.items) (sym (ap (λ (x : Opening). x.workers) h.opening ∙ same)) (all_in_order e.seats.items workers seats-size seat-worker)
+  pub are-all : z.workers ≡ setup.workers → AreAll (coord_view e.coord).opening.workers e.seats.items
+  are-all same = subst (λ n. AreAll n e.seats.items) (sym (ap (λ (x : Opening). x.workers) h.opening ∙ same)) (all_in_order e.seats.items setup.workers seats-size seat-worker)
 
   -- the final counts
-  pub counts-are : HaveReadMasks (coord_view e.coord).masks e.seats.items → (counts : List ℕ) → z.counts ≡ map (λ p. p.count) service.pages → length counts ≡ length service.pages
-      → ((page : ℕ) → page < length service.pages → get_or counts page 0 ≡ last_count (coord_view e.coord).opening e.seats.items page) → AreCounts service (runs_of e.logs.items) counts
+  pub counts-are : HaveReadMasks (coord_view e.coord).masks e.seats.items → (counts : List ℕ) → z.counts ≡ map (λ p. p.count) known.pages → length counts ≡ length known.pages
+      → ((page : ℕ) → page < length known.pages → get_or counts page 0 ≡ last_count (coord_view e.coord).opening e.seats.items page) → AreCounts served (runs_of e.logs.items) counts
   counts-are masks counts initial sized told = record {
     pages = sized;
     each = λ page there.
         told page there
         ∙ ap (λ x. last_count x e.seats.items page) h.opening
         ∙ ap (λ cs. get_or cs page 0 + sum_by (λ seat. additions_of (seat_meaning seat) page) e.seats.items) initial
-        ∙ ap (λ n. n + sum_by (λ seat. additions_of (seat_meaning seat) page) e.seats.items) (initial-at service page)
-        ∙ ap (λ n. initial_count service.pages page + n) (all-likes masks page);
+        ∙ ap (λ n. n + sum_by (λ seat. additions_of (seat_meaning seat) page) e.seats.items) (initial-at known page)
+        ∙ ap (λ n. initial_count known.pages page + n) (all-likes masks page);
   }
 
   -- what all seats have added before a phase are the accepted likes that all workers ran before it
-  all-before : HaveReadMasks (coord_view e.coord).masks e.seats.items → (phase page : ℕ) → seats_before e.seats.items phase page ≡ likes_below service page (runs_of e.logs.items) phase
+  all-before : HaveReadMasks (coord_view e.coord).masks e.seats.items → (phase page : ℕ) → seats_before e.seats.items phase page ≡ likes_below known page (runs_of e.logs.items) phase
   all-before masks phase page =
       sym (pairs-sum IsSeatOf (λ (s : ServerView). added_before phase page s.worker.post.additions) (λ (seat : WorkerSeat). added_before phase page (seat_meaning seat).additions) h.servers e.seats.items
       (λ s seat m. ap (λ (p : PostView). added_before phase page p.additions) (sym m)) h.seats)
-      ∙ pairs-sum (λ (s : ServerView) (log : WorkerLog). HasWorkedFor service s × IsLogOf s log)
-      (λ (s : ServerView). added_before phase page s.worker.post.additions) (λ (log : WorkerLog). likes_among service page (filter (λ x. nat_lt x.phase phase) log.ran.items)) h.servers e.logs.items
-      (λ s log m. sym (below-is service log.ran.items s.worker.post.additions (m.1.by_phase service m.0) phase page))
-      (with-fact IsLogOf (HasWorkedFor service) h.servers e.logs.items (λ k s at. ((server-at k s at).works, right-at-server masks k s at)) h.logs)
-      ∙ sym (sum-of-map (λ (ran : List Ran). likes_among service page (filter (λ x. nat_lt x.phase phase) ran)) (λ (log : WorkerLog). log.ran.items) e.logs.items)
+      ∙ pairs-sum (λ (s : ServerView) (log : WorkerLog). HasWorkedFor known s × IsLogOf s log)
+      (λ (s : ServerView). added_before phase page s.worker.post.additions) (λ (log : WorkerLog). likes_among known page (filter (λ x. nat_lt x.phase phase) log.ran.items)) h.servers e.logs.items
+      (λ s log m. sym (below-is known log.ran.items s.worker.post.additions (m.1.by_phase known m.0) phase page))
+      (with-fact IsLogOf (HasWorkedFor known) h.servers e.logs.items (λ k s at. ((server-at k s at).works hot_known, right-at-server masks k s at)) h.logs)
+      ∙ sym (sum-of-map (λ (ran : List Ran). likes_among known page (filter (λ x. nat_lt x.phase phase) ran)) (λ (log : WorkerLog). log.ran.items) e.logs.items)
+
+  -- the counts that the coordinator read are the totals by the run lists
+  are-totals : HaveReadMasks (coord_view e.coord).masks e.seats.items → AreCounted (coord_view e.coord) e.seats.items
+      → AreTotals (total (service_of setup plans) (runs_of e.logs.items) z.counts) (coord_view e.coord).counted
+  are-totals masks counted = λ k d within.
+      let r : PageCount = get_or (coord_view e.coord).counted k d in
+      counted k d within
+      ∙ ap (λ (x : Opening). get_or x.counts r.page 0 + seats_before e.seats.items (r.phase + 1) r.page) h.opening
+      ∙ ap (λ n. get_or z.counts r.page 0 + n) (all-before masks (r.phase + 1) r.page)
+
+  -- the hot pages that were chosen by these totals are those that the run lists tell
+  hot-is : (k : ℕ) → hot_by h.choice.hot (length (coord_view e.coord).opening.counts) (likes_counted (coord_view e.coord).opening.counts (total (service_of setup plans) (runs_of e.logs.items) z.counts)) k ≡ served.hot k
+  hot-is k =
+      ap (λ (x : Opening). hot_by h.choice.hot (length x.counts) (likes_counted x.counts (total (service_of setup plans) (runs_of e.logs.items) z.counts)) k) h.opening
+      ∙ ap (λ o. hot_by o (length z.counts) (likes_counted z.counts (total (service_of setup plans) (runs_of e.logs.items) z.counts)) k) h.hot
+      ∙ ap (λ n. hot_by setup.hot n (likes_counted z.counts (total (service_of setup plans) (runs_of e.logs.items) z.counts)) k) (length-map setup.pages (λ (p : Page). p.count))
+      ∙ hot-same (service_of setup plans) (runs_of e.logs.items) z.counts setup.hot (length setup.pages) k
+
+  -- the phases were released with the masks of these pages
+  masks-known : HaveReadMasks (coord_view e.coord).masks e.seats.items → AreCounted (coord_view e.coord) e.seats.items → (k : ℕ) → k ≤ e.phases → hot_known k ≡ served.hot k
+  masks-known masks counted k within = (h.chose (total (service_of setup plans) (runs_of e.logs.items) z.counts) (are-totals masks counted)).masks k (omega (arith, within, h.phases)) ∙ hot-is k
+
+  -- the choices are those phases that have any
+  pub chosen-are : HaveReadMasks (coord_view e.coord).masks e.seats.items → AreCounted (coord_view e.coord) e.seats.items → e.chosen.items ≡ chosen_below served.hot e.phases
+  chosen-are masks counted =
+      h.chosen ∙ (h.chose (total (service_of setup plans) (runs_of e.logs.items) z.counts) (are-totals masks counted)).chosen
+      ∙ ap (λ (f : ℕ → ℕ). chosen_below f ((coord_view e.coord).phase + 1)) (λ i k. hot-is k i)
+      ∙ ap (λ n. chosen_below served.hot (n + 1)) (sym h.phases)
+      ∙ chosen-more served.hot e.phases
+      ∙ ap (λ m. chosen_below served.hot e.phases ++ cond (ltb 0 m) (record { phase = e.phases; mask = m } ∷ []) []) (none-even setup.hot (length setup.pages) (likes_lately (service_of setup plans) (runs_of e.logs.items)) e.phases h.joined)
+      ∙ append-nil (chosen_below served.hot e.phases)
+
+  pub logs-are : HaveReadMasks (coord_view e.coord).masks e.seats.items → AreCounted (coord_view e.coord) e.seats.items → All (λ seat. IfSome (seat_meaning seat).last (λ sight. sight.number ≤ (coord_view e.coord).phase)) e.seats.items → AreLogs served setup.workers e.phases e.logs.items
+  logs-are masks counted phases worker log at =
+      let s = left-at IsLogOf h.servers e.logs.items worker log h.logs at in
+      let seat = right-at IsSeatOf h.servers e.seats.items worker s.0 h.seats s.1.0 in
+      let seen : IfSome (seat_meaning seat.0).last (λ sight. sight.number ≤ (coord_view e.coord).phase) =
+      subst (λ (x : WorkerSeat). IfSome (seat_meaning x).last (λ sight. sight.number ≤ (coord_view e.coord).phase)) (get_or_from_slice_get e.seats.items worker seat.0 seat.0 seat.1.0)
+      (phases worker seat.0 (slice_get_within e.seats.items worker seat.0 seat.1.0)) in
+      let saw : IfSome s.0.worker.post.last (λ sight. sight.number ≤ e.phases) =
+      subst (λ n. IfSome s.0.worker.post.last (λ sight. sight.number ≤ n)) (sym h.phases) (subst (λ (p : PostView). IfSome p.last (λ sight. sight.number ≤ (coord_view e.coord).phase)) seat.1.1 seen) in
+      let within = below s.0.worker.post.last log.taken.items e.phases s.1.1.above saw in
+      let it = log-at masks worker log at in (
+        record {
+          taken = it.taken;
+          rising = it.rising;
+          ran = it.ran ∙ order-same (service_of setup plans) hot_known served.hot e.phases log.taken.items (masks-known masks counted) within;
+          answers = it.answers;
+          last = it.last;
+        },
+        within,
+      )
 
   -- the counts that looks were answered
-  pub seen-counts : HaveReadMasks (coord_view e.coord).masks e.seats.items → z.counts ≡ map (λ p. p.count) service.pages → HaveReadBetween (coord_view e.coord).opening (coord_view e.coord).phase e.seats.items → AreRightCounts service e.logs.items
+  pub seen-counts : HaveReadMasks (coord_view e.coord).masks e.seats.items → z.counts ≡ map (λ p. p.count) known.pages → HaveReadBetween (coord_view e.coord).opening (coord_view e.coord).phase e.seats.items → AreRightCounts served e.logs.items
   seen-counts masks initial reads = λ worker d within.
       let log : WorkerLog = get_or e.logs.items worker d in
       let at : slice_get e.logs.items worker ≡ Some log = slice_get-get_or e.logs.items worker d within in
@@ -218,11 +281,11 @@ module _ (service : Service) (workers : ℕ) (board : BoardId) (z : Opening) (e 
       (reads worker seat.0 (slice_get_within e.seats.items worker seat.0 seat.1.0))
       in
       let between : P z s.0.worker.post = subst (λ (y : Opening). P y s.0.worker.post) h.opening (subst (P (coord_view e.coord).opening) seat.1.1 own) in
-      right-counts service (runs_of e.logs.items) log.ran.items s.0.worker.post.additions s.0.worker.post.reads z.counts (seats_before e.seats.items) last
-      (λ page. ap (λ cs. get_or cs page 0) initial ∙ initial-at service page)
+      right-counts served (runs_of e.logs.items) log.ran.items s.0.worker.post.additions s.0.worker.post.reads z.counts (seats_before e.seats.items) last
+      (λ page. ap (λ cs. get_or cs page 0) initial ∙ initial-at known page)
       (all-before masks)
-      (s.1.1.by_phase service (is.works, right-at-server masks worker s.0 s.1.0))
-      (s.1.1.looks service (is.works, right-at-server masks worker s.0 s.1.0))
+      (s.1.1.by_phase known (is.works hot_known, right-at-server masks worker s.0 s.1.0))
+      (s.1.1.looks known (is.works hot_known, right-at-server masks worker s.0 s.1.0))
       between
       (log-at masks worker log at).answers
 

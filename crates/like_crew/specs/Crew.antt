@@ -1,11 +1,9 @@
 -- The crew of a run: the coordinator at its board, and the servers of the workers.
-use Rattle.std.specs.Prelude.{◌≡◌, ◌%◌, ◌<◌, ℕ, List, [], Some, length, slice_get, All}
+use Rattle.std.specs.Prelude.{◌≡◌, ◌%◌, ◌<◌, ℕ, List, Some, length, slice_get, All}
 use Rattle.std.specs.List.{AllZip}
 use Rattle.like_requests.specs.declared.request.Request.{Request}
 use Rattle.like_requests.specs.declared.setup.Setup.{Setup}
 use Rattle.like_core.specs.declared.worker_state.WorkerState.TheVariants.{Gone}
-use Rattle.like_core.specs.declared.view.PhaseMask.{PhaseMask}
-use Rattle.like_core.specs.PhaseMasks.{mask_of}
 use Rattle.like_board.specs.Seats.{board_id, board_numbers}
 use Rattle.like_roles.specs.CoordTurns.{CoordinatorView}
 use Rattle.like_tables.specs.Share.{place_of}
@@ -16,17 +14,13 @@ use Rattle.like_crew.specs.Server.{ServerGoesOn, ServerView}
 use Rattle.like_crew.specs.Servers.{AreServers}
 use Rattle.like_crew.specs.Site.{opening_of}
 
--- no phase was released with hot pages
-abbrev pub NoneHot : List PhaseMask → Type 0
-NoneHot masks = (phase : ℕ) → mask_of masks phase ≡ 0
-
--- the same coordinator, later: of the same board, which opened in the same way, with as many turns in each phase; and
--- if it had released no phase with hot pages, it still has not
+-- the same coordinator, later: of the same board, which opened in the same way, with as many turns in each phase and as
+-- many likes that make a page hot
 pub record LeadGoesOn (v w : CoordinatorView) : Type 0 where
   pub board : w.board ≡ v.board
   pub opening : w.seat.opening ≡ v.seat.opening
   pub turns : w.turns ≡ v.turns
-  pub hot : NoneHot v.seat.masks → NoneHot w.seat.masks
+  pub hot : w.choice.hot ≡ v.choice.hot
 
 -- the same crew, later
 pub record GoesOn {I : Type 0} (c d : Crew I) : Type 0 where
@@ -38,7 +32,7 @@ pub record IsCrew {I : Type 0} (setup : Setup) (plans : List (List Request)) (si
   pub board : c.lead.board ≡ board_id site.board
   pub opening : c.lead.seat.opening ≡ opening_of setup
   pub turns : c.lead.turns ≡ setup.turns
-  pub no_masks : c.lead.seat.masks ≡ []
+  pub hot : c.lead.choice.hot ≡ setup.hot
   pub servers : AreServers (service_of setup plans) setup.workers (board_numbers (board_id site.board)) c.servers.items
 
 -- among these servers a submitter has an inbox: that of its worker has it

@@ -8,10 +8,14 @@ use Rattle.like_roles.specs.declared.log.Ran.{Ran}
 use Rattle.like_roles.specs.declared.log.WorkerLog.{WorkerLog}
 use Rattle.like_roles.specs.Likes.{initial_count, last_like, likes}
 use Rattle.like_roles.specs.Replies.{HasRightCounts}
+use Rattle.like_roles.specs.HotPages.{chosen_below}
 use Rattle.like_roles.specs.Service.{Service, submitters}
 use Rattle.like_replies.specs.declared.report.Report.{Report}
 use Rattle.like_replies.specs.Collected.{IsCollected, rows_of}
 use Rattle.like_replies.specs.Entries.{entries_in}
+use Rattle.like_requests.specs.declared.request.Request.{Request}
+use Rattle.like_requests.specs.declared.setup.Setup.{Setup}
+use Rattle.like_crew.specs.Asked.{asked}
 use Rattle.like_crew.specs.Log.{IsLog}
 
 -- the run lists of all workers
@@ -47,7 +51,8 @@ abbrev pub AreRightCounts : Service → List WorkerLog → Type 0
 AreRightCounts service logs = All (λ log. HasRightCounts service (runs_of logs) log.ran.items) logs
 
 -- end to end: there is a log for each worker; each request has the answer of its one entry; the counts and the last likes
--- are those of the run lists; the run ended in a joined phase; and each look was answered a right count
+-- are those of the run lists; the run ended in a joined phase; each look was answered a right count; and the phases with
+-- hot pages are listed, up to the last
 pub record IsEndToEnd (service : Service) (workers : ℕ) (r : Report) : Type 0 where
   pub workers_all : length r.logs.items ≡ workers
   pub logs : AreLogs service workers r.phases r.logs.items
@@ -56,3 +61,9 @@ pub record IsEndToEnd (service : Service) (workers : ℕ) (r : Report) : Type 0 
   pub last : AreLastLikes service workers r.logs.items r.last.items
   pub joined : IsJoined r.phases
   pub seen : AreRightCounts service r.logs.items
+  pub hot : r.hot.items ≡ chosen_below service.hot r.phases
+
+-- a right report of settings and plans: end to end, with the hot pages that its own run lists tell
+abbrev pub IsRightReport : Setup → List (List Request) → Report → Type 0
+IsRightReport setup plans r =
+    IsEndToEnd (asked setup plans (runs_of r.logs.items)) setup.workers r

@@ -2,16 +2,18 @@
 use Rattle.std.specs.Prelude.{◌≡◌, ℕ, List}
 use Rattle.std.specs.List.{AllZip}
 use Rattle.like_core.specs.Phase.{IsJoined}
-use Rattle.like_core.specs.PhaseMasks.{mask_of}
 use Rattle.like_core.specs.declared.worker_state.WorkerState.TheVariants.{Gone}
-use Rattle.like_core.specs.declared.opening.Opening.{Opening}
 use Rattle.like_board.specs.declared.worker_seat.WorkerSeat.{WorkerSeat}
 use Rattle.like_board.specs.Seats.{BoardId, board_numbers, coord_board, coord_view, seat_meaning}
-use Rattle.like_roles.specs.CoordTurns.{CoordinatorView, HasEndedJoined}
+use Rattle.like_roles.specs.CoordTurns.{ChoseByCounts, CoordinatorView, HasEndedJoined}
 use Rattle.like_roles.specs.declared.log.WorkerLog.{WorkerLog}
-use Rattle.like_roles.specs.Service.{Service}
+use Rattle.like_requests.specs.declared.request.Request.{Request}
+use Rattle.like_requests.specs.declared.setup.Setup.{Setup}
+use Rattle.like_roles.specs.Choice.{AreTotals, ChoiceView, HasChosen}
 use Rattle.like_crew.specs.declared.crew.Crew.{Crew}
 use Rattle.like_crew.specs.declared.ended.Ended.{Ended}
+use Rattle.like_crew.specs.Asked.{service_of}
+use Rattle.like_crew.specs.Site.{opening_of}
 use Rattle.like_crew.specs.Crew.{AllGone, LeadGoesOn}
 use Rattle.like_crew.specs.Server.{IsLogOf, ServerGoesOn, ServerView}
 use Rattle.like_crew.specs.Servers.{AreServers}
@@ -36,12 +38,15 @@ pub record HaveLeft (first : List ServerView) (logs : List WorkerLog) (seats : L
   pub logs_are : AllZip IsLogOf servers logs
   pub seats_are : AllZip IsSeatOf servers seats
 
--- the coordinator found the run ended, in a joined phase, and left this phase and this seat
+-- the coordinator found the run ended, in a joined phase, and chose by the counts that it read; and it left this phase,
+-- this seat and its choices
 pub record IsLeadOf (v : CoordinatorView) (e : Ended) : Type 0 where
   pub ended : HasEndedJoined v
   pub coord : coord_board e.coord ≡ v.board
   pub view : coord_view e.coord ≡ v.seat
   pub phases : e.phases ≡ v.phase
+  pub chosen : e.chosen.items ≡ v.choice.chosen
+  pub chose : ChoseByCounts v
 
 -- a crew went on from this one until its run had ended, and left this
 pub record HasEnded {I : Type 0} (c : Crew I) (e : Ended) : Type 0 where
@@ -50,16 +55,20 @@ pub record HasEnded {I : Type 0} (c : Crew I) (e : Ended) : Type 0 where
   pub later : LeadGoesOn c.lead lead
   pub lead_is : IsLeadOf lead e
 
--- a run that has ended: its workers are gone, and their servers left these logs and seats; and it ended in a joined
--- phase, which is the last one that the coordinator's seat knows; and it released each phase with the service's mask
-pub record IsEnded (service : Service) (workers : ℕ) (board : BoardId) (z : Opening) (e : Ended) : Type 0 where
+-- a run of these plans that has ended: its workers are gone, and their servers left these logs and seats; and it ended in
+-- a joined phase, which is the last one that the coordinator's seat knows; and the coordinator chose by its counts
+pub record IsEnded (setup : Setup) (plans : List (List Request)) (board : BoardId) (e : Ended) : Type 0 where
   pub servers : List ServerView
-  pub are_servers : AreServers service workers (board_numbers board) servers
+  pub are_servers : AreServers (service_of setup plans) setup.workers (board_numbers board) servers
   pub gone : AllGone servers
   pub logs : AllZip IsLogOf servers e.logs.items
   pub seats : AllZip IsSeatOf servers e.seats.items
   pub coord : coord_board e.coord ≡ board
-  pub opening : (coord_view e.coord).opening ≡ z
+  pub opening : (coord_view e.coord).opening ≡ opening_of setup
   pub phases : e.phases ≡ (coord_view e.coord).phase
   pub joined : IsJoined e.phases
-  pub hot : (phase : ℕ) → mask_of (coord_view e.coord).masks phase ≡ service.hot phase
+  pub choice : ChoiceView
+  pub hot : choice.hot ≡ setup.hot
+  pub chosen : e.chosen.items ≡ choice.chosen
+  pub chose : (total : ℕ → ℕ → ℕ) → AreTotals total (coord_view e.coord).counted
+      → HasChosen (coord_view e.coord) choice total

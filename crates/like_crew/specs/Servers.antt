@@ -5,12 +5,12 @@ use Rattle.like_tables.specs.Share.{share_of}
 use Rattle.like_roles.specs.Service.{Service, submitters}
 use Rattle.like_crew.specs.Server.{ServerView, WorksFor}
 
--- the server of a worker of the run, at this board
+-- the server of a worker of the run, at this board; it works for the run whatever pages are hot
 pub record IsServer (service : Service) (workers : ℕ) (board : List ℕ) (worker : ℕ) (s : ServerView) : Type 0 where
   pub share : s.worker.last.share ≡ share_of service.users (submitters service) workers worker
   pub whose : s.worker.post.worker ≡ worker
   pub board_is : s.worker.post.board ≡ board
-  pub works : WorksFor service s
+  pub works : (hot : ℕ → ℕ) → WorksFor (record service { hot = hot }) s
 
 -- the servers of all workers, in order
 abbrev pub AreServers : Service → ℕ → List ℕ → List ServerView → Type 0

@@ -54,10 +54,15 @@ impl<'a, I: Inbox> Crew<'a, I> {
     {
         let Seats { coord, workers } = seats;
         let servers = servers_of(alloc, setup, &site.sizes, &site.board, workers, inboxes)?;
-        Ok(Crew {
-            lead: Lead::new(&site.board, coord, setup.turns),
-            servers,
-        })
+        let lead = Lead::new(
+            alloc,
+            &site.board,
+            coord,
+            setup.turns,
+            setup.hot,
+            &site.counts,
+        )?;
+        Ok(Crew { lead, servers })
     }
 
     /// Takes a crew apart whose run has ended.

@@ -4,7 +4,7 @@ ghost use Rattle.like_crew.specs.Ended.{IsLeadOf};
 
 use crate::crew::Lead;
 use like_board::{CoordSeat, WorkerSeat};
-use like_roles::WorkerLog;
+use like_roles::{Chosen, WorkerLog};
 
 /// What a crew leaves when its run has ended.
 #[derive(Drop)]
@@ -14,6 +14,8 @@ pub struct Ended {
     /// The phase in which it ended.
     pub(crate) phases: u32,
     pub(crate) coord: CoordSeat,
+    /// The phases with hot pages, as the coordinator chose them.
+    pub(crate) chosen: Vec<Chosen>,
 }
 
 impl Ended {
@@ -25,11 +27,14 @@ impl Ended {
         ensures seats { result.seats ≡ seats }
     {
         let coordinator = lead.coordinator;
+        let phases = coordinator.phase();
+        let (coord, chosen) = coordinator.finish();
         Ended {
             logs,
             seats,
-            phases: coordinator.phase(),
-            coord: coordinator.finish(),
+            phases,
+            coord,
+            chosen,
         }
     }
 }

@@ -1,11 +1,11 @@
 ghost use Rattle.std.specs.Prelude.{◌≡◌, ◌<◌, ◌≤◌, ℕ, All, IfOk, IfSome, length, slice_index};
 ghost use Rattle.like_requests.specs.Setup.{IsWithinLimits};
-ghost use Rattle.like_board.specs.Seats.{AreAll, board_id, coord_board, coord_view, last_count, seat_board, seat_meaning, HaveReadBetween, HaveReadMasks};
+ghost use Rattle.like_board.specs.Seats.{AreAll, AreCounted, board_id, coord_board, coord_view, last_count, seat_board, seat_meaning, HaveReadBetween, HaveReadMasks};
 ghost use Rattle.like_core.specs.declared.worker_state.WorkerState.TheVariants.{Gone};
-ghost use Rattle.like_crew.specs.Asked.{asked, lists_of};
-ghost use Rattle.like_crew.specs.EndToEnd.{IsEndToEnd};
+ghost use Rattle.like_crew.specs.Asked.{lists_of};
+ghost use Rattle.like_crew.specs.EndToEnd.{IsRightReport};
 ghost use Rattle.like_crew.specs.Ended.{IsEnded};
-ghost use Rattle.like_crew.specs.Site.{IsSite, opening_of};
+ghost use Rattle.like_crew.specs.Site.{IsSite};
 
 use crate::ended::Ended;
 use crate::report::gathered::{last_likes, replies_of};
@@ -28,9 +28,8 @@ pub fn report_of(
 ) -> Result<Report, AllocError>
     requires within { IsWithinLimits setup.now (lists_of plans.now.value.items) }
     requires site { IsSite setup.now (lists_of plans.now.value.items) site }
-    requires ended { let service = asked setup.now plans.now.value.items in
-        IsEnded service setup.now.workers (board_id site.board) (opening_of setup.now) ended }
-    ensures { IfOk result (IsEndToEnd (asked setup.now plans.now.value.items) setup.now.workers) }
+    requires ended { IsEnded setup.now (lists_of plans.now.value.items) (board_id site.board) ended }
+    ensures { IfOk result (IsRightReport setup.now (lists_of plans.now.value.items)) }
 {
     let Site {
         sizes,
@@ -42,6 +41,7 @@ pub fn report_of(
         seats,
         phases,
         coord,
+        chosen,
     } = ended;
     let counts = final_counts(board, coord, seats, counts);
     let replies = replies_of(alloc, &sizes, &logs)?;
@@ -52,6 +52,7 @@ pub fn report_of(
         counts,
         last,
         phases,
+        hot: chosen,
     })
 }
 
@@ -74,6 +75,7 @@ fn final_counts(
         seats.items }
     ensures reads { HaveReadBetween (coord_view coord).opening (coord_view coord).phase seats.items }
     ensures masks { HaveReadMasks (coord_view coord).masks seats.items }
+    ensures counted { AreCounted (coord_view coord) seats.items }
 {
     let mut counts = initial;
     board.close(coord, seats, &mut counts);

@@ -3,9 +3,9 @@ ghost use Rattle.like_requests.specs.Setup.{IsWithinLimits};
 ghost use Rattle.like_roles.specs.CoordTurns.{HasEndedJoined};
 ghost use Rattle.like_script.specs.Fit.{IsInRun};
 ghost use Rattle.like_script.specs.Limits.{max_entries};
-ghost use Rattle.like_crew.specs.Asked.{asked, lists_of};
+ghost use Rattle.like_crew.specs.Asked.{lists_of};
 ghost use Rattle.like_crew.specs.Crew.{AllGone, GoesOn};
-ghost use Rattle.like_crew.specs.EndToEnd.{IsEndToEnd};
+ghost use Rattle.like_crew.specs.EndToEnd.{IsRightReport};
 ghost use Rattle.like_crew.specs.Ended.{HasEnded};
 ghost use Rattle.like_run.specs.Rounds.{CanMake, Fits, IsFaultUnderWay, IsReplayFault};
 
@@ -35,7 +35,7 @@ pub fn replay(
     script: &[Turned],
 ) -> Result<Report, ReplayFault>
     requires { length script.now ≤ max_entries }
-    ensures report { IfOk result (IsEndToEnd (asked setup.now plans.items) setup.now.workers) }
+    ensures report { IfOk result (IsRightReport setup.now (lists_of plans.items)) }
     ensures fits { OnOk result (Fits setup.now (lists_of plans.items) script.now) }
     ensures fault { IfErr result (IsReplayFault setup.now (lists_of plans.items) script.now) }
 {
@@ -53,7 +53,7 @@ fn replay_within(
 ) -> Result<Report, ReplayFault>
     requires within { IsWithinLimits setup.now (lists_of plans.items) }
     requires script { All (IsInRun setup.now.workers (length plans.items)) script.now }
-    ensures report { IfOk result (IsEndToEnd (asked setup.now plans.items) setup.now.workers) }
+    ensures report { IfOk result (IsRightReport setup.now (lists_of plans.items)) }
     ensures fault { IfErr result IsFaultUnderWay }
 {
     let (site, seats) = Site::new(alloc, setup, &plans)?;

@@ -1,7 +1,7 @@
 ghost use Rattle.std.specs.Prelude.{◌≡◌, ◌+◌, ◌≤◌, IfErr, IfOk, OnOk, length};
 ghost use Rattle.like_requests.specs.Setup.{IsWithinLimits};
-ghost use Rattle.like_crew.specs.Asked.{asked, lists_of};
-ghost use Rattle.like_crew.specs.EndToEnd.{IsEndToEnd};
+ghost use Rattle.like_crew.specs.Asked.{lists_of};
+ghost use Rattle.like_crew.specs.EndToEnd.{IsRightReport};
 ghost use Rattle.like_run.specs.Lines.{AreNewEnds};
 ghost use Rattle.like_run.specs.Threads.{HasEndedOn, IsFaultUnderWay, IsRunFault};
 
@@ -42,7 +42,7 @@ pub fn run<R: Threads + Wait + Sync, G: Gate>(
     plans: Vec<Vec<Request>>,
     gate: &G,
 ) -> Result<Report, RunFault>
-    ensures report { IfOk result (IsEndToEnd (asked setup.now plans.items) setup.now.workers) }
+    ensures report { IfOk result (IsRightReport setup.now (lists_of plans.items)) }
     ensures within { OnOk result (IsWithinLimits setup.now (lists_of plans.items)) }
     ensures fault { IfErr result (IsRunFault setup.now (lists_of plans.items)) }
 {
@@ -61,7 +61,7 @@ pub fn run_limited<R: Threads + Wait + Sync, G: Gate>(
     gate: &G,
     starts: u32,
 ) -> Result<Report, RunFault>
-    ensures report { IfOk result (IsEndToEnd (asked setup.now plans.items) setup.now.workers) }
+    ensures report { IfOk result (IsRightReport setup.now (lists_of plans.items)) }
     ensures within { OnOk result (IsWithinLimits setup.now (lists_of plans.items)) }
     ensures enough { OnOk result (setup.now.workers + length plans.items ≤ starts) }
     ensures fault { IfErr result (IsRunFault setup.now (lists_of plans.items)) }
@@ -80,7 +80,7 @@ fn run_within<R: Threads + Wait + Sync, G: Gate>(
     starts: usize,
 ) -> Result<Report, RunFault>
     requires { IsWithinLimits setup.now (lists_of plans.items) }
-    ensures report { IfOk result (IsEndToEnd (asked setup.now plans.items) setup.now.workers) }
+    ensures report { IfOk result (IsRightReport setup.now (lists_of plans.items)) }
     ensures enough { OnOk result (setup.now.workers + length plans.items ≤ starts) }
     ensures fault { IfErr result IsFaultUnderWay }
 {

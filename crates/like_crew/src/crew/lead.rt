@@ -1,10 +1,11 @@
-ghost use Rattle.std.specs.Prelude.{◌≡◌, true};
+ghost use Rattle.std.specs.Prelude.{◌≡◌, [], IfOk, true};
 ghost use Rattle.like_board.specs.Seats.{board_id, coord_board, coord_view};
 ghost use Rattle.like_roles.specs.CoordTurns.{HasEndedJoined};
 ghost use Rattle.like_crew.specs.Crew.{LeadGoesOn};
 
 use like_board::{Board, CoordSeat};
 use like_roles::{CoordTurn, Coordinator};
+use std::alloc::{AllocError, Global};
 use std::marker::Model;
 
 /// The coordinator at its board.
@@ -17,27 +18,39 @@ pub struct Lead<'a> {
 impl<'a> Model for Lead<'a> {
     ghost use Rattle.std.specs.Prelude.{◌≡◌};
     ghost use Rattle.like_board.specs.Seats.{board_id};
-    ghost use Rattle.like_roles.specs.CoordTurns.{CoordinatorView, IsBeforeEnd};
+    ghost use Rattle.like_roles.specs.CoordTurns.{ChoseByCounts, CoordinatorView, IsBeforeEnd};
 
     ghost Value = { CoordinatorView };
 
     ghost view = { λ l. l.coordinator };
 
-    ghost invariant = { λ l. (l.coordinator.board ≡ board_id l.board.now) × IsBeforeEnd l.coordinator };
+    ghost invariant = { λ l. (l.coordinator.board ≡ board_id l.board.now) × IsBeforeEnd l.coordinator
+        × ChoseByCounts l.coordinator };
 }
 
 impl<'a> Lead<'a> {
-    /// The coordinator at this board that counts so many turns in each phase.
-    pub(crate) fn new(board: &'a Board, seat: CoordSeat, turns: u32) -> Lead<'a>
+    /// The coordinator at this board, which was made with these counts; it counts so many turns in each phase, and `hot`
+    /// likes make a page hot.
+    pub(crate) fn new(
+        alloc: Global,
+        board: &'a Board,
+        seat: CoordSeat,
+        turns: u32,
+        hot: Option<u32>,
+        counts: &[u64],
+    ) -> Result<Lead<'a>, AllocError>
         requires here { coord_board seat ≡ board_id board.now }
+        requires counts { counts.now ≡ (coord_view seat).opening.counts }
         requires new { (coord_view seat).phase ≡ 0 }
-        ensures board { result.board ≡ board_id board.now }
-        ensures seat { result.seat ≡ coord_view seat }
-        ensures turns { result.turns ≡ turns }
+        requires no_masks { (coord_view seat).masks ≡ [] }
+        ensures board { IfOk result (λ lead. lead.board ≡ board_id board.now) }
+        ensures seat { IfOk result (λ lead. lead.seat ≡ coord_view seat) }
+        ensures turns { IfOk result (λ lead. lead.turns ≡ turns) }
+        ensures hot { IfOk result (λ lead. lead.choice.hot ≡ hot) }
     {
-        Lead {
-            board,
-            coordinator: Coordinator::new(seat, turns),
+        match Coordinator::new(alloc, seat, turns, hot, counts) {
+            Ok(coordinator) => Ok(Lead { board, coordinator }),
+            Err(_) => Err(AllocError),
         }
     }
 

@@ -8,22 +8,21 @@ use Rattle.like_board.specs.Seats.{board_id}
 use Rattle.like_replies.specs.Collected.{IsCollected, rows_of}
 use Rattle.like_replies.specs.Entries.{entries_in}
 use Rattle.like_roles.specs.declared.log.WorkerLog.{WorkerLog}
-use Rattle.like_roles.specs.Service.{Service}
 use Rattle.like_tables.specs.Share.{worker_of}
 use Rattle.like_crew.specs.Asked.{asked, lists_of}
 use Rattle.like_crew.specs.Gathered.{AreTables, RunsOnce}
-use Rattle.like_crew.specs.Site.{opening_of}
-use Rattle.like_crew.proofs.Whole.{all-gone, all-here, are-all, counts-are, last-likes-are, log-at, logs-are, logs-size, runs-once, seen-counts, tables}
+use Rattle.like_crew.specs.EndToEnd.{runs_of}
+use Rattle.like_crew.proofs.Whole.{all-gone, all-here, are-all, chosen-are, counts-are, known, last-likes-are, log-at, logs-are, logs-size, runs-once, seen-counts, tables}
 use Rattle.like_crew.proofs.report.report_of.Goals as goal
 
 pub final_counts-counts-requires-clause-seats_here : goal.final_counts-counts-requires-clause-seats_here
-final_counts-counts-requires-clause-seats_here c = all-here (asked c.args.setup.now c.args.plans.now.value.items) c.args.setup.now.workers (board_id c.args.site.board) (opening_of c.args.setup.now) c.args.ended c.requires.ended
+final_counts-counts-requires-clause-seats_here c = all-here c.args.setup.now (lists_of c.args.plans.now.value.items) (board_id c.args.site.board) c.args.ended c.requires.ended
 
 pub final_counts-counts-requires-clause-gone : goal.final_counts-counts-requires-clause-gone
-final_counts-counts-requires-clause-gone c = all-gone (asked c.args.setup.now c.args.plans.now.value.items) c.args.setup.now.workers (board_id c.args.site.board) (opening_of c.args.setup.now) c.args.ended c.requires.ended
+final_counts-counts-requires-clause-gone c = all-gone c.args.setup.now (lists_of c.args.plans.now.value.items) (board_id c.args.site.board) c.args.ended c.requires.ended
 
 pub final_counts-counts-requires-clause-all : goal.final_counts-counts-requires-clause-all
-final_counts-counts-requires-clause-all c = are-all (asked c.args.setup.now c.args.plans.now.value.items) c.args.setup.now.workers (board_id c.args.site.board) (opening_of c.args.setup.now) c.args.ended c.requires.ended refl
+final_counts-counts-requires-clause-all c = are-all c.args.setup.now (lists_of c.args.plans.now.value.items) (board_id c.args.site.board) c.args.ended c.requires.ended refl
 
 pub final_counts-counts-requires-clause-places : goal.final_counts-counts-requires-clause-places
 final_counts-counts-requires-clause-places c = ap (λ (xs : List ℕ). length xs) (c.requires.site.counts ∙ sym (ap (λ (z : Opening). z.counts) c.requires.ended.opening))
@@ -33,13 +32,12 @@ replies_of-requires-clause-few c = omega (arith, ap (λ (xs : List ℕ). length 
 
 pub replies_of-requires-clause-once : goal.replies_of-requires-clause-once
 replies_of-requires-clause-once c =
-    let service : Service = asked c.args.setup.now c.args.plans.now.value.items in
+    let plans : List (List Request) = lists_of c.args.plans.now.value.items in
     let workers : ℕ = c.args.setup.now.workers in
     let e = c.args.ended in
-    let z : Opening = opening_of c.args.setup.now in
     subst (λ (logs : List WorkerLog). RunsOnce c.deref.result.now (entries_in logs)) (sym c.deref-2.ensures.value)
-    (runs-once service workers e.logs.items c.deref.result.now (c.deref.ensures.value ∙ c.requires.site.sizes) (logs-size service workers (board_id c.args.site.board) z e c.requires.ended)
-    c.requires.within.numbers.workers.0 (log-at service workers (board_id c.args.site.board) z e c.requires.ended c.final_counts-counts.ensures.masks))
+    (runs-once (known c.args.setup.now plans (board_id c.args.site.board) e c.requires.ended) workers e.logs.items c.deref.result.now (c.deref.ensures.value ∙ c.requires.site.sizes) (logs-size c.args.setup.now plans (board_id c.args.site.board) e c.requires.ended)
+    c.requires.within.numbers.workers.0 (log-at c.args.setup.now plans (board_id c.args.site.board) e c.requires.ended c.final_counts-counts.ensures.masks))
 
 -- the number of submitters
 submitters-are : (many : ℕ) (sizes : List ℕ) (plans : List (List Request)) → many ≡ length sizes → sizes ≡ map length plans → many ≡ length plans
@@ -50,42 +48,43 @@ last_likes-requires-clause-submitters c = omega (arith, c.len.ensures, c.args.si
 
 pub last_likes-requires-clause-logs : goal.last_likes-requires-clause-logs
 last_likes-requires-clause-logs c =
-    let size = logs-size (asked c.args.setup.now c.args.plans.now.value.items) c.args.setup.now.workers (board_id c.args.site.board) (opening_of c.args.setup.now) c.args.ended c.requires.ended in
+    let size = logs-size c.args.setup.now (lists_of c.args.plans.now.value.items) (board_id c.args.site.board) c.args.ended c.requires.ended in
     let same : length c.deref-3.result.now ≡ c.args.setup.now.workers = ap (λ (xs : List WorkerLog). length xs) c.deref-3.ensures.value ∙ size in
     let some : 1 ≤ c.args.setup.now.workers = c.requires.within.numbers.workers.0 in
     omega (arith, same, some)
 
 pub last_likes-requires-clause-tables : goal.last_likes-requires-clause-tables
 last_likes-requires-clause-tables c =
-    let service : Service = asked c.args.setup.now c.args.plans.now.value.items in
+    let plans : List (List Request) = lists_of c.args.plans.now.value.items in
     let many = submitters-are c.len.result c.args.site.sizes.items (lists_of c.args.plans.now.value.items) (c.len.ensures ∙ c.args.site.sizes.ok.0) c.requires.site.sizes in
     subst (λ (logs : List WorkerLog). AreTables c.args.setup.now.users c.len.result logs) (sym c.deref-3.ensures.value)
     (subst (λ n. AreTables c.args.setup.now.users n c.args.ended.logs.items) (sym many)
-    (tables service c.args.setup.now.workers (board_id c.args.site.board) (opening_of c.args.setup.now) c.args.ended c.requires.ended))
+    (tables c.args.setup.now plans (board_id c.args.site.board) c.args.ended c.requires.ended))
 
 pub returns : goal.returns
 returns c =
-    let service : Service = asked c.args.setup.now c.args.plans.now.value.items in
+    let plans : List (List Request) = lists_of c.args.plans.now.value.items in
     let workers : ℕ = c.args.setup.now.workers in
     let e = c.args.ended in
-    let z : Opening = opening_of c.args.setup.now in
     let h = c.requires.ended in
-    let size : length e.logs.items ≡ workers = logs-size service workers (board_id c.args.site.board) z e h in
+    let size : length e.logs.items ≡ workers = logs-size c.args.setup.now plans (board_id c.args.site.board) e h in
     let sized : c.deref.result.now ≡ map length (lists_of c.args.plans.now.value.items) = c.deref.ensures.value ∙ c.requires.site.sizes in
     let many = submitters-are c.len.result c.args.site.sizes.items (lists_of c.args.plans.now.value.items) (c.len.ensures ∙ c.args.site.sizes.ok.0) c.requires.site.sizes in
     let before : length c.args.site.counts.items ≡ length c.args.setup.now.pages = ap (λ (xs : List ℕ). length xs) c.requires.site.counts ∙ length-map c.args.setup.now.pages (λ (p : Page). p.count) in
+    let logs = logs-are c.args.setup.now plans (board_id c.args.site.board) e h c.final_counts-counts.ensures.masks c.final_counts-counts.ensures.counted c.final_counts-counts.ensures.phases in
     record {
       workers_all = size;
-      logs = logs-are service workers (board_id c.args.site.board) z e h c.final_counts-counts.ensures.masks c.final_counts-counts.ensures.phases;
+      logs = logs;
       replies = subst (λ sizes. IsCollected sizes (entries_in e.logs.items) (rows_of c.in_ok-replies.replies)) sized
           (subst (λ (logs : List WorkerLog). IsCollected c.deref.result.now (entries_in logs) (rows_of c.in_ok-replies.replies)) c.deref-2.ensures.value c.in_ok-replies.ensures);
-      counts = counts-are service workers (board_id c.args.site.board) z e h c.final_counts-counts.ensures.masks c.final_counts-counts.result.items refl (c.final_counts-counts.ensures.len ∙ before)
+      counts = counts-are c.args.setup.now plans (board_id c.args.site.board) e h c.final_counts-counts.ensures.masks c.final_counts-counts.result.items refl (c.final_counts-counts.ensures.len ∙ before)
           (λ page there. c.final_counts-counts.ensures.counts page (omega (arith, there, before)));
-      last = last-likes-are service workers e.logs.items c.in_ok-last.last.items size c.requires.within.numbers.workers.0 (log-at service workers (board_id c.args.site.board) z e h c.final_counts-counts.ensures.masks) c.in_ok-last.ensures.len
+      last = last-likes-are (asked c.args.setup.now plans (runs_of e.logs.items)) workers e.logs.items c.in_ok-last.last.items size c.requires.within.numbers.workers.0 (λ worker log at. (logs worker log at).0) c.in_ok-last.ensures.len
           (λ user log there at.
           c.in_ok-last.ensures.last user log there
           (ap (λ (logs : List WorkerLog). slice_get logs (worker_of (length logs) (home c.len.result user))) c.deref-3.ensures.value
           ∙ ap (λ n. slice_get e.logs.items (worker_of (length e.logs.items) (home n user))) many ∙ at));
       joined = h.joined;
-      seen = seen-counts service workers (board_id c.args.site.board) z e h c.final_counts-counts.ensures.masks refl c.final_counts-counts.ensures.reads;
+      seen = seen-counts c.args.setup.now plans (board_id c.args.site.board) e h c.final_counts-counts.ensures.masks refl c.final_counts-counts.ensures.reads;
+      hot = chosen-are c.args.setup.now plans (board_id c.args.site.board) e h c.final_counts-counts.ensures.masks c.final_counts-counts.ensures.counted;
     }

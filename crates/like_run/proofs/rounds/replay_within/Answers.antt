@@ -4,9 +4,9 @@ use Rattle.like_requests.specs.Setup.{IsWithinLimits}
 use Rattle.like_requests.specs.declared.request.Request.{Request}
 use Rattle.like_script.specs.Fit.{IsInRun}
 use Rattle.like_board.specs.Seats.{board_id}
-use Rattle.like_crew.specs.Asked.{asked, lists_of}
+use Rattle.like_crew.specs.Asked.{lists_of}
 use Rattle.like_crew.specs.Ended.{IsEnded}
-use Rattle.like_crew.specs.Site.{IsSite, opening_of}
+use Rattle.like_crew.specs.Site.{IsSite}
 use Rattle.like_crew.proofs.Ending.{has-ended}
 use Rattle.like_crew.proofs.Asked.{requests_of}
 use Rattle.like_run.proofs.Entries.{can-make}
@@ -27,5 +27,5 @@ report_of-requires-clause-site c =
 
 pub report_of-requires-clause-ended : goal.report_of-requires-clause-ended
 report_of-requires-clause-ended c =
-    subst (λ (v : Vec (Vec Request Global) Global). IsEnded (asked c.args.setup.now v.items) c.args.setup.now.workers (board_id c.in_ok-site.site.board) (opening_of c.args.setup.now) c.in_ok-ended.ended) (sym c.of-lists.ensures)
+    subst (λ (v : Vec (Vec Request Global) Global). IsEnded c.args.setup.now (lists_of v.items) (board_id c.in_ok-site.site.board) c.in_ok-ended.ended) (sym c.of-lists.ensures)
     (has-ended c.args.setup.now (lists_of c.args.plans.items) c.in_ok-site.site c.in_ok-crew.crew c.in_ok-ended.ended c.in_ok-crew.ensures c.in_ok-ended.ensures.ended)

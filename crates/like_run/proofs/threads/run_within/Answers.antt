@@ -5,11 +5,11 @@ use Rattle.like_requests.specs.Setup.{IsWithinLimits}
 use Rattle.like_requests.specs.declared.request.Request.{Request}
 use Rattle.like_board.specs.Seats.{board_id, board_numbers}
 use Rattle.like_queue.specs.Line.{inbox_of}
-use Rattle.like_crew.specs.Asked.{asked, lists_of, service_of}
+use Rattle.like_crew.specs.Asked.{lists_of, service_of}
 use Rattle.like_crew.specs.Crew.{IsCrew}
 use Rattle.like_crew.specs.Ended.{IsEnded}
 use Rattle.like_crew.specs.Server.{plans_of, untouched}
-use Rattle.like_crew.specs.Site.{IsSite, opening_of}
+use Rattle.like_crew.specs.Site.{IsSite}
 use Rattle.like_crew.proofs.Asked.{requests_of}
 use Rattle.like_crew.proofs.Ending.{as-many, has-ended}
 use Rattle.like_crew.proofs.Makings.{all-small, are-untouched, plans-are}
@@ -61,7 +61,7 @@ report_of-requires-clause-ended g c =
     let plans : plans_of (map inbox_of c.in_ok-take_ends.field-0.items) ≡ lists_of c.args.plans.items = plans-are (map inbox_of c.in_ok-take_ends.field-0.items) (lists_of c.args.plans.items) inboxes in
     let crew : IsCrew c.args.setup.now (lists_of c.args.plans.items) c.in_ok-site.site c.in_ok-crew.crew =
     subst (λ asked. IsCrew c.args.setup.now asked c.in_ok-site.site c.in_ok-crew.crew) plans c.in_ok-crew.ensures in
-    subst (λ (v : Vec (Vec Request Global) Global). IsEnded (asked c.args.setup.now v.items) c.args.setup.now.workers (board_id c.in_ok-site.site.board) (opening_of c.args.setup.now) c.in_ok-ended.ended) (sym c.of-lists.ensures)
+    subst (λ (v : Vec (Vec Request Global) Global). IsEnded c.args.setup.now (lists_of v.items) (board_id c.in_ok-site.site.board) c.in_ok-ended.ended) (sym c.of-lists.ensures)
     (has-ended c.args.setup.now (lists_of c.args.plans.items) c.in_ok-site.site c.in_ok-crew.crew c.in_ok-ended.ended crew c.in_ok-ended.ensures.ended.ended)
 
 -- an answer of a run says what an answer of its threads says
