@@ -29,7 +29,7 @@ use Rattle.clap.specs.declared.parser.matches.ValueSource.{ValueSource}
 use Rattle.clap.specs.declared.parser.matches.ValueSource.TheVariants.{DefaultValue}
 use Rattle.like_words.specs.declared.asked.Asked.{Asked}
 use Rattle.like_words.specs.declared.asked.Asked.TheVariants.{Run, Replay, Help}
-use Rattle.like_words.specs.Asked.{Asks, Gives, GivesReplay, GivesRun, HasAll, HasNumber, IsEntered}
+use Rattle.like_words.specs.Asked.{Asks, Gives, GivesReplay, GivesRun, HasAll, HasNumber, IsEntered, MayHaveNumber}
 use Rattle.like_words.specs.CommandLine.{likes, replay_command, run_command}
 use Rattle.like_words.proofs.Walked.{AllFit, FirstPasses, Good, IsGood, good_defaults, good_settled, good_walk, neither, some_kind}
 
@@ -128,6 +128,23 @@ number_found c a least most rows g own h parser =
           accepts-Accepts a.ignore_case (vp.Signed (pos least) (pos most)) v (accepted a.ignore_case (vp.Signed (pos least) (pos most)) v passes),
         )
 
+no_row : (id : Text) (rows : List Row) → has_row id rows ≡ false → find (λ x. bytes_eq x.id id) rows ≡ None
+no_row id [] h = refl
+no_row id (r ∷ rs) h = go (bytes_eq r.id id) h (no_row id rs)
+  where
+    go : (b : Bool) → (b || has_row id rs) ≡ false → (has_row id rs ≡ false → find (λ x. bytes_eq x.id id) rs ≡ None) → cond b (Some r) (find (λ x. bytes_eq x.id id) rs) ≡ None
+    go true e rest = absurd (true≢false e)
+    go false e rest = rest e
+
+-- an option with bounds that may be left out has a number within them, or none
+may_be_found : (c : List Rule) (a : Rule) (least most : ℕ) (rows : List Row) → Good c rows → arg_by_id c a.id ≡ Some a
+    → a.parser ≡ Some (vp.Signed (pos least) (pos most)) → MayHaveNumber rows a.id least most
+may_be_found c a least most rows g own parser = go (has_row a.id rows) refl
+  where
+    go : (b : Bool) → has_row a.id rows ≡ b → MayHaveNumber rows a.id least most
+    go true h = inr (number_found c a least most rows g own h parser)
+    go false h = inl (rw (no_row a.id rows h) refl)
+
 text_found : (c : List Rule) (a : Rule) (rows : List Row) → Good c rows → arg_by_id c a.id ≡ Some a → has_row a.id rows ≡ true
     → (v : Text) × (vs : List Text) × (all_of a.id rows ≡ Some (v ∷ vs)) × (first_of a.id rows ≡ Some v)
 text_found c a rows g own h =
@@ -163,7 +180,7 @@ abbrev run_rule_at : ℕ → Rule
 run_rule_at i = slice_index_or run_rules i (new_rule [])
 
 run_rules_fit : AllFit run_rules run_rules
-run_rules_fit = (record { own = refl; some = refl }, (record { own = refl; some = refl }, (record { own = refl; some = refl }, (record { own = refl; some = refl }, (record { own = refl; some = refl }, (record { own = refl; some = refl }, (record { own = refl; some = tt }, tt)))))))
+run_rules_fit = (record { own = refl; some = refl }, (record { own = refl; some = refl }, (record { own = refl; some = refl }, (record { own = refl; some = refl }, (record { own = refl; some = refl }, (record { own = refl; some = refl }, (record { own = refl; some = refl }, (record { own = refl; some = tt }, tt))))))))
 
 abbrev replay_built : Shape
 replay_built = built_sub replay_command
@@ -175,7 +192,7 @@ abbrev replay_rule_at : ℕ → Rule
 replay_rule_at i = slice_index_or replay_rules i (new_rule [])
 
 replay_rules_fit : AllFit replay_rules replay_rules
-replay_rules_fit = (record { own = refl; some = refl }, (record { own = refl; some = refl }, (record { own = refl; some = refl }, (record { own = refl; some = refl }, (record { own = refl; some = refl }, (record { own = refl; some = refl }, (record { own = refl; some = refl }, (record { own = refl; some = tt }, tt))))))))
+replay_rules_fit = (record { own = refl; some = refl }, (record { own = refl; some = refl }, (record { own = refl; some = refl }, (record { own = refl; some = refl }, (record { own = refl; some = refl }, (record { own = refl; some = refl }, (record { own = refl; some = refl }, (record { own = refl; some = refl }, (record { own = refl; some = tt }, tt)))))))))
 
 -- a test of two that must both fail
 both_given : (a b : Bool) → cond (not a || (not b || false)) (MissingRequiredArgument ∷ []) [] ≡ []
@@ -196,13 +213,14 @@ run_found words none =
     let good = good_defaults run_rules run_rules start run_rules_fit settled_good c.0 in
     let rows = rows_after run_rules [] words in
     let given = both_given (is_given (codes "pages") rows) (is_given (codes "requests") rows) c.1 in
-    let pages = text_found run_rules (run_rule_at 4) rows good refl (given_row _ rows given.0) in
-    let requests = text_found run_rules (run_rule_at 5) rows good refl (given_row _ rows given.1) in
+    let pages = text_found run_rules (run_rule_at 5) rows good refl (given_row _ rows given.0) in
+    let requests = text_found run_rules (run_rule_at 6) rows good refl (given_row _ rows given.1) in
     record {
       workers = number_found run_rules (run_rule_at 0) 1 16 rows good refl (has_default [] (run_rule_at 0) (drop 1 run_rules) (codes "4") start refl) refl;
       users = number_found run_rules (run_rule_at 1) 1 1000000 rows good refl (has_default (take 1 run_rules) (run_rule_at 1) (drop 2 run_rules) (codes "1000") start refl) refl;
       stash = number_found run_rules (run_rule_at 2) 1 4096 rows good refl (has_default (take 2 run_rules) (run_rule_at 2) (drop 3 run_rules) (codes "256") start refl) refl;
       turns = number_found run_rules (run_rule_at 3) 0 1000000 rows good refl (has_default (take 3 run_rules) (run_rule_at 3) (drop 4 run_rules) (codes "1000") start refl) refl;
+      hot = may_be_found run_rules (run_rule_at 4) 1 1000000 rows good refl refl;
       pages = (pages.0, pages.3);
       requests = (requests.0 ∷ requests.1, requests.2, omega arith);
     }
@@ -219,13 +237,14 @@ replay_found words none =
     let good = good_defaults replay_rules replay_rules start replay_rules_fit settled_good c.0 in
     let rows = rows_after replay_rules [] words in
     let given = both_given (is_given (codes "pages") rows) (is_given (codes "requests") rows) c.1 in
-    let pages = text_found replay_rules (replay_rule_at 5) rows good refl (given_row _ rows given.0) in
-    let requests = text_found replay_rules (replay_rule_at 6) rows good refl (given_row _ rows given.1) in
+    let pages = text_found replay_rules (replay_rule_at 6) rows good refl (given_row _ rows given.0) in
+    let requests = text_found replay_rules (replay_rule_at 7) rows good refl (given_row _ rows given.1) in
     record {
       workers = number_found replay_rules (replay_rule_at 0) 1 16 rows good refl (has_default [] (replay_rule_at 0) (drop 1 replay_rules) (codes "4") start refl) refl;
       users = number_found replay_rules (replay_rule_at 1) 1 1000000 rows good refl (has_default (take 1 replay_rules) (replay_rule_at 1) (drop 2 replay_rules) (codes "1000") start refl) refl;
       stash = number_found replay_rules (replay_rule_at 2) 1 4096 rows good refl (has_default (take 2 replay_rules) (replay_rule_at 2) (drop 3 replay_rules) (codes "256") start refl) refl;
       turns = number_found replay_rules (replay_rule_at 3) 0 1000000 rows good refl (has_default (take 3 replay_rules) (replay_rule_at 3) (drop 4 replay_rules) (codes "1000") start refl) refl;
+      hot = may_be_found replay_rules (replay_rule_at 4) 1 1000000 rows good refl refl;
       pages = (pages.0, pages.3);
       requests = (requests.0 ∷ requests.1, requests.2, omega arith);
     }

@@ -1,5 +1,5 @@
 -- What words ask for.
-use Rattle.std.specs.Prelude.{◌≡◌, ◌≢◌, ◌≤◌, ◌<◌, ◌⊎◌, ℕ, List, [], length, map, codes, pos, Option, None, Some, option_map, IsSomeAnd, string_bytes, MatchResult, Result, ⊤}
+use Rattle.std.specs.Prelude.{◌≡◌, ◌≢◌, ◌≤◌, ◌<◌, ◌⊎◌, ℕ, List, [], length, map, codes, pos, Option, None, Some, option_map, IsSomeAnd, string_bytes, MatchOption, MatchResult, Result, ⊤}
 use Rattle.std.specs.Str.Parse.{IsNumeral, digits_value, without_leading_plus}
 use Rattle.clap.specs.Kinds.{IsAmong}
 use Rattle.clap.specs.Lexer.{without_minus}
@@ -27,12 +27,21 @@ abbrev pub HasNumber : List Row → Text → ℕ → ℕ → Type 0
 HasNumber rows name least most =
     (text : Text) × (one_of name rows ≡ Some (without_minus text)) × IsSignedIn (pos least) (pos most) text
 
+-- an option has no value, or one that its bounds let through
+abbrev pub MayHaveNumber : List Row → Text → ℕ → ℕ → Type 0
+MayHaveNumber rows name least most = (one_of name rows ≡ None) ⊎ HasNumber rows name least most
+
+-- a number is there where an option has a value, which writes it, within the bounds
+abbrev pub MayBeNumber : List Row → Text → ℕ → ℕ → Option ℕ → Type 0
+MayBeNumber rows name least most o = MatchOption o (one_of name rows ≡ None) (IsNumber rows name least most)
+
 -- clap found what a run and a replay need
 pub record HasAll (rows : List Row) : Type 0 where
   pub workers : HasNumber rows (codes "workers") 1 16
   pub users : HasNumber rows (codes "users") 1 1000000
   pub stash : HasNumber rows (codes "stash") 1 4096
   pub turns : HasNumber rows (codes "turns") 0 1000000
+  pub hot : MayHaveNumber rows (codes "hot") 1 1000000
   pub pages : (name : Text) × (first_of (codes "pages") rows ≡ Some name)
   pub requests : (names : List Text) × (all_of (codes "requests") rows ≡ Some names) × (0 < length names)
 
@@ -42,6 +51,7 @@ pub record HasValues (rows : List Row) (o : Options) : Type 0 where
   pub users : IsNumber rows (codes "users") 1 1000000 o.users
   pub stash : IsNumber rows (codes "stash") 1 4096 o.stash
   pub turns : IsNumber rows (codes "turns") 0 1000000 o.turns
+  pub hot : MayBeNumber rows (codes "hot") 1 1000000 o.hot
   pub pages : first_of (codes "pages") rows ≡ Some (string_bytes o.pages)
   pub requests : all_of (codes "requests") rows ≡ Some (map string_bytes o.requests.items)
   pub some_requests : 0 < length o.requests.items

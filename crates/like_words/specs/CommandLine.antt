@@ -6,15 +6,18 @@ use Rattle.clap.specs.Words.{App, Rule, Shape, Text, new_rule}
 use Rattle.clap.specs.declared.builder.action.ArgAction.TheVariants.{Append, Set}
 use Rattle.clap.specs.declared.builder.value_parser.ValueParser.TheVariants as vp
 
--- an option for a whole number within bounds, with its default
-abbrev pub number_rule : Text → Text → ℕ → ℕ → Rule
-number_rule name default least most = record (new_rule name) {
+-- an option for a whole number within bounds, which may be left out
+abbrev pub bounded_rule : Text → ℕ → ℕ → Rule
+bounded_rule name least most = record (new_rule name) {
   long = Some name;
   value_names = 1;
   action = Some Set;
   parser = Some (vp.Signed (pos least) (pos most));
-  defaults = default ∷ [];
 }
+
+-- an option for a whole number within bounds, with its default
+abbrev pub number_rule : Text → Text → ℕ → ℕ → Rule
+number_rule name default least most = record (bounded_rule name least most) { defaults = default ∷ [] }
 
 -- an option for a text
 abbrev pub text_rule : Text → Rule
@@ -39,6 +42,7 @@ settings_rules = number_rule (codes "workers") (codes "4") 1 16
     ∷ number_rule (codes "users") (codes "1000") 1 1000000
     ∷ number_rule (codes "stash") (codes "256") 1 4096
     ∷ number_rule (codes "turns") (codes "1000") 0 1000000
+    ∷ bounded_rule (codes "hot") 1 1000000
     ∷ []
 
 -- the names of the files of a run

@@ -1,12 +1,30 @@
 ghost use Rattle.std.specs.Prelude.{◌≡◌, IfOk, codes, false, fold};
 ghost use Rattle.clap.specs.Words.{app_of, rule_of, shape_of, with_rule};
 ghost use Rattle.clap.specs.declared.builder.command.Command.TheViews.{out-Command};
-ghost use Rattle.like_words.specs.CommandLine.{likes, number_rule, replay_command, required_list_rule, required_rule, run_command, settings_rules, text_rule};
+ghost use Rattle.like_words.specs.CommandLine.{bounded_rule, likes, number_rule, replay_command, required_list_rule, required_rule, run_command, settings_rules, text_rule};
 
 use crate::help;
 use clap::builder::ValueParser;
 use clap::{Arg, ArgAction, Command};
 use std::alloc::{AllocError, Global};
+
+// An option for a whole number within bounds, which may be left out.
+fn bounded_option<'a>(
+    alloc: Global,
+    name: &'a str,
+    value_name: &'a str,
+    least: u32,
+    most: u32,
+) -> Arg<'a>
+    ensures rule { rule_of result ≡ bounded_rule name.entry.now least most }
+    ensures local { result.global ≡ false }
+{
+    Arg::new(alloc, name)
+        .long(name)
+        .value_name(value_name)
+        .action(ArgAction::Set)
+        .value_parser(ValueParser::signed(i64::from(least), i64::from(most)))
+}
 
 // An option for a whole number within bounds, with its default.
 fn number_option<'a>(
@@ -20,12 +38,7 @@ fn number_option<'a>(
     ensures rule { rule_of result ≡ number_rule name.entry.now default.entry.now least most }
     ensures local { result.global ≡ false }
 {
-    Arg::new(alloc, name)
-        .long(name)
-        .value_name(value_name)
-        .action(ArgAction::Set)
-        .value_parser(ValueParser::signed(i64::from(least), i64::from(most)))
-        .default_value(default)
+    bounded_option(alloc, name, value_name, least, most).default_value(default)
 }
 
 // The option for the script file.
@@ -75,7 +88,13 @@ fn with_settings<'a>(alloc: Global, command: Command<'a>) -> Result<Command<'a>,
     let users = number_option(alloc, "users", "U", "1000", 1, 1_000_000).help(help::USERS);
     let stash = number_option(alloc, "stash", "C", "256", 1, 4_096).help(help::STASH);
     let turns = number_option(alloc, "turns", "T", "1000", 0, 1_000_000).help(help::TURNS);
-    command.arg(workers)?.arg(users)?.arg(stash)?.arg(turns)
+    let hot = bounded_option(alloc, "hot", "H", 1, 1_000_000).help(help::HOT);
+    command
+        .arg(workers)?
+        .arg(users)?
+        .arg(stash)?
+        .arg(turns)?
+        .arg(hot)
 }
 
 // The subcommand `run`.

@@ -39,6 +39,14 @@ large, looks wait longer, and files that are done in T
 turns are done in phase 0, in which no page is split and
 no look waits";
 
+pub const HOT: &str = "\
+Likes, 1 to 1000000, that make a page hot: of the first
+64 pages, those that got H likes in the two phases before
+a split one are split in it, whatever PAGES says, until
+1024 phases had hot pages. Where H is small, looks at
+many pages wait; without this option PAGES alone says
+which pages are split";
+
 pub const SCRIPT: &str = "\
 A file of turns to take before the rounds: CSV with the
 header turn,index and up to 1000000 rows
@@ -71,19 +79,21 @@ In a joined phase (0, 2, 4 and so on) all requests run on the shared counts. In
 a split phase (1, 3, 5 and so on) each worker counts the likes of split pages
 for itself and puts off the looks at them; all else runs as before. At its end
 the workers add what they counted to the shared counts, and in the joined phase
-that follows they first run the looks that they put off.
+that follows they first run the looks that they put off. With --hot the pages
+that are liked most just then are split too.
 
 The report is CSV with the header row,id,number,phase,answer,page,count:
   row     reply for each request, then page for each page, then user for each
-          user with a like
-  id      of a reply its submitter, of a page its place, both from 0; of a user
-          its number
+          user with a like, then hot for each page that was hot in a phase
+  id      of a reply its submitter, of a page or a hot page its place, both from
+          0; of a user its number
   number  of a reply: the place of the request in its file, from 1
-  phase   of a reply: the phase in which the request ran
+  phase   of a reply: the phase in which the request ran; of a hot page: the
+          phase in which it was hot
   answer  of a reply: one of the five below
   page    of a look: the page of its user's last like at that moment, empty
-          where there is none; of a page: its name; of a user: the page of its
-          last like
+          where there is none; of a page or a hot page: its name; of a user:
+          the page of its last like
   count   of a look: the count of the page that was asked for; of a page: its
           final count
 
@@ -107,7 +117,8 @@ Example:
   printf 'name,count,split\\nnews,10,yes\\n' > pages.csv
   printf 'op,user,page\\nlike,0,news\\nlook,0,news\\n' > requests.csv
   likes run pages.csv requests.csv
-  likes replay --workers 1 pages.csv requests.csv";
+  likes replay --workers 1 pages.csv requests.csv
+  likes replay --workers 1 --turns 0 --hot 1 pages.csv requests.csv";
 
 pub const STATUSES: &str = "\
 Take run to use all processors, and replay for the same report every time. Final

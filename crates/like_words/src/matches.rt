@@ -1,6 +1,6 @@
 ghost use Rattle.std.specs.Prelude.{◌≡◌, ◌<◌, ◌^◌, ℕ, List, IfOk, Some, codes, map, option_map, string_bytes};
 ghost use Rattle.clap.specs.Words.{Row, Text, all_of, first_of, found_of, rows_of, subcommand_rows_of};
-ghost use Rattle.like_words.specs.Asked.{Gives, HasAll, HasNumber, HasValues, IsEntered, IsNumber};
+ghost use Rattle.like_words.specs.Asked.{Gives, HasAll, HasNumber, HasValues, IsEntered, IsNumber, MayBeNumber, MayHaveNumber};
 
 use crate::asked::Asked;
 use crate::options::Options;
@@ -38,6 +38,7 @@ fn options(
     let users = number(matches, "users");
     let stash = number(matches, "stash");
     let turns = number(matches, "turns");
+    let hot = optional_number(matches, "hot");
     let pages = pages_file(alloc, matches)?;
     let requests = request_files(alloc, matches)?;
     Ok(Options {
@@ -45,6 +46,7 @@ fn options(
         users,
         stash,
         turns,
+        hot,
         pages,
         requests,
         script,
@@ -61,6 +63,14 @@ fn number(matches: &ArgMatches<'_>, id: &str) -> u32
         Some(number) => number,
         None => unreachable!(),
     }
+}
+
+// The number that an option has, if it has one.
+fn optional_number(matches: &ArgMatches<'_>, id: &str) -> Option<u32>
+    ensures { let rows = rows_of (found_of matches.now) in (least most : ℕ) → most < 2 ^ 32
+        → MayHaveNumber rows id.now least most → MayBeNumber rows id.now least most result }
+{
+    matches.get_one::<u32>(id)
 }
 
 // The name of the pages file.

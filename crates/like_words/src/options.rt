@@ -5,6 +5,8 @@ pub struct Options {
     pub users: u32,
     pub stash: u32,
     pub turns: u32,
+    /// How many likes make a page hot, where the coordinator is to choose hot pages.
+    pub hot: Option<u32>,
     /// The name of the pages file.
     pub pages: String,
     /// The names of the request files, by submitter.
