@@ -26,6 +26,7 @@ pub record IsExample (o : Options) : Type 0 where
   pub users : o.users ≡ 2
   pub stash : o.stash ≡ 256
   pub turns : o.turns ≡ 1000
+  pub hot : o.hot ≡ None
 
 -- the example was replayed
 pub record HasReplayedExample (old new : Option (List ℕ)) : Type 0 where

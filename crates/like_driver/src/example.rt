@@ -37,6 +37,7 @@ fn example_options(alloc: Global) -> Result<Options, AllocError>
         users: 2,
         stash: 256,
         turns: 1_000,
+        hot: None,
         pages: String::from_str(alloc, "pages.csv")?,
         requests,
         script: None,

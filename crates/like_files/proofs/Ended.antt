@@ -5,8 +5,7 @@ use Rattle.like_requests.specs.declared.setup.Setup.{Setup}
 use Rattle.like_replies.specs.Reported.{reported}
 use Rattle.like_replies.specs.Rows.{report_text}
 use Rattle.like_replies.specs.declared.report.Report.{Report}
-use Rattle.like_crew.specs.EndToEnd.{IsEndToEnd}
-use Rattle.like_crew.specs.Asked.{service_of}
+use Rattle.like_crew.specs.EndToEnd.{IsRightReport}
 use Rattle.like_requests.specs.Pages.{Page}
 use Rattle.like_requests.specs.Setup.{IsWithinLimits}
 use Rattle.like_requests.specs.declared.request.Request.{Request}
@@ -26,7 +25,7 @@ use Rattle.like_files.specs.Replay.{CanReplay, GivesAll, IsReplayFault}
 use Rattle.like_files.specs.Run.{CanRun, IsRunFault}
 
 -- a report that is right for settings, which are those that were asked for, was written
-pub writes : (setup asked : Setup) (plans : List (List Request)) (report : Report) (old new : Option (List ℕ)) → setup ≡ asked → IsEndToEnd (service_of setup plans) setup.workers report
+pub writes : (setup asked : Setup) (plans : List (List Request)) (report : Report) (old new : Option (List ℕ)) → setup ≡ asked → IsRightReport setup plans report
     → Appends old new (report_text setup.pages (reported report)) → WritesReport asked plans old new
 writes setup asked plans report old new same right written = subst (λ (s : Setup). WritesReport s plans old new) same (record { report = report; right = right; written = written })
 

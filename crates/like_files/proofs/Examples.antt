@@ -1,4 +1,4 @@
--- Worked examples of the definitions: three likes by two users, two verdicts of four, and a look that two slices meet.
+-- Worked examples of the definitions: three likes by two users, two verdicts of four, a look that two slices meet, and hot pages.
 use Rattle.std.proofs.Common.{◌≡◌, ℕ, ◌+◌, List, [], ◌∷◌, Some, None, true, false, refl, arith}
 use Rattle.std.specs.Prelude.{codes}
 use Rattle.like_requests.specs.Pages.{Page}
@@ -8,6 +8,7 @@ use Rattle.like_requests.specs.declared.request.Request.{Request}
 use Rattle.like_requests.specs.declared.verdict.Verdict.TheVariants.{OtherHome, UnknownPage, UnknownUser}
 use Rattle.like_roles.specs.declared.reply.Reply.{Reply}
 use Rattle.like_roles.specs.declared.reply.Reply.TheVariants.{Liked, Seen, Refused}
+use Rattle.like_roles.specs.HotPages.{chosen_below, hot_in}
 use Rattle.like_roles.specs.Likes.{Between, initial_count, last_like, likes, likes_below, likes_up_to, likes_within}
 use Rattle.like_roles.specs.declared.log.Ran.{Ran}
 use Rattle.like_roles.specs.Replies.{IsRightAnswer}
@@ -76,3 +77,24 @@ below_1 = refl
 
 up_to_1 : likes_up_to sliced 0 sliced_runs 1 ≡ 2
 up_to_1 = refl
+
+-- one user's likes in phases 1 and 2, and a look that waited for phase 4
+abbrev chosen : Service
+chosen = record { users = 1; pages = page_a 0 ∷ []; hot = λ _. 0; plans = (asks_like 0 ∷ asks_like 0 ∷ asks_look 0 ∷ []) ∷ [] }
+
+abbrev chosen_runs : List (List Ran)
+chosen_runs = (runs_at 1 0 1 Liked ∷ runs_at 2 0 2 Liked ∷ (record { phase = 4; submitter = 0; number = 3; stashed = true; reply = Seen (Some 0) 2 }) ∷ []) ∷ []
+
+-- by two likes the page is hot in phase 3 alone, and by three never
+hot_by_two : chosen_below (hot_in (Some 2) chosen chosen_runs) 6 ≡ record { phase = 3; mask = 1 } ∷ []
+hot_by_two = refl
+
+hot_by_three : chosen_below (hot_in (Some 3) chosen chosen_runs) 6 ≡ []
+hot_by_three = refl
+
+-- by one it is in phase 3 too, and not in phase 5, before which there was none
+hot_by_one : chosen_below (hot_in (Some 1) chosen chosen_runs) 6 ≡ record { phase = 3; mask = 1 } ∷ []
+hot_by_one = refl
+
+never_hot : chosen_below (hot_in None chosen chosen_runs) 6 ≡ []
+never_hot = refl

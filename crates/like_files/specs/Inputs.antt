@@ -15,8 +15,7 @@ use Rattle.like_requests.specs.declared.setup.Setup.{Setup}
 use Rattle.like_replies.specs.Reported.{reported}
 use Rattle.like_replies.specs.Rows.{report_text}
 use Rattle.like_replies.specs.declared.report.Report.{Report}
-use Rattle.like_crew.specs.EndToEnd.{IsEndToEnd}
-use Rattle.like_crew.specs.Asked.{service_of}
+use Rattle.like_crew.specs.EndToEnd.{IsRightReport}
 use Rattle.like_script.specs.File.{IsScriptFault, IsScriptFile}
 use Rattle.like_script.specs.declared.file.ScriptFault.{ScriptFault}
 use Rattle.like_script.specs.declared.turned.Turned.{Turned}
@@ -36,7 +35,7 @@ inputs_of left pages requests script = record { pages = left pages; requests = m
 
 -- the settings that options ask for with these pages
 abbrev pub setup_of : Options → List Page → Setup
-setup_of o pages = record { workers = o.workers; users = o.users; stash = o.stash; turns = o.turns; pages = pages }
+setup_of o pages = record { workers = o.workers; users = o.users; stash = o.stash; turns = o.turns; hot = o.hot; pages = pages }
 
 -- a fact of the records of a file, where its bytes are known
 abbrev pub OfRecords : Option (List ℕ) → (List Record → Type 0) → Type 0
@@ -110,5 +109,5 @@ RefusesLists file files fault = ⊥
 -- the text of a report was written that is right end to end
 pub record WritesReport (setup : Setup) (plans : List (List Request)) (old new : Option (List ℕ)) : Type 0 where
   pub report : Report
-  pub right : IsEndToEnd (service_of setup plans) setup.workers report
+  pub right : IsRightReport setup plans report
   pub written : Appends old new (report_text setup.pages (reported report))

@@ -13,6 +13,7 @@ pub fn with_pages(options: &Options, pages: Pages) -> Setup
         users: options.users,
         stash: options.stash,
         turns: options.turns,
+        hot: options.hot,
         pages,
     }
 }

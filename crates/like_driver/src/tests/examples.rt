@@ -20,6 +20,7 @@ pub fn options(alloc: Global, users: u32, files: usize) -> Result<Options, Alloc
         users,
         stash: 256,
         turns: 1_000,
+        hot: None,
         pages: String::from_str(alloc, "p.csv")?,
         requests,
         script: None,
@@ -33,6 +34,7 @@ struct Case {
     users: u32,
     stash: u32,
     turns: u32,
+    hot: Option<u32>,
     pages: &'static str,
     requests: &'static [&'static str],
     script: Option<&'static str>,
@@ -44,6 +46,7 @@ const LONE: Case = Case {
     users: 1,
     stash: 256,
     turns: 1_000,
+    hot: None,
     pages: "",
     requests: &[],
     script: None,
@@ -87,6 +90,7 @@ fn options_of(alloc: Global, case: Case) -> Result<Options, AllocError>
     options.workers = case.workers;
     options.stash = case.stash;
     options.turns = case.turns;
+    options.hot = case.hot;
     options.script = script;
     Ok(options)
 }
@@ -477,6 +481,32 @@ fn stash_with_room(rt: HostRuntime) {
         "reply,0,1,2,seen,b,0\nreply,0,2,2,seen,b,0\nreply,0,3,1,liked,,\npage,0,,,,a,0\n\
         page,1,,,,b,1\nuser,0,,,,b,\n",
     );
+}
+
+// Two likes in phases 1 and 2 make the page hot in phase 3, where the look waits; 3 in its place would take one more.
+#[test]
+fn hot_choice(rt: HostRuntime) {
+    for (hot, rows) in [
+        (
+            2,
+            "reply,0,1,1,liked,,\nreply,0,2,2,liked,,\nreply,0,3,4,seen,a,2\npage,0,,,,a,2\n\
+            user,0,,,,a,\nhot,0,,3,,a,\n",
+        ),
+        (
+            3,
+            "reply,0,1,1,liked,,\nreply,0,2,2,liked,,\nreply,0,3,3,seen,a,2\npage,0,,,,a,2\n\
+            user,0,,,,a,\n",
+        ),
+    ] {
+        let case = Case {
+            turns: 0,
+            hot: Some(hot),
+            pages: "name,count,split\na,0,no\n",
+            requests: &["op,user,page\nlike,0,a\nlike,0,a\nlook,0,a\n"],
+            ..LONE
+        };
+        assert_report(&rt, rt.alloc(), case, rows);
+    }
 }
 
 // Three likes, in phases that the number of turns decides.

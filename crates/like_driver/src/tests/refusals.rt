@@ -125,6 +125,11 @@ fn settings(rt: HostRuntime) -> Result<(), Fail> {
         assert_eq!(rt; fault, want.map(DriverFault::Settings));
         assert_eq!(rt; is_untouched, want.is_some());
     }
+    let mut options = options(rt.alloc(), 2, 1)?;
+    options.hot = Some(0);
+    let (fault, is_untouched) = fault_of(rt.alloc(), &options, PAGES, REQUESTS, "")?;
+    assert_eq!(rt; fault, Some(DriverFault::Settings(SettingsFault::Hot)));
+    assert!(rt; is_untouched);
     Ok(())
 }
 

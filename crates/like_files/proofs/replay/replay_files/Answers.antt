@@ -1,7 +1,8 @@
 use Rattle.std.proofs.Common.{map}
 use Rattle.std.proofs.lemmas.Result.{err_from_is_err_and}
 use Rattle.like_requests.proofs.Planned.{plans-within}
-use Rattle.like_crew.specs.Asked.{service_of}
+use Rattle.like_crew.specs.Asked.{asked}
+use Rattle.like_crew.specs.EndToEnd.{runs_of}
 use Rattle.like_files.specs.Inputs.{Inputs, inputs_of}
 use Rattle.like_files.specs.Replay.{GivesAll}
 use Rattle.like_files.proofs.Ended.{replay-refused, replay-unwritten, writes}
@@ -11,7 +12,7 @@ use Rattle.like_files.proofs.replay.replay_files.Goals as goal
 
 pub write_report-requires : goal.write_report-requires
 write_report-requires g c =
-    IsWritable-end_to_end (service_of c.with_pages-setup.result (map requests_of c.in_ok-plans.plans.items)) (plans-within _ _ c.in_ok-report.ensures.fits.within)
+    IsWritable-end_to_end (asked c.with_pages-setup.result (map requests_of c.in_ok-plans.plans.items) (runs_of c.in_ok-report.report.logs.items)) (plans-within _ _ c.in_ok-report.ensures.fits.within)
     c.with_pages-setup.result.workers c.in_ok-report.report c.in_ok-report.ensures.report
 
 pub returns-in_err-report-clause-fault : goal.returns-in_err-report-clause-fault
