@@ -119,6 +119,7 @@ fn checks_the_settings(rt: HostRuntime) -> Result<(), Fail> {
         users: 2,
         stash: 256,
         turns: 1_000,
+        hot: None,
         pages: one_page(&rt, alloc),
     };
     assert_eq!(rt; check_setup(&setup, &plans), Ok(()));

@@ -57,6 +57,7 @@ fn defaults(rt: HostRuntime) -> Result<(), Fail> {
     assert_eq!(rt; options.users, 1_000);
     assert_eq!(rt; options.stash, 256);
     assert_eq!(rt; options.turns, 1_000);
+    assert_eq!(rt; options.hot, None);
     assert_eq!(rt; files(rt.alloc(), &options)?.as_str(), "p.csv r.csv");
     Ok(())
 }
@@ -85,8 +86,9 @@ fn asks_for_runs(rt: HostRuntime) -> Result<(), Fail> {
     assert_eq!(rt; options.stash, 256);
     assert_eq!(rt; options.turns, 1_000);
     assert_eq!(rt; files(rt.alloc(), &options)?.as_str(), "p.csv r.csv");
-    let words = "run --workers=16 p.csv --turns 0 a.csv b.csv";
+    let words = "run --workers=16 p.csv --turns 0 a.csv --hot 9 b.csv";
     let options = run(rt.alloc(), words)?;
+    assert_eq!(rt; options.hot, Some(9));
     assert_eq!(rt; options.workers, 16);
     assert_eq!(rt; options.turns, 0);
     assert_eq!(rt; files(rt.alloc(), &options)?.as_str(), "p.csv a.csv b.csv");
@@ -105,6 +107,8 @@ fn bounds(rt: HostRuntime) -> Result<(), Fail> {
         "--stash=4096",
         "--turns=0",
         "--turns=1000000",
+        "--hot=1",
+        "--hot=1000000",
     ] {
         let words = format!(in rt.alloc(); "replay {option} p.csv r.csv")?;
         replay(rt.alloc(), &words)?;
@@ -118,6 +122,8 @@ fn bounds(rt: HostRuntime) -> Result<(), Fail> {
         "--stash=4097",
         "--turns=-1",
         "--turns=1000001",
+        "--hot=0",
+        "--hot=1000001",
     ] {
         let words = format!(in rt.alloc(); "replay {option} p.csv r.csv")?;
         usage(rt.alloc(), &words)?;
@@ -138,6 +144,7 @@ fn wrong_words(rt: HostRuntime) -> Result<(), Fail> {
         "replay p.csv",
         "replay --workers two p.csv r.csv",
         "replay --workers 1 --workers 2 p.csv r.csv",
+        "replay --hot 1 --hot 2 p.csv r.csv",
         "replay --speed 9 p.csv r.csv",
         "replay p.csv r.csv --script",
     ] {

@@ -1,4 +1,5 @@
 //! The turns of the worked examples, of workers and the coordinator at one board.
+mod choice;
 mod gates;
 mod play;
 mod player;
@@ -20,6 +21,7 @@ fn setup_of(alloc: Global, workers: u32, stash: u32, pages: &[u8]) -> Result<Set
         users: 2,
         stash,
         turns: 0,
+        hot: None,
         pages: read_pages(alloc, pages)?,
     })
 }

@@ -2,9 +2,9 @@
 //! workers, coordinator and lists nothing is used here but the types of their entries.
 ghost use Rattle.std.specs.Prelude.{◌≤◌};
 
-use like_core::{Core, Event, Shown};
+use like_core::{Core, Event, Shown, is_hot};
 use like_requests::{Numbered, Op, PageRef, Request, Setup, Taken, Verdict};
-use like_roles::{Ran, Reply, Took};
+use like_roles::{Chosen, Ran, Reply, Took};
 use like_run::{MAX_ROUNDS, Turned};
 use like_tables::Held;
 use std::alloc::{AllocError, Global};
@@ -36,8 +36,8 @@ impl List<'_> {
     }
 }
 
-// What a run has beside its workers: its settings, how many submitters there are, which pages are split in odd phases,
-// the core, the coordinator's turns left, and the lists.
+// What a run has beside its workers: its settings, how many submitters there are, which pages are marked as split, the
+// core, the coordinator's turns left, the counts of its last choice and its choices, and the lists.
 #[derive(Drop)]
 struct Shared<'a> {
     setup: &'a Setup,
@@ -45,6 +45,8 @@ struct Shared<'a> {
     split: [bool; 4],
     core: Core,
     turns_left: u32,
+    counts: [u64; 4],
+    chosen: Vec<Chosen>,
     lists: Vec<List<'a>>,
 }
 
@@ -62,17 +64,46 @@ impl Shared<'_> {
         } else if !sight.ending {
             self.core.step(Event::Announce)?;
         } else if sight.all_in {
-            self.core.step(Event::Release(0))?;
+            let mask = self.choose(sight.number)?;
+            self.core.step(Event::Release(mask))?;
             self.turns_left = self.setup.turns;
         }
         Ok(None)
     }
 
-    fn is_split(&self, page: PageRef) -> bool {
-        match page {
-            PageRef::Known(page) => self.split.get(page as usize) == Some(&true),
-            PageRef::Unknown => false,
+    // The mask of the phase that comes next.
+    fn choose(&mut self, phase: u32) -> Result<u64, Fail> {
+        let (0, Some(least)) = (phase % 2, self.setup.hot) else {
+            return Ok(0);
+        };
+        let mut mask = 0;
+        for page in 0..4 {
+            let Shown::Count(count) = self.core.step(Event::CoordRead(page))? else {
+                return Err("a read without a count".into());
+            };
+            let before = self.counts.get_mut(page as usize).ok_or("no page")?;
+            if count.saturating_sub(*before) >= u64::from(least) {
+                mask |= 1 << page;
+            }
+            *before = count;
         }
+        if mask > 0 {
+            let phase = phase.saturating_add(1);
+            self.chosen.push(Chosen { phase, mask })?;
+        }
+        Ok(mask)
+    }
+
+    // Whether a page is split in this odd phase, where there are so few that no limit is met.
+    fn is_split(&self, page: PageRef, phase: u32) -> bool {
+        let PageRef::Known(page) = page else {
+            return false;
+        };
+        let hot = match self.chosen.last() {
+            Some(chosen) => chosen.phase == phase && is_hot(chosen.mask, page),
+            None => false,
+        };
+        hot || self.split.get(page as usize) == Some(&true)
     }
 
     fn verdict(&self, held: &Held) -> Verdict {
@@ -171,7 +202,7 @@ impl Player {
     fn split_turn(&mut self, shared: &mut Shared<'_>, ending: bool) -> Result<(), Fail> {
         if ending {
             for page in 0..4 {
-                if shared.is_split(PageRef::Known(page)) {
+                if shared.is_split(PageRef::Known(page), self.phase) {
                     shared.core.step(Event::Merge(self.worker, page))?;
                 }
             }
@@ -205,7 +236,7 @@ impl Player {
             number: held.ask.number,
         })?;
         let request = held.ask.request;
-        let split = self.phase % 2 == 1 && shared.is_split(request.page);
+        let split = self.phase % 2 == 1 && shared.is_split(request.page, self.phase);
         if split && request.op == Op::Look && shared.verdict(&held) == Verdict::Accepted {
             self.stash.push_back(held)?;
             return Ok(());
@@ -302,14 +333,14 @@ fn lists_of(alloc: Global, plans: &[Vec<Request>]) -> Result<Vec<List<'_>>, Allo
 }
 
 /// Plays a script, and then rounds, with four pages of 10, 20, 30 and 40 likes of which these are split. Gives the
-/// workers, and the phase in which the run ended.
+/// workers, the phase in which the run ended, and the choices of hot pages.
 pub fn play(
     alloc: Global,
     setup: &Setup,
     split: [bool; 4],
     plans: &[Vec<Request>],
     script: &[Turned],
-) -> Result<(Vec<Player>, u32), Fail>
+) -> Result<(Vec<Player>, u32, Vec<Chosen>), Fail>
     requires some { 1 ≤ setup.now.workers }
     requires few { setup.now.workers ≤ 16 }
 {
@@ -320,6 +351,8 @@ pub fn play(
         split,
         core: Core::new(alloc, setup.workers, &[10, 20, 30, 40], &split)?,
         turns_left: setup.turns,
+        counts: [10, 20, 30, 40],
+        chosen: Vec::new(alloc),
         lists: lists_of(alloc, plans)?,
     };
     let mut players = Vec::new(alloc);
@@ -328,5 +361,5 @@ pub fn play(
     }
     follow(&mut shared, &mut players, script)?;
     let phases = rounds(&mut shared, &mut players)?;
-    Ok((players, phases))
+    Ok((players, phases, shared.chosen))
 }

@@ -37,6 +37,16 @@ fn draw_marks(draws: &mut Draws) -> [bool; 4] {
     [a, b, c, draws.below(3) == 0]
 }
 
+// One run in two chooses hot pages, by few likes.
+fn draw_hot(draws: &mut Draws) -> Option<u32> {
+    match draws.below(6) {
+        0 => Some(1),
+        1 => Some(2),
+        2 => Some(3),
+        _ => None,
+    }
+}
+
 // The settings of a run with four pages, of which these are split.
 fn draw_setup(alloc: Global, draws: &mut Draws, split: [bool; 4]) -> Result<Setup, Fail>
     ensures some { IfOk result (λ setup. 1 ≤ setup.workers) }
@@ -55,6 +65,7 @@ fn draw_setup(alloc: Global, draws: &mut Draws, split: [bool; 4]) -> Result<Setu
         users: 12,
         stash: 1 + draws.below(2),
         turns: draws.below(3),
+        hot: draw_hot(draws),
         pages: read_pages(alloc, text.as_bytes())?,
     })
 }
@@ -126,10 +137,11 @@ fn replays_by_the_tables(rt: HostRuntime) -> Result<(), Fail> {
         let submitters = 1 + draws.below(7);
         let plans = draw_plans(rt.alloc(), &mut draws, submitters)?;
         let script = draw_script(rt.alloc(), &mut draws, setup.workers, submitters)?;
-        let (players, phases) = play(rt.alloc(), &setup, split, &plans, &script)?;
+        let (players, phases, chosen) = play(rt.alloc(), &setup, split, &plans, &script)?;
         assert!(rt; script.len() <= MAX_ENTRIES as usize);
         let report = replay(rt.alloc(), &setup, plans, &script)?;
         assert_eq!(rt; report.phases, phases, "in case {case}");
+        assert_eq!(rt; report.hot.as_slice(), chosen.as_slice(), "in case {case}");
         assert_eq!(rt; report.logs.len(), players.len(), "in case {case}");
         for (log, player) in report.logs.iter().zip(&players) {
             assert_eq!(rt;

@@ -12,6 +12,7 @@ const MIXED_LOAD: Case = Case {
     workers: 4,
     users: 8,
     turns: 3,
+    hot: None,
     pages: "a,0,yes\nb,0,no\n",
     ..ONE_PAGE
 };

@@ -1,7 +1,10 @@
 //! Replays of scripts: what the workers took and ran, refused scripts, and how long a replay may last.
-use super::cases::{Case, FULL_STASH, LATE_WORKER, SPLIT_AND_STASH, STASH_THEN_LIKE, TWO_SLICES};
+use super::cases::{
+    Case, FULL_STASH, LATE_WORKER, SPLIT_AND_STASH, STASH_THEN_LIKE, TWO_SLICES, likes,
+};
 use like_replies::Report;
 use like_requests::{Op, PageRef, Request, SettingsFault, Setup, read_pages};
+use like_roles::Chosen;
 use like_run::{ReplayFault, replay};
 use std::alloc::Global;
 use std::process::Abort;
@@ -67,6 +70,56 @@ fn logs_of_scripts(rt: HostRuntime) {
     }
 }
 
+// Example `hot-choice`: the page is hot in phase 3, so the look that is taken there waits for phase 4.
+const HOT_CHOICE: Case = Case {
+    workers: 1,
+    users: 1,
+    stash: 256,
+    turns: 0,
+    hot: Some(2),
+    pages: "a,0,no\n",
+    requests: &["like,0,a\nlike,0,a\nlook,0,a\n"],
+    script: "",
+};
+
+#[test]
+fn chooses_hot_pages(rt: HostRuntime) {
+    let report = HOT_CHOICE.replay(&rt, rt.alloc()).expect(&rt, "a report");
+    let hot = Chosen { phase: 3, mask: 1 };
+    assert_eq!(rt; report.hot.as_slice(), [hot].as_slice());
+    assert_eq!(rt; report.phases, 6);
+    let case = Case {
+        hot: Some(3),
+        ..HOT_CHOICE
+    };
+    let report = case.replay(&rt, rt.alloc()).expect(&rt, "a report");
+    assert!(rt; report.hot.is_empty());
+    assert_eq!(rt; report.phases, 4);
+}
+
+// Like n of 2,060 runs in phase n, so the page is hot in each odd phase from 3 on, until 1,024 had hot pages.
+#[test]
+fn chooses_in_1024_phases_at_most(rt: HostRuntime) {
+    let case = Case {
+        hot: Some(1),
+        ..HOT_CHOICE
+    };
+    let setup = case.setup(&rt, rt.alloc());
+    let plans = likes(&rt, rt.alloc(), 1, 2_060);
+    let report = replay(rt.alloc(), &setup, plans, &[]).expect(&rt, "a report");
+    let Some(log) = report.logs.first() else {
+        panic!(rt; "no log");
+    };
+    for (entry, phase) in log.ran.iter().zip(1..=2_060) {
+        assert_eq!(rt; (entry.phase, entry.number), (phase, phase));
+    }
+    assert_eq!(rt; report.counts.as_slice(), [2_060].as_slice());
+    assert_eq!(rt; report.hot.len(), 1_024);
+    for (chosen, phase) in report.hot.iter().zip((3..=2_049).step_by(2)) {
+        assert_eq!(rt; *chosen, Chosen { phase, mask: 1 });
+    }
+}
+
 #[test]
 fn names_the_entry_that_is_not_there(rt: HostRuntime) {
     let case = Case {
@@ -74,6 +127,7 @@ fn names_the_entry_that_is_not_there(rt: HostRuntime) {
         users: 1,
         stash: 256,
         turns: 0,
+        hot: None,
         pages: "a,0,yes\n",
         requests: &["like,0,a\n"],
         script: "w0 w5",
@@ -88,13 +142,14 @@ fn names_the_entry_that_is_not_there(rt: HostRuntime) {
 }
 
 // Replays so many likes of one user, without a script.
-fn likes(rt: &impl Abort, alloc: Global, number: u32) -> Result<Report, ReplayFault> {
+fn many_likes(rt: &impl Abort, alloc: Global, number: u32) -> Result<Report, ReplayFault> {
     let pages = read_pages(alloc, b"name,count,split\na,0,no\n".as_slice()).expect(rt, "pages");
     let setup = Setup {
         workers: 1,
         users: 1,
         stash: 256,
         turns: 1_000_000,
+        hot: None,
         pages,
     };
     let like = Request {
@@ -114,12 +169,12 @@ fn likes(rt: &impl Abort, alloc: Global, number: u32) -> Result<Report, ReplayFa
 #[test]
 fn a_replay_has_a_million_rounds(rt: HostRuntime) {
     for number in [1_000_000, 999_998] {
-        match likes(&rt, rt.alloc(), number) {
+        match many_likes(&rt, rt.alloc(), number) {
             Ok(_) => panic!(rt; "finished"),
             Err(fault) => assert_eq!(rt; fault, ReplayFault::Unfinished),
         }
     }
-    let report = likes(&rt, rt.alloc(), 999_997).expect(&rt, "a report");
+    let report = many_likes(&rt, rt.alloc(), 999_997).expect(&rt, "a report");
     assert_eq!(rt; report.counts.as_slice(), [999_997].as_slice());
     assert_eq!(rt; report.phases, 0);
 }

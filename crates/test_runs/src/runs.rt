@@ -109,6 +109,7 @@ fn runs_a_submitter_beside_its_worker(rt: HostRuntime) {
         workers: 1,
         users: 1,
         turns: 0,
+        hot: None,
         ..ONE_PAGE
     };
     assert_held(&rt, rt.alloc(), Held::SecondRequest, &case, 1, 2);

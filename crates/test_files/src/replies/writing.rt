@@ -7,7 +7,7 @@ ghost use Rattle.like_replies.specs.Rows.{IsWritable};
 
 use like_replies::{Answer, Replies, Report, WriteFault, write_report};
 use like_requests::{Pages, Verdict, read_pages};
-use like_roles::Reply;
+use like_roles::{Chosen, Reply};
 use std::alloc::{AllocError, Global};
 use std::process::Abort;
 use std::test::Fail;
@@ -31,10 +31,11 @@ fn report(
     count: u64,
     last: Vec<Option<u32>>,
     phases: u32,
+    hot: Vec<Chosen>,
 ) -> Result<Report, AllocError>
     ensures { let replies = map (λ row. row.items) rows.items in
         let shown : Reported =
-        record { replies = replies; counts = count ∷ []; last = last.items } in
+        record { replies = replies; counts = count ∷ []; last = last.items; hot = hot.items } in
         IfOk result (λ r. reported r ≡ shown) }
 {
     Ok(Report {
@@ -43,6 +44,7 @@ fn report(
         counts: vec![in alloc; count]?,
         last,
         phases,
+        hot,
     })
 }
 
@@ -77,7 +79,7 @@ fn verdicts_report(alloc: Global) -> Result<Report, AllocError>
     ]?;
     let rows = vec![in alloc; first, Vec::new(alloc)]?;
     let last = vec![in alloc; None, None]?;
-    report(alloc, rows, 10, last, 0)
+    report(alloc, rows, 10, last, 0, Vec::new(alloc))
 }
 
 // The report on a like.
@@ -88,7 +90,7 @@ fn like_report(alloc: Global) -> Result<Report, AllocError>
     let first = vec![in alloc; answer(0, Reply::Liked)]?;
     let rows = vec![in alloc; first]?;
     let last = vec![in alloc; Some(0)]?;
-    report(alloc, rows, 1, last, 0)
+    report(alloc, rows, 1, last, 0, Vec::new(alloc))
 }
 
 // The report on a like in phase 1, and on a look that waited for phase 2.
@@ -104,7 +106,19 @@ fn stashed_report(alloc: Global) -> Result<Report, AllocError>
     let first = vec![in alloc; answer(1, Reply::Liked), seen]?;
     let rows = vec![in alloc; first]?;
     let last = vec![in alloc; Some(0), None]?;
-    report(alloc, rows, 11, last, 4)
+    report(alloc, rows, 11, last, 4, Vec::new(alloc))
+}
+
+// The report on a like, where the page was hot in phases 3 and 5.
+fn hot_report(alloc: Global) -> Result<Report, AllocError>
+    ensures { IfOk result
+        (λ r. (pages : List Page) → length pages ≡ 1 → IsWritable pages (reported r)) }
+{
+    let first = vec![in alloc; answer(1, Reply::Liked)]?;
+    let rows = vec![in alloc; first]?;
+    let last = vec![in alloc; Some(0)]?;
+    let hot = vec![in alloc; Chosen { phase: 3, mask: 1 }, Chosen { phase: 5, mask: 1 }]?;
+    report(alloc, rows, 1, last, 6, hot)
 }
 
 // Asserts that what was written is the header row and these.
@@ -169,6 +183,14 @@ fn split_and_stash(rt: HostRuntime) -> Result<(), Fail> {
         &report,
         rows,
     )?;
+    Ok(())
+}
+
+#[test]
+fn hot_pages(rt: HostRuntime) -> Result<(), Fail> {
+    let report = hot_report(rt.alloc())?;
+    let rows = "reply,0,1,1,liked,,\npage,0,,,,a,1\nuser,0,,,,a,\nhot,0,,3,,a,\nhot,0,,5,,a,\n";
+    assert_written(&rt, rt.alloc(), "name,count,split\na,0,no\n", &report, rows)?;
     Ok(())
 }
 

@@ -41,6 +41,7 @@ fn settings(
         users,
         stash,
         turns,
+        hot: None,
         pages: one_page(rt, alloc),
     }
 }
@@ -147,6 +148,23 @@ fn of_the_settings(rt: HostRuntime) -> Result<(), Fail> {
             Err(SettingsFault::Turns),
         ),
     ] {
+        assert_eq!(rt; check_setup(&setup, &plans), answer);
+    }
+    Ok(())
+}
+
+#[test]
+fn of_hot_pages(rt: HostRuntime) -> Result<(), Fail> {
+    let alloc = rt.alloc();
+    let plans = empty_plans(alloc, 1)?;
+    let mut setup = settings(&rt, alloc, 1, 1, 1, 0);
+    for (hot, answer) in [
+        (0, Err(SettingsFault::Hot)),
+        (1, Ok(())),
+        (1_000_000, Ok(())),
+        (1_000_001, Err(SettingsFault::Hot)),
+    ] {
+        setup.hot = Some(hot);
         assert_eq!(rt; check_setup(&setup, &plans), answer);
     }
     Ok(())

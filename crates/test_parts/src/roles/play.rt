@@ -1,7 +1,8 @@
 ghost use Rattle.std.specs.Prelude.{◌≡◌, ◌≤◌, [], ◌∷◌, IfOk, length};
 ghost use Rattle.like_requests.specs.Limits.{max_workers};
 ghost use Rattle.like_requests.specs.Setup.{IsWithinLimits};
-ghost use Rattle.like_board.specs.Seats.{board_id, coord_board};
+ghost use Rattle.like_board.specs.Seats.{board_id, coord_board, coord_view};
+ghost use Rattle.like_requests.specs.Pages.{counts_of};
 ghost use Rattle.like_roles.specs.New.{AreNewSeats};
 
 use super::gates::Expecting;
@@ -39,6 +40,7 @@ pub fn board_of(
     requires some { 1 ≤ setup.now.workers }
     requires few { setup.now.workers ≤ max_workers }
     ensures coord { IfOk result (λ r. coord_board r.1 ≡ board_id r.0) }
+    ensures opened { IfOk result (λ r. (coord_view r.1).opening.counts ≡ counts_of setup.now.pages) }
     ensures seats { IfOk result (λ r. AreNewSeats (board_id r.0) setup.now.pages r.2.items) }
     ensures len { IfOk result (λ r. length r.2.items ≡ setup.now.workers) }
 {
@@ -80,12 +82,17 @@ impl<'a> Play<'a> {
     ) -> Result<Play<'a>, Fail>
         requires within { IsWithinLimits setup.now (plan.now ∷ []) }
         requires coord { coord_board coord ≡ board_id board.now }
+        requires opened { (coord_view coord).opening.counts ≡ counts_of setup.now.pages }
         requires seats { AreNewSeats (board_id board.now) setup.now.pages seats.items }
         requires len { length seats.items ≤ setup.now.workers }
     {
+        let counts = setup.pages.counts(alloc)?;
+        let Ok(coordinator) = Coordinator::new(alloc, coord, setup.turns, setup.hot, &counts) else {
+            return Err(AllocError.into());
+        };
         Ok(Play {
             board,
-            coordinator: Coordinator::new(coord, setup.turns),
+            coordinator,
             players: players_of(alloc, setup, plan, board, seats)?,
         })
     }

@@ -1,0 +1,38 @@
+//! A coordinator that finds no memory.
+ghost use Rattle.std.specs.Prelude.{◌≡◌, [], ◌∷◌, IfOk};
+ghost use Rattle.like_board.specs.Seats.{coord_board, coord_view};
+
+use like_board::{Board, CoordSeat};
+use like_roles::{CoordTurn, Coordinator, NoCoordinator};
+use std::alloc::Global;
+use std::test::Fail;
+
+// The coordinator at this seat of a board with a page that begins at 10, and whether it was refused memory at first.
+fn coordinator_at(alloc: Global, coord: CoordSeat) -> Result<(Coordinator, bool), Fail>
+    requires { (coord_view coord).opening.counts ≡ 10 ∷ [] }
+    ensures { IfOk result (λ r. r.0.board ≡ coord_board coord) }
+{
+    match Coordinator::new(alloc, coord, 0, Some(1), &[10]) {
+        Ok(coordinator) => Ok((coordinator, false)),
+        Err(NoCoordinator { seat }) => match Coordinator::new(alloc, seat, 0, Some(1), &[10]) {
+            Ok(coordinator) => Ok((coordinator, true)),
+            Err(_) => Err(Fail::new("out of memory")),
+        },
+    }
+}
+
+// Want of memory is told and gives the seat back, and the next call is right.
+#[test]
+fn a_refused_coordinator_gives_its_seat_back(rt: HostRuntime) -> Result<(), Fail> {
+    let (board, coord, _) = Board::new(rt.alloc(), 1, &[10], &[false])?;
+    let (mut coordinator, refused) = coordinator_at(rt.alloc(), coord)?;
+    assert_eq!(rt; coordinator.turn(&board), CoordTurn::Announced);
+    assert_eq!(rt; coordinator.turn(&board), CoordTurn::Waiting);
+    assert_eq!(rt; coordinator.phase(), 0);
+    let (_, chosen) = coordinator.finish();
+    assert!(rt; chosen.is_empty());
+    if refused {
+        return Err(Fail::new("out of memory, and then right"));
+    }
+    Ok(())
+}
