@@ -1,10 +1,10 @@
-use Rattle.std.proofs.Common.{◌≡◌, ◌∙◌, ◌≤◌, ℕ, Option, None, Some, MatchOption, inl, inr, sym, subst, arith}
+use Rattle.std.proofs.Common.{◌∙◌, ℕ, Option, inl, inr, sym, subst}
 use Rattle.std.specs.Option.{IsSomeAnd}
 use Rattle.std.specs.Str.Parse.{ParsesUnsigned, ExplainsUnsignedError, HasUnsignedDigitsIfOk}
 use Rattle.clap.proofs.CallerReads.{signed_reads}
 use Rattle.clap.proofs.WalkLemmas.{one_text-rows}
 use Rattle.clap.specs.Matches.{ReadsOne}
-use Rattle.clap.specs.Words.{Text, found_of, one_of, rows_of, without_minus}
+use Rattle.clap.specs.Words.{Text, found_of, rows_of, without_minus}
 use Rattle.like_words.specs.Asked.{IsNumber, MayBeNumber, Writes}
 use Rattle.like_words.proofs.matches.optional_number.Goals as goal
 
