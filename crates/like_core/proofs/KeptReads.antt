@@ -88,11 +88,11 @@ not_before : (now phase n : ℕ) (page : Bool) → phase ≤ now → cond {A = �
 not_before now phase n page past = ap (λ (b : Bool). cond {A = ℕ} (b && page) n 0) (le-ltb now phase past)
 
 -- an addition counts for none before its phase, nor for one that is not later
-pub addition_before : (views : List View) (place : ℕ) (v : WorkerSeatView) (page n k p : ℕ) → get_elem? views place ≡ some (Worker v) → k ≤ phase_of v.state → all_before (set views place (Worker (added_view v page n))) k p ≡ all_before views k p
-addition_before views place v page n k p at past =
+pub addition_before : (views : List View) (place : ℕ) (v : WorkerSeatView) (page old n k p : ℕ) → get_elem? views place ≡ some (Worker v) → k ≤ phase_of v.state → all_before (set views place (Worker (added_view v page old n))) k p ≡ all_before views k p
+addition_before views place v page old n k p at past =
     let now : ℕ = phase_of v.state in
-    let swap = sum_swap (before_in k p) views place (Worker v) (Worker (added_view v page n)) at in
-    let push = added_before-push v.additions now page n k p in
+    let swap = sum_swap (before_in k p) views place (Worker v) (Worker (added_view v page old n)) at in
+    let push = added_before-push v.additions now page old n k p in
     let none = not_before now k n (page == p) past in
     omega arith
 
@@ -110,9 +110,9 @@ counted_same counts views place a b rs at same =
 
 -- one addition of the present phase
 pub addition_keeps_reads : AdditionKeepsReads
-addition_keeps_reads counts views place v page n at fit =
+addition_keeps_reads counts views place v page old n at fit =
     let now : ℕ = phase_of v.state in
-    let w : WorkerSeatView = added_view v page n in
+    let w : WorkerSeatView = added_view v page old n in
     let later : List View = set views place (Worker w) in
     let f : ℕ → ℕ → ℕ = all_before views in
     let g : ℕ → ℕ → ℕ = all_before later in
@@ -120,7 +120,7 @@ addition_keeps_reads counts views place v page n at fit =
     let more : (k p : ℕ) → g k p ≡ f k p + one k p =
     λ k p.
     (let swap = sum_swap (before_in k p) views place (Worker v) (Worker w) at in
-    let push = added_before-push v.additions now page n k p in
+    let push = added_before-push v.additions now page old n k p in
     omega arith)
     in
     let no_more : (k p : ℕ) → k ≤ now → g k p ≤ f k p =
@@ -129,11 +129,11 @@ addition_keeps_reads counts views place v page n at fit =
     let no_less : (k p : ℕ) → f k p ≤ g k p = λ k p. (let e = more k p in omega arith) in
     let has : AreBetween counts g now w.additions v.reads =
     λ i d inside.
-    let old = fit place (Worker v) at i d inside in
+    let fits = fit place (Worker v) at i d inside in
     let r : PageRead = get_or v.reads i d in
-    let b : IsBetween counts f v.additions r = old.1 in
-    let within = old.0 in
-    let new : List Addition = addition now page n ∷ [] in
+    let b : IsBetween counts f v.additions r = fits.1 in
+    let within = fits.0 in
+    let new : List Addition = addition now page old n ∷ [] in
     let low = no_more r.phase r.page within in
     let high = more (r.phase + 1) r.page in
     let own = own_later now r.phase n (page == r.page) in
@@ -143,7 +143,7 @@ addition_keeps_reads counts views place v page n at fit =
     let long = length-append v.additions new in
     let before = ap (added_in r.phase r.page) (take-append-le r.after v.additions new after) in
     let later_is = ap (added_in r.phase r.page) (drop-append-le r.after v.additions new after) in
-    let push = added_in-push (drop r.after v.additions) now page n r.phase r.page in
+    let push = added_in-push (drop r.after v.additions) now page old n r.phase r.page in
     (within, record { after = omega arith; least = omega arith; most = omega arith })
     in
     reads_set counts now now views place (Worker w) (omega arith) no_more no_less has fit

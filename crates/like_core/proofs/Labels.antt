@@ -55,18 +55,18 @@ labels_here i now phase page n =
     ]
 
 -- an addition
-abbrev pub addition : ℕ → ℕ → ℕ → Addition
-addition phase page n = record { phase = phase; page = page; likes = n }
+abbrev pub addition : ℕ → ℕ → ℕ → ℕ → Addition
+addition phase page old n = record { phase = phase; page = page; old = old; likes = n }
 
 -- one more addition
-pub added_in-push : (additions : List Addition) (now page n phase q : ℕ) → added_in phase q (additions ++ addition now page n ∷ []) ≡ added_in phase q additions + cond ((now == phase) && (page == q)) n 0
-added_in-push additions now page n phase q =
-    sum_by_push (λ (a : Addition). cond ((a.phase == phase) && (a.page == q)) a.likes 0) additions (addition now page n)
+pub added_in-push : (additions : List Addition) (now page old n phase q : ℕ) → added_in phase q (additions ++ addition now page old n ∷ []) ≡ added_in phase q additions + cond ((now == phase) && (page == q)) n 0
+added_in-push additions now page old n phase q =
+    sum_by_push (λ (a : Addition). cond ((a.phase == phase) && (a.page == q)) a.likes 0) additions (addition now page old n)
 
 -- how much one addition counts in the phases before one
-pub added_before-push : (additions : List Addition) (now page n phase q : ℕ) → added_before phase q (additions ++ addition now page n ∷ []) ≡ added_before phase q additions + cond (nat_lt now phase && (page == q)) n 0
-added_before-push additions now page n phase q =
-    sum_by_push (λ (a : Addition). cond (nat_lt a.phase phase && (a.page == q)) a.likes 0) additions (addition now page n)
+pub added_before-push : (additions : List Addition) (now page old n phase q : ℕ) → added_before phase q (additions ++ addition now page old n ∷ []) ≡ added_before phase q additions + cond (nat_lt now phase && (page == q)) n 0
+added_before-push additions now page old n phase q =
+    sum_by_push (λ (a : Addition). cond (nat_lt a.phase phase && (a.page == q)) a.likes 0) additions (addition now page old n)
 
 -- an addition before the next phase is one before this phase or in it
 pub one_before-next : (now phase n : ℕ) (page : Bool) → cond {A = ℕ} (nat_lt now (phase + 1) && page) n 0 ≡ cond (nat_lt now phase && page) n 0 + cond ((now == phase) && page) n 0
@@ -106,11 +106,11 @@ added_before-next (a ∷ additions) phase q =
     )
 
 -- one more addition, of another page
-pub added_in_else : (additions : List Addition) (now page n phase q : ℕ) → q ≢ page → added_in phase q (additions ++ addition now page n ∷ []) ≡ added_in phase q additions
-added_in_else additions now page n phase q other =
+pub added_in_else : (additions : List Addition) (now page old n phase q : ℕ) → q ≢ page → added_in phase q (additions ++ addition now page old n ∷ []) ≡ added_in phase q additions
+added_in_else additions now page old n phase q other =
     let no_page : ((now == phase) && (page == q)) ≡ false = never (now == phase) (page == q) (ne_eqb page q (λ same. other (sym same))) in
     let none : cond {A = ℕ} ((now == phase) && (page == q)) n 0 ≡ 0 = cond-false ((now == phase) && (page == q)) n 0 no_page in
-    let more = added_in-push additions now page n phase q in
+    let more = added_in-push additions now page old n phase q in
     omega arith
   where
     never : (a b : Bool) → b ≡ false → (a && b) ≡ false
@@ -118,20 +118,20 @@ added_in_else additions now page n phase q other =
     never false b is = refl
 
 -- one more addition, of some page
-pub added_to-push : (additions : List Addition) (now page n q : ℕ) → added_to q (additions ++ addition now page n ∷ []) ≡ added_to q additions + cond (page == q) n 0
-added_to-push additions now page n q =
-    sum_by_push (λ (a : Addition). cond (a.page == q) a.likes 0) additions (addition now page n)
+pub added_to-push : (additions : List Addition) (now page old n q : ℕ) → added_to q (additions ++ addition now page old n ∷ []) ≡ added_to q additions + cond (page == q) n 0
+added_to-push additions now page old n q =
+    sum_by_push (λ (a : Addition). cond (a.page == q) a.likes 0) additions (addition now page old n)
 
 -- one more addition counts for its page
-pub added_to_here : (additions : List Addition) (now page n : ℕ) → added_to page (additions ++ addition now page n ∷ []) ≡ added_to page additions + n
-added_to_here additions now page n =
-    let more = sum_by_push (λ (a : Addition). cond (a.page == page) a.likes 0) additions (addition now page n) in
+pub added_to_here : (additions : List Addition) (now page old n : ℕ) → added_to page (additions ++ addition now page old n ∷ []) ≡ added_to page additions + n
+added_to_here additions now page old n =
+    let more = sum_by_push (λ (a : Addition). cond (a.page == page) a.likes 0) additions (addition now page old n) in
     let one : cond {A = ℕ} (page == page) n 0 ≡ n = cond-true (page == page) n 0 (eq-eqb page page refl) in
     omega arith
 
 -- and for no other
-pub added_to_else : (additions : List Addition) (now page n q : ℕ) → q ≢ page → added_to q (additions ++ addition now page n ∷ []) ≡ added_to q additions
-added_to_else additions now page n q other =
-    let more = sum_by_push (λ (a : Addition). cond (a.page == q) a.likes 0) additions (addition now page n) in
+pub added_to_else : (additions : List Addition) (now page old n q : ℕ) → q ≢ page → added_to q (additions ++ addition now page old n ∷ []) ≡ added_to q additions
+added_to_else additions now page old n q other =
+    let more = sum_by_push (λ (a : Addition). cond (a.page == q) a.likes 0) additions (addition now page old n) in
     let none : cond {A = ℕ} (page == q) n 0 ≡ 0 = cond-false (page == q) n 0 (ne_eqb page q (λ same. other (sym same))) in
     omega arith

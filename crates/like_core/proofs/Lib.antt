@@ -24,3 +24,4 @@ pub mod PhaseMasks
 pub mod Posts
 pub mod ViewLists
 pub mod KeptReads
+pub mod KeptPlaces

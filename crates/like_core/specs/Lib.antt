@@ -20,6 +20,7 @@ pub mod ShownWord
 pub mod Views
 pub mod Reads
 pub mod Tallies
+pub mod Places
 pub mod Shows
 pub mod Actions
 pub mod Post

@@ -71,10 +71,15 @@ answered v = record v { state = Answered (phase_of v.state) }
 abbrev pub retired : PostView → PostView
 retired v = record v { state = Gone }
 
--- the post after n was added to a page
-abbrev pub added : PostView → ℕ → ℕ → PostView
-added v page n = record v {
-  additions = v.additions ++ record { phase = phase_of v.state; page = page; likes = n } ∷ [];
+-- the post after n was added to a page's count, which was this before
+abbrev pub added : PostView → ℕ → ℕ → ℕ → PostView
+added v page old n = record v {
+  additions = v.additions ++ record {
+    phase = phase_of v.state;
+    page = page;
+    old = old;
+    likes = n;
+  } ∷ [];
 }
 
 -- the post after it read a page's count, which was this

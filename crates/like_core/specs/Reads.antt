@@ -61,10 +61,10 @@ IsCounted counts before r = r.count ≡ slice_index counts r.page + before (r.ph
 -- an addition in the phase keeps it so
 abbrev pub AdditionKeepsReads : Type 0
 AdditionKeepsReads =
-    (counts : List ℕ) (views : List View) (place : ℕ) (v : WorkerSeatView) (page n : ℕ)
+    (counts : List ℕ) (views : List View) (place : ℕ) (v : WorkerSeatView) (page old n : ℕ)
     → get_elem? views place ≡ some (Worker v)
     → ReadsFit counts (phase_of v.state) views
-    → ReadsFit counts (phase_of v.state) (slice_set views place (Worker (added_view v page n)))
+    → ReadsFit counts (phase_of v.state) (slice_set views place (Worker (added_view v page old n)))
 
 -- a read in the phase does, where the count is the one at the start and all that was added up to that phase
 abbrev pub ReadKeepsReads : Type 0

@@ -23,6 +23,7 @@ use Rattle.like_core.specs.Additions.{added_in}
 use Rattle.like_core.specs.Views.{seats_of}
 use Rattle.like_core.specs.Reads.{all_before, IsCounted, ReadsFit}
 use Rattle.like_core.specs.Tallies.{Tallied}
+use Rattle.like_core.specs.Places.{PlacesTile}
 
 -- an opening that a board may have: there are 1 to 16 workers and at most 1,024 pages, each with a mark and a count of
 -- at most 10 ^ 18
@@ -98,12 +99,14 @@ pub record Shows (z : Opening) (s : CoreState) (words : List ℕ) (views : List 
   pub reads : ReadsFit z.counts s.phase views
   pub counted : All (IsCounted z.counts (all_before views)) coord.counted
 
--- the words and the views show some state that can be reached; beside it stand the tallies of the views' additions
+-- the words and the views show some state that can be reached; beside it stand the tallies of the views' additions, and
+-- that the stretches of these tile each page's counts
 pub record ShowsSome (z : Opening) (words : List ℕ) (views : List View) : Type 0 where
   pub state : CoreState
   pub reachable : Reachable z state
   pub shows : Shows z state words views
   pub tallied : Tallied state views
+  pub places : PlacesTile z.counts views
 
 -- one step of a seat, whose view goes from v to w, is these events and then this one: some state that can be reached is
 -- shown by the words and by all views, the events are permitted there one after the other, the last shows what it is

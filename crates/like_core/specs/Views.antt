@@ -55,10 +55,15 @@ answered_view v = record v { state = Answered (phase_of v.state) }
 abbrev pub retired_view : WorkerSeatView → WorkerSeatView
 retired_view v = record v { state = Gone }
 
--- a worker's view after n was added to a page
-abbrev pub added_view : WorkerSeatView → ℕ → ℕ → WorkerSeatView
-added_view v page n = record v {
-  additions = v.additions ++ record { phase = phase_of v.state; page = page; likes = n } ∷ [];
+-- a worker's view after n was added to a page's count, which was this before
+abbrev pub added_view : WorkerSeatView → ℕ → ℕ → ℕ → WorkerSeatView
+added_view v page old n = record v {
+  additions = v.additions ++ record {
+    phase = phase_of v.state;
+    page = page;
+    old = old;
+    likes = n;
+  } ∷ [];
 }
 
 -- a worker's view after it read a page's count, which was this

@@ -1,6 +1,7 @@
 //! Laws of the core's states and of the views of seats. Each is the contract of a function that does nothing.
 ghost use Rattle.like_core.specs.Exclusive.{ReachableIsExclusive};
 ghost use Rattle.like_core.specs.Likes.{LikesStayReachable};
+ghost use Rattle.like_core.specs.Places.{AdditionKeepsPlaces, ReadKeepsPlaces, JoinKeepsPlaces};
 ghost use Rattle.like_core.specs.Reads.{AdditionKeepsReads, ReadKeepsReads, JoinKeepsReads};
 
 /// No worker runs joined work while another has unmerged likes, after any list of events.
@@ -28,4 +29,20 @@ pub fn read_keeps_reads()
 /// A worker's seat that is given back does: its additions and reads go on to stand in the coordinator's view.
 pub fn join_keeps_reads()
     ensures { JoinKeepsReads }
+{}
+
+/// An addition of some likes leaves the stretches of each page one behind the other: a new stretch begins where the
+/// page's count stands, and leaves it at its end.
+pub fn addition_keeps_places()
+    ensures { AdditionKeepsPlaces }
+{}
+
+/// A read does, since it finds the page's count, which is that at the start or the end of the last stretch.
+pub fn read_keeps_places()
+    ensures { ReadKeepsPlaces }
+{}
+
+/// A worker's seat that is given back does: its stretches and reads go on to stand in the coordinator's view.
+pub fn join_keeps_places()
+    ensures { JoinKeepsPlaces }
 {}

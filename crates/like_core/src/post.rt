@@ -42,7 +42,7 @@ pub trait Post {
     /// slice of `n` likes.
     fn add(&mut self, page: u32, n: u64) -> u64
         requires { MayAdd (view self.old) page n }
-        ensures view { view self.new ≡ added (view self.old) page n }
+        ensures view { view self.new ≡ added (view self.old) page result n }
         ensures own { additions_of (view self.old) page ≤ result };
 
     /// The page's count.

@@ -8,6 +8,8 @@ use std::collections::LinkedList;
 pub struct Addition {
     pub phase: u32,
     pub page: u32,
+    /// The page's count before.
+    pub old: u64,
     pub likes: u64,
 }
 
