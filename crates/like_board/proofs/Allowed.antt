@@ -27,7 +27,7 @@ use Rattle.like_board.proofs.Leads.{splits}
 use Rattle.like_board.proofs.WorkerSteps.{looks, acknowledges, reports, retires}
 use Rattle.like_board.proofs.CoordSteps.{surveys, announces, releases}
 use Rattle.like_board.proofs.Choosing.{counts, publishes}
-use Rattle.like_board.proofs.Tallying.{tallied_made}
+use Rattle.like_board.proofs.Tallying.{tallied_made, places_made}
 use Rattle.like_board.proofs.Additions.{adds}
 use Rattle.like_board.proofs.Readings.{reads, reads_mask}
 use Rattle.like_board.proofs.Gathering.{gathers}
@@ -226,14 +226,15 @@ making {S} key id v is room = λ st shows at.
       reachable = shows.reachable;
       shows = splits z shows.state st.words st.views id c shows.shows here below;
       tallied = tallied_made z shows.state st.views id c here (omega arith) shows.tallied;
+      places = places_made z st.views id c here shows.places;
     })
 
 pub adding_to : {S : Type 0} (key : Key) (slots id : ℕ) (me : Me S View) (page n : ℕ) → me ≡ (Worker (worker_view_of me.0), []) → MayAdd (post_of (worker_view_of me.0)) page n → Allows (IsShowing key) slots id me (page + 1) (λ k. (k + n) % 2 ^ 64) (λ found after. TellsAddAt (page + 1) n me.0 found after.0 × (after.1 ≡ []))
 adding_to {S} key slots id me page n is may = λ st shows _ at _.
     let z = opening_of key in
     let v : WorkerSeatView = worker_view_of me.0 in
-    let w : WorkerSeatView = added_view v page n in
     let found : ℕ = get_or st.words (page + 1) 0 in
+    let w : WorkerSeatView = added_view v page found n in
     let here : get_elem? st.views id ≡ some (Worker v) = at ∙ ap (λ (m : Me S View). some m.0) is in
     let same = worker_opening z st.words st.views id v shows here in
     let r = adds z st.words st.views id v page n shows here may in

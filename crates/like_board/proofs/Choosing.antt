@@ -18,6 +18,7 @@ use Rattle.like_core.specs.State.{numbers}
 use Rattle.like_core.specs.Views.{counted_coord, published_coord, MayCount, MayPublish}
 use Rattle.like_core.specs.Reads.{all_before, IsCounted}
 use Rattle.like_core.specs.Shows.{Shows, ShowsSome, FitsCoord, IsStep}
+use Rattle.like_core.proofs.KeptPlaces.{places_same}
 use Rattle.like_board.proofs.Moves.{if_some}
 use Rattle.like_board.proofs.Tallying.{tallied_on}
 use Rattle.like_board.proofs.Leads.{of_coord, leads}
@@ -96,6 +97,7 @@ counts z words views place c page some_state at may =
         reachable = some_state.reachable;
         shows = after_it;
         tallied = tallied_on s s views place (Coord c) (Coord d) (omega arith) (λ _. refl) at (λ _. refl) (λ _. refl) (λ _ _. refl) some_state.tallied;
+        places = places_same z.counts views place (Coord c) (Coord d) at (λ _. refl) (λ _. refl) (λ _ _ has. has) some_state.places;
       },
     )
 
@@ -141,4 +143,5 @@ publishes z words views place c mask some_state at may =
           fits
           (λ v f. f);
       tallied = tallied_on s s views place (Coord c) (Coord d) (omega arith) (λ _. refl) at (λ _. refl) (λ _. refl) (λ _ _. refl) some_state.tallied;
+      places = places_same z.counts views place (Coord c) (Coord d) at (λ _. refl) (λ _. refl) (λ _ _ has. has) some_state.places;
     }

@@ -31,6 +31,7 @@ use Rattle.like_core.proofs.Reached.{goes_on_by}
 use Rattle.like_core.proofs.InPhase.{reached_in_phase}
 use Rattle.like_core.proofs.Unanswered.{reached_unanswered}
 use Rattle.like_core.proofs.ShownEvents.{shown_lawful, same_fields, fields_released, word_announced, coord_sees}
+use Rattle.like_core.proofs.KeptPlaces.{places_same}
 use Rattle.like_board.specs.Plays.{Surveyed}
 use Rattle.like_board.proofs.Moves.{if_some}
 use Rattle.like_board.proofs.Tallying.{tallied_on}
@@ -101,6 +102,7 @@ surveys z words views place c some_state at =
         reachable = some_state.reachable;
         shows = after_it;
         tallied = tallied_on s s views place (Coord c) (Coord d) (omega arith) (λ _. refl) at (λ _. refl) (λ _. refl) (λ _ _. refl) some_state.tallied;
+        places = places_same z.counts views place (Coord c) (Coord d) at (λ _. refl) (λ _. refl) (λ _ _ has. has) some_state.places;
       },
     )
 
@@ -186,6 +188,7 @@ announces z words views place c some_state at may =
         reachable = reachable;
         shows = after_it;
         tallied = tallied_on s t views place (Coord c) (Coord d) (omega arith) (λ _. refl) at (λ _. refl) (λ _. refl) (λ _ _. refl) some_state.tallied;
+        places = places_same z.counts views place (Coord c) (Coord d) at (λ _. refl) (λ _. refl) (λ _ _ has. has) some_state.places;
       },
     )
 
@@ -335,5 +338,6 @@ releases z words views place c seen some_state at may seen_lawful seen_is =
         reachable = goes_on_by z s (Release mask) some_state.reachable permits;
         shows = after_it;
         tallied = tallied_on s t views place (Coord c) (Coord d) (omega arith) (λ _. refl) at (λ _. refl) (λ _. refl) (λ _ _. refl) some_state.tallied;
+        places = places_same z.counts views place (Coord c) (Coord d) at (λ _. refl) (λ _. refl) (λ _ _ has. has) some_state.places;
       },
     )

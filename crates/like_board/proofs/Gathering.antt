@@ -1,5 +1,5 @@
 -- A worker's seat is given back to the coordinator, and what the words show where all were.
-use Rattle.std.proofs.Common.{◌≡◌, ◌≢◌, ℕ, zero, suc, ◌+◌, ◌<◌, ◌==◌, nat_lt, cond, inl, inr, List, ◌∷◌, All, length, get_or, set, subst, ap, sym, ◌∙◌, refl, eq-eqb, arith}
+use Rattle.std.proofs.Common.{◌≡◌, ◌≢◌, ℕ, zero, suc, ◌+◌, ◌<◌, ◌==◌, nat_lt, cond, inl, inr, List, ◌∷◌, All, length, get_or, slice_index, set, Bool, subst, ap, sym, ◌∙◌, refl, eq-eqb, arith}
 use Rattle.std.specs.List.{sum_by}
 use Rattle.std.proofs.lemmas.List.Sums.{sum_by-cons}
 use Rattle.std.proofs.lemmas.Bool.{cond-true}
@@ -7,6 +7,7 @@ use mathlib.Core.Option.{some, some-injective}
 use lib.ListN.{get_elem?}
 use Rattle.atomic_table.proofs.Lists.{at_set, set_here, set_else}
 use Rattle.like_core.specs.declared.opening.Opening.{Opening}
+use Rattle.like_core.specs.declared.view.Addition.{Addition}
 use Rattle.like_core.specs.declared.view.WorkerSeatView.{WorkerSeatView}
 use Rattle.like_core.specs.declared.view.CoordSeatView.{CoordSeatView}
 use Rattle.like_core.specs.declared.view.View.{View}
@@ -15,9 +16,11 @@ use Rattle.like_core.specs.State.{CoreState}
 use Rattle.like_core.specs.Additions.{added_to, added_before}
 use Rattle.like_core.specs.Views.{gathered_coord, seats_of}
 use Rattle.like_core.specs.Reads.{before_in, all_before, AreBetween, IsCounted}
+use Rattle.like_core.specs.Places.{Counting, AreTiles, ArePlaced, passing, all_passing, count_after}
 use Rattle.like_core.specs.Tallies.{paged, left_to, room}
 use Rattle.like_core.specs.Shows.{Shows, ShowsSome, Fits, FitsWorker, FitsCoord}
 use Rattle.like_core.proofs.ViewLists.{within, sum_two, sum_lone, sum_gathered}
+use Rattle.like_core.proofs.KeptPlaces.{join_keeps_places, placed_on, tiles_on}
 use Rattle.like_core.proofs.KeptReads.{between_on, counted_on, join_keeps_reads}
 use Rattle.like_board.proofs.Moves.{same_coord, has_seat, once_at_most}
 use Rattle.like_board.proofs.Leads.{of_coord}
@@ -124,6 +127,7 @@ gathers z words views place other c v some_state at apart mine =
             (sum_gathered (paged page) views place other c v at mine refl
             (sum_by-cons (λ (w : WorkerSeatView). added_to page w.additions) v c.joined)));
       };
+      places = join_keeps_places z.counts views place other c v at there some_state.places;
     }
 
 -- beside a coordinator that has all workers' seats back, no view knows anything
@@ -178,3 +182,22 @@ last_counted z words views place c some_state at all =
     let p : ℕ = (get_or c.counted i r).page in
     sym (sum_coord (before_in k p) z s words views place c refl sh at all))
     (of_coord z s words views place c sh at).1
+
+-- and the stretches of what they have added tile the counts of each page, and all their calls have their places
+pub last_places : (z : Opening) (words : List ℕ) (views : List View) (place : ℕ) (c : CoordSeatView) (last : ℕ → ℕ) (counting : Counting) → ShowsSome z words views → get_elem? views place ≡ some (Coord c) → ((i : ℕ) → i < c.made → seats_of i (Coord c) ≡ 1) → ((page : ℕ) → slice_index z.counts page + paged page (Coord c) ≡ last page) → ((test : Addition → Bool) → passing test (Coord c) ≡ counting test) → AreTiles (slice_index z.counts) last counting × ((j : ℕ) (w : WorkerSeatView) → get_elem? c.joined j ≡ some w → ArePlaced (slice_index z.counts) counting w.additions w.reads)
+last_places z words views place c last counting some_state at all last_is same =
+    let s = some_state.state in
+    let sh = some_state.shows in
+    let p = some_state.places in
+    let lone : (test : Addition → Bool) → counting test ≡ all_passing views test =
+    λ test. sym (sum_coord (passing test) z s words views place c refl sh at all ∙ same test)
+    in
+    let ends : (page : ℕ) → last page ≡ count_after z.counts views page =
+    λ page. (let e = last_is page in let one = sum_coord (paged page) z s words views place c refl sh at all in omega arith)
+    in (
+      tiles_on (slice_index z.counts) (count_after z.counts views) last (all_passing views) counting ends lone p.tiles,
+      λ j w found.
+          placed_on (slice_index z.counts) (all_passing views) counting w.additions w.reads
+          (λ test. (let e = lone test in omega arith))
+          (p.each place (Coord c) at j w found),
+    )

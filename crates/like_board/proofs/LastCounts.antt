@@ -1,5 +1,5 @@
 -- What the last words are, in terms of the seats that were given back.
-use Rattle.std.proofs.Common.{◌≡◌, ℕ, zero, suc, ◌+◌, ◌<◌, ◌≤◌, ◌==◌, cond, List, [], ◌∷◌, ◌++◌, All, length, map, get_or, IfSome, subst, ap, sym, ◌∙◌, refl, arith}
+use Rattle.std.proofs.Common.{◌≡◌, ℕ, zero, suc, ◌+◌, ◌<◌, ◌≤◌, ◌==◌, cond, List, [], ◌∷◌, ◌++◌, All, length, map, get_or, slice_index, count_by, Bool, IfSome, subst, ap, sym, ◌∙◌, refl, arith}
 use Rattle.std.specs.List.{sum_by}
 use Rattle.std.proofs.lemmas.List.{append-nil, length-append}
 use Rattle.std.proofs.lemmas.List.Sums.{sum_by-cons}
@@ -8,24 +8,27 @@ use lib.ListN.{get_elem?}
 use Rattle.atomic_table.specs.Table.{Final, Seen}
 use Rattle.like_core.specs.declared.sight.Sight.{Sight}
 use Rattle.like_core.specs.declared.opening.Opening.{Opening}
+use Rattle.like_core.specs.declared.view.Addition.{Addition}
 use Rattle.like_core.specs.declared.view.WorkerSeatView.{WorkerSeatView}
 use Rattle.like_core.specs.declared.view.CoordSeatView.{CoordSeatView}
 use Rattle.like_core.specs.declared.view.View.{View}
 use Rattle.like_core.specs.declared.view.View.TheVariants.{Coord}
 use Rattle.like_core.specs.Post.{additions_of}
-use Rattle.like_core.specs.Additions.{added_before}
+use Rattle.like_core.specs.Additions.{added_to, added_before}
 use Rattle.like_core.specs.Views.{post_of, seats_of}
 use Rattle.like_core.specs.Reads.{before_in, AreBetween, IsCounted}
 use Rattle.like_core.specs.PhaseMasks.{mask_of, AreMasksOf}
+use Rattle.like_core.specs.Places.{Counting, AreTiles, ArePlaced, passing}
+use Rattle.like_core.specs.Tallies.{paged}
 use Rattle.like_core.specs.Shows.{ShowsSome, FitsWorker, FitsCoord}
 use Rattle.like_core.proofs.KeptReads.{between_on, counted_on}
 use Rattle.like_board.specs.declared.key.Key.{Key}
 use Rattle.like_board.specs.declared.worker_seat.WorkerSeat.{WorkerSeat}
 use Rattle.like_board.specs.Known.{coord_view_of}
 use Rattle.like_board.specs.Rule.{opening_of, IsShowing}
-use Rattle.like_board.specs.Seats.{seat_view, seat_meaning, AreAll, last_count, seats_before, HaveReadBetween, AreCounted, HaveReadMasks}
+use Rattle.like_board.specs.Seats.{seat_view, seat_meaning, AreAll, last_count, seats_before, HaveReadBetween, AreCounted, HaveReadMasks, HavePlaces, seats_passing}
 use Rattle.like_board.proofs.Moves.{if_some}
-use Rattle.like_board.proofs.Gathering.{last_word, last_reads, last_counted}
+use Rattle.like_board.proofs.Gathering.{last_word, last_reads, last_counted, last_places}
 
 -- what stands at a place is what is read there
 pub read_at : (l : List ℕ) (i n : ℕ) → get_elem? l i ≡ some n → get_or l i 0 ≡ n
@@ -97,13 +100,28 @@ closed_masks z words views place c some_state at k w found =
     let fits : FitsWorker z some_state.state w = old.joined k w found in
     λ i m inside. (fits.masks i m inside).1 ∙ sym (old.masks (get_or w.masks i m).phase)
 
--- what a board is that ended: its last words and phases, and what its seats read
+-- the stretches of what those workers have added tile the counts of each page, and all their calls have their places
+closed_places : (z : Opening) (words : List ℕ) (views : List View) (place : ℕ) (c : CoordSeatView) (last : ℕ → ℕ) (counting : Counting) → ShowsSome z words views → get_elem? views place ≡ some (Coord c) → c.made ≡ c.opening.workers → ((i : ℕ) → i < c.opening.workers → seats_of i (Coord c) ≡ 1) → ((page : ℕ) → slice_index c.opening.counts page + paged page (Coord c) ≡ last page) → ((test : Addition → Bool) → passing test (Coord c) ≡ counting test) → AreTiles (slice_index c.opening.counts) last counting × ((k : ℕ) (w : WorkerSeatView) → get_elem? c.joined k ≡ some w → ArePlaced (slice_index c.opening.counts) counting w.additions w.reads)
+closed_places z words views place c last counting some_state at made all last_is same =
+    let old : FitsCoord z some_state.state c = some_state.shows.each place (Coord c) at in
+    let P : Opening → Type 0 =
+    λ y.
+    AreTiles (slice_index y.counts) last counting
+    × ((k : ℕ) (w : WorkerSeatView) → get_elem? c.joined k ≡ some w → ArePlaced (slice_index y.counts) counting w.additions w.reads)
+    in
+    subst P (sym old.opening)
+    (last_places z words views place c last counting some_state at (λ i below. all i (omega arith))
+    (λ page. ap (λ (y : Opening). slice_index y.counts page + paged page (Coord c)) (sym old.opening) ∙ last_is page)
+    same)
+
+-- what a board is that ended: its last words and phases, what its seats read, and where they added
 pub record IsClosed (words : List ℕ) (c : CoordSeatView) (seats : List WorkerSeat) : Type 0 where
   pub counts : (page : ℕ) → page < length c.opening.counts → get_or words (page + 1) 0 ≡ last_count c.opening seats page
   pub phases : All (λ seat. IfSome (seat_meaning seat).last (λ sight. sight.number ≤ c.phase)) seats
   pub reads : HaveReadBetween c.opening c.phase seats
   pub counted : AreCounted c seats
   pub masks : HaveReadMasks c.masks seats
+  pub places : HavePlaces c.opening seats
 
 -- the last words, phases and reads, where the coordinator's seat has all workers' seats
 pub closes : {S : Type 0} (key : Key) (id : ℕ) (me : View) (words : List ℕ) (slots : List S) (c : CoordSeatView) (seats : List WorkerSeat) → Final (Seen (IsShowing key) id me) words slots → me ≡ Coord (record c { joined = map seat_view seats ++ c.joined }) → c.joined ≡ [] → c.made ≡ c.opening.workers → AreAll c.opening.workers seats → IsClosed words c seats
@@ -123,6 +141,11 @@ closes key id me words slots c seats final me_is none made all =
     let added : (phase page : ℕ) → before_in phase page (Coord d) ≡ seats_before seats phase page =
     λ phase page. sum_by-map seat_view (λ (w : WorkerSeatView). added_before phase page w.additions) seats
     in
+    let placed =
+    closed_places z words views id d (last_count c.opening seats) (seats_passing seats) shows at made each
+    (λ page. ap (λ (k : ℕ). slice_index c.opening.counts page + k) (sum_by-map seat_view (λ (w : WorkerSeatView). added_to page w.additions) seats))
+    (λ test. sum_by-map seat_view (λ (w : WorkerSeatView). count_by test w.additions) seats)
+    in
     record {
       counts = λ page on.
           closed_word z words views id d shows at made each page on ∙
@@ -135,6 +158,10 @@ closes key id me words slots c seats final me_is none made all =
       counted = closed_counted z words views id d (seats_before seats) shows at made each added;
       masks = λ k seat below.
           closed_masks z words views id d shows at k (seat_view (get_or seats k seat)) (at_mapped seat_view seats k seat below);
+      places = record {
+        tiles = placed.0;
+        each = λ k seat below. placed.1 k (seat_view (get_or seats k seat)) (at_mapped seat_view seats k seat below);
+      };
     }
 
 -- a view that is some coordinator's is the coordinator's that it is read as

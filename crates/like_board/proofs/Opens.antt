@@ -23,6 +23,7 @@ use Rattle.like_core.specs.Sights.{first_fields}
 use Rattle.like_core.specs.Views.{fresh_coord}
 use Rattle.like_core.specs.Reads.{all_before, IsCounted, HasReads, ReadsFit}
 use Rattle.like_core.specs.Shows.{IsOpening, ShowsSome, Fits, FitsCoord}
+use Rattle.like_core.proofs.KeptPlaces.{places_open}
 use Rattle.like_core.proofs.Reached.{start_reached}
 use Rattle.like_core.proofs.Masks.{mask_none}
 use Rattle.like_board.specs.declared.key.Key.{Key}
@@ -85,6 +86,7 @@ opens z opening =
         counted = All-nil (IsCounted z.counts (all_before (Coord c ∷ [])));
       };
       tallied = record { sums = λ page. refl; rooms = λ page. omega arith; past = λ phase page later. refl };
+      places = places_open z.counts c refl;
     }
   where
     only_first : (c : CoordSeatView) (place : ℕ) (d : CoordSeatView) → get_elem? (Coord c ∷ []) place ≡ some (Coord d) → place ≡ 0

@@ -24,6 +24,7 @@ use Rattle.like_core.specs.Reads.{all_before, ReadsFit}
 use Rattle.like_core.specs.Tallies.{paged}
 use Rattle.like_core.specs.Shows.{Shows, ShowsSome, FitsWorker, IsStep}
 use Rattle.like_core.proofs.InPhase.{reached_in_phase}
+use Rattle.like_core.proofs.KeptPlaces.{read_keeps_places, places_same}
 use Rattle.like_core.proofs.KeptReads.{read_keeps_reads, reads_same, counted_same}
 use Rattle.like_core.proofs.ViewLists.{sum_part}
 use Rattle.like_board.proofs.Moves.{worker_steps}
@@ -103,6 +104,7 @@ reads z words views place v page some_state at may =
         reachable = some_state.reachable;
         shows = shows;
         tallied = tallied_on s s views place (Worker v) (Worker w) (omega arith) (λ _. refl) at (λ _. refl) (λ _. refl) (λ _ _. refl) some_state.tallied;
+        places = read_keeps_places z.counts views place v page (get_or words (page + 1) 0) at (omega arith) some_state.places;
       },
       omega arith,
     )
@@ -173,5 +175,6 @@ reads_mask z words views place v some_state at split_phase =
         reachable = some_state.reachable;
         shows = shows;
         tallied = tallied_on s s views place (Worker v) (Worker w) (omega arith) (λ _. refl) at (λ _. refl) (λ _. refl) (λ _ _. refl) some_state.tallied;
+        places = places_same z.counts views place (Worker v) (Worker w) at (λ _. refl) (λ _. refl) (λ _ _ has. has) some_state.places;
       },
     )

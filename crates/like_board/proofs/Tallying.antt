@@ -3,6 +3,7 @@ use Rattle.std.proofs.Common.{◌≡◌, ℕ, ◌<◌, ◌≤◌, List, [], ◌�
 use Rattle.std.proofs.lemmas.List.Sums.{sum_by_push}
 use mathlib.Core.Option.{some}
 use lib.ListN.{get_elem?}
+use Rattle.atomic_table.proofs.Lists.{at_snoc}
 use Rattle.like_core.specs.declared.opening.Opening.{Opening}
 use Rattle.like_core.specs.declared.view.CoordSeatView.{CoordSeatView}
 use Rattle.like_core.specs.declared.view.View.{View}
@@ -11,7 +12,9 @@ use Rattle.like_core.specs.Limits.{max_likes}
 use Rattle.like_core.specs.State.{CoreState, Label}
 use Rattle.like_core.specs.Views.{fresh, made_coord}
 use Rattle.like_core.specs.Reads.{before_in}
+use Rattle.like_core.specs.Places.{PlacesTile}
 use Rattle.like_core.specs.Tallies.{Tallied, paged, room}
+use Rattle.like_core.proofs.KeptPlaces.{placed_nothing, places_push, places_same}
 use Rattle.like_core.proofs.ViewLists.{sum_set, sum_swap}
 
 -- after a step that applies no like, with a new view that has the same additions
@@ -59,3 +62,12 @@ tallied_made z s views place c at few old =
           let none_before : before_in phase page new ≡ 0 = refl in
           omega arith;
     }
+
+-- places tile after a worker's seat was made
+pub places_made : (z : Opening) (views : List View) (place : ℕ) (c : CoordSeatView) → get_elem? views place ≡ some (Coord c) → PlacesTile z.counts views → PlacesTile z.counts (set views place (Coord (made_coord c)) ++ Worker (fresh z c.made) ∷ [])
+places_made z views place c at old =
+    let d : CoordSeatView = made_coord c in
+    let new : View = Worker (fresh z c.made) in
+    let changed : List View = set views place (Coord d) in
+    places_push z.counts changed new (λ _. refl) (λ _. refl) (λ first f. placed_nothing first f) (λ j u found. at_snoc changed new u j found)
+    (places_same z.counts views place (Coord c) (Coord d) at (λ _. refl) (λ _. refl) (λ _ _ has. has) old)

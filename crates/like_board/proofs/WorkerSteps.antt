@@ -29,6 +29,7 @@ use Rattle.like_core.proofs.Reached.{goes_on_by}
 use Rattle.like_core.proofs.InPhase.{reached_in_phase}
 use Rattle.like_core.proofs.Unanswered.{reached_unanswered}
 use Rattle.like_core.proofs.ShownEvents.{moved, shown_lawful, fields_looked, word_answered, word_retired, worker_sees}
+use Rattle.like_core.proofs.KeptPlaces.{places_same}
 use Rattle.like_board.specs.Plays.{Looked}
 use Rattle.like_board.proofs.Moves.{worker_moves}
 use Rattle.like_board.proofs.Tallying.{tallied_on}
@@ -159,6 +160,7 @@ looks z words views place v some_state at there =
         reachable = goes_on_by z s (Look i) some_state.reachable permits;
         shows = shows_after;
         tallied = tallied_on s t views place (Worker v) (Worker w) (omega arith) (λ _. refl) at (λ _. refl) (λ _. refl) (λ _ _. refl) some_state.tallied;
+        places = places_same z.counts views place (Worker v) (Worker w) at (λ _. refl) (λ _. refl) (λ _ _ has. has) some_state.places;
       },
     )
 
@@ -229,6 +231,7 @@ acknowledges z words views place v some_state at joined saw =
         tallied =
             tallied_on s (moved s v.worker (Answered s.phase)) views place (Worker v) (Worker (answered_view v))
             (omega arith) (λ _. refl) at (λ _. refl) (λ _. refl) (λ _ _. refl) some_state.tallied;
+        places = places_same z.counts views place (Worker v) (Worker (answered_view v)) at (λ _. refl) (λ _. refl) (λ _ _ has. has) some_state.places;
       },
     )
 
@@ -273,6 +276,7 @@ reports z words views place v some_state at split saw =
         tallied =
             tallied_on s (moved s v.worker (Answered s.phase)) views place (Worker v) (Worker (answered_view v))
             (omega arith) (λ _. refl) at (λ _. refl) (λ _. refl) (λ _ _. refl) some_state.tallied;
+        places = places_same z.counts views place (Worker v) (Worker (answered_view v)) at (λ _. refl) (λ _. refl) (λ _ _ has. has) some_state.places;
       },
     )
 
@@ -332,5 +336,6 @@ retires z words views place v some_state at joined =
         tallied =
             tallied_on s (moved s i Gone) views place (Worker v) (Worker (retired_view v)) (omega arith) (λ _. refl) at (λ _. refl)
             (λ _. refl) (λ _ _. refl) some_state.tallied;
+        places = places_same z.counts views place (Worker v) (Worker (retired_view v)) at (λ _. refl) (λ _. refl) (λ _ _ has. has) some_state.places;
       },
     )

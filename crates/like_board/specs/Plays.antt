@@ -69,12 +69,12 @@ pub record TellsCoord (does : CoordAct) (next : CoordSeatView → CoordSeatView)
   pub view : w ≡ Coord (next (coord_view_of v))
   pub step : does (coord_view_of v) (next (coord_view_of v))
 
--- what an addition of n to a page tells: the view after has it, the worker's own additions are in the count that it
--- found, and it is the action
+-- what an addition of n to a page tells: the view after has it, with the count that it found; the worker's own
+-- additions are in that; and it is the action
 pub record TellsAdd (page n : ℕ) (v : View) (found : ℕ) (w : View) : Type 0 where
-  pub view : w ≡ Worker (added_view (worker_view_of v) page n)
+  pub view : w ≡ Worker (added_view (worker_view_of v) page found n)
   pub own : added_to page (worker_view_of v).additions ≤ found
-  pub step : let me = worker_view_of v in Adds me page n found (added_view me page n)
+  pub step : let me = worker_view_of v in Adds me page n found (added_view me page found n)
 
 -- the same of a word: the word after the phase word is page 0's
 abbrev pub TellsAddAt : ℕ → ℕ → View → ℕ → View → Type 0

@@ -13,6 +13,7 @@ use Rattle.like_core.specs.Additions.{added_before}
 use Rattle.like_core.specs.Post.{PostView, IsFresh, additions_of}
 use Rattle.like_core.specs.Views.{fresh, post_of}
 use Rattle.like_core.specs.Reads.{AreBetween, IsCounted}
+use Rattle.like_core.specs.Places.{Counting, AreTiles, ArePlaced}
 use Rattle.like_core.specs.PhaseMasks.{mask_of, AreMasksOf}
 use Rattle.like_board.specs.Known.{worker_view_of, coord_view_of}
 
@@ -97,3 +98,14 @@ AreCounted c seats = All (IsCounted c.opening.counts (seats_before seats)) c.cou
 abbrev pub HaveReadMasks : List PhaseMask → List WorkerSeat → Type 0
 HaveReadMasks released seats =
     All (λ seat. AreMasksOf (mask_of released) (seat_meaning seat).masks) seats
+
+-- how many additions of the workers of these seats pass a test
+abbrev pub seats_passing : List WorkerSeat → Counting
+seats_passing seats test = sum_by (λ seat. count_by test (seat_meaning seat).additions) seats
+
+-- the stretches of the additions of the workers of these seats tile each page's counts, from the one at the start to the
+-- last; each count that they read is the one at the start or the end of a stretch; and each worker's calls are in order
+pub record HavePlaces (z : Opening) (seats : List WorkerSeat) : Type 0 where
+  pub tiles : AreTiles (slice_index z.counts) (last_count z seats) (seats_passing seats)
+  pub each : All (λ seat. let post = seat_meaning seat in
+      ArePlaced (slice_index z.counts) (seats_passing seats) post.additions post.reads) seats

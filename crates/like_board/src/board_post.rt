@@ -86,10 +86,10 @@ impl Post for BoardPost<'_> {
 
     fn add(&mut self, page: u32, n: u64) -> u64
         requires { MayAdd (post_meaning self.old) page n }
-        ensures view { post_meaning self.new ≡ added (post_meaning self.old) page n }
+        ensures view { post_meaning self.new ≡ added (post_meaning self.old) page result n }
         ensures own { additions_of (post_meaning self.old) page ≤ result }
         ensures board { post_board self.new ≡ post_board self.old }
-        ensures known { post_view self.new ≡ added_view (post_view self.old) page n }
+        ensures known { post_view self.new ≡ added_view (post_view self.old) page result n }
         ensures event { Adds (post_view self.old) page n result (post_view self.new) }
     {
         let board = self.board;

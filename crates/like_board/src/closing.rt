@@ -8,7 +8,7 @@ ghost use Rattle.like_core.specs.declared.worker_state.WorkerState.TheVariants.{
 ghost use Rattle.like_core.specs.WorkerState.{SawNoLater};
 ghost use Rattle.like_core.specs.Views.{gathered_all};
 ghost use Rattle.like_board.specs.Known.{coord_view_of};
-ghost use Rattle.like_board.specs.Seats.{board_id, coord_board, coord_view, seat_board, seat_view, seat_meaning, AreAll, last_count, HaveReadBetween, HaveReadMasks, AreCounted};
+ghost use Rattle.like_board.specs.Seats.{board_id, coord_board, coord_view, seat_board, seat_view, seat_meaning, AreAll, last_count, HaveReadBetween, HaveReadMasks, HavePlaces, AreCounted};
 
 use crate::board::Board;
 use crate::coord_seat::CoordSeat;
@@ -51,7 +51,9 @@ impl Board {
     /// count at the start and all that was added to it. No worker saw a later phase than the coordinator's. Each count
     /// that a worker read has all additions of earlier phases and its own before in that phase, and none of a later phase
     /// nor of its own later ones; each that the coordinator read has all additions up to its phase. Each mask that a
-    /// worker read is the one with which the coordinator released its phase.
+    /// worker read is the one with which the coordinator released its phase. The stretches of all additions to a page
+    /// tile its counts from the first to the last; each count that a worker read is the first one or the end of a stretch;
+    /// and each worker's additions and reads of a page are in the order of these counts.
     pub fn close(self, coord: CoordSeat, seats: Vec<WorkerSeat>, counts: &mut [u64])
         requires coord_here { coord_board coord ≡ board_id self }
         requires seats_here { All (λ seat. seat_board seat ≡ board_id self) seats.items }
@@ -65,6 +67,7 @@ impl Board {
         ensures reads { HaveReadBetween (coord_view coord).opening (coord_view coord).phase seats.items }
         ensures counted { AreCounted (coord_view coord) seats.items }
         ensures masks { HaveReadMasks (coord_view coord).masks seats.items }
+        ensures places { HavePlaces (coord_view coord).opening seats.items }
     {
         let CoordSeat {
             seat: mut coord,

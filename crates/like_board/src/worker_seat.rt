@@ -100,7 +100,7 @@ impl WorkerSeat {
         requires here { seat_board self.old ≡ board_id board.now }
         requires may { MayAdd (seat_meaning self.old) page n }
         ensures board { seat_board self.new ≡ seat_board self.old }
-        ensures view { seat_view self.new ≡ added_view (seat_view self.old) page n }
+        ensures view { seat_view self.new ≡ added_view (seat_view self.old) page result n }
         ensures own { added_to page (seat_view self.old).additions ≤ result }
         ensures event { Adds (seat_view self.old) page n result (seat_view self.new) }
     {

@@ -6,7 +6,7 @@ use Rattle.std.proofs.lemmas.Bool.{cases_eq, cases_lt, ne_eqb, lt-ltb, le-ltb, l
 use Rattle.std.proofs.lemmas.List.{take-append-le, drop-append-le, drop_all, length-append}
 use Rattle.std.proofs.lemmas.List.Elements.{All-nil, All-push, All-head, All-tail}
 use Rattle.std.proofs.lemmas.List.Sums.{sum_by-cons, sum_by_push}
-use mathlib.Core.Option.{some, some-injective}
+use mathlib.Core.Option.{some, some-injective, some-ne-none}
 use lib.ListN.{get_elem?}
 use Rattle.like_core.specs.declared.view.Addition.{Addition}
 use Rattle.like_core.specs.declared.view.PageRead.{PageRead}
@@ -443,3 +443,47 @@ places_push counts views new none none_added has found p =
         | inr is ↦ subst (HasPlaces first (all_passing later)) is (has first (all_passing later))
       ];
     }
+
+-- a worker that has added and read nothing
+pub placed_nothing : (first : ℕ → ℕ) (f : Counting) → ArePlaced first f [] []
+placed_nothing first f = record {
+  ends = All-nil (λ (r : PageRead). IsEnd first f r.page r.count);
+  order = record { added = tt; read = tt; both = All-nil (IsInPlace []) };
+}
+
+-- no number is from a count on and below it
+from_to-none : (first last n : ℕ) → last ≡ first → from_to first last n ≡ 0
+from_to-none first last n same = elim (cases_lt n first) [
+  | inl low ↦ ap (λ (b : Bool). cond {A = ℕ} (b && nat_lt n last) 1 0) (lt-leb first n low)
+  | inr up ↦ λ m. cond {A = ℕ} (le-leb first n up m && le-ltb n last (omega arith) m) 1 0
+]
+
+-- a coordinator's view alone, to which no seat was given back
+pub places_open : (counts : List ℕ) (c : CoordSeatView) → c.joined ≡ [] → PlacesTile counts (Coord c ∷ [])
+places_open counts c none =
+    let views : List View = Coord c ∷ [] in
+    let all : (test : Addition → Bool) → all_passing views test ≡ 0 =
+    λ test. sum_by-cons (passing test) (Coord c) [] ∙ (let here = ap (sum_by (λ (v : WorkerSeatView). count_by test v.additions)) none in omega arith)
+    in
+    let last : (page : ℕ) → count_after counts views page ≡ slice_index counts page =
+    λ page.
+    (let here = ap (sum_by (λ (v : WorkerSeatView). added_to page v.additions)) none in
+    let one = sum_by-cons (paged page) (Coord c) [] in
+    omega arith)
+    in
+    record {
+      tiles = record {
+        tiled = λ page n. all (has_number page n) ∙ sym (from_to-none (slice_index counts page) (count_after counts views page) n (last page));
+        some = all is_empty;
+      };
+      last = λ page. inl (last page);
+      each = each_first views;
+    }
+  where
+    each_first : (views : List View) (place : ℕ) (u : View) → get_elem? (Coord c ∷ []) place ≡ some u → HasPlaces (slice_index counts) (all_passing views) u
+    each_first views zero u at =
+        let has : HasPlaces (slice_index counts) (all_passing views) (Coord c) =
+        λ place w found. absurd (some-ne-none w (sym (sym (ap (λ (l : List WorkerSeatView). get_elem? l place) none) ∙ found)))
+        in
+        subst (HasPlaces (slice_index counts) (all_passing views)) (some-injective (Coord c) u at) has
+    each_first views (suc place) u at = absurd (some-ne-none u (sym at))

@@ -77,3 +77,17 @@ returns-clause-masks c =
     c.requires.all
     in
     last.masks
+
+pub returns-clause-places : goal.returns-clause-places
+returns-clause-places c =
+    let coord = c.args.coord in
+    let closed = c.close_with-closed.result in
+    let last =
+    closes c.args.self.table.shared.key _ _ (slots_items closed.words) (slots_items closed.slots) (coord_view coord) c.args.seats.items
+    c.close_with-closed.ensures.values.2
+    (ap (λ (m : Me (Unit {0}) View). m.0) c.gather.ensures.coord)
+    coord.none_back
+    coord.made_all
+    c.requires.all
+    in
+    last.places
