@@ -3,8 +3,8 @@ use Rattle.std.proofs.Common.{◌≡◌, ◌≢◌, ℕ, ◌+◌, ◌%◌, ◌�
 use Rattle.std.proofs.lemmas.Bool.{cases_eq}
 use Rattle.std.proofs.lemmas.List.{map-append, length-replicate}
 use Rattle.std.proofs.lemmas.List.Elements.{All-head, All-tail, All-push}
-use Rattle.std.proofs.lemmas.List.Sums.{sum_by-append}
-use Rattle.std.specs.List.{All}
+use Rattle.std.proofs.lemmas.List.Sums.{sum_by-append, sum_by-cons}
+use Rattle.std.specs.List.{All, sum_by}
 use Rattle.std.specs.Option.{option_map_or}
 use Rattle.like_requests.specs.declared.request.Numbered.{Numbered}
 use Rattle.like_requests.specs.declared.request.Request.{Request}
@@ -29,7 +29,7 @@ use Rattle.like_roles.specs.Replies.{page_looked_at}
 use Rattle.like_roles.specs.Serve.{Runs, ran_now, verdict_at}
 use Rattle.like_roles.specs.Service.{Service, is_split_in, marks, request_at, submitters}
 use Rattle.like_roles.specs.Turns as turns
-use Rattle.like_roles.specs.Turns.{CanGive, Gives, TakesAsk, Turns, Works, held_from, masks_in, merged, merging, saw, settled, trying, with_stashed, with_taken, without_first}
+use Rattle.like_roles.specs.Turns.{CanGive, Gives, TakesAsk, Turns, Works, held_from, masks_in, merged, merging, saw, settled, trying, with_stashed, with_taken, without_first, Merges, from_zero}
 use Rattle.like_requests.specs.Setup.{IsThere}
 use Rattle.like_roles.specs.WorkerView.{WorkerView, HasPhaseMask, IsSliceInSplit, has_to_wait, phase_at, submitter_at}
 use Rattle.like_roles.proofs.Blocks.{block-after_joined, block-later, order_below-more, block-next-prompt, block-next-waits, order_below-prompt, order_below-waits, waits-joined}
@@ -187,25 +187,37 @@ follows-held service v first rest after none f kept j e run =
       split_held = λ s. absurd (omega arith);
     })
 
+-- a sum over additions that does not look at their counts
+sum-from_zero : (f : Addition → ℕ) → ((a : Addition) → f (from_zero a) ≡ f a) → (adds : List Addition) → sum_by f adds ≡ sum_by f (map from_zero adds)
+sum-from_zero f same [] = refl
+sum-from_zero f same (a ∷ adds) =
+    let here = same a in
+    let rest = sum-from_zero f same adds in
+    omega (arith, sum_by-cons f a adds, sum_by-cons f (from_zero a) (map from_zero adds))
+
 -- the merge of a slice
-merged-likes : (v : WorkerView) → IsSized v → (page : ℕ) → additions_of (merged v).post page + get_or (merged v).slice page 0 ≡ additions_of v.post page + get_or v.slice page 0
-merged-likes v s page =
+merged-likes : (v : WorkerView) (adds : List Addition) → Merges (phase_at v) v.slice (pages_of v.post) adds → IsSized v → (page : ℕ) → additions_of (merged v adds).post page + get_or (merged v adds).slice page 0 ≡ additions_of v.post page + get_or v.slice page 0
+merged-likes v adds merges s page =
     let n = pages_of v.post in
-    let none : get_or (merged v).slice page 0 ≡ 0 = same_everywhere n page 0 in
+    let f : Addition → ℕ = λ a. cond (a.page == page) a.likes 0 in
+    let none : get_or (merged v adds).slice page 0 ≡ 0 = same_everywhere n page 0 in
     let all = merging-all (λ _. true) (phase_at v) v.slice page n s.slice in
-    let more = sum_by-append (λ (a : Addition). cond (a.page == page) a.likes 0) v.post.additions (merging (phase_at v) v.slice n) in
+    let new : sum_by f adds ≡ sum_by f (merging (phase_at v) v.slice n) = sum-from_zero f (λ a. refl) adds ∙ ap (sum_by f) merges in
+    let more = sum_by-append f v.post.additions adds in
     omega arith
 
 -- and in each phase
-merged-in : (v : WorkerView) → IsSized v → (phase page : ℕ) → additions_in (merged v).post phase page + cond (phase_at v == phase) (get_or (merged v).slice page 0) 0
+merged-in : (v : WorkerView) (adds : List Addition) → Merges (phase_at v) v.slice (pages_of v.post) adds → IsSized v → (phase page : ℕ) → additions_in (merged v adds).post phase page + cond (phase_at v == phase) (get_or (merged v adds).slice page 0) 0
     ≡ additions_in v.post phase page + cond (phase_at v == phase) (get_or v.slice page 0) 0
-merged-in v s phase page =
+merged-in v adds merges s phase page =
     let n = pages_of v.post in
-    let none : cond (phase_at v == phase) (get_or (merged v).slice page 0) 0 ≡ 0 =
+    let f : Addition → ℕ = λ a. cond ((a.phase == phase) && (a.page == page)) a.likes 0 in
+    let none : cond (phase_at v == phase) (get_or (merged v adds).slice page 0) 0 ≡ 0 =
     ap (λ (k : ℕ). cond (phase_at v == phase) k 0) (same_everywhere n page 0) ∙ cond_same (phase_at v == phase) 0
     in
     let all = merging-all (λ k. k == phase) (phase_at v) v.slice page n s.slice in
-    let more = sum_by-append (λ (a : Addition). cond ((a.phase == phase) && (a.page == page)) a.likes 0) v.post.additions (merging (phase_at v) v.slice n) in
+    let new : sum_by f adds ≡ sum_by f (merging (phase_at v) v.slice n) = sum-from_zero f (λ a. refl) adds ∙ ap (sum_by f) merges in
+    let more = sum_by-append f v.post.additions adds in
     omega arith
 
 -- a submitter is tried
@@ -232,17 +244,17 @@ follows-answered service v P f run none empty =
       trying = λ place e. absurd (cc (none, e));
     }
 
-follows-merged : (service : Service) (v : WorkerView) (P : ℕ → Type 0) → Follows service v → RunsSome P v.post.state → v.pending ≡ None → Follows service (merged v)
-follows-merged service v P f run none =
+follows-merged : (service : Service) (v : WorkerView) (adds : List Addition) (P : ℕ → Type 0) → Merges (phase_at v) v.slice (pages_of v.post) adds → Follows service v → RunsSome P v.post.state → v.pending ≡ None → Follows service (merged v adds)
+follows-merged service v adds P merges f run none =
     let b = blocks-of_running service v P v.post.state run f.stands in
-    follows-running service (merged v) (runs-weaker P (λ _. Unit {0}) v.post.state (λ _ _. tt) run)
+    follows-running service (merged v adds) (runs-weaker P (λ _. Unit {0}) v.post.state (λ _ _. tt) run)
     (record { users = f.served.users; submitters_alike = f.served.submitters_alike; marks_alike = f.served.marks_alike; hot_alike = f.served.hot_alike })
     (record { slice = length-replicate (pages_of v.post) 0; users = f.sized.users })
     (record {
-      likes = λ page. f.tallied.likes page ∙ sym (merged-likes v f.sized page);
-      by_phase = λ phase page. f.tallied.by_phase phase page ∙ sym (merged-in v f.sized phase page);
-      looks = f.tallied.looks ∙ sym (shown_by-more v.post.additions (merging (phase_at v) v.slice (pages_of v.post)) v.post.reads f.tallied.after);
-      after = after-more v.post.additions (merging (phase_at v) v.slice (pages_of v.post)) v.post.reads f.tallied.after;
+      likes = λ page. f.tallied.likes page ∙ sym (merged-likes v adds merges f.sized page);
+      by_phase = λ phase page. f.tallied.by_phase phase page ∙ sym (merged-in v adds merges f.sized phase page);
+      looks = f.tallied.looks ∙ sym (shown_by-more v.post.additions adds v.post.reads f.tallied.after);
+      after = after-more v.post.additions adds v.post.reads f.tallied.after;
       replies = f.tallied.replies;
       last = f.tallied.last;
     })
@@ -270,9 +282,10 @@ follows-works service v ending answer after none f kept (turns.acknowledges j e 
     subst (Follows service) (sym x) (follows-answered service v IsJoined f j none (λ _. e))
 follows-works service v ending answer after none f kept (turns.tries_joined place j e next seen a x) =
     subst (Follows service) (sym x) (follows-trying service v place f (runs-weaker IsJoined (λ _. Unit {0}) v.post.state (λ _ _. tt) j) (λ _. e))
-follows-works service v ending answer after none f kept (turns.reports s seen a x) =
+follows-works service v ending answer after none f kept (turns.reports now s seen a m x) =
     let odd = runs-phase IsSplit v.post.state s in
-    subst (Follows service) (sym x) (follows-answered service (merged v) IsSplit (follows-merged service v IsSplit f s none) s none (λ even. absurd (omega arith)))
+    let is : after ≡ record (merged v m.0) { post = answered (merged v m.0).post } = x ∙ ap {A = WorkerView} (λ w. record w { post = answered w.post }) m.1.1 in
+    subst (Follows service) (sym is) (follows-answered service (merged v m.0) IsSplit (follows-merged service v m.0 IsSplit m.1.0 f s none) s none (λ even. absurd (omega arith)))
 follows-works service v ending answer after none f kept (turns.idles s seen stuck a x) = subst (Follows service) (sym x) f
 follows-works service v ending answer after none f kept (turns.tries_split place s seen room next a x) =
     let odd = runs-phase IsSplit v.post.state s in

@@ -1,16 +1,17 @@
 -- What a turn takes from the submitters, and what it leaves as it is.
-use Rattle.std.proofs.Common.{◌≡◌, ℕ, Bool, true, false, cond, [], ◌∷◌, refl, sym, ◌∙◌, set, subst}
+use Rattle.std.proofs.Common.{◌≡◌, ℕ, Bool, true, false, cond, [], ◌∷◌, refl, ap, sym, ◌∙◌, set, subst}
 use Rattle.like_requests.specs.declared.request.Numbered.{Numbered}
 use Rattle.like_requests.specs.declared.request.Request.{Request}
 use Rattle.like_requests.specs.declared.request.Taken.{Taken}
 use Rattle.like_core.specs.PhaseMasks.{KeepsMasks}
+use Rattle.like_core.specs.Post.{answered}
 use Rattle.like_core.proofs.PhaseMasks.{masks-both}
 use Rattle.like_tables.specs.declared.held.Held.{Held}
 use Rattle.like_roles.specs.declared.reply.Reply.{Reply}
 use Rattle.like_roles.specs.declared.turn.Turn.{Turn}
 use Rattle.like_roles.specs.Serve.{Runs, GivesReply, refuses, likes, looks, counted}
 use Rattle.like_roles.specs.Turns as turns
-use Rattle.like_roles.specs.Turns.{Gives, HasTaken, TakesAsk, TakesNothing, Turns, Works}
+use Rattle.like_roles.specs.Turns.{Gives, HasTaken, TakesAsk, TakesNothing, Turns, Works, merged}
 use Rattle.like_roles.specs.WorkerView.{WorkerView, phase_at}
 use Rattle.like_roles.proofs.Served.{counted_by}
 
@@ -22,14 +23,14 @@ same v = record { share = refl; marks = refl; taken = refl; left = refl; ended =
 both : (u v w : WorkerView) → TakesNothing u v → TakesNothing v w → TakesNothing u w
 both u v w a b = record { share = b.share ∙ a.share; marks = b.marks ∙ a.marks; taken = b.taken ∙ a.taken; left = b.left ∙ a.left; ended = b.ended ∙ a.ended; masks = masks-both u.post.masks v.post.masks w.post.masks a.masks b.masks }
 
-counted-keeps : (v : WorkerView) (page : ℕ) → TakesNothing v (counted v page)
-counted-keeps v page = counted_by (TakesNothing v) v page (record { share = refl; marks = refl; taken = refl; left = refl; ended = refl; masks = ([], refl) }) (record { share = refl; marks = refl; taken = refl; left = refl; ended = refl; masks = ([], refl) })
+counted-keeps : (v : WorkerView) (page old : ℕ) → TakesNothing v (counted v page old)
+counted-keeps v page old = counted_by (TakesNothing v) v page old (record { share = refl; marks = refl; taken = refl; left = refl; ended = refl; masks = ([], refl) }) (record { share = refl; marks = refl; taken = refl; left = refl; ended = refl; masks = ([], refl) })
 
 serves-keeps : (v : WorkerView) (submitter : ℕ) (r : Request) (reply : Reply) (w : WorkerView) → GivesReply v submitter r reply w → TakesNothing v w
 serves-keeps v submitter r reply w (refuses n a e) = subst (TakesNothing v) (sym e) (same v)
 serves-keeps v submitter r reply w (likes page a o p l e) =
-    let c = counted-keeps v page in
-    subst (TakesNothing v) (sym e) (record { share = refl; marks = c.marks; taken = c.taken; left = c.left; ended = c.ended; masks = c.masks })
+    let c = counted-keeps v page e.0 in
+    subst (TakesNothing v) (sym e.1) (record { share = refl; marks = c.marks; taken = c.taken; left = c.left; ended = c.ended; masks = c.masks })
 serves-keeps v submitter r reply w (looks page count a o p s n e) =
     subst (TakesNothing v) (sym e) (record { share = refl; marks = refl; taken = refl; left = refl; ended = refl; masks = ([], refl) })
 
@@ -46,7 +47,9 @@ works-keeps v ending answer after (turns.runs_held first rest j e a run) =
 works-keeps v ending answer after (turns.retires j e ended a x) = subst (TakesNothing v) (sym x) (record { share = refl; marks = refl; taken = refl; left = refl; ended = refl; masks = ([], refl) })
 works-keeps v ending answer after (turns.acknowledges j e ended seen a x) = subst (TakesNothing v) (sym x) (record { share = refl; marks = refl; taken = refl; left = refl; ended = refl; masks = ([], refl) })
 works-keeps v ending answer after (turns.tries_joined place j e next seen a x) = subst (TakesNothing v) (sym x) (record { share = refl; marks = refl; taken = refl; left = refl; ended = refl; masks = ([], refl) })
-works-keeps v ending answer after (turns.reports s seen a x) = subst (TakesNothing v) (sym x) (record { share = refl; marks = refl; taken = refl; left = refl; ended = refl; masks = ([], refl) })
+works-keeps v ending answer after (turns.reports now s seen a m x) =
+    let is : after ≡ record (merged v m.0) { post = answered (merged v m.0).post } = x ∙ ap {A = WorkerView} (λ w. record w { post = answered w.post }) m.1.1 in
+    subst (TakesNothing v) (sym is) (record { share = refl; marks = refl; taken = refl; left = refl; ended = refl; masks = ([], refl) })
 works-keeps v ending answer after (turns.idles s seen stuck a x) = subst (TakesNothing v) (sym x) (same v)
 works-keeps v ending answer after (turns.tries_split place s seen room next a x) = subst (TakesNothing v) (sym x) (record { share = refl; marks = refl; taken = refl; left = refl; ended = refl; masks = ([], refl) })
 

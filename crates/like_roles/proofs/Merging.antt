@@ -1,28 +1,33 @@
 -- How the merge of a slice goes from page to page.
-use Rattle.std.proofs.Common.{◌≡◌, ℕ, zero, suc, ◌≢◌, ◌+◌, ◌-◌, ◌<◌, ◌≤◌, ◌==◌, ◌&&◌, nat_lt, Bool, true, false, not, cond, List, [], ◌∷◌, ◌++◌, length, get_or, set, replicate, refl, ap, sym, ◌∙◌, inl, inr, arith, subst, append-nil, append_assoc}
+use Rattle.std.proofs.Common.{◌≡◌, ℕ, zero, suc, ◌≢◌, ◌+◌, ◌-◌, ◌<◌, ◌≤◌, ◌==◌, ◌&&◌, nat_lt, Bool, true, false, not, cond, List, [], ◌∷◌, ◌++◌, length, get_or, set, replicate, map, refl, ap, sym, ◌∙◌, inl, inr, arith, subst, append-nil, append_assoc}
 use Rattle.std.specs.List.{sum_by}
 use Rattle.std.proofs.lemmas.Bool.{cases_eq, cases_lt, eqb-true, eq-eqb, ne_eqb, lt-ltb, le-ltb}
-use Rattle.std.proofs.lemmas.List.{length-set, get_or_past, get_or-set_same, get_or-set_other}
+use Rattle.std.proofs.lemmas.List.{length-set, map-append, get_or_past, get_or-set_same, get_or-set_other}
 use Rattle.std.proofs.lemmas.List.FromFn.{filter_of_map_range_with_len_more}
 use Rattle.like_core.specs.declared.view.Addition.{Addition}
 use Rattle.std.proofs.lemmas.List.Sums.{sum_by-append, sum_by-cons}
-use Rattle.like_core.specs.Post.{added, pages_of}
+use Rattle.like_core.specs.Post.{pages_of}
 use Rattle.like_core.proofs.Labels.{one_before-next}
 use Rattle.like_tables.specs.Liked.{AreUnliked}
-use Rattle.like_roles.specs.Turns.{merged, merged_page, merging, slice_addition}
+use Rattle.like_roles.specs.Turns.{IsMerged, Merges, from_zero, merged_page, merging, slice_addition}
+use Rattle.like_roles.specs.Serve.{adding, noted_at}
+use Rattle.like_roles.specs.declared.log.Added.{Added}
 use Rattle.like_roles.specs.WorkerView.{WorkerView, phase_at}
 use Rattle.like_roles.proofs.Shown.{cond_same}
 
--- the worker after its first n pages were merged, with this slice
-abbrev merged_below : WorkerView → ℕ → List ℕ → WorkerView
-merged_below v n slice = record v {
-  post = record v.post { additions = v.post.additions ++ merging (phase_at v) v.slice n };
+-- the worker after pages were merged by these additions, with this slice
+abbrev merged_with : WorkerView → List Addition → List ℕ → WorkerView
+merged_with v adds slice = record v {
+  post = record v.post { additions = v.post.additions ++ adds };
   slice = slice;
+  adds = v.adds ++ map (noted_at (length v.ran)) adds;
 }
 
 -- the first n pages are merged
 pub record Merging (v0 v : WorkerView) (n : ℕ) : Type 0 where
-  pub rest : v ≡ merged_below v0 n v.slice
+  pub adds : List Addition
+  pub merges : Merges (phase_at v0) v0.slice n adds
+  pub rest : v ≡ merged_with v0 adds v.slice
   pub slice_sized : length v.slice ≡ pages_of v0.post
   pub emptied : (page : ℕ) → page < n → get_or v.slice page 0 ≡ 0
   pub slice_left : (page : ℕ) → n ≤ page → get_or v.slice page 0 ≡ get_or v0.slice page 0
@@ -30,7 +35,9 @@ pub record Merging (v0 v : WorkerView) (n : ℕ) : Type 0 where
 -- no page is merged at first
 pub Merging-start : (v : WorkerView) → length v.slice ≡ pages_of v.post → Merging v v 0
 Merging-start v s = record {
-  rest = λ m. record v { post = record v.post { additions = sym (append-nil v.post.additions) m } };
+  adds = [];
+  merges = refl;
+  rest = λ m. record v { post = record v.post { additions = sym (append-nil v.post.additions) m }; adds = sym (append-nil v.adds) m };
   slice_sized = s;
   emptied = λ page h. absurd (omega arith);
   slice_left = λ page h. refl;
@@ -67,25 +74,29 @@ merging-none phase slice n none =
     ∙ (ap (λ (b : Bool). merging phase slice n ++ cond (not b) (slice_addition phase slice n ∷ []) []) (eq-eqb (get_or slice n 0) 0 none)
     ∙ append-nil (merging phase slice n))
 
--- the worker with these additions and this slice
-abbrev merged_as : WorkerView → List ℕ → List Addition → WorkerView
-merged_as v slice additions = record v { post = record v.post { additions = additions }; slice = slice }
+-- the worker with these additions, noted so, and this slice
+abbrev merged_as : WorkerView → List ℕ → List Addition → List Added → WorkerView
+merged_as v slice additions noted = record v { post = record v.post { additions = additions }; slice = slice; adds = noted }
 
--- the next page is merged
-pub Merging-page : (v0 v : WorkerView) (n : ℕ) → Merging v0 v n → n < length v.slice → get_or v.slice n 0 ≢ 0 → Merging v0 (merged_page v n) (n + 1)
-Merging-page v0 v n m inside liked =
+-- the next page is merged, where its count was this
+pub Merging-page : (v0 v : WorkerView) (n old : ℕ) → Merging v0 v n → n < length v.slice → get_or v.slice n 0 ≢ 0 → Merging v0 (merged_page v n old) (n + 1)
+Merging-page v0 v n old m inside liked =
     let slice = set v.slice n 0 in
     let likes : ℕ = get_or v.slice n 0 in
     let is : likes ≡ get_or v0.slice n 0 = m.slice_left n (omega arith) in
-    let one : ℕ → List Addition = λ k. record { phase = phase_at v0; page = n; likes = k } ∷ [] in
-    let done : List Addition = merging (phase_at v0) v0.slice n in
+    let new : Addition = record { phase = phase_at v0; page = n; old = old; likes = likes } in
+    let note : Addition → Added = noted_at (length v0.ran) in
     let more = merging-more (phase_at v0) v0.slice n (λ e. liked (is ∙ e)) in
+    let zero_is : from_zero new ≡ slice_addition (phase_at v0) v0.slice n = ap (λ (k : ℕ). record { phase = phase_at v0; page = n; old = 0; likes = k }) is in
+    let noted : (v0.adds ++ map note m.adds) ++ note new ∷ [] ≡ v0.adds ++ map note (m.adds ++ new ∷ []) =
+    append_assoc v0.adds (map note m.adds) (note new ∷ []) ∙ ap (λ (xs : List Added). v0.adds ++ xs) (sym (map-append note m.adds (new ∷ [])))
+    in
     record {
+      adds = m.adds ++ new ∷ [];
+      merges = map-append from_zero m.adds (new ∷ []) ∙ ((λ k. m.merges k ++ zero_is k ∷ []) ∙ sym more);
       rest =
-          ap {A = WorkerView} (λ w. record w { post = added w.post n likes; slice = slice }) m.rest
-          ∙ (ap (merged_as v0 slice) (append_assoc v0.post.additions done (one likes))
-          ∙ (ap (λ (k : ℕ). merged_as v0 slice (v0.post.additions ++ (done ++ one k))) is
-          ∙ ap (λ (xs : List Addition). merged_as v0 slice (v0.post.additions ++ xs)) (sym more)));
+          ap {A = WorkerView} (λ w. record (adding w n old likes) { slice = slice }) m.rest
+          ∙ (λ k. merged_as v0 slice (append_assoc v0.post.additions m.adds (new ∷ []) k) (noted k));
       slice_sized = length-set v.slice n 0 ∙ m.slice_sized;
       emptied = below v.slice n 0 (λ _. 0) inside refl m.emptied;
       slice_left = above v.slice v0.slice n 0 m.slice_left;
@@ -96,7 +107,9 @@ Merging-none : (v0 v : WorkerView) (n : ℕ) → Merging v0 v n → get_or v.sli
 Merging-none v0 v n m none =
     let is : get_or v0.slice n 0 ≡ 0 = sym (m.slice_left n (omega arith)) ∙ none in
     record {
-      rest = m.rest ∙ ap (λ (xs : List Addition). merged_as v0 v.slice (v0.post.additions ++ xs)) (sym (merging-none (phase_at v0) v0.slice n is));
+      adds = m.adds;
+      merges = m.merges ∙ sym (merging-none (phase_at v0) v0.slice n is);
+      rest = m.rest;
       slice_sized = m.slice_sized;
       emptied = λ page h. elim (cases_lt page n) [
         | inl earlier ↦ m.emptied page earlier
@@ -126,11 +139,11 @@ zeros (x ∷ xs) h =
     ap (λ y. y ∷ xs) first ∙ ap (λ ys. 0 ∷ ys) rest
 
 -- all pages are merged
-pub Merging-end : (v0 v : WorkerView) → Merging v0 v (pages_of v0.post) → v ≡ merged v0
+pub Merging-end : (v0 v : WorkerView) → Merging v0 v (pages_of v0.post) → IsMerged v0 v
 Merging-end v0 v m =
     let slice : v.slice ≡ replicate (pages_of v0.post) 0 =
     zeros v.slice (λ i k. m.emptied i (omega (arith, m.slice_sized))) ∙ ap (λ n. replicate n 0) m.slice_sized in
-    m.rest ∙ ap (merged_below v0 (pages_of v0.post)) slice
+    (m.adds, (m.merges, m.rest ∙ ap (merged_with v0 m.adds) slice))
 
 module _ (test : ℕ → Bool) (phase : ℕ) (slice : List ℕ) (page : ℕ) where
   -- how much an addition counts, where its phase passes a test and it is of the page

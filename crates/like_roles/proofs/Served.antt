@@ -5,12 +5,12 @@ use Rattle.like_core.specs.declared.worker_state.WorkerState.{WorkerState}
 use Rattle.like_core.specs.declared.worker_state.WorkerState.TheVariants as state
 use Rattle.like_core.specs.Phase.{IsSplit}
 use Rattle.like_core.specs.WorkerState.{RunsSome, RunsSplit, phase_of}
-use Rattle.like_core.specs.Post.{added, slices}
+use Rattle.like_core.specs.Post.{slices}
 use Rattle.like_tables.specs.declared.held.Held.{Held}
 use Rattle.like_roles.specs.declared.log.Ran.{Ran}
 use Rattle.like_roles.specs.declared.reply.Reply.{Reply}
 use Rattle.like_roles.specs.Desk.{IsStanding}
-use Rattle.like_roles.specs.Serve.{GivesReply, refuses, likes, looks, counted, liked, shown, ran_now, Runs}
+use Rattle.like_roles.specs.Serve.{GivesReply, refuses, likes, looks, adding, counted, liked, shown, ran_now, Runs}
 use Rattle.like_roles.specs.WorkerView.{WorkerView, phase_at}
 
 -- a worker that runs a phase has its number
@@ -26,26 +26,26 @@ runs-split (state.Answered k) r odd = absurd r
 runs-split state.Gone r odd = absurd r
 
 -- what holds with one more like in the slice, and with one more on the board, holds once a like is counted
-pub counted_by : (P : WorkerView → Type 0) (v : WorkerView) (page : ℕ) → P (record v { slice = slice_set v.slice page (slice_index v.slice page + 1) })
-    → P (record v { post = added v.post page 1 }) → P (counted v page)
-counted_by P v page in_slice on_board = by_test (slices v.post page) where
-  by_test : (b : Bool) → P (cond b (record v { slice = slice_set v.slice page (slice_index v.slice page + 1) }) (record v { post = added v.post page 1 }))
+pub counted_by : (P : WorkerView → Type 0) (v : WorkerView) (page old : ℕ) → P (record v { slice = slice_set v.slice page (slice_index v.slice page + 1) })
+    → P (adding v page old 1) → P (counted v page old)
+counted_by P v page old in_slice on_board = by_test (slices v.post page) where
+  by_test : (b : Bool) → P (cond b (record v { slice = slice_set v.slice page (slice_index v.slice page + 1) }) (adding v page old 1))
   by_test true = in_slice
   by_test false = on_board
 
 -- what no like and no read changes, no answer changes
 pub GivesReply-keeps : {X : Type 0} (f : WorkerView → X) (v : WorkerView) (submitter : ℕ) (r : Request) (reply : Reply) (w : WorkerView)
-    → ((user page : ℕ) → f (liked v user page) ≡ f v) → ((page count : ℕ) → f (shown v page count) ≡ f v) → GivesReply v submitter r reply w → f w ≡ f v
+    → ((user page old : ℕ) → f (liked v user page old) ≡ f v) → ((page count : ℕ) → f (shown v page count) ≡ f v) → GivesReply v submitter r reply w → f w ≡ f v
 GivesReply-keeps f v submitter r reply w k l (refuses n a e) = ap f e
-GivesReply-keeps f v submitter r reply w k l (likes page a o p s e) = ap f e ∙ k r.user page
+GivesReply-keeps f v submitter r reply w k l (likes page a o p s e) = ap f e.1 ∙ k r.user page e.0
 GivesReply-keeps f v submitter r reply w k l (looks page count a o p s n e) = ap f e ∙ l page count
 
 -- an answer changes no state, and no list of what was run
 pub GivesReply-state : (v : WorkerView) (submitter : ℕ) (r : Request) (reply : Reply) (w : WorkerView) → GivesReply v submitter r reply w → w.post.state ≡ v.post.state
-GivesReply-state v submitter r reply w s = GivesReply-keeps (λ x. x.post.state) v submitter r reply w (λ user page. counted_by (λ x. x.post.state ≡ v.post.state) v page refl refl) (λ page count. refl) s
+GivesReply-state v submitter r reply w s = GivesReply-keeps (λ x. x.post.state) v submitter r reply w (λ user page old. counted_by (λ x. x.post.state ≡ v.post.state) v page old refl refl) (λ page count. refl) s
 
 pub GivesReply-ran : (v : WorkerView) (submitter : ℕ) (r : Request) (reply : Reply) (w : WorkerView) → GivesReply v submitter r reply w → w.ran ≡ v.ran
-GivesReply-ran v submitter r reply w s = GivesReply-keeps (λ x. x.ran) v submitter r reply w (λ user page. counted_by (λ x. x.ran ≡ v.ran) v page refl refl) (λ page count. refl) s
+GivesReply-ran v submitter r reply w s = GivesReply-keeps (λ x. x.ran) v submitter r reply w (λ user page old. counted_by (λ x. x.ran ≡ v.ran) v page old refl refl) (λ page count. refl) s
 
 -- a worker that is not gone has a state of its own
 pub not_gone : (s : WorkerState) (phase : ℕ) (gone : Bool) → IsStanding s phase gone → gone ≡ false → s ≢ state.Gone

@@ -108,7 +108,7 @@ works-pends v ending answer after none (turns.retires j e ended a x) = subst (λ
 works-pends v ending answer after none (turns.acknowledges j e ended seen a x) = subst (λ y. Pends y after) (sym a) (ap (λ y. y.pending) x ∙ none)
 works-pends v ending answer after none (turns.tries_joined place j e next seen a x) =
     subst (λ y. Pends y after) (sym a) (subst (λ y. Pends (turn.Try (submitter_at v place)) y) (sym x) (place, (refl, refl, next.there, next.not_ended)))
-works-pends v ending answer after none (turns.reports s seen a x) = subst (λ y. Pends y after) (sym a) (ap (λ y. y.pending) x ∙ none)
+works-pends v ending answer after none (turns.reports now s seen a m x) = subst (λ y. Pends y after) (sym a) (ap (λ y. y.pending) x ∙ (ap (λ y. y.pending) m.1.1 ∙ none))
 works-pends v ending answer after none (turns.idles s seen stuck a x) = subst (λ y. Pends y after) (sym a) (ap (λ y. y.pending) x ∙ none)
 works-pends v ending answer after none (turns.tries_split place s seen room next a x) =
     subst (λ y. Pends y after) (sym a) (subst (λ y. Pends (turn.Try (submitter_at v place)) y) (sym x) (place, (refl, refl, next.there, next.not_ended)))
@@ -124,7 +124,7 @@ works-retired v ending answer after (turns.runs_held first rest j e a run) r = c
 works-retired v ending answer after (turns.retires j e ended a x) r = ap (λ y. y.post.state) x
 works-retired v ending answer after (turns.acknowledges j e ended seen a x) r = cc (a, r)
 works-retired v ending answer after (turns.tries_joined place j e next seen a x) r = cc (a, r)
-works-retired v ending answer after (turns.reports s seen a x) r = cc (a, r)
+works-retired v ending answer after (turns.reports now s seen a m x) r = cc (a, r)
 works-retired v ending answer after (turns.idles s seen stuck a x) r = cc (a, r)
 works-retired v ending answer after (turns.tries_split place s seen room next a x) r = cc (a, r)
 

@@ -30,7 +30,7 @@ use Rattle.like_roles.specs.Follows.{IsAsked, IsServed, IsSized, IsTallied}
 use Rattle.like_roles.specs.Likes.{AcceptedLike, accepted_like, last_like, last_page, like_ran, likes_among, likes_ran, likes_within, page_likes}
 use Rattle.like_roles.specs.Looks.{ShownCount, accepted_look, look_ran, shown_by, shown_in, shown_to}
 use Rattle.like_roles.specs.Replies.{Answers, HasRightAnswers, IsRightAnswer, page_looked_at}
-use Rattle.like_roles.specs.Serve.{GivesReply, refuses, likes, looks, counted, liked, shown, ran_now, verdict_at}
+use Rattle.like_roles.specs.Serve.{GivesReply, refuses, likes, looks, adding, counted, liked, shown, ran_now, verdict_at}
 use Rattle.like_roles.specs.Service.{Service, marks, request_of, submitters}
 use Rattle.like_requests.specs.Setup.{IsThere}
 use Rattle.like_roles.specs.WorkerView.{WorkerView, phase_at}
@@ -146,23 +146,25 @@ one_more-at xs page other h =
     ]
 
 -- one more accepted like in the slice or on the board
-counted-one : (v : WorkerView) (page other : ℕ) → page < length v.slice
-    → additions_of (counted v page).post other + get_or (counted v page).slice other 0 ≡ (additions_of v.post other + get_or v.slice other 0) + cond (eqb page other) 1 0
-counted-one v page other in_slice =
+counted-one : (v : WorkerView) (page old other : ℕ) → page < length v.slice
+    → additions_of (counted v page old).post other + get_or (counted v page old).slice other 0 ≡ (additions_of v.post other + get_or v.slice other 0) + cond (eqb page other) 1 0
+counted-one v page old other in_slice =
     counted_by (λ w. additions_of w.post other + get_or w.slice other 0 ≡ (additions_of v.post other + get_or v.slice other 0) + cond (eqb page other) 1 0)
-    v page (omega (arith, one_more-at v.slice page other in_slice)) (omega (arith, added_to-push v.post.additions (phase_of v.post.state) page 1 other))
+    v page old (omega (arith, one_more-at v.slice page other in_slice))
+    (let push : additions_of (adding v page old 1).post other ≡ additions_of v.post other + cond (eqb page other) 1 0 = added_to-push v.post.additions (phase_of v.post.state) page old 1 other in
+    omega arith)
 
 -- and in its phase
-counted-in : (v : WorkerView) (page other phase : ℕ) → page < length v.slice
-    → additions_in (counted v page).post phase other + cond (phase_at (counted v page) == phase) (get_or (counted v page).slice other 0) 0
+counted-in : (v : WorkerView) (page old other phase : ℕ) → page < length v.slice
+    → additions_in (counted v page old).post phase other + cond (phase_at (counted v page old) == phase) (get_or (counted v page old).slice other 0) 0
     ≡ (additions_in v.post phase other + cond (phase_at v == phase) (get_or v.slice other 0) 0) + cond (phase_at v == phase) (cond (page == other) 1 0) 0
-counted-in v page other phase in_slice =
+counted-in v page old other phase in_slice =
     counted_by (λ w. additions_in w.post phase other + cond (phase_at w == phase) (get_or w.slice other 0) 0 ≡ (additions_in v.post phase other + cond (phase_at v == phase) (get_or v.slice other 0) 0) + cond (phase_at v == phase) (cond (page == other) 1 0) 0)
-    v page
+    v page old
     (let more = ap (λ (k : ℕ). cond (phase_at v == phase) k 0) (one_more-at v.slice page other in_slice) in
     let parts = cond_sum (phase_at v == phase) (get_or v.slice other 0) (cond (page == other) 1 0) in
     omega arith)
-    (let push = added_in-push v.post.additions (phase_at v) page 1 phase other in
+    (let push = added_in-push v.post.additions (phase_at v) page old 1 phase other in
     let both = cond_both (phase_at v == phase) (page == other) in
     omega arith)
   where
@@ -175,33 +177,33 @@ counted-in v page other phase in_slice =
     cond_both false c = refl
 
 -- it comes after all reads
-counted-after : (v : WorkerView) (page : ℕ) → All (λ r. r.after ≤ length v.post.additions) v.post.reads → All (λ r. r.after ≤ length (counted v page).post.additions) (counted v page).post.reads
-counted-after v page after =
-    counted_by (λ w. All (λ r. r.after ≤ length w.post.additions) w.post.reads) v page after
-    (after-more v.post.additions (addition (phase_at v) page 1 ∷ []) v.post.reads after)
+counted-after : (v : WorkerView) (page old : ℕ) → All (λ r. r.after ≤ length v.post.additions) v.post.reads → All (λ r. r.after ≤ length (counted v page old).post.additions) (counted v page old).post.reads
+counted-after v page old after =
+    counted_by (λ w. All (λ r. r.after ≤ length w.post.additions) w.post.reads) v page old after
+    (after-more v.post.additions (addition (phase_at v) page old 1 ∷ []) v.post.reads after)
 
 -- and changes nothing that they show
-counted-shown : (v : WorkerView) (page : ℕ) → All (λ r. r.after ≤ length v.post.additions) v.post.reads → map (shown_by v.post.additions) v.post.reads ≡ map (shown_by (counted v page).post.additions) (counted v page).post.reads
-counted-shown v page after =
-    counted_by (λ w. map (shown_by v.post.additions) v.post.reads ≡ map (shown_by w.post.additions) w.post.reads) v page refl
-    (sym (shown_by-more v.post.additions (addition (phase_at v) page 1 ∷ []) v.post.reads after))
+counted-shown : (v : WorkerView) (page old : ℕ) → All (λ r. r.after ≤ length v.post.additions) v.post.reads → map (shown_by v.post.additions) v.post.reads ≡ map (shown_by (counted v page old).post.additions) (counted v page old).post.reads
+counted-shown v page old after =
+    counted_by (λ w. map (shown_by v.post.additions) v.post.reads ≡ map (shown_by w.post.additions) w.post.reads) v page old refl
+    (sym (shown_by-more v.post.additions (addition (phase_at v) page old 1 ∷ []) v.post.reads after))
 
 -- a like that is counted changes no size, and whom the worker serves as little
-counted-sized : (v : WorkerView) (page : ℕ) → IsSized v → IsSized (counted v page)
-counted-sized v page s =
-    counted_by IsSized v page
+counted-sized : (v : WorkerView) (page old : ℕ) → IsSized v → IsSized (counted v page old)
+counted-sized v page old s =
+    counted_by IsSized v page old
     (record { slice = length-set v.slice page _ ∙ s.slice; users = s.users })
     (record { slice = s.slice; users = s.users })
 
-counted-served : (service : Service) (v : WorkerView) (page : ℕ) → IsServed service v → IsServed service (counted v page)
-counted-served service v page s =
+counted-served : (service : Service) (v : WorkerView) (page old : ℕ) → IsServed service v → IsServed service (counted v page old)
+counted-served service v page old s =
     let same : (w : WorkerView) → w.last ≡ v.last → w.post.marks ≡ v.post.marks → w.post.masks ≡ v.post.masks → IsServed service w = λ w last marks masks. record {
       users = s.users ∙ ap (λ x. x.share.users) (sym last);
       submitters_alike = s.submitters_alike ∙ ap (λ x. x.share.submitters) (sym last);
       marks_alike = s.marks_alike ∙ sym marks;
       hot_alike = subst (AreMasksOf service.hot) (sym masks) s.hot_alike;
     } in
-    counted_by (IsServed service) v page (same _ refl refl refl) (same _ refl refl refl)
+    counted_by (IsServed service) v page old (same _ refl refl refl) (same _ refl refl refl)
 
 -- one more entry that ran no like changes no number of a phase
 pub within-none : (service : Service) (ran : List Ran) (e : Ran) (page phase : ℕ) → like_ran service e ≡ None → likes_within service page (ran ++ e ∷ []) phase ≡ likes_within service page ran phase
@@ -257,30 +259,30 @@ unchanged service v h stashed answer reads served sized t none right shows later
     )
 
 -- an accepted like
-one_like : (service : Service) (v : WorkerView) (h : Held) (stashed : Bool) (page : ℕ) → IsServed service v → IsSized v → IsTallied service v
+one_like : (service : Service) (v : WorkerView) (h : Held) (stashed : Bool) (page old : ℕ) → IsServed service v → IsSized v → IsTallied service v
     → like_ran service (ran_now v h stashed reply.Liked) ≡ Some (record { user = h.ask.request.user; page = page }) → look_ran service (ran_now v h stashed reply.Liked) ≡ None
     → IsRightAnswer service v.ran (ran_now v h stashed reply.Liked)
-    → page < pages_of v.post → h.ask.request.user < v.last.share.users → IsAfter service v h stashed reply.Liked (liked v h.ask.request.user page)
-one_like service v h stashed page served sized t like no_look right in_pages in_users =
+    → page < pages_of v.post → h.ask.request.user < v.last.share.users → IsAfter service v h stashed reply.Liked (liked v h.ask.request.user page old)
+one_like service v h stashed page old served sized t like no_look right in_pages in_users =
     let e = ran_now v h stashed reply.Liked in
     let user = h.ask.request.user in
     let l : AcceptedLike = record { user = user; page = page } in
     let more = likes_ran-push service v.ran e (Some l) like in
     let in_slice : page < length v.slice = omega (arith, sized.slice) in
     let in_table : user < length v.last.last = omega (arith, sized.users) in
-    let s = counted-served service v page served in
-    let z = counted-sized v page sized in (
+    let s = counted-served service v page old served in
+    let z = counted-sized v page old sized in (
       record { users = served.users; submitters_alike = served.submitters_alike; marks_alike = s.marks_alike; hot_alike = s.hot_alike },
       record { slice = z.slice; users = length-set v.last.last user (Some page) ∙ sized.users },
       record {
         likes = λ other. ap (page_likes other) more ∙ page_likes-push other (likes_ran service v.ran) l ∙ ap (λ n. n + cond (eqb page other) 1 0) (t.likes other)
-            ∙ sym (counted-one v page other in_slice);
+            ∙ sym (counted-one v page old other in_slice);
         by_phase = λ phase other.
             within-one service v.ran e l other phase like
             ∙ ap (λ n. n + cond (phase_at v == phase) (cond (page == other) 1 0) 0) (t.by_phase phase other)
-            ∙ sym (counted-in v page other phase in_slice);
-        looks = shown_in-none service v.ran e no_look ∙ (t.looks ∙ counted-shown v page t.after);
-        after = counted-after v page t.after;
+            ∙ sym (counted-in v page old other phase in_slice);
+        looks = shown_in-none service v.ran e no_look ∙ (t.looks ∙ counted-shown v page old t.after);
+        after = counted-after v page old t.after;
         replies = HasRightAnswers-push service v.ran e t.replies right;
         last = λ other. elim (cases_eq user other) [
           | inl same ↦
@@ -319,7 +321,7 @@ GivesReply-tallied service v h stashed answer w served sized t asked clear (like
     let in_marks : IsThere (length (marks service)) (ref.Known page) = subst (λ q. IsThere (length (marks service)) q) p asked.there in
     let in_pages : page < pages_of v.post = omega (arith, ap length served.marks_alike) in
     let in_users : r.user < v.last.share.users = omega (arith, accepted_user service.users (submitters service) h.submitter r yes, served.users) in
-    subst (λ y. IsAfter service v h stashed answer y) (sym e) (subst (λ y. IsAfter service v h stashed y (liked v r.user page)) (sym l) (one_like service v h stashed page served sized t like no_look right in_pages in_users))
+    subst (λ y. IsAfter service v h stashed answer y) (sym e.1) (subst (λ y. IsAfter service v h stashed y (liked v r.user page e.0)) (sym l) (one_like service v h stashed page e.0 served sized t like no_look right in_pages in_users))
 GivesReply-tallied service v h stashed answer w served sized t asked clear (looks page count a o p s n e) =
     let r = h.ask.request in
     let V-is = sym (verdict_at-served service v h.submitter r served) ∙ a in

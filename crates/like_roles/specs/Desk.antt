@@ -35,6 +35,7 @@ view_of post d = record {
   last = d.last;
   taken = d.taken.items;
   ran = d.ran.items;
+  adds = d.adds.items;
 }
 
 -- the phase and whether the worker is gone, as its state has them
@@ -85,18 +86,31 @@ pub record ArePlaces (d : Desk) : Type 0 where
       → submitter_of d.last.share.workers d.last.share.worker place < d.last.share.submitters
   pub cursor : d.cursor ≤ vec_len d.ended
 
--- there is room to take and to run what was not taken yet, and to run what is held
+-- there is room to take and to run what was not taken yet, and to run what is held; and to note an addition for each like
+-- that was not added yet, of which there are no more than all these and those in the slice
 pub record HasRoom (post : PostView) (d : Desk) : Type 0 where
   pub taken : vec_len d.taken + sum d.left.items ≤ vec_capacity d.taken
   pub ran : vec_len d.ran + length d.held.held + sum d.left.items ≤ vec_capacity d.ran
+  pub few_ran : vec_capacity d.ran ≤ max_likes
+  pub adds : vec_len d.adds + sum d.slice + length d.held.held + sum d.left.items
+      ≤ vec_capacity d.adds
   pub few : all_added post.additions + sum d.slice + length d.held.held + sum d.left.items
       ≤ max_likes
 
 -- and there is room to run one more request
 pub record HasRoomForOne (post : PostView) (d : Desk) : Type 0 where
   pub ran : vec_len d.ran + length d.held.held + sum d.left.items < vec_capacity d.ran
+  pub adds : vec_len d.adds + sum d.slice + length d.held.held + sum d.left.items
+      < vec_capacity d.adds
   pub few : all_added post.additions + sum d.slice + length d.held.held + sum d.left.items
       < max_likes
+
+-- and there is room for one more addition, of n likes that are not in the slice any more
+pub record HasRoomToAdd (post : PostView) (d : Desk) (n : ℕ) : Type 0 where
+  pub adds : vec_len d.adds + sum d.slice + length d.held.held + sum d.left.items
+      < vec_capacity d.adds
+  pub few : all_added post.additions + n + sum d.slice + length d.held.held + sum d.left.items
+      ≤ max_likes
 
 -- there is room to note one more request that was run
 pub record HasRoomToNote (d : Desk) : Type 0 where
@@ -141,3 +155,5 @@ pub record IsNewDesk (s : Setup) (sizes : List ℕ) (worker : ℕ) (d : Desk) : 
   pub taken_room : vec_capacity d.taken ≡ sum d.left.items
   pub ran : d.ran.items ≡ []
   pub ran_room : vec_capacity d.ran ≡ sum d.left.items
+  pub adds : d.adds.items ≡ []
+  pub adds_room : vec_capacity d.adds ≡ sum d.left.items

@@ -34,3 +34,4 @@ pub record IsNew (s : Setup) (sizes : List ℕ) (worker : ℕ) (post : PostView)
   pub last : v.last ≡ table_without_likes (share_of s.users (length sizes) s.workers worker)
   pub taken : v.taken ≡ []
   pub ran : v.ran ≡ []
+  pub adds : v.adds ≡ []

@@ -1,14 +1,16 @@
 -- What it does to a worker to run a request.
-use Rattle.std.specs.Prelude.{◌≡◌, ◌≢◌, ℕ, ◌+◌, ◌≤◌, Bool, if◌then◌else◌, [], ◌∷◌, ◌++◌, slice_index, slice_set}
+use Rattle.std.specs.Prelude.{◌≡◌, ◌≢◌, ℕ, ◌+◌, ◌≤◌, Bool, if◌then◌else◌, [], ◌∷◌, ◌++◌, length, slice_index, slice_set}
 use Rattle.like_requests.specs.Verdict.{verdict_of}
 use Rattle.like_requests.specs.declared.request.Op.TheVariants.{Like, Look}
 use Rattle.like_requests.specs.declared.request.PageRef.TheVariants.{Known}
 use Rattle.like_requests.specs.declared.request.Request.{Request}
 use Rattle.like_requests.specs.declared.verdict.Verdict.{Verdict}
 use Rattle.like_requests.specs.declared.verdict.Verdict.TheVariants.{Accepted}
+use Rattle.like_core.specs.declared.view.Addition.{Addition}
 use Rattle.like_core.specs.Post.{added, has_read, additions_of, slices}
 use Rattle.like_tables.specs.UserTable.{last_of, with_last}
 use Rattle.like_tables.specs.declared.held.Held.{Held}
+use Rattle.like_roles.specs.declared.log.Added.{Added}
 use Rattle.like_roles.specs.declared.log.Ran.{Ran}
 use Rattle.like_roles.specs.declared.reply.Reply.{Reply}
 use Rattle.like_roles.specs.declared.reply.Reply.TheVariants.{Liked, Seen, Refused}
@@ -18,16 +20,41 @@ use Rattle.like_roles.specs.WorkerView.{WorkerView, phase_at}
 abbrev pub verdict_at : WorkerView → ℕ → Request → Verdict
 verdict_at v submitter r = verdict_of v.last.share.users v.last.share.submitters submitter r
 
--- one more like of a page: in the slice, where the page is sliced, else on the board
-abbrev pub counted : WorkerView → ℕ → WorkerView
-counted v page =
+-- an addition as it is noted when so many entries had run
+abbrev pub noted_at : ℕ → Addition → Added
+noted_at at a = record { page = a.page; phase = a.phase; at = at; old = a.old; n = a.likes }
+
+-- n is added to a page's count on the board, which was this before, and that is noted
+abbrev pub adding : WorkerView → ℕ → ℕ → ℕ → WorkerView
+adding v page old n = record v {
+  post = added v.post page old n;
+  adds = v.adds ++ noted_at (length v.ran) (record {
+    phase = phase_at v;
+    page = page;
+    old = old;
+    likes = n;
+  }) ∷ [];
+}
+
+-- one more like of a page: in the slice, where the page is sliced, else on the board, where its count was this
+abbrev pub counted : WorkerView → ℕ → ℕ → WorkerView
+counted v page old =
     if slices v.post page
     then record v { slice = slice_set v.slice page (slice_index v.slice page + 1) }
-    else record v { post = added v.post page 1 }
+    else adding v page old 1
 
 -- a user's accepted like of a page is counted, and is the user's last like
-abbrev pub liked : WorkerView → ℕ → ℕ → WorkerView
-liked v user page = let w = counted v page in record w { last = with_last v.last user page }
+abbrev pub liked : WorkerView → ℕ → ℕ → ℕ → WorkerView
+liked v user page old =
+    let w = counted v page old in record w { last = with_last v.last user page }
+
+-- one more like of a page is counted, whatever its count is
+abbrev pub Counts : WorkerView → ℕ → WorkerView → Type 0
+Counts v page after = (old : ℕ) × (after ≡ counted v page old)
+
+-- and is the user's last
+abbrev pub Likes : WorkerView → ℕ → ℕ → WorkerView → Type 0
+Likes v user page after = (old : ℕ) × (after ≡ liked v user page old)
 
 -- a page's count was read, and was this
 abbrev pub shown : WorkerView → ℕ → ℕ → WorkerView
@@ -40,7 +67,7 @@ pub data GivesReply (v : WorkerView) (submitter : ℕ) (r : Request) (reply : Re
       → reply ≡ Refused (verdict_at v submitter r) → after ≡ v
       → GivesReply v submitter r reply after
   likes : (page : ℕ) → verdict_at v submitter r ≡ Accepted → r.op ≡ Like → r.page ≡ Known page
-      → reply ≡ Liked → after ≡ liked v r.user page → GivesReply v submitter r reply after
+      → reply ≡ Liked → Likes v r.user page after → GivesReply v submitter r reply after
   looks : (page count : ℕ) → verdict_at v submitter r ≡ Accepted → r.op ≡ Look → r.page ≡ Known page
       → reply ≡ Seen (last_of v.last r.user) count → additions_of v.post page ≤ count
       → after ≡ shown v page count

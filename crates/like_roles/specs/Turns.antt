@@ -10,13 +10,13 @@ use Rattle.like_core.specs.WorkerState.{IsSightOf, RunsJoined, RunsSplit}
 use Rattle.like_core.specs.declared.view.Addition.{Addition}
 use Rattle.like_core.specs.declared.view.PhaseMask.{PhaseMask}
 use Rattle.like_core.specs.PhaseMasks.{KeepsMasks}
-use Rattle.like_core.specs.Post.{looked_at, answered, retired, added, pages_of}
+use Rattle.like_core.specs.Post.{looked_at, answered, retired, pages_of}
 use Rattle.like_tables.specs.declared.held.Held.{Held}
 use Rattle.like_roles.specs.declared.turn.Turn.{Turn}
 use Rattle.like_roles.specs.declared.turn.Turn.TheVariants as turn
 use Rattle.like_requests.specs.Setup.{IsThere}
 use Rattle.like_roles.specs.WorkerView.{WorkerView, HasEnded, IsNextPlace, phase_at, submitter_at, has_to_wait}
-use Rattle.like_roles.specs.Serve.{Runs}
+use Rattle.like_roles.specs.Serve.{Runs, adding, noted_at}
 
 -- who goes from one phase to another enters a split phase
 abbrev pub enters_split : ℕ → ℕ → Bool
@@ -44,31 +44,44 @@ without_first v rest = record v { held = record v.held { held = rest } }
 abbrev pub trying : WorkerView → ℕ → WorkerView
 trying v place = record v { pending = Some place; cursor = (place + 1) % length v.ended }
 
--- a page's number in a slice, as an addition in a phase
+-- a page's number in a slice, as an addition in a phase to a count of 0
 abbrev pub slice_addition : ℕ → List ℕ → ℕ → Addition
 slice_addition phase slice page =
-    record { phase = phase; page = page; likes = slice_index slice page }
+    record { phase = phase; page = page; old = 0; likes = slice_index slice page }
 
--- the additions that merge the first pages of a slice, so many: one for each whose number is not 0, in page order
+-- the additions that merge the first pages of a slice, so many, as if to counts of 0: one for each whose number is not 0,
+-- in page order
 abbrev pub merging : ℕ → List ℕ → ℕ → List Addition
 merging phase slice pages =
     filter (λ a. not (a.likes == 0)) (map (slice_addition phase slice) (range_with_len 0 pages))
 
--- the slice is added to the board, and emptied
-abbrev pub merged : WorkerView → WorkerView
-merged v = record v {
-  post = record v.post {
-    additions = v.post.additions ++ merging (phase_at v) v.slice (pages_of v.post);
-  };
+-- an addition, as if to a count of 0
+abbrev pub from_zero : Addition → Addition
+from_zero a = record a { old = 0 }
+
+-- additions merge the first pages of a slice, so many, whatever their counts are
+abbrev pub Merges : ℕ → List ℕ → ℕ → List Addition → Type 0
+Merges phase slice pages adds = map from_zero adds ≡ merging phase slice pages
+
+-- the slice is added to the board by these additions, which are noted, and emptied
+abbrev pub merged : WorkerView → List Addition → WorkerView
+merged v adds = record v {
+  post = record v.post { additions = v.post.additions ++ adds };
   slice = replicate (pages_of v.post) 0;
+  adds = v.adds ++ map (noted_at (length v.ran)) adds;
 }
 
--- a page's slice is
-abbrev pub merged_page : WorkerView → ℕ → WorkerView
-merged_page v page = record v {
-  post = added v.post page (slice_index v.slice page);
-  slice = slice_set v.slice page 0;
-}
+-- the slice is merged
+abbrev pub IsMerged : WorkerView → WorkerView → Type 0
+IsMerged v after =
+    (adds : List Addition)
+    × (Merges (phase_at v) v.slice (pages_of v.post) adds × (after ≡ merged v adds))
+
+-- a page's slice is, where the page's count was this
+abbrev pub merged_page : WorkerView → ℕ → ℕ → WorkerView
+merged_page v page old =
+    let w = adding v page old (slice_index v.slice page) in
+    record w { slice = slice_set v.slice page 0 }
 
 -- it cannot take a request in a split phase
 abbrev pub IsStuck : WorkerView → Type 0
@@ -90,8 +103,8 @@ pub data Works (v : WorkerView) (ending : Bool) (answer : Turn) (after : WorkerV
       → IsNextPlace v.ended v.cursor place → ending ≡ false
       → answer ≡ turn.Try (submitter_at v place) → after ≡ trying v place
       → Works v ending answer after
-  reports : RunsSplit v.post.state → ending ≡ true
-      → answer ≡ turn.Reported → after ≡ record (merged v) { post = answered (merged v).post }
+  reports : (now : WorkerView) → RunsSplit v.post.state → ending ≡ true
+      → answer ≡ turn.Reported → IsMerged v now → after ≡ record now { post = answered now.post }
       → Works v ending answer after
   idles : RunsSplit v.post.state → ending ≡ false → IsStuck v
       → answer ≡ turn.Idle → after ≡ v → Works v ending answer after

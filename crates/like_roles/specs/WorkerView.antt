@@ -7,6 +7,7 @@ use Rattle.like_core.specs.Post.{PostView, slices}
 use Rattle.like_tables.specs.Share.{submitter_of}
 use Rattle.like_tables.specs.UserTable.{UserTable}
 use Rattle.like_tables.specs.Waiting.{Waiting}
+use Rattle.like_roles.specs.declared.log.Added.{Added}
 use Rattle.like_roles.specs.declared.log.Ran.{Ran}
 use Rattle.like_roles.specs.declared.log.Took.{Took}
 use Rattle.like_roles.specs.Order.{is_look_at_sliced}
@@ -14,7 +15,7 @@ use Rattle.like_roles.specs.Order.{is_look_at_sliced}
 -- its post; the looks that it holds, which are its stash in a split phase and its backlog in a joined one; its slice, a
 -- number for each page; for each of its submitters by place, how many requests of it were not taken yet and whether its
 -- end mark was taken; the place at which it looks for a submitter next; the place of the submitter that it tries, if it
--- tries one; the last likes of its users; what it took, and what it ran
+-- tries one; the last likes of its users; what it took, what it ran, and the additions that it made
 pub record WorkerView : Type 0 where
   pub post : PostView
   pub held : Waiting
@@ -26,6 +27,7 @@ pub record WorkerView : Type 0 where
   pub last : UserTable
   pub taken : List Took
   pub ran : List Ran
+  pub adds : List Added
 
 -- the phase that it runs or has answered
 abbrev pub phase_at : WorkerView → ℕ

@@ -18,7 +18,7 @@ pub use chosen::Chosen;
 pub use coord_turn::CoordTurn;
 pub use coordinator::{Coordinator, NoCoordinator};
 pub use gate::{Gate, NoGate};
-pub use log::{Ran, Took, WorkerLog};
+pub use log::{Added, Ran, Took, WorkerLog};
 pub use reply::Reply;
 pub use turn::Turn;
 pub use worker::{NoWorker, Worker};

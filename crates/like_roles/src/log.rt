@@ -22,6 +22,20 @@ pub struct Ran {
     pub reply: Reply,
 }
 
+/// An addition that a worker made to a page's count: a like of a page that is not split in the phase, or the merge of all
+/// its likes of a page that is.
+#[derive(Clone, Copy, Debug, PartialEq, Eq)]
+pub struct Added {
+    pub page: u32,
+    pub phase: u32,
+    /// How many requests it had run: the entries below this place come before the addition, the others at it or after it.
+    pub at: u32,
+    /// The page's count before.
+    pub old: u64,
+    /// How many likes were added.
+    pub n: u64,
+}
+
 /// What a worker has done, when it is gone.
 #[derive(Debug, Drop)]
 pub struct WorkerLog {
@@ -29,6 +43,8 @@ pub struct WorkerLog {
     pub taken: Vec<Took>,
     /// The requests that it ran, in their order.
     pub ran: Vec<Ran>,
+    /// The additions that it made, in their order.
+    pub adds: Vec<Added>,
     /// The last likes of its users.
     pub last: Users,
 }

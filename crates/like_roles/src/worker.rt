@@ -114,6 +114,7 @@ impl<P: Post> Worker<P> {
         requires { self.post.state ≡ Gone }
         ensures taken { result.0.taken.items ≡ self.taken }
         ensures ran { result.0.ran.items ≡ self.ran }
+        ensures adds { result.0.adds.items ≡ self.adds }
         ensures last { result.0.last ≡ self.last }
         ensures post { P.view result.1 ≡ self.post }
         ensures done { (service : Service) → Follows service self → IsDone service self }
@@ -123,8 +124,15 @@ impl<P: Post> Worker<P> {
             last,
             taken,
             ran,
+            adds,
             ..
         } = desk;
-        (WorkerLog { taken, ran, last }, post)
+        let log = WorkerLog {
+            taken,
+            ran,
+            adds,
+            last,
+        };
+        (log, post)
     }
 }

@@ -1,13 +1,14 @@
 ghost use Rattle.std.specs.Prelude.{◌≡◌, ◌<◌, false, slice_index_or, length};
 ghost use Rattle.like_core.specs.Phase.{split};
 
+mod adding;
 mod giving;
 mod making;
 mod merging;
 mod serving;
 mod turning;
 
-use crate::log::{Ran, Took};
+use crate::log::{Added, Ran, Took};
 use like_core::is_hot;
 use like_tables::{Slice, Stash, Users};
 
@@ -38,6 +39,7 @@ pub(crate) struct Desk {
     pub last: Users,
     pub taken: Vec<Took>,
     pub ran: Vec<Ran>,
+    pub adds: Vec<Added>,
 }
 
 impl Desk {

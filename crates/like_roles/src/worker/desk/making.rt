@@ -40,6 +40,7 @@ impl Desk {
             )?,
             taken: Vec::with_capacity(alloc, room)?,
             ran: Vec::with_capacity(alloc, room)?,
+            adds: Vec::with_capacity(alloc, room)?,
         })
     }
 }

@@ -1,7 +1,7 @@
 ghost use Rattle.std.specs.Prelude.{◌≡◌, ◌≢◌, ◌<◌, length, slice_index};
 ghost use Rattle.like_core.specs.WorkerState.{RunsSplit, SawEnding};
 ghost use Rattle.like_roles.specs.Desk.{view_of, IsSound};
-ghost use Rattle.like_roles.specs.Turns.{merged, merged_page};
+ghost use Rattle.like_roles.specs.Turns.{IsMerged, merged_page};
 
 use crate::worker::desk::Desk;
 use like_core::Post;
@@ -13,8 +13,7 @@ impl Desk {
         requires split { RunsSplit (P.view post.old).state }
         requires ending { SawEnding (P.view post.old).last }
         ensures sound { IsSound (P.view post.new) self.new }
-        ensures merged { view_of (P.view post.new) self.new
-            ≡ merged (view_of (P.view post.old) self.old) }
+        ensures merged { IsMerged (view_of (P.view post.old) self.old) (view_of (P.view post.new) self.new) }
     {
         let mut from = 0;
         while let Some(page) = self.slice.next(from) {
@@ -23,8 +22,8 @@ impl Desk {
         }
     }
 
-    // The same of one page, whose slice is not empty.
-    fn merge_page<P: Post>(&mut self, post: &mut P, page: u32)
+    // The same of one page, whose slice is not empty. Returns the page's count before.
+    fn merge_page<P: Post>(&mut self, post: &mut P, page: u32) -> u64
         requires sound { IsSound (P.view post.old) self.old }
         requires split { RunsSplit (P.view post.old).state }
         requires ending { SawEnding (P.view post.old).last }
@@ -32,9 +31,9 @@ impl Desk {
         requires liked { slice_index self.old.slice page ≢ 0 }
         ensures sound { IsSound (P.view post.new) self.new }
         ensures merged { view_of (P.view post.new) self.new
-            ≡ merged_page (view_of (P.view post.old) self.old) page }
+            ≡ merged_page (view_of (P.view post.old) self.old) page result }
     {
         let likes = self.slice.take(page);
-        post.add(page, likes);
+        self.add(post, page, likes)
     }
 }

@@ -5,7 +5,7 @@ ghost use Rattle.like_requests.specs.Setup.{IsThere};
 ghost use Rattle.like_tables.specs.Share.{owns};
 ghost use Rattle.like_roles.specs.Desk.{view_of, CanServe, HasRoomForOne, HasRoomToNote, IsJudged, IsSound};
 ghost use Rattle.like_roles.specs.Order.{is_look_at_sliced};
-ghost use Rattle.like_roles.specs.Serve.{counted, liked, Runs, GivesReply};
+ghost use Rattle.like_roles.specs.Serve.{Counts, Likes, Runs, GivesReply};
 
 use crate::gate::Gate;
 use crate::log::Ran;
@@ -44,15 +44,14 @@ impl Desk {
         requires there { page < length self.old.marks.items }
         ensures sound { IsSound (P.view post.new) self.new }
         ensures room { HasRoomToNote self.new }
-        ensures counted { view_of (P.view post.new) self.new
-            ≡ counted (view_of (P.view post.old) self.old) page }
+        ensures counted { Counts (view_of (P.view post.old) self.old) page (view_of (P.view post.new) self.new) }
         ensures last { self.new.last ≡ self.old.last }
     {
         if self.is_sliced(page) {
             self.slice.add(page);
             return;
         }
-        post.add(page, 1);
+        self.add(post, page, 1);
     }
 
     // Counts an accepted like of a page, and remembers it as the user's last.
@@ -64,8 +63,7 @@ impl Desk {
         requires owned { IsTrue (owns self.old.last.share user) }
         ensures sound { IsSound (P.view post.new) self.new }
         ensures room { HasRoomToNote self.new }
-        ensures liked { view_of (P.view post.new) self.new
-            ≡ liked (view_of (P.view post.old) self.old) user page }
+        ensures liked { Likes (view_of (P.view post.old) self.old) user page (view_of (P.view post.new) self.new) }
     {
         self.count(post, page);
         self.last.set(user, page);

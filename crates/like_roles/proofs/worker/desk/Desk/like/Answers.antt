@@ -14,5 +14,8 @@ pub returns-clause-liked : goal.returns-clause-liked
 returns-clause-liked g c =
     let v = view_of (g.P.Post.view c.args.post.now) c.args.self.now in
     let table = c.set.ensures.table ∙ ap (λ t. with_last t c.args.user c.args.page) c.count.ensures.last in
-    ap (λ (w : WorkerView). record w { last = c.set.new.self }) c.count.ensures.counted
-    ∙ ap (λ (t : UserTable). record (counted v c.args.page) { last = t }) table
+    let old = c.count.ensures.counted.0 in (
+      old,
+      ap (λ (w : WorkerView). record w { last = c.set.new.self }) c.count.ensures.counted.1
+      ∙ ap (λ (t : UserTable). record (counted v c.args.page old) { last = t }) table,
+    )

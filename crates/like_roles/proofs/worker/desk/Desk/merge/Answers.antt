@@ -26,5 +26,5 @@ loop-page-preserved g c =
     record {
       sound = c.merge_page.ensures.sound;
       within = omega (arith, sized, next.there);
-      merging = subst (λ w. Merging before w (page + 1)) (sym merged) (Merging-page before now page there next.there next.liked);
+      merging = subst (λ w. Merging before w (page + 1)) (sym merged) (Merging-page before now page c.merge_page.result there next.there next.liked);
     }

@@ -1,8 +1,14 @@
-use Rattle.std.proofs.Common.{◌≢◌, length, refl, subst}
-use Rattle.like_roles.specs.Turns.{tries_split}
+use Rattle.std.proofs.Common.{◌≢◌, length, refl, ap, subst}
+use Rattle.like_roles.specs.Desk.{view_of}
+use Rattle.like_roles.specs.Turns.{reports, tries_split}
 use Rattle.like_roles.specs.WorkerView.{IsNextPlace}
 use Rattle.like_roles.proofs.Held.{view_of-tried}
 use Rattle.like_roles.proofs.worker.desk.Desk.split_turn.Goals as goal
+
+pub returns-then-ending-clause-works : goal.returns-then-ending-clause-works
+returns-then-ending-clause-works g c =
+    reports (view_of (g.P.Post.view c.merge.new.post) c.merge.new.self) c.requires.split c.if-ending.true refl c.merge.ensures.merged
+    (ap (λ p. view_of p c.merge.new.self) c.report.ensures)
 
 pub returns-in-Some-clause-works : goal.returns-in-Some-clause-works
 returns-in-Some-clause-works g c =
