@@ -23,7 +23,7 @@ use Rattle.like_core.specs.Post.{additions_in, additions_of, answered, looked_at
 use Rattle.like_tables.specs.declared.held.Held.{Held}
 use Rattle.like_roles.specs.declared.log.Took.{Took}
 use Rattle.like_roles.specs.declared.turn.Turn.{Turn}
-use Rattle.like_roles.specs.Follows.{Follows, IsAsked, IsAskedBy, IsInBlocks, IsServed, IsSized, IsTallied, Stands, entry_held, next_joined}
+use Rattle.like_roles.specs.Follows.{Follows, IsAsked, IsAskedBy, IsInBlocks, IsNoted, IsServed, IsSized, IsTallied, IsUnmerged, Stands, entry_held, next_joined}
 use Rattle.like_roles.specs.Order.{block, entry_of, is_look_at_sliced, order_below, took_to_wait, waits}
 use Rattle.like_roles.specs.Replies.{page_looked_at}
 use Rattle.like_roles.specs.Serve.{Runs, ran_now, verdict_at}
@@ -37,36 +37,49 @@ use Rattle.like_roles.proofs.Effects.{HasRunOne, Runs-effects}
 use Rattle.like_roles.proofs.InBlocks.{before-next, blocks-of_running, order-of_blocks, parity, running-of_blocks, runs-phase, runs-weaker}
 use Rattle.like_roles.proofs.Lists.{same_everywhere}
 use Rattle.like_roles.proofs.Keeps.{works-keeps}
-use Rattle.like_roles.proofs.Looking.{saw-splits}
+use Rattle.like_roles.proofs.Looking.{saw-has, saw-splits}
 use Rattle.like_roles.proofs.Merging.{merging-all}
+use Rattle.like_roles.proofs.NotedMerge.{merge-noted}
+use Rattle.like_roles.proofs.Noting.{GivesReply-noted, running-unmerged, unmerged-running, unmerged-seen}
 use Rattle.like_roles.proofs.Served.{runs-split}
 use Rattle.like_roles.proofs.Shown.{after-more, cond_same, shown_by-more}
 use Rattle.like_roles.proofs.Tallied.{GivesReply-tallied, accepted-true}
 
 -- a worker that runs a phase and is in its blocks follows the plans
-follows-running : (service : Service) (v : WorkerView) → IsRunning v.post.state → IsServed service v → IsSized v → IsTallied service v → All (IsAsked service) v.held.held
+follows-running : (service : Service) (v : WorkerView) → IsRunning v.post.state → IsServed service v → IsSized v → IsTallied service v → IsNoted service v.post.additions v.post.reads v.adds v.ran → IsUnmerged service v.adds v.post.state → All (IsAsked service) v.held.held
     → IsInBlocks service v (phase_at v) → ((place : ℕ) → v.pending ≡ Some place → RunsJoined v.post.state → v.held.held ≡ []) → Follows service v
-follows-running service v run served sized t held b trying = record {
+follows-running service v run served sized t noted unmerged held b trying = record {
   served = served;
   sized = sized;
   tallied = t;
+  noted = noted;
+  unmerged = unmerged;
   in_order = order-of_blocks service v (phase_at v) refl b;
   held = held;
   stands = running-of_blocks service v (λ _. Unit {0}) v.post.state run b;
   trying = λ place e. (run, trying place e);
 }
 
+-- which pages are split is the same by the service and by the worker, which has read its split phase's mask
+slices-alike : (service : Service) (v : WorkerView) → IsServed service v → IsRunning v.post.state → HasPhaseMask v.post → (page : ℕ) → is_split_in service (phase_at v) page ≡ slices v.post page
+slices-alike service v s run has page =
+    ap (λ xs. split (λ p. get_or xs p false) service.hot (phase_at v) page) s.marks_alike
+    ∙ split-known (λ p. get_or v.post.marks p false) service.hot v.post.masks (phase_at v) page s.hot_alike (λ odd _ _. has (runs-split v.post.state run odd))
+
 -- what a run does to a worker that follows the plans, where the blocks after it are known
 follows-run : (service : Service) (v after : WorkerView) (h : Held) (stashed : Bool) → Runs v h stashed after → IsRunning v.post.state → v.pending ≡ None → IsServed service v → IsSized v → IsTallied service v
-    → IsAsked service h → ((page : ℕ) → verdict_at v h.submitter h.ask.request ≡ Accepted → page_looked_at h.ask.request.op h.ask.request.page ≡ Some page → get_or v.slice page 0 ≡ 0) → All (IsAsked service) v.held.held → ((e : HasRunOne v h stashed after) → IsInBlocks service (record v { ran = after.ran }) (phase_at v)) → Follows service after
-follows-run service v after h stashed run here none served sized t asked clear held blocks =
+    → IsNoted service v.post.additions v.post.reads v.adds v.ran → IsUnmerged service v.adds v.post.state → HasPhaseMask v.post → IsAsked service h → ((page : ℕ) → verdict_at v h.submitter h.ask.request ≡ Accepted → page_looked_at h.ask.request.op h.ask.request.page ≡ Some page → get_or v.slice page 0 ≡ 0) → All (IsAsked service) v.held.held → ((e : HasRunOne v h stashed after) → IsInBlocks service (record v { ran = after.ran }) (phase_at v)) → Follows service after
+follows-run service v after h stashed run here none served sized t was un has asked clear held blocks =
     let e = Runs-effects v h stashed after run in
     let done = GivesReply-tallied service v h stashed run.reply run.served served sized t asked clear run.serves in
-    let all : IsServed service after × IsSized after × IsTallied service after =
-    subst (λ x. IsServed service x × IsSized x × IsTallied service x) (sym run.noted) (
+    let marked = GivesReply-noted service v h stashed run.reply run.served served was (unmerged-running service v.adds (λ _. Unit {0}) v.post.state here un) asked (slices-alike service v served here has) run.serves in
+    let all : IsServed service after × IsSized after × IsTallied service after × IsNoted service after.post.additions after.post.reads after.adds after.ran × IsUnmerged service after.adds (state.Runs (phase_at v)) =
+    subst (λ x. IsServed service x × IsSized x × IsTallied service x × IsNoted service x.post.additions x.post.reads x.adds x.ran × IsUnmerged service x.adds (state.Runs (phase_at v))) (sym run.noted) (
       record { users = done.0.users; submitters_alike = done.0.submitters_alike; marks_alike = done.0.marks_alike; hot_alike = done.0.hot_alike },
       record { slice = done.1.slice; users = done.1.users },
       done.2,
+      marked.0,
+      marked.1,
     ) in
     let b = blocks e in
     let runs : IsRunning after.post.state = subst (λ s. RunsSome (λ _. Unit {0}) s) (sym e.state) here in
@@ -77,7 +90,8 @@ follows-run service v after h stashed run here none served sized t asked clear h
       split_ran = λ s. ap (λ xs. order_below service xs (phase_at v + 1)) e.taken ∙ b.split_ran s;
       split_held = λ s. ap (λ xs. block service xs (phase_at v + 1)) e.taken ∙ b.split_held s ∙ ap (λ w. map (entry_held (phase_at v + 1)) w.held) (sym e.held);
     } in
-    follows-running service after runs all.0 all.1 all.2 (subst (λ w. All (IsAsked service) w.held) (sym e.held) held)
+    follows-running service after runs all.0 all.1 all.2 all.3
+    (running-unmerged service after.adds (λ _. Unit {0}) after.post.state runs (subst (λ (k : ℕ). IsUnmerged service after.adds (state.Runs k)) phase all.4)) (subst (λ w. All (IsAsked service) w.held) (sym e.held) held)
     (subst (λ k. IsInBlocks service after k) phase b') (λ place p. absurd (cc (e.pending, none, p)))
 
 -- the blocks of a worker that enters the next phase
@@ -159,6 +173,8 @@ follows-saw service v sight masks right f kept here none = record {
   served = record { users = f.served.users; submitters_alike = f.served.submitters_alike; marks_alike = f.served.marks_alike; hot_alike = right };
   sized = record { slice = f.sized.slice; users = f.sized.users };
   tallied = record { likes = f.tallied.likes; by_phase = λ phase page. f.tallied.by_phase phase page ∙ ap (λ n. additions_in v.post phase page + n) (saw-kept v.slice sight v.post.state (λ p some. (kept p some).0) here phase page); looks = f.tallied.looks; after = f.tallied.after; replies = f.tallied.replies; last = f.tallied.last };
+  noted = f.noted;
+  unmerged = unmerged-seen service v.adds sight v.post.state f.unmerged;
   in_order = ap (λ zs. map entry_of v.ran ++ zs) (saw-next service v sight v.post.state f.stands here) ∙ f.in_order;
   held = f.held;
   stands = saw-stands service v sight masks v.post.state f.stands here;
@@ -177,6 +193,7 @@ follows-held service v first rest after none f kept j e run =
     (record { users = f.served.users; submitters_alike = f.served.submitters_alike; marks_alike = f.served.marks_alike; hot_alike = f.served.hot_alike })
     (record { slice = f.sized.slice; users = f.sized.users })
     (record { likes = f.tallied.likes; by_phase = f.tallied.by_phase; looks = f.tallied.looks; after = f.tallied.after; replies = f.tallied.replies; last = f.tallied.last })
+    f.noted f.unmerged (λ odd. absurd (not-split v.post.state j odd))
     (All-head (IsAsked service) first rest all) (λ page _ _. empty-unsplit v.post.state v.slice (λ p some. (kept p some).0) (not-split v.post.state j) page) (All-tail (IsAsked service) first rest all)
     (λ r. record {
       within = b.within;
@@ -228,7 +245,7 @@ follows-trying service v place f run empty =
     (record { users = f.served.users; submitters_alike = f.served.submitters_alike; marks_alike = f.served.marks_alike; hot_alike = f.served.hot_alike })
     (record { slice = f.sized.slice; users = f.sized.users })
     (record { likes = f.tallied.likes; by_phase = f.tallied.by_phase; looks = f.tallied.looks; after = f.tallied.after; replies = f.tallied.replies; last = f.tallied.last })
-    f.held (record { within = b.within; joined = b.joined; split_ran = b.split_ran; split_held = b.split_held }) (λ _ _. empty)
+    f.noted f.unmerged f.held (record { within = b.within; joined = b.joined; split_ran = b.split_ran; split_held = b.split_held }) (λ _ _. empty)
 
 -- the worker answers its phase; in a joined one it holds nothing
 follows-answered : (service : Service) (v : WorkerView) (P : ℕ → Type 0) → Follows service v → RunsSome P v.post.state → v.pending ≡ None → (IsJoined (phase_at v) → v.held.held ≡ []) → Follows service (record v { post = answered v.post })
@@ -238,32 +255,47 @@ follows-answered service v P f run none empty =
       served = record { users = f.served.users; submitters_alike = f.served.submitters_alike; marks_alike = f.served.marks_alike; hot_alike = f.served.hot_alike };
       sized = record { slice = f.sized.slice; users = f.sized.users };
       tallied = record { likes = f.tallied.likes; by_phase = f.tallied.by_phase; looks = f.tallied.looks; after = f.tallied.after; replies = f.tallied.replies; last = f.tallied.last };
+      noted = f.noted;
+      unmerged = (unmerged-running service v.adds P v.post.state run f.unmerged).0;
       in_order = f.in_order;
       held = f.held;
       stands = (record { within = b.within; joined = b.joined; split_ran = b.split_ran; split_held = b.split_held }, empty);
       trying = λ place e. absurd (cc (none, e));
     }
 
-follows-merged : (service : Service) (v : WorkerView) (adds : List Addition) (P : ℕ → Type 0) → Merges (phase_at v) v.slice (pages_of v.post) adds → Follows service v → RunsSome P v.post.state → v.pending ≡ None → Follows service (merged v adds)
-follows-merged service v adds P merges f run none =
-    let b = blocks-of_running service v P v.post.state run f.stands in
-    follows-running service (merged v adds) (runs-weaker P (λ _. Unit {0}) v.post.state (λ _ _. tt) run)
-    (record { users = f.served.users; submitters_alike = f.served.submitters_alike; marks_alike = f.served.marks_alike; hot_alike = f.served.hot_alike })
-    (record { slice = length-replicate (pages_of v.post) 0; users = f.sized.users })
-    (record {
-      likes = λ page. f.tallied.likes page ∙ sym (merged-likes v adds merges f.sized page);
-      by_phase = λ phase page. f.tallied.by_phase phase page ∙ sym (merged-in v adds merges f.sized phase page);
-      looks = f.tallied.looks ∙ sym (shown_by-more v.post.additions adds v.post.reads f.tallied.after);
-      after = after-more v.post.additions adds v.post.reads f.tallied.after;
-      replies = f.tallied.replies;
-      last = f.tallied.last;
-    })
-    f.held (record { within = b.within; joined = b.joined; split_ran = b.split_ran; split_held = b.split_held }) (λ place e. absurd (cc (none, e)))
+-- it merges its slice, and answers its phase
+follows-reported : (service : Service) (v : WorkerView) (adds : List Addition) → Merges (phase_at v) v.slice (pages_of v.post) adds → Follows service v → RunsSplit v.post.state → v.pending ≡ None → IsSliceInSplit v.post v.slice → HasPhaseMask v.post → Follows service (record (merged v adds) { post = answered (merged v adds).post })
+follows-reported service v adds merges f run none kept has =
+    let b = blocks-of_running service v IsSplit v.post.state run f.stands in
+    let odd = runs-phase IsSplit v.post.state run in
+    let here = runs-weaker IsSplit (λ _. Unit {0}) v.post.state (λ _ _. tt) run in
+    let noted =
+    merge-noted service v adds merges f.tallied f.noted (unmerged-running service v.adds IsSplit v.post.state run f.unmerged) kept
+    (slices-alike service v f.served here has)
+    in
+    record {
+      served = record { users = f.served.users; submitters_alike = f.served.submitters_alike; marks_alike = f.served.marks_alike; hot_alike = f.served.hot_alike };
+      sized = record { slice = length-replicate (pages_of v.post) 0; users = f.sized.users };
+      tallied = record {
+        likes = λ page. f.tallied.likes page ∙ sym (merged-likes v adds merges f.sized page);
+        by_phase = λ phase page. f.tallied.by_phase phase page ∙ sym (merged-in v adds merges f.sized phase page);
+        looks = f.tallied.looks ∙ sym (shown_by-more v.post.additions adds v.post.reads f.tallied.after);
+        after = after-more v.post.additions adds v.post.reads f.tallied.after;
+        replies = f.tallied.replies;
+        last = f.tallied.last;
+      };
+      noted = noted.0;
+      unmerged = noted.1;
+      in_order = f.in_order;
+      held = f.held;
+      stands = (record { within = b.within; joined = b.joined; split_ran = b.split_ran; split_held = b.split_held }, λ even. absurd (omega arith));
+      trying = λ place e. absurd (cc (none, e));
+    }
 
 -- a worker that runs a phase
-follows-works : (service : Service) (v : WorkerView) (ending : Bool) (answer : Turn) (after : WorkerView) → v.pending ≡ None → Follows service v → IsSliceInSplit v.post v.slice → Works v ending answer after → Follows service after
-follows-works service v ending answer after none f kept (turns.runs_held first rest j e a run) = follows-held service v first rest after none f kept j e run
-follows-works service v ending answer after none f kept (turns.retires j e ended a x) =
+follows-works : (service : Service) (v : WorkerView) (ending : Bool) (answer : Turn) (after : WorkerView) → v.pending ≡ None → Follows service v → IsSliceInSplit v.post v.slice → HasPhaseMask v.post → Works v ending answer after → Follows service after
+follows-works service v ending answer after none f kept has (turns.runs_held first rest j e a run) = follows-held service v first rest after none f kept j e run
+follows-works service v ending answer after none f kept has (turns.retires j e ended a x) =
     let none_kept = empty-unsplit v.post.state v.slice (λ p some. (kept p some).0) (not-split v.post.state j) in
     let zero_at : (b : Bool) (page : ℕ) → cond b (get_or v.slice page 0) 0 ≡ 0 = λ b page. ap (λ (n : ℕ). cond b n 0) (none_kept page) ∙ cond_same b 0 in
     let empties : (phase page : ℕ) → cond (phase_at v == phase) (get_or v.slice page 0) 0 ≡ cond (0 == phase) (get_or v.slice page 0) 0 =
@@ -273,33 +305,34 @@ follows-works service v ending answer after none f kept (turns.retires j e ended
       served = record { users = f.served.users; submitters_alike = f.served.submitters_alike; marks_alike = f.served.marks_alike; hot_alike = f.served.hot_alike };
       sized = record { slice = f.sized.slice; users = f.sized.users };
       tallied = record { likes = f.tallied.likes; by_phase = λ phase page. f.tallied.by_phase phase page ∙ ap (λ n. additions_in v.post phase page + n) (empties phase page); looks = f.tallied.looks; after = f.tallied.after; replies = f.tallied.replies; last = f.tallied.last };
+      noted = f.noted;
+      unmerged = tt;
       in_order = ap (λ hs. map entry_of v.ran ++ map (entry_held 0) hs) e ∙ ap (λ hs. map entry_of v.ran ++ map (entry_held (next_joined v)) hs) (sym e) ∙ f.in_order;
       held = f.held;
       stands = (e, ended);
       trying = λ place p. absurd (cc (none, p));
     })
-follows-works service v ending answer after none f kept (turns.acknowledges j e ended seen a x) =
+follows-works service v ending answer after none f kept has (turns.acknowledges j e ended seen a x) =
     subst (Follows service) (sym x) (follows-answered service v IsJoined f j none (λ _. e))
-follows-works service v ending answer after none f kept (turns.tries_joined place j e next seen a x) =
+follows-works service v ending answer after none f kept has (turns.tries_joined place j e next seen a x) =
     subst (Follows service) (sym x) (follows-trying service v place f (runs-weaker IsJoined (λ _. Unit {0}) v.post.state (λ _ _. tt) j) (λ _. e))
-follows-works service v ending answer after none f kept (turns.reports now s seen a m x) =
-    let odd = runs-phase IsSplit v.post.state s in
+follows-works service v ending answer after none f kept has (turns.reports now s seen a m x) =
     let is : after ≡ record (merged v m.0) { post = answered (merged v m.0).post } = x ∙ ap {A = WorkerView} (λ w. record w { post = answered w.post }) m.1.1 in
-    subst (Follows service) (sym is) (follows-answered service (merged v m.0) IsSplit (follows-merged service v m.0 IsSplit m.1.0 f s none) s none (λ even. absurd (omega arith)))
-follows-works service v ending answer after none f kept (turns.idles s seen stuck a x) = subst (Follows service) (sym x) f
-follows-works service v ending answer after none f kept (turns.tries_split place s seen room next a x) =
+    subst (Follows service) (sym is) (follows-reported service v m.0 m.1.0 f s none kept has)
+follows-works service v ending answer after none f kept has (turns.idles s seen stuck a x) = subst (Follows service) (sym x) f
+follows-works service v ending answer after none f kept has (turns.tries_split place s seen room next a x) =
     let odd = runs-phase IsSplit v.post.state s in
     subst (Follows service) (sym x) (follows-trying service v place f (runs-weaker IsSplit (λ _. Unit {0}) v.post.state (λ _ _. tt) s)
     (λ j. let even = runs-phase IsJoined v.post.state j in absurd (omega arith)))
 
 -- a turn
-pub follows-turn : (service : Service) (v : WorkerView) (answer : Turn) (after : WorkerView) → v.pending ≡ None → IsSliceInSplit v.post v.slice → AreMasksOf service.hot after.post.masks → Turns v answer after → Follows service v → Follows service after
-follows-turn service v answer after none kept right (turns.is_gone gone a x) f = subst (Follows service) (sym x) f
-follows-turn service v answer after none kept right (turns.waits sight here i w a x) f =
+pub follows-turn : (service : Service) (v : WorkerView) (answer : Turn) (after : WorkerView) → v.pending ≡ None → IsSliceInSplit v.post v.slice → HasPhaseMask v.post → AreMasksOf service.hot after.post.masks → Turns v answer after → Follows service v → Follows service after
+follows-turn service v answer after none kept has right (turns.is_gone gone a x) f = subst (Follows service) (sym x) f
+follows-turn service v answer after none kept has right (turns.waits sight here i w a x) f =
     subst (Follows service) (sym x) (follows-saw service v sight v.post.masks f.served.hot_alike f kept here none)
-follows-turn service v answer after none kept right (turns.works sight mask here i w x) f =
+follows-turn service v answer after none kept has right (turns.works sight mask here i w x) f =
     let all = masks-before service.hot (masks_in v.post.masks (phase_at v) sight.number mask) after.post.masks (works-keeps (saw v sight mask) sight.ending answer after x).masks right in
-    follows-works service (saw v sight mask) sight.ending answer after none (follows-saw service v sight (masks_in v.post.masks (phase_at v) sight.number mask) all f kept here none) (saw-splits v sight mask i kept) x
+    follows-works service (saw v sight mask) sight.ending answer after none (follows-saw service v sight (masks_in v.post.masks (phase_at v) sight.number mask) all f kept here none) (saw-splits v sight mask i kept) (saw-has v sight mask i w has) x
 
 -- what is tried is no part of what a state says
 settled-stands : (service : Service) (v : WorkerView) (s : WorkerState) → Stands service v s → Stands service (settled v) s
@@ -319,6 +352,8 @@ follows-settled service v f = record {
   served = record { users = f.served.users; submitters_alike = f.served.submitters_alike; marks_alike = f.served.marks_alike; hot_alike = f.served.hot_alike };
   sized = record { slice = f.sized.slice; users = f.sized.users };
   tallied = record { likes = f.tallied.likes; by_phase = f.tallied.by_phase; looks = f.tallied.looks; after = f.tallied.after; replies = f.tallied.replies; last = f.tallied.last };
+  noted = f.noted;
+  unmerged = f.unmerged;
   in_order = f.in_order;
   held = f.held;
   stands = settled-stands service v v.post.state f.stands;
@@ -362,6 +397,7 @@ follows-takes service v place ask answer after none f kept has run empty asked t
     (record { users = f.served.users; submitters_alike = f.served.submitters_alike; marks_alike = f.served.marks_alike; hot_alike = f.served.hot_alike })
     (record { slice = f.sized.slice; users = f.sized.users })
     (record { likes = f.tallied.likes; by_phase = f.tallied.by_phase; looks = f.tallied.looks; after = f.tallied.after; replies = f.tallied.replies; last = f.tallied.last })
+    f.noted f.unmerged
     (All-push (IsAsked service) v.held.held h f.held (record { asked = asked; there = there }))
     (record {
       within = All-push (λ u. u.phase ≤ p) v.taken t b.within (omega arith);
@@ -383,6 +419,7 @@ follows-takes service v place ask answer after none f kept has run empty asked t
     (record { users = f.served.users; submitters_alike = f.served.submitters_alike; marks_alike = f.served.marks_alike; hot_alike = f.served.hot_alike })
     (record { slice = f.sized.slice; users = f.sized.users })
     (record { likes = f.tallied.likes; by_phase = f.tallied.by_phase; looks = f.tallied.looks; after = f.tallied.after; replies = f.tallied.replies; last = f.tallied.last })
+    f.noted f.unmerged has
     (record { asked = asked; there = there }) (λ page a look. clear-prompt v (submitter_at v place) ask.request page kept w a look) f.held
     (λ e.
     let ran : map entry_of v.ran ++ entry_of (ran_now (with_taken v place ask) h false e.reply) ∷ [] ≡ map entry_of after.ran =
@@ -409,7 +446,7 @@ follows-give service v took answer after can asked kept has (turns.ends place p 
     (record { users = f.served.users; submitters_alike = f.served.submitters_alike; marks_alike = f.served.marks_alike; hot_alike = f.served.hot_alike })
     (record { slice = f.sized.slice; users = f.sized.users })
     (record { likes = f.tallied.likes; by_phase = f.tallied.by_phase; looks = f.tallied.looks; after = f.tallied.after; replies = f.tallied.replies; last = f.tallied.last })
-    f.held (record { within = b.within; joined = b.joined; split_ran = b.split_ran; split_held = b.split_held }) (λ k e. absurd (cc e)))
+    f.noted f.unmerged f.held (record { within = b.within; joined = b.joined; split_ran = b.split_ran; split_held = b.split_held }) (λ k e. absurd (cc e)))
 follows-give service v took answer after can asked kept has (turns.asks place ask p t x) f =
     let run = f.trying place p in
     let by_plan = (subst (λ y. IsAskedBy service v y) t asked) place p in

@@ -12,9 +12,12 @@ pub mod Merging
 pub mod Seats
 pub mod Served
 pub mod Shown
+pub mod Noted
 pub mod RightCounts
 pub mod Started
 pub mod Tallied
 pub mod Choosing
 pub mod Releasing
+pub mod Noting
+pub mod NotedMerge
 pub mod Coordinating

@@ -1,14 +1,16 @@
 -- What a look leaves true of a worker.
-use Rattle.std.proofs.Common.{◌≡◌, ℕ, ◌%◌, ◌==◌, ◌&&◌, not, Bool, true, false, List, ◌∷◌, ap, sym, ◌∙◌, subst, refl, eq-eqb}
-use Rattle.std.proofs.lemmas.Bool.{cond-false}
+use Rattle.std.proofs.Common.{◌≡◌, ℕ, ◌+◌, ◌%◌, ◌==◌, ◌&&◌, ◌||◌, not, Bool, true, false, cond, List, ◌∷◌, ap, sym, ◌∙◌, subst, refl, eq-eqb, arith}
+use Rattle.std.specs.List.{list_any}
+use Rattle.std.proofs.lemmas.Bool.{cond-false, cond-true, ne_eqb}
 use Rattle.like_core.specs.declared.sight.Sight.{Sight}
 use Rattle.like_core.specs.declared.view.PhaseMask.{PhaseMask}
 use Rattle.like_core.specs.declared.worker_state.WorkerState.{WorkerState}
 use Rattle.like_core.specs.declared.worker_state.WorkerState.TheVariants as state
 use Rattle.like_core.specs.WorkerState.{IsSightOf, RunsSplit, phase_of, seen}
+use Rattle.like_core.specs.PhaseMasks.{HasMask}
 use Rattle.like_core.specs.Post.{PostView, looked_at, slices}
 use Rattle.like_roles.specs.Turns.{enters_split, masks_in, saw}
-use Rattle.like_roles.specs.WorkerView.{WorkerView, IsSliceInSplit}
+use Rattle.like_roles.specs.WorkerView.{WorkerView, HasPhaseMask, IsSliceInSplit}
 
 -- who stays in a phase enters none
 stays : (from to : ℕ) → to ≡ from → enters_split from to ≡ false
@@ -47,3 +49,38 @@ waits-masks v sight mask can waits =
     waits-phase (state.Answered j) sees =
         let P : Bool → Type 0 = λ b. IsSightOf (state.Answered j) (record sight { waits = b }) in subst P waits sees
     waits-phase state.Gone sees = absurd sees
+
+-- who runs a split phase after a look has read its mask, where it had read that of the one before
+has-after : (post : PostView) (sight : Sight) (mask : ℕ) → IsSightOf post.state sight → sight.waits ≡ false → HasPhaseMask post → HasPhaseMask (record (looked_at post sight) { masks = masks_in post.masks (phase_of post.state) sight.number mask })
+has-after post sight mask can goes has = by_state post.state refl can
+  where
+    new : List PhaseMask
+    new = masks_in post.masks (phase_of post.state) sight.number mask
+
+    Has : WorkerState → List PhaseMask → Type 0
+    Has s masks = RunsSplit s → HasMask (phase_of s) masks
+
+    by_state : (s : WorkerState) → post.state ≡ s → IsSightOf s sight → Has (seen post.state sight) new
+    by_state (state.Runs k) is sees =
+        let seen_is : seen post.state sight ≡ post.state = ap (λ s. seen s sight) is ∙ sym is in
+        let masks = same-masks post.masks (phase_of post.state) sight.number mask (sees.0 ∙ sym (ap phase_of is)) in
+        subst (λ s. Has s new) (sym seen_is) (subst (Has post.state) (sym masks) has)
+    by_state (state.Answered k) is sees =
+        let P : Bool → Type 0 = λ b. IsSightOf (state.Answered k) (record sight { waits = b }) in
+        let number : sight.number ≡ k + 1 = subst P goes sees in
+        let seen_is : seen post.state sight ≡ state.Runs (k + 1) = ap (λ s. seen s sight) is ∙ ap (λ (b : Bool). cond b (state.Answered k) (state.Runs (k + 1))) goes in
+        let entered : Has (state.Runs (k + 1)) new =
+        λ odd.
+        (let from : phase_of post.state ≡ k = ap phase_of is in
+        let enters : enters_split (phase_of post.state) sight.number ≡ true =
+        λ m. not (ne_eqb sight.number (phase_of post.state) (λ same. absurd (omega arith)) m) && eq-eqb (sight.number % 2) 1 (ap (λ (n : ℕ). n % 2) number ∙ odd) m
+        in
+        let masks : new ≡ record { phase = sight.number; mask = mask } ∷ post.masks = cond-true (enters_split (phase_of post.state) sight.number) _ post.masks enters in
+        subst (HasMask (k + 1)) (sym masks) (ap (λ (b : Bool). b || list_any (λ (m : PhaseMask). m.phase == (k + 1)) post.masks) (eq-eqb sight.number (k + 1) number)))
+        in
+        subst (λ s. Has s new) (sym seen_is) entered
+    by_state state.Gone is sees = absurd sees
+
+-- and so has the worker
+pub saw-has : (v : WorkerView) (sight : Sight) (mask : ℕ) → IsSightOf v.post.state sight → sight.waits ≡ false → HasPhaseMask v.post → HasPhaseMask (saw v sight mask).post
+saw-has v sight mask can goes has = has-after v.post sight mask can goes has

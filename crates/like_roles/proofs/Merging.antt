@@ -58,17 +58,17 @@ above : (xs ys : List ℕ) (n x : ℕ) → ((i : ℕ) → n ≤ i → get_or xs 
 above xs ys n x after i h = get_or-set_other xs n i x 0 (λ e. absurd (omega arith)) ∙ after i (omega arith)
 
 -- the additions that merge one page more
-merging-next : (phase : ℕ) (slice : List ℕ) (n : ℕ) → merging phase slice (n + 1) ≡ merging phase slice n ++ cond (not (get_or slice n 0 == 0)) (slice_addition phase slice n ∷ []) []
+pub merging-next : (phase : ℕ) (slice : List ℕ) (n : ℕ) → merging phase slice (n + 1) ≡ merging phase slice n ++ cond (not (get_or slice n 0 == 0)) (slice_addition phase slice n ∷ []) []
 merging-next phase slice n = filter_of_map_range_with_len_more (λ (a : Addition). not (a.likes == 0)) (slice_addition phase slice) 0 n n (omega arith)
 
 -- where its number is not 0
-merging-more : (phase : ℕ) (slice : List ℕ) (n : ℕ) → get_or slice n 0 ≢ 0 → merging phase slice (n + 1) ≡ merging phase slice n ++ slice_addition phase slice n ∷ []
+pub merging-more : (phase : ℕ) (slice : List ℕ) (n : ℕ) → get_or slice n 0 ≢ 0 → merging phase slice (n + 1) ≡ merging phase slice n ++ slice_addition phase slice n ∷ []
 merging-more phase slice n liked =
     merging-next phase slice n
     ∙ ap (λ (b : Bool). merging phase slice n ++ cond (not b) (slice_addition phase slice n ∷ []) []) (ne_eqb (get_or slice n 0) 0 liked)
 
 -- or is
-merging-none : (phase : ℕ) (slice : List ℕ) (n : ℕ) → get_or slice n 0 ≡ 0 → merging phase slice (n + 1) ≡ merging phase slice n
+pub merging-none : (phase : ℕ) (slice : List ℕ) (n : ℕ) → get_or slice n 0 ≡ 0 → merging phase slice (n + 1) ≡ merging phase slice n
 merging-none phase slice n none =
     merging-next phase slice n
     ∙ (ap (λ (b : Bool). merging phase slice n ++ cond (not b) (slice_addition phase slice n ∷ []) []) (eq-eqb (get_or slice n 0) 0 none)

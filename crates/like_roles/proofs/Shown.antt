@@ -30,7 +30,7 @@ module _ {Y : Type 0} where
   cons_option-nil (Some y) = refl
 
   -- what tests that agree on numbers find among them
-  range-same : (f g : ℕ → Option Y) (a n : ℕ) → ((i : ℕ) → a ≤ i → i < a + n → f i ≡ g i) → filter_map f (range_with_len a n) ≡ filter_map g (range_with_len a n)
+  pub range-same : (f g : ℕ → Option Y) (a n : ℕ) → ((i : ℕ) → a ≤ i → i < a + n → f i ≡ g i) → filter_map f (range_with_len a n) ≡ filter_map g (range_with_len a n)
   range-same f g a zero same = refl
   range-same f g a (suc n) same =
       let here = same a (omega arith) (omega arith) in
@@ -38,7 +38,7 @@ module _ {Y : Type 0} where
       λ m. cons_option (here m) (rest m)
 
   -- what is found among one number more
-  range-more : (f : ℕ → Option Y) (a n : ℕ) → filter_map f (range_with_len a (n + 1)) ≡ filter_map f (range_with_len a n) ++ option_to_list (f (a + n))
+  pub range-more : (f : ℕ → Option Y) (a n : ℕ) → filter_map f (range_with_len a (n + 1)) ≡ filter_map f (range_with_len a n) ++ option_to_list (f (a + n))
   range-more f a zero = cons_option-nil (f a) ∙ ap (λ (k : ℕ). option_to_list (f k)) (omega arith)
   range-more f a (suc n) =
       let rest = range-more f (a + 1) n in

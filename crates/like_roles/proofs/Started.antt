@@ -13,7 +13,9 @@ use Rattle.like_core.specs.Post.{PostView, additions_in, additions_of, pages_of}
 use Rattle.like_tables.specs.UserTable.{last_of}
 use Rattle.like_roles.specs.declared.turn.Turn.{Turn}
 use Rattle.like_roles.specs.declared.turn.Turn.TheVariants as turn
-use Rattle.like_roles.specs.Follows.{Follows, IsDone, IsInBlocks, IsServiceOf, Stands, entry_held, next_joined}
+use Rattle.like_roles.specs.Adds.{adds_to}
+use Rattle.like_roles.specs.Likes.{likes_within}
+use Rattle.like_roles.specs.Follows.{Follows, IsDone, IsInBlocks, IsNoted, IsServiceOf, IsUnmerged, Stands, entry_held, next_joined}
 use Rattle.like_roles.specs.New.{IsNew, IsPostOf}
 use Rattle.like_roles.specs.Order.{entry_of}
 use Rattle.like_roles.specs.Service.{Service, marks}
@@ -23,6 +25,7 @@ use Rattle.like_roles.specs.Looks.{shown_by, shown_in}
 use Rattle.like_roles.specs.WorkerView.{WorkerView, IsSliceInSplit, phase_at, submitter_at}
 use Rattle.like_roles.proofs.Effects.{Runs-effects}
 use Rattle.like_roles.proofs.Lists.{same_everywhere}
+use Rattle.like_roles.proofs.NotedMerge.{noted-nothing, one-of_likes}
 use Rattle.like_roles.proofs.Shown.{cond_same}
 
 -- a new worker follows the plans
@@ -66,6 +69,15 @@ follows-new s sizes worker post v service p new same =
         replies = λ i e h. let k : None ≡ Some e = rw new.ran at h in cc k;
         last = λ user. ap (λ x. last_of x user) new.last ∙ same_everywhere s.users user None ∙ rw new.ran refl;
       };
+      noted =
+          subst (λ xs. IsNoted service xs v.post.reads v.adds v.ran) (sym additions)
+          (subst (λ xs. IsNoted service [] xs v.adds v.ran) (sym reads)
+          (subst (λ xs. IsNoted service [] [] xs v.ran) (sym new.adds)
+          (subst (λ xs. IsNoted service [] [] [] xs) (sym new.ran) (noted-nothing service))));
+      unmerged = subst (IsUnmerged service v.adds) (sym state_is) (
+        λ i d inside. absurd (omega (arith, ap length new.adds)),
+        λ page is. ap (adds_to 0 page) new.adds,
+      );
       in_order = rw (new.taken, new.ran, held) refl;
       held = λ i h k. absurd (omega (arith, ap length held));
       stands = subst (λ x. Stands service v x) (sym state_is) blocks;
@@ -88,13 +100,24 @@ empty-gone v gone s page =
 pub follows-done : (service : Service) (v : WorkerView) → Follows service v → v.post.state ≡ state.Gone → IsSliceInSplit v.post v.slice → IsDone service v
 follows-done service v f gone s =
     let stands = subst (λ x. Stands service v x) gone f.stands in
+    let in_phase : (phase page : ℕ) → likes_within service page v.ran phase ≡ additions_in v.post phase page =
+    λ phase page.
+    (let none : cond (phase_at v == phase) (get_or v.slice page 0) 0 ≡ 0 = ap (λ (n : ℕ). cond (phase_at v == phase) n 0) (empty-gone v gone s page) ∙ cond_same (phase_at v == phase) 0 in
+    f.tallied.by_phase phase page ∙ omega arith)
+    in
     record {
       in_order = sym (append-nil _) ∙ ap (λ hs. map entry_of v.ran ++ map (entry_held (next_joined v)) hs) (sym stands.0) ∙ f.in_order;
       likes = λ page. f.tallied.likes page ∙ omega (arith, empty-gone v gone s page);
-      by_phase = λ phase page.
-          let none : cond (phase_at v == phase) (get_or v.slice page 0) 0 ≡ 0 = ap (λ (n : ℕ). cond (phase_at v == phase) n 0) (empty-gone v gone s page) ∙ cond_same (phase_at v == phase) 0 in
-          f.tallied.by_phase phase page ∙ omega arith;
+      by_phase = in_phase;
       looks = f.tallied.looks;
+      additions = f.noted.additions_are;
+      adds = record {
+        each = f.noted.each;
+        plain = f.noted.plain;
+        split = λ phase page is.
+            one-of_likes service v.post.additions v.post.reads v.adds v.ran phase page f.noted is (in_phase phase page);
+      };
+      reads = f.noted.looks;
       replies = f.tallied.replies;
       last = f.tallied.last;
       ended = stands.1;

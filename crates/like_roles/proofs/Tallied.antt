@@ -95,11 +95,11 @@ accepted_user users submitters submitter r a =
     ltb-true r.user users first.0
 
 -- the like that an entry of a known request ran
-like_ran-is : (service : Service) (e : Ran) (r : Request) → request_of service e ≡ Some r → like_ran service e ≡ accepted_like service.users (submitters service) e.submitter r
+pub like_ran-is : (service : Service) (e : Ran) (r : Request) → request_of service e ≡ Some r → like_ran service e ≡ accepted_like service.users (submitters service) e.submitter r
 like_ran-is service e r h = ap (option_and_then (accepted_like service.users (submitters service) e.submitter)) h
 
 -- the look that an entry of a known request ran
-look_ran-is : (service : Service) (e : Ran) (r : Request) → request_of service e ≡ Some r → look_ran service e ≡ accepted_look service.users (submitters service) e.submitter r
+pub look_ran-is : (service : Service) (e : Ran) (r : Request) → request_of service e ≡ Some r → look_ran service e ≡ accepted_look service.users (submitters service) e.submitter r
 look_ran-is service e r h = ap (option_and_then (accepted_look service.users (submitters service) e.submitter)) h
 
 -- one more right answer
@@ -218,7 +218,7 @@ within-none service ran e page phase none =
     last_is false = refl
 
 -- one that ran a like adds it to those of its phase
-within-one : (service : Service) (ran : List Ran) (e : Ran) (l : AcceptedLike) (page phase : ℕ) → like_ran service e ≡ Some l → likes_within service page (ran ++ e ∷ []) phase ≡ likes_within service page ran phase + cond (e.phase == phase) (cond (l.page == page) 1 0) 0
+pub within-one : (service : Service) (ran : List Ran) (e : Ran) (l : AcceptedLike) (page phase : ℕ) → like_ran service e ≡ Some l → likes_within service page (ran ++ e ∷ []) phase ≡ likes_within service page ran phase + cond (e.phase == phase) (cond (l.page == page) 1 0) 0
 within-one service ran e l page phase is =
     let p : Ran → Bool = λ x. x.phase == phase in
     let e_is = last_is (p e) in

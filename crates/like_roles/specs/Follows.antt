@@ -1,8 +1,10 @@
 -- What a worker has done, as the plans of its submitters say it should.
-use Rattle.std.specs.Prelude.{◌≡◌, ℕ, ◌+◌, ◌%◌, ◌≤◌, ◌==◌, if◌then◌else◌, true, List, [], ◌++◌, length, map, slice_index, All, Some, ⊤}
+use Rattle.std.specs.Prelude.{◌≡◌, ℕ, ◌+◌, ◌%◌, ◌≤◌, ◌==◌, if◌then◌else◌, true, false, List, [], ◌++◌, length, map, slice_index, All, Some, ⊤}
 use Rattle.like_requests.specs.Pages.{Page}
 use Rattle.like_requests.specs.declared.request.Taken.{Taken}
 use Rattle.like_requests.specs.declared.request.Taken.TheVariants as taken
+use Rattle.like_core.specs.declared.view.Addition.{Addition}
+use Rattle.like_core.specs.declared.view.PageRead.{PageRead}
 use Rattle.like_core.specs.declared.worker_state.WorkerState.{WorkerState}
 use Rattle.like_core.specs.declared.worker_state.WorkerState.TheVariants.{Runs, Answered, Gone}
 use Rattle.like_core.specs.Phase.{IsJoined, IsSplit}
@@ -11,11 +13,14 @@ use Rattle.like_core.specs.WorkerState.{IsRunning, RunsJoined}
 use Rattle.like_core.specs.Post.{additions_of, additions_in, pages_of}
 use Rattle.like_tables.specs.UserTable.{last_of}
 use Rattle.like_tables.specs.declared.held.Held.{Held}
+use Rattle.like_roles.specs.declared.log.Added.{Added}
+use Rattle.like_roles.specs.declared.log.Ran.{Ran}
+use Rattle.like_roles.specs.Adds.{IsOfLikes, AreOfLikes, addition_of, adds_at, adds_before_looks, adds_to, likes_at}
 use Rattle.like_roles.specs.Likes.{last_like, likes_among, likes_within}
 use Rattle.like_roles.specs.Looks.{shown_by, shown_in}
 use Rattle.like_roles.specs.Order.{Entry, block, entry_of, order, order_below}
 use Rattle.like_roles.specs.Replies.{HasRightAnswers}
-use Rattle.like_roles.specs.Service.{Service, marks, request_at, submitters}
+use Rattle.like_roles.specs.Service.{Service, is_split_in, marks, request_at, submitters}
 use Rattle.like_requests.specs.Setup.{IsThere}
 use Rattle.like_roles.specs.WorkerView.{WorkerView, HasEnded, phase_at, submitter_at}
 
@@ -45,6 +50,29 @@ pub record IsTallied (service : Service) (v : WorkerView) : Type 0 where
   pub after : All (λ r. r.after ≤ length v.post.additions) v.post.reads
   pub replies : HasRightAnswers service v.ran
   pub last : (user : ℕ) → last_of v.last user ≡ last_like service user v.ran
+
+-- the additions of a worker are noted: they are its post's, in order; each is of accepted likes of its run list, of a page
+-- that is not split in the phase one at each like, and of a page that is at most one; and before each look ran as many
+-- as its post had made before the read
+pub record IsNoted (service : Service) (additions : List Addition) (reads : List PageRead)
+    (adds : List Added) (ran : List Ran) : Type 0 where
+  pub additions_are : additions ≡ map addition_of adds
+  pub at : All (λ a. a.at ≤ length ran) adds
+  pub each : All (IsOfLikes service ran) adds
+  pub plain : (phase page at : ℕ) → is_split_in service phase page ≡ false
+      → adds_at phase page at adds ≡ likes_at service phase page at ran
+  pub split : (phase page : ℕ) → is_split_in service phase page ≡ true
+      → adds_to phase page adds ≤ 1
+  pub looks : map (λ r. r.after) reads ≡ adds_before_looks service adds ran
+
+-- no addition was made in a later phase than the present one, and while a split phase runs, none to a page that is split
+-- in it
+abbrev pub IsUnmerged : Service → List Added → WorkerState → Type 0
+IsUnmerged service adds (Runs phase) =
+    All (λ a. a.phase ≤ phase) adds
+    × ((page : ℕ) → is_split_in service phase page ≡ true → adds_to phase page adds ≡ 0)
+IsUnmerged service adds (Answered phase) = All (λ a. a.phase ≤ phase) adds
+IsUnmerged service adds Gone = ⊤
 
 -- a request that is held is that of its submitter's plan, of a page that is there
 pub record IsAsked (service : Service) (h : Held) : Type 0 where
@@ -88,6 +116,8 @@ pub record Follows (service : Service) (v : WorkerView) : Type 0 where
   pub served : IsServed service v
   pub sized : IsSized v
   pub tallied : IsTallied service v
+  pub noted : IsNoted service v.post.additions v.post.reads v.adds v.ran
+  pub unmerged : IsUnmerged service v.adds v.post.state
   pub in_order : IsInOrder service v
   pub held : All (IsAsked service) v.held.held
   pub stands : Stands service v v.post.state
@@ -110,14 +140,18 @@ pub record IsServiceOf (users : ℕ) (pages : List Page) (sizes : List ℕ) (ser
   pub sizes_are : map length service.plans ≡ sizes
 
 -- what a worker that is gone has done: it ran what it took in run order; its post's additions are the accepted likes
--- that it ran, in each phase, and its post's reads the accepted looks; each reply is right, save that nothing is said of
--- counts; its table has each user's last like; and the end mark of each of its submitters was taken
+-- that it ran, in each phase, and its post's reads the accepted looks; its additions are noted, each of its likes, and as
+-- many came before each look as its post had made; each reply is right, save that nothing is said of counts; its table
+-- has each user's last like; and the end mark of each of its submitters was taken
 pub record IsDone (service : Service) (v : WorkerView) : Type 0 where
   pub in_order : map entry_of v.ran ≡ order service v.taken
   pub likes : (page : ℕ) → likes_among service page v.ran ≡ additions_of v.post page
   pub by_phase : (phase page : ℕ)
       → likes_within service page v.ran phase ≡ additions_in v.post phase page
   pub looks : shown_in service v.ran ≡ map (shown_by v.post.additions) v.post.reads
+  pub additions : v.post.additions ≡ map addition_of v.adds
+  pub adds : AreOfLikes service v.ran v.adds
+  pub reads : map (λ r. r.after) v.post.reads ≡ adds_before_looks service v.adds v.ran
   pub replies : HasRightAnswers service v.ran
   pub last : (user : ℕ) → last_of v.last user ≡ last_like service user v.ran
   pub ended : HasEnded v

@@ -2,6 +2,7 @@ pub mod Service
 pub mod Likes
 pub mod Replies
 pub mod Looks
+pub mod Adds
 pub mod Order
 pub mod WorkerView
 pub mod Serve

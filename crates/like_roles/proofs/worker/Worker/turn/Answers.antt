@@ -1,6 +1,6 @@
 use Rattle.std.proofs.Common.{subst}
 use Rattle.like_roles.specs.Desk.{view_of}
-use Rattle.like_roles.specs.WorkerView.{WorkerView, IsSliceInSplit}
+use Rattle.like_roles.specs.WorkerView.{WorkerView, HasPhaseMask, IsSliceInSplit}
 use Rattle.like_roles.specs.Turns.{Turns}
 use Rattle.like_roles.proofs.Followed.{follows-turn}
 use Rattle.like_roles.proofs.Keeps.{turns-keeps}
@@ -13,7 +13,8 @@ returns-clause-case g c = subst (λ v. Turns v c.turn.result (view_of (g.P.Post.
 pub returns-clause-follows : goal.returns-clause-follows
 returns-clause-follows g c = λ service right f.
     let kept = subst (λ (v : WorkerView). IsSliceInSplit v.post v.slice) c.self.view_is c.self.invariant.slice in
-    follows-turn service c.args.self.now c.turn.result (view_of (g.P.Post.view c.turn.new.post) c.turn.new.self) c.requires kept right (returns-clause-case g c) f
+    let has = subst (λ (v : WorkerView). HasPhaseMask v.post) c.self.view_is (λ split. (c.self.invariant.placed.hot split).0) in
+    follows-turn service c.args.self.now c.turn.result (view_of (g.P.Post.view c.turn.new.post) c.turn.new.self) c.requires kept has right (returns-clause-case g c) f
 
 pub returns-clause-pending : goal.returns-clause-pending
 returns-clause-pending g c = turns-pends c.args.self.now c.turn.result (view_of (g.P.Post.view c.turn.new.post) c.turn.new.self) c.requires (returns-clause-case g c)

@@ -17,5 +17,5 @@ returns-clause-liked g c =
     let old = c.count.ensures.counted.0 in (
       old,
       ap (λ (w : WorkerView). record w { last = c.set.new.self }) c.count.ensures.counted.1
-      ∙ ap (λ (t : UserTable). record (counted v c.args.page old) { last = t }) table,
+          ∙ ap (λ (t : UserTable). record (counted v c.args.page old) { last = t }) table,
     )
