@@ -22,9 +22,10 @@ abbrev pub coord_sight : ℕ → Bool → Bool → Bool → CoordSight
 coord_sight number ending all_in all_gone =
     record { number = number; ending = ending; all_in = all_in; all_gone = all_gone }
 
--- likes that were added to a page in a phase
-abbrev pub addition : ℕ → ℕ → ℕ → Addition
-addition phase page likes = record { phase = phase; page = page; likes = likes }
+-- likes that were added to a page in a phase, where its count was this before
+abbrev pub addition : ℕ → ℕ → ℕ → ℕ → Addition
+addition phase page old likes =
+    record { phase = phase; page = page; old = old; likes = likes }
 
 -- a page's count that was read in a phase, after so many additions
 abbrev pub page_read : ℕ → ℕ → ℕ → ℕ → PageRead

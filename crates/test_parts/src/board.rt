@@ -102,7 +102,7 @@ fn first_reports(rt: &impl Abort, board: &Board, coord: &mut CoordSeat, first: &
     requires first { Walks (post_view first.old) 0 (Runs 1) [] }
     ensures board { coord_board coord.new ≡ coord_board coord.old }
     ensures opening { (coord_view coord.new).opening ≡ (coord_view coord.old).opening }
-    ensures first { Walks (post_view first.new) 0 (Answered 1) (addition 1 0 3 ∷ []) }
+    ensures first { Walks (post_view first.new) 0 (Answered 1) (addition 1 0 10 3 ∷ []) }
     ensures first_board { post_board first.new ≡ post_board first.old }
 {
     surveys(rt, coord, board, 1, false, false, false);
@@ -137,11 +137,11 @@ fn both_retire(
     second: &mut BoardPost<'_>,
 )
     requires here { coord_board coord.old ≡ board_id board.now }
-    requires first { Walks (post_view first.old) 0 (Answered 1) (addition 1 0 3 ∷ []) }
+    requires first { Walks (post_view first.old) 0 (Answered 1) (addition 1 0 10 3 ∷ []) }
     requires second { Walks (post_view second.old) 1 (Answered 1) [] }
     ensures board { coord_board coord.new ≡ coord_board coord.old }
     ensures opening { (coord_view coord.new).opening ≡ (coord_view coord.old).opening }
-    ensures first { Walks (post_view first.new) 0 Gone (addition 1 0 3 ∷ []) }
+    ensures first { Walks (post_view first.new) 0 Gone (addition 1 0 10 3 ∷ []) }
     ensures read { (post_view first.new).reads ≡ (post_view first.old).reads ++ page_read 2 0 13 1 ∷ [] }
     ensures first_board { post_board first.new ≡ post_board first.old }
     ensures second { Walks (post_view second.new) 1 Gone [] }
@@ -186,7 +186,7 @@ fn ends(
     requires first_here { seat_board first ≡ board_id board }
     requires second_here { seat_board second ≡ board_id board }
     requires opening { (coord_view coord).opening ≡ walk }
-    requires first { Walks (seat_view first) 0 Gone (addition 1 0 3 ∷ []) }
+    requires first { Walks (seat_view first) 0 Gone (addition 1 0 10 3 ∷ []) }
     requires second { Walks (seat_view second) 1 Gone [] }
     ensures { IfOk result (λ count. count ≡ 13) }
 {

@@ -7,7 +7,7 @@ mod player;
 use gates::Call::{Phase, Run};
 use gates::{Call, Expecting};
 use like_requests::{Op, PageRef, Request, Setup, check_setup, read_pages};
-use like_roles::{CoordTurn, Ran, Reply, Took, Turn, WorkerLog};
+use like_roles::{Added, CoordTurn, Ran, Reply, Took, Turn, WorkerLog};
 use play::Step::{Coord, Worker};
 use play::{Play, Step, board_of};
 use std::alloc::Global;
@@ -59,6 +59,17 @@ fn seen(last: Option<u32>, count: u64) -> Reply {
     Reply::Seen { last, count }
 }
 
+/// An addition of likes to page 0 in a phase, when so many requests had run and its count was this.
+fn added(phase: u32, at: u32, old: u64, n: u64) -> Added {
+    Added {
+        page: 0,
+        phase,
+        at,
+        old,
+        n,
+    }
+}
+
 /// The last phase that the coordinator saw, and what the first worker has done, in a run with one submitter: the steps
 /// and then the rounds, with the answer of each, and the calls of the gate.
 fn end_of(
@@ -82,10 +93,19 @@ fn end_of(
     Ok(end)
 }
 
-/// The log says that these requests were taken and run, and that user 0 liked this page last.
-fn expect(rt: &impl Abort, log: &WorkerLog, taken: &[Took], ran: &[Ran], last: Option<u32>) {
+/// The log says that these requests were taken and run, that these additions were made, and that user 0 liked this page
+/// last.
+fn expect(
+    rt: &impl Abort,
+    log: &WorkerLog,
+    taken: &[Took],
+    ran: &[Ran],
+    adds: &[Added],
+    last: Option<u32>,
+) {
     assert_eq!(rt; log.taken.as_slice(), taken);
     assert_eq!(rt; log.ran.as_slice(), ran);
+    assert_eq!(rt; log.adds.as_slice(), adds);
     assert!(rt; log.last.owns(0));
     assert_eq!(rt; log.last.last(0), last);
 }
@@ -152,7 +172,14 @@ fn splits_and_stashes(rt: HostRuntime) -> Result<(), Fail> {
         ran(1, 1, false, Reply::Liked),
         ran(2, 2, true, seen(Some(0), 11)),
     ];
-    expect(&rt, &log, &[took(1, 1), took(1, 2)], &entries, Some(0));
+    expect(
+        &rt,
+        &log,
+        &[took(1, 1), took(1, 2)],
+        &entries,
+        &[added(1, 1, 10, 1)],
+        Some(0),
+    );
     assert!(rt; log.last.owns(1));
     assert_eq!(rt; log.last.last(1), None);
     Ok(())
@@ -176,7 +203,18 @@ fn stashes_and_then_likes(rt: HostRuntime) -> Result<(), Fail> {
         ran(1, 2, false, Reply::Liked),
         ran(2, 1, true, seen(Some(1), 5)),
     ];
-    expect(&rt, &log, &[took(1, 1), took(1, 2)], &entries, Some(1));
+    let adds = [Added {
+        page: 1,
+        ..added(1, 0, 0, 1)
+    }];
+    expect(
+        &rt,
+        &log,
+        &[took(1, 1), took(1, 2)],
+        &entries,
+        &adds,
+        Some(1),
+    );
     Ok(())
 }
 
@@ -210,7 +248,7 @@ fn idles_with_a_full_stash(rt: HostRuntime) -> Result<(), Fail> {
         ran(2, 1, true, seen(None, 0)),
         ran(2, 2, false, seen(None, 0)),
     ];
-    expect(&rt, &log, &[took(1, 1), took(2, 2)], &entries, None);
+    expect(&rt, &log, &[took(1, 1), took(2, 2)], &entries, &[], None);
     Ok(())
 }
 
@@ -245,7 +283,14 @@ fn runs_unsplit_pages_in_a_split_phase(rt: HostRuntime) -> Result<(), Fail> {
         ran(1, 1, false, Reply::Liked),
         ran(1, 2, false, seen(Some(0), 8)),
     ];
-    expect(&rt, &log, &[took(1, 1), took(1, 2)], &entries, Some(0));
+    expect(
+        &rt,
+        &log,
+        &[took(1, 1), took(1, 2)],
+        &entries,
+        &[added(1, 0, 7, 1)],
+        Some(0),
+    );
     Ok(())
 }
 
@@ -298,7 +343,14 @@ fn runs_beside_idle_workers(rt: HostRuntime) -> Result<(), Fail> {
     )?;
     assert_eq!(rt; phase, 2);
     let entries = [ran(1, 1, false, Reply::Liked)];
-    expect(&rt, &log, &[took(1, 1)], &entries, Some(0));
+    expect(
+        &rt,
+        &log,
+        &[took(1, 1)],
+        &entries,
+        &[added(1, 1, 0, 1)],
+        Some(0),
+    );
     Ok(())
 }
 
@@ -338,5 +390,64 @@ fn counts_turns_in_each_phase(rt: HostRuntime) -> Result<(), Fail> {
         &calls,
     )?;
     assert_eq!(rt; phase, 2);
+    Ok(())
+}
+
+#[test]
+fn adds_at_each_like_of_an_unsplit_page(rt: HostRuntime) -> Result<(), Fail> {
+    let setup = setup_of(rt.alloc(), 1, 256, b"name,count,split\na,10,no\n")?;
+    let plan = vec![in rt.alloc(); ask(Op::Like, 0), ask(Op::Like, 0), ask(Op::Like, 0)]?;
+    let steps = [
+        Worker(0, Turn::Ran),
+        Worker(0, Turn::Ran),
+        Worker(0, Turn::Ran),
+        Worker(0, Turn::TookEnd),
+        Worker(0, Turn::Retired),
+        Coord(CoordTurn::Ended),
+    ];
+    let calls = [Phase(0, 0), Run(0, 0, 1), Run(0, 0, 2), Run(0, 0, 3)];
+    let (_, log) = end_of(&rt, rt.alloc(), setup, plan, &steps, &[], &calls)?;
+    let entries = [1, 2, 3].map(|number| ran(0, number, false, Reply::Liked));
+    let adds = [added(0, 0, 10, 1), added(0, 1, 11, 1), added(0, 2, 12, 1)];
+    expect(
+        &rt,
+        &log,
+        &[1, 2, 3].map(|number| took(0, number)),
+        &entries,
+        &adds,
+        Some(0),
+    );
+    Ok(())
+}
+
+#[test]
+fn adds_all_likes_of_a_split_page_at_once(rt: HostRuntime) -> Result<(), Fail> {
+    let setup = setup_of(rt.alloc(), 1, 256, b"name,count,split\na,10,yes\n")?;
+    let plan = vec![in rt.alloc(); ask(Op::Like, 0), ask(Op::Like, 0), ask(Op::Like, 0)]?;
+    let steps = [
+        Coord(CoordTurn::Announced),
+        Worker(0, Turn::Acknowledged),
+        Coord(CoordTurn::Released),
+        Worker(0, Turn::Ran),
+        Worker(0, Turn::Ran),
+        Worker(0, Turn::Ran),
+        Coord(CoordTurn::Announced),
+        Worker(0, Turn::Reported),
+        Coord(CoordTurn::Released),
+    ];
+    let calls = [
+        Phase(0, 0),
+        Phase(0, 1),
+        Run(0, 0, 1),
+        Run(0, 0, 2),
+        Run(0, 0, 3),
+        Phase(0, 2),
+        Phase(0, 3),
+        Phase(0, 4),
+    ];
+    let (_, log) = end_of(&rt, rt.alloc(), setup, plan, &steps, &rounds(), &calls)?;
+    let entries = [1, 2, 3].map(|number| ran(1, number, false, Reply::Liked));
+    let taken = [1, 2, 3].map(|number| took(1, number));
+    expect(&rt, &log, &taken, &entries, &[added(1, 3, 10, 3)], Some(0));
     Ok(())
 }

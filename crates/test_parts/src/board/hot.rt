@@ -49,7 +49,7 @@ fn worker_reports(rt: &impl Abort, board: &Board, coord: &mut CoordSeat, post: &
     requires post { HotWalks (post_view post.old) (Runs 1) [] (mask_in 1 1 ∷ []) }
     ensures board { coord_board coord.new ≡ coord_board coord.old }
     ensures opening { (coord_view coord.new).opening ≡ (coord_view coord.old).opening }
-    ensures post { HotWalks (post_view post.new) (Answered 1) (addition 1 0 2 ∷ []) (mask_in 1 1 ∷ []) }
+    ensures post { HotWalks (post_view post.new) (Answered 1) (addition 1 0 5 2 ∷ []) (mask_in 1 1 ∷ []) }
     ensures post_board { post_board post.new ≡ post_board post.old }
 {
     surveys(rt, coord, board, 1, false, false, false);
@@ -63,10 +63,10 @@ fn worker_reports(rt: &impl Abort, board: &Board, coord: &mut CoordSeat, post: &
 // Phase 2 is released; the worker reads the page, and retires.
 fn worker_retires(rt: &impl Abort, board: &Board, coord: &mut CoordSeat, post: &mut BoardPost<'_>)
     requires here { coord_board coord.old ≡ board_id board.now }
-    requires post { HotWalks (post_view post.old) (Answered 1) (addition 1 0 2 ∷ []) (mask_in 1 1 ∷ []) }
+    requires post { HotWalks (post_view post.old) (Answered 1) (addition 1 0 5 2 ∷ []) (mask_in 1 1 ∷ []) }
     ensures board { coord_board coord.new ≡ coord_board coord.old }
     ensures opening { (coord_view coord.new).opening ≡ (coord_view coord.old).opening }
-    ensures post { HotWalks (post_view post.new) Gone (addition 1 0 2 ∷ []) (mask_in 1 1 ∷ []) }
+    ensures post { HotWalks (post_view post.new) Gone (addition 1 0 5 2 ∷ []) (mask_in 1 1 ∷ []) }
     ensures post_board { post_board post.new ≡ post_board post.old }
 {
     surveys(rt, coord, board, 1, true, true, false);
@@ -83,7 +83,7 @@ fn ends(alloc: Global, board: Board, coord: CoordSeat, seat: WorkerSeat) -> Resu
     requires coord_here { coord_board coord ≡ board_id board }
     requires here { seat_board seat ≡ board_id board }
     requires opening { (coord_view coord).opening ≡ hot_walk }
-    requires seat { HotWalks (seat_view seat) Gone (addition 1 0 2 ∷ []) (mask_in 1 1 ∷ []) }
+    requires seat { HotWalks (seat_view seat) Gone (addition 1 0 5 2 ∷ []) (mask_in 1 1 ∷ []) }
     ensures { IfOk result (λ count. count ≡ 7) }
 {
     let mut seats = Vec::with_capacity(alloc, 1)?;
