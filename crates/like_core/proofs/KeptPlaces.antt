@@ -5,6 +5,7 @@ use Rattle.std.proofs.Math.Seq.{take-length}
 use Rattle.std.proofs.lemmas.Bool.{cases_eq, cases_lt, ne_eqb, lt-ltb, le-ltb, le-leb, lt-leb, cond-true}
 use Rattle.std.proofs.lemmas.List.{take-append-le, drop-append-le, drop_all, length-append}
 use Rattle.std.proofs.lemmas.List.Elements.{All-nil, All-push, All-head, All-tail}
+use Rattle.std.proofs.lemmas.List.Quantifiers.{all_pairs_push}
 use Rattle.std.proofs.lemmas.List.Sums.{sum_by-cons, sum_by_push}
 use mathlib.Core.Option.{some, some-injective, some-ne-none}
 use lib.ListN.{get_elem?}
@@ -15,7 +16,6 @@ use Rattle.like_core.specs.declared.view.CoordSeatView.{CoordSeatView}
 use Rattle.like_core.specs.declared.view.View.{View}
 use Rattle.like_core.specs.declared.view.View.TheVariants.{Coord, Worker, Spent}
 use Rattle.like_core.specs.Additions.{added_to}
-use Rattle.like_core.specs.Functions.{Pairwise}
 use Rattle.like_core.specs.Tallies.{paged}
 use Rattle.like_core.specs.WorkerState.{phase_of}
 use Rattle.like_core.specs.Views.{added_view, read_view, gathered_coord}
@@ -24,14 +24,6 @@ use Rattle.like_core.proofs.Labels.{addition, added_to-push}
 use Rattle.like_core.proofs.ViewLists.{sum_part, sum_swap, sum_gathered, replaced, kept}
 
 module _ {A : Type 0} where
-  -- one more element, to which all before have the relation
-  pub Pairwise-push : (R : A → A → Type 0) (xs : List A) (y : A) → Pairwise R xs → All (λ x. R x y) xs → Pairwise R (xs ++ y ∷ [])
-  Pairwise-push R [] y pairs each = (All-nil (R y), tt)
-  Pairwise-push R (x ∷ xs) y pairs each = (
-    All-push (R x) xs y pairs.0 (All-head (λ z. R z y) x xs each),
-    Pairwise-push R xs y pairs.1 (All-tail (λ z. R z y) x xs each),
-  )
-
   -- an element that passes a test counts
   pub counts_one : (p : A → Bool) (xs : List A) (i : ℕ) (d : A) → i < length xs → p (get_or xs i d) ≡ true → 1 ≤ count_by p xs
   counts_one p [] i d inside passes = absurd (omega arith)
@@ -220,7 +212,7 @@ order-added : (own : List Addition) (reads : List PageRead) (phase page old n : 
 order-added own reads phase page old n left found o =
     let new : Addition = addition phase page old n in
     record {
-      added = Pairwise-push (λ (a b : Addition). b.page ≡ a.page → end_of a ≤ b.old) own new o.added left;
+      added = all_pairs_push (λ (a b : Addition). b.page ≡ a.page → end_of a ≤ b.old) own new o.added left;
       read = o.read;
       both = λ i d inside.
           let r : PageRead = get_or reads i d in
@@ -242,7 +234,7 @@ order-read own reads phase page count left found o =
     let new : PageRead = record { phase = phase; page = page; count = count; after = length own } in
     record {
       added = o.added;
-      read = Pairwise-push (λ (r s : PageRead). s.page ≡ r.page → r.count ≤ s.count) reads new o.read found;
+      read = all_pairs_push (λ (r s : PageRead). s.page ≡ r.page → r.count ≤ s.count) reads new o.read found;
       both = All-push (IsInPlace own) reads new o.both (record {
         after = omega arith;
         before = subst (All (λ (a : Addition). a.page ≡ page → end_of a ≤ count)) (sym (take-length own)) (λ i d inside is. left i d inside (sym is));
@@ -448,7 +440,7 @@ places_push counts views new none none_added has found p =
 pub placed_nothing : (first : ℕ → ℕ) (f : Counting) → ArePlaced first f [] []
 placed_nothing first f = record {
   ends = All-nil (λ (r : PageRead). IsEnd first f r.page r.count);
-  order = record { added = tt; read = tt; both = All-nil (IsInPlace []) };
+  order = record { added = λ i j d below inside. absurd (omega arith); read = λ i j d below inside. absurd (omega arith); both = All-nil (IsInPlace []) };
 }
 
 -- no number is from a count on and below it

@@ -1,4 +1,4 @@
-use Rattle.std.specs.Prelude.{ℕ, zero, suc, ◌+◌, ◌==◌, Bool, true, ◌&&◌, if◌then◌else◌, List, [], ◌∷◌, All, count_by, ⊤}
+use Rattle.std.specs.Prelude.{ℕ, zero, suc, ◌+◌, ◌==◌, Bool, true, ◌&&◌, if◌then◌else◌, List, count_by}
 use Rattle.std.specs.Int.{bit_at}
 
 -- the function that is x at i, and f elsewhere
@@ -22,8 +22,3 @@ has_bit mask i = bit_at mask i == 1
 -- how often x stands in a list
 abbrev pub times : ℕ → List ℕ → ℕ
 times x xs = count_by (λ y. y == x) xs
-
--- each element of a list has the relation to all that come after it
-abbrev pub Pairwise : {A : Type 0} → (A → A → Type 0) → List A → Type 0
-Pairwise R [] = ⊤
-Pairwise R (x ∷ xs) = All (R x) xs × Pairwise R xs

@@ -1,6 +1,6 @@
 -- Where the additions to a page stand: each is a stretch of counts, from the one that it found to the one that it left.
 -- What stands of them over a plain list of the views of all seats, and that it is kept.
-use Rattle.std.specs.Prelude.{◌≡◌, ◌⊎◌, ℕ, ◌+◌, ◌≤◌, ◌==◌, ◌&&◌, nat_le, nat_lt, All, Bool, if◌then◌else◌, List, length, take, drop, count_by, slice_index, slice_set}
+use Rattle.std.specs.Prelude.{◌≡◌, ◌⊎◌, ℕ, ◌+◌, ◌≤◌, ◌==◌, ◌&&◌, nat_le, nat_lt, All, AllPairs, Bool, if◌then◌else◌, List, length, take, drop, count_by, slice_index, slice_set}
 use Rattle.std.specs.List.{sum_by}
 use mathlib.Core.Option.{some}
 use lib.ListN.{get_elem?}
@@ -10,7 +10,6 @@ use Rattle.like_core.specs.declared.view.WorkerSeatView.{WorkerSeatView}
 use Rattle.like_core.specs.declared.view.CoordSeatView.{CoordSeatView}
 use Rattle.like_core.specs.declared.view.View.{View}
 use Rattle.like_core.specs.declared.view.View.TheVariants.{Coord, Worker, Spent}
-use Rattle.like_core.specs.Functions.{Pairwise}
 use Rattle.like_core.specs.Tallies.{paged}
 use Rattle.like_core.specs.Views.{added_view, read_view, gathered_coord}
 
@@ -56,8 +55,8 @@ pub record IsInPlace (own : List Addition) (r : PageRead) : Type 0 where
 -- in the order of a worker's calls on a page, each old value and each count that it read is at least the end of its
 -- stretch before and the count that it read before
 pub record AreInOrder (own : List Addition) (reads : List PageRead) : Type 0 where
-  pub added : Pairwise (λ a b. b.page ≡ a.page → end_of a ≤ b.old) own
-  pub read : Pairwise (λ r s. s.page ≡ r.page → r.count ≤ s.count) reads
+  pub added : AllPairs (λ a b. b.page ≡ a.page → end_of a ≤ b.old) own
+  pub read : AllPairs (λ r s. s.page ≡ r.page → r.count ≤ s.count) reads
   pub both : All (IsInPlace own) reads
 
 -- a worker's additions and reads are in order, and each count that it read is the first one or the end of a stretch

@@ -1,5 +1,6 @@
 pub mod Collected
 pub mod Entries
+pub mod Places
 pub mod Reported
 pub mod RowParts
 pub mod Rows

@@ -4,6 +4,8 @@
 mod answer;
 mod collect_fault;
 mod collection;
+mod page_places;
+mod place;
 mod replies;
 mod report;
 mod write_fault;
@@ -11,6 +13,8 @@ mod write_fault;
 pub use answer::Answer;
 pub use collect_fault::CollectFault;
 pub use collection::collect;
+pub use page_places::places;
+pub use place::Place;
 pub use replies::Replies;
 pub use report::Report;
 pub use report::text::write_report;

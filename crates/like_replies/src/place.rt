@@ -1,0 +1,11 @@
+/// Where an addition to a page stands: it found the count `old` and added `n`, so its stretch has the counts from `old` to
+/// below `old + n`.
+#[derive(Clone, Copy, Debug, PartialEq, Eq)]
+pub struct Place {
+    pub worker: u32,
+    pub phase: u32,
+    /// The page's count before.
+    pub old: u64,
+    /// How many likes were added.
+    pub n: u64,
+}
