@@ -3,7 +3,7 @@ use Rattle.std.proofs.Common.{◌≡◌, ◌≢◌, ℕ, ◌+◌, ◌<◌, ◌�
 use Rattle.std.proofs.lemmas.Bool.{cases_eq, cases_lt, and_parts, eqb-true, ne_eqb, lt-leb, cond-true}
 use Rattle.std.proofs.lemmas.List.{length-append, drop-append-le}
 use Rattle.std.proofs.lemmas.List.Elements.{All-append, All-head, All-tail}
-use Rattle.std.proofs.lemmas.List.Sums.{sum_by-append, sum_by-cons}
+use Rattle.std.proofs.lemmas.List.Sums.{sum_by-append, sum_by-cons, sum_by_push}
 use Rattle.std.proofs.lemmas.Option.{slice_get_past}
 use Rattle.std.specs.List.{filter_map, range_with_len, slice_get}
 use Rattle.std.specs.Option.{option_to_list}
@@ -170,7 +170,7 @@ no-more service ran adds at likes none once = record {
 
 -- an entry runs, and these additions are noted before
 pub noted-push : (service : Service) (additions later_additions : List Addition) (reads later_reads : List PageRead) (adds more all : List Added) (ran : List Ran) (e : Ran) (likes : ℕ → ℕ → ℕ) → IsNoted service additions reads adds ran → AddsLikes service e likes → all ≡ adds ++ more
-    → AreMore service (ran ++ e ∷ []) adds more (length ran) likes → All (λ a. is_split_in service a.phase a.page ≡ true → likes a.phase a.page ≡ 0) adds
+    → AreMore service (ran ++ e ∷ []) adds more (length ran) likes → All (λ a. is_split_in service a.phase a.page ≡ true → (likes a.phase a.page ≡ 0) × (a.phase < e.phase)) adds
     → later_additions ≡ map addition_of all → map (λ r. r.after) later_reads ≡ adds_before_looks service all (ran ++ e ∷ []) → IsNoted service later_additions later_reads all (ran ++ e ∷ [])
 noted-push service additions later_additions reads later_reads adds more all ran e likes old by all_is new kept are looks =
     let now : List Ran = ran ++ e ∷ [] in
@@ -189,7 +189,11 @@ noted-push service additions later_additions reads later_reads adds more all ran
             some = o.some;
             plain = o.plain;
             split = λ is.
-                let none = kept i d inside is in
+                let none = (kept i d inside is).0 in
+                let later_phase = lt-leb e.phase a.phase (kept i d inside is).1 in
+                let uncounted : cond {A = ℕ} (nat_le e.phase a.phase) 1 0 ≡ 0 = ap (λ (b : Bool). cond {A = ℕ} b 1 0) later_phase in
+                let counted = sum_by_push (λ (x : Ran). cond {A = ℕ} (nat_le x.phase a.phase) 1 0) ran e in
+                let at_is = (o.split is).2 in
                 let all_likes = by ran a.phase a.page in
                 let later = by (drop a.at ran) a.phase a.page in
                 let behind : likes_within service a.page (drop a.at now) a.phase ≡ likes_within service a.page (drop a.at ran ++ e ∷ []) a.phase =
@@ -197,7 +201,7 @@ noted-push service additions later_additions reads later_reads adds more all ran
                 in
                 let n_is = (o.split is).0 in
                 let none_behind = (o.split is).1 in
-                (omega arith, omega arith);
+                (omega arith, omega arith, omega arith);
           })
           new.each;
       plain = λ phase page at is.

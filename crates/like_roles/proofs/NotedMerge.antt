@@ -1,6 +1,6 @@
 -- What a merge does to the additions that are noted, and what stands of them at the start and at the end.
-use Rattle.std.proofs.Common.{◌≡◌, ◌≢◌, ℕ, zero, suc, ◌+◌, ◌<◌, ◌≤◌, ◌==◌, nat_lt, Bool, true, false, not, ◌&&◌, cond, inl, inr, List, [], ◌∷◌, ◌++◌, All, length, get_or, map, drop, count_by, subst, refl, ap, sym, ◌∙◌, eq-eqb, arith}
-use Rattle.std.proofs.lemmas.Bool.{and_parts, cases_eq, eqb-true, ne_eqb, cond-true}
+use Rattle.std.proofs.Common.{◌≡◌, ◌≢◌, ℕ, zero, suc, ◌+◌, ◌<◌, ◌≤◌, ◌==◌, nat_le, nat_lt, Bool, true, false, not, ◌&&◌, cond, inl, inr, List, [], ◌∷◌, ◌++◌, All, length, get_or, map, drop, count_by, subst, refl, ap, sym, ◌∙◌, eq-eqb, arith}
+use Rattle.std.proofs.lemmas.Bool.{and_parts, cases_eq, eqb-true, le-leb, ne_eqb, cond-true}
 use Rattle.std.proofs.lemmas.List.{drop_all, map-append}
 use Rattle.std.proofs.lemmas.List.Elements.{All-nil, All-cons, All-push, All-append, All-head, All-tail}
 use Rattle.std.proofs.lemmas.List.Sums.{sum_by-append, sum_by-cons}
@@ -22,7 +22,7 @@ use Rattle.like_roles.specs.Service.{Service, is_split_in}
 use Rattle.like_roles.specs.Turns.{Merges, from_zero, merging, slice_addition}
 use Rattle.like_roles.specs.WorkerView.{WorkerView, IsSliceInSplit, phase_at}
 use Rattle.like_roles.proofs.Merging.{merging-next, merging-more, merging-none}
-use Rattle.like_roles.proofs.Noted.{AreMore, apart, count-none, none-passes, noted-merged}
+use Rattle.like_roles.proofs.Noted.{AreMore, apart, count-all, count-none, none-passes, noted-merged}
 
 module _ {A B : Type 0} (f : A → B) where
   -- what holds of all images, and of all elements by their images
@@ -111,8 +111,8 @@ noted-are n [] = refl
 noted-are n (b ∷ adds) = ap (λ (xs : List Addition). b ∷ xs) (noted-are n adds)
 
 -- the additions of a merge are noted
-pub merge-noted : (service : Service) (v : WorkerView) (adds : List Addition) → Merges (phase_at v) v.slice (pages_of v.post) adds → IsTallied service v → IsNoted service v.post.additions v.post.reads v.adds v.ran → IsUnmerged service v.adds (state.Runs (phase_at v)) → IsSliceInSplit v.post v.slice → ((page : ℕ) → is_split_in service (phase_at v) page ≡ slices v.post page)
-    → IsNoted service (v.post.additions ++ adds) v.post.reads (v.adds ++ map (noted_at (length v.ran)) adds) v.ran × IsUnmerged service (v.adds ++ map (noted_at (length v.ran)) adds) (state.Answered (phase_at v))
+pub merge-noted : (service : Service) (v : WorkerView) (adds : List Addition) → Merges (phase_at v) v.slice (pages_of v.post) adds → IsTallied service v → IsNoted service v.post.additions v.post.reads v.adds v.ran → IsUnmerged service v.adds v.ran (state.Runs (phase_at v)) → IsSliceInSplit v.post v.slice → ((page : ℕ) → is_split_in service (phase_at v) page ≡ slices v.post page)
+    → IsNoted service (v.post.additions ++ adds) v.post.reads (v.adds ++ map (noted_at (length v.ran)) adds) v.ran × IsUnmerged service (v.adds ++ map (noted_at (length v.ran)) adds) v.ran (state.Answered (phase_at v))
 merge-noted service v adds merges t was un kept alike =
     let k = phase_at v in
     let note : Addition → Added = noted_at (length v.ran) in
@@ -162,7 +162,10 @@ merge-noted service v adds merges t was un kept alike =
                 let behind : likes_within service b.page (drop (length v.ran) v.ran) b.phase ≡ 0 =
                 ap (λ (xs : List Ran). likes_within service b.page xs b.phase) (drop_all (length v.ran) v.ran (omega arith))
                 in
-                (omega arith, behind);
+                let all_before : length v.ran ≡ count_by (λ (e : Ran). nat_le e.phase b.phase) v.ran =
+                sym (count-all (λ (e : Ran). nat_le e.phase b.phase) v.ran (λ j x within. let e : Ran = get_or v.ran j x in let low = un.2 j x within in let same = q.0 in le-leb e.phase b.phase (omega arith)))
+                in
+                (omega arith, behind, all_before);
           });
       plain = λ phase page is.
           count phase page ∙ count-none (λ (b : Addition). (b.phase == phase) && (b.page == page)) adds
@@ -181,7 +184,10 @@ merge-noted service v adds merges t was un kept alike =
     in (
       noted-merged service v.post.additions adds v.post.reads v.adds more v.ran was new
           ((λ m. was.additions_are m ++ sym (noted-are (length v.ran) adds) m) ∙ sym (map-append addition_of v.adds more)),
-      All-append (λ a. a.phase ≤ k) v.adds more un.0 (All-map note (λ a. a.phase ≤ k) adds (λ i d inside. let q = (each i d inside).0 in omega arith)),
+      (
+        All-append (λ a. a.phase ≤ k) v.adds more un.0 (All-map note (λ a. a.phase ≤ k) adds (λ i d inside. let q = (each i d inside).0 in omega arith)),
+        un.2,
+      ),
     )
   where
     positive : (n : ℕ) → n ≢ 0 → 1 ≤ n

@@ -1,6 +1,6 @@
 -- What a turn does to the additions that are noted.
-use Rattle.std.proofs.Common.{◌≡◌, ◌≢◌, ℕ, zero, suc, ◌+◌, ◌≤◌, ◌==◌, nat_le, Bool, true, false, ◌&&◌, cond, inl, inr, List, [], ◌∷◌, ◌++◌, All, length, get_or, map, slice_index, slice_set, Some, None, subst, refl, ap, sym, ◌∙◌, eq-eqb, arith, append-nil}
-use Rattle.std.proofs.lemmas.Bool.{cases_eq, ne_eqb, le-leb}
+use Rattle.std.proofs.Common.{◌≡◌, ◌≢◌, ℕ, zero, suc, ◌+◌, ◌<◌, ◌≤◌, ◌==◌, nat_le, Bool, true, false, ◌&&◌, cond, inl, inr, List, [], ◌∷◌, ◌++◌, All, length, get_or, map, slice_index, slice_set, Some, None, subst, refl, ap, sym, ◌∙◌, eq-eqb, arith, append-nil}
+use Rattle.std.proofs.lemmas.Bool.{cases_eq, cases_lt, ne_eqb, le-leb}
 use Rattle.std.proofs.lemmas.List.{length-map, map-append}
 use Rattle.std.proofs.lemmas.List.Elements.{All-push}
 use Rattle.std.proofs.lemmas.List.Sums.{sum_by-append, sum_by-cons}
@@ -49,14 +49,33 @@ adds-none service e none xs phase page = within-none service xs e page phase non
 
 -- what stands of the additions, where an entry is noted
 abbrev IsNotedNow : Service → ℕ → WorkerView → List Ran → Type 0
-IsNotedNow service phase w ran = IsNoted service w.post.additions w.post.reads w.adds ran × IsUnmerged service w.adds (state.Runs phase)
+IsNotedNow service phase w ran = IsNoted service w.post.additions w.post.reads w.adds ran × IsUnmerged service w.adds ran (state.Runs phase)
+
+-- additions to pages that are split in their phase are of earlier phases than the one that runs
+earlier : (service : Service) (adds : List Added) (ran : List Ran) (k : ℕ) → IsUnmerged service adds ran (state.Runs k) → All (λ a. is_split_in service a.phase a.page ≡ true → a.phase < k) adds
+earlier service adds ran k un i d inside is =
+    let a : Added = get_or adds i d in
+    let low = un.0 i d inside in
+    elim (cases_lt a.phase k) [
+      | inl less ↦ less
+      | inr past ↦
+          let same : a.phase ≡ k = omega arith in
+          let none = none-passes (is_add_to k a.page) adds (un.1 a.page (ap (λ (j : ℕ). is_split_in service j a.page) (sym same) ∙ is)) i d inside in
+          let yes : is_add_to k a.page a ≡ true = λ m. eq-eqb a.phase k same m && eq-eqb a.page a.page refl m in
+          let both : true ≡ false = sym yes ∙ none in
+          absurd (cc both)
+    ]
+
+-- one entry more of that phase
+unmerged-push : (service : Service) (adds : List Added) (ran : List Ran) (e : Ran) (k : ℕ) → e.phase ≡ k → IsUnmerged service adds ran (state.Runs k) → IsUnmerged service adds (ran ++ e ∷ []) (state.Runs k)
+unmerged-push service adds ran e k now un = (un.0, un.1, All-push (λ x. x.phase ≤ k) ran e un.2 (omega arith))
 
 -- an entry that is no accepted like
-no_like : (service : Service) (v : WorkerView) (e : Ran) (reads : List PageRead) → IsNoted service v.post.additions v.post.reads v.adds v.ran → like_ran service e ≡ None → map (λ r. r.after) reads ≡ adds_before_looks service v.adds (v.ran ++ e ∷ []) → IsNoted service v.post.additions reads v.adds (v.ran ++ e ∷ [])
-no_like service v e reads old none shows =
+no_like : (service : Service) (v : WorkerView) (e : Ran) (reads : List PageRead) → IsNoted service v.post.additions v.post.reads v.adds v.ran → All (λ a. is_split_in service a.phase a.page ≡ true → a.phase < e.phase) v.adds → like_ran service e ≡ None → map (λ r. r.after) reads ≡ adds_before_looks service v.adds (v.ran ++ e ∷ []) → IsNoted service v.post.additions reads v.adds (v.ran ++ e ∷ [])
+no_like service v e reads old before none shows =
     noted-push service v.post.additions v.post.additions v.post.reads reads v.adds [] v.adds v.ran e (λ _ _. 0) old (adds-none service e none) (sym (append-nil v.adds))
     (no-more service (v.ran ++ e ∷ []) v.adds (length v.ran) (λ _ _. 0) (λ _ _ _. refl) old.split)
-    (λ i d inside is. refl)
+    (λ i d inside is. (refl, before i d inside is))
     old.additions_are
     shows
 
@@ -67,7 +86,7 @@ no_look service adds ran e none =
     ∙ (ap (λ o. adds_before_looks service adds ran ++ option_to_list (option_map (λ _. adds_before (length ran) adds) o)) none ∙ append-nil (adds_before_looks service adds ran))
 
 -- an accepted like
-one_like : (service : Service) (v : WorkerView) (e : Ran) (page old user : ℕ) → IsNoted service v.post.additions v.post.reads v.adds v.ran → IsUnmerged service v.adds (state.Runs (phase_at v)) → e.phase ≡ phase_at v → like_ran service e ≡ Some (record { user = user; page = page }) → look_ran service e ≡ None → is_split_in service (phase_at v) page ≡ slices v.post page → IsNotedNow service (phase_at v) (counted v page old) (v.ran ++ e ∷ [])
+one_like : (service : Service) (v : WorkerView) (e : Ran) (page old user : ℕ) → IsNoted service v.post.additions v.post.reads v.adds v.ran → IsUnmerged service v.adds v.ran (state.Runs (phase_at v)) → e.phase ≡ phase_at v → like_ran service e ≡ Some (record { user = user; page = page }) → look_ran service e ≡ None → is_split_in service (phase_at v) page ≡ slices v.post page → IsNotedNow service (phase_at v) (counted v page old) (v.ran ++ e ∷ [])
 one_like service v e page old user was un now like no_look_ran alike = by_test (slices v.post page) refl
   where
     k : ℕ
@@ -85,20 +104,23 @@ one_like service v e page old user was un now like no_look_ran alike = by_test (
     by : AddsLikes service e one
     by xs phase q = adds-like service e (record { user = user; page = page }) like xs phase q ∙ ap (λ (j : ℕ). likes_within service q xs phase + cond ((j == phase) && (page == q)) 1 0) now
 
+    before : All (λ a. is_split_in service a.phase a.page ≡ true → a.phase < e.phase) v.adds
+    before i d inside is = let low = earlier service v.adds v.ran k un i d inside is in omega arith
+
     none_else : (phase q : ℕ) (s t : Bool) → is_split_in service k page ≡ s → is_split_in service phase q ≡ t → s ≢ t → one phase q ≡ 0
     none_else phase q s t is other differ = ap (λ (b : Bool). cond {A = ℕ} b 1 0) (apart service k page phase q s t is other differ)
 
-    in_slice : is_split_in service k page ≡ true → IsNoted service v.post.additions v.post.reads v.adds (v.ran ++ e ∷ []) × IsUnmerged service v.adds (state.Runs k)
+    in_slice : is_split_in service k page ≡ true → IsNoted service v.post.additions v.post.reads v.adds (v.ran ++ e ∷ []) × IsUnmerged service v.adds (v.ran ++ e ∷ []) (state.Runs k)
     in_slice is = (
       noted-push service v.post.additions v.post.additions v.post.reads v.post.reads v.adds [] v.adds v.ran e one was by (sym (append-nil v.adds))
           (no-more service (v.ran ++ e ∷ []) v.adds (length v.ran) one (λ phase q other. none_else phase q true false is other (λ m. cc m)) was.split)
-          (λ i d inside _.
+          (λ i d inside split.
           let a : Added = get_or v.adds i d in
           let none = none-passes (is_add_to k page) v.adds (un.1 page is) i d inside in
-          ap (λ (b : Bool). cond {A = ℕ} b 1 0) ((λ m. flip k a.phase m && flip page a.page m) ∙ none))
+          (ap (λ (b : Bool). cond {A = ℕ} b 1 0) ((λ m. flip k a.phase m && flip page a.page m) ∙ none), before i d inside split))
           was.additions_are
           (was.looks ∙ sym (no_look service v.adds v.ran e no_look_ran)),
-      un,
+      unmerged-push service v.adds v.ran e k now un,
     )
 
     on_board : is_split_in service k page ≡ false → P (adding v page old 1)
@@ -118,7 +140,7 @@ one_like service v e page old user was un now like no_look_ran alike = by_test (
                     let same = count phase q in
                     omega arith;
               })
-              (λ i d inside other. let b : Added = get_or v.adds i d in none_else b.phase b.page false true is other (λ m. cc m))
+              (λ i d inside other. let b : Added = get_or v.adds i d in (none_else b.phase b.page false true is other (λ m. cc m), before i d inside other))
               (ap (λ (xs : List Addition). xs ++ new ∷ []) was.additions_are ∙ sym (map-append addition_of v.adds (a ∷ [])))
               (was.looks ∙ sym (no_look service all v.ran e no_look_ran ∙ looks-adds service v.adds (a ∷ []) v.ran (one_of (λ b. b.at ≡ length v.ran) a refl))),
           (
@@ -129,6 +151,7 @@ one_like service v e page old user was un now like no_look_ran alike = by_test (
                 let before = un.1 q other in
                 let same = count k q in
                 omega arith,
+            All-push (λ x. x.phase ≤ k) v.ran e un.2 (omega arith),
           ),
         )
       where
@@ -141,7 +164,7 @@ one_like service v e page old user was un now like no_look_ran alike = by_test (
     by_test false e' = subst (λ (b : Bool). P (cond b sliced (adding v page old 1))) (sym e') (on_board (alike ∙ e'))
 
 -- whatever the answer is
-pub GivesReply-noted : (service : Service) (v : WorkerView) (h : Held) (stashed : Bool) (answer : Reply) (w : WorkerView) → IsServed service v → IsNoted service v.post.additions v.post.reads v.adds v.ran → IsUnmerged service v.adds (state.Runs (phase_at v)) → IsAsked service h
+pub GivesReply-noted : (service : Service) (v : WorkerView) (h : Held) (stashed : Bool) (answer : Reply) (w : WorkerView) → IsServed service v → IsNoted service v.post.additions v.post.reads v.adds v.ran → IsUnmerged service v.adds v.ran (state.Runs (phase_at v)) → IsAsked service h
     → ((page : ℕ) → is_split_in service (phase_at v) page ≡ slices v.post page) → GivesReply v h.submitter h.ask.request answer w → IsNotedNow service (phase_at v) w (v.ran ++ ran_now v h stashed answer ∷ [])
 GivesReply-noted service v h stashed answer w served was un asked alike (refuses n a e) =
     let r = h.ask.request in
@@ -151,7 +174,7 @@ GivesReply-noted service v h stashed answer w served was un asked alike (refuses
     let none : like_ran service x ≡ None = like_ran-is service x r asked.asked ∙ rw no refl in
     let no_look_ran : look_ran service x ≡ None = look_ran-is service x r asked.asked ∙ rw no refl in
     subst (λ u. IsNotedNow service (phase_at v) u (v.ran ++ x ∷ [])) (sym e)
-    (no_like service v x v.post.reads was none (was.looks ∙ sym (no_look service v.adds v.ran x no_look_ran)), un)
+    (no_like service v x v.post.reads was (earlier service v.adds v.ran (phase_at v) un) none (was.looks ∙ sym (no_look service v.adds v.ran x no_look_ran)), unmerged-push service v.adds v.ran x (phase_at v) refl un)
 GivesReply-noted service v h stashed answer w served was un asked alike (likes page a o p l e) =
     let r = h.ask.request in
     let V-is = sym (verdict_at-served service v h.submitter r served) ∙ a in
@@ -181,33 +204,34 @@ GivesReply-noted service v h stashed answer w served was un asked alike (looks p
     ∙ sym (looks-push service v.adds v.ran x ∙ ap (λ o. adds_before_looks service v.adds v.ran ++ option_to_list (option_map (λ _. adds_before (length v.ran) v.adds) o)) look))
     in
     subst (λ u. IsNotedNow service (phase_at v) u (v.ran ++ x ∷ [])) (sym e)
-    (no_like service v x (v.post.reads ++ read ∷ []) was none shows, un)
+    (no_like service v x (v.post.reads ++ read ∷ []) was (earlier service v.adds v.ran (phase_at v) un) none shows, unmerged-push service v.adds v.ran x (phase_at v) refl un)
 
 -- what stands where a phase runs is what stands of the worker's state
-pub unmerged-running : (service : Service) (adds : List Added) (P : ℕ → Type 0) (s : WorkerState) → RunsSome P s → IsUnmerged service adds s → IsUnmerged service adds (state.Runs (phase_of s))
-unmerged-running service adds P (state.Runs k) r u = u
-unmerged-running service adds P (state.Answered k) r u = absurd r
-unmerged-running service adds P state.Gone r u = absurd r
+pub unmerged-running : (service : Service) (adds : List Added) (ran : List Ran) (P : ℕ → Type 0) (s : WorkerState) → RunsSome P s → IsUnmerged service adds ran s → IsUnmerged service adds ran (state.Runs (phase_of s))
+unmerged-running service adds ran P (state.Runs k) r u = u
+unmerged-running service adds ran P (state.Answered k) r u = absurd r
+unmerged-running service adds ran P state.Gone r u = absurd r
 
-pub running-unmerged : (service : Service) (adds : List Added) (P : ℕ → Type 0) (s : WorkerState) → RunsSome P s → IsUnmerged service adds (state.Runs (phase_of s)) → IsUnmerged service adds s
-running-unmerged service adds P (state.Runs k) r u = u
-running-unmerged service adds P (state.Answered k) r u = absurd r
-running-unmerged service adds P state.Gone r u = absurd r
+pub running-unmerged : (service : Service) (adds : List Added) (ran : List Ran) (P : ℕ → Type 0) (s : WorkerState) → RunsSome P s → IsUnmerged service adds ran (state.Runs (phase_of s)) → IsUnmerged service adds ran s
+running-unmerged service adds ran P (state.Runs k) r u = u
+running-unmerged service adds ran P (state.Answered k) r u = absurd r
+running-unmerged service adds ran P state.Gone r u = absurd r
 
 -- after a look
-pub unmerged-seen : (service : Service) (adds : List Added) (sight : Sight) (s : WorkerState) → IsUnmerged service adds s → IsUnmerged service adds (seen s sight)
-unmerged-seen service adds sight (state.Runs k) u = u
-unmerged-seen service adds sight state.Gone u = u
-unmerged-seen service adds sight (state.Answered k) u = by_test sight.waits
+pub unmerged-seen : (service : Service) (adds : List Added) (ran : List Ran) (sight : Sight) (s : WorkerState) → IsUnmerged service adds ran s → IsUnmerged service adds ran (seen s sight)
+unmerged-seen service adds ran sight (state.Runs k) u = u
+unmerged-seen service adds ran sight state.Gone u = u
+unmerged-seen service adds ran sight (state.Answered k) u = by_test sight.waits
   where
-    by_test : (w : Bool) → IsUnmerged service adds (cond w (state.Answered k) (state.Runs (k + 1)))
+    by_test : (w : Bool) → IsUnmerged service adds ran (cond w (state.Answered k) (state.Runs (k + 1)))
     by_test true = u
     by_test false = (
-      λ i d inside. (let low = u i d inside in omega arith),
+      λ i d inside. (let low = u.0 i d inside in omega arith),
       λ page is.
           count-none (is_add_to (k + 1) page) adds
           (λ i d inside.
           let a : Added = get_or adds i d in
-          let low = u i d inside in
+          let low = u.0 i d inside in
           ap (λ (b : Bool). b && (a.page == page)) (ne_eqb a.phase (k + 1) (λ same. absurd (omega arith)))),
+      λ i d inside. (let low = u.1 i d inside in omega arith),
     )

@@ -31,13 +31,14 @@ likes_at service phase page at ran =
     likes_within service page (option_to_list (slice_get ran at)) phase
 
 -- an addition has likes: to a page that is not split in its phase it is of one, and to a page that is, it is of all likes
--- of that page in the phase, after them
+-- of that page in the phase, after them, and was made when all entries up to the phase had run
 pub record IsOfLikes (service : Service) (ran : List Ran) (a : Added) : Type 0 where
   pub some : 1 ≤ a.n
   pub plain : is_split_in service a.phase a.page ≡ false → a.n ≡ 1
   pub split : is_split_in service a.phase a.page ≡ true
       → (a.n ≡ likes_within service a.page ran a.phase)
       × (likes_within service a.page (drop a.at ran) a.phase ≡ 0)
+      × (a.at ≡ count_by (λ e. nat_le e.phase a.phase) ran)
 
 -- a worker's additions are its accepted likes: of a page that is not split in the phase there is one at each like, and of
 -- a page that is, there is one for all its likes in the phase, where it has any
