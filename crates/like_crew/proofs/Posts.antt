@@ -3,11 +3,11 @@ use Rattle.std.proofs.Common.{◌≡◌, ℕ, ◌+◌, Bool, true, false, cond, 
 use Rattle.like_requests.specs.declared.request.Numbered.{Numbered}
 use Rattle.like_requests.specs.declared.request.Request.{Request}
 use Rattle.like_requests.specs.declared.request.Taken.{Taken}
-use Rattle.like_core.specs.Post.{added, slices}
+use Rattle.like_core.specs.Post.{slices}
 use Rattle.like_tables.specs.declared.held.Held.{Held}
 use Rattle.like_roles.specs.declared.reply.Reply.{Reply}
 use Rattle.like_roles.specs.declared.turn.Turn.{Turn}
-use Rattle.like_roles.specs.Serve.{Runs, GivesReply, refuses, likes, looks, liked}
+use Rattle.like_roles.specs.Serve.{Runs, GivesReply, refuses, likes, looks, adding, liked}
 use Rattle.like_roles.specs.Turns as turns
 use Rattle.like_roles.specs.Turns.{Gives, TakesAsk, Turns, Works, saw, settled, with_taken, without_first}
 use Rattle.like_roles.specs.WorkerView.{WorkerView}
@@ -16,15 +16,15 @@ use Rattle.like_roles.specs.WorkerView.{WorkerView}
 abbrev pub whose : WorkerView → ℕ × List ℕ
 whose v = (v.post.worker, v.post.board)
 
-liked-whose : (v : WorkerView) (user page : ℕ) → whose (liked v user page) ≡ whose v
-liked-whose v user page = by_test (slices v.post page) where
-  by_test : (b : Bool) → whose (cond b (record v { slice = set v.slice page (get_or v.slice page 0 + 1) }) (record v { post = added v.post page 1 })) ≡ whose v
+liked-whose : (v : WorkerView) (user page old : ℕ) → whose (liked v user page old) ≡ whose v
+liked-whose v user page old = by_test (slices v.post page) where
+  by_test : (b : Bool) → whose (cond b (record v { slice = set v.slice page (get_or v.slice page 0 + 1) }) (adding v page old 1)) ≡ whose v
   by_test true = refl
   by_test false = refl
 
 serves-whose : (v : WorkerView) (submitter : ℕ) (r : Request) (reply : Reply) (w : WorkerView) → GivesReply v submitter r reply w → whose w ≡ whose v
 serves-whose v submitter r reply w (refuses n a e) = ap whose e
-serves-whose v submitter r reply w (likes page a o p l e) = ap whose e ∙ liked-whose v r.user page
+serves-whose v submitter r reply w (likes page a o p l e) = ap whose e.1 ∙ liked-whose v r.user page e.0
 serves-whose v submitter r reply w (looks page count a o p s n e) = ap whose e
 
 runs-whose : (v : WorkerView) (h : Held) (stashed : Bool) (after : WorkerView) → Runs v h stashed after → whose after ≡ whose v
@@ -35,7 +35,7 @@ works-whose v ending answer after (turns.runs_held first rest j e a run) = runs-
 works-whose v ending answer after (turns.retires j e ended a x) = ap whose x
 works-whose v ending answer after (turns.acknowledges j e ended seen a x) = ap whose x
 works-whose v ending answer after (turns.tries_joined place j e next seen a x) = ap whose x
-works-whose v ending answer after (turns.reports s seen a x) = ap whose x
+works-whose v ending answer after (turns.reports now s seen a m x) = ap whose x ∙ ap whose m.1.1
 works-whose v ending answer after (turns.idles s seen stuck a x) = ap whose x
 works-whose v ending answer after (turns.tries_split place s seen room next a x) = ap whose x
 

@@ -12,15 +12,15 @@ use Rattle.like_core.specs.declared.worker_state.WorkerState.{WorkerState}
 use Rattle.like_core.specs.declared.worker_state.WorkerState.TheVariants as state
 use Rattle.like_core.specs.Phase.{IsJoined, IsSplit}
 use Rattle.like_core.specs.WorkerState.{IsSightOf, RunsSome, phase_of, seen}
-use Rattle.like_core.specs.Post.{added, slices}
+use Rattle.like_core.specs.Post.{answered, slices}
 use Rattle.like_tables.specs.declared.held.Held.{Held}
 use Rattle.like_roles.specs.declared.log.Took.{Took}
 use Rattle.like_roles.specs.declared.reply.Reply.{Reply}
 use Rattle.like_roles.specs.declared.turn.Turn.{Turn}
 use Rattle.like_roles.specs.declared.turn.Turn.TheVariants as turn
-use Rattle.like_roles.specs.Serve.{Runs, GivesReply, refuses, likes, looks, liked}
+use Rattle.like_roles.specs.Serve.{Runs, GivesReply, refuses, likes, looks, adding, liked}
 use Rattle.like_roles.specs.Turns as turns
-use Rattle.like_roles.specs.Turns.{Gives, TakesAsk, Turns, Works, saw, settled, with_taken, without_first}
+use Rattle.like_roles.specs.Turns.{Gives, TakesAsk, Turns, Works, merged, saw, settled, with_taken, without_first}
 use Rattle.like_roles.specs.WorkerView.{WorkerView, phase_at, submitter_at}
 use Rattle.like_roles.proofs.Effects.{Runs-effects}
 use Rattle.like_crew.specs.Log.{IsRising, NoneAbove}
@@ -84,15 +84,15 @@ running_here P (state.Answered k) r = absurd r
 running_here P state.Gone r = absurd r
 
 -- a request that runs leaves the last sight
-liked-last : (v : WorkerView) (user page : ℕ) → (liked v user page).post.last ≡ v.post.last
-liked-last v user page = by_test (slices v.post page) where
-  by_test : (b : Bool) → (cond b (record v { slice = set v.slice page (get_or v.slice page 0 + 1) }) (record v { post = added v.post page 1 })).post.last ≡ v.post.last
+liked-last : (v : WorkerView) (user page old : ℕ) → (liked v user page old).post.last ≡ v.post.last
+liked-last v user page old = by_test (slices v.post page) where
+  by_test : (b : Bool) → (cond b (record v { slice = set v.slice page (get_or v.slice page 0 + 1) }) (adding v page old 1)).post.last ≡ v.post.last
   by_test true = refl
   by_test false = refl
 
 serves-last : (v : WorkerView) (submitter : ℕ) (r : Request) (reply : Reply) (w : WorkerView) → GivesReply v submitter r reply w → w.post.last ≡ v.post.last
 serves-last v submitter r reply w (refuses n a e) = ap (λ x. x.post.last) e
-serves-last v submitter r reply w (likes page a o p l e) = ap (λ x. x.post.last) e ∙ liked-last v r.user page
+serves-last v submitter r reply w (likes page a o p l e) = ap (λ x. x.post.last) e.1 ∙ liked-last v r.user page e.0
 serves-last v submitter r reply w (looks page count a o p s n e) = ap (λ x. x.post.last) e
 
 runs-seen : (v : WorkerView) (h : Held) (stashed : Bool) (after : WorkerView) → Runs v h stashed after → HasSeen v → HasSeen after
@@ -110,7 +110,9 @@ works-seen v ending answer after (turns.runs_held first rest j e a run) h = runs
 works-seen v ending answer after (turns.retires j e ended a x) h = subst HasSeen (sym x) (h.0, λ here. absurd (here refl))
 works-seen v ending answer after (turns.acknowledges j e ended seen a x) h = subst HasSeen (sym x) (answered-seen v IsJoined j h)
 works-seen v ending answer after (turns.tries_joined place j e next seen a x) h = subst HasSeen (sym x) h
-works-seen v ending answer after (turns.reports s seen a x) h = subst HasSeen (sym x) (answered-seen v IsSplit s h)
+works-seen v ending answer after (turns.reports now s seen a m x) h =
+    let is : after ≡ record (merged v m.0) { post = answered (merged v m.0).post } = x ∙ ap {A = WorkerView} (λ w. record w { post = answered w.post }) m.1.1 in
+    subst HasSeen (sym is) (answered-seen v IsSplit s h)
 works-seen v ending answer after (turns.idles s seen stuck a x) h = subst HasSeen (sym x) h
 works-seen v ending answer after (turns.tries_split place s seen room next a x) h = subst HasSeen (sym x) h
 
@@ -133,7 +135,7 @@ works-tries v ending answer after sight submitter l (turns.retires j e ended a x
 works-tries v ending answer after sight submitter l (turns.acknowledges j e ended seen a x) r = cc (a, r)
 works-tries v ending answer after sight submitter l (turns.tries_joined place j e next seen a x) r =
     subst IsTrying (sym x) (record { sight = sight; saw_it = l; here = running_here IsJoined v.post.state j })
-works-tries v ending answer after sight submitter l (turns.reports s seen a x) r = cc (a, r)
+works-tries v ending answer after sight submitter l (turns.reports now s seen a m x) r = cc (a, r)
 works-tries v ending answer after sight submitter l (turns.idles s seen stuck a x) r = cc (a, r)
 works-tries v ending answer after sight submitter l (turns.tries_split place s seen room next a x) r =
     subst IsTrying (sym x) (record { sight = sight; saw_it = l; here = running_here IsSplit v.post.state s })

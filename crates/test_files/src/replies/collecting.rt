@@ -23,6 +23,7 @@ fn log_of(alloc: Global, ran: &[Ran]) -> Result<WorkerLog, AllocError> {
     Ok(WorkerLog {
         taken: Vec::new(alloc),
         ran: Vec::from_slice(alloc, ran)?,
+        adds: Vec::new(alloc),
         last: Users::new(alloc, 0, 1, 1, 0)?,
     })
 }
