@@ -13,7 +13,7 @@ use Rattle.like_replies.specs.Entries.{IsRequest, entries_in, entries_of}
 use Rattle.like_replies.specs.Slots.{HoldsAll, IsSlotsFault, Refuses}
 use Rattle.like_replies.proofs.Holding.{AreGood-held, none-from_slot, slot-from_none}
 use Rattle.like_replies.proofs.Lists.{parts_at}
-use Rattle.like_replies.proofs.Places.{IsRequest-slot, IsSlot-request, sized-full, slot_at-full}
+use Rattle.like_replies.proofs.SlotPlaces.{IsRequest-slot, IsSlot-request, sized-full, slot_at-full}
 
 -- an entry that is refused is the first that is bad
 pub IsEntryFault-refused : (sizes : List ℕ) (before : List Ran) (slots : List (List (Option Answer))) (e : Ran) (after entries : List Ran) (fault : CollectFault)

@@ -7,7 +7,7 @@ use Rattle.like_replies.specs.declared.collect_fault.CollectFault.{CollectFault}
 use Rattle.like_replies.specs.declared.collect_fault.CollectFault.TheVariants.{Stranger, Double, Missing, Memory}
 use Rattle.like_replies.specs.Entries.{Precedes}
 use Rattle.like_replies.specs.Slots.{IsFirstEmpty, IsSlot, IsSlotsFault, slot_at}
-use Rattle.like_replies.proofs.Places.{not_empty}
+use Rattle.like_replies.proofs.SlotPlaces.{not_empty}
 
 -- a place before the end of the answers is not empty
 answered : (row : List (Option Answer)) (n : ℕ) (answers : List Answer) → take n row ≡ map Some answers → n ≤ length row → (place : ℕ) → place < n → get_or row place None ≢ None

@@ -8,7 +8,7 @@ use Rattle.like_roles.specs.declared.log.Ran.{Ran}
 use Rattle.like_replies.specs.declared.answer.Answer.{Answer}
 use Rattle.like_replies.specs.Entries.{AreGood, IsRequest, answer_of, entries_of, is_of}
 use Rattle.like_replies.specs.Slots.{HoldsAll, Puts, slot_at}
-use Rattle.like_replies.proofs.Places.{IsRequest-slot, sized-start, sized-write, slot_at-other, slot_at-same, slot_at-start}
+use Rattle.like_replies.proofs.SlotPlaces.{IsRequest-slot, sized-start, sized-write, slot_at-other, slot_at-same, slot_at-start}
 
 -- an option that gives no element is none
 pub none_from_empty : (o : Option Answer) → option_to_list o ≡ [] → o ≡ None

@@ -4,7 +4,8 @@ pub mod Examples
 pub mod Holding
 pub mod Lists
 pub mod Named
-pub mod Places
+pub mod PlaceLists
+pub mod SlotPlaces
 pub mod Plain
 pub mod RowTexts
 pub mod Texts
