@@ -1,6 +1,6 @@
 ghost use Rattle.std.specs.Prelude.{◌≡◌, [], IfOk, true};
 ghost use Rattle.like_board.specs.Seats.{board_id, coord_board, coord_view};
-ghost use Rattle.like_roles.specs.CoordTurns.{HasEndedJoined};
+ghost use Rattle.like_roles.specs.CoordTurns.{CoordTurns, HasEndedJoined};
 ghost use Rattle.like_crew.specs.Crew.{LeadGoesOn};
 
 use like_board::{Board, CoordSeat};
@@ -56,6 +56,7 @@ impl<'a> Lead<'a> {
 
     /// Makes its next turn.
     pub fn turn(&mut self) -> CoordTurn
+        ensures case { CoordTurns self.old result self.new }
         ensures goes_on { LeadGoesOn self.old self.new }
         ensures ended { result ≡ CoordTurn.Ended → HasEndedJoined self.new }
     {
@@ -65,6 +66,7 @@ impl<'a> Lead<'a> {
 
     /// Makes its next turn, and says whether it found the run ended.
     pub fn ends(&mut self) -> bool
+        ensures case { (answer : CoordTurn) × CoordTurns self.old answer self.new }
         ensures goes_on { LeadGoesOn self.old self.new }
         ensures ended { result ≡ true → HasEndedJoined self.new }
     {

@@ -1,7 +1,11 @@
 use Rattle.std.proofs.Common.{subst}
+use Rattle.like_roles.specs.CoordTurns.{CoordTurns}
 use Rattle.like_crew.specs.Crew.{LeadGoesOn}
 use Rattle.like_crew.proofs.Coordinated.{lead-goes-on}
 use Rattle.like_crew.proofs.crew.lead.Lead.turn.Goals as goal
+
+pub returns-clause-case : goal.returns-clause-case
+returns-clause-case c = subst (λ v. CoordTurns v c.turn.result c.turn.new.self) c.self.view_is c.turn.ensures.case
 
 pub returns-clause-goes_on : goal.returns-clause-goes_on
 returns-clause-goes_on c =
