@@ -18,7 +18,7 @@ use Rattle.like_requests.specs.Setup.{IsThere}
 use Rattle.like_roles.specs.WorkerView.{WorkerView, HasEnded, IsNextPlace, phase_at, submitter_at, has_to_wait}
 use Rattle.like_roles.specs.Serve.{Runs, adding, noted_at}
 
--- who goes from one phase to another enters a split phase
+-- whether who goes from one phase to another enters a split phase
 abbrev pub enters_split : ℕ → ℕ → Bool
 enters_split from to = not (to == from) && (to % 2 == 1)
 
