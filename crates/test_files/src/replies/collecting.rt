@@ -1,10 +1,10 @@
 //! What logs are collected to.
 ghost use Rattle.std.specs.Prelude.{◌≤◌, length};
 
+use crate::replies::log_of;
 use like_replies::{Answer, CollectFault, Replies, collect};
-use like_roles::{Ran, Reply, WorkerLog};
-use like_tables::Users;
-use std::alloc::{AllocError, Global};
+use like_roles::{Ran, Reply};
+use std::alloc::Global;
 use std::test::Fail;
 
 // A like of this submitter and number, which ran in phase 1.
@@ -18,16 +18,6 @@ fn like(submitter: u32, number: u32) -> Ran {
     }
 }
 
-// The log of a worker that ran these entries.
-fn log_of(alloc: Global, ran: &[Ran]) -> Result<WorkerLog, AllocError> {
-    Ok(WorkerLog {
-        taken: Vec::new(alloc),
-        ran: Vec::from_slice(alloc, ran)?,
-        adds: Vec::new(alloc),
-        last: Users::new(alloc, 0, 1, 1, 0)?,
-    })
-}
-
 // What two logs are collected to.
 fn collected(
     alloc: Global,
@@ -38,8 +28,8 @@ fn collected(
     requires { length sizes.now ≤ 64 }
 {
     let mut logs = Vec::with_capacity(alloc, 2)?;
-    logs.push(log_of(alloc, first)?)?;
-    logs.push(log_of(alloc, second)?)?;
+    logs.push(log_of(alloc, first, &[])?)?;
+    logs.push(log_of(alloc, second, &[])?)?;
     collect(alloc, sizes, &logs)
 }
 
