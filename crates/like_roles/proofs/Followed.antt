@@ -36,7 +36,7 @@ use Rattle.like_roles.proofs.Blocks.{block-after_joined, block-later, order_belo
 use Rattle.like_roles.proofs.Effects.{HasRunOne, Runs-effects}
 use Rattle.like_roles.proofs.InBlocks.{before-next, blocks-of_running, order-of_blocks, parity, running-of_blocks, runs-phase, runs-weaker}
 use Rattle.like_roles.proofs.Lists.{same_everywhere}
-use Rattle.like_roles.proofs.Keeps.{works-keeps}
+use Rattle.like_roles.proofs.Keeps.{runs-keeps, works-keeps}
 use Rattle.like_roles.proofs.Looking.{saw-has, saw-splits}
 use Rattle.like_roles.proofs.Merging.{merging-all}
 use Rattle.like_roles.proofs.NotedMerge.{merge-noted}
@@ -46,7 +46,7 @@ use Rattle.like_roles.proofs.Shown.{after-more, cond_same, shown_by-more}
 use Rattle.like_roles.proofs.Tallied.{GivesReply-tallied, accepted-true}
 
 -- a worker that runs a phase and is in its blocks follows the plans
-follows-running : (service : Service) (v : WorkerView) → IsRunning v.post.state → IsServed service v → IsSized v → IsTallied service v → IsNoted service v.post.additions v.post.reads v.adds v.ran → IsUnmerged service v.adds v.ran v.post.state → All (IsAsked service) v.held.held
+follows-running : (service : Service) (v : WorkerView) → IsRunning v.post.state → IsServed service v → IsSized v → IsTallied service v → (v.notes ≡ true → IsNoted service v.post.additions v.post.reads v.adds v.ran) → (v.notes ≡ true → IsUnmerged service v.adds v.ran v.post.state) → All (IsAsked service) v.held.held
     → IsInBlocks service v (phase_at v) → ((place : ℕ) → v.pending ≡ Some place → RunsJoined v.post.state → v.held.held ≡ []) → Follows service v
 follows-running service v run served sized t noted unmerged held b trying = record {
   served = served;
@@ -68,18 +68,18 @@ slices-alike service v s run has page =
 
 -- what a run does to a worker that follows the plans, where the blocks after it are known
 follows-run : (service : Service) (v after : WorkerView) (h : Held) (stashed : Bool) → Runs v h stashed after → IsRunning v.post.state → v.pending ≡ None → IsServed service v → IsSized v → IsTallied service v
-    → IsNoted service v.post.additions v.post.reads v.adds v.ran → IsUnmerged service v.adds v.ran v.post.state → HasPhaseMask v.post → IsAsked service h → ((page : ℕ) → verdict_at v h.submitter h.ask.request ≡ Accepted → page_looked_at h.ask.request.op h.ask.request.page ≡ Some page → get_or v.slice page 0 ≡ 0) → All (IsAsked service) v.held.held → ((e : HasRunOne v h stashed after) → IsInBlocks service (record v { ran = after.ran }) (phase_at v)) → Follows service after
+    → (v.notes ≡ true → IsNoted service v.post.additions v.post.reads v.adds v.ran) → (v.notes ≡ true → IsUnmerged service v.adds v.ran v.post.state) → HasPhaseMask v.post → IsAsked service h → ((page : ℕ) → verdict_at v h.submitter h.ask.request ≡ Accepted → page_looked_at h.ask.request.op h.ask.request.page ≡ Some page → get_or v.slice page 0 ≡ 0) → All (IsAsked service) v.held.held → ((e : HasRunOne v h stashed after) → IsInBlocks service (record v { ran = after.ran }) (phase_at v)) → Follows service after
 follows-run service v after h stashed run here none served sized t was un has asked clear held blocks =
     let e = Runs-effects v h stashed after run in
     let done = GivesReply-tallied service v h stashed run.reply run.served served sized t asked clear run.serves in
-    let marked = GivesReply-noted service v h stashed run.reply run.served served was (unmerged-running service v.adds v.ran (λ _. Unit {0}) v.post.state here un) asked (slices-alike service v served here has) run.serves in
-    let all : IsServed service after × IsSized after × IsTallied service after × IsNoted service after.post.additions after.post.reads after.adds after.ran × IsUnmerged service after.adds after.ran (state.Runs (phase_at v)) =
-    subst (λ x. IsServed service x × IsSized x × IsTallied service x × IsNoted service x.post.additions x.post.reads x.adds x.ran × IsUnmerged service x.adds x.ran (state.Runs (phase_at v))) (sym run.noted) (
+    let stays = (runs-keeps v h stashed after run).notes in
+    let marked = λ (notes : v.notes ≡ true). GivesReply-noted service v h stashed run.reply run.served served notes (was notes) (unmerged-running service v.adds v.ran (λ _. Unit {0}) v.post.state here (un notes)) asked (slices-alike service v served here has) run.serves in
+    let all : IsServed service after × IsSized after × IsTallied service after × (v.notes ≡ true → IsNoted service after.post.additions after.post.reads after.adds after.ran × IsUnmerged service after.adds after.ran (state.Runs (phase_at v))) =
+    subst (λ x. IsServed service x × IsSized x × IsTallied service x × (v.notes ≡ true → IsNoted service x.post.additions x.post.reads x.adds x.ran × IsUnmerged service x.adds x.ran (state.Runs (phase_at v)))) (sym run.noted) (
       record { users = done.0.users; submitters_alike = done.0.submitters_alike; marks_alike = done.0.marks_alike; hot_alike = done.0.hot_alike },
       record { slice = done.1.slice; users = done.1.users },
       done.2,
-      marked.0,
-      marked.1,
+      marked,
     ) in
     let b = blocks e in
     let runs : IsRunning after.post.state = subst (λ s. RunsSome (λ _. Unit {0}) s) (sym e.state) here in
@@ -90,8 +90,8 @@ follows-run service v after h stashed run here none served sized t was un has as
       split_ran = λ s. ap (λ xs. order_below service xs (phase_at v + 1)) e.taken ∙ b.split_ran s;
       split_held = λ s. ap (λ xs. block service xs (phase_at v + 1)) e.taken ∙ b.split_held s ∙ ap (λ w. map (entry_held (phase_at v + 1)) w.held) (sym e.held);
     } in
-    follows-running service after runs all.0 all.1 all.2 all.3
-    (running-unmerged service after.adds after.ran (λ _. Unit {0}) after.post.state runs (subst (λ (k : ℕ). IsUnmerged service after.adds after.ran (state.Runs k)) phase all.4)) (subst (λ w. All (IsAsked service) w.held) (sym e.held) held)
+    follows-running service after runs all.0 all.1 all.2 (λ notes. (all.3 (sym stays ∙ notes)).0)
+    (λ notes. running-unmerged service after.adds after.ran (λ _. Unit {0}) after.post.state runs (subst (λ (k : ℕ). IsUnmerged service after.adds after.ran (state.Runs k)) phase (all.3 (sym stays ∙ notes)).1)) (subst (λ w. All (IsAsked service) w.held) (sym e.held) held)
     (subst (λ k. IsInBlocks service after k) phase b') (λ place p. absurd (cc (e.pending, none, p)))
 
 -- the blocks of a worker that enters the next phase
@@ -174,7 +174,7 @@ follows-saw service v sight masks right f kept here none = record {
   sized = record { slice = f.sized.slice; users = f.sized.users };
   tallied = record { likes = f.tallied.likes; by_phase = λ phase page. f.tallied.by_phase phase page ∙ ap (λ n. additions_in v.post phase page + n) (saw-kept v.slice sight v.post.state (λ p some. (kept p some).0) here phase page); looks = f.tallied.looks; after = f.tallied.after; replies = f.tallied.replies; last = f.tallied.last };
   noted = f.noted;
-  unmerged = unmerged-seen service v.adds v.ran sight v.post.state f.unmerged;
+  unmerged = λ notes. unmerged-seen service v.adds v.ran sight v.post.state (f.unmerged notes);
   in_order = ap (λ zs. map entry_of v.ran ++ zs) (saw-next service v sight v.post.state f.stands here) ∙ f.in_order;
   held = f.held;
   stands = saw-stands service v sight masks v.post.state f.stands here;
@@ -256,7 +256,7 @@ follows-answered service v P f run none empty =
       sized = record { slice = f.sized.slice; users = f.sized.users };
       tallied = record { likes = f.tallied.likes; by_phase = f.tallied.by_phase; looks = f.tallied.looks; after = f.tallied.after; replies = f.tallied.replies; last = f.tallied.last };
       noted = f.noted;
-      unmerged = let u = unmerged-running service v.adds v.ran P v.post.state run f.unmerged in (u.0, u.2);
+      unmerged = λ notes. (let u = unmerged-running service v.adds v.ran P v.post.state run (f.unmerged notes) in (u.0, u.2));
       in_order = f.in_order;
       held = f.held;
       stands = (record { within = b.within; joined = b.joined; split_ran = b.split_ran; split_held = b.split_held }, empty);
@@ -269,8 +269,8 @@ follows-reported service v adds merges f run none kept has =
     let b = blocks-of_running service v IsSplit v.post.state run f.stands in
     let odd = runs-phase IsSplit v.post.state run in
     let here = runs-weaker IsSplit (λ _. Unit {0}) v.post.state (λ _ _. tt) run in
-    let noted =
-    merge-noted service v adds merges f.tallied f.noted (unmerged-running service v.adds v.ran IsSplit v.post.state run f.unmerged) kept
+    let noted = λ (notes : v.notes ≡ true).
+    merge-noted service v adds merges f.tallied notes (f.noted notes) (unmerged-running service v.adds v.ran IsSplit v.post.state run (f.unmerged notes)) kept
     (slices-alike service v f.served here has)
     in
     record {
@@ -284,8 +284,8 @@ follows-reported service v adds merges f run none kept has =
         replies = f.tallied.replies;
         last = f.tallied.last;
       };
-      noted = noted.0;
-      unmerged = noted.1;
+      noted = λ notes. (noted notes).0;
+      unmerged = λ notes. (noted notes).1;
       in_order = f.in_order;
       held = f.held;
       stands = (record { within = b.within; joined = b.joined; split_ran = b.split_ran; split_held = b.split_held }, λ even. absurd (omega arith));
@@ -306,7 +306,7 @@ follows-works service v ending answer after none f kept has (turns.retires j e e
       sized = record { slice = f.sized.slice; users = f.sized.users };
       tallied = record { likes = f.tallied.likes; by_phase = λ phase page. f.tallied.by_phase phase page ∙ ap (λ n. additions_in v.post phase page + n) (empties phase page); looks = f.tallied.looks; after = f.tallied.after; replies = f.tallied.replies; last = f.tallied.last };
       noted = f.noted;
-      unmerged = tt;
+      unmerged = λ notes. tt;
       in_order = ap (λ hs. map entry_of v.ran ++ map (entry_held 0) hs) e ∙ ap (λ hs. map entry_of v.ran ++ map (entry_held (next_joined v)) hs) (sym e) ∙ f.in_order;
       held = f.held;
       stands = (e, ended);

@@ -67,7 +67,7 @@ IsSound-pop post d popped s e n =
     subst (λ h. IsSound post (record d { held = h })) (sym e) (record {
       placed = IsPlaced-held post d (record d.held { held = drop 1 d.held.held }) s.placed;
       places = ArePlaces-held d (record d.held { held = drop 1 d.held.held }) s.places;
-      room = record { taken = s.room.taken; ran = omega (arith, s.room.ran); few_ran = s.room.few_ran; adds = omega (arith, s.room.adds); few = omega (arith, s.room.few) };
+      room = record { taken = s.room.taken; ran = omega (arith, s.room.ran); few_ran = s.room.few_ran; adds = λ n. omega (arith, s.room.adds n); few = omega (arith, s.room.few) };
       slice = s.slice;
       held = AreOwn-held d (record d.held { held = drop 1 d.held.held }) (drop 1 d.held.held) (All-drop (IsOwn d) 1 d.held.held s.held);
       waiting = record { some = s.waiting.some; few = s.waiting.few; within = omega (arith, s.waiting.within) };
@@ -82,7 +82,7 @@ IsSound-push post d h pushed s room fits own n e =
     subst (λ w. IsSound post (record d { held = w })) (sym e) (record {
       placed = IsPlaced-held post d (record d.held { held = d.held.held ++ h ∷ [] }) s.placed;
       places = ArePlaces-held d (record d.held { held = d.held.held ++ h ∷ [] }) s.places;
-      room = record { taken = s.room.taken; ran = omega (arith, room.ran); few_ran = s.room.few_ran; adds = omega (arith, room.adds); few = omega (arith, room.few) };
+      room = record { taken = s.room.taken; ran = omega (arith, room.ran); few_ran = s.room.few_ran; adds = λ n. omega (arith, room.adds n); few = omega (arith, room.few) };
       slice = s.slice;
       held = AreOwn-held d (record d.held { held = d.held.held ++ h ∷ [] }) (d.held.held ++ h ∷ []) (All-append (IsOwn d) d.held.held (h ∷ []) s.held (All-cons (IsOwn d) h [] own (λ i y k. absurd (omega arith))));
       waiting = record { some = s.waiting.some; few = s.waiting.few; within = omega arith };
@@ -127,13 +127,13 @@ IsSound-taken post d n place s none there some left taken capacity rest =
           started = p.started;
         };
         places = record { sized = omega (arith, n.left.ok.0, d.left.ok.0, s.places.sized); submitters = s.places.submitters; cursor = s.places.cursor };
-        room = record { taken = omega (arith, s.room.taken); ran = omega (arith, s.room.ran); few_ran = s.room.few_ran; adds = omega (arith, s.room.adds); few = omega (arith, s.room.few) };
+        room = record { taken = omega (arith, s.room.taken); ran = omega (arith, s.room.ran); few_ran = s.room.few_ran; adds = λ n. omega (arith, s.room.adds n); few = omega (arith, s.room.few) };
         slice = s.slice;
         held = λ i y k. let o = s.held i y k in record { served = o.served; there = o.there; judged = o.judged };
         waiting = s.waiting;
         tried = λ p t. cc (none, t);
       },
-      record { ran = omega (arith, s.room.ran); adds = omega (arith, s.room.adds); few = omega (arith, s.room.few) },
+      record { ran = omega (arith, s.room.ran); adds = λ n. omega (arith, s.room.adds n); few = omega (arith, s.room.few) },
     )
 
 -- a request that waits was taken in a split phase

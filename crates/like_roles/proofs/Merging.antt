@@ -10,17 +10,36 @@ use Rattle.like_core.specs.Post.{pages_of}
 use Rattle.like_core.proofs.Labels.{one_before-next}
 use Rattle.like_tables.specs.Liked.{AreUnliked}
 use Rattle.like_roles.specs.Turns.{IsMerged, Merges, from_zero, merged_page, merging, slice_addition}
-use Rattle.like_roles.specs.Serve.{adding, noted_at}
+use Rattle.like_roles.specs.Serve.{adding, noted, noted_at}
 use Rattle.like_roles.specs.declared.log.Added.{Added}
 use Rattle.like_roles.specs.WorkerView.{WorkerView, phase_at}
 use Rattle.like_roles.proofs.Shown.{cond_same}
+
+-- no addition leaves what was noted
+noted-none : (v : WorkerView) → v.adds ++ noted v [] ≡ v.adds
+noted-none v = ap (λ (xs : List Added). v.adds ++ xs) (by_test v.notes) ∙ append-nil v.adds
+  where
+    by_test : (b : Bool) → cond {A = List Added} b [] [] ≡ []
+    by_test true = refl
+    by_test false = refl
+
+-- additions that are noted after others are noted with them
+noted-append : (v : WorkerView) (adds more : List Addition) → (v.adds ++ noted v adds) ++ noted v more ≡ v.adds ++ noted v (adds ++ more)
+noted-append v adds more = append_assoc v.adds (noted v adds) (noted v more) ∙ ap (λ (xs : List Added). v.adds ++ xs) (by_test v.notes)
+  where
+    note : Addition → Added
+    note = noted_at (length v.ran)
+
+    by_test : (b : Bool) → cond b (map note adds) [] ++ cond b (map note more) [] ≡ cond b (map note (adds ++ more)) []
+    by_test true = sym (map-append note adds more)
+    by_test false = refl
 
 -- the worker after pages were merged by these additions, with this slice
 abbrev merged_with : WorkerView → List Addition → List ℕ → WorkerView
 merged_with v adds slice = record v {
   post = record v.post { additions = v.post.additions ++ adds };
   slice = slice;
-  adds = v.adds ++ map (noted_at (length v.ran)) adds;
+  adds = v.adds ++ noted v adds;
 }
 
 -- the first n pages are merged
@@ -37,7 +56,7 @@ pub Merging-start : (v : WorkerView) → length v.slice ≡ pages_of v.post → 
 Merging-start v s = record {
   adds = [];
   merges = refl;
-  rest = λ m. record v { post = record v.post { additions = sym (append-nil v.post.additions) m }; adds = sym (append-nil v.adds) m };
+  rest = λ m. record v { post = record v.post { additions = sym (append-nil v.post.additions) m }; adds = sym (noted-none v) m };
   slice_sized = s;
   emptied = λ page h. absurd (omega arith);
   slice_left = λ page h. refl;
@@ -85,18 +104,14 @@ Merging-page v0 v n old m inside liked =
     let likes : ℕ = get_or v.slice n 0 in
     let is : likes ≡ get_or v0.slice n 0 = m.slice_left n (omega arith) in
     let new : Addition = record { phase = phase_at v0; page = n; old = old; likes = likes } in
-    let note : Addition → Added = noted_at (length v0.ran) in
     let more = merging-more (phase_at v0) v0.slice n (λ e. liked (is ∙ e)) in
     let zero_is : from_zero new ≡ slice_addition (phase_at v0) v0.slice n = ap (λ (k : ℕ). record { phase = phase_at v0; page = n; old = 0; likes = k }) is in
-    let noted : (v0.adds ++ map note m.adds) ++ note new ∷ [] ≡ v0.adds ++ map note (m.adds ++ new ∷ []) =
-    append_assoc v0.adds (map note m.adds) (note new ∷ []) ∙ ap (λ (xs : List Added). v0.adds ++ xs) (sym (map-append note m.adds (new ∷ [])))
-    in
     record {
       adds = m.adds ++ new ∷ [];
       merges = map-append from_zero m.adds (new ∷ []) ∙ ((λ k. m.merges k ++ zero_is k ∷ []) ∙ sym more);
       rest =
           ap {A = WorkerView} (λ w. record (adding w n old likes) { slice = slice }) m.rest
-          ∙ (λ k. merged_as v0 slice (append_assoc v0.post.additions m.adds (new ∷ []) k) (noted k));
+          ∙ (λ k. merged_as v0 slice (append_assoc v0.post.additions m.adds (new ∷ []) k) (noted-append v0 m.adds (new ∷ []) k));
       slice_sized = length-set v.slice n 0 ∙ m.slice_sized;
       emptied = below v.slice n 0 (λ _. 0) inside refl m.emptied;
       slice_left = above v.slice v0.slice n 0 m.slice_left;

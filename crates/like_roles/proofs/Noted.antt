@@ -17,7 +17,9 @@ use Rattle.like_roles.specs.Adds.{IsOfLikes, addition_of, is_add_to, adds_to, ad
 use Rattle.like_roles.specs.Follows.{IsNoted}
 use Rattle.like_roles.specs.Likes.{likes_within}
 use Rattle.like_roles.specs.Looks.{look_ran}
+use Rattle.like_roles.specs.Serve.{noted, noted_at}
 use Rattle.like_roles.specs.Service.{Service, is_split_in}
+use Rattle.like_roles.specs.WorkerView.{WorkerView}
 use Rattle.like_roles.proofs.Lists.{slice_get-at_end, slice_get-before}
 use Rattle.like_roles.proofs.Shown.{range-more, range-same}
 
@@ -53,6 +55,10 @@ module _ {A : Type 0} where
       let here = ap (λ (b : Bool). cond {A = ℕ} b 1 0) (All-head (λ y. p y ≡ true) x xs all) in
       let rest = count-all p xs (All-tail (λ y. p y ≡ true) x xs all) in
       omega (arith, sum_by-cons (λ y. cond {A = ℕ} (p y) 1 0) x xs)
+
+-- where additions are noted, each is
+pub noted-each : (v : WorkerView) (adds : List Addition) → v.notes ≡ true → noted v adds ≡ map (noted_at (length v.ran)) adds
+noted-each v adds notes = cond-true v.notes (map (noted_at (length v.ran)) adds) [] notes
 
 -- of two pages in phases one of which is split and the other is not, one is not the other
 pub apart : (service : Service) (k p phase page : ℕ) (s t : Bool) → is_split_in service k p ≡ s → is_split_in service phase page ≡ t → s ≢ t → ((k == phase) && (p == page)) ≡ false

@@ -17,12 +17,12 @@ use Rattle.like_roles.specs.declared.log.Ran.{Ran}
 use Rattle.like_roles.specs.Adds.{IsOfLikes, addition_of, is_add_to, adds_to}
 use Rattle.like_roles.specs.Follows.{IsNoted, IsTallied, IsUnmerged}
 use Rattle.like_roles.specs.Likes.{likes_within}
-use Rattle.like_roles.specs.Serve.{noted_at}
+use Rattle.like_roles.specs.Serve.{noted, noted_at}
 use Rattle.like_roles.specs.Service.{Service, is_split_in}
 use Rattle.like_roles.specs.Turns.{Merges, from_zero, merging, slice_addition}
 use Rattle.like_roles.specs.WorkerView.{WorkerView, IsSliceInSplit, phase_at}
 use Rattle.like_roles.proofs.Merging.{merging-next, merging-more, merging-none}
-use Rattle.like_roles.proofs.Noted.{AreMore, apart, count-all, count-none, none-passes, noted-merged}
+use Rattle.like_roles.proofs.Noted.{AreMore, apart, count-all, count-none, none-passes, noted-each, noted-merged}
 
 module _ {A B : Type 0} (f : A → B) where
   -- what holds of all images, and of all elements by their images
@@ -110,10 +110,10 @@ noted-are : (n : ℕ) (adds : List Addition) → map addition_of (map (noted_at 
 noted-are n [] = refl
 noted-are n (b ∷ adds) = ap (λ (xs : List Addition). b ∷ xs) (noted-are n adds)
 
--- the additions of a merge are noted
-pub merge-noted : (service : Service) (v : WorkerView) (adds : List Addition) → Merges (phase_at v) v.slice (pages_of v.post) adds → IsTallied service v → IsNoted service v.post.additions v.post.reads v.adds v.ran → IsUnmerged service v.adds v.ran (state.Runs (phase_at v)) → IsSliceInSplit v.post v.slice → ((page : ℕ) → is_split_in service (phase_at v) page ≡ slices v.post page)
-    → IsNoted service (v.post.additions ++ adds) v.post.reads (v.adds ++ map (noted_at (length v.ran)) adds) v.ran × IsUnmerged service (v.adds ++ map (noted_at (length v.ran)) adds) v.ran (state.Answered (phase_at v))
-merge-noted service v adds merges t was un kept alike =
+-- the additions of a merge are noted, by a worker that notes them
+pub merge-noted : (service : Service) (v : WorkerView) (adds : List Addition) → Merges (phase_at v) v.slice (pages_of v.post) adds → IsTallied service v → v.notes ≡ true → IsNoted service v.post.additions v.post.reads v.adds v.ran → IsUnmerged service v.adds v.ran (state.Runs (phase_at v)) → IsSliceInSplit v.post v.slice → ((page : ℕ) → is_split_in service (phase_at v) page ≡ slices v.post page)
+    → IsNoted service (v.post.additions ++ adds) v.post.reads (v.adds ++ noted v adds) v.ran × IsUnmerged service (v.adds ++ noted v adds) v.ran (state.Answered (phase_at v))
+merge-noted service v adds merges t notes was un kept alike =
     let k = phase_at v in
     let note : Addition → Added = noted_at (length v.ran) in
     let more : List Added = map note adds in
@@ -181,7 +181,8 @@ merge-noted service v adds merges t was un kept alike =
             omega arith
       ];
     }
-    in (
+    in
+    subst (λ (xs : List Added). IsNoted service (v.post.additions ++ adds) v.post.reads (v.adds ++ xs) v.ran × IsUnmerged service (v.adds ++ xs) v.ran (state.Answered (phase_at v))) (sym (noted-each v adds notes)) (
       noted-merged service v.post.additions adds v.post.reads v.adds more v.ran was new
           ((λ m. was.additions_are m ++ sym (noted-are (length v.ran) adds) m) ∙ sym (map-append addition_of v.adds more)),
       (

@@ -24,7 +24,7 @@ use Rattle.like_roles.specs.Looks.{look_ran}
 use Rattle.like_roles.specs.Serve.{GivesReply, refuses, likes, looks, adding, counted, noted_at, ran_now}
 use Rattle.like_roles.specs.Service.{Service, is_split_in, submitters}
 use Rattle.like_roles.specs.WorkerView.{WorkerView, phase_at}
-use Rattle.like_roles.proofs.Noted.{AddsLikes, apart, count-all, count-none, looks-adds, looks-push, no-more, none-passes, noted-push}
+use Rattle.like_roles.proofs.Noted.{AddsLikes, apart, count-all, count-none, looks-adds, looks-push, no-more, none-passes, noted-each, noted-push}
 use Rattle.like_roles.proofs.Tallied.{accepted-false, accepted-true, like_ran-is, look_ran-is, verdict_at-served, within-none, within-one}
 
 -- numbers are tested alike from both sides
@@ -86,8 +86,8 @@ no_look service adds ran e none =
     ∙ (ap (λ o. adds_before_looks service adds ran ++ option_to_list (option_map (λ _. adds_before (length ran) adds) o)) none ∙ append-nil (adds_before_looks service adds ran))
 
 -- an accepted like
-one_like : (service : Service) (v : WorkerView) (e : Ran) (page old user : ℕ) → IsNoted service v.post.additions v.post.reads v.adds v.ran → IsUnmerged service v.adds v.ran (state.Runs (phase_at v)) → e.phase ≡ phase_at v → like_ran service e ≡ Some (record { user = user; page = page }) → look_ran service e ≡ None → is_split_in service (phase_at v) page ≡ slices v.post page → IsNotedNow service (phase_at v) (counted v page old) (v.ran ++ e ∷ [])
-one_like service v e page old user was un now like no_look_ran alike = by_test (slices v.post page) refl
+one_like : (service : Service) (v : WorkerView) (e : Ran) (page old user : ℕ) → v.notes ≡ true → IsNoted service v.post.additions v.post.reads v.adds v.ran → IsUnmerged service v.adds v.ran (state.Runs (phase_at v)) → e.phase ≡ phase_at v → like_ran service e ≡ Some (record { user = user; page = page }) → look_ran service e ≡ None → is_split_in service (phase_at v) page ≡ slices v.post page → IsNotedNow service (phase_at v) (counted v page old) (v.ran ++ e ∷ [])
+one_like service v e page old user notes was un now like no_look_ran alike = by_test (slices v.post page) refl
   where
     k : ℕ
     k = phase_at v
@@ -123,12 +123,15 @@ one_like service v e page old user was un now like no_look_ran alike = by_test (
       unmerged-push service v.adds v.ran e k now un,
     )
 
+    new : Addition
+    new = record { phase = k; page = page; old = old; likes = 1 }
+
     on_board : is_split_in service k page ≡ false → P (adding v page old 1)
     on_board is =
-        let new : Addition = record { phase = k; page = page; old = old; likes = 1 } in
         let a : Added = noted_at (length v.ran) new in
         let all : List Added = v.adds ++ a ∷ [] in
-        let count : (phase q : ℕ) → adds_to phase q (a ∷ []) ≡ one phase q = λ phase q. (sum_by-cons (λ (b : Added). cond {A = ℕ} (is_add_to phase q b) 1 0) a [] ∙ omega arith) in (
+        let count : (phase q : ℕ) → adds_to phase q (a ∷ []) ≡ one phase q = λ phase q. (sum_by-cons (λ (b : Added). cond {A = ℕ} (is_add_to phase q b) 1 0) a [] ∙ omega arith) in
+        subst (λ (xs : List Added). P (record (adding v page old 1) { adds = v.adds ++ xs })) (sym (noted-each v (new ∷ []) notes)) (
           noted-push service v.post.additions (v.post.additions ++ new ∷ []) v.post.reads v.post.reads v.adds (a ∷ []) all v.ran e one was by refl
               (record {
                 at_end = one_of (λ b. b.at ≡ length v.ran) a refl;
@@ -163,10 +166,10 @@ one_like service v e page old user was un now like no_look_ran alike = by_test (
     by_test true e' = subst (λ (b : Bool). P (cond b sliced (adding v page old 1))) (sym e') (in_slice (alike ∙ e'))
     by_test false e' = subst (λ (b : Bool). P (cond b sliced (adding v page old 1))) (sym e') (on_board (alike ∙ e'))
 
--- whatever the answer is
-pub GivesReply-noted : (service : Service) (v : WorkerView) (h : Held) (stashed : Bool) (answer : Reply) (w : WorkerView) → IsServed service v → IsNoted service v.post.additions v.post.reads v.adds v.ran → IsUnmerged service v.adds v.ran (state.Runs (phase_at v)) → IsAsked service h
+-- whatever the answer is, of a worker that notes its additions
+pub GivesReply-noted : (service : Service) (v : WorkerView) (h : Held) (stashed : Bool) (answer : Reply) (w : WorkerView) → IsServed service v → v.notes ≡ true → IsNoted service v.post.additions v.post.reads v.adds v.ran → IsUnmerged service v.adds v.ran (state.Runs (phase_at v)) → IsAsked service h
     → ((page : ℕ) → is_split_in service (phase_at v) page ≡ slices v.post page) → GivesReply v h.submitter h.ask.request answer w → IsNotedNow service (phase_at v) w (v.ran ++ ran_now v h stashed answer ∷ [])
-GivesReply-noted service v h stashed answer w served was un asked alike (refuses n a e) =
+GivesReply-noted service v h stashed answer w served notes was un asked alike (refuses n a e) =
     let r = h.ask.request in
     let V-is = verdict_at-served service v h.submitter r served in
     let x = ran_now v h stashed answer in
@@ -175,16 +178,16 @@ GivesReply-noted service v h stashed answer w served was un asked alike (refuses
     let no_look_ran : look_ran service x ≡ None = look_ran-is service x r asked.asked ∙ rw no refl in
     subst (λ u. IsNotedNow service (phase_at v) u (v.ran ++ x ∷ [])) (sym e)
     (no_like service v x v.post.reads was (earlier service v.adds v.ran (phase_at v) un) none (was.looks ∙ sym (no_look service v.adds v.ran x no_look_ran)), unmerged-push service v.adds v.ran x (phase_at v) refl un)
-GivesReply-noted service v h stashed answer w served was un asked alike (likes page a o p l e) =
+GivesReply-noted service v h stashed answer w served notes was un asked alike (likes page a o p l e) =
     let r = h.ask.request in
     let V-is = sym (verdict_at-served service v h.submitter r served) ∙ a in
     let yes = accepted-true service.users (submitters service) h.submitter r V-is in
     let x = ran_now v h stashed answer in
     let like : like_ran service x ≡ Some (record { user = r.user; page = page }) = like_ran-is service x r asked.asked ∙ rw (yes, o, p) refl in
     let no_look_ran : look_ran service x ≡ None = look_ran-is service x r asked.asked ∙ rw (yes, o) refl in
-    let counts = one_like service v x page e.0 r.user was un refl like no_look_ran (alike page) in
+    let counts = one_like service v x page e.0 r.user notes was un refl like no_look_ran (alike page) in
     subst (λ u. IsNotedNow service (phase_at v) u (v.ran ++ x ∷ [])) (sym e.1) (counts.0, counts.1)
-GivesReply-noted service v h stashed answer w served was un asked alike (looks page count a o p s n e) =
+GivesReply-noted service v h stashed answer w served notes was un asked alike (looks page count a o p s n e) =
     let r = h.ask.request in
     let V-is = sym (verdict_at-served service v h.submitter r served) ∙ a in
     let yes = accepted-true service.users (submitters service) h.submitter r V-is in

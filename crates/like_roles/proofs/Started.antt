@@ -29,9 +29,9 @@ use Rattle.like_roles.proofs.NotedMerge.{noted-nothing, one-of_likes}
 use Rattle.like_roles.proofs.Shown.{cond_same}
 
 -- a new worker follows the plans
-pub follows-new : (s : Setup) (sizes : List ℕ) (worker : ℕ) (post : PostView) (v : WorkerView) (service : Service) → IsPostOf worker s.pages post → IsNew s sizes worker post v
+pub follows-new : (s : Setup) (sizes : List ℕ) (worker : ℕ) (post : PostView) (notes : Bool) (v : WorkerView) (service : Service) → IsPostOf worker s.pages post → IsNew s sizes worker post notes v
     → IsServiceOf s.users s.pages sizes service → Follows service v
-follows-new s sizes worker post v service p new same =
+follows-new s sizes worker post notes v service p new same =
     let marks_are : v.post.marks ≡ marks service = ap (λ x. x.marks) new.at_post ∙ p.marks ∙ ap (map (λ q. q.split)) (sym same.pages_are) in
     let pages : pages_of v.post ≡ length s.pages = ap length (ap (λ x. x.marks) new.at_post ∙ p.marks) ∙ length-map s.pages (λ q. q.split) in
     let additions : v.post.additions ≡ [] = ap (λ x. x.additions) new.at_post ∙ p.fresh.added_nothing in
@@ -69,12 +69,12 @@ follows-new s sizes worker post v service p new same =
         replies = λ i e h. let k : None ≡ Some e = rw new.ran at h in cc k;
         last = λ user. ap (λ x. last_of x user) new.last ∙ same_everywhere s.users user None ∙ rw new.ran refl;
       };
-      noted =
+      noted = λ _.
           subst (λ xs. IsNoted service xs v.post.reads v.adds v.ran) (sym additions)
           (subst (λ xs. IsNoted service [] xs v.adds v.ran) (sym reads)
           (subst (λ xs. IsNoted service [] [] xs v.ran) (sym new.adds)
           (subst (λ xs. IsNoted service [] [] [] xs) (sym new.ran) (noted-nothing service))));
-      unmerged = subst (IsUnmerged service v.adds v.ran) (sym state_is) (
+      unmerged = λ _. subst (IsUnmerged service v.adds v.ran) (sym state_is) (
         λ i d inside. absurd (omega (arith, ap length new.adds)),
         λ page is. ap (adds_to 0 page) new.adds,
         λ i d inside. absurd (omega (arith, ap length new.ran)),
@@ -111,14 +111,18 @@ follows-done service v f gone s =
       likes = λ page. f.tallied.likes page ∙ omega (arith, empty-gone v gone s page);
       by_phase = in_phase;
       looks = f.tallied.looks;
-      additions = f.noted.additions_are;
-      adds = record {
-        each = f.noted.each;
-        plain = f.noted.plain;
-        split = λ phase page is.
-            one-of_likes service v.post.additions v.post.reads v.adds v.ran phase page f.noted is (in_phase phase page);
-      };
-      reads = f.noted.looks;
+      noted = λ notes. (
+          let noted = f.noted notes in
+          record {
+            additions = noted.additions_are;
+            adds = record {
+              each = noted.each;
+              plain = noted.plain;
+              split = λ phase page is.
+                  one-of_likes service v.post.additions v.post.reads v.adds v.ran phase page noted is (in_phase phase page);
+            };
+            reads = noted.looks;
+          });
       replies = f.tallied.replies;
       last = f.tallied.last;
       ended = stands.1;

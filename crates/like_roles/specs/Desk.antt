@@ -1,5 +1,5 @@
 -- What a worker keeps, beside its post.
-use Rattle.std.specs.Prelude.{◌≡◌, ◌↔◌, IsTrue, ℕ, ◌+◌, ◌<◌, ◌≤◌, Bool, true, false, List, [], length, sum, All, Some, None, is_some, replicate, vec_len, vec_capacity}
+use Rattle.std.specs.Prelude.{◌≡◌, ◌↔◌, IsTrue, ℕ, ◌+◌, ◌<◌, ◌≤◌, Bool, true, false, List, [], length, sum, All, Some, None, is_some, replicate, vec_len, vec_capacity, if◌then◌else◌}
 use Rattle.like_requests.specs.Verdict.{is_accepted, verdict_of}
 use Rattle.like_requests.specs.declared.verdict.Verdict.{Verdict}
 use Rattle.like_requests.specs.declared.verdict.Verdict.TheVariants.{Accepted}
@@ -35,6 +35,7 @@ view_of post d = record {
   last = d.last;
   taken = d.taken.items;
   ran = d.ran.items;
+  notes = d.notes;
   adds = d.adds.items;
 }
 
@@ -86,29 +87,29 @@ pub record ArePlaces (d : Desk) : Type 0 where
       → submitter_of d.last.share.workers d.last.share.worker place < d.last.share.submitters
   pub cursor : d.cursor ≤ vec_len d.ended
 
--- there is room to take and to run what was not taken yet, and to run what is held; and to note an addition for each like
--- that was not added yet, of which there are no more than all these and those in the slice
+-- there is room to take and to run what was not taken yet, and to run what is held; and, where additions are noted, to
+-- note one for each like that was not added yet, of which there are no more than all these and those in the slice
 pub record HasRoom (post : PostView) (d : Desk) : Type 0 where
   pub taken : vec_len d.taken + sum d.left.items ≤ vec_capacity d.taken
   pub ran : vec_len d.ran + length d.held.held + sum d.left.items ≤ vec_capacity d.ran
   pub few_ran : vec_capacity d.ran ≤ max_likes
-  pub adds : vec_len d.adds + sum d.slice + length d.held.held + sum d.left.items
-      ≤ vec_capacity d.adds
+  pub adds : d.notes ≡ true
+      → vec_len d.adds + sum d.slice + length d.held.held + sum d.left.items ≤ vec_capacity d.adds
   pub few : all_added post.additions + sum d.slice + length d.held.held + sum d.left.items
       ≤ max_likes
 
 -- and there is room to run one more request
 pub record HasRoomForOne (post : PostView) (d : Desk) : Type 0 where
   pub ran : vec_len d.ran + length d.held.held + sum d.left.items < vec_capacity d.ran
-  pub adds : vec_len d.adds + sum d.slice + length d.held.held + sum d.left.items
-      < vec_capacity d.adds
+  pub adds : d.notes ≡ true
+      → vec_len d.adds + sum d.slice + length d.held.held + sum d.left.items < vec_capacity d.adds
   pub few : all_added post.additions + sum d.slice + length d.held.held + sum d.left.items
       < max_likes
 
 -- and there is room for one more addition, of n likes that are not in the slice any more
 pub record HasRoomToAdd (post : PostView) (d : Desk) (n : ℕ) : Type 0 where
-  pub adds : vec_len d.adds + sum d.slice + length d.held.held + sum d.left.items
-      < vec_capacity d.adds
+  pub adds : d.notes ≡ true
+      → vec_len d.adds + sum d.slice + length d.held.held + sum d.left.items < vec_capacity d.adds
   pub few : all_added post.additions + n + sum d.slice + length d.held.held + sum d.left.items
       ≤ max_likes
 
@@ -134,8 +135,8 @@ pub record CanServe (post : PostView) (d : Desk) (h : Held) (verdict : Verdict) 
   pub judged : IsJudged d.last.share h verdict
   pub prompt : has_to_wait (view_of post d) h.submitter h.ask.request ≡ false
 
--- what a worker keeps at first
-pub record IsNewDesk (s : Setup) (sizes : List ℕ) (worker : ℕ) (d : Desk) : Type 0 where
+-- what a worker keeps at first: there is no room for additions that it does not note
+pub record IsNewDesk (s : Setup) (sizes : List ℕ) (worker : ℕ) (notes : Bool) (d : Desk) : Type 0 where
   pub marks : d.marks.items ≡ marks_of s.pages
   pub few_pages : length s.pages ≤ max_pages
   pub phase : d.phase ≡ 0
@@ -155,5 +156,6 @@ pub record IsNewDesk (s : Setup) (sizes : List ℕ) (worker : ℕ) (d : Desk) : 
   pub taken_room : vec_capacity d.taken ≡ sum d.left.items
   pub ran : d.ran.items ≡ []
   pub ran_room : vec_capacity d.ran ≡ sum d.left.items
+  pub notes_are : d.notes ≡ notes
   pub adds : d.adds.items ≡ []
-  pub adds_room : vec_capacity d.adds ≡ sum d.left.items
+  pub adds_room : vec_capacity d.adds ≡ (if notes then sum d.left.items else 0)

@@ -118,8 +118,8 @@ pub record Follows (service : Service) (v : WorkerView) : Type 0 where
   pub served : IsServed service v
   pub sized : IsSized v
   pub tallied : IsTallied service v
-  pub noted : IsNoted service v.post.additions v.post.reads v.adds v.ran
-  pub unmerged : IsUnmerged service v.adds v.ran v.post.state
+  pub noted : v.notes ≡ true → IsNoted service v.post.additions v.post.reads v.adds v.ran
+  pub unmerged : v.notes ≡ true → IsUnmerged service v.adds v.ran v.post.state
   pub in_order : IsInOrder service v
   pub held : All (IsAsked service) v.held.held
   pub stands : Stands service v v.post.state
@@ -141,19 +141,24 @@ pub record IsServiceOf (users : ℕ) (pages : List Page) (sizes : List ℕ) (ser
   pub pages_are : service.pages ≡ pages
   pub sizes_are : map length service.plans ≡ sizes
 
+-- the additions of a worker that is gone are noted: they are its post's, in order; each is of its likes; and as many came
+-- before each look as its post had made before the read
+pub record AreNoted (service : Service) (v : WorkerView) : Type 0 where
+  pub additions : v.post.additions ≡ map addition_of v.adds
+  pub adds : AreOfLikes service v.ran v.adds
+  pub reads : map (λ r. r.after) v.post.reads ≡ adds_before_looks service v.adds v.ran
+
 -- what a worker that is gone has done: it ran what it took in run order; its post's additions are the accepted likes
--- that it ran, in each phase, and its post's reads the accepted looks; its additions are noted, each of its likes, and as
--- many came before each look as its post had made; each reply is right, save that nothing is said of counts; its table
--- has each user's last like; and the end mark of each of its submitters was taken
+-- that it ran, in each phase, and its post's reads the accepted looks; its additions are noted, where it notes them; each
+-- reply is right, save that nothing is said of counts; its table has each user's last like; and the end mark of each of
+-- its submitters was taken
 pub record IsDone (service : Service) (v : WorkerView) : Type 0 where
   pub in_order : map entry_of v.ran ≡ order service v.taken
   pub likes : (page : ℕ) → likes_among service page v.ran ≡ additions_of v.post page
   pub by_phase : (phase page : ℕ)
       → likes_within service page v.ran phase ≡ additions_in v.post phase page
   pub looks : shown_in service v.ran ≡ map (shown_by v.post.additions) v.post.reads
-  pub additions : v.post.additions ≡ map addition_of v.adds
-  pub adds : AreOfLikes service v.ran v.adds
-  pub reads : map (λ r. r.after) v.post.reads ≡ adds_before_looks service v.adds v.ran
+  pub noted : v.notes ≡ true → AreNoted service v
   pub replies : HasRightAnswers service v.ran
   pub last : (user : ℕ) → last_of v.last user ≡ last_like service user v.ran
   pub ended : HasEnded v

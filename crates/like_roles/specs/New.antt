@@ -1,5 +1,5 @@
 -- A worker that was just made.
-use Rattle.std.specs.Prelude.{◌≡◌, ℕ, false, List, [], length, replicate, slice_get, Some, None}
+use Rattle.std.specs.Prelude.{◌≡◌, ℕ, Bool, false, List, [], length, replicate, slice_get, Some, None}
 use Rattle.like_requests.specs.Pages.{Page, marks_of}
 use Rattle.like_requests.specs.declared.setup.Setup.{Setup}
 use Rattle.like_core.specs.Post.{PostView, IsFresh}
@@ -21,9 +21,9 @@ AreNewSeats board pages seats =
     (worker : ℕ) (seat : WorkerSeat) → slice_get seats worker ≡ Some seat
     → (seat_board seat ≡ board) × IsPostOf worker pages (seat_meaning seat)
 
--- a worker that has done nothing yet
-pub record IsNew (s : Setup) (sizes : List ℕ) (worker : ℕ) (post : PostView) (v : WorkerView)
-    : Type 0 where
+-- a worker that has done nothing yet, and notes its additions or does not
+pub record IsNew (s : Setup) (sizes : List ℕ) (worker : ℕ) (post : PostView) (notes : Bool)
+    (v : WorkerView) : Type 0 where
   pub at_post : v.post ≡ post
   pub held : v.held ≡ record { held = []; capacity = s.stash }
   pub slice : v.slice ≡ replicate (length s.pages) 0
@@ -34,4 +34,5 @@ pub record IsNew (s : Setup) (sizes : List ℕ) (worker : ℕ) (post : PostView)
   pub last : v.last ≡ table_without_likes (share_of s.users (length sizes) s.workers worker)
   pub taken : v.taken ≡ []
   pub ran : v.ran ≡ []
+  pub notes_are : v.notes ≡ notes
   pub adds : v.adds ≡ []

@@ -1,5 +1,5 @@
 -- What it does to a worker to run a request.
-use Rattle.std.specs.Prelude.{◌≡◌, ◌≢◌, ℕ, ◌+◌, ◌≤◌, Bool, if◌then◌else◌, [], ◌∷◌, ◌++◌, length, slice_index, slice_set}
+use Rattle.std.specs.Prelude.{◌≡◌, ◌≢◌, ℕ, ◌+◌, ◌≤◌, Bool, if◌then◌else◌, List, [], ◌∷◌, ◌++◌, length, map, slice_index, slice_set}
 use Rattle.like_requests.specs.Verdict.{verdict_of}
 use Rattle.like_requests.specs.declared.request.Op.TheVariants.{Like, Look}
 use Rattle.like_requests.specs.declared.request.PageRef.TheVariants.{Known}
@@ -24,16 +24,20 @@ verdict_at v submitter r = verdict_of v.last.share.users v.last.share.submitters
 abbrev pub noted_at : ℕ → Addition → Added
 noted_at at a = record { page = a.page; phase = a.phase; at = at; old = a.old; n = a.likes }
 
--- n is added to a page's count on the board, which was this before, and that is noted
+-- what a worker notes of additions: each, at the place in the run list, where it notes them, and else none
+abbrev pub noted : WorkerView → List Addition → List Added
+noted v adds = if v.notes then map (noted_at (length v.ran)) adds else []
+
+-- n is added to a page's count on the board, which was this before, and noted
 abbrev pub adding : WorkerView → ℕ → ℕ → ℕ → WorkerView
 adding v page old n = record v {
   post = added v.post page old n;
-  adds = v.adds ++ noted_at (length v.ran) (record {
+  adds = v.adds ++ noted v (record {
     phase = phase_at v;
     page = page;
     old = old;
     likes = n;
-  }) ∷ [];
+  } ∷ []);
 }
 
 -- one more like of a page: in the slice, where the page is sliced, else on the board, where its count was this

@@ -16,7 +16,7 @@ use Rattle.like_roles.specs.declared.turn.Turn.{Turn}
 use Rattle.like_roles.specs.declared.turn.Turn.TheVariants as turn
 use Rattle.like_requests.specs.Setup.{IsThere}
 use Rattle.like_roles.specs.WorkerView.{WorkerView, HasEnded, IsNextPlace, phase_at, submitter_at, has_to_wait}
-use Rattle.like_roles.specs.Serve.{Runs, adding, noted_at}
+use Rattle.like_roles.specs.Serve.{Runs, adding, noted}
 
 -- whether who goes from one phase to another enters a split phase
 abbrev pub enters_split : ℕ → ℕ → Bool
@@ -68,7 +68,7 @@ abbrev pub merged : WorkerView → List Addition → WorkerView
 merged v adds = record v {
   post = record v.post { additions = v.post.additions ++ adds };
   slice = replicate (pages_of v.post) 0;
-  adds = v.adds ++ map (noted_at (length v.ran)) adds;
+  adds = v.adds ++ noted v adds;
 }
 
 -- the slice is merged
@@ -183,10 +183,12 @@ Pends (turn.Try submitter) v =
     × (place < length v.ended) × (slice_index_or v.ended place true ≡ false))
 Pends answer v = v.pending ≡ None
 
--- the run and the board are the same, the masks that were read stay, and what was taken from the submitters is the same
+-- the run and the board are the same, and whether it notes its additions; the masks that were read stay, and what was
+-- taken from the submitters is the same
 pub record TakesNothing (old new : WorkerView) : Type 0 where
   pub share : new.last.share ≡ old.last.share
   pub marks : new.post.marks ≡ old.post.marks
+  pub notes : new.notes ≡ old.notes
   pub taken : new.taken ≡ old.taken
   pub left : new.left ≡ old.left
   pub ended : new.ended ≡ old.ended

@@ -15,7 +15,8 @@ use Rattle.like_roles.specs.Order.{is_look_at_sliced}
 -- its post; the looks that it holds, which are its stash in a split phase and its backlog in a joined one; its slice, a
 -- number for each page; for each of its submitters by place, how many requests of it were not taken yet and whether its
 -- end mark was taken; the place at which it looks for a submitter next; the place of the submitter that it tries, if it
--- tries one; the last likes of its users; what it took, what it ran, and the additions that it made
+-- tries one; the last likes of its users; what it took and what it ran; whether it notes its additions, and those that it
+-- noted
 pub record WorkerView : Type 0 where
   pub post : PostView
   pub held : Waiting
@@ -27,6 +28,7 @@ pub record WorkerView : Type 0 where
   pub last : UserTable
   pub taken : List Took
   pub ran : List Ran
+  pub notes : Bool
   pub adds : List Added
 
 -- the phase that it runs or has answered

@@ -1,4 +1,4 @@
-ghost use Rattle.std.specs.Prelude.{◌≡◌, ◌<◌, IfOk, IfErr, IsSome, None};
+ghost use Rattle.std.specs.Prelude.{◌≡◌, ◌<◌, true, IfOk, IfErr, IsSome, None};
 ghost use Rattle.like_core.specs.declared.worker_state.WorkerState.TheVariants.{Gone};
 ghost use Rattle.like_core.specs.PhaseMasks.{AreMasksOf};
 ghost use Rattle.like_requests.specs.Setup.{IsWithin};
@@ -48,8 +48,8 @@ pub struct NoWorker<P: Post> {
 }
 
 impl<P: Post> Worker<P> {
-    /// Worker `worker` of a run with this many requests of each submitter. All its room is made here: its turns take no
-    /// memory.
+    /// Worker `worker` of a run with this many requests of each submitter. It notes its additions. All its room is made
+    /// here: its turns take no memory.
     pub fn new(
         alloc: Global,
         setup: &Setup,
@@ -60,14 +60,36 @@ impl<P: Post> Worker<P> {
         requires within { IsWithin setup.now sizes.now }
         requires is_worker { worker < setup.now.workers }
         requires post { IsPostOf worker setup.now.pages (P.view post) }
-        ensures new { IfOk result (IsNew setup.now sizes.now worker (P.view post)) }
+        ensures new { IfOk result (IsNew setup.now sizes.now worker (P.view post) true) }
         ensures follows { IfOk result
             (λ worker. (service : Service)
             → IsServiceOf setup.now.users setup.now.pages sizes.now service
             → Follows service worker) }
         ensures post { IfErr result (λ refused. refused.post ≡ post) }
     {
-        match Desk::new(alloc, setup, sizes, worker) {
+        Worker::noting(alloc, setup, sizes, worker, post, true)
+    }
+
+    /// The same of a worker that notes its additions only where `notes` says so, and else has no room for notes.
+    pub fn noting(
+        alloc: Global,
+        setup: &Setup,
+        sizes: &[u32],
+        worker: u32,
+        post: P,
+        notes: bool,
+    ) -> Result<Worker<P>, NoWorker<P>>
+        requires within { IsWithin setup.now sizes.now }
+        requires is_worker { worker < setup.now.workers }
+        requires post { IsPostOf worker setup.now.pages (P.view post) }
+        ensures new { IfOk result (IsNew setup.now sizes.now worker (P.view post) notes) }
+        ensures follows { IfOk result
+            (λ worker. (service : Service)
+            → IsServiceOf setup.now.users setup.now.pages sizes.now service
+            → Follows service worker) }
+        ensures post { IfErr result (λ refused. refused.post ≡ post) }
+    {
+        match Desk::new(alloc, setup, sizes, worker, notes) {
             Ok(desk) => Ok(Worker { post, desk }),
             Err(_) => Err(NoWorker { post }),
         }

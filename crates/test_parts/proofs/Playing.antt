@@ -121,8 +121,8 @@ own_one size workers zero own some is = (rw is (omega arith), λ here. rw is ref
 own_one size workers (suc worker) own some is = (rw is (omega arith), λ here. absurd (let none : length own ≡ 0 = ap length is in omega (arith, none, here)))
 
 -- a new worker may be played with
-pub plays_new : (s : Setup) (plan : List Request) (n worker : ℕ) (post : PostView) (v : WorkerView) → IsWithinLimits s (plan ∷ []) → n ≡ length plan → IsPostOf worker s.pages post → IsNew s (n ∷ []) worker post v → IsPlaying plan 0 v
-plays_new s plan n worker post v w many his new =
+pub plays_new : (s : Setup) (plan : List Request) (n worker : ℕ) (post : PostView) (notes : Bool) (v : WorkerView) → IsWithinLimits s (plan ∷ []) → n ≡ length plan → IsPostOf worker s.pages post → IsNew s (n ∷ []) worker post notes v → IsPlaying plan 0 v
+plays_new s plan n worker post notes v w many his new =
     let own = own_one n s.workers worker v.left w.numbers.workers.0 new.left in
     let lists = plans-within s (plan ∷ []) w 0 plan (omega arith) in
     let ended : length v.ended ≡ length v.left = ap length new.ended ∙ length-replicate (length v.left) false in

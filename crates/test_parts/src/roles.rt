@@ -1,6 +1,7 @@
 //! The turns of the worked examples, of workers and the coordinator at one board.
 mod choice;
 mod gates;
+mod notes;
 mod play;
 mod player;
 

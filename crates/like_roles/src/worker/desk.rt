@@ -39,6 +39,8 @@ pub(crate) struct Desk {
     pub last: Users,
     pub taken: Vec<Took>,
     pub ran: Vec<Ran>,
+    /// Whether it notes its additions.
+    pub notes: bool,
     pub adds: Vec<Added>,
 }
 

@@ -49,13 +49,14 @@ pub fn board_of(
     Board::new(alloc, setup.workers, counts.as_slice(), marks.as_slice())
 }
 
-/// The workers of a run with one submitter, in order.
-fn players_of<'a>(
+/// The workers of a run with one submitter, in order, which note their additions or do not.
+pub fn players_of<'a>(
     alloc: Global,
     setup: &Setup,
     plan: &'a [Request],
     board: &'a Board,
     mut seats: Vec<WorkerSeat>,
+    notes: bool,
 ) -> Result<Vec<Player<'a>>, Fail>
     requires within { IsWithinLimits setup.now (plan.now ∷ []) }
     requires seats { AreNewSeats (board_id board.now) setup.now.pages seats.items }
@@ -64,7 +65,7 @@ fn players_of<'a>(
     let mut players = Vec::new(alloc);
     while let Some(seat) = seats.pop() {
         let number = seats.len() as u32;
-        players.push(Player::new(alloc, setup, plan, number, seat.at(board))?)?;
+        players.push(Player::new(alloc, setup, plan, number, seat.at(board), notes)?)?;
     }
     players.reverse();
     Ok(players)
@@ -93,7 +94,7 @@ impl<'a> Play<'a> {
         Ok(Play {
             board,
             coordinator,
-            players: players_of(alloc, setup, plan, board, seats)?,
+            players: players_of(alloc, setup, plan, board, seats, true)?,
         })
     }
 

@@ -1,14 +1,14 @@
-ghost use Rattle.std.specs.Prelude.{◌≡◌, ◌<◌, ◌≤◌, [], ◌∷◌, length};
+ghost use Rattle.std.specs.Prelude.{◌≡◌, ◌<◌, ◌≤◌, [], ◌∷◌, IfOk, length};
 ghost use Rattle.like_requests.specs.Limits.{max_requests};
-ghost use Rattle.like_requests.specs.Setup.{IsWithinLimits};
+ghost use Rattle.like_requests.specs.Setup.{IsWithin, IsWithinLimits};
 ghost use Rattle.like_board.specs.Seats.{post_meaning};
-ghost use Rattle.like_roles.specs.New.{IsPostOf};
+ghost use Rattle.like_roles.specs.New.{IsNew, IsPostOf};
 ghost use Rattle.test_parts.specs.Playing.{IsGiven};
 
 use super::gates::Expecting;
 use like_board::BoardPost;
 use like_requests::{Numbered, Request, Setup, Taken};
-use like_roles::{Turn, Worker, WorkerLog};
+use like_roles::{NoWorker, Turn, Worker, WorkerLog};
 use std::alloc::Global;
 use std::marker::Model;
 use std::process::Abort;
@@ -49,20 +49,41 @@ fn next_of(plan: &[Request], next: &mut usize) -> Taken
     })
 }
 
+// The worker with this number in a run with one submitter, of so many requests.
+fn worker_of<'a>(
+    alloc: Global,
+    setup: &Setup,
+    size: u32,
+    number: u32,
+    post: BoardPost<'a>,
+    notes: bool,
+) -> Result<Worker<BoardPost<'a>>, NoWorker<BoardPost<'a>>>
+    requires within { IsWithin setup.now (size ∷ []) }
+    requires is_worker { number < setup.now.workers }
+    requires post { IsPostOf number setup.now.pages (post_meaning post) }
+    ensures { IfOk result (IsNew setup.now (size ∷ []) number (post_meaning post.entry) notes) }
+{
+    if notes {
+        return Worker::new(alloc, setup, &[size], number, post);
+    }
+    Worker::noting(alloc, setup, &[size], number, post, notes)
+}
+
 impl<'a> Player<'a> {
-    /// The worker with this number, at its post.
+    /// The worker with this number, at its post, which notes its additions or does not.
     pub fn new(
         alloc: Global,
         setup: &Setup,
         plan: &'a [Request],
         number: u32,
         post: BoardPost<'a>,
+        notes: bool,
     ) -> Result<Player<'a>, Fail>
         requires within { IsWithinLimits setup.now (plan.now ∷ []) }
         requires is_worker { number < setup.now.workers }
         requires post { IsPostOf number setup.now.pages (post_meaning post) }
     {
-        match Worker::new(alloc, setup, &[plan.len() as u32], number, post) {
+        match worker_of(alloc, setup, plan.len() as u32, number, post, notes) {
             Ok(worker) => Ok(Player {
                 worker,
                 plan,

@@ -8,7 +8,7 @@ use crate::worker::desk::Desk;
 use like_core::Post;
 
 impl Desk {
-    // Adds to a page's count on the board, and notes it. Returns the count before.
+    // Adds to a page's count on the board, and notes it where additions are noted. Returns the count before.
     pub fn add<P: Post>(&mut self, post: &mut P, page: u32, n: u64) -> u64
         requires sound { IsSound (P.view post.old) self.old }
         requires may { MayAdd (P.view post.old) page n }
@@ -19,13 +19,15 @@ impl Desk {
         ensures rest { self.new ≡ record self.old { adds = self.new.adds } }
     {
         let old = post.add(page, n);
-        self.adds.push_reserved(Added {
-            page,
-            phase: self.phase,
-            at: self.ran.len() as u32,
-            old,
-            n,
-        });
+        if self.notes {
+            self.adds.push_reserved(Added {
+                page,
+                phase: self.phase,
+                at: self.ran.len() as u32,
+                old,
+                n,
+            });
+        }
         old
     }
 }

@@ -12,10 +12,16 @@ use std::alloc::{AllocError, Global};
 
 impl Desk {
     /// What a worker keeps at first. All its room is made here.
-    pub fn new(alloc: Global, setup: &Setup, sizes: &[u32], worker: u32) -> Result<Desk, AllocError>
+    pub fn new(
+        alloc: Global,
+        setup: &Setup,
+        sizes: &[u32],
+        worker: u32,
+        notes: bool,
+    ) -> Result<Desk, AllocError>
         requires within { IsWithin setup.now sizes.now }
         requires is_worker { worker < setup.now.workers }
-        ensures { IfOk result (IsNewDesk setup.now sizes.now worker) }
+        ensures { IfOk result (IsNewDesk setup.now sizes.now worker notes) }
     {
         let left = own_sizes(alloc, sizes, setup.workers, worker)?;
         let room = left.iter().sum::<u32>() as usize;
@@ -40,7 +46,8 @@ impl Desk {
             )?,
             taken: Vec::with_capacity(alloc, room)?,
             ran: Vec::with_capacity(alloc, room)?,
-            adds: Vec::with_capacity(alloc, room)?,
+            notes,
+            adds: Vec::with_capacity(alloc, if notes { room } else { 0 })?,
         })
     }
 }
