@@ -5,8 +5,8 @@ pub mod Holding
 pub mod Lists
 pub mod Named
 pub mod PlaceLists
-pub mod SlotPlaces
 pub mod Plain
 pub mod RowTexts
+pub mod SlotPlaces
 pub mod Texts
 pub mod There

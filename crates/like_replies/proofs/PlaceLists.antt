@@ -1,5 +1,5 @@
 -- The places of additions, one addition and one log more.
-use Rattle.std.proofs.Common.{◌≡◌, ℕ, zero, suc, Vec, Global, ◌+◌, ◌<◌, ◌≤◌, ◌==◌, nat_lt, Bool, true, false, not, ◌&&◌, cond, Option, inl, inr, List, [], ◌∷◌, ◌++◌, length, map, get_or, set, refl, ap, sym, ◌∙◌, subst, eq-eqb, arith, append-nil, zero-add}
+use Rattle.std.proofs.Common.{◌≡◌, ℕ, zero, suc, Vec, Global, ◌<◌, ◌==◌, nat_lt, Bool, true, false, not, ◌&&◌, cond, inl, inr, List, [], ◌∷◌, ◌++◌, length, map, get_or, set, refl, ap, sym, ◌∙◌, subst, eq-eqb, arith, append-nil, zero-add}
 use Rattle.std.proofs.lemmas.Bool.{cases_eq, cases_lt, ne_eqb, lt-ltb, le-ltb}
 use Rattle.std.proofs.lemmas.Grind.{flat_map-append}
 use Rattle.std.proofs.lemmas.List.{map-append, get_or-set_same, get_or-set_other}
@@ -83,13 +83,13 @@ by_old made placed rising stable = record {
           ]
         ]
 
--- the places of a page are written
+-- the vector of a page is replaced
 pub lists_set : (rows : List (Vec Place Global)) (page : ℕ) (row : Vec Place Global) → lists_in (set rows page row) ≡ set (lists_in rows) page row.items
 lists_set [] page row = refl
 lists_set (r ∷ rows) zero row = refl
 lists_set (r ∷ rows) (suc page) row = ap (λ (ls : List (List Place)). r.items ∷ ls) (lists_set rows page row)
 
--- the places of a page are read
+-- the places of a page are those of its vector
 pub lists_get : (rows : List (Vec Place Global)) (page : ℕ) (row : Vec Place Global) → page < length rows → get_or (lists_in rows) page [] ≡ (get_or rows page row).items
 lists_get [] page row there = absurd (omega arith)
 lists_get (r ∷ rows) zero row there = refl

@@ -7,7 +7,9 @@ use Rattle.like_requests.specs.Pages.{Page}
 use Rattle.like_requests.specs.declared.verdict.Verdict.TheVariants.{OtherHome, UnknownPage, UnknownUser}
 use Rattle.like_roles.specs.declared.reply.Reply.TheVariants.{Refused, Seen}
 use Rattle.like_replies.specs.declared.answer.Answer.{Answer}
-use Rattle.like_replies.specs.RowParts.{reply_start, shown_text}
+use Rattle.like_replies.specs.declared.place.Place.{Place}
+use Rattle.like_replies.specs.PlaceRows.{place_row}
+use Rattle.like_replies.specs.RowParts.{place_start, reply_start, shown_text}
 use Rattle.like_replies.specs.Rows.{answer_word, hot_row, name_of, page_row, reply_row, shown_count, shown_page, user_row}
 
 -- the text of a number
@@ -88,3 +90,27 @@ pub hot-text : (pages : List Page) (phase page : ℕ)
     → row_text default_writer (hot_row pages phase page) ≡ codes "hot," ++ (number_text page ++ (codes ",," ++ (number_text phase ++ (codes ",," ++ (name_text pages page ++ codes ",\n")))))
 unfolding fields_text is_blank
 hot-text pages phase page = ap (λ t. codes "hot," ++ t) (hot_in_parts (number_text page) (number_text phase) (name_text pages page))
+
+-- how the row of a place begins
+start_in_parts : (page worker phase : List ℕ)
+    → (page ++ 44 ∷ (worker ++ 44 ∷ (phase ++ []))) ++ 44 ∷ [] ≡ page ++ 44 ∷ (worker ++ 44 ∷ (phase ++ 44 ∷ []))
+start_in_parts page worker phase = simp (append_assoc, append-nil)
+
+pub place_start-text : (page : ℕ) (p : Place)
+    → place_start page p ≡ codes "place," ++ (number_text page ++ 44 ∷ (number_text p.worker ++ 44 ∷ (number_text p.phase ++ 44 ∷ [])))
+unfolding fields_text
+place_start-text page p = ap (λ t. codes "place," ++ t) (start_in_parts (number_text page) (number_text p.worker) (number_text p.phase))
+
+-- the row of a place
+place_in_parts : (page worker phase old name n : List ℕ)
+    → (page ++ 44 ∷ (worker ++ 44 ∷ (phase ++ 44 ∷ (old ++ 44 ∷ (name ++ 44 ∷ (n ++ [])))))) ++ 10 ∷ []
+    ≡ ((page ++ 44 ∷ (worker ++ 44 ∷ (phase ++ []))) ++ 44 ∷ []) ++ (old ++ 44 ∷ (name ++ 44 ∷ (n ++ 10 ∷ [])))
+place_in_parts page worker phase old name n = simp (append_assoc, append-nil)
+
+pub place-text : (pages : List Page) (page : ℕ) (p : Place)
+    → row_text default_writer (place_row pages page p)
+    ≡ place_start page p ++ (number_text p.old ++ 44 ∷ (name_text pages page ++ 44 ∷ (number_text p.n ++ 10 ∷ [])))
+unfolding fields_text is_blank
+place-text pages page p =
+    ap (λ t. codes "place," ++ t)
+    (place_in_parts (number_text page) (number_text p.worker) (number_text p.phase) (number_text p.old) (name_text pages page) (number_text p.n))

@@ -14,6 +14,8 @@ use Rattle.like_requests.specs.Pages.{Page}
 use Rattle.like_core.specs.Phase.{is_hot}
 use Rattle.like_roles.specs.declared.chosen.Chosen.{Chosen}
 use Rattle.like_replies.specs.declared.answer.Answer.{Answer}
+use Rattle.like_replies.specs.declared.place.Place.{Place}
+use Rattle.like_replies.specs.PlaceRows.{page_place_rows, place_rows}
 use Rattle.like_replies.specs.Reported.{Reported}
 use Rattle.like_replies.specs.RowParts.{WritesRows}
 use Rattle.like_replies.specs.Rows.{header_row, hot_row, hot_rows, hot_rows_below, page_row, page_rows, reply_row, reply_rows, report_text, rows_text, submitter_rows, user_row, user_rows}
@@ -74,6 +76,14 @@ hot_rows-more pages c page =
 pub hot_rows-push : (pages : List Page) (hot : List Chosen) (c : Chosen) → hot_rows pages (hot ++ c ∷ []) ≡ hot_rows pages hot ++ hot_rows_below pages c (length pages)
 hot_rows-push pages hot c = flat_map-append (λ (x : Chosen). hot_rows_below pages x (length pages)) hot (c ∷ []) ∙ ap (λ r. hot_rows pages hot ++ r) (append-nil (hot_rows_below pages c (length pages)))
 
+-- the rows of the places of one more page
+pub place_rows-push : (pages : List Page) (rows : List (List Place)) (row : List Place) → place_rows pages (rows ++ row ∷ []) ≡ place_rows pages rows ++ page_place_rows pages (length rows) row
+place_rows-push pages rows row =
+    let e : enumerate_from 0 (rows ++ row ∷ []) ≡ enumerate_from 0 rows ++ (length rows, row) ∷ [] = simp (enumerate_from-push, zero-add) in
+    ap (flat_map (λ p. page_place_rows pages p.0 p.1)) e
+    ∙ flat_map-append (λ p. page_place_rows pages p.0 p.1) (enumerate_from 0 rows) ((length rows, row) ∷ [])
+    ∙ ap (λ r. place_rows pages rows ++ r) (append-nil (page_place_rows pages (length rows) row))
+
 -- text that is added to a sheet follows what was known and what the sheet had
 pub Appends-added : (known : Option (List ℕ)) (sheet text more : List ℕ) → more ≡ sheet ++ text → Appends (append_known known sheet) (append_known known more) text
 Appends-added None sheet text more e = tt
@@ -104,6 +114,11 @@ Appends-handed (Some x) None c sheet text p q = absurd p
 Appends-handed (Some x) (Some y) None sheet text p q = absurd q
 Appends-handed (Some x) (Some y) (Some z) sheet text p q = q ∙ p
 
+-- text was added to an empty sheet, what was left of it was handed on, and the writer was flushed
+pub Appends-sent : (start known handed done : Option (List ℕ)) (sheet text : List ℕ) → Appends (append_known start []) (append_known known sheet) text → Appends known handed sheet → Keeps handed done → Appends start done text
+Appends-sent start known handed done sheet text all given flushed =
+    Appends-kept start handed done text (Appends-handed start known handed sheet text (Appends-from_empty start (append_known known sheet) text all) given) flushed
+
 -- the header, the requests, the pages, the users and the hot pages were written, the rest was handed on, and the writer was flushed
 pub Appends-report : (pages : List Page) (r : Reported) (start a b known handed done : Option (List ℕ)) (sheet : List ℕ)
     → Appends (append_known start []) a (row_text default_writer header_row) → Appends a b (rows_text (reply_rows pages r.replies)) → Appends b (append_known known sheet) (rows_text (page_rows pages r.counts ++ user_rows pages r.last ++ hot_rows pages r.hot))
@@ -113,9 +128,8 @@ Appends-report pages r start a b known handed done sheet header replies others g
     let rows = Appends-rows a b (append_known known sheet) (reply_rows pages r.replies) rest replies others in
     let all = Appends-trans (append_known start []) a (append_known known sheet) (row_text default_writer header_row) (rows_text (reply_rows pages r.replies ++ rest)) header rows in
     let text : List ℕ = row_text default_writer header_row ++ rows_text (reply_rows pages r.replies ++ rest) in
-    let out = Appends-handed start known handed sheet text (Appends-from_empty start (append_known known sheet) text all) given in
     let same : text ≡ report_text pages r = ap (λ rows. row_text default_writer header_row ++ rows_text rows) (sym (append_assoc (reply_rows pages r.replies ++ page_rows pages r.counts) (user_rows pages r.last) (hot_rows pages r.hot) ∙ append_assoc (reply_rows pages r.replies) (page_rows pages r.counts) (user_rows pages r.last ++ hot_rows pages r.hot) ∙ ap (λ t. reply_rows pages r.replies ++ t) (sym (append_assoc (page_rows pages r.counts) (user_rows pages r.last) (hot_rows pages r.hot))))) in
-    rw (← same) (Appends-kept start handed done text out flushed)
+    rw (← same) (Appends-sent start known handed done sheet text all given flushed)
 
 -- a fact of each image holds of the image of an element
 pub All-image : {X Y : Type 0} (P : Y → Type 0) (f : X → Y) (xs : List X) (i : ℕ) (x : X) → All P (map f xs) → i < length xs → x ≡ get_or xs i x → P (f x)

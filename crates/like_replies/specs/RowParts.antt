@@ -4,12 +4,19 @@ use Rattle.std.specs.Io.KnownBytes.{Appends, append_known}
 use Rattle.csv.specs.Writing.{default_writer, end_text, fields_text, row_body}
 use Rattle.like_requests.specs.Pages.{Page}
 use Rattle.like_roles.specs.declared.reply.Reply.{Reply}
+use Rattle.like_replies.specs.declared.place.Place.{Place}
 use Rattle.like_replies.specs.Rows.{answer_word, rows_text, shown_count, shown_page}
 
 -- the first two fields of the rows of a submitter's requests, and the comma after them
 abbrev pub reply_start : ℕ → List ℕ
 reply_start submitter =
     row_body default_writer (codes "reply" ∷ decimal submitter ∷ [])
+    ++ default_writer.delimiter ∷ []
+
+-- the first four fields of the row of a place, and the comma after them
+abbrev pub place_start : ℕ → Place → List ℕ
+place_start page p =
+    row_body default_writer (codes "place" ∷ decimal page ∷ decimal p.worker ∷ decimal p.phase ∷ [])
     ++ default_writer.delimiter ∷ []
 
 -- the last three fields of the row of a reply, each after its comma, and the end of the row

@@ -17,5 +17,6 @@ pub use page_places::places;
 pub use place::Place;
 pub use replies::Replies;
 pub use report::Report;
+pub use report::places::write_places;
 pub use report::text::write_report;
 pub use write_fault::WriteFault;

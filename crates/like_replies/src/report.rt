@@ -1,8 +1,10 @@
 mod names;
+pub(crate) mod places;
 mod rows;
 mod sheet;
 pub(crate) mod text;
 
+use crate::place::Place;
 use crate::replies::Replies;
 use like_roles::{Chosen, WorkerLog};
 
@@ -20,4 +22,6 @@ pub struct Report {
     pub phases: u32,
     /// The phases with hot pages, rising, each with the mask of its own.
     pub hot: Vec<Chosen>,
+    /// By page, where the additions to it stand, by rising counts before.
+    pub places: Vec<Vec<Place>>,
 }

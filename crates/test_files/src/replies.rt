@@ -5,6 +5,7 @@ use like_tables::Users;
 use std::alloc::{AllocError, Global};
 
 mod collecting;
+mod place_rows;
 mod placing;
 mod writing;
 

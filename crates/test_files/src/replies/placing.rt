@@ -20,8 +20,8 @@ fn added(page: u32, old: u64, n: u64) -> Added
     }
 }
 
-// The place of a worker's addition in phase 1.
-fn place(worker: u32, old: u64, n: u64) -> Place {
+/// The place of a worker's addition in phase 1.
+pub fn place(worker: u32, old: u64, n: u64) -> Place {
     Place {
         worker,
         phase: 1,

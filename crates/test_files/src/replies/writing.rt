@@ -13,7 +13,7 @@ use std::process::Abort;
 use std::test::Fail;
 
 // The page of a file with one.
-fn one_page(rt: &impl Abort, alloc: Global, text: &str) -> Pages
+pub fn one_page(rt: &impl Abort, alloc: Global, text: &str) -> Pages
     ensures { length result ≡ 1 }
 {
     let pages = match read_pages(alloc, text.as_bytes()) {
@@ -45,6 +45,7 @@ fn report(
         last,
         phases,
         hot,
+        places: Vec::new(alloc),
     })
 }
 

@@ -1,0 +1,20 @@
+-- The rows of places, and their text.
+use Rattle.std.specs.Prelude.{ℕ, List, [], ◌∷◌, map, codes, decimal}
+use Rattle.std.specs.List.{enumerate_from, flat_map}
+use Rattle.like_requests.specs.Pages.{Page}
+use Rattle.like_replies.specs.declared.place.Place.{Place}
+use Rattle.like_replies.specs.Rows.{name_of}
+
+-- the row of a place of a page: the page's number, the worker, the phase, the count before, the page's name, the likes
+abbrev pub place_row : List Page → ℕ → Place → List (List ℕ)
+place_row pages page p =
+    codes "place" ∷ decimal page ∷ decimal p.worker ∷ decimal p.phase ∷ decimal p.old
+    ∷ name_of pages page ∷ decimal p.n ∷ []
+
+-- the rows of a page's places
+abbrev pub page_place_rows : List Page → ℕ → List Place → List (List (List ℕ))
+page_place_rows pages page places = map (place_row pages page) places
+
+-- the rows of all places, by pages from 0
+abbrev pub place_rows : List Page → List (List Place) → List (List (List ℕ))
+place_rows pages rows = flat_map (λ p. page_place_rows pages p.0 p.1) (enumerate_from 0 rows)
