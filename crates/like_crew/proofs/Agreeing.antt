@@ -113,6 +113,12 @@ share-given v w place (taken.Ask ask) trying has = (has place trying).share
 share-given v w place taken.End trying has = (has place trying).share
 share-given v w place taken.Nothing trying has = has.share
 
+-- and whether the worker notes its additions
+pub notes-given : (v w : WorkerView) (place : ℕ) (took : Taken) → v.pending ≡ Some place → HasTaken v took w → w.notes ≡ v.notes
+notes-given v w place (taken.Ask ask) trying has = (has place trying).notes
+notes-given v w place taken.End trying has = (has place trying).notes
+notes-given v w place taken.Nothing trying has = has.notes
+
 -- and the masks that were read
 masks-given : (v w : WorkerView) (place : ℕ) (took : Taken) → v.pending ≡ Some place → HasTaken v took w → KeepsMasks v.post.masks w.post.masks
 masks-given v w place (taken.Ask ask) trying has = (has place trying).masks

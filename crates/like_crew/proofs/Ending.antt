@@ -1,5 +1,5 @@
 -- How a run comes to its end.
-use Rattle.std.proofs.Common.{◌≡◌, ℕ, ◌+◌, ◌*◌, ◌/◌, ◌%◌, ◌<◌, List, [], length, get_or, slice_get, Some, sym, ap, ◌∙◌, subst, arith, zero-add}
+use Rattle.std.proofs.Common.{◌≡◌, ℕ, ◌+◌, ◌*◌, ◌/◌, ◌%◌, ◌<◌, Bool, List, [], length, get_or, slice_get, Some, sym, ap, ◌∙◌, subst, arith, zero-add}
 use Rattle.std.specs.List.{AllZip, range_with_len}
 use Rattle.std.proofs.Math.Nat.{div-add-mod}
 use Rattle.std.proofs.lemmas.List.{length-map}
@@ -26,30 +26,32 @@ use Rattle.like_crew.proofs.Shares.{plan-at}
 use Rattle.like_crew.proofs.Pairs.{pairs-at, pairs-both, pairs-length}
 
 -- the servers of a run, later
-pub servers-later : (service : Service) (workers : ℕ) (board : List ℕ) (ss ts : List ServerView) → AreServers service workers board ss → AllZip ServerGoesOn ss ts → AreServers service workers board ts
-servers-later service workers board ss ts are later =
-    pairs-both (IsServer service workers board) ServerGoesOn (IsServer service workers board) (range_with_len 0 workers) ss ts
+pub servers-later : (service : Service) (workers : ℕ) (board : List ℕ) (notes : Bool) (ss ts : List ServerView) → AreServers service workers board notes ss → AllZip ServerGoesOn ss ts
+    → AreServers service workers board notes ts
+servers-later service workers board notes ss ts are later =
+    pairs-both (IsServer service workers board notes) ServerGoesOn (IsServer service workers board notes) (range_with_len 0 workers) ss ts
     (λ worker s t is on. record {
       share = on.share ∙ is.share;
       whose = on.whose ∙ is.whose;
       board_is = on.board ∙ is.board_is;
+      notes_are = on.notes ∙ is.notes_are;
       works = λ hot. on.works (record service { hot = hot }) (is.works hot);
     }) are later
 
 -- there are as many servers as workers
-pub as-many : (service : Service) (workers : ℕ) (board : List ℕ) (servers : List ServerView) → AreServers service workers board servers → length servers ≡ workers
-as-many service workers board servers are =
-    sym (pairs-length (IsServer service workers board) (range_with_len 0 workers) servers are) ∙ length-range_with_len 0 workers
+pub as-many : (service : Service) (workers : ℕ) (board : List ℕ) (notes : Bool) (servers : List ServerView) → AreServers service workers board notes servers → length servers ≡ workers
+as-many service workers board notes servers are =
+    sym (pairs-length (IsServer service workers board notes) (range_with_len 0 workers) servers are) ∙ length-range_with_len 0 workers
 
 -- each submitter of the run has an inbox
-pub has-inbox : (service : Service) (workers : ℕ) (board : List ℕ) (servers : List ServerView) (submitter : ℕ) → AreServers service workers board servers → 0 < workers → submitter < submitters service
+pub has-inbox : (service : Service) (workers : ℕ) (board : List ℕ) (notes : Bool) (servers : List ServerView) (submitter : ℕ) → AreServers service workers board notes servers → 0 < workers → submitter < submitters service
     → HasInbox servers submitter
-has-inbox service workers board servers submitter are some there =
-    let sized : workers ≡ length servers = sym (as-many service workers board servers are) in (
+has-inbox service workers board notes servers submitter are some there =
+    let sized : workers ≡ length servers = sym (as-many service workers board notes servers are) in (
       omega (arith, some, sized),
       λ s at.
           let worker : ℕ = submitter % length servers in
-          let is : IsServer service workers board worker s = subst (λ n. IsServer service workers board n s) (zero-add worker) (pairs-at (IsServer service workers board) 0 workers servers worker s are at) in
+          let is : IsServer service workers board notes worker s = subst (λ n. IsServer service workers board notes n s) (zero-add worker) (pairs-at (IsServer service workers board notes) 0 workers servers worker s are at) in
           let share : Share = s.worker.last.share in
           let by : share.workers ≡ length servers = ap (λ (x : Share). x.workers) is.share ∙ sized in
           let mine : share.worker ≡ worker = ap (λ (x : Share). x.worker) is.share in
@@ -65,10 +67,10 @@ has-inbox service workers board servers submitter are some there =
 
 -- a crew of this run that went on until its run had ended leaves an ended run
 pub has-ended : {I : Type 0} (setup : Setup) (plans : List (List Request)) (site : Site) (c : Crew I) (e : Ended) → IsCrew setup plans site c → HasEnded c e
-    → IsEnded setup plans (board_id site.board) e
+    → IsEnded setup plans site e
 has-ended setup plans site c e is h = record {
   servers = h.left.servers;
-  are_servers = servers-later (service_of setup plans) setup.workers (board_numbers (board_id site.board)) c.servers.items h.left.servers is.servers h.left.later;
+  are_servers = servers-later (service_of setup plans) setup.workers (board_numbers (board_id site.board)) site.notes c.servers.items h.left.servers is.servers h.left.later;
   gone = h.left.gone;
   logs = h.left.logs_are;
   seats = h.left.seats_are;

@@ -81,9 +81,9 @@ there-too : (pages : List Page) (marks : List Bool) → marks ≡ marks_of pages
 there-too pages marks e r = subst (λ many. IsThere many r.page) (sym (ap (λ (xs : List Bool). length xs) e ∙ length-map pages (λ (p : Page). p.split)))
 
 -- a worker that has done nothing yet agrees with untouched inboxes
-pub agree-new : (s : Setup) (sizes : List ℕ) (number : ℕ) (post : PostView) (v : WorkerView) (inboxes : List InboxView) → number < s.workers → IsPostOf number s.pages post → AreInboxesFor s sizes number inboxes
-    → IsNew s sizes number post v → Agree v inboxes
-agree-new s sizes number post v inboxes is_worker fresh i new =
+pub agree-new : (s : Setup) (sizes : List ℕ) (number : ℕ) (post : PostView) (notes : Bool) (v : WorkerView) (inboxes : List InboxView) → number < s.workers → IsPostOf number s.pages post → AreInboxesFor s sizes number inboxes
+    → IsNew s sizes number post notes v → Agree v inboxes
+agree-new s sizes number post notes v inboxes is_worker fresh i new =
     let share : v.last.share ≡ share_of s.users (length sizes) s.workers number = ap (λ (x : UserTable). x.share) new.last in
     let marks : v.post.marks ≡ marks_of s.pages = ap (λ (x : PostView). x.marks) new.at_post ∙ fresh.marks in
     let sizes_are : v.left ≡ map length (plans_of inboxes) = new.left ∙ sym i.sized in

@@ -7,11 +7,12 @@ use Rattle.std.specs.List.{AllZip}
 use Rattle.like_crew.specs.Server.{ServerGoesOn, ServerView}
 
 pub goes-same : (s : ServerView) → ServerGoesOn s s
-goes-same s = record { share = refl; whose = refl; board = refl; inboxes = refl; works = λ _ h. h }
+goes-same s = record { share = refl; notes = refl; whose = refl; board = refl; inboxes = refl; works = λ _ h. h }
 
 pub goes-further : (s t u : ServerView) → ServerGoesOn s t → ServerGoesOn t u → ServerGoesOn s u
 goes-further s t u a b = record {
   share = b.share ∙ a.share;
+  notes = b.notes ∙ a.notes;
   whose = b.whose ∙ a.whose;
   board = b.board ∙ a.board;
   inboxes = b.inboxes ∙ a.inboxes;

@@ -18,3 +18,8 @@ pub mod Ending
 pub mod Leaving
 pub mod Asked
 pub mod LastLikes
+pub mod Sums
+pub mod AddedPages
+pub mod AddedPhases
+pub mod ReadsShown
+pub mod Tiled

@@ -1,5 +1,5 @@
 -- The servers of a replay as they are made.
-use Rattle.std.proofs.Common.{◌≡◌, ℕ, zero, suc, ◌+◌, ◌*◌, ◌<◌, ◌≤◌, List, Vec, Global, [], ◌∷◌, ◌++◌, length, map, drop, get_or, remove, slice_get, Some, option_map, refl, sym, ap, ◌∙◌, subst, arith}
+use Rattle.std.proofs.Common.{◌≡◌, ℕ, zero, suc, ◌+◌, ◌*◌, ◌<◌, ◌≤◌, Bool, List, Vec, Global, [], ◌∷◌, ◌++◌, length, map, drop, get_or, remove, slice_get, Some, option_map, refl, sym, ap, ◌∙◌, subst, arith}
 use Rattle.std.specs.List.{All, AllZip, range_with_len}
 use Rattle.std.specs.Option.{unwrap_or}
 use Rattle.std.proofs.lemmas.List.{get_or-drop, length-map, map-id}
@@ -61,15 +61,16 @@ inboxes-for setup sizes worker inboxes own some sized none good is = record {
 }
 
 -- a server that was made for a worker
-pub is-server : (setup : Setup) (sizes : List ℕ) (worker : ℕ) (inboxes own : List InboxView) (post : PostView) (board : List ℕ) (s : ServerView) → sizes ≡ map length (plans_of inboxes)
+pub is-server : (setup : Setup) (sizes : List ℕ) (worker : ℕ) (inboxes own : List InboxView) (post : PostView) (board : List ℕ) (notes : Bool) (s : ServerView) → sizes ≡ map length (plans_of inboxes)
     → own ≡ dealt setup.workers worker inboxes → IsPostOf worker setup.pages post → post.board ≡ board → s.worker.last.share ≡ share_of setup.users (length sizes) setup.workers worker
-    → s.worker.post ≡ post
+    → s.worker.post ≡ post → s.worker.notes ≡ notes
     → ((service : Service) → IsServiceOf setup.users setup.pages sizes service → AreOwnPlans service setup.workers worker own → WorksFor service s)
-    → IsServer (service_of setup (plans_of inboxes)) setup.workers board worker s
-is-server setup sizes worker inboxes own post board s sized is fresh here share at works = record {
+    → IsServer (service_of setup (plans_of inboxes)) setup.workers board notes worker s
+is-server setup sizes worker inboxes own post board notes s sized is fresh here share at noting works = record {
   share = share ∙ ap (λ n. share_of setup.users n setup.workers worker) (ap (λ (xs : List ℕ). length xs) sized ∙ length-map (plans_of inboxes) length);
   whose = ap (λ (p : PostView). p.worker) at ∙ fresh.is_his;
   board_is = ap (λ (p : PostView). p.board) at ∙ here;
+  notes_are = noting;
   works = λ hot. works (record (service_of setup (plans_of inboxes)) { hot = hot }) (record { users_are = refl; pages_are = refl; sizes_are = sym sized }) (own-plans setup worker inboxes own is);
 }
 

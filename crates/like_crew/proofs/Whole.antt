@@ -5,7 +5,7 @@ use Rattle.std.specs.Option.{option_map_or, unwrap_or}
 use Rattle.std.proofs.Math.Nat.{mod-lt}
 use Rattle.std.proofs.lemmas.List.{get_or_past, length-map}
 use Rattle.std.proofs.lemmas.List.FromFn.{length-range_with_len}
-use Rattle.std.proofs.lemmas.List.Sums.{length-filter, sum_by-cons}
+use Rattle.std.proofs.lemmas.List.Sums.{length-filter}
 use Rattle.std.proofs.lemmas.Bool.Decides.{leb_tells}
 use Rattle.std.proofs.lemmas.Bool.{cases_lt, le-ltb, lt-ltb}
 use Rattle.std.proofs.lemmas.Option.{get_or_from_slice_get, slice_get-get_or, slice_get-map, slice_get_within, unwrap_or-slice_get}
@@ -21,7 +21,7 @@ use Rattle.like_core.specs.PhaseMasks.{mask_of, AreMasksOf}
 use Rattle.like_core.specs.Post.{PostView, additions_of}
 use Rattle.like_core.specs.Reads.{AreBetween}
 use Rattle.like_board.specs.declared.worker_seat.WorkerSeat.{WorkerSeat}
-use Rattle.like_board.specs.Seats.{AreAll, AreCounted, BoardId, board_numbers, coord_view, last_count, seat_board, seat_meaning, seats_before, HaveReadBetween, HaveReadMasks}
+use Rattle.like_board.specs.Seats.{AreAll, AreCounted, BoardId, board_id, board_numbers, coord_view, last_count, seat_board, seat_meaning, seats_before, HaveReadBetween, HaveReadMasks}
 use Rattle.like_board.proofs.InOrder.{all_in_order}
 use Rattle.like_board.proofs.Meanings.{same_board}
 use Rattle.like_core.specs.declared.worker_state.WorkerState.TheVariants.{Gone}
@@ -39,6 +39,7 @@ use Rattle.like_roles.specs.HotPages.{chosen_below, hot_by, likes_lately}
 use Rattle.like_roles.specs.Service.{Service, submitters}
 use Rattle.like_replies.specs.Entries.{IsRequest, entries_in, entries_of}
 use Rattle.like_crew.specs.declared.ended.Ended.{Ended}
+use Rattle.like_crew.specs.declared.site.Site.{Site}
 use Rattle.like_crew.specs.EndToEnd.{AreCounts, AreLastLikes, AreLogs, AreRightCounts, run_of, runs_of}
 use Rattle.like_crew.specs.Gathered.{AreTables, RunsOnce}
 use Rattle.like_crew.specs.Log.{IsLog, NoneAbove, plan_of}
@@ -50,16 +51,17 @@ use Rattle.like_crew.specs.Servers.{IsServer}
 use Rattle.like_crew.proofs.Hot.{hot-same, order-same, total}
 use Rattle.like_crew.proofs.Counted.{count-in-all, in_range}
 use Rattle.like_crew.proofs.Pairs.{pairs-at, pairs-length, pairs-sum}
+use Rattle.like_crew.proofs.Sums.{sum-of-map}
 
 -- what matches an element that stands at a place
-left-at : {A B : Type 0} (R : A → B → Type 0) (xs : List A) (ys : List B) (k : ℕ) (y : B) → AllZip R xs ys → slice_get ys k ≡ Some y → (x : A) × ((slice_get xs k ≡ Some x) × R x y)
+pub left-at : {A B : Type 0} (R : A → B → Type 0) (xs : List A) (ys : List B) (k : ℕ) (y : B) → AllZip R xs ys → slice_get ys k ≡ Some y → (x : A) × ((slice_get xs k ≡ Some x) × R x y)
 left-at R [] [] k y all e = absurd (cc e)
 left-at R [] (b ∷ ys) k y all e = absurd all
 left-at R (a ∷ xs) [] k y all e = absurd all
 left-at R (a ∷ xs) (b ∷ ys) zero y all e = let same : b ≡ y = cc e in (a, (refl, subst (R a) same all.0))
 left-at R (a ∷ xs) (b ∷ ys) (suc k) y all e = left-at R xs ys k y all.1 e
 
-right-at : {A B : Type 0} (R : A → B → Type 0) (xs : List A) (ys : List B) (k : ℕ) (x : A) → AllZip R xs ys → slice_get xs k ≡ Some x → (y : B) × ((slice_get ys k ≡ Some y) × R x y)
+pub right-at : {A B : Type 0} (R : A → B → Type 0) (xs : List A) (ys : List B) (k : ℕ) (x : A) → AllZip R xs ys → slice_get xs k ≡ Some x → (y : B) × ((slice_get ys k ≡ Some y) × R x y)
 right-at R [] [] k x all e = absurd (cc e)
 right-at R [] (b ∷ ys) k x all e = absurd all
 right-at R (a ∷ xs) [] k x all e = absurd all
@@ -73,12 +75,8 @@ with-fact R P [] (b ∷ ys) each all = absurd all
 with-fact R P (a ∷ xs) [] each all = absurd all
 with-fact R P (a ∷ xs) (b ∷ ys) each all = ((each zero a refl, all.0), with-fact R P xs ys (λ k x e. each (suc k) x e) all.1)
 
-sum-of-map : {A B : Type 0} (f : B → ℕ) (g : A → B) (xs : List A) → sum_by f (map g xs) ≡ sum_by (λ x. f (g x)) xs
-sum-of-map f g [] = refl
-sum-of-map f g (x ∷ xs) = sum_by-cons f (g x) (map g xs) ∙ ap (λ n. f (g x) + n) (sum-of-map f g xs) ∙ sym (sum_by-cons (λ y. f (g y)) x xs)
-
 -- a page's count at the start
-initial-at : (service : Service) (page : ℕ) → get_or (map (λ (p : Page). p.count) service.pages) page 0 ≡ initial_count service.pages page
+pub initial-at : (service : Service) (page : ℕ) → get_or (map (λ (p : Page). p.count) service.pages) page 0 ≡ initial_count service.pages page
 initial-at service page =
     sym (unwrap_or-slice_get (map (λ (p : Page). p.count) service.pages) page 0) ∙ ap (λ o. unwrap_or o 0) (slice_get-map (λ (p : Page). p.count) service.pages page)
     ∙ by_page (slice_get service.pages page)
@@ -87,7 +85,11 @@ initial-at service page =
     by_page None = refl
     by_page (Some p) = refl
 
-module _ (setup : Setup) (plans : List (List Request)) (board : BoardId) (e : Ended) (h : IsEnded setup plans board e) where
+module _ (setup : Setup) (plans : List (List Request)) (site : Site) (e : Ended) (h : IsEnded setup plans site e) where
+  -- the board
+  abbrev board : BoardId
+  board = board_id site.board
+
   -- the masks of the phases that were released
   abbrev pub hot_known : ℕ → ℕ
   hot_known = mask_of (coord_view e.coord).masks
@@ -96,7 +98,7 @@ module _ (setup : Setup) (plans : List (List Request)) (board : BoardId) (e : En
   abbrev pub known : Service
   known = record (service_of setup plans) { hot = hot_known }
 
-  abbrev z : Opening
+  abbrev pub z : Opening
   z = opening_of setup
 
   -- the run that is asked for, with the hot pages that its run lists tell
@@ -104,11 +106,11 @@ module _ (setup : Setup) (plans : List (List Request)) (board : BoardId) (e : En
   served = asked setup plans (runs_of e.logs.items)
 
   -- the server of a worker
-  server-at : (worker : ℕ) (s : ServerView) → slice_get h.servers worker ≡ Some s → IsServer (service_of setup plans) setup.workers (board_numbers board) worker s
-  server-at worker s at = subst (λ n. IsServer (service_of setup plans) setup.workers (board_numbers board) n s) (zero-add worker) (pairs-at (IsServer (service_of setup plans) setup.workers (board_numbers board)) 0 setup.workers h.servers worker s h.are_servers at)
+  pub server-at : (worker : ℕ) (s : ServerView) → slice_get h.servers worker ≡ Some s → IsServer (service_of setup plans) setup.workers (board_numbers board) site.notes worker s
+  server-at worker s at = subst (λ n. IsServer (service_of setup plans) setup.workers (board_numbers board) site.notes n s) (zero-add worker) (pairs-at (IsServer (service_of setup plans) setup.workers (board_numbers board) site.notes) 0 setup.workers h.servers worker s h.are_servers at)
 
   servers-size : length h.servers ≡ setup.workers
-  servers-size = sym (pairs-length (IsServer (service_of setup plans) setup.workers (board_numbers board)) (range_with_len 0 setup.workers) h.servers h.are_servers) ∙ length-range_with_len 0 setup.workers
+  servers-size = sym (pairs-length (IsServer (service_of setup plans) setup.workers (board_numbers board) site.notes) (range_with_len 0 setup.workers) h.servers h.are_servers) ∙ length-range_with_len 0 setup.workers
 
   pub logs-size : length e.logs.items ≡ setup.workers
   logs-size = sym (pairs-length IsLogOf h.servers e.logs.items h.logs) ∙ servers-size
@@ -117,7 +119,7 @@ module _ (setup : Setup) (plans : List (List Request)) (board : BoardId) (e : En
   seats-size = sym (pairs-length IsSeatOf h.servers e.seats.items h.seats) ∙ servers-size
 
   -- the masks that the workers read are those
-  right-at-server : HaveReadMasks (coord_view e.coord).masks e.seats.items → (worker : ℕ) (s : ServerView) → slice_get h.servers worker ≡ Some s → ReadMasksOf known s
+  pub right-at-server : HaveReadMasks (coord_view e.coord).masks e.seats.items → (worker : ℕ) (s : ServerView) → slice_get h.servers worker ≡ Some s → ReadMasksOf known s
   right-at-server masks worker s at =
       let seat = right-at IsSeatOf h.servers e.seats.items worker s h.seats at in
       let right : AreMasksOf (mask_of (coord_view e.coord).masks) (seat_meaning seat.0).masks =
@@ -232,7 +234,7 @@ module _ (setup : Setup) (plans : List (List Request)) (board : BoardId) (e : En
       ∙ hot-same (service_of setup plans) (runs_of e.logs.items) z.counts setup.hot (length setup.pages) k
 
   -- the phases were released with the masks of these pages
-  masks-known : HaveReadMasks (coord_view e.coord).masks e.seats.items → AreCounted (coord_view e.coord) e.seats.items → (k : ℕ) → k ≤ e.phases → hot_known k ≡ served.hot k
+  pub masks-known : HaveReadMasks (coord_view e.coord).masks e.seats.items → AreCounted (coord_view e.coord) e.seats.items → (k : ℕ) → k ≤ e.phases → hot_known k ≡ served.hot k
   masks-known masks counted k within = (h.chose (total (service_of setup plans) (runs_of e.logs.items) z.counts) (are-totals masks counted)).masks k (omega (arith, within, h.phases)) ∙ hot-is k
 
   -- the choices are those phases that have any

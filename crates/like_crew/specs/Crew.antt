@@ -33,7 +33,8 @@ pub record IsCrew {I : Type 0} (setup : Setup) (plans : List (List Request)) (si
   pub opening : c.lead.seat.opening ≡ opening_of setup
   pub turns : c.lead.turns ≡ setup.turns
   pub hot : c.lead.choice.hot ≡ setup.hot
-  pub servers : AreServers (service_of setup plans) setup.workers (board_numbers (board_id site.board)) c.servers.items
+  pub servers : AreServers (service_of setup plans) setup.workers (board_numbers (board_id site.board)) site.notes
+      c.servers.items
 
 -- among these servers a submitter has an inbox: that of its worker has it
 abbrev pub HasInbox : List ServerView → ℕ → Type 0

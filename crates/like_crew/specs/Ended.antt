@@ -4,7 +4,7 @@ use Rattle.std.specs.List.{AllZip}
 use Rattle.like_core.specs.Phase.{IsJoined}
 use Rattle.like_core.specs.declared.worker_state.WorkerState.TheVariants.{Gone}
 use Rattle.like_board.specs.declared.worker_seat.WorkerSeat.{WorkerSeat}
-use Rattle.like_board.specs.Seats.{BoardId, board_numbers, coord_board, coord_view, seat_meaning}
+use Rattle.like_board.specs.Seats.{board_id, board_numbers, coord_board, coord_view, seat_meaning}
 use Rattle.like_roles.specs.CoordTurns.{ChoseByCounts, CoordinatorView, HasEndedJoined}
 use Rattle.like_roles.specs.declared.log.WorkerLog.{WorkerLog}
 use Rattle.like_requests.specs.declared.request.Request.{Request}
@@ -12,6 +12,7 @@ use Rattle.like_requests.specs.declared.setup.Setup.{Setup}
 use Rattle.like_roles.specs.Choice.{AreTotals, ChoiceView, HasChosen}
 use Rattle.like_crew.specs.declared.crew.Crew.{Crew}
 use Rattle.like_crew.specs.declared.ended.Ended.{Ended}
+use Rattle.like_crew.specs.declared.site.Site.{Site}
 use Rattle.like_crew.specs.Asked.{service_of}
 use Rattle.like_crew.specs.Site.{opening_of}
 use Rattle.like_crew.specs.Crew.{AllGone, LeadGoesOn}
@@ -55,15 +56,17 @@ pub record HasEnded {I : Type 0} (c : Crew I) (e : Ended) : Type 0 where
   pub later : LeadGoesOn c.lead lead
   pub lead_is : IsLeadOf lead e
 
--- a run of these plans that has ended: its workers are gone, and their servers left these logs and seats; and it ended in
--- a joined phase, which is the last one that the coordinator's seat knows; and the coordinator chose by its counts
-pub record IsEnded (setup : Setup) (plans : List (List Request)) (board : BoardId) (e : Ended) : Type 0 where
+-- a run of these plans at this site that has ended: its workers are gone, and their servers left these logs and seats;
+-- and it ended in a joined phase, which is the last one that the coordinator's seat knows; and the coordinator chose by
+-- its counts
+pub record IsEnded (setup : Setup) (plans : List (List Request)) (site : Site) (e : Ended) : Type 0 where
   pub servers : List ServerView
-  pub are_servers : AreServers (service_of setup plans) setup.workers (board_numbers board) servers
+  pub are_servers : AreServers (service_of setup plans) setup.workers (board_numbers (board_id site.board)) site.notes
+      servers
   pub gone : AllGone servers
   pub logs : AllZip IsLogOf servers e.logs.items
   pub seats : AllZip IsSeatOf servers e.seats.items
-  pub coord : coord_board e.coord ≡ board
+  pub coord : coord_board e.coord ≡ board_id site.board
   pub opening : (coord_view e.coord).opening ≡ opening_of setup
   pub phases : e.phases ≡ (coord_view e.coord).phase
   pub joined : IsJoined e.phases

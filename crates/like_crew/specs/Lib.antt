@@ -7,3 +7,4 @@ pub mod Log
 pub mod Server
 pub mod Servers
 pub mod Site
+pub mod Tiling

@@ -10,7 +10,7 @@ use Rattle.like_core.specs.PhaseMasks.{AreMasksOf}
 use Rattle.like_core.specs.Post.{additions_in, additions_of, pages_of}
 use Rattle.like_queue.specs.Inbox.{InboxView}
 use Rattle.like_tables.specs.Share.{Share, dealt, place_of, serves}
-use Rattle.like_roles.specs.Follows.{Follows}
+use Rattle.like_roles.specs.Follows.{AreNoted, Follows}
 use Rattle.like_roles.specs.declared.log.WorkerLog.{WorkerLog}
 use Rattle.like_roles.specs.Likes.{likes_among, likes_within}
 use Rattle.like_roles.specs.Looks.{shown_by, shown_in}
@@ -85,9 +85,11 @@ pub record AreInboxesFor (s : Setup) (sizes : List ℕ) (worker : ℕ) (inboxes 
   pub untouched : AreUntouched inboxes
   pub plans : All (λ i. IsPlan s.pages i.plan) inboxes
 
--- the same server, later: at the same place of the same board, and at work for the same services
+-- the same server, later: at the same place of the same board, and at work for the same services; its worker notes its
+-- additions if it did before
 pub record ServerGoesOn (s t : ServerView) : Type 0 where
   pub share : t.worker.last.share ≡ s.worker.last.share
+  pub notes : t.worker.notes ≡ s.worker.notes
   pub whose : t.worker.post.worker ≡ s.worker.post.worker
   pub board : t.worker.post.board ≡ s.worker.post.board
   pub inboxes : length t.inboxes ≡ length s.inboxes
@@ -109,3 +111,7 @@ pub record IsLogOf (s : ServerView) (log : WorkerLog) : Type 0 where
   pub looks : (service : Service) → HasWorkedFor service s
       → shown_in service log.ran.items ≡ map (shown_by s.worker.post.additions) s.worker.post.reads
   pub above : NoneAbove s.worker.post.last log.taken.items
+  pub ran : log.ran.items ≡ s.worker.ran
+  pub adds : log.adds.items ≡ s.worker.adds
+  pub noted : s.worker.notes ≡ true
+      → (service : Service) → HasWorkedFor service s → AreNoted service s.worker

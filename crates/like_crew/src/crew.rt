@@ -53,7 +53,15 @@ impl<'a, I: Inbox> Crew<'a, I> {
         ensures { IfOk result (IsCrew setup.now (plans_of (map I.view inboxes.items)) site.now) }
     {
         let Seats { coord, workers } = seats;
-        let servers = servers_of(alloc, setup, &site.sizes, &site.board, workers, inboxes)?;
+        let servers = servers_of(
+            alloc,
+            setup,
+            &site.sizes,
+            &site.board,
+            site.notes,
+            workers,
+            inboxes,
+        )?;
         let lead = Lead::new(
             alloc,
             &site.board,

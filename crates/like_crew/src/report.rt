@@ -1,14 +1,15 @@
-ghost use Rattle.std.specs.Prelude.{◌≡◌, ◌<◌, ◌≤◌, ℕ, All, IfOk, IfSome, length, slice_index};
+ghost use Rattle.std.specs.Prelude.{◌≡◌, ◌<◌, ◌≤◌, ℕ, false, true, All, IfOk, IfSome, length, slice_index};
 ghost use Rattle.like_requests.specs.Setup.{IsWithinLimits};
-ghost use Rattle.like_board.specs.Seats.{AreAll, AreCounted, board_id, coord_board, coord_view, last_count, seat_board, seat_meaning, HaveReadBetween, HaveReadMasks};
+ghost use Rattle.like_board.specs.Seats.{AreAll, AreCounted, board_id, coord_board, coord_view, last_count, seat_board, seat_meaning, HavePlaces, HaveReadBetween, HaveReadMasks};
 ghost use Rattle.like_core.specs.declared.worker_state.WorkerState.TheVariants.{Gone};
 ghost use Rattle.like_crew.specs.Asked.{lists_of};
 ghost use Rattle.like_crew.specs.EndToEnd.{IsRightReport};
 ghost use Rattle.like_crew.specs.Ended.{IsEnded};
 ghost use Rattle.like_crew.specs.Site.{IsSite};
+ghost use Rattle.like_crew.specs.Tiling.{HasNoPlaces, HasRightPlaces};
 
 use crate::ended::Ended;
-use crate::report::gathered::{last_likes, replies_of};
+use crate::report::gathered::{last_likes, places_of, replies_of};
 use crate::site::Site;
 use like_board::{Board, CoordSeat, WorkerSeat};
 use like_replies::Report;
@@ -18,7 +19,7 @@ use std::snapshot::Snapshot;
 
 mod gathered;
 
-/// The report of a run of these plans that has ended.
+/// The report of a run of these plans that has ended; it has the places of additions where the workers noted them.
 pub fn report_of(
     alloc: Global,
     setup: &Setup,
@@ -28,13 +29,16 @@ pub fn report_of(
 ) -> Result<Report, AllocError>
     requires within { IsWithinLimits setup.now (lists_of plans.now.value.items) }
     requires site { IsSite setup.now (lists_of plans.now.value.items) site }
-    requires ended { IsEnded setup.now (lists_of plans.now.value.items) (board_id site.board) ended }
-    ensures { IfOk result (IsRightReport setup.now (lists_of plans.now.value.items)) }
+    requires ended { IsEnded setup.now (lists_of plans.now.value.items) site ended }
+    ensures report { IfOk result (IsRightReport setup.now (lists_of plans.now.value.items)) }
+    ensures places { site.notes ≡ true → IfOk result (HasRightPlaces setup.now (lists_of plans.now.value.items)) }
+    ensures none { site.notes ≡ false → IfOk result HasNoPlaces }
 {
     let Site {
         sizes,
         counts,
         board,
+        notes,
     } = site;
     let Ended {
         logs,
@@ -46,6 +50,7 @@ pub fn report_of(
     let counts = final_counts(board, coord, seats, counts);
     let replies = replies_of(alloc, &sizes, &logs)?;
     let last = last_likes(alloc, setup.users, sizes.len() as u32, &logs)?;
+    let places = places_of(alloc, notes, setup.pages.len(), &logs)?;
     Ok(Report {
         logs,
         replies,
@@ -53,6 +58,7 @@ pub fn report_of(
         last,
         phases,
         hot: chosen,
+        places,
     })
 }
 
@@ -76,6 +82,7 @@ fn final_counts(
     ensures reads { HaveReadBetween (coord_view coord).opening (coord_view coord).phase seats.items }
     ensures masks { HaveReadMasks (coord_view coord).masks seats.items }
     ensures counted { AreCounted (coord_view coord) seats.items }
+    ensures places { HavePlaces (coord_view coord).opening seats.items }
 {
     let mut counts = initial;
     board.close(coord, seats, &mut counts);

@@ -16,6 +16,8 @@ pub struct Site {
     /// The initial count of each page.
     pub(crate) counts: Vec<u64>,
     pub(crate) board: Board,
+    /// Whether the workers note their additions.
+    pub(crate) notes: bool,
 }
 
 /// The seats of a board.
@@ -26,15 +28,17 @@ pub struct Seats {
 }
 
 impl Site {
-    /// A site for a run within the limits, with the seats of its board.
+    /// A site for a run within the limits, with the seats of its board; its workers note their additions or do not.
     pub fn new(
         alloc: Global,
         setup: &Setup,
         plans: &[Vec<Request>],
+        notes: bool,
     ) -> Result<(Site, Seats), AllocError>
         requires { IsWithinLimits setup.now (lists_of plans.now) }
         ensures site { IfOk result (λ r. IsSite setup.now (lists_of plans.now) r.0) }
         ensures seats { IfOk result (λ r. AreSeats setup.now r.0 r.1) }
+        ensures notes { IfOk result (λ r. r.0.notes ≡ notes) }
     {
         let sizes = sizes_of(alloc, plans)?;
         let counts = setup.pages.counts(alloc)?;
@@ -45,6 +49,7 @@ impl Site {
                 sizes,
                 counts,
                 board,
+                notes,
             },
             Seats { coord, workers },
         ))

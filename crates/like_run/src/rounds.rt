@@ -1,4 +1,4 @@
-ghost use Rattle.std.specs.Prelude.{◌≡◌, ◌≤◌, All, IfErr, IfOk, OnOk, length, true};
+ghost use Rattle.std.specs.Prelude.{◌≡◌, ◌≤◌, All, IfErr, IfOk, OnOk, length, false, true};
 ghost use Rattle.like_requests.specs.Setup.{IsWithinLimits};
 ghost use Rattle.like_roles.specs.CoordTurns.{HasEndedJoined};
 ghost use Rattle.like_script.specs.Fit.{IsInRun};
@@ -7,6 +7,7 @@ ghost use Rattle.like_crew.specs.Asked.{lists_of};
 ghost use Rattle.like_crew.specs.Crew.{AllGone, GoesOn};
 ghost use Rattle.like_crew.specs.EndToEnd.{IsRightReport};
 ghost use Rattle.like_crew.specs.Ended.{HasEnded};
+ghost use Rattle.like_crew.specs.Tiling.{HasNoPlaces, HasRightPlaces};
 ghost use Rattle.like_run.specs.Rounds.{CanMake, Fits, IsFaultUnderWay, IsReplayFault};
 
 use like_crew::{Crew, Ended, Site, report_of};
@@ -36,12 +37,48 @@ pub fn replay(
 ) -> Result<Report, ReplayFault>
     requires { length script.now ≤ max_entries }
     ensures report { IfOk result (IsRightReport setup.now (lists_of plans.items)) }
+    ensures places { IfOk result (HasRightPlaces setup.now (lists_of plans.items)) }
+    ensures fits { OnOk result (Fits setup.now (lists_of plans.items) script.now) }
+    ensures fault { IfErr result (IsReplayFault setup.now (lists_of plans.items) script.now) }
+{
+    replay_noting(alloc, setup, plans, script, true)
+}
+
+/// Replays a run, as `replay`, whose workers note no additions: it takes no room for them, and its report has no
+/// places.
+pub fn replay_without_places(
+    alloc: Global,
+    setup: &Setup,
+    plans: Vec<Vec<Request>>,
+    script: &[Turned],
+) -> Result<Report, ReplayFault>
+    requires { length script.now ≤ max_entries }
+    ensures report { IfOk result (IsRightReport setup.now (lists_of plans.items)) }
+    ensures none { IfOk result HasNoPlaces }
+    ensures fits { OnOk result (Fits setup.now (lists_of plans.items) script.now) }
+    ensures fault { IfErr result (IsReplayFault setup.now (lists_of plans.items) script.now) }
+{
+    replay_noting(alloc, setup, plans, script, false)
+}
+
+// Replays a run, whose workers note their additions or do not.
+fn replay_noting(
+    alloc: Global,
+    setup: &Setup,
+    plans: Vec<Vec<Request>>,
+    script: &[Turned],
+    notes: bool,
+) -> Result<Report, ReplayFault>
+    requires { length script.now ≤ max_entries }
+    ensures report { IfOk result (IsRightReport setup.now (lists_of plans.items)) }
+    ensures places { notes ≡ true → IfOk result (HasRightPlaces setup.now (lists_of plans.items)) }
+    ensures none { notes ≡ false → IfOk result HasNoPlaces }
     ensures fits { OnOk result (Fits setup.now (lists_of plans.items) script.now) }
     ensures fault { IfErr result (IsReplayFault setup.now (lists_of plans.items) script.now) }
 {
     check_setup(setup, &plans)?;
     check_script(script, setup.workers, plans.len())?;
-    replay_within(alloc, setup, plans, script)
+    replay_within(alloc, setup, plans, script, notes)
 }
 
 // Replays a run within the limits.
@@ -50,13 +87,16 @@ fn replay_within(
     setup: &Setup,
     plans: Vec<Vec<Request>>,
     script: &[Turned],
+    notes: bool,
 ) -> Result<Report, ReplayFault>
     requires within { IsWithinLimits setup.now (lists_of plans.items) }
     requires script { All (IsInRun setup.now.workers (length plans.items)) script.now }
     ensures report { IfOk result (IsRightReport setup.now (lists_of plans.items)) }
+    ensures places { notes ≡ true → IfOk result (HasRightPlaces setup.now (lists_of plans.items)) }
+    ensures none { notes ≡ false → IfOk result HasNoPlaces }
     ensures fault { IfErr result IsFaultUnderWay }
 {
-    let (site, seats) = Site::new(alloc, setup, &plans)?;
+    let (site, seats) = Site::new(alloc, setup, &plans, notes)?;
     let lists = Snapshot::of(&plans);
     let crew = Crew::new(alloc, setup, &site, seats, plans)?;
     let ended = play(alloc, crew, script)?;

@@ -1,7 +1,8 @@
-ghost use Rattle.std.specs.Prelude.{◌≡◌, ◌+◌, ◌≤◌, IfErr, IfOk, OnOk, length};
+ghost use Rattle.std.specs.Prelude.{◌≡◌, ◌+◌, ◌≤◌, false, true, IfErr, IfOk, OnOk, length};
 ghost use Rattle.like_requests.specs.Setup.{IsWithinLimits};
 ghost use Rattle.like_crew.specs.Asked.{lists_of};
 ghost use Rattle.like_crew.specs.EndToEnd.{IsRightReport};
+ghost use Rattle.like_crew.specs.Tiling.{HasNoPlaces, HasRightPlaces};
 ghost use Rattle.like_run.specs.Lines.{AreNewEnds};
 ghost use Rattle.like_run.specs.Threads.{HasEndedOn, IsFaultUnderWay, IsRunFault};
 
@@ -43,12 +44,35 @@ pub fn run<R: Threads + Wait + Sync, G: Gate>(
     gate: &G,
 ) -> Result<Report, RunFault>
     ensures report { IfOk result (IsRightReport setup.now (lists_of plans.items)) }
+    ensures places { IfOk result (HasRightPlaces setup.now (lists_of plans.items)) }
     ensures within { OnOk result (IsWithinLimits setup.now (lists_of plans.items)) }
     ensures fault { IfErr result (IsRunFault setup.now (lists_of plans.items)) }
 {
-    let submitters = u32::try_from(plans.len()).unwrap_or(u32::MAX);
-    let starts = setup.workers.saturating_add(submitters);
+    let starts = starts_of(setup, &plans);
     run_limited(rt, alloc, setup, plans, gate, starts)
+}
+
+/// Makes a run, as `run`, whose workers note no additions: it takes no room for them, and its report has no places.
+pub fn run_without_places<R: Threads + Wait + Sync, G: Gate>(
+    rt: &R,
+    alloc: Global,
+    setup: &Setup,
+    plans: Vec<Vec<Request>>,
+    gate: &G,
+) -> Result<Report, RunFault>
+    ensures report { IfOk result (IsRightReport setup.now (lists_of plans.items)) }
+    ensures none { IfOk result HasNoPlaces }
+    ensures within { OnOk result (IsWithinLimits setup.now (lists_of plans.items)) }
+    ensures fault { IfErr result (IsRunFault setup.now (lists_of plans.items)) }
+{
+    let starts = starts_of(setup, &plans);
+    run_noting(rt, alloc, setup, plans, gate, starts, false)
+}
+
+// How many threads a run starts.
+fn starts_of(setup: &Setup, plans: &[Vec<Request>]) -> u32 {
+    let submitters = u32::try_from(plans.len()).unwrap_or(u32::MAX);
+    setup.workers.saturating_add(submitters)
 }
 
 /// Makes a run, as `run`, with at most so many threads: once as many were started, the start of a further one counts as
@@ -62,12 +86,33 @@ pub fn run_limited<R: Threads + Wait + Sync, G: Gate>(
     starts: u32,
 ) -> Result<Report, RunFault>
     ensures report { IfOk result (IsRightReport setup.now (lists_of plans.items)) }
+    ensures places { IfOk result (HasRightPlaces setup.now (lists_of plans.items)) }
+    ensures within { OnOk result (IsWithinLimits setup.now (lists_of plans.items)) }
+    ensures enough { OnOk result (setup.now.workers + length plans.items ≤ starts) }
+    ensures fault { IfErr result (IsRunFault setup.now (lists_of plans.items)) }
+{
+    run_noting(rt, alloc, setup, plans, gate, starts, true)
+}
+
+// Makes a run with at most so many threads, whose workers note their additions or do not.
+fn run_noting<R: Threads + Wait + Sync, G: Gate>(
+    rt: &R,
+    alloc: Global,
+    setup: &Setup,
+    plans: Vec<Vec<Request>>,
+    gate: &G,
+    starts: u32,
+    notes: bool,
+) -> Result<Report, RunFault>
+    ensures report { IfOk result (IsRightReport setup.now (lists_of plans.items)) }
+    ensures places { notes ≡ true → IfOk result (HasRightPlaces setup.now (lists_of plans.items)) }
+    ensures none { notes ≡ false → IfOk result HasNoPlaces }
     ensures within { OnOk result (IsWithinLimits setup.now (lists_of plans.items)) }
     ensures enough { OnOk result (setup.now.workers + length plans.items ≤ starts) }
     ensures fault { IfErr result (IsRunFault setup.now (lists_of plans.items)) }
 {
     check_setup(setup, &plans)?;
-    run_within(rt, alloc, setup, plans, gate, starts as usize)
+    run_within(rt, alloc, setup, plans, gate, starts as usize, notes)
 }
 
 // Makes a run within the limits.
@@ -78,13 +123,16 @@ fn run_within<R: Threads + Wait + Sync, G: Gate>(
     plans: Vec<Vec<Request>>,
     gate: &G,
     starts: usize,
+    notes: bool,
 ) -> Result<Report, RunFault>
     requires { IsWithinLimits setup.now (lists_of plans.items) }
     ensures report { IfOk result (IsRightReport setup.now (lists_of plans.items)) }
+    ensures places { notes ≡ true → IfOk result (HasRightPlaces setup.now (lists_of plans.items)) }
+    ensures none { notes ≡ false → IfOk result HasNoPlaces }
     ensures enough { OnOk result (setup.now.workers + length plans.items ≤ starts) }
     ensures fault { IfErr result IsFaultUnderWay }
 {
-    let (site, seats) = Site::new(alloc, setup, &plans)?;
+    let (site, seats) = Site::new(alloc, setup, &plans, notes)?;
     let lists = Snapshot::of(&plans);
     let Lines {
         lines,

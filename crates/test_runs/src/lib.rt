@@ -11,6 +11,8 @@ mod drawn;
 #[cfg(test)]
 mod mixed;
 #[cfg(test)]
+mod places;
+#[cfg(test)]
 mod replays;
 #[cfg(test)]
 mod runs;

@@ -69,7 +69,7 @@ fn answers_within(
     requires within { IsWithinLimits setup.now (lists_of plans.items) }
     requires script { All (IsInRun setup.now.workers (length plans.items)) script.now }
 {
-    let (site, seats) = Site::new(alloc, setup, &plans)?;
+    let (site, seats) = Site::new(alloc, setup, &plans, true)?;
     let mut crew = Crew::new(alloc, setup, &site, seats, plans)?;
     answers_of(alloc, &mut crew, script)
 }

@@ -13,12 +13,13 @@ use like_queue::Inbox;
 use like_requests::Setup;
 use std::alloc::{AllocError, Global};
 
-/// The workers at their posts, each with the inboxes of its submitters.
+/// The workers at their posts, each with the inboxes of its submitters; they note their additions or do not.
 pub fn servers_of<'a, I: Inbox>(
     alloc: Global,
     setup: &Setup,
     sizes: &[u32],
     board: &'a Board,
+    notes: bool,
     seats: Vec<WorkerSeat>,
     inboxes: Vec<I>,
 ) -> Result<Vec<Server<BoardPost<'a>, I>>, AllocError>
@@ -29,14 +30,14 @@ pub fn servers_of<'a, I: Inbox>(
     requires seats { AreNewSeats (board_id board.now) setup.now.pages seats.items }
     ensures { IfOk result (λ servers. let board_is = board_numbers (board_id board.now) in
         let service = service_of setup.now (plans_of (map I.view inboxes.items)) in
-        AreServers service setup.now.workers board_is servers.items) }
+        AreServers service setup.now.workers board_is notes servers.items) }
 {
     let mut hands = deal(alloc, inboxes, setup.workers)?;
     let mut servers = Vec::new(alloc);
     for seat in seats {
         let number = servers.len() as u32;
         let inboxes = hands.remove(0);
-        match Server::new(alloc, setup, sizes, number, seat.at(board), inboxes) {
+        match Server::new(alloc, setup, sizes, number, seat.at(board), notes, inboxes) {
             Ok(server) => servers.push(server)?,
             Err(_) => return Err(AllocError),
         }

@@ -37,14 +37,15 @@ impl<P: Post, I: Inbox> Model for Server<P, I> {
 }
 
 impl<P: Post, I: Inbox> Server<P, I> {
-    /// Worker `number` at its post, with the inboxes of its submitters. All its room is made here: its turns take no
-    /// memory.
+    /// Worker `number` at its post, with the inboxes of its submitters; it notes its additions or does not. All its room
+    /// is made here: its turns take no memory.
     pub fn new(
         alloc: Global,
         setup: &Setup,
         sizes: &[u32],
         number: u32,
         post: P,
+        notes: bool,
         inboxes: Vec<I>,
     ) -> Result<Server<P, I>, NoWorker<P>>
         requires within { IsWithin setup.now sizes.now }
@@ -54,12 +55,13 @@ impl<P: Post, I: Inbox> Server<P, I> {
         ensures share { IfOk result (λ server.
             server.worker.last.share ≡ share_of setup.now.users (length sizes.now) setup.now.workers number) }
         ensures at_post { IfOk result (λ server. server.worker.post ≡ P.view post) }
+        ensures notes { IfOk result (λ server. server.worker.notes ≡ notes) }
         ensures works { IfOk result (λ server. (service : Service)
             → IsServiceOf setup.now.users setup.now.pages sizes.now service
             → AreOwnPlans service setup.now.workers number (map I.view inboxes.items) → WorksFor service server) }
         ensures post { IfErr result (λ refused. refused.post ≡ post) }
     {
-        let worker = Worker::new(alloc, setup, sizes, number, post)?;
+        let worker = Worker::noting(alloc, setup, sizes, number, post, notes)?;
         Ok(Server {
             worker,
             workers: setup.workers,

@@ -1,14 +1,15 @@
-ghost use Rattle.std.specs.Prelude.{◌≡◌, ◌<◌, ◌≤◌, ℕ, IfOk, Some, length, slice_get};
+ghost use Rattle.std.specs.Prelude.{◌≡◌, ◌<◌, ◌≤◌, ℕ, [], false, true, All, IfOk, Some, length, slice_get};
 ghost use Rattle.like_requests.specs.Verdict.{home};
-ghost use Rattle.like_requests.specs.Limits.{max_submitters};
+ghost use Rattle.like_requests.specs.Limits.{max_submitters, max_workers};
 ghost use Rattle.like_replies.specs.Collected.{IsCollected, rows_of};
 ghost use Rattle.like_replies.specs.Entries.{entries_in};
+ghost use Rattle.like_replies.specs.Places.{ArePlaces, lists_in};
 ghost use Rattle.like_roles.specs.declared.log.WorkerLog.{WorkerLog as Log};
 ghost use Rattle.like_tables.specs.Share.{worker_of};
 ghost use Rattle.like_tables.specs.UserTable.{last_of};
 ghost use Rattle.like_crew.specs.Gathered.{AreTables, RunsOnce};
 
-use like_replies::{CollectFault, Replies, collect};
+use like_replies::{CollectFault, Place, Replies, collect, places};
 use like_roles::WorkerLog;
 use std::alloc::{AllocError, Global};
 
@@ -48,4 +49,23 @@ pub fn last_likes(
         log.last.give_to(&mut last);
     }
     Ok(last)
+}
+
+/// Where the additions to each page stand, where they were noted, and else nothing.
+pub fn places_of(
+    alloc: Global,
+    notes: bool,
+    pages: u32,
+    logs: &[WorkerLog],
+) -> Result<Vec<Vec<Place>>, AllocError>
+    requires few { length logs.now ≤ max_workers }
+    requires there { notes ≡ true → All (λ log. All (λ a. a.page < pages) log.adds.items) logs.now }
+    ensures noted { notes ≡ true → IfOk result (λ rows. ArePlaces pages logs.now (lists_in rows.items)) }
+    ensures none { notes ≡ false → IfOk result (λ rows. rows.items ≡ []) }
+{
+    if notes {
+        places(alloc, pages, logs)
+    } else {
+        Ok(Vec::new(alloc))
+    }
 }

@@ -3,7 +3,6 @@ use Rattle.std.proofs.lemmas.List.{length-map}
 use Rattle.like_requests.specs.Setup.{IsWithinLimits}
 use Rattle.like_requests.specs.declared.request.Request.{Request}
 use Rattle.like_script.specs.Fit.{IsInRun}
-use Rattle.like_board.specs.Seats.{board_id}
 use Rattle.like_crew.specs.Asked.{lists_of}
 use Rattle.like_crew.specs.Ended.{IsEnded}
 use Rattle.like_crew.specs.Site.{IsSite}
@@ -27,5 +26,5 @@ report_of-requires-clause-site c =
 
 pub report_of-requires-clause-ended : goal.report_of-requires-clause-ended
 report_of-requires-clause-ended c =
-    subst (λ (v : Vec (Vec Request Global) Global). IsEnded c.args.setup.now (lists_of v.items) (board_id c.in_ok-site.site.board) c.in_ok-ended.ended) (sym c.of-lists.ensures)
+    subst (λ (v : Vec (Vec Request Global) Global). IsEnded c.args.setup.now (lists_of v.items) c.in_ok-site.site c.in_ok-ended.ended) (sym c.of-lists.ensures)
     (has-ended c.args.setup.now (lists_of c.args.plans.items) c.in_ok-site.site c.in_ok-crew.crew c.in_ok-ended.ended c.in_ok-crew.ensures c.in_ok-ended.ensures.ended)

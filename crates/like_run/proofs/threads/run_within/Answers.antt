@@ -61,7 +61,7 @@ report_of-requires-clause-ended g c =
     let plans : plans_of (map inbox_of c.in_ok-take_ends.field-0.items) ≡ lists_of c.args.plans.items = plans-are (map inbox_of c.in_ok-take_ends.field-0.items) (lists_of c.args.plans.items) inboxes in
     let crew : IsCrew c.args.setup.now (lists_of c.args.plans.items) c.in_ok-site.site c.in_ok-crew.crew =
     subst (λ asked. IsCrew c.args.setup.now asked c.in_ok-site.site c.in_ok-crew.crew) plans c.in_ok-crew.ensures in
-    subst (λ (v : Vec (Vec Request Global) Global). IsEnded c.args.setup.now (lists_of v.items) (board_id c.in_ok-site.site.board) c.in_ok-ended.ended) (sym c.of-lists.ensures)
+    subst (λ (v : Vec (Vec Request Global) Global). IsEnded c.args.setup.now (lists_of v.items) c.in_ok-site.site c.in_ok-ended.ended) (sym c.of-lists.ensures)
     (has-ended c.args.setup.now (lists_of c.args.plans.items) c.in_ok-site.site c.in_ok-crew.crew c.in_ok-ended.ended crew c.in_ok-ended.ensures.ended.ended)
 
 -- an answer of a run says what an answer of its threads says
@@ -72,6 +72,6 @@ returns-clause-enough g c =
     let plans : plans_of (map inbox_of c.in_ok-take_ends.field-0.items) ≡ lists_of c.args.plans.items = plans-are (map inbox_of c.in_ok-take_ends.field-0.items) (lists_of c.args.plans.items) inboxes in
     let crew : IsCrew c.args.setup.now (lists_of c.args.plans.items) c.in_ok-site.site c.in_ok-crew.crew =
     subst (λ asked. IsCrew c.args.setup.now asked c.in_ok-site.site c.in_ok-crew.crew) plans c.in_ok-crew.ensures in
-    let servers = as-many (service_of c.args.setup.now (lists_of c.args.plans.items)) c.args.setup.now.workers (board_numbers (board_id c.in_ok-site.site.board)) c.in_ok-crew.crew.servers.items crew.servers in
+    let servers = as-many (service_of c.args.setup.now (lists_of c.args.plans.items)) c.args.setup.now.workers (board_numbers (board_id c.in_ok-site.site.board)) c.in_ok-site.site.notes c.in_ok-crew.crew.servers.items crew.servers in
     let ends = many-ends (lists_of c.args.plans.items) c.in_ok-lines.field-0 c.in_ok-ends.ends.items c.in_ok-lines.ensures (c.in_ok-ends.ensures ∙ ap (map new_sender) c.deref-3.ensures.value) in
     omega (arith, c.in_ok-ended.ensures.ended.enough, servers, ends, length-map c.args.plans.items requests_of)

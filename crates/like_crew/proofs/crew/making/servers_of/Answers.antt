@@ -53,7 +53,7 @@ loop-seat-preserved g c =
     let inboxes : List InboxView = map g.I.Inbox.view c.args.inboxes.items in
     let own : List InboxView = map g.I.Inbox.view c.remove-inboxes.result.items in
     let board : List ℕ = board_numbers (board_id c.args.board.now) in
-    let R : ℕ → ServerView → Type 0 = IsServer (service_of c.args.setup.now (plans_of inboxes)) workers board in
+    let R : ℕ → ServerView → Type 0 = IsServer (service_of c.args.setup.now (plans_of inboxes)) workers board c.args.notes in
     let number : c.len-number.result ≡ k = c.len-number.ensures ∙ l.servers.ok.0 ∙ l.invariant.len in
     let below : k < workers = omega (arith, turn.0, c.requires.len) in
     let is : own ≡ dealt workers k inboxes =
@@ -62,15 +62,17 @@ loop-seat-preserved g c =
     let fresh = c.requires.seats k c.in-Some.seat (slice_get_read c.args.seats.items (length c.args.seats.items) k c.in-Some.seat refl turn.0 turn.1) in
     let longer : length (l.yielded ++ c.in-Some.seat ∷ []) ≡ k + 1 = length_push l.yielded c.in-Some.seat in
     let pushed = c.in_ok-push-in-Ok.ensures.items in
+    let more : List ServerView = l.servers.items ++ c.in-Ok.server ∷ [] in
     let server : R k c.in-Ok.server =
-    is-server c.args.setup.now c.args.sizes.now k inboxes own (seat_meaning c.in-Some.seat) board c.in-Ok.server c.requires.sizes is
+    is-server c.args.setup.now c.args.sizes.now k inboxes own (seat_meaning c.in-Some.seat) board c.args.notes c.in-Ok.server c.requires.sizes is
     fresh.1 (ap board_numbers fresh.0)
     (c.in-Ok.ensures.share ∙ ap (λ n. share_of c.args.setup.now.users (length c.args.sizes.now) workers n) number)
     (c.in-Ok.ensures.at_post ∙ c.at.ensures.meaning)
+    c.in-Ok.ensures.notes
     (λ service of mine. c.in-Ok.ensures.works service of (subst (λ n. AreOwnPlans service workers n own) (sym number) mine)) in
     record {
       hands = c.remove-inboxes.ensures.items ∙ ap (λ xs. remove xs 0) l.invariant.hands ∙ remove-drop k c.in_ok-hands.hands.items ∙ ap (λ n. drop n c.in_ok-hands.hands.items) (sym (add-one k) ∙ sym longer);
       len = ap (λ (xs : List ServerView). length xs) pushed ∙ length_push l.servers.items c.in-Ok.server ∙ ap (λ n. n + 1) l.invariant.len ∙ sym longer;
-      servers = subst (AllZip R (range_with_len 0 (length (l.yielded ++ c.in-Some.seat ∷ [])))) (sym pushed)
-          (subst (λ n. AllZip R (range_with_len 0 n) (l.servers.items ++ c.in-Ok.server ∷ [])) (sym longer) (one-more R k l.servers.items c.in-Ok.server l.invariant.servers server));
+      servers = subst (AllZip R (range_with_len 0 (length (l.yielded ++ c.in-Some.seat ∷ [])))) {x = more} (sym pushed)
+          (subst (λ n. AllZip R (range_with_len 0 n) more) {x = k + 1} (sym longer) (one-more R k l.servers.items c.in-Ok.server l.invariant.servers server));
     }

@@ -24,4 +24,7 @@ returns-clause-log g c =
       looks = λ service here.
           subst (λ (ran : List Ran). shown_in service ran ≡ map (shown_by s.worker.post.additions) s.worker.post.reads) (sym c.finish.ensures.ran) (c.finish.ensures.done service (here.0.follows here.1)).looks;
       above = subst (λ (taken : List Took). NoneAbove s.worker.post.last taken) (sym c.finish.ensures.taken) c.self.invariant.2.above;
+      ran = c.finish.ensures.ran;
+      adds = c.finish.ensures.adds;
+      noted = λ notes service here. (c.finish.ensures.done service (here.0.follows here.1)).noted notes;
     })

@@ -4,7 +4,7 @@ use Rattle.like_queue.specs.Inbox.{InboxView}
 use Rattle.like_tables.specs.Share.{Share}
 use Rattle.like_roles.specs.WorkerView.{WorkerView, submitter_at}
 use Rattle.like_crew.specs.Server.{Agree, ServerGoesOn, WorksFor, ServerView}
-use Rattle.like_crew.proofs.Agreeing.{agree-give, agree-turn, can-give, none-pending, serves-give, serves-turn, share-given}
+use Rattle.like_crew.proofs.Agreeing.{agree-give, agree-turn, can-give, none-pending, notes-given, serves-give, serves-turn, share-given}
 use Rattle.like_crew.proofs.Numbers.{place-own}
 use Rattle.like_crew.proofs.Posts.{gives-whose, turns-whose, whose}
 use Rattle.like_crew.proofs.Sights.{turns-tries}
@@ -72,6 +72,7 @@ returns-in-Try-clause-goes_on g c =
     subst (λ s. ServerGoesOn s (record { worker = w; inboxes = map view (set c.self.inside.inboxes.items place c.take_with-taken.new.self) })) c.self.view_is
     (subst (λ xs. ServerGoesOn (record { worker = u; inboxes = inboxes }) (record { worker = w; inboxes = xs })) (sym (map-set view c.self.inside.inboxes.items place c.take_with-taken.new.self)) (record {
       share = share-given v w p.0 c.take_with-taken.result p.1.0 c.give.ensures.takes ∙ c.turn.ensures.takes.share;
+      notes = notes-given v w p.0 c.take_with-taken.result p.1.0 c.give.ensures.takes ∙ c.turn.ensures.takes.notes;
       whose = ap (λ (x : ℕ × List ℕ). x.0) whose_is;
       board = ap (λ (x : ℕ × List ℕ). x.1) whose_is;
       inboxes = length-set inboxes place (view c.take_with-taken.new.self);
@@ -91,6 +92,7 @@ returns-in_default-clause-goes_on g c =
     let after : ServerView = record { worker = v; inboxes = inboxes } in
     subst (λ s. ServerGoesOn s after) c.self.view_is (record {
       share = c.turn.ensures.takes.share;
+      notes = c.turn.ensures.takes.notes;
       whose = ap (λ (x : ℕ × List ℕ). x.0) whose_is;
       board = ap (λ (x : ℕ × List ℕ). x.1) whose_is;
       inboxes = refl;

@@ -11,7 +11,7 @@ use Rattle.like_run.specs.declared.rounds.fault.ReplayFault.TheVariants.{Setting
 use Rattle.like_script.specs.declared.turned.Turned.{Turned}
 use Rattle.like_run.specs.Rounds.{Fits, IsFaultUnderWay, IsReplayFault}
 use Rattle.like_script.specs.Fit.{IsFirstAway, IsInRun}
-use Rattle.like_run.proofs.rounds.replay.Goals as goal
+use Rattle.like_run.proofs.rounds.replay_noting.Goals as goal
 
 abbrev requests_of : Vec Request Global → List Request
 requests_of plan = plan.items
