@@ -16,7 +16,7 @@ use Rattle.clap.specs.Matches.{subcommand_name_of}
 use Rattle.clap.specs.declared.parser.matches.ArgMatches.{ArgMatches}
 use Rattle.clap.specs.declared.parser.matches.ArgMatches.TheViews.{out-ArgMatches}
 use Rattle.clap.specs.Takes.{is_given}
-use Rattle.clap.specs.Values.{reading_of, refused_kind}
+use Rattle.clap.specs.Values.{bool_text, reading_of, refused_kind}
 use Rattle.clap.specs.ValueTests.{accepts}
 use Rattle.clap.specs.Walk.{Held, Names, Row, Rule, Text, all_of, answers_to, arg_by_id, default_rows, finished, first_of, has_row, more_values, nothing_held, reading_by, rows_after, settled, stop_after, walk, walk_from, with_default, with_values}
 use Rattle.clap.specs.declared.builder.command.Command.{Command}
@@ -29,7 +29,7 @@ use Rattle.clap.specs.declared.parser.matches.ValueSource.{ValueSource}
 use Rattle.clap.specs.declared.parser.matches.ValueSource.TheVariants.{DefaultValue}
 use Rattle.like_words.specs.declared.asked.Asked.{Asked}
 use Rattle.like_words.specs.declared.asked.Asked.TheVariants.{Run, Replay, Help}
-use Rattle.like_words.specs.Asked.{Asks, Gives, GivesReplay, GivesRun, HasAll, HasNumber, IsEntered, MayHaveNumber}
+use Rattle.like_words.specs.Asked.{Asks, Gives, GivesReplay, GivesRun, HasAll, HasFlag, HasNumber, IsEntered, MayHaveNumber}
 use Rattle.like_words.specs.CommandLine.{likes, replay_command, run_command}
 use Rattle.like_words.proofs.Walked.{AllFit, FirstPasses, Good, IsGood, good_defaults, good_settled, good_walk, neither, some_kind}
 
@@ -145,6 +145,28 @@ may_be_found c a least most rows g own parser = go (has_row a.id rows) refl
     go true h = inr (number_found c a least most rows g own h parser)
     go false h = inl (rw (no_row a.id rows h) refl)
 
+-- a text that is one of two is written by a truth
+truth_of : (t : Text) (a b : Bool) → bytes_eq t (codes "true") ≡ a → bytes_eq t (codes "false") ≡ b → (a || b) ≡ true → (x : Bool) × (t ≡ bool_text x)
+truth_of t true b is isnt h = (true, (bytes_eq-Decides t (codes "true")).0 is)
+truth_of t false true isnt is h = (false, (bytes_eq-Decides t (codes "false")).0 is)
+truth_of t false false isnt neither_is h = absurd (true≢false (sym h))
+
+-- a flag that has a row has one of its values
+flag_found : (c : List Rule) (a : Rule) (rows : List Row) → Good c rows → arg_by_id c a.id ≡ Some a → has_row a.id rows ≡ true
+    → a.parser ≡ Some vp.Bool → HasFlag rows a.id
+flag_found c a rows g own h parser =
+    let found = row_found c a rows g own h in
+    go found.0 found.1 found.2.reading found.0.values refl found.2.first
+  where
+    go : (r : Row) → find (λ x. bytes_eq x.id a.id) rows ≡ Some r → r.reading ≡ reading_by a → (values : List Text) → r.values ≡ values → FirstPasses a values
+        → HasFlag rows a.id
+    go r is how [] e none = absurd none
+    go r is how (v ∷ vs) e first =
+        let how_read : r.reading ≡ reading_of vp.Bool = how ∙ ap (λ (p : Option ValueParser). reading_of (parser_of_value p)) parser in
+        let passes : value_kinds a.ignore_case vp.Bool v ≡ [] = subst (λ (p : Option ValueParser). value_kinds a.ignore_case (parser_of_value p) v ≡ []) parser first in
+        let truth = truth_of v (bytes_eq v (codes "true")) (bytes_eq v (codes "false")) refl refl (accepted a.ignore_case vp.Bool v passes) in
+        (truth.0, rw (is, e, how_read) (ap Some truth.1))
+
 text_found : (c : List Rule) (a : Rule) (rows : List Row) → Good c rows → arg_by_id c a.id ≡ Some a → has_row a.id rows ≡ true
     → (v : Text) × (vs : List Text) × (all_of a.id rows ≡ Some (v ∷ vs)) × (first_of a.id rows ≡ Some v)
 text_found c a rows g own h =
@@ -180,7 +202,7 @@ abbrev run_rule_at : ℕ → Rule
 run_rule_at i = slice_index_or run_rules i (new_rule [])
 
 run_rules_fit : AllFit run_rules run_rules
-run_rules_fit = (record { own = refl; some = refl }, (record { own = refl; some = refl }, (record { own = refl; some = refl }, (record { own = refl; some = refl }, (record { own = refl; some = refl }, (record { own = refl; some = refl }, (record { own = refl; some = refl }, (record { own = refl; some = tt }, tt))))))))
+run_rules_fit = (record { own = refl; some = refl }, (record { own = refl; some = refl }, (record { own = refl; some = refl }, (record { own = refl; some = refl }, (record { own = refl; some = refl }, (record { own = refl; some = tt }, (record { own = refl; some = refl }, (record { own = refl; some = refl }, (record { own = refl; some = tt }, tt)))))))))
 
 abbrev replay_built : Shape
 replay_built = built_sub replay_command
@@ -192,7 +214,7 @@ abbrev replay_rule_at : ℕ → Rule
 replay_rule_at i = slice_index_or replay_rules i (new_rule [])
 
 replay_rules_fit : AllFit replay_rules replay_rules
-replay_rules_fit = (record { own = refl; some = refl }, (record { own = refl; some = refl }, (record { own = refl; some = refl }, (record { own = refl; some = refl }, (record { own = refl; some = refl }, (record { own = refl; some = refl }, (record { own = refl; some = refl }, (record { own = refl; some = refl }, (record { own = refl; some = tt }, tt)))))))))
+replay_rules_fit = (record { own = refl; some = refl }, (record { own = refl; some = refl }, (record { own = refl; some = refl }, (record { own = refl; some = refl }, (record { own = refl; some = refl }, (record { own = refl; some = tt }, (record { own = refl; some = refl }, (record { own = refl; some = refl }, (record { own = refl; some = refl }, (record { own = refl; some = tt }, tt))))))))))
 
 -- a test of two that must both fail
 both_given : (a b : Bool) → cond (not a || (not b || false)) (MissingRequiredArgument ∷ []) [] ≡ []
@@ -213,14 +235,15 @@ run_found words none =
     let good = good_defaults run_rules run_rules start run_rules_fit settled_good c.0 in
     let rows = rows_after run_rules [] words in
     let given = both_given (is_given (codes "pages") rows) (is_given (codes "requests") rows) c.1 in
-    let pages = text_found run_rules (run_rule_at 5) rows good refl (given_row _ rows given.0) in
-    let requests = text_found run_rules (run_rule_at 6) rows good refl (given_row _ rows given.1) in
+    let pages = text_found run_rules (run_rule_at 6) rows good refl (given_row _ rows given.0) in
+    let requests = text_found run_rules (run_rule_at 7) rows good refl (given_row _ rows given.1) in
     record {
       workers = number_found run_rules (run_rule_at 0) 1 16 rows good refl (has_default [] (run_rule_at 0) (drop 1 run_rules) (codes "4") start refl) refl;
       users = number_found run_rules (run_rule_at 1) 1 1000000 rows good refl (has_default (take 1 run_rules) (run_rule_at 1) (drop 2 run_rules) (codes "1000") start refl) refl;
       stash = number_found run_rules (run_rule_at 2) 1 4096 rows good refl (has_default (take 2 run_rules) (run_rule_at 2) (drop 3 run_rules) (codes "256") start refl) refl;
       turns = number_found run_rules (run_rule_at 3) 0 1000000 rows good refl (has_default (take 3 run_rules) (run_rule_at 3) (drop 4 run_rules) (codes "1000") start refl) refl;
       hot = may_be_found run_rules (run_rule_at 4) 1 1000000 rows good refl refl;
+      places = flag_found run_rules (run_rule_at 5) rows good refl (has_default (take 5 run_rules) (run_rule_at 5) (drop 6 run_rules) (codes "false") start refl) refl;
       pages = (pages.0, pages.3);
       requests = (requests.0 ∷ requests.1, requests.2, omega arith);
     }
@@ -237,14 +260,15 @@ replay_found words none =
     let good = good_defaults replay_rules replay_rules start replay_rules_fit settled_good c.0 in
     let rows = rows_after replay_rules [] words in
     let given = both_given (is_given (codes "pages") rows) (is_given (codes "requests") rows) c.1 in
-    let pages = text_found replay_rules (replay_rule_at 6) rows good refl (given_row _ rows given.0) in
-    let requests = text_found replay_rules (replay_rule_at 7) rows good refl (given_row _ rows given.1) in
+    let pages = text_found replay_rules (replay_rule_at 7) rows good refl (given_row _ rows given.0) in
+    let requests = text_found replay_rules (replay_rule_at 8) rows good refl (given_row _ rows given.1) in
     record {
       workers = number_found replay_rules (replay_rule_at 0) 1 16 rows good refl (has_default [] (replay_rule_at 0) (drop 1 replay_rules) (codes "4") start refl) refl;
       users = number_found replay_rules (replay_rule_at 1) 1 1000000 rows good refl (has_default (take 1 replay_rules) (replay_rule_at 1) (drop 2 replay_rules) (codes "1000") start refl) refl;
       stash = number_found replay_rules (replay_rule_at 2) 1 4096 rows good refl (has_default (take 2 replay_rules) (replay_rule_at 2) (drop 3 replay_rules) (codes "256") start refl) refl;
       turns = number_found replay_rules (replay_rule_at 3) 0 1000000 rows good refl (has_default (take 3 replay_rules) (replay_rule_at 3) (drop 4 replay_rules) (codes "1000") start refl) refl;
       hot = may_be_found replay_rules (replay_rule_at 4) 1 1000000 rows good refl refl;
+      places = flag_found replay_rules (replay_rule_at 5) rows good refl (has_default (take 5 replay_rules) (replay_rule_at 5) (drop 6 replay_rules) (codes "false") start refl) refl;
       pages = (pages.0, pages.3);
       requests = (requests.0 ∷ requests.1, requests.2, omega arith);
     }

@@ -51,10 +51,16 @@ abbrev pub Good : List Rule → List Row → Type 0
 Good c [] = Unit {0}
 Good c (r ∷ rs) = GoodRow c r × Good c rs
 
--- an argument that is used takes one value or more, or is a request for help
+-- some text is there
+abbrev pub HasText : List Text → Type 0
+HasText [] = ⊥
+HasText (v ∷ vs) = Unit {0}
+
+-- an argument that is used takes one value or more, or is a flag with a value of its own, or a request for help
 abbrev pub TakesSome : ArgAction → Rule → Type 0
 TakesSome act.Set a = nat_lt 0 (unwrap_or_range a.range).start_inclusive ≡ true
 TakesSome act.Append a = nat_lt 0 (unwrap_or_range a.range).start_inclusive ≡ true
+TakesSome act.SetTrue a = HasText a.missing
 TakesSome act.Help a = Unit {0}
 TakesSome _ a = ⊥
 
@@ -128,7 +134,15 @@ good_used_as act.Set again c a (v ∷ vs) rows own some g range none =
 good_used_as act.Append again c a [] rows own some g range none = absurd (none_given _ _ some range)
 good_used_as act.Append again c a (v ∷ vs) rows own some g range none = good_values c a _ (v ∷ vs) rows own (first_of_all a v vs none) g
 good_used_as act.Help again c a values rows own some g range none = g
-good_used_as act.SetTrue again c a values rows own some g range none = absurd some
+good_used_as act.SetTrue again c a values rows own some g range none = go (values_or_missing a values) (has_some values) none
+  where
+    has_some : (vs : List Text) → HasText (values_or_missing a vs)
+    has_some [] = some
+    has_some (v ∷ vs) = tt
+
+    go : (vs : List Text) → HasText vs → action_fault act.SetTrue again a vs rows ≡ [] → Good c (used_as act.SetTrue a.id (reading_by a) vs rows)
+    go [] has fault = absurd has
+    go (v ∷ vs) has fault = good_values c a _ (v ∷ vs) (without a.id rows) own (first_of_all a v vs (neither _ _ fault).1) (good_without c a.id rows g)
 good_used_as act.SetFalse again c a values rows own some g range none = absurd some
 good_used_as act.Count again c a values rows own some g range none = absurd some
 good_used_as act.HelpShort again c a values rows own some g range none = absurd some

@@ -1,9 +1,9 @@
 -- What words ask for.
-use Rattle.std.specs.Prelude.{◌≡◌, ◌≢◌, ◌≤◌, ◌<◌, ◌⊎◌, ℕ, List, [], length, map, codes, pos, Option, None, Some, option_map, IsSomeAnd, string_bytes, MatchOption, MatchResult, Result, ⊤}
+use Rattle.std.specs.Prelude.{◌≡◌, ◌≢◌, ◌≤◌, ◌<◌, ◌⊎◌, ℕ, Bool, List, [], length, map, codes, pos, Option, None, Some, option_map, IsSomeAnd, string_bytes, MatchOption, MatchResult, Result, ⊤}
 use Rattle.std.specs.Str.Parse.{IsNumeral, digits_value, without_leading_plus}
 use Rattle.clap.specs.Kinds.{IsAmong}
 use Rattle.clap.specs.Lexer.{without_minus}
-use Rattle.clap.specs.Values.{IsSignedIn}
+use Rattle.clap.specs.Values.{IsSignedIn, bool_text}
 use Rattle.clap.specs.Words.{Row, Text, all_of, fault_of, first_of, one_of, subcommand_of}
 use Rattle.clap.specs.declared.error.kind.ErrorKind.{ErrorKind}
 use Rattle.clap.specs.declared.error.kind.ErrorKind.TheVariants.{DisplayHelp}
@@ -35,6 +35,14 @@ MayHaveNumber rows name least most = (one_of name rows ≡ None) ⊎ HasNumber r
 abbrev pub MayBeNumber : List Row → Text → ℕ → ℕ → Option ℕ → Type 0
 MayBeNumber rows name least most o = MatchOption o (one_of name rows ≡ None) (IsNumber rows name least most)
 
+-- a flag has the value `true` where it was given, and else `false`
+abbrev pub IsFlag : List Row → Text → Bool → Type 0
+IsFlag rows name b = one_of name rows ≡ Some (bool_text b)
+
+-- a flag has one of these values
+abbrev pub HasFlag : List Row → Text → Type 0
+HasFlag rows name = (b : Bool) × IsFlag rows name b
+
 -- clap found what a run and a replay need
 pub record HasAll (rows : List Row) : Type 0 where
   pub workers : HasNumber rows (codes "workers") 1 16
@@ -42,6 +50,7 @@ pub record HasAll (rows : List Row) : Type 0 where
   pub stash : HasNumber rows (codes "stash") 1 4096
   pub turns : HasNumber rows (codes "turns") 0 1000000
   pub hot : MayHaveNumber rows (codes "hot") 1 1000000
+  pub places : HasFlag rows (codes "places")
   pub pages : (name : Text) × (first_of (codes "pages") rows ≡ Some name)
   pub requests : (names : List Text) × (all_of (codes "requests") rows ≡ Some names) × (0 < length names)
 
@@ -52,6 +61,7 @@ pub record HasValues (rows : List Row) (o : Options) : Type 0 where
   pub stash : IsNumber rows (codes "stash") 1 4096 o.stash
   pub turns : IsNumber rows (codes "turns") 0 1000000 o.turns
   pub hot : MayBeNumber rows (codes "hot") 1 1000000 o.hot
+  pub places : IsFlag rows (codes "places") o.places
   pub pages : first_of (codes "pages") rows ≡ Some (string_bytes o.pages)
   pub requests : all_of (codes "requests") rows ≡ Some (map string_bytes o.requests.items)
   pub some_requests : 0 < length o.requests.items

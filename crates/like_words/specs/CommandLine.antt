@@ -3,7 +3,7 @@ use Rattle.std.specs.Prelude.{ℕ, true, false, List, [], ◌∷◌, ◌++◌, c
 use Rattle.clap.specs.Lexer.{usize_max}
 use Rattle.clap.specs.Simple.{new_shape}
 use Rattle.clap.specs.Words.{App, Rule, Shape, Text, new_rule}
-use Rattle.clap.specs.declared.builder.action.ArgAction.TheVariants.{Append, Set}
+use Rattle.clap.specs.declared.builder.action.ArgAction.TheVariants.{Append, Set, SetTrue}
 use Rattle.clap.specs.declared.builder.value_parser.ValueParser.TheVariants as vp
 
 -- an option for a whole number within bounds, which may be left out
@@ -18,6 +18,10 @@ bounded_rule name least most = record (new_rule name) {
 -- an option for a whole number within bounds, with its default
 abbrev pub number_rule : Text → Text → ℕ → ℕ → Rule
 number_rule name default least most = record (bounded_rule name least most) { defaults = default ∷ [] }
+
+-- an option without a value
+abbrev pub flag_rule : Text → Rule
+flag_rule name = record (new_rule name) { long = Some name; action = Some SetTrue }
 
 -- an option for a text
 abbrev pub text_rule : Text → Rule
@@ -36,13 +40,14 @@ required_list_rule name = record (new_rule name) {
   range = Some (record { start_inclusive = 1; end_inclusive = usize_max });
 }
 
--- the options of a run's settings
-abbrev pub settings_rules : List Rule
-settings_rules = number_rule (codes "workers") (codes "4") 1 16
+-- the options of runs and replays
+abbrev pub option_rules : List Rule
+option_rules = number_rule (codes "workers") (codes "4") 1 16
     ∷ number_rule (codes "users") (codes "1000") 1 1000000
     ∷ number_rule (codes "stash") (codes "256") 1 4096
     ∷ number_rule (codes "turns") (codes "1000") 0 1000000
     ∷ bounded_rule (codes "hot") 1 1000000
+    ∷ flag_rule (codes "places")
     ∷ []
 
 -- the names of the files of a run
@@ -50,11 +55,11 @@ abbrev pub files_rules : List Rule
 files_rules = required_rule (codes "pages") ∷ required_list_rule (codes "requests") ∷ []
 
 abbrev pub run_command : Shape
-run_command = record (new_shape (codes "run")) { rules = settings_rules ++ files_rules }
+run_command = record (new_shape (codes "run")) { rules = option_rules ++ files_rules }
 
 abbrev pub replay_command : Shape
 replay_command = record (new_shape (codes "replay")) {
-  rules = settings_rules ++ text_rule (codes "script") ∷ files_rules;
+  rules = option_rules ++ text_rule (codes "script") ∷ files_rules;
 }
 
 -- the command line of the program: one of its subcommands is required, and the words have no name of the program

@@ -1,7 +1,7 @@
 ghost use Rattle.std.specs.Prelude.{◌≡◌, IfOk, codes, false, fold};
 ghost use Rattle.clap.specs.Words.{app_of, rule_of, shape_of, with_rule};
 ghost use Rattle.clap.specs.declared.builder.command.Command.TheViews.{out-Command};
-ghost use Rattle.like_words.specs.CommandLine.{bounded_rule, likes, number_rule, replay_command, required_list_rule, required_rule, run_command, settings_rules, text_rule};
+ghost use Rattle.like_words.specs.CommandLine.{bounded_rule, flag_rule, likes, number_rule, option_rules, replay_command, required_list_rule, required_rule, run_command, text_rule};
 
 use crate::help;
 use clap::builder::ValueParser;
@@ -41,6 +41,17 @@ fn number_option<'a>(
     bounded_option(alloc, name, value_name, least, most).default_value(default)
 }
 
+// The flag that asks for places.
+fn places_flag<'a>(alloc: Global) -> Arg<'a>
+    ensures rule { rule_of result ≡ flag_rule (codes "places") }
+    ensures local { result.global ≡ false }
+{
+    Arg::new(alloc, "places")
+        .long("places")
+        .action(ArgAction::SetTrue)
+        .help(help::PLACES)
+}
+
 // The option for the script file.
 fn script_option<'a>(alloc: Global) -> Arg<'a>
     ensures rule { rule_of result ≡ text_rule (codes "script") }
@@ -78,9 +89,9 @@ fn requests_argument<'a>(alloc: Global) -> Arg<'a>
         .help(help::REQUESTS)
 }
 
-// The command with the options of a run's settings.
-fn with_settings<'a>(alloc: Global, command: Command<'a>) -> Result<Command<'a>, AllocError>
-    ensures rules { IfOk result (λ c. app_of c ≡ fold with_rule (app_of command.entry) settings_rules) }
+// The command with the options of runs and replays.
+fn with_options<'a>(alloc: Global, command: Command<'a>) -> Result<Command<'a>, AllocError>
+    ensures rules { IfOk result (λ c. app_of c ≡ fold with_rule (app_of command.entry) option_rules) }
     ensures local { (out-Command command.entry).has_globals ≡ false
         → IfOk result (λ c. (out-Command c).has_globals ≡ false) }
 {
@@ -94,7 +105,8 @@ fn with_settings<'a>(alloc: Global, command: Command<'a>) -> Result<Command<'a>,
         .arg(users)?
         .arg(stash)?
         .arg(turns)?
-        .arg(hot)
+        .arg(hot)?
+        .arg(places_flag(alloc))
 }
 
 // The subcommand `run`.
@@ -105,7 +117,7 @@ fn run<'a>(alloc: Global) -> Result<Command<'a>, AllocError>
     let command = Command::new(alloc, "run")
         .about(help::RUN)
         .after_help(help::REPORT);
-    with_settings(alloc, command)?
+    with_options(alloc, command)?
         .arg(pages_argument(alloc))?
         .arg(requests_argument(alloc))
 }
@@ -118,7 +130,7 @@ fn replay<'a>(alloc: Global) -> Result<Command<'a>, AllocError>
     let command = Command::new(alloc, "replay")
         .about(help::REPLAY)
         .after_help(help::REPORT);
-    with_settings(alloc, command)?
+    with_options(alloc, command)?
         .arg(script_option(alloc))?
         .arg(pages_argument(alloc))?
         .arg(requests_argument(alloc))

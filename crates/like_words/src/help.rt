@@ -47,6 +47,11 @@ a split one are split in it, whatever PAGES says, until
 many pages wait; without this option PAGES alone says
 which pages are split";
 
+pub const PLACES: &str = "\
+Also reports, behind all else, each addition to a page's
+count: its worker, its phase, the count that it found and
+the likes. By these rows every count can be audited";
+
 pub const SCRIPT: &str = "\
 A file of turns to take before the rounds: CSV with the
 header turn,index and up to 1000000 rows
@@ -84,18 +89,20 @@ that are liked most just then are split too.
 
 The report is CSV with the header row,id,number,phase,answer,page,count:
   row     reply for each request, then page for each page, then user for each
-          user with a like, then hot for each page that was hot in a phase
-  id      of a reply its submitter, of a page or a hot page its place, both from
-          0; of a user its number
-  number  of a reply: the place of the request in its file, from 1
+          user with a like, then hot for each page that was hot in a phase, and
+          with --places place for each addition to a page's count
+  id      of a reply its submitter, of a page, a hot page or an addition the
+          page's number, all from 0; of a user its number
+  number  of a reply: the number of the request in its file, from 1; of an
+          addition: its worker, from 0
   phase   of a reply: the phase in which the request ran; of a hot page: the
-          phase in which it was hot
-  answer  of a reply: one of the five below
+          phase in which it was hot; of an addition: its phase
+  answer  of a reply: one of the five below; of an addition: the count before it
   page    of a look: the page of its user's last like at that moment, empty
-          where there is none; of a page or a hot page: its name; of a user:
-          the page of its last like
+          where there is none; of a page, a hot page or an addition: the page's
+          name; of a user: the page of its last like
   count   of a look: the count of the page that was asked for; of a page: its
-          final count
+          final count; of an addition: how many likes it added
 
 The answers:
   liked         the like is counted
@@ -118,7 +125,8 @@ Example:
   printf 'op,user,page\\nlike,0,news\\nlook,0,news\\n' > requests.csv
   likes run pages.csv requests.csv
   likes replay --workers 1 pages.csv requests.csv
-  likes replay --workers 1 --turns 0 --hot 1 pages.csv requests.csv";
+  likes replay --workers 1 --turns 0 --hot 1 pages.csv requests.csv
+  likes replay --workers 1 --places pages.csv requests.csv";
 
 pub const STATUSES: &str = "\
 Take run to use all processors, and replay for the same report every time. Final

@@ -1,6 +1,6 @@
 ghost use Rattle.std.specs.Prelude.{◌≡◌, ◌<◌, ◌^◌, ℕ, List, IfOk, Some, codes, map, option_map, string_bytes};
 ghost use Rattle.clap.specs.Words.{Row, Text, all_of, first_of, found_of, rows_of, subcommand_rows_of};
-ghost use Rattle.like_words.specs.Asked.{Gives, HasAll, HasNumber, HasValues, IsEntered, IsNumber, MayBeNumber, MayHaveNumber};
+ghost use Rattle.like_words.specs.Asked.{Gives, HasAll, HasFlag, HasNumber, HasValues, IsEntered, IsFlag, IsNumber, MayBeNumber, MayHaveNumber};
 
 use crate::asked::Asked;
 use crate::options::Options;
@@ -39,6 +39,7 @@ fn options(
     let stash = number(matches, "stash");
     let turns = number(matches, "turns");
     let hot = optional_number(matches, "hot");
+    let places = flag(matches, "places");
     let pages = pages_file(alloc, matches)?;
     let requests = request_files(alloc, matches)?;
     Ok(Options {
@@ -47,6 +48,7 @@ fn options(
         stash,
         turns,
         hot,
+        places,
         pages,
         requests,
         script,
@@ -71,6 +73,14 @@ fn optional_number(matches: &ArgMatches<'_>, id: &str) -> Option<u32>
         → MayHaveNumber rows id.now least most → MayBeNumber rows id.now least most result }
 {
     matches.get_one::<u32>(id)
+}
+
+// Whether a flag was given.
+fn flag(matches: &ArgMatches<'_>, id: &str) -> bool
+    requires { HasFlag (rows_of (found_of matches.now)) id.now }
+    ensures { IsFlag (rows_of (found_of matches.now)) id.now result }
+{
+    matches.get_flag(id)
 }
 
 // The name of the pages file.

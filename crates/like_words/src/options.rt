@@ -7,6 +7,8 @@ pub struct Options {
     pub turns: u32,
     /// How many likes make a page hot, where the coordinator is to choose hot pages.
     pub hot: Option<u32>,
+    /// Whether the report's places are written behind it.
+    pub places: bool,
     /// The name of the pages file.
     pub pages: String,
     /// The names of the request files, by submitter.

@@ -58,6 +58,7 @@ fn defaults(rt: HostRuntime) -> Result<(), Fail> {
     assert_eq!(rt; options.stash, 256);
     assert_eq!(rt; options.turns, 1_000);
     assert_eq!(rt; options.hot, None);
+    assert!(rt; !options.places);
     assert_eq!(rt; files(rt.alloc(), &options)?.as_str(), "p.csv r.csv");
     Ok(())
 }
@@ -70,8 +71,9 @@ fn values(rt: HostRuntime) -> Result<(), Fail> {
     assert_eq!(rt; options.workers, 2);
     assert_eq!(rt; options.users, 1_000);
     assert_eq!(rt; files(rt.alloc(), &options)?.as_str(), "p.csv a.csv b.csv");
-    let words = "replay p.csv --turns=0 a.csv --users=9 --script s.csv";
+    let words = "replay p.csv --turns=0 a.csv --places --users=9 --script s.csv";
     let options = replay(rt.alloc(), words)?;
+    assert!(rt; options.places);
     assert_eq!(rt; options.turns, 0);
     assert_eq!(rt; options.users, 9);
     assert_eq!(rt; files(rt.alloc(), &options)?.as_str(), "p.csv a.csv, s.csv");
@@ -85,10 +87,12 @@ fn asks_for_runs(rt: HostRuntime) -> Result<(), Fail> {
     assert_eq!(rt; options.users, 1_000);
     assert_eq!(rt; options.stash, 256);
     assert_eq!(rt; options.turns, 1_000);
+    assert!(rt; !options.places);
     assert_eq!(rt; files(rt.alloc(), &options)?.as_str(), "p.csv r.csv");
-    let words = "run --workers=16 p.csv --turns 0 a.csv --hot 9 b.csv";
+    let words = "run --workers=16 --places p.csv --turns 0 a.csv --hot 9 b.csv";
     let options = run(rt.alloc(), words)?;
     assert_eq!(rt; options.hot, Some(9));
+    assert!(rt; options.places);
     assert_eq!(rt; options.workers, 16);
     assert_eq!(rt; options.turns, 0);
     assert_eq!(rt; files(rt.alloc(), &options)?.as_str(), "p.csv a.csv b.csv");
@@ -145,6 +149,9 @@ fn wrong_words(rt: HostRuntime) -> Result<(), Fail> {
         "replay --workers two p.csv r.csv",
         "replay --workers 1 --workers 2 p.csv r.csv",
         "replay --hot 1 --hot 2 p.csv r.csv",
+        "replay --places --places p.csv r.csv",
+        "run --places p.csv r.csv --places",
+        "run --places=yes p.csv r.csv",
         "replay --speed 9 p.csv r.csv",
         "replay p.csv r.csv --script",
     ] {

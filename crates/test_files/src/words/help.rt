@@ -23,7 +23,7 @@ fn explains(text: &str, what: &str) -> bool {
 fn says_what_goes_in_and_comes_out(rt: HostRuntime) -> Result<(), Fail> {
     let columns = "name,count,split,op,user,page,row,id,number,phase,answer";
     let answers = "liked,seen,unknown-user,other-home,unknown-page";
-    let options = "--workers <N>,--users <U>,--stash <C>,--turns <T>,--hot <H>";
+    let options = "--workers <N>,--users <U>,--stash <C>,--turns <T>,--hot <H>,--places";
     for words in ["run --help", "replay -h", "replay p.csv --help"] {
         let text = help(rt.alloc(), words)?;
         for list in [columns, answers, options] {

@@ -15,6 +15,7 @@ returns-clause-values c =
       stash = c.number-stash.ensures 1 4096 (omega arith) c.requires.stash;
       turns = c.number-turns.ensures 0 1000000 (omega arith) c.requires.turns;
       hot = c.optional_number-hot.ensures 1 1000000 (omega arith) c.requires.hot;
+      places = c.flag-places.ensures;
       pages = c.in_ok-pages.ensures;
       requests = c.in_ok-requests.ensures;
       some_requests = omega (arith, size, c.requires.requests.2);
