@@ -1,5 +1,5 @@
 -- What the program has done for its words, and the status with which it ends.
-use Rattle.std.specs.Prelude.{◌≡◌, ◌⊎◌, ℕ, List, [], ◌∷◌, Option, None, Some, codes, string_bytes}
+use Rattle.std.specs.Prelude.{◌≡◌, ◌⊎◌, ℕ, false, List, [], ◌∷◌, Option, None, Some, codes, string_bytes}
 use Rattle.std.specs.Io.KnownBytes.{Appends}
 use Rattle.like_words.specs.Asked.{Asks, AsksForHelp, IsParseFault, Words}
 use Rattle.like_files.specs.Faults.{IsBeforeOutput}
@@ -20,13 +20,14 @@ example_pages = codes "name,count,split\na,10,no\n"
 abbrev pub example_requests : List ℕ
 example_requests = codes "op,user,page\nlike,0,a\nlike,1,a\nlike,0,a\n"
 
--- options have the numbers of the example
+-- options have the numbers of the example, and ask for no places
 pub record IsExample (o : Options) : Type 0 where
   pub workers : o.workers ≡ 1
   pub users : o.users ≡ 2
   pub stash : o.stash ≡ 256
   pub turns : o.turns ≡ 1000
   pub hot : o.hot ≡ None
+  pub places : o.places ≡ false
 
 -- the example was replayed
 pub record HasReplayedExample (old new : Option (List ℕ)) : Type 0 where

@@ -38,6 +38,7 @@ fn example_options(alloc: Global) -> Result<Options, AllocError>
         stash: 256,
         turns: 1_000,
         hot: None,
+        places: false,
         pages: String::from_str(alloc, "pages.csv")?,
         requests,
         script: None,

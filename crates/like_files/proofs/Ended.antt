@@ -1,11 +1,12 @@
 -- Why a run or a replay ended without its report.
-use Rattle.std.proofs.Common.{◌≡◌, ℕ, List, Option, subst}
+use Rattle.std.proofs.Common.{◌≡◌, ◌∙◌, ℕ, Bool, false, true, List, Vec, Global, Option, length, subst, sym}
+use Rattle.std.proofs.lemmas.List.{length-map}
 use Rattle.std.specs.Io.KnownBytes.{Appends}
 use Rattle.like_requests.specs.declared.setup.Setup.{Setup}
-use Rattle.like_replies.specs.Reported.{reported}
-use Rattle.like_replies.specs.Rows.{report_text}
+use Rattle.like_replies.specs.declared.place.Place.{Place}
 use Rattle.like_replies.specs.declared.report.Report.{Report}
 use Rattle.like_crew.specs.EndToEnd.{IsRightReport}
+use Rattle.like_crew.specs.Tiling.{HasNoPlaces, HasRightPlaces}
 use Rattle.like_requests.specs.Pages.{Page}
 use Rattle.like_requests.specs.Setup.{IsWithinLimits}
 use Rattle.like_requests.specs.declared.request.Request.{Request}
@@ -20,14 +21,19 @@ use Rattle.like_run.specs.declared.threads.fault.RunFault.TheVariants as threads
 use Rattle.like_script.specs.declared.turned.Turned.{Turned}
 use Rattle.like_words.specs.declared.options.Options.{Options}
 use Rattle.like_files.specs.Faults.{fault_of, fault_of_replay, fault_of_run}
-use Rattle.like_files.specs.Inputs.{GivesLists, Inputs, WritesReport, setup_of}
+use Rattle.like_files.specs.Inputs.{GivesLists, Inputs, WritesReport, setup_of, text_of}
 use Rattle.like_files.specs.Replay.{CanReplay, GivesAll, IsReplayFault}
 use Rattle.like_files.specs.Run.{CanRun, IsRunFault}
 
+-- right places are one list for each page
+pub one_list_a_page : (setup : Setup) (plans : List (List Request)) (report : Report) → HasRightPlaces setup plans report → length report.places.items ≡ length setup.pages
+one_list_a_page setup plans report right = sym (length-map report.places.items (λ (row : Vec Place Global). row.items)) ∙ right.rows.sized
+
 -- a report that is right for settings, which are those that were asked for, was written
-pub writes : (setup asked : Setup) (plans : List (List Request)) (report : Report) (old new : Option (List ℕ)) → setup ≡ asked → IsRightReport setup plans report
-    → Appends old new (report_text setup.pages (reported report)) → WritesReport asked plans old new
-writes setup asked plans report old new same right written = subst (λ (s : Setup). WritesReport s plans old new) same (record { report = report; right = right; written = written })
+pub writes : (places : Bool) (setup asked : Setup) (plans : List (List Request)) (report : Report) (old new : Option (List ℕ)) → setup ≡ asked → IsRightReport setup plans report
+    → (places ≡ true → HasRightPlaces setup plans report) → (places ≡ false → HasNoPlaces report) → Appends old new (text_of places setup.pages report) → WritesReport places asked plans old new
+writes places setup asked plans report old new same right placed none written =
+    subst (λ (s : Setup). WritesReport places s plans old new) same (record { report = report; right = right; placed = placed; none = none; written = written })
 
 module _ (options : Options) (inputs : Inputs) (pages : List Page) (plans : List (List Request)) where
   module _ (script : List Turned) (given : GivesAll inputs pages plans script) where

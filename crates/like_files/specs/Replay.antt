@@ -24,7 +24,7 @@ pub record HasReplayed (options : Options) (inputs : Inputs) (old new : Option (
   pub script : List Turned
   pub given : GivesAll inputs pages plans script
   pub fits : replay.Fits (setup_of options pages) plans script
-  pub reported : WritesReport (setup_of options pages) plans old new
+  pub reported : WritesReport options.places (setup_of options pages) plans old new
 
 -- some files were replayed, as many request files as the options name, and with a script just where they name one
 pub record HasReplayedSome (options : Options) (old new : Option (List ℕ)) : Type 0 where

@@ -17,7 +17,7 @@ pub record HasRun (options : Options) (inputs : Inputs) (old new : Option (List 
   pub plans : List (List Request)
   pub given : GivesLists inputs.pages inputs.requests pages plans
   pub within : IsWithinLimits (setup_of options pages) plans
-  pub reported : WritesReport (setup_of options pages) plans old new
+  pub reported : WritesReport options.places (setup_of options pages) plans old new
 
 -- some files were run, as many request files as the options name
 pub record HasRunSome (options : Options) (old new : Option (List ℕ)) : Type 0 where

@@ -8,6 +8,7 @@ mod plans;
 mod replay;
 mod run;
 mod setup;
+mod writing;
 
 pub use fault::DriverFault;
 pub use line::WRITE_FAILED;

@@ -1,5 +1,9 @@
-ghost use Rattle.std.specs.Prelude.{◌≡◌, ◌≤◌, IfErr, IfOk, MatchResult, OnOk, is_some, length, option_map};
+ghost use Rattle.std.specs.Prelude.{◌≡◌, ◌≤◌, false, true, IfErr, IfOk, MatchResult, OnOk, is_some, length, option_map};
 ghost use Rattle.like_script.specs.Limits.{max_entries};
+ghost use Rattle.like_crew.specs.Asked.{lists_of};
+ghost use Rattle.like_crew.specs.EndToEnd.{IsRightReport};
+ghost use Rattle.like_crew.specs.Tiling.{HasNoPlaces, HasRightPlaces};
+ghost use Rattle.like_run.specs.Rounds as rounds;
 ghost use Rattle.like_files.specs.Faults.{IsBeforeOutput};
 ghost use Rattle.like_files.specs.Inputs.{GivesScript, RefusesScript, inputs_of};
 ghost use Rattle.like_files.specs.Replay.{HasReplayed, IsReplayFault};
@@ -7,16 +11,17 @@ ghost use Rattle.like_files.specs.Replay.{HasReplayed, IsReplayFault};
 use crate::fault::DriverFault;
 use crate::plans::read_plans;
 use crate::setup::with_pages;
-use like_replies::write_report;
-use like_requests::read_pages;
-use like_run::{ScriptFault, Turned, read_script, replay};
+use crate::writing::write_text;
+use like_replies::Report;
+use like_requests::{Request, Setup, read_pages};
+use like_run::{ReplayFault, ScriptFault, Turned, read_script, replay, replay_without_places};
 use like_words::Options;
 use std::alloc::Global;
 use std::io::{Read, Write};
 
 /// Reads the pages file, the request files in their order and the script file, replays the run that they ask for, and
-/// writes its report. Where there is no script, no turn is taken before the rounds. After `Write` and `Memory` nothing
-/// is said of how much was written.
+/// writes its report, with its places where the options ask for them. Where there is no script, no turn is taken before
+/// the rounds. After `Write` and `Memory` nothing is said of how much was written.
 pub fn replay_files<R: Read + Drop, W: Write>(
     alloc: Global,
     options: &Options,
@@ -37,9 +42,31 @@ pub fn replay_files<R: Read + Drop, W: Write>(
     let plans = read_plans(alloc, &pages, requests)?;
     let script = read_turns(alloc, script)?;
     let setup = with_pages(options, pages);
-    let report = replay(alloc, &setup, plans, &script)?;
-    write_report(alloc, &report, &setup.pages, out)?;
+    let report = made(alloc, options.places, &setup, plans, &script)?;
+    write_text(alloc, options.places, &report, &setup.pages, out)?;
     Ok(())
+}
+
+// Replays the run, whose workers note their additions where places are asked for.
+fn made(
+    alloc: Global,
+    places: bool,
+    setup: &Setup,
+    plans: Vec<Vec<Request>>,
+    script: &[Turned],
+) -> Result<Report, ReplayFault>
+    requires { length script.now ≤ max_entries }
+    ensures report { IfOk result (IsRightReport setup.now (lists_of plans.items)) }
+    ensures places { places ≡ true → IfOk result (HasRightPlaces setup.now (lists_of plans.items)) }
+    ensures none { places ≡ false → IfOk result HasNoPlaces }
+    ensures fits { OnOk result (rounds.Fits setup.now (lists_of plans.items) script.now) }
+    ensures fault { IfErr result (rounds.IsReplayFault setup.now (lists_of plans.items) script.now) }
+{
+    if places {
+        replay(alloc, setup, plans, script)
+    } else {
+        replay_without_places(alloc, setup, plans, script)
+    }
 }
 
 // The entries of the script, and none where there is no script.

@@ -1,4 +1,9 @@
-ghost use Rattle.std.specs.Prelude.{◌≡◌, IfErr, None, OnOk, length};
+ghost use Rattle.std.specs.Prelude.{◌≡◌, false, true, IfErr, IfOk, None, OnOk, length};
+ghost use Rattle.like_requests.specs.Setup.{IsWithinLimits};
+ghost use Rattle.like_crew.specs.Asked.{lists_of};
+ghost use Rattle.like_crew.specs.EndToEnd.{IsRightReport};
+ghost use Rattle.like_crew.specs.Tiling.{HasNoPlaces, HasRightPlaces};
+ghost use Rattle.like_run.specs.Threads as threads;
 ghost use Rattle.like_files.specs.Faults.{IsBeforeOutput};
 ghost use Rattle.like_files.specs.Inputs.{inputs_of};
 ghost use Rattle.like_files.specs.Run.{HasRun, IsRunFault};
@@ -6,10 +11,11 @@ ghost use Rattle.like_files.specs.Run.{HasRun, IsRunFault};
 use crate::fault::DriverFault;
 use crate::plans::read_plans_at_once;
 use crate::setup::with_pages;
-use like_replies::write_report;
-use like_requests::read_pages;
+use crate::writing::write_text;
+use like_replies::Report;
+use like_requests::{Request, Setup, read_pages};
 use like_roles::NoGate;
-use like_run::run;
+use like_run::{RunFault, run, run_without_places};
 use like_words::Options;
 use std::alloc::Global;
 use std::io::{Read, Write};
@@ -17,7 +23,8 @@ use std::sync::Wait;
 use std::thread::Threads;
 
 /// Reads the pages file and then the request files, each on a thread where one can be had, makes the run that they ask
-/// for, on threads, and writes its report. The fault of the first file at fault stands. After `Write` and `Memory` nothing is said of how much was written.
+/// for, on threads, and writes its report, with its places where the options ask for them. The fault of the first file at
+/// fault stands. After `Write` and `Memory` nothing is said of how much was written.
 pub fn run_files<T: Threads + Wait + Sync, R: Read + Drop + Send, W: Write>(
     rt: &T,
     alloc: Global,
@@ -36,7 +43,28 @@ pub fn run_files<T: Threads + Wait + Sync, R: Read + Drop + Send, W: Write>(
     let pages = read_pages(alloc, pages)?;
     let plans = read_plans_at_once(rt, alloc, &pages, requests)?;
     let setup = with_pages(options, pages);
-    let report = run(rt, alloc, &setup, plans, &NoGate)?;
-    write_report(alloc, &report, &setup.pages, out)?;
+    let report = made(rt, alloc, options.places, &setup, plans)?;
+    write_text(alloc, options.places, &report, &setup.pages, out)?;
     Ok(())
+}
+
+// Makes the run, whose workers note their additions where places are asked for.
+fn made<T: Threads + Wait + Sync>(
+    rt: &T,
+    alloc: Global,
+    places: bool,
+    setup: &Setup,
+    plans: Vec<Vec<Request>>,
+) -> Result<Report, RunFault>
+    ensures report { IfOk result (IsRightReport setup.now (lists_of plans.items)) }
+    ensures places { places ≡ true → IfOk result (HasRightPlaces setup.now (lists_of plans.items)) }
+    ensures none { places ≡ false → IfOk result HasNoPlaces }
+    ensures within { OnOk result (IsWithinLimits setup.now (lists_of plans.items)) }
+    ensures fault { IfErr result (threads.IsRunFault setup.now (lists_of plans.items)) }
+{
+    if places {
+        run(rt, alloc, setup, plans, &NoGate)
+    } else {
+        run_without_places(rt, alloc, setup, plans, &NoGate)
+    }
 }

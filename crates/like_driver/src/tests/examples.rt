@@ -21,6 +21,7 @@ pub fn options(alloc: Global, users: u32, files: usize) -> Result<Options, Alloc
         stash: 256,
         turns: 1_000,
         hot: None,
+        places: false,
         pages: String::from_str(alloc, "p.csv")?,
         requests,
         script: None,
@@ -35,6 +36,7 @@ struct Case {
     stash: u32,
     turns: u32,
     hot: Option<u32>,
+    places: bool,
     pages: &'static str,
     requests: &'static [&'static str],
     script: Option<&'static str>,
@@ -47,6 +49,7 @@ const LONE: Case = Case {
     stash: 256,
     turns: 1_000,
     hot: None,
+    places: false,
     pages: "",
     requests: &[],
     script: None,
@@ -91,6 +94,7 @@ fn options_of(alloc: Global, case: Case) -> Result<Options, AllocError>
     options.stash = case.stash;
     options.turns = case.turns;
     options.hot = case.hot;
+    options.places = case.places;
     options.script = script;
     Ok(options)
 }
@@ -192,21 +196,20 @@ fn assert_report(rt: &impl Abort, alloc: Global, case: Case, rows: &str) {
     assert_eq!(rt; body, rows.as_bytes());
 }
 
+// Three likes in phase 0, and the rows of their report.
+const PLAIN_LIKES: Case = Case {
+    users: 2,
+    pages: "name,count,split\na,10,no\n",
+    requests: &["op,user,page\nlike,0,a\nlike,1,a\nlike,0,a\n"],
+    ..LONE
+};
+
+const PLAIN_LIKES_ROWS: &str = "reply,0,1,0,liked,,\nreply,0,2,0,liked,,\nreply,0,3,0,liked,,\n\
+    page,0,,,,a,13\nuser,0,,,,a,\nuser,1,,,,a,\n";
+
 #[test]
 fn plain_likes(rt: HostRuntime) {
-    let case = Case {
-        users: 2,
-        pages: "name,count,split\na,10,no\n",
-        requests: &["op,user,page\nlike,0,a\nlike,1,a\nlike,0,a\n"],
-        ..LONE
-    };
-    assert_report(
-        &rt,
-        rt.alloc(),
-        case,
-        "reply,0,1,0,liked,,\nreply,0,2,0,liked,,\nreply,0,3,0,liked,,\npage,0,,,,a,13\n\
-        user,0,,,,a,\nuser,1,,,,a,\n",
-    );
+    assert_report(&rt, rt.alloc(), PLAIN_LIKES, PLAIN_LIKES_ROWS);
 }
 
 #[test]
@@ -396,31 +399,71 @@ fn unsplit_in_split_phase(rt: HostRuntime) {
 }
 
 // Two workers like one page in their slices, and a look sees both likes.
+const TWO_SLICES: Case = Case {
+    workers: 2,
+    users: 2,
+    turns: 0,
+    pages: "name,count,split\na,100,yes\n",
+    requests: &[
+        "op,user,page\nlike,0,a\nlook,0,a\n",
+        "op,user,page\nlike,1,a\n",
+    ],
+    script: Some(
+        "turn,index\nopen,0\nopen,0\nopen,1\ncoordinator,0\nworker,0\nworker,1\n\
+        coordinator,0\nworker,0\nworker,1\nworker,0\ncoordinator,0\nworker,0\n\
+        coordinator,0\nworker,0\nworker,1\ncoordinator,0\nworker,0\n",
+    ),
+    ..LONE
+};
+
+const TWO_SLICES_ROWS: &str = "reply,0,1,1,liked,,\nreply,0,2,2,seen,a,102\nreply,1,1,1,liked,,\n\
+    page,0,,,,a,102\nuser,0,,,,a,\nuser,1,,,,a,\n";
+
 #[test]
 fn two_slices(rt: HostRuntime) {
-    let case = Case {
-        workers: 2,
-        users: 2,
-        turns: 0,
-        pages: "name,count,split\na,100,yes\n",
-        requests: &[
-            "op,user,page\nlike,0,a\nlook,0,a\n",
-            "op,user,page\nlike,1,a\n",
-        ],
-        script: Some(
-            "turn,index\nopen,0\nopen,0\nopen,1\ncoordinator,0\nworker,0\nworker,1\n\
-            coordinator,0\nworker,0\nworker,1\nworker,0\ncoordinator,0\nworker,0\n\
-            coordinator,0\nworker,0\nworker,1\ncoordinator,0\nworker,0\n",
+    assert_report(&rt, rt.alloc(), TWO_SLICES, TWO_SLICES_ROWS);
+}
+
+// Three likes in phase 1, which the worker merges at once.
+const ONE_MERGE: Case = Case {
+    turns: 0,
+    pages: "name,count,split\na,10,yes\n",
+    requests: &["op,user,page\nlike,0,a\nlike,0,a\nlike,0,a\n"],
+    script: Some(
+        "turn,index\nopen,0\nopen,0\nopen,0\ncoordinator,0\nworker,0\ncoordinator,0\nworker,0\n\
+        worker,0\nworker,0\ncoordinator,0\nworker,0\ncoordinator,0\n",
+    ),
+    ..LONE
+};
+
+const ONE_MERGE_ROWS: &str = "reply,0,1,1,liked,,\nreply,0,2,1,liked,,\nreply,0,3,1,liked,,\n\
+    page,0,,,,a,13\nuser,0,,,,a,\n";
+
+// Where places are asked for they stand behind the same rows: a place for each like that was added at once, and one for
+// all that were merged.
+#[test]
+fn place_rows(rt: HostRuntime) {
+    for (case, rows, places) in [
+        (
+            PLAIN_LIKES,
+            PLAIN_LIKES_ROWS,
+            "place,0,0,0,10,a,1\nplace,0,0,0,11,a,1\nplace,0,0,0,12,a,1\n",
         ),
-        ..LONE
-    };
-    assert_report(
-        &rt,
-        rt.alloc(),
-        case,
-        "reply,0,1,1,liked,,\nreply,0,2,2,seen,a,102\nreply,1,1,1,liked,,\npage,0,,,,a,102\n\
-        user,0,,,,a,\nuser,1,,,,a,\n",
-    );
+        (
+            TWO_SLICES,
+            TWO_SLICES_ROWS,
+            "place,0,0,1,100,a,1\nplace,0,1,1,101,a,1\n",
+        ),
+        (ONE_MERGE, ONE_MERGE_ROWS, "place,0,0,1,10,a,3\n"),
+    ] {
+        assert_report(&rt, rt.alloc(), case, rows);
+        let case = Case {
+            places: true,
+            ..case
+        };
+        let rows = format!(in rt.alloc(); "{rows}{places}");
+        assert_report(&rt, rt.alloc(), case, rows.expect(&rt, "memory").as_str());
+    }
 }
 
 // Three of four workers have no submitter.

@@ -149,14 +149,18 @@ fn shows_help(rt: HostRuntime) -> Result<(), Fail> {
 
 #[test]
 fn tells_wrong_words(rt: HostRuntime) -> Result<(), Fail> {
-    let (status, out, errors) = served(&rt, rt.alloc(), "walk p.csv r.csv")?;
-    assert_eq!(rt; status, 2);
-    assert!(rt; out.is_empty());
-    assert!(rt;
-        errors
-            .as_slice()
-            .starts_with(b"error: unrecognized subcommand 'walk'")
-    );
+    for (words, line) in [
+        ("walk p.csv r.csv", "error: unrecognized subcommand 'walk'"),
+        (
+            "replay --places p.csv --places r.csv",
+            "error: the argument '--places' cannot be used multiple times",
+        ),
+    ] {
+        let (status, out, errors) = served(&rt, rt.alloc(), words)?;
+        assert_eq!(rt; status, 2);
+        assert!(rt; out.is_empty());
+        assert!(rt; errors.as_slice().starts_with(line.as_bytes()), "{words}");
+    }
     Ok(())
 }
 

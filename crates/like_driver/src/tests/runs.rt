@@ -78,6 +78,20 @@ fn keeps_to_the_turns(rt: HostRuntime) -> Result<(), Fail> {
     Ok(())
 }
 
+// All likes are done before the coordinator has counted a million turns, so in phase 0.
+#[test]
+fn runs_with_places(rt: HostRuntime) -> Result<(), Fail> {
+    let mut options = options(rt.alloc(), 1, 1)?;
+    options.turns = 1_000_000;
+    options.places = true;
+    let requests = likes(rt.alloc(), 2)?;
+    let out = ran(&rt, rt.alloc(), &options, PAGES, requests.as_str())?;
+    assert!(rt;
+        out.ends_with(b"page,0,,,,a,12\nuser,0,,,,a,\nplace,0,0,0,10,a,1\nplace,0,0,0,11,a,1\n")
+    );
+    Ok(())
+}
+
 // The phase of each reply, by number.
 fn phases(alloc: Global, report: &str) -> Result<Vec<u32>, AllocError> {
     let mut phases = Vec::new(alloc);
