@@ -13,7 +13,7 @@ mod take_end;
 mod take_pass;
 
 pub use inbox::{Inbox, TakeWith};
-pub use line::Line;
+pub use line::{BATCH, Line};
 pub use list_inbox::ListInbox;
 pub use refused::{EndRefused, PushRefused};
 pub use send_end::SendEnd;

@@ -10,9 +10,18 @@ use crate::take_pass::TakePass;
 use like_requests::Request;
 use std::alloc::{AllocError, Global};
 use std::marker::{Brand, Model};
+use std::sync::Wait;
+use std::thread::Parker;
+use std::time::Duration;
 
 /// How many items a line holds at most.
 const CAPACITY: usize = 64;
+
+/// How many items one end hands over before it wakes the other, where that waits: half of those that a line holds.
+pub const BATCH: usize = CAPACITY / 2;
+
+// How many microseconds the thread that sends waits at most.
+const PATIENCE: u64 = 1000;
 
 /// A bounded queue between the thread of a submitter and its worker's, with the submitter's plan. Through it go the
 /// requests of the plan, numbered from 1, and then the end mark.
@@ -20,6 +29,8 @@ const CAPACITY: usize = 64;
 pub struct Line {
     pub(crate) queue: Queue,
     pub(crate) plan: Vec<Request>,
+    // Where the thread waits that sends.
+    pub(crate) sender: Parker,
 }
 
 impl Model for Line {
@@ -54,7 +65,23 @@ impl Line {
             pass: takes,
             taken: 0,
         };
-        Ok((Line { queue, plan }, send, take))
+        let line = Line {
+            queue,
+            plan,
+            sender: Parker::new(),
+        };
+        Ok((line, send, take))
+    }
+
+    // The thread that sends waits, but not for long.
+    pub(crate) fn wait<R: Wait>(&self, rt: &R) {
+        self.sender
+            .park_timeout(rt, Duration::from_micros(PATIENCE));
+    }
+
+    // Wakes that thread.
+    pub(crate) fn wake(&self) {
+        self.sender.unpark();
     }
 }
 

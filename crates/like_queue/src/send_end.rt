@@ -71,6 +71,12 @@ impl SendEnd<'_> {
         }
     }
 
+    /// Waits until a batch of items is taken, but not for long: for a line that was full. It may return early.
+    pub fn wait<R: Wait>(&self, rt: &R) {
+        let line = self.line;
+        line.wait(rt);
+    }
+
     // The end mark was pushed.
     fn has_ended(&self) -> bool
         ensures ended { result ≡ true → HasSentEnd self.now }

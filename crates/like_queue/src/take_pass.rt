@@ -3,7 +3,7 @@ ghost use Rattle.like_queue.specs.Inbox.{item_count};
 ghost use Rattle.like_queue.specs.Line.{one_taken};
 ghost use Rattle.like_queue.specs.Rule.{items_of};
 
-use crate::line::Line;
+use crate::line::{BATCH, Line};
 use crate::rule::{Item, QueuePass, Taking};
 use crate::take_end::TakeEnd;
 use std::marker::Model;
@@ -53,7 +53,8 @@ impl TakePass {
         self.taken
     }
 
-    // Takes the next item of the plan from its line, where the queue is not empty.
+    // Takes the next item of the plan from its line, where the queue is not empty. After a batch it wakes the thread that
+    // sends, where that waits.
     pub(crate) fn pop<R: Wait>(&mut self, rt: &R, line: &Line) -> Option<Item>
         requires { self.old.line ≡ line.now }
         ensures nothing { IfNone result (self.new ≡ self.old) }
@@ -63,6 +64,9 @@ impl TakePass {
     {
         let item = line.queue.pop_as::<Taking, R>(rt, &mut self.pass)?;
         self.taken += 1;
+        if self.taken % BATCH == 0 {
+            line.wake();
+        }
         Some(item)
     }
 }

@@ -8,6 +8,7 @@ ghost use Rattle.like_run.specs.Threads.{HasEndedOn, IsFaultUnderWay, IsRunFault
 
 use crate::threads::end::{coordinate, join_all};
 use crate::threads::lines::{Lines, send_ends, take_ends};
+use crate::threads::parkers::Parkers;
 use crate::threads::signal::tell;
 use crate::threads::start::start_workers;
 use crate::threads::submitters::start_submitters;
@@ -25,6 +26,7 @@ use std::thread::{Scope, Threads};
 mod end;
 mod fault;
 mod lines;
+mod parkers;
 mod signal;
 mod start;
 mod submitter;
@@ -158,8 +160,8 @@ fn on_threads<R: Threads + Wait + Sync, G: Gate>(
     ensures ended { IfOk result (HasEndedOn starts crew.entry ends.entry.items) }
     ensures fault { IfErr result IsFaultUnderWay }
 {
-    let start = OnceLock::new();
-    let signal = &start;
+    let parkers = &Parkers::new(alloc, crew.servers.len())?;
+    let start = &OnceLock::new();
     thread::scope(
         thread::scope_env(),
         rt,
@@ -167,7 +169,7 @@ fn on_threads<R: Threads + Wait + Sync, G: Gate>(
             requires { AreNewEnds ends.items }
             ensures ended { IfOk result (HasEndedOn starts crew.entry ends.entry.items) }
             ensures fault { IfErr result IsFaultUnderWay }
-        { in_scope(scope, rt, alloc, signal, crew, ends, gate, starts) },
+        { in_scope(scope, rt, alloc, start, parkers, crew, ends, gate, starts) },
     )
 }
 
@@ -177,6 +179,7 @@ fn in_scope<'s, E, R: Threads + Wait + Sync, G: Gate>(
     rt: &'s R,
     alloc: Global,
     start: &'s OnceLock<bool>,
+    parkers: &'s Parkers,
     crew: Crew<'s, TakeEnd<'s>>,
     ends: Vec<SendEnd<'s>>,
     gate: &'s G,
@@ -192,12 +195,20 @@ fn in_scope<'s, E, R: Threads + Wait + Sync, G: Gate>(
     let mut workers = Vec::with_capacity(alloc, servers.len())?;
     let mut submitters = Vec::with_capacity(alloc, ends.len())?;
     let left = starts.saturating_sub(servers.len());
-    let all = start_workers(scope, rt, gate, start, servers, &mut workers, starts)
-        && start_submitters(scope, rt, gate, start, ends, &mut submitters, left);
+    let all = start_workers(
+        scope,
+        rt,
+        gate,
+        start,
+        parkers,
+        servers,
+        &mut workers,
+        starts,
+    ) && start_submitters(scope, rt, gate, start, parkers, ends, &mut submitters, left);
     let Some(go) = tell(rt, start, all) else {
         return Err(RunFault::Start);
     };
-    coordinate(rt, &mut lead);
+    coordinate(rt, parkers, &mut lead);
     join_all(rt, workers, &go, &mut logs, &mut seats);
     Ok(Ended::new(lead, logs, seats))
 }

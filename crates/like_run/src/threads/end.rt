@@ -3,42 +3,55 @@ ghost use Rattle.like_roles.specs.CoordTurns.{HasEndedJoined};
 ghost use Rattle.like_crew.specs.Crew.{LeadGoesOn};
 ghost use Rattle.like_crew.specs.Ended.{HaveLeft};
 
+use crate::threads::parkers::Parkers;
 use crate::threads::worker::{Owes, Served};
 use like_board::WorkerSeat;
 use like_crew::Lead;
 use like_roles::{CoordTurn, WorkerLog};
 use std::sync::{OnceToken, Wait};
-use std::thread::{PromisedHandle, Threads, yield_now};
+use std::thread::{PromisedHandle, Threads};
 
-// How often it lets others run after a release, for each turn in which it waited for it.
-const RESTS: u32 = 2;
+// How many turns it counts in a row.
+const STRETCH: u32 = 32;
 
 /// Makes the coordinator's turns until it finds the run ended. A change of phase keeps workers from their requests, so
-/// after a release it makes no turn for a while, longer than it waited for that release.
-pub fn coordinate<R: Wait>(rt: &R, lead: &mut Lead<'_>)
+/// after a release it pauses as often as it waited for that release.
+pub fn coordinate<R: Wait>(rt: &R, parkers: &Parkers, lead: &mut Lead<'_>)
     ensures goes_on { LeadGoesOn lead.old lead.new }
     ensures ended { HasEndedJoined lead.new }
 {
-    let mut rests = 0;
+    let mut counted = 0u32;
+    let mut waits = 0u32;
     for _ in rt.forever() {
         match lead.turn() {
             CoordTurn::Ended => return,
-            CoordTurn::Waiting => rests = RESTS.saturating_add(rests),
-            CoordTurn::Released => {
-                rest(rests);
-                rests = RESTS;
+            CoordTurn::Counted | CoordTurn::Stays => {
+                counted = counted.wrapping_add(1);
+                if counted % STRETCH == 0 {
+                    parkers.pause(rt);
+                }
             }
-            _ => {}
+            CoordTurn::Announced => {
+                parkers.wake_all();
+                waits = 0;
+            }
+            CoordTurn::Waiting => {
+                parkers.wait_for_answers(rt);
+                waits = waits.saturating_add(1);
+            }
+            CoordTurn::Released => {
+                parkers.wake_all();
+                rest(rt, parkers, waits);
+            }
         }
-        yield_now();
     }
     unreachable!()
 }
 
-// Lets others run so often.
-fn rest(times: u32) {
+// Pauses so often.
+fn rest<R: Wait>(rt: &R, parkers: &Parkers, times: u32) {
     for _ in 0..times {
-        yield_now();
+        parkers.pause(rt);
     }
 }
 

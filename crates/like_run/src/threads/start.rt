@@ -1,6 +1,7 @@
 ghost use Rattle.std.specs.Prelude.{◌≡◌, ◌≤◌, true, [], All, length, map, vec_capacity};
 ghost use Rattle.like_run.specs.Threads.{Keeps};
 
+use crate::threads::parkers::Parkers;
 use crate::threads::worker::{Owes, Served, serve};
 use like_board::BoardPost;
 use like_crew::Server;
@@ -16,6 +17,7 @@ pub fn start_workers<'s, E, R: Threads + Wait + Sync, G: Gate>(
     rt: &'s R,
     gate: &'s G,
     start: &'s OnceLock<bool>,
+    parkers: &'s Parkers,
     servers: Vec<Server<BoardPost<'s>, TakeEnd<'s>>>,
     threads: &mut Vec<PromisedHandle<Served<'s>, Owes<'s>>>,
     most: usize,
@@ -31,6 +33,7 @@ pub fn start_workers<'s, E, R: Threads + Wait + Sync, G: Gate>(
         if threads.len() == most {
             return false;
         }
+        let worker = threads.len();
         let owes = Owes {
             server: Snapshot::of(&server),
             start,
@@ -39,7 +42,7 @@ pub fn start_workers<'s, E, R: Threads + Wait + Sync, G: Gate>(
             owes,
             move || -> Served
                 ensures { Keeps start.entry.now.id server.entry result }
-            { serve(rt, gate, start, server) },
+            { serve(rt, gate, start, parkers, worker, server) },
         );
         match thread {
             Ok(thread) => threads.push_reserved(thread),

@@ -1,18 +1,19 @@
 ghost use Rattle.std.specs.Prelude.{◌≡◌, None, Some};
 ghost use Rattle.like_queue.specs.Line.{HasSentEnd, next_of, one_sent};
 
+use crate::threads::parkers::Parkers;
 use crate::threads::signal::hear;
-use like_queue::SendEnd;
+use like_queue::{BATCH, SendEnd};
 use like_requests::Request;
 use like_roles::Gate;
 use std::sync::{OnceLock, Wait};
-use std::thread::yield_now;
 
 /// A submitter's thread: it waits until all threads were started, and then sends the submitter's plan.
 pub fn submit<R: Wait, G: Gate>(
     rt: &R,
     gate: &G,
     start: &OnceLock<bool>,
+    parkers: &Parkers,
     submitter: u32,
     end: SendEnd<'_>,
 )
@@ -21,12 +22,18 @@ pub fn submit<R: Wait, G: Gate>(
     let token = hear(rt, start);
     if *start.value(&token) {
         let mut end = end;
-        send_all(rt, gate, submitter, &mut end);
+        send_all(rt, gate, parkers, submitter, &mut end);
     }
 }
 
-// Sends the plan, a request after another, and then its end mark.
-fn send_all<R: Wait, G: Gate>(rt: &R, gate: &G, submitter: u32, end: &mut SendEnd<'_>)
+// Sends the plan, a request after another, and then its end mark. It wakes the worker after each batch, and at the end.
+fn send_all<R: Wait, G: Gate>(
+    rt: &R,
+    gate: &G,
+    parkers: &Parkers,
+    submitter: u32,
+    end: &mut SendEnd<'_>,
+)
     requires { end.old.sent ≡ 0 }
     ensures { HasSentEnd end.new }
 {
@@ -37,9 +44,13 @@ fn send_all<R: Wait, G: Gate>(rt: &R, gate: &G, submitter: u32, end: &mut SendEn
                 number += 1;
                 gate.push(submitter, number);
                 send(rt, end, request);
+                if number as usize % BATCH == 0 {
+                    parkers.wake_worker_of(submitter);
+                }
             }
             None => {
                 send_end(rt, end);
+                parkers.wake_worker_of(submitter);
                 return;
             }
         }
@@ -56,7 +67,7 @@ fn send<R: Wait>(rt: &R, end: &mut SendEnd<'_>, request: Request)
         if end.push(rt, request).is_ok() {
             return;
         }
-        yield_now();
+        end.wait(rt);
     }
     unreachable!()
 }
@@ -70,7 +81,7 @@ fn send_end<R: Wait>(rt: &R, end: &mut SendEnd<'_>)
         if end.end(rt).is_ok() {
             return;
         }
-        yield_now();
+        end.wait(rt);
     }
     unreachable!()
 }

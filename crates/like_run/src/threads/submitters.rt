@@ -1,6 +1,7 @@
 ghost use Rattle.std.specs.Prelude.{◌≡◌, ◌≤◌, true, [], length, vec_capacity};
 ghost use Rattle.like_run.specs.Lines.{AreNewEnds};
 
+use crate::threads::parkers::Parkers;
 use crate::threads::submitter::submit;
 use like_queue::SendEnd;
 use like_roles::Gate;
@@ -13,6 +14,7 @@ pub fn start_submitters<'s, E, R: Threads + Wait + Sync, G: Gate>(
     rt: &'s R,
     gate: &'s G,
     start: &'s OnceLock<bool>,
+    parkers: &'s Parkers,
     ends: Vec<SendEnd<'s>>,
     threads: &mut Vec<JoinHandle<()>>,
     most: usize,
@@ -31,7 +33,7 @@ pub fn start_submitters<'s, E, R: Threads + Wait + Sync, G: Gate>(
         let thread = scope.spawn(
             move ||
                 requires { end.sent ≡ 0 }
-            { submit(rt, gate, start, submitter, end) },
+            { submit(rt, gate, start, parkers, submitter, end) },
         );
         match thread {
             Ok(thread) => threads.push_reserved(thread),

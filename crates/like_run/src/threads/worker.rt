@@ -3,6 +3,7 @@ ghost use Rattle.like_core.specs.declared.worker_state.WorkerState.TheVariants.{
 ghost use Rattle.like_crew.specs.Server.{ServerGoesOn};
 ghost use Rattle.like_run.specs.Threads.{Keeps};
 
+use crate::threads::parkers::Parkers;
 use crate::threads::signal::hear;
 use like_board::{BoardPost, WorkerSeat};
 use like_core::Post;
@@ -11,7 +12,7 @@ use like_queue::{TakeEnd, TakeWith};
 use like_roles::{Gate, Turn, WorkerLog};
 use std::snapshot::Snapshot;
 use std::sync::{OnceLock, OnceToken, Wait};
-use std::thread::{Promise, yield_now};
+use std::thread::Promise;
 
 /// What a worker's thread ends with.
 #[derive(Drop)]
@@ -40,6 +41,8 @@ pub fn serve<'a, R: Wait, G: Gate>(
     rt: &R,
     gate: &G,
     start: &'a OnceLock<bool>,
+    parkers: &Parkers,
+    worker: usize,
     server: Server<BoardPost<'_>, TakeEnd<'_>>,
 ) -> Served<'a>
     ensures { Keeps start.now.id server.entry result }
@@ -49,16 +52,19 @@ pub fn serve<'a, R: Wait, G: Gate>(
         return Served::Stopped(token, server.leave().back());
     }
     let mut server = server;
-    make_turns(rt, gate, &mut server);
+    make_turns(rt, gate, parkers, worker, &mut server);
+    parkers.answer();
     let (log, post) = server.finish();
     Served::Left(log, post.back())
 }
 
-// Makes turns until the worker is gone. It lets others run where it has to wait, and where it found nothing in as many
-// turns as it has inboxes.
+// Makes turns until the worker is gone. It waits where it has nothing to do in its phase, and where it found nothing in
+// as many turns as it has inboxes.
 fn make_turns<R: Wait, G: Gate, P: Post, I: TakeWith<R>>(
     rt: &R,
     gate: &G,
+    parkers: &Parkers,
+    worker: usize,
     server: &mut Server<P, I>,
 )
     ensures goes_on { ServerGoesOn server.old server.new }
@@ -70,10 +76,12 @@ fn make_turns<R: Wait, G: Gate, P: Post, I: TakeWith<R>>(
         match server.turn(rt, gate) {
             Turn::Retired => return,
             Turn::Nothing if tries > 1 => tries -= 1,
-            Turn::Waiting | Turn::Idle | Turn::Nothing => {
-                yield_now();
+            Turn::Waiting | Turn::Nothing => {
+                parkers.wait(rt, worker);
                 tries = round;
             }
+            Turn::Idle => parkers.idle(rt, worker),
+            Turn::Acknowledged | Turn::Reported => parkers.answer(),
             _ => tries = round,
         }
     }

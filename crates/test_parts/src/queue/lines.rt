@@ -66,7 +66,7 @@ fn send_all<R: Wait>(rt: &R, line: &Line, pass: SendPass)
             },
         };
         if !sent {
-            thread::yield_now();
+            end.wait(rt);
         }
     }
     unreachable!()

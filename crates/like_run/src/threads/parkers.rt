@@ -1,0 +1,85 @@
+use std::alloc::{AllocError, Global};
+use std::sync::Wait;
+use std::sync::atomic::{AtomicU64, Ordering};
+use std::thread::Parker;
+use std::time::Duration;
+
+// How many microseconds a thread waits at most until it looks again.
+const PATIENCE: u64 = 1000;
+
+// How many microseconds the coordinator leaves the processor to others at a time.
+const PAUSE: u64 = 50;
+
+/// Where the threads wait that make turns: the workers, in order, for requests or for a change of phase, and the
+/// coordinator for the workers. A thread that is woken before it waits goes on at once.
+#[derive(Drop)]
+pub struct Parkers {
+    workers: Vec<Parker>,
+    coordinator: Parker,
+    // How many workers have nothing to do before their phase ends.
+    idle: AtomicU64,
+}
+
+impl Parkers {
+    /// Those of so many workers and their coordinator.
+    pub fn new(alloc: Global, count: usize) -> Result<Parkers, AllocError> {
+        let mut workers = Vec::new(alloc);
+        for _ in 0..count {
+            workers.push(Parker::new())?;
+        }
+        Ok(Parkers {
+            workers,
+            coordinator: Parker::new(),
+            idle: AtomicU64::new(0),
+        })
+    }
+
+    /// A worker waits, for requests or for the next phase.
+    pub fn wait<R: Wait>(&self, rt: &R, worker: usize) {
+        if let Some(parker) = self.workers.get(worker) {
+            parker.park_timeout(rt, Duration::from_micros(PATIENCE));
+        }
+    }
+
+    /// A worker that has nothing to do before its phase ends tells the coordinator, and waits.
+    pub fn idle<R: Wait>(&self, rt: &R, worker: usize) {
+        self.idle.fetch_add(1, Ordering::SeqCst);
+        self.coordinator.unpark();
+        self.wait(rt, worker);
+        self.idle.fetch_sub(1, Ordering::SeqCst);
+    }
+
+    /// A worker has answered the coordinator, or is gone.
+    pub fn answer(&self) {
+        self.coordinator.unpark();
+    }
+
+    /// The coordinator waits for the workers' answers.
+    pub fn wait_for_answers<R: Wait>(&self, rt: &R) {
+        self.coordinator
+            .park_timeout(rt, Duration::from_micros(PATIENCE));
+    }
+
+    /// The coordinator leaves the processor to others, where no worker is idle.
+    pub fn pause<R: Wait>(&self, rt: &R) {
+        if self.idle.load(Ordering::SeqCst) == 0 {
+            self.coordinator
+                .park_timeout(rt, Duration::from_micros(PAUSE));
+        }
+    }
+
+    /// Wakes all workers.
+    pub fn wake_all(&self) {
+        for parker in &self.workers {
+            parker.unpark();
+        }
+    }
+
+    /// Wakes the worker of a submitter.
+    pub fn wake_worker_of(&self, submitter: u32) {
+        let worker = (submitter as usize).checked_rem(self.workers.len());
+        if let Some(parker) = worker.and_then(|worker| self.workers.get(worker)) {
+            parker.unpark();
+        }
+    }
+}
