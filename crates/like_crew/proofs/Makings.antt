@@ -2,7 +2,7 @@
 use Rattle.std.proofs.Common.{◌≡◌, ℕ, zero, suc, ◌+◌, ◌*◌, ◌<◌, ◌≤◌, Bool, List, Vec, Global, [], ◌∷◌, ◌++◌, length, map, drop, get_or, remove, slice_get, Some, option_map, refl, sym, ap, ◌∙◌, subst, arith}
 use Rattle.std.specs.List.{All, AllZip, range_with_len}
 use Rattle.std.specs.Option.{unwrap_or}
-use Rattle.std.proofs.lemmas.List.{get_or-drop, length-map, map-id}
+use Rattle.std.proofs.lemmas.List.{get_or-drop, length-map, length_push, map-id}
 use Rattle.std.proofs.lemmas.List.FromFn.{map-range_with_len_more}
 use Rattle.std.proofs.lemmas.Option.{get_or_from_slice_get, slice_get-get_or, slice_get-map, slice_get_read, unwrap_or-slice_get}
 use Rattle.like_requests.specs.Limits.{max_requests}
@@ -75,11 +75,18 @@ is-server setup sizes worker inboxes own post board notes s sized is fresh here 
 }
 
 -- one server more
-pub one-more : (R : ℕ → ServerView → Type 0) (n : ℕ) (servers : List ServerView) (s : ServerView) → AllZip R (range_with_len 0 n) servers → R n s → AllZip R (range_with_len 0 (n + 1)) (servers ++ s ∷ [])
+one-more : (R : ℕ → ServerView → Type 0) (n : ℕ) (servers : List ServerView) (s : ServerView) → AllZip R (range_with_len 0 n) servers → R n s → AllZip R (range_with_len 0 (n + 1)) (servers ++ s ∷ [])
 one-more R n servers s all h =
     subst (λ ns. AllZip R ns (servers ++ s ∷ []))
     (sym (sym (map-id _) ∙ map-range_with_len_more (λ (x : ℕ). x) 0 n n (omega arith) ∙ ap (λ xs. xs ++ n ∷ []) (map-id _)))
     (pairs-more R (range_with_len 0 n) servers n s all h)
+
+pub one-pushed : (R : ℕ → ServerView → Type 0) (n m : ℕ) (servers now : List ServerView) (s : ServerView) → now ≡ servers ++ s ∷ [] → length servers ≡ n → m ≡ n + 1 → AllZip R (range_with_len 0 n) servers
+    → R n s → (length now ≡ m) × AllZip R (range_with_len 0 m) now
+one-pushed R n m servers now s pushed len longer all h = (
+  ap (λ (xs : List ServerView). length xs) pushed ∙ length_push servers s ∙ ap (λ k. k + 1) len ∙ sym longer,
+  subst (AllZip R (range_with_len 0 m)) (sym pushed) (subst (λ k. AllZip R (range_with_len 0 k) (servers ++ s ∷ [])) (sym longer) (one-more R n servers s all h)),
+)
 
 -- the first of what is left was taken
 pub remove-drop : {A : Type 0} (k : ℕ) (xs : List A) → remove (drop k xs) 0 ≡ drop (suc k) xs

@@ -1,5 +1,4 @@
 use Rattle.std.proofs.Common.{◌≡◌, ◌<◌, ◌+◌, ◌++◌, ◌∷◌, [], ℕ, List, Vec, Global, length, map, drop, remove, refl, sym, ap, ◌∙◌, subst, arith, add-one}
-use Rattle.std.specs.List.{AllZip, range_with_len}
 use Rattle.std.proofs.lemmas.Iterator.Adapters.{YieldsList-from_vec}
 use Rattle.std.proofs.lemmas.Iterator.Consumers.{YieldsList-turn}
 use Rattle.std.proofs.lemmas.List.{length_push}
@@ -13,7 +12,7 @@ use Rattle.like_tables.proofs.Dealt.{map-dealt}
 use Rattle.like_crew.specs.Servers.{IsServer}
 use Rattle.like_crew.specs.Asked.{service_of}
 use Rattle.like_crew.specs.Server.{AreInboxesFor, AreOwnPlans, ServerView, plans_of}
-use Rattle.like_crew.proofs.Makings.{hand-at, inboxes-for, is-server, one-more, remove-drop}
+use Rattle.like_crew.proofs.Makings.{hand-at, inboxes-for, is-server, one-pushed, remove-drop}
 use Rattle.like_crew.proofs.crew.making.servers_of.Goals as goal
 
 -- what is in a hand
@@ -62,7 +61,6 @@ loop-seat-preserved g c =
     let fresh = c.requires.seats k c.in-Some.seat (slice_get_read c.args.seats.items (length c.args.seats.items) k c.in-Some.seat refl turn.0 turn.1) in
     let longer : length (l.yielded ++ c.in-Some.seat ∷ []) ≡ k + 1 = length_push l.yielded c.in-Some.seat in
     let pushed = c.in_ok-push-in-Ok.ensures.items in
-    let more : List ServerView = l.servers.items ++ c.in-Ok.server ∷ [] in
     let server : R k c.in-Ok.server =
     is-server c.args.setup.now c.args.sizes.now k inboxes own (seat_meaning c.in-Some.seat) board c.args.notes c.in-Ok.server c.requires.sizes is
     fresh.1 (ap board_numbers fresh.0)
@@ -70,9 +68,9 @@ loop-seat-preserved g c =
     (c.in-Ok.ensures.at_post ∙ c.at.ensures.meaning)
     c.in-Ok.ensures.notes
     (λ service of mine. c.in-Ok.ensures.works service of (subst (λ n. AreOwnPlans service workers n own) (sym number) mine)) in
+    let both = one-pushed R k (length (l.yielded ++ c.in-Some.seat ∷ [])) l.servers.items _ c.in-Ok.server pushed l.invariant.len longer l.invariant.servers server in
     record {
       hands = c.remove-inboxes.ensures.items ∙ ap (λ xs. remove xs 0) l.invariant.hands ∙ remove-drop k c.in_ok-hands.hands.items ∙ ap (λ n. drop n c.in_ok-hands.hands.items) (sym (add-one k) ∙ sym longer);
-      len = ap (λ (xs : List ServerView). length xs) pushed ∙ length_push l.servers.items c.in-Ok.server ∙ ap (λ n. n + 1) l.invariant.len ∙ sym longer;
-      servers = subst (AllZip R (range_with_len 0 (length (l.yielded ++ c.in-Some.seat ∷ [])))) {x = more} (sym pushed)
-          (subst (λ n. AllZip R (range_with_len 0 n) more) {x = k + 1} (sym longer) (one-more R k l.servers.items c.in-Ok.server l.invariant.servers server));
+      len = both.0;
+      servers = both.1;
     }
