@@ -4,7 +4,6 @@ use Rattle.std.specs.Io.KnownBytes.{Appends}
 use Rattle.like_words.specs.Asked.{Asks, AsksForHelp, IsParseFault, Words}
 use Rattle.like_files.specs.Faults.{IsBeforeOutput}
 use Rattle.like_driver.specs.Fault.{program_status}
-use Rattle.like_files.specs.Inputs.{Inputs}
 use Rattle.like_files.specs.Replay.{HasReplayed, HasReplayedSome}
 use Rattle.like_files.specs.Run.{HasRunSome}
 use Rattle.like_words.specs.declared.asked.Asked.{Asked}
