@@ -13,11 +13,14 @@ new_sender line = record { line = line; sent = 0 }
 abbrev pub new_taker : LineId → Taker
 new_taker line = record { line = line; taken = 0 }
 
+-- both
+abbrev pub new_ends : LineId → Sender × Taker
+new_ends line = (new_sender line, new_taker line)
+
 -- lines of these plans, with the passes of their ends, through which nothing went
 pub record AreLines (plans : List (List Request)) (l : Lines) : Type 0 where
   pub plans_are : map (λ line. line.plan) l.lines.items ≡ plans
-  pub sends : l.sends.items ≡ map new_sender l.lines.items
-  pub takes : l.takes.items ≡ map new_taker l.lines.items
+  pub passes : l.passes.items ≡ map new_ends l.lines.items
 
 -- the ends of the submitters, none of which has sent anything
 pub record AreNewEnds (ends : List Sender) : Type 0 where

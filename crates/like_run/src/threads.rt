@@ -7,7 +7,7 @@ ghost use Rattle.like_run.specs.Lines.{AreNewEnds};
 ghost use Rattle.like_run.specs.Threads.{HasEndedOn, IsFaultUnderWay, IsRunFault};
 
 use crate::threads::end::{coordinate, join_all};
-use crate::threads::lines::{Lines, send_ends, take_ends};
+use crate::threads::lines::{Lines, ends_of};
 use crate::threads::parkers::Parkers;
 use crate::threads::signal::tell;
 use crate::threads::start::start_workers;
@@ -136,14 +136,10 @@ fn run_within<R: Threads + Wait + Sync, G: Gate>(
 {
     let (site, seats) = Site::new(alloc, setup, &plans, notes)?;
     let lists = Snapshot::of(&plans);
-    let Lines {
-        lines,
-        sends,
-        takes,
-    } = Lines::new(alloc, plans)?;
-    let crew = Crew::of_inboxes(alloc, setup, &site, seats, take_ends(alloc, &lines, takes)?)?;
-    let ends = send_ends(alloc, &lines, sends)?;
-    let ended = on_threads(rt, alloc, crew, ends, gate, starts)?;
+    let Lines { lines, passes } = Lines::new(alloc, plans)?;
+    let (sends, takes) = ends_of(alloc, &lines, passes)?;
+    let crew = Crew::of_inboxes(alloc, setup, &site, seats, takes)?;
+    let ended = on_threads(rt, alloc, crew, sends, gate, starts)?;
     Ok(report_of(alloc, setup, &lists, site, ended)?)
 }
 

@@ -1,7 +1,7 @@
 ghost use Rattle.std.specs.Prelude.{◌≡◌, ◌≤◌, All, IfOk, length, map};
 ghost use Rattle.like_requests.specs.Limits.{max_requests};
 ghost use Rattle.like_crew.specs.Asked.{lists_of};
-ghost use Rattle.like_run.specs.Lines.{AreLines, new_sender, new_taker};
+ghost use Rattle.like_run.specs.Lines.{AreLines, new_ends, new_sender, new_taker};
 
 use like_queue::{Line, SendEnd, SendPass, TakeEnd, TakePass};
 use like_requests::Request;
@@ -11,8 +11,7 @@ use std::alloc::{AllocError, Global};
 #[derive(Drop)]
 pub struct Lines {
     pub lines: Vec<Line>,
-    pub sends: Vec<SendPass>,
-    pub takes: Vec<TakePass>,
+    pub passes: Vec<(SendPass, TakePass)>,
 }
 
 impl Lines {
@@ -22,52 +21,32 @@ impl Lines {
         ensures { IfOk result (AreLines (lists_of plans.items)) }
     {
         let mut lines = Vec::new(alloc);
-        let mut sends = Vec::new(alloc);
-        let mut takes = Vec::new(alloc);
+        let mut passes = Vec::new(alloc);
         for plan in plans {
             let (line, send, take) = Line::new(alloc, plan)?;
             lines.push(line)?;
-            sends.push(send)?;
-            takes.push(take)?;
+            passes.push((send, take))?;
         }
-        Ok(Lines {
-            lines,
-            sends,
-            takes,
-        })
+        Ok(Lines { lines, passes })
     }
 }
 
-/// The ends at which the submitters send.
-pub fn send_ends<'a>(
+/// Their ends, at which the submitters send and the workers take.
+pub fn ends_of<'a>(
     alloc: Global,
     lines: &'a [Line],
-    sends: Vec<SendPass>,
-) -> Result<Vec<SendEnd<'a>>, AllocError>
-    requires { sends.items ≡ map new_sender lines.now }
-    ensures { IfOk result (λ ends. ends.items ≡ map new_sender lines.now) }
+    passes: Vec<(SendPass, TakePass)>,
+) -> Result<(Vec<SendEnd<'a>>, Vec<TakeEnd<'a>>), AllocError>
+    requires { passes.items ≡ map new_ends lines.now }
+    ensures sends { IfOk result (λ ends. ends.0.items ≡ map new_sender lines.now) }
+    ensures takes { IfOk result (λ ends. ends.1.items ≡ map new_taker lines.now) }
 {
-    let mut ends = Vec::new(alloc);
-    for send in sends {
-        let line = &lines[ends.len()];
-        ends.push(send.at(line))?;
+    let mut sends = Vec::new(alloc);
+    let mut takes = Vec::new(alloc);
+    for (send, take) in passes {
+        let line = &lines[sends.len()];
+        sends.push(send.at(line))?;
+        takes.push(take.at(line))?;
     }
-    Ok(ends)
-}
-
-/// The ends at which the workers take.
-pub fn take_ends<'a>(
-    alloc: Global,
-    lines: &'a [Line],
-    takes: Vec<TakePass>,
-) -> Result<Vec<TakeEnd<'a>>, AllocError>
-    requires { takes.items ≡ map new_taker lines.now }
-    ensures { IfOk result (λ ends. ends.items ≡ map new_taker lines.now) }
-{
-    let mut ends = Vec::new(alloc);
-    for take in takes {
-        let line = &lines[ends.len()];
-        ends.push(take.at(line))?;
-    }
-    Ok(ends)
+    Ok((sends, takes))
 }
