@@ -71,15 +71,14 @@ fn added(phase: u32, at: u32, old: u64, n: u64) -> Added {
     }
 }
 
-/// The last phase that the coordinator saw, and what the first worker has done, in a run with one submitter: the steps
-/// and then the rounds, with the answer of each, and the calls of the gate.
+/// The last phase that the coordinator saw, and what the first worker has done, in a run with one submitter: the parts
+/// of its steps, with the answer of each, and the calls of the gate.
 fn end_of(
     rt: &impl Abort,
     alloc: Global,
     setup: Setup,
     plan: Vec<Request>,
-    steps: &[Step],
-    rounds: &[Step],
+    parts: &[&[Step]],
     calls: &[Call],
 ) -> Result<(u32, WorkerLog), Fail> {
     let plans = [plan];
@@ -87,8 +86,9 @@ fn end_of(
     let (board, coord, seats) = board_of(alloc, &setup)?;
     let gate = Expecting::new(alloc, calls)?;
     let mut play = Play::new(alloc, &setup, plans[0].as_slice(), &board, coord, seats)?;
-    play.make(rt, &gate, steps);
-    play.make(rt, &gate, rounds);
+    for steps in parts {
+        play.make(rt, &gate, steps);
+    }
     let end = play.finish(rt, &gate);
     assert!(rt; gate.is_content());
     Ok(end)
@@ -111,37 +111,42 @@ fn expect(
     assert_eq!(rt; log.last.last(0), last);
 }
 
-/// The steps of `split-and-stash` and `stash-then-like`, whose turns in the first split phase are answered like this.
-fn steps_of(first: Turn, second: Turn) -> [Step; 9] {
-    [
-        Coord(CoordTurn::Announced),
-        Worker(0, Turn::Acknowledged),
-        Coord(CoordTurn::Released),
-        Worker(0, first),
-        Worker(0, second),
-        Coord(CoordTurn::Announced),
-        Worker(0, Turn::Reported),
-        Coord(CoordTurn::Released),
-        Worker(0, Turn::Ran),
-    ]
-}
+/// The end of a joined phase, where worker 0 is the only one.
+const TO_SPLIT: &[Step] = &[
+    Coord(CoordTurn::Announced),
+    Worker(0, Turn::Acknowledged),
+    Coord(CoordTurn::Released),
+];
 
-/// The rounds after phase 2, in which everything was run.
-fn rounds() -> [Step; 9] {
-    [
-        Coord(CoordTurn::Announced),
-        Worker(0, Turn::Acknowledged),
-        Coord(CoordTurn::Released),
-        Worker(0, Turn::TookEnd),
-        Coord(CoordTurn::Announced),
-        Worker(0, Turn::Reported),
-        Coord(CoordTurn::Released),
-        Worker(0, Turn::Retired),
-        Coord(CoordTurn::Ended),
-    ]
-}
+/// The end of a split phase, where worker 0 is the only one.
+const TO_JOINED: &[Step] = &[
+    Coord(CoordTurn::Announced),
+    Worker(0, Turn::Reported),
+    Coord(CoordTurn::Released),
+];
 
-/// The calls of the gate in these runs, in which the requests run in this order.
+/// The steps from the end of phase 2 on, in which everything was run.
+const ROUNDS: &[Step] = &[
+    Coord(CoordTurn::Announced),
+    Worker(0, Turn::Acknowledged),
+    Coord(CoordTurn::Released),
+    Worker(0, Turn::TookEnd),
+    Coord(CoordTurn::Announced),
+    Worker(0, Turn::Reported),
+    Coord(CoordTurn::Released),
+    Worker(0, Turn::Retired),
+    Coord(CoordTurn::Ended),
+];
+
+/// A joined phase in which worker 0 comes to the end mark, and the run ends.
+const LAST_PHASE: &[Step] = &[
+    Worker(0, Turn::TookEnd),
+    Coord(CoordTurn::Announced),
+    Worker(0, Turn::Retired),
+    Coord(CoordTurn::Ended),
+];
+
+/// The calls of the gate where a request runs in phase 1 and one in phase 2, in this order.
 fn calls_of(first: u32, second: u32) -> [Call; 7] {
     [
         Phase(0, 0),
@@ -158,29 +163,22 @@ fn calls_of(first: u32, second: u32) -> [Call; 7] {
 fn splits_and_stashes(rt: HostRuntime) -> Result<(), Fail> {
     let setup = setup_of(rt.alloc(), 1, 256, b"name,count,split\na,10,yes\n")?;
     let plan = vec![in rt.alloc(); ask(Op::Like, 0), ask(Op::Look, 0)]?;
-    let steps = steps_of(Turn::Ran, Turn::Stashed);
-    let (phase, log) = end_of(
-        &rt,
-        rt.alloc(),
-        setup,
-        plan,
-        &steps,
-        &rounds(),
-        &calls_of(1, 2),
-    )?;
+    let parts = [
+        TO_SPLIT,
+        &[Worker(0, Turn::Ran), Worker(0, Turn::Stashed)],
+        TO_JOINED,
+        &[Worker(0, Turn::Ran)],
+        ROUNDS,
+    ];
+    let calls = calls_of(1, 2);
+    let (phase, log) = end_of(&rt, rt.alloc(), setup, plan, &parts, &calls)?;
     assert_eq!(rt; phase, 4);
     let entries = [
         ran(1, 1, false, Reply::Liked),
         ran(2, 2, true, seen(Some(0), 11)),
     ];
-    expect(
-        &rt,
-        &log,
-        &[took(1, 1), took(1, 2)],
-        &entries,
-        &[added(1, 1, 10, 1)],
-        Some(0),
-    );
+    let taken = [took(1, 1), took(1, 2)];
+    expect(&rt, &log, &taken, &entries, &[added(1, 1, 10, 1)], Some(0));
     assert!(rt; log.last.owns(1));
     assert_eq!(rt; log.last.last(1), None);
     Ok(())
@@ -190,16 +188,15 @@ fn splits_and_stashes(rt: HostRuntime) -> Result<(), Fail> {
 fn stashes_and_then_likes(rt: HostRuntime) -> Result<(), Fail> {
     let setup = setup_of(rt.alloc(), 1, 256, b"name,count,split\na,5,yes\nb,0,no\n")?;
     let plan = vec![in rt.alloc(); ask(Op::Look, 0), ask(Op::Like, 1)]?;
-    let steps = steps_of(Turn::Stashed, Turn::Ran);
-    let (_, log) = end_of(
-        &rt,
-        rt.alloc(),
-        setup,
-        plan,
-        &steps,
-        &rounds(),
-        &calls_of(2, 1),
-    )?;
+    let parts = [
+        TO_SPLIT,
+        &[Worker(0, Turn::Stashed), Worker(0, Turn::Ran)],
+        TO_JOINED,
+        &[Worker(0, Turn::Ran)],
+        ROUNDS,
+    ];
+    let calls = calls_of(2, 1);
+    let (_, log) = end_of(&rt, rt.alloc(), setup, plan, &parts, &calls)?;
     let entries = [
         ran(1, 2, false, Reply::Liked),
         ran(2, 1, true, seen(Some(1), 5)),
@@ -208,14 +205,8 @@ fn stashes_and_then_likes(rt: HostRuntime) -> Result<(), Fail> {
         page: 1,
         ..added(1, 0, 0, 1)
     }];
-    expect(
-        &rt,
-        &log,
-        &[took(1, 1), took(1, 2)],
-        &entries,
-        &adds,
-        Some(1),
-    );
+    let taken = [took(1, 1), took(1, 2)];
+    expect(&rt, &log, &taken, &entries, &adds, Some(1));
     Ok(())
 }
 
@@ -223,17 +214,12 @@ fn stashes_and_then_likes(rt: HostRuntime) -> Result<(), Fail> {
 fn idles_with_a_full_stash(rt: HostRuntime) -> Result<(), Fail> {
     let setup = setup_of(rt.alloc(), 1, 1, b"name,count,split\na,0,yes\n")?;
     let plan = vec![in rt.alloc(); ask(Op::Look, 0), ask(Op::Look, 0)]?;
-    let steps = [
-        Coord(CoordTurn::Announced),
-        Worker(0, Turn::Acknowledged),
-        Coord(CoordTurn::Released),
-        Worker(0, Turn::Stashed),
-        Worker(0, Turn::Idle),
-        Coord(CoordTurn::Announced),
-        Worker(0, Turn::Reported),
-        Coord(CoordTurn::Released),
-        Worker(0, Turn::Ran),
-        Worker(0, Turn::Ran),
+    let parts = [
+        TO_SPLIT,
+        &[Worker(0, Turn::Stashed), Worker(0, Turn::Idle)],
+        TO_JOINED,
+        &[Worker(0, Turn::Ran), Worker(0, Turn::Ran)],
+        ROUNDS,
     ];
     let calls = [
         Phase(0, 0),
@@ -244,7 +230,7 @@ fn idles_with_a_full_stash(rt: HostRuntime) -> Result<(), Fail> {
         Phase(0, 3),
         Phase(0, 4),
     ];
-    let (_, log) = end_of(&rt, rt.alloc(), setup, plan, &steps, &rounds(), &calls)?;
+    let (_, log) = end_of(&rt, rt.alloc(), setup, plan, &parts, &calls)?;
     let entries = [
         ran(2, 1, true, seen(None, 0)),
         ran(2, 2, false, seen(None, 0)),
@@ -257,19 +243,11 @@ fn idles_with_a_full_stash(rt: HostRuntime) -> Result<(), Fail> {
 fn runs_unsplit_pages_in_a_split_phase(rt: HostRuntime) -> Result<(), Fail> {
     let setup = setup_of(rt.alloc(), 1, 256, b"name,count,split\na,7,no\n")?;
     let plan = vec![in rt.alloc(); ask(Op::Like, 0), ask(Op::Look, 0)]?;
-    let steps = [
-        Coord(CoordTurn::Announced),
-        Worker(0, Turn::Acknowledged),
-        Coord(CoordTurn::Released),
-        Worker(0, Turn::Ran),
-        Worker(0, Turn::Ran),
-        Coord(CoordTurn::Announced),
-        Worker(0, Turn::Reported),
-        Coord(CoordTurn::Released),
-        Worker(0, Turn::TookEnd),
-        Coord(CoordTurn::Announced),
-        Worker(0, Turn::Retired),
-        Coord(CoordTurn::Ended),
+    let parts = [
+        TO_SPLIT,
+        &[Worker(0, Turn::Ran), Worker(0, Turn::Ran)],
+        TO_JOINED,
+        LAST_PHASE,
     ];
     let calls = [
         Phase(0, 0),
@@ -278,43 +256,28 @@ fn runs_unsplit_pages_in_a_split_phase(rt: HostRuntime) -> Result<(), Fail> {
         Run(0, 0, 2),
         Phase(0, 2),
     ];
-    let (phase, log) = end_of(&rt, rt.alloc(), setup, plan, &steps, &[], &calls)?;
+    let (phase, log) = end_of(&rt, rt.alloc(), setup, plan, &parts, &calls)?;
     assert_eq!(rt; phase, 2);
     let entries = [
         ran(1, 1, false, Reply::Liked),
         ran(1, 2, false, seen(Some(0), 8)),
     ];
-    expect(
-        &rt,
-        &log,
-        &[took(1, 1), took(1, 2)],
-        &entries,
-        &[added(1, 0, 7, 1)],
-        Some(0),
-    );
+    let taken = [took(1, 1), took(1, 2)];
+    expect(&rt, &log, &taken, &entries, &[added(1, 0, 7, 1)], Some(0));
     Ok(())
 }
 
-/// The steps of `idle-workers`.
-fn steps_of_idle_workers() -> [Step; 15] {
-    [
-        Coord(CoordTurn::Announced),
-        Worker(0, Turn::Acknowledged),
-        Worker(1, Turn::Retired),
-        Worker(2, Turn::Retired),
-        Worker(3, Turn::Retired),
-        Coord(CoordTurn::Released),
-        Worker(0, Turn::Ran),
-        Worker(1, Turn::Retired),
-        Coord(CoordTurn::Announced),
-        Worker(0, Turn::Reported),
-        Coord(CoordTurn::Released),
-        Worker(0, Turn::TookEnd),
-        Coord(CoordTurn::Announced),
-        Worker(0, Turn::Retired),
-        Coord(CoordTurn::Ended),
-    ]
-}
+/// The steps of `idle-workers` until phase 1 ends.
+const IDLE_WORKERS: &[Step] = &[
+    Coord(CoordTurn::Announced),
+    Worker(0, Turn::Acknowledged),
+    Worker(1, Turn::Retired),
+    Worker(2, Turn::Retired),
+    Worker(3, Turn::Retired),
+    Coord(CoordTurn::Released),
+    Worker(0, Turn::Ran),
+    Worker(1, Turn::Retired),
+];
 
 /// The calls of the gate in that run.
 fn calls_of_idle_workers() -> [Call; 7] {
@@ -333,47 +296,33 @@ fn calls_of_idle_workers() -> [Call; 7] {
 fn runs_beside_idle_workers(rt: HostRuntime) -> Result<(), Fail> {
     let setup = setup_of(rt.alloc(), 4, 256, b"name,count,split\na,0,yes\n")?;
     let plan = vec![in rt.alloc(); ask(Op::Like, 0)]?;
-    let (phase, log) = end_of(
-        &rt,
-        rt.alloc(),
-        setup,
-        plan,
-        &steps_of_idle_workers(),
-        &[],
-        &calls_of_idle_workers(),
-    )?;
+    let parts = [IDLE_WORKERS, TO_JOINED, LAST_PHASE];
+    let calls = calls_of_idle_workers();
+    let (phase, log) = end_of(&rt, rt.alloc(), setup, plan, &parts, &calls)?;
     assert_eq!(rt; phase, 2);
     let entries = [ran(1, 1, false, Reply::Liked)];
-    expect(
-        &rt,
-        &log,
-        &[took(1, 1)],
-        &entries,
-        &[added(1, 1, 0, 1)],
-        Some(0),
-    );
+    let adds = [added(1, 1, 0, 1)];
+    expect(&rt, &log, &[took(1, 1)], &entries, &adds, Some(0));
     Ok(())
 }
 
 /// The steps of a run in which one turn is counted in each phase.
-fn steps_of_counted_turns() -> [Step; 14] {
-    [
-        Coord(CoordTurn::Counted),
-        Coord(CoordTurn::Announced),
-        Coord(CoordTurn::Waiting),
-        Worker(0, Turn::Acknowledged),
-        Worker(0, Turn::Waiting),
-        Coord(CoordTurn::Released),
-        Worker(0, Turn::Ran),
-        Coord(CoordTurn::Counted),
-        Coord(CoordTurn::Announced),
-        Worker(0, Turn::Reported),
-        Coord(CoordTurn::Released),
-        Worker(0, Turn::TookEnd),
-        Worker(0, Turn::Retired),
-        Coord(CoordTurn::Ended),
-    ]
-}
+const COUNTED_TURNS: &[Step] = &[
+    Coord(CoordTurn::Counted),
+    Coord(CoordTurn::Announced),
+    Coord(CoordTurn::Waiting),
+    Worker(0, Turn::Acknowledged),
+    Worker(0, Turn::Waiting),
+    Coord(CoordTurn::Released),
+    Worker(0, Turn::Ran),
+    Coord(CoordTurn::Counted),
+    Coord(CoordTurn::Announced),
+    Worker(0, Turn::Reported),
+    Coord(CoordTurn::Released),
+    Worker(0, Turn::TookEnd),
+    Worker(0, Turn::Retired),
+    Coord(CoordTurn::Ended),
+];
 
 #[test]
 fn counts_turns_in_each_phase(rt: HostRuntime) -> Result<(), Fail> {
@@ -381,15 +330,7 @@ fn counts_turns_in_each_phase(rt: HostRuntime) -> Result<(), Fail> {
     setup.turns = 1;
     let plan = vec![in rt.alloc(); ask(Op::Like, 0)]?;
     let calls = [Phase(0, 0), Phase(0, 1), Run(0, 0, 1), Phase(0, 2)];
-    let (phase, _) = end_of(
-        &rt,
-        rt.alloc(),
-        setup,
-        plan,
-        &steps_of_counted_turns(),
-        &[],
-        &calls,
-    )?;
+    let (phase, _) = end_of(&rt, rt.alloc(), setup, plan, &[COUNTED_TURNS], &calls)?;
     assert_eq!(rt; phase, 2);
     Ok(())
 }
@@ -407,17 +348,11 @@ fn adds_at_each_like_of_an_unsplit_page(rt: HostRuntime) -> Result<(), Fail> {
         Coord(CoordTurn::Ended),
     ];
     let calls = [Phase(0, 0), Run(0, 0, 1), Run(0, 0, 2), Run(0, 0, 3)];
-    let (_, log) = end_of(&rt, rt.alloc(), setup, plan, &steps, &[], &calls)?;
+    let (_, log) = end_of(&rt, rt.alloc(), setup, plan, &[&steps], &calls)?;
     let entries = [1, 2, 3].map(|number| ran(0, number, false, Reply::Liked));
     let adds = [added(0, 0, 10, 1), added(0, 1, 11, 1), added(0, 2, 12, 1)];
-    expect(
-        &rt,
-        &log,
-        &[1, 2, 3].map(|number| took(0, number)),
-        &entries,
-        &adds,
-        Some(0),
-    );
+    let taken = [1, 2, 3].map(|number| took(0, number));
+    expect(&rt, &log, &taken, &entries, &adds, Some(0));
     Ok(())
 }
 
@@ -425,17 +360,8 @@ fn adds_at_each_like_of_an_unsplit_page(rt: HostRuntime) -> Result<(), Fail> {
 fn adds_all_likes_of_a_split_page_at_once(rt: HostRuntime) -> Result<(), Fail> {
     let setup = setup_of(rt.alloc(), 1, 256, b"name,count,split\na,10,yes\n")?;
     let plan = vec![in rt.alloc(); ask(Op::Like, 0), ask(Op::Like, 0), ask(Op::Like, 0)]?;
-    let steps = [
-        Coord(CoordTurn::Announced),
-        Worker(0, Turn::Acknowledged),
-        Coord(CoordTurn::Released),
-        Worker(0, Turn::Ran),
-        Worker(0, Turn::Ran),
-        Worker(0, Turn::Ran),
-        Coord(CoordTurn::Announced),
-        Worker(0, Turn::Reported),
-        Coord(CoordTurn::Released),
-    ];
+    let likes = [Worker(0, Turn::Ran); 3];
+    let parts = [TO_SPLIT, &likes, TO_JOINED, ROUNDS];
     let calls = [
         Phase(0, 0),
         Phase(0, 1),
@@ -446,7 +372,7 @@ fn adds_all_likes_of_a_split_page_at_once(rt: HostRuntime) -> Result<(), Fail> {
         Phase(0, 3),
         Phase(0, 4),
     ];
-    let (_, log) = end_of(&rt, rt.alloc(), setup, plan, &steps, &rounds(), &calls)?;
+    let (_, log) = end_of(&rt, rt.alloc(), setup, plan, &parts, &calls)?;
     let entries = [1, 2, 3].map(|number| ran(1, number, false, Reply::Liked));
     let taken = [1, 2, 3].map(|number| took(1, number));
     expect(&rt, &log, &taken, &entries, &[added(1, 3, 10, 3)], Some(0));
