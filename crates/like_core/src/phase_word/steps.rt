@@ -42,13 +42,9 @@ impl PhaseWord {
         ensures fields { fields_of result ≡ announced (fields_of self) }
         ensures word { packed (fields_of result) ≡ packed (fields_of self) + 1 }
     {
-        PhaseWord {
-            kind: Kind::from_code(self.kind.code() + 1),
-            workers: self.workers,
-            answered: self.answered,
-            retired: self.retired,
-            number: self.number,
-        }
+        let mut word = self;
+        word.kind = Kind::from_code(self.kind.code() + 1);
+        word
     }
 
     /// The word after worker `worker` acknowledged or reported: a `fetch_or` of its bit.
@@ -60,13 +56,9 @@ impl PhaseWord {
         ensures fields { fields_of result ≡ answered_by (fields_of self) worker }
         ensures word { packed (fields_of result) ≡ bit_or (packed (fields_of self)) (answer_bit worker) }
     {
-        PhaseWord {
-            kind: self.kind,
-            workers: self.workers,
-            answered: with_bit(self.answered, worker),
-            retired: self.retired,
-            number: self.number,
-        }
+        let mut word = self;
+        word.answered = with_bit(self.answered, worker);
+        word
     }
 
     /// The word after worker `worker` retired: a `fetch_or` of its bit.
@@ -77,13 +69,9 @@ impl PhaseWord {
         ensures fields { fields_of result ≡ retired_by (fields_of self) worker }
         ensures word { packed (fields_of result) ≡ bit_or (packed (fields_of self)) (retirement_bit worker) }
     {
-        PhaseWord {
-            kind: self.kind,
-            workers: self.workers,
-            answered: self.answered,
-            retired: with_bit(self.retired, worker),
-            number: self.number,
-        }
+        let mut word = self;
+        word.retired = with_bit(self.retired, worker);
+        word
     }
 
     /// The word that a release stores: the next phase, running, with the same workers gone.

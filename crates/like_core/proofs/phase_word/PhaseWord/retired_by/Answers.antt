@@ -3,8 +3,8 @@ use Rattle.like_core.specs.PhaseWord.{fields_of}
 use Rattle.like_core.proofs.WordSteps.{lawful-retired_by, packed-retired_by}
 use Rattle.like_core.proofs.phase_word.PhaseWord.retired_by.Goals as goal
 
-pub invariant_of-result : goal.invariant_of-result
-invariant_of-result c = record {
+pub invariant_of-word : goal.invariant_of-word
+invariant_of-word c = record {
   lawful = rw c.with_bit.ensures (lawful-retired_by (fields_of c.args.self) c.args.worker c.args.self.lawful c.requires.worker c.requires.runs c.requires.stays);
 }
 
