@@ -15,12 +15,12 @@ use Rattle.like_core.specs.declared.view.WorkerSeatView.{WorkerSeatView}
 use Rattle.like_core.specs.declared.view.CoordSeatView.{CoordSeatView}
 use Rattle.like_core.specs.declared.view.View.{View}
 use Rattle.like_core.specs.declared.view.View.TheVariants.{Coord, Worker, Spent}
-use Rattle.like_core.specs.Additions.{added_to}
+use Rattle.like_core.specs.Additions.{addition, added_to}
 use Rattle.like_core.specs.Tallies.{paged}
 use Rattle.like_core.specs.WorkerState.{phase_of}
 use Rattle.like_core.specs.Views.{added_view, read_view, gathered_coord}
 use Rattle.like_core.specs.Places.{end_of, has_number, ends_at, is_empty, Counting, AreTiles, IsEnd, IsInPlace, AreInOrder, ArePlaced, HasPlaces, passing, all_passing, count_after, PlacesTile, AdditionKeepsPlaces, ReadKeepsPlaces, JoinKeepsPlaces}
-use Rattle.like_core.proofs.Labels.{addition, added_to-push}
+use Rattle.like_core.proofs.Labels.{added_to-push}
 use Rattle.like_core.proofs.ViewLists.{sum_part, sum_swap, sum_gathered, replaced, kept}
 
 module _ {A : Type 0} where

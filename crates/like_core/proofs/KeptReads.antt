@@ -14,11 +14,11 @@ use Rattle.like_core.specs.declared.view.WorkerSeatView.{WorkerSeatView}
 use Rattle.like_core.specs.declared.view.CoordSeatView.{CoordSeatView}
 use Rattle.like_core.specs.declared.view.View.{View}
 use Rattle.like_core.specs.declared.view.View.TheVariants.{Coord, Worker, Spent}
-use Rattle.like_core.specs.Additions.{added_in, added_before}
+use Rattle.like_core.specs.Additions.{addition, added_in, added_before}
 use Rattle.like_core.specs.WorkerState.{phase_of}
 use Rattle.like_core.specs.Views.{added_view, read_view, gathered_coord}
 use Rattle.like_core.specs.Reads.{before_in, all_before, IsBetween, AreBetween, IsCounted, HasReads, ReadsFit, AdditionKeepsReads, ReadKeepsReads, JoinKeepsReads}
-use Rattle.like_core.proofs.Labels.{addition, added_in-push, added_before-push, added_before-next, one_before-next}
+use Rattle.like_core.proofs.Labels.{added_in-push, added_before-push, added_before-next, one_before-next}
 use Rattle.like_core.proofs.ViewLists.{sum_mono, sum_more, sum_swap, sum_gathered, replaced, kept}
 
 -- reads stay between where no more was added before the present phase, and no less before any

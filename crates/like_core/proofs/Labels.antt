@@ -4,7 +4,7 @@ use Rattle.std.proofs.lemmas.Bool.{cases_eq, cases_lt, cond-true, cond-false, ne
 use Rattle.std.proofs.lemmas.List.Sums.{sum_by-append, sum_by-cons, sum_by_push}
 use Rattle.like_core.specs.declared.view.Addition.{Addition}
 use Rattle.like_core.specs.State.{Label, labelled}
-use Rattle.like_core.specs.Additions.{added_to, added_in, added_before}
+use Rattle.like_core.specs.Additions.{addition, added_to, added_in, added_before}
 
 -- a label
 abbrev pub label : ℕ → ℕ → Label
@@ -53,10 +53,6 @@ labels_here i now phase page n =
           let there : ((now == phase) && (page == page)) ≡ false = ap (λ b. b && (page == page)) (ne_eqb now phase other) in
           count_none test (label i now) n own ∙ sym (cond-false ((now == phase) && (page == page)) n 0 there)
     ]
-
--- an addition
-abbrev pub addition : ℕ → ℕ → ℕ → ℕ → Addition
-addition phase page old n = record { phase = phase; page = page; old = old; likes = n }
 
 -- one more addition
 pub added_in-push : (additions : List Addition) (now page old n phase q : ℕ) → added_in phase q (additions ++ addition now page old n ∷ []) ≡ added_in phase q additions + cond ((now == phase) && (page == q)) n 0

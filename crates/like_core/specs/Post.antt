@@ -6,7 +6,7 @@ use Rattle.like_core.specs.declared.view.Addition.{Addition}
 use Rattle.like_core.specs.declared.view.PageRead.{PageRead}
 use Rattle.like_core.specs.declared.view.PhaseMask.{PhaseMask}
 use Rattle.like_core.specs.Limits.{max_likes, hot_pages}
-use Rattle.like_core.specs.Additions.{all_added, added_to, added_in}
+use Rattle.like_core.specs.Additions.{addition, all_added, added_to, added_in, page_read}
 use Rattle.like_core.specs.Phase.{IsSplit, split}
 use Rattle.like_core.specs.PhaseMasks.{mask_of, HasMask}
 use Rattle.like_core.specs.WorkerState.{IsRunning, SawEnding, phase_of, seen}
@@ -73,25 +73,13 @@ retired v = record v { state = Gone }
 
 -- the post after n was added to a page's count, which was this before
 abbrev pub added : PostView → ℕ → ℕ → ℕ → PostView
-added v page old n = record v {
-  additions = v.additions ++ record {
-    phase = phase_of v.state;
-    page = page;
-    old = old;
-    likes = n;
-  } ∷ [];
-}
+added v page old n =
+    record v { additions = v.additions ++ addition (phase_of v.state) page old n ∷ [] }
 
 -- the post after it read a page's count, which was this
 abbrev pub has_read : PostView → ℕ → ℕ → PostView
-has_read v page count = record v {
-  reads = v.reads ++ record {
-    phase = phase_of v.state;
-    page = page;
-    count = count;
-    after = length v.additions;
-  } ∷ [];
-}
+has_read v page count =
+    record v { reads = v.reads ++ page_read (phase_of v.state) page count (length v.additions) ∷ [] }
 
 -- the post after it read the mask of its phase's hot pages, which was this
 abbrev pub with_mask : PostView → ℕ → PostView

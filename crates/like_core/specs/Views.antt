@@ -10,6 +10,7 @@ use Rattle.like_core.specs.declared.view.WorkerSeatView.{WorkerSeatView}
 use Rattle.like_core.specs.declared.view.CoordSeatView.{CoordSeatView}
 use Rattle.like_core.specs.declared.view.View.{View}
 use Rattle.like_core.specs.declared.view.View.TheVariants.{Coord, Worker, Spent}
+use Rattle.like_core.specs.Additions.{addition, page_read}
 use Rattle.like_core.specs.Phase.{last_phase, IsJoined}
 use Rattle.like_core.specs.WorkerState.{phase_of, seen}
 use Rattle.like_core.specs.Post.{PostView, slices}
@@ -57,25 +58,13 @@ retired_view v = record v { state = Gone }
 
 -- a worker's view after n was added to a page's count, which was this before
 abbrev pub added_view : WorkerSeatView → ℕ → ℕ → ℕ → WorkerSeatView
-added_view v page old n = record v {
-  additions = v.additions ++ record {
-    phase = phase_of v.state;
-    page = page;
-    old = old;
-    likes = n;
-  } ∷ [];
-}
+added_view v page old n =
+    record v { additions = v.additions ++ addition (phase_of v.state) page old n ∷ [] }
 
 -- a worker's view after it read a page's count, which was this
 abbrev pub read_view : WorkerSeatView → ℕ → ℕ → WorkerSeatView
-read_view v page count = record v {
-  reads = v.reads ++ record {
-    phase = phase_of v.state;
-    page = page;
-    count = count;
-    after = length v.additions;
-  } ∷ [];
-}
+read_view v page count =
+    record v { reads = v.reads ++ page_read (phase_of v.state) page count (length v.additions) ∷ [] }
 
 -- a worker's view after it read the mask of its phase's hot pages, which was this
 abbrev pub masked_view : WorkerSeatView → ℕ → WorkerSeatView

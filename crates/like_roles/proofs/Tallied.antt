@@ -17,9 +17,9 @@ use Rattle.like_requests.specs.declared.verdict.Verdict.{Verdict}
 use Rattle.like_requests.specs.declared.verdict.Verdict.TheVariants as verdict
 use Rattle.like_core.specs.WorkerState.{phase_of}
 use Rattle.like_core.specs.declared.view.PageRead.{PageRead}
-use Rattle.like_core.specs.Additions.{added_in}
+use Rattle.like_core.specs.Additions.{addition, added_in}
 use Rattle.like_core.specs.Post.{additions_of, additions_in, pages_of}
-use Rattle.like_core.proofs.Labels.{addition, added_to-push, added_in-push}
+use Rattle.like_core.proofs.Labels.{added_to-push, added_in-push}
 use Rattle.like_tables.specs.UserTable.{last_of}
 use Rattle.like_tables.specs.declared.held.Held.{Held}
 use Rattle.like_roles.specs.declared.log.Ran.{Ran}

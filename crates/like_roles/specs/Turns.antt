@@ -9,6 +9,7 @@ use Rattle.like_core.specs.declared.worker_state.WorkerState.TheVariants.{Gone}
 use Rattle.like_core.specs.WorkerState.{IsSightOf, RunsJoined, RunsSplit}
 use Rattle.like_core.specs.declared.view.Addition.{Addition}
 use Rattle.like_core.specs.declared.view.PhaseMask.{PhaseMask}
+use Rattle.like_core.specs.Additions.{addition}
 use Rattle.like_core.specs.PhaseMasks.{KeepsMasks}
 use Rattle.like_core.specs.Post.{looked_at, answered, retired, pages_of}
 use Rattle.like_tables.specs.declared.held.Held.{Held}
@@ -46,8 +47,7 @@ trying v place = record v { pending = Some place; cursor = (place + 1) % length 
 
 -- a page's number in a slice, as an addition in a phase to a count of 0
 abbrev pub slice_addition : ℕ → List ℕ → ℕ → Addition
-slice_addition phase slice page =
-    record { phase = phase; page = page; old = 0; likes = slice_index slice page }
+slice_addition phase slice page = addition phase page 0 (slice_index slice page)
 
 -- the additions that merge the first pages of a slice, so many, as if to counts of 0: one for each whose number is not 0,
 -- in page order

@@ -4,7 +4,6 @@ use Rattle.like_core.specs.declared.sight.Sight.{Sight}
 use Rattle.like_core.specs.declared.sight.CoordSight.{CoordSight}
 use Rattle.like_core.specs.declared.opening.Opening.{Opening}
 use Rattle.like_core.specs.declared.view.Addition.{Addition}
-use Rattle.like_core.specs.declared.view.PageRead.{PageRead}
 use Rattle.like_core.specs.declared.view.PhaseMask.{PhaseMask}
 use Rattle.like_core.specs.declared.view.WorkerSeatView.{WorkerSeatView}
 use Rattle.like_core.specs.Post.{PostView}
@@ -21,16 +20,6 @@ sight number ending waits = record { number = number; ending = ending; waits = w
 abbrev pub coord_sight : ℕ → Bool → Bool → Bool → CoordSight
 coord_sight number ending all_in all_gone =
     record { number = number; ending = ending; all_in = all_in; all_gone = all_gone }
-
--- likes that were added to a page in a phase, where its count was this before
-abbrev pub addition : ℕ → ℕ → ℕ → ℕ → Addition
-addition phase page old likes =
-    record { phase = phase; page = page; old = old; likes = likes }
-
--- a page's count that was read in a phase, after so many additions
-abbrev pub page_read : ℕ → ℕ → ℕ → ℕ → PageRead
-page_read phase page count after =
-    record { phase = phase; page = page; count = count; after = after }
 
 -- the view of this worker on that board: its state, and what it has added
 pub record Walks (v : WorkerSeatView) (worker : ℕ) (state : WorkerState) (additions : List Addition)

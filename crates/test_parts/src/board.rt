@@ -3,7 +3,8 @@ ghost use Rattle.like_core.specs.declared.worker_state.WorkerState.TheVariants.{
 ghost use Rattle.like_core.specs.Post.{IsFresh};
 ghost use Rattle.like_core.specs.Views.{looked_view, looked_coord};
 ghost use Rattle.like_board.specs.Seats.{board_id, coord_board, coord_view, seat_board, seat_view, post_board, post_view, post_meaning, AreFresh};
-ghost use Rattle.test_parts.specs.Walk.{walk, addition, page_read, sight, coord_sight, Walks};
+ghost use Rattle.like_core.specs.Additions.{addition, page_read};
+ghost use Rattle.test_parts.specs.Walk.{walk, sight, coord_sight, Walks};
 
 mod hot;
 mod posts;

@@ -2,7 +2,8 @@
 ghost use Rattle.std.specs.Prelude.{◌≡◌, [], ◌∷◌, IfOk};
 ghost use Rattle.like_core.specs.declared.worker_state.WorkerState.TheVariants.{Runs, Answered, Gone};
 ghost use Rattle.like_board.specs.Seats.{board_id, coord_board, coord_view, seat_board, seat_view, post_board, post_view, AreFresh};
-ghost use Rattle.test_parts.specs.Walk.{hot_walk, addition, mask_in, HotWalks};
+ghost use Rattle.like_core.specs.Additions.{addition};
+ghost use Rattle.test_parts.specs.Walk.{hot_walk, mask_in, HotWalks};
 
 use super::{sees, surveys};
 use like_board::{Board, BoardPost, CoordSeat, WorkerSeat};
