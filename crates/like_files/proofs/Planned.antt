@@ -14,6 +14,7 @@ use Rattle.like_records.specs.Rows.{Record}
 use Rattle.like_requests.specs.declared.request.Request.{Request}
 use Rattle.like_requests.specs.declared.requests_file.RequestsFault.{RequestsFault}
 use Rattle.like_requests.specs.declared.requests_file.RequestsFault.TheVariants.{Memory}
+use Rattle.like_replies.proofs.Lists.{AllZip-by_place}
 use Rattle.like_files.specs.Inputs.{GivesPlan, GivesPlans, OfRecords, RefusesPlan, RefusesPlans}
 use Rattle.like_files.specs.Plans.{AddsPlan, Answer, IsFirstStop, Stops}
 use Rattle.like_files.specs.declared.fault.DriverFault.{DriverFault}
@@ -43,16 +44,6 @@ AllZip-take R (suc n) [] (y ∷ ys) h = absurd h
 AllZip-take R (suc n) (x ∷ xs) [] h = absurd h
 AllZip-take R (suc n) (x ∷ xs) (y ∷ ys) h = (h.0, AllZip-take R n xs ys h.1)
 
--- lists of one length match where they do at each place
-AllZip-by_place : {A B : Type 0} (R : A → B → Type 0) (xs : List A) (ys : List B) → length ys ≡ length xs
-    → ((i : ℕ) (x : A) (y : B) → slice_get xs i ≡ Some x → slice_get ys i ≡ Some y → R x y) → AllZip R xs ys
-AllZip-by_place R [] [] same each = tt
-AllZip-by_place R [] (y ∷ ys) same each = let no : suc (length ys) ≡ 0 = same in omega (arith, no)
-AllZip-by_place R (x ∷ xs) [] same each = let no : 0 ≡ suc (length xs) = same in omega (arith, no)
-AllZip-by_place R (x ∷ xs) (y ∷ ys) same each =
-    let rest : length ys ≡ length xs = let all : suc (length ys) ≡ suc (length xs) = same in omega (arith, all) in
-    (each 0 x y refl refl, AllZip-by_place R xs ys rest (λ i a b at there. each (suc i) a b at there))
-
 -- ---- files that are read one after the other
 
 abbrev pub requests_of : Vec Request Global → List Request
@@ -61,12 +52,6 @@ requests_of plan = plan.items
 -- what the reader of a file answers is its plan, or why it is refused
 abbrev pub Reads : {R : Type 0} → (R → Option (List ℕ)) → List Page → R → Answer → Type 0
 Reads source_of pages reader answer = MatchResult answer (λ plan. GivesPlan pages (source_of reader) plan.items) (RefusesPlan (source_of reader))
-
--- one more element of a list was taken
-pub take-more_taken : {X : Type 0} (xs done : List X) (x : X) → take (length done) xs ≡ done → length done < length xs → x ≡ get_or xs (length done) x → take (length (done ++ x ∷ [])) xs ≡ done ++ x ∷ []
-take-more_taken xs done x front there is =
-    let n : length (done ++ x ∷ []) ≡ length done + 1 = length-append done (x ∷ []) in
-    rw (n, take_more xs (length done) x there, front, ← is) refl
 
 -- why the file is refused whose answer adds no plan
 refused_by : {R : Type 0} (source_of : R → Option (List ℕ)) (pages : List Page) (reader : R) (answer : Answer) (why : RequestsFault) → Reads source_of pages reader answer

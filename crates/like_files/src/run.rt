@@ -11,7 +11,7 @@ ghost use Rattle.like_files.specs.Run.{HasRun, IsRunFault};
 use crate::fault::DriverFault;
 use crate::plans::read_plans_at_once;
 use crate::setup::with_pages;
-use crate::writing::write_text;
+use crate::writing::write_text_at_once;
 use like_replies::Report;
 use like_requests::{Request, Setup, read_pages};
 use like_roles::NoGate;
@@ -44,7 +44,7 @@ pub fn run_files<T: Threads + Wait + Sync, R: Read + Drop + Send, W: Write>(
     let plans = read_plans_at_once(rt, alloc, &pages, requests)?;
     let setup = with_pages(options, pages);
     let report = made(rt, alloc, options.places, &setup, plans)?;
-    write_text(alloc, options.places, &report, &setup.pages, out)?;
+    write_text_at_once(rt, alloc, options.places, &report, &setup.pages, out)?;
     Ok(())
 }
 

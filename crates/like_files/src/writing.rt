@@ -4,7 +4,8 @@ ghost use Rattle.like_replies.specs.Reported.{reported};
 ghost use Rattle.like_replies.specs.Rows.{IsWritable};
 ghost use Rattle.like_files.specs.Inputs.{text_of};
 
-use like_replies::{Report, WriteFault, write_places, write_report};
+use like_replies::{Report, WriteFault, write_places, write_report, write_report_at_once};
+use std::thread::Threads;
 use like_requests::Pages;
 use std::alloc::Global;
 use std::io::Write;
@@ -26,6 +27,22 @@ pub fn write_text<W: Write>(
         (text_of places pages.now report.now)) }
 {
     write_report(alloc, report, pages, out)?;
+    if places {
+        write_places(alloc, report, pages, out)?;
+    }
+    Ok(())
+}
+
+pub fn write_text_at_once<T: Threads + Sync, W: Write>(
+    rt: &T,
+    alloc: Global,
+    places: bool,
+    report: &Report,
+    pages: &Pages,
+    out: &mut W,
+) -> Result<(), WriteFault>
+{
+    write_report_at_once(rt, alloc, report, pages, out)?;
     if places {
         write_places(alloc, report, pages, out)?;
     }

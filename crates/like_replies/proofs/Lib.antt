@@ -1,3 +1,4 @@
+pub mod AtOnce
 pub mod Collecting
 pub mod Empty
 pub mod Examples
@@ -8,5 +9,6 @@ pub mod PlaceLists
 pub mod Plain
 pub mod RowTexts
 pub mod SlotPlaces
+pub mod Stretches
 pub mod Texts
 pub mod There

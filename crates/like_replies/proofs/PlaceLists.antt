@@ -12,7 +12,7 @@ use Rattle.like_roles.specs.declared.log.Added.{Added}
 use Rattle.like_roles.specs.declared.log.WorkerLog.{WorkerLog}
 use Rattle.like_replies.specs.declared.place.Place.{Place}
 use Rattle.like_replies.specs.Places.{AreByOld, lists_in, place_of, places_of, places_in}
-use Rattle.like_replies.proofs.Texts.{enumerate_from-push}
+use Rattle.like_replies.proofs.Texts.{enumerate_from-append}
 
 -- the place of an addition, where it is to the page
 abbrev pub place_if : ℕ → ℕ → Added → List Place
@@ -46,7 +46,7 @@ put-place rows page worker a there = elim (cases_eq a.page page) [
 -- the places of one more log
 pub places_in-push : (page : ℕ) (logs : List WorkerLog) (log : WorkerLog) → places_in page (logs ++ log ∷ []) ≡ places_in page logs ++ places_of page (length logs) log.adds.items
 places_in-push page logs log =
-    let e : enumerate_from 0 (logs ++ log ∷ []) ≡ enumerate_from 0 logs ++ (length logs, log) ∷ [] = simp (enumerate_from-push, zero-add) in
+    let e : enumerate_from 0 (logs ++ log ∷ []) ≡ enumerate_from 0 logs ++ (length logs, log) ∷ [] = simp (enumerate_from-append, zero-add) in
     ap (flat_map (λ p. places_of page p.0 p.1.adds.items)) e
     ∙ flat_map-append (λ p. places_of page p.0 p.1.adds.items) (enumerate_from 0 logs) ((length logs, log) ∷ [])
     ∙ ap (λ r. places_in page logs ++ r) (append-nil (places_of page (length logs) log.adds.items))

@@ -6,3 +6,4 @@ pub mod Reported
 pub mod RowParts
 pub mod Rows
 pub mod Slots
+pub mod Stretches

@@ -1,11 +1,10 @@
 -- The parts of a reply's row, as text.
-use Rattle.std.specs.Prelude.{ℕ, List, Option, [], ◌∷◌, ◌++◌, codes, decimal}
-use Rattle.std.specs.Io.KnownBytes.{Appends, append_known}
+use Rattle.std.specs.Prelude.{ℕ, List, [], ◌∷◌, ◌++◌, codes, decimal}
 use Rattle.csv.specs.Writing.{default_writer, end_text, fields_text, row_body}
 use Rattle.like_requests.specs.Pages.{Page}
 use Rattle.like_roles.specs.declared.reply.Reply.{Reply}
 use Rattle.like_replies.specs.declared.place.Place.{Place}
-use Rattle.like_replies.specs.Rows.{answer_word, rows_text, shown_count, shown_page}
+use Rattle.like_replies.specs.Rows.{answer_word, shown_count, shown_page}
 
 -- the first two fields of the rows of a submitter's requests, and the comma after them
 abbrev pub reply_start : ℕ → List ℕ
@@ -24,9 +23,3 @@ abbrev pub shown_text : List Page → Reply → List ℕ
 shown_text pages reply =
     fields_text default_writer (answer_word reply ∷ shown_page pages reply ∷ shown_count reply ∷ [])
     ++ end_text default_writer.terminator
-
--- rows are written: what a writer holds and then a sheet does grows by their text
-abbrev pub WritesRows : Option (List ℕ) → List ℕ → Option (List ℕ) → List ℕ
-    → List (List (List ℕ)) → Type 0
-WritesRows old_known old_sheet new_known new_sheet rows =
-    Appends (append_known old_known old_sheet) (append_known new_known new_sheet) (rows_text rows)

@@ -1,5 +1,5 @@
 -- The rows of a report, and their text.
-use Rattle.std.specs.Prelude.{◌≡◌, ◌≢◌, ◌<◌, ⊤, ℕ, All, length, List, [], ◌∷◌, ◌++◌, map, filter, codes, decimal, slice_get, Option, option_map}
+use Rattle.std.specs.Prelude.{◌≡◌, ◌≢◌, ◌<◌, ◌+◌, ⊤, ℕ, All, length, List, [], ◌∷◌, ◌++◌, map, filter, codes, decimal, slice_get, Option, option_map}
 use Rattle.std.specs.List.{enumerate_from, filter_map, flat_map, range_with_len}
 use Rattle.std.specs.Option.{ForSome, option_map_or}
 use Rattle.csv.specs.Writing.{default_writer, row_text}
@@ -64,9 +64,13 @@ abbrev pub hot_row : List Page → ℕ → ℕ → List (List ℕ)
 hot_row pages phase page =
     codes "hot" ∷ decimal page ∷ [] ∷ decimal phase ∷ [] ∷ name_of pages page ∷ [] ∷ []
 
+-- the rows of those of a submitter's requests that come after so many others, by their numbers
+abbrev pub answer_rows : List Page → ℕ → ℕ → List Answer → List (List (List ℕ))
+answer_rows pages submitter before answers = map (λ p. reply_row pages submitter p.0 p.1) (enumerate_from (before + 1) answers)
+
 -- the rows of a submitter's requests, by their numbers from 1
 abbrev pub submitter_rows : List Page → ℕ → List Answer → List (List (List ℕ))
-submitter_rows pages submitter answers = map (λ p. reply_row pages submitter p.0 p.1) (enumerate_from 1 answers)
+submitter_rows pages submitter answers = answer_rows pages submitter 0 answers
 
 -- the rows of all requests, by submitter and number
 abbrev pub reply_rows : List Page → List (List Answer) → List (List (List ℕ))
@@ -76,9 +80,13 @@ reply_rows pages replies = flat_map (λ p. submitter_rows pages p.0 p.1) (enumer
 abbrev pub page_rows : List Page → List ℕ → List (List (List ℕ))
 page_rows pages counts = map (λ p. page_row pages p.0 p.1) (enumerate_from 0 counts)
 
+-- the rows of those users with an accepted like that come after so many users, by their numbers
+abbrev pub liker_rows : List Page → ℕ → List (Option ℕ) → List (List (List ℕ))
+liker_rows pages before last = filter_map (λ p. option_map (user_row pages p.0) p.1) (enumerate_from before last)
+
 -- the rows of the users with an accepted like, by their numbers from 0
 abbrev pub user_rows : List Page → List (Option ℕ) → List (List (List ℕ))
-user_rows pages last = filter_map (λ p. option_map (user_row pages p.0) p.1) (enumerate_from 0 last)
+user_rows pages last = liker_rows pages 0 last
 
 -- the rows of a phase's hot pages, of the first so many pages
 abbrev pub hot_rows_below : List Page → Chosen → ℕ → List (List (List ℕ))

@@ -17,6 +17,5 @@ pub use page_places::places;
 pub use place::Place;
 pub use replies::Replies;
 pub use report::Report;
-pub use report::places::write_places;
-pub use report::text::write_report;
+pub use report::text::{write_places, write_places_at_once, write_report, write_report_at_once};
 pub use write_fault::WriteFault;

@@ -1,7 +1,8 @@
 mod names;
-pub(crate) mod places;
 mod rows;
 mod sheet;
+mod stretch;
+mod stretches;
 pub(crate) mod text;
 
 use crate::place::Place;

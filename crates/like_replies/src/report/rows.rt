@@ -3,9 +3,11 @@ ghost use Rattle.csv.specs.Writing.{default_writer, row_text};
 ghost use Rattle.like_requests.specs.Pages.{Page};
 ghost use Rattle.like_roles.specs.declared.reply.Reply.TheVariants.{Refused};
 ghost use Rattle.like_replies.specs.Rows.{IsAnswer, IsShowable, header_row, hot_row, page_row, reply_row, user_row};
-ghost use Rattle.like_replies.specs.RowParts.{reply_start, shown_text};
+ghost use Rattle.like_replies.specs.PlaceRows.{place_row};
+ghost use Rattle.like_replies.specs.RowParts.{place_start, reply_start, shown_text};
 
 use crate::answer::Answer;
+use crate::place::Place;
 use crate::report::names::Names;
 use crate::report::sheet::Sheet;
 use like_requests::Verdict;
@@ -124,4 +126,37 @@ pub fn add_hot(sheet: &mut Sheet, names: &Names, phase: u32, page: u32) -> Resul
     sheet.add(b",,")?;
     sheet.add(names.text(page))?;
     sheet.add(b",\n")
+}
+
+/// Adds the row of a place of a page.
+pub fn add_place(
+    sheet: &mut Sheet,
+    names: &Names,
+    page: u32,
+    place: &Place,
+) -> Result<(), AllocError>
+    requires { page < length names.now }
+    ensures { OnOk result (sheet.new ≡ sheet.old
+        ++ row_text default_writer (place_row names.now page place.now)) }
+{
+    start_place(sheet, page, place)?;
+    sheet.add_number(place.old)?;
+    sheet.add(b",")?;
+    sheet.add(names.text(page))?;
+    sheet.add(b",")?;
+    sheet.add_number(place.n)?;
+    sheet.add(b"\n")
+}
+
+// Adds how that row begins.
+fn start_place(sheet: &mut Sheet, page: u32, place: &Place) -> Result<(), AllocError>
+    ensures { OnOk result (sheet.new ≡ sheet.old ++ place_start page place.now) }
+{
+    sheet.add(b"place,")?;
+    sheet.add_number(u64::from(page))?;
+    sheet.add(b",")?;
+    sheet.add_number(u64::from(place.worker))?;
+    sheet.add(b",")?;
+    sheet.add_number(u64::from(place.phase))?;
+    sheet.add(b",")
 }

@@ -1,5 +1,5 @@
 ghost use Rattle.std.specs.Prelude.{◌≡◌, [], ◌++◌, OnOk, decimal};
-ghost use Rattle.std.specs.Io.KnownBytes.{Appends, Keeps, append_known};
+ghost use Rattle.std.specs.Io.KnownBytes.{Appends};
 ghost use Rattle.csv.specs.Writing.{default_writer, field_text};
 
 use crate::write_fault::WriteFault;
@@ -8,10 +8,7 @@ use std::alloc::{AllocError, Global};
 use std::io::Write;
 use std::marker::Model;
 
-/// How many bytes of text are gathered before they are handed on.
-const ENOUGH: usize = 65_536;
-
-/// The text of rows on its way to a writer, which is handed on once there is enough of it.
+/// The text of rows on its way to a writer.
 #[derive(Drop)]
 pub struct Sheet {
     text: Vec<u8>,
@@ -66,17 +63,5 @@ impl Sheet {
         }
         self.text.clear();
         Ok(())
-    }
-
-    /// Hands all the text on where there is enough of it.
-    pub fn hand_on_enough<W: Write>(&mut self, out: &mut W) -> Result<(), WriteFault>
-        ensures { OnOk result (Keeps
-            (append_known (W.contents out.old) self.old)
-            (append_known (W.contents out.new) self.new)) }
-    {
-        if self.text.len() < ENOUGH {
-            return Ok(());
-        }
-        self.hand_on(out)
     }
 }

@@ -1,0 +1,36 @@
+-- The stretches of rows that a report and its places are written by.
+use Rattle.std.specs.Prelude.{◌≡◌, ◌<◌, ◌+◌, ◌^◌, ⊤, ℕ, All, List, [], ◌∷◌, length}
+use Rattle.std.specs.List.{flat_map}
+use Rattle.std.specs.Option.{ForSome}
+use Rattle.like_requests.specs.Pages.{Page}
+use Rattle.like_replies.specs.declared.report.stretch.Stretch.{Stretch}
+use Rattle.like_replies.specs.declared.report.stretch.Stretch.TheVariants.{Header, Answers, Counts, Users, Hot, Places}
+use Rattle.like_replies.specs.PlaceRows.{page_place_rows}
+use Rattle.like_replies.specs.Rows.{IsShowable, answer_rows, header_row, hot_rows, liker_rows, page_rows}
+
+-- the rows of a stretch
+abbrev pub stretch_rows : List Page → Stretch → List (List (List ℕ))
+stretch_rows pages Header = header_row ∷ []
+stretch_rows pages (Answers submitter before answers) = answer_rows pages submitter before answers.now
+stretch_rows pages (Counts counts) = page_rows pages counts.now
+stretch_rows pages (Users before last) = liker_rows pages before last.now
+stretch_rows pages (Hot hot) = hot_rows pages hot.now
+stretch_rows pages (Places page places) = page_place_rows pages page places.now
+
+-- a stretch shows replies that can be shown and pages that are there, and its numbers are those of 64 bits
+abbrev pub HasRows : List Page → Stretch → Type 0
+HasRows pages Header = ⊤
+HasRows pages (Answers submitter before answers) = (before + length answers.now < 2 ^ 64) × All (λ a. IsShowable pages a.reply) answers.now
+HasRows pages (Counts counts) = length counts.now ≡ length pages
+HasRows pages (Users before last) = (before + length last.now < 2 ^ 64) × All (λ page. ForSome page (λ p. p < length pages)) last.now
+HasRows pages (Hot hot) = ⊤
+HasRows pages (Places page places) = page < length pages
+
+-- the rows of stretches
+abbrev pub rows_in : List Page → List Stretch → List (List (List ℕ))
+rows_in pages stretches = flat_map (stretch_rows pages) stretches
+
+-- stretches have these rows
+pub record AreStretches (pages : List Page) (rows : List (List (List ℕ))) (stretches : List Stretch) : Type 0 where
+  pub same : rows_in pages stretches ≡ rows
+  pub each : All (HasRows pages) stretches
