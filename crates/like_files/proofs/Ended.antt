@@ -20,8 +20,9 @@ use Rattle.like_run.specs.declared.threads.fault.RunFault.{RunFault}
 use Rattle.like_run.specs.declared.threads.fault.RunFault.TheVariants as threads
 use Rattle.like_script.specs.declared.turned.Turned.{Turned}
 use Rattle.like_words.specs.declared.options.Options.{Options}
+use Rattle.like_replies.specs.PlaceRows.{text_of}
 use Rattle.like_files.specs.Faults.{fault_of, fault_of_replay, fault_of_run}
-use Rattle.like_files.specs.Inputs.{GivesLists, Inputs, WritesReport, setup_of, text_of}
+use Rattle.like_files.specs.Inputs.{GivesLists, Inputs, WritesReport, setup_of}
 use Rattle.like_files.specs.Replay.{CanReplay, GivesAll, IsReplayFault}
 use Rattle.like_files.specs.Run.{CanRun, IsRunFault}
 

@@ -1,5 +1,5 @@
 -- What the files of a run or a replay give, as far as their bytes are known.
-use Rattle.std.specs.Prelude.{◌≡◌, ◌-◌, ◌^◌, ℕ, Bool, false, true, if◌then◌else◌, List, [], ◌++◌, map, min, take, slice_get, Option, Some, None, IsSomeAnd, option_map, Result, MatchResult, Vec}
+use Rattle.std.specs.Prelude.{◌≡◌, ◌-◌, ◌^◌, ℕ, Bool, false, true, List, [], map, min, take, slice_get, Option, Some, None, IsSomeAnd, option_map, Result, MatchResult, Vec}
 use Rattle.std.specs.declared.alloc.Global.{Global}
 use Rattle.std.specs.Io.KnownBytes.{Appends}
 use Rattle.std.specs.List.{AllZip}
@@ -12,10 +12,7 @@ use Rattle.like_requests.specs.declared.pages_file.PagesFault.{PagesFault}
 use Rattle.like_requests.specs.declared.request.Request.{Request}
 use Rattle.like_requests.specs.declared.requests_file.RequestsFault.{RequestsFault}
 use Rattle.like_requests.specs.declared.setup.Setup.{Setup}
-use Rattle.like_replies.specs.Reported.{reported}
-use Rattle.like_replies.specs.PlaceRows.{place_rows}
-use Rattle.like_replies.specs.Places.{lists_in}
-use Rattle.like_replies.specs.Rows.{report_text, rows_text}
+use Rattle.like_replies.specs.PlaceRows.{text_of}
 use Rattle.like_replies.specs.declared.report.Report.{Report}
 use Rattle.like_crew.specs.EndToEnd.{IsRightReport}
 use Rattle.like_crew.specs.Tiling.{HasNoPlaces, HasRightPlaces}
@@ -108,11 +105,6 @@ abbrev pub RefusesLists : Option (List ℕ) → List (Option (List ℕ)) → Dri
 RefusesLists file files (driver.Pages fault) = RefusesPages file fault
 RefusesLists file files (driver.Requests submitter fault) = PlansRefused file files (driver.Requests submitter fault)
 RefusesLists file files fault = ⊥
-
--- the text of a report, and behind it, where they are asked for, the rows of its places
-abbrev pub text_of : Bool → List Page → Report → List ℕ
-text_of places pages report =
-    report_text pages (reported report) ++ (if places then rows_text (place_rows pages (lists_in report.places.items)) else [])
 
 -- the text of a report was written that is right end to end; its places are right where they are asked for, and else there
 -- are none

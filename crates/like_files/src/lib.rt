@@ -8,7 +8,6 @@ mod plans;
 mod replay;
 mod run;
 mod setup;
-mod writing;
 
 pub use fault::DriverFault;
 pub use line::WRITE_FAILED;

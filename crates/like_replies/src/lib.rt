@@ -17,5 +17,5 @@ pub use page_places::places;
 pub use place::Place;
 pub use replies::Replies;
 pub use report::Report;
-pub use report::text::{write_places, write_places_at_once, write_report, write_report_at_once};
+pub use report::text::{write_places, write_report, write_text, write_text_at_once};
 pub use write_fault::WriteFault;

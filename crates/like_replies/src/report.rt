@@ -4,6 +4,7 @@ mod sheet;
 mod stretch;
 mod stretches;
 pub(crate) mod text;
+mod writing;
 
 use crate::place::Place;
 use crate::replies::Replies;

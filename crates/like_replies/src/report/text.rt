@@ -1,26 +1,19 @@
-ghost use Rattle.std.specs.Prelude.{◌≡◌, ◌++◌, ℕ, All, IfOk, List, Ok, OnOk, length, map};
-ghost use Rattle.std.specs.List.{flat_map};
-ghost use Rattle.std.specs.Io.KnownBytes.{Appends, Keeps};
-ghost use Rattle.like_replies.specs.PlaceRows.{place_rows};
+ghost use Rattle.std.specs.Prelude.{◌≡◌, true, OnOk, length};
+ghost use Rattle.std.specs.Io.KnownBytes.{Appends};
+ghost use Rattle.like_replies.specs.PlaceRows.{place_rows, text_of};
 ghost use Rattle.like_replies.specs.Places.{lists_in};
 ghost use Rattle.like_replies.specs.Reported.{reported};
 ghost use Rattle.like_replies.specs.Rows.{IsWritable, report_text, rows_text};
-ghost use Rattle.like_replies.specs.Stretches.{HasRows, rows_in};
 
 use crate::report::Report;
 use crate::report::names::Names;
-use crate::report::sheet::Sheet;
-use crate::report::stretch::{Stretch, add_stretch};
 use crate::report::stretches::{place_stretches, report_stretches};
+use crate::report::writing::{write_rows, write_rows_at_once};
 use crate::write_fault::WriteFault;
 use like_requests::Pages;
-use std::alloc::{AllocError, Global};
+use std::alloc::Global;
 use std::io::Write;
-use std::thread;
 use std::thread::Threads;
-
-// How many stretches are made side by side.
-const AT_ONCE: usize = 4;
 
 /// Writes the text of a report. After a fault nothing is said of how much was written.
 pub fn write_report<W: Write>(
@@ -37,24 +30,6 @@ pub fn write_report<W: Write>(
 {
     let names = Names::new(alloc, pages)?;
     write_rows(alloc, &names, &report_stretches(alloc, report)?, out)
-}
-
-/// The same, where threads may make stretches of the text side by side. One that can't be started is no fault.
-pub fn write_report_at_once<T: Threads + Sync, W: Write>(
-    rt: &T,
-    alloc: Global,
-    report: &Report,
-    pages: &Pages,
-    out: &mut W,
-) -> Result<(), WriteFault>
-    requires { IsWritable pages.now (reported report.now) }
-    ensures { OnOk result (Appends
-        (W.contents out.old)
-        (W.contents out.new)
-        (report_text pages.now (reported report.now))) }
-{
-    let names = Names::new(alloc, pages)?;
-    write_rows_at_once(rt, alloc, &names, &report_stretches(alloc, report)?, out)
 }
 
 /// Writes a row for each place of each page, with no header. After a fault nothing is said of how much was written.
@@ -75,102 +50,51 @@ pub fn write_places<W: Write>(
     write_rows(alloc, &names, &stretches, out)
 }
 
-/// The same, where threads may make stretches of the text side by side. One that can't be started is no fault.
-pub fn write_places_at_once<T: Threads + Sync, W: Write>(
-    rt: &T,
+/// Writes the text of a report, and behind it, where they are asked for, the rows of its places. After a fault nothing is
+/// said of how much was written.
+pub fn write_text<W: Write>(
     alloc: Global,
+    places: bool,
     report: &Report,
     pages: &Pages,
     out: &mut W,
 ) -> Result<(), WriteFault>
-    requires { length report.now.places.items ≡ length pages.now }
+    requires writable { IsWritable pages.now (reported report.now) }
+    requires placed { places ≡ true → length report.now.places.items ≡ length pages.now }
     ensures { OnOk result (Appends
         (W.contents out.old)
         (W.contents out.new)
-        (rows_text (place_rows pages.now (lists_in report.now.places.items)))) }
+        (text_of places pages.now report.now)) }
 {
-    let names = Names::new(alloc, pages)?;
-    let stretches = place_stretches(alloc, pages.len(), &report.places)?;
-    write_rows_at_once(rt, alloc, &names, &stretches, out)
-}
-
-// Writes the rows of stretches.
-fn write_rows<W: Write>(
-    alloc: Global,
-    names: &Names,
-    stretches: &[Stretch],
-    out: &mut W,
-) -> Result<(), WriteFault>
-    requires { All (HasRows names.now) stretches.now }
-    ensures { OnOk result (Appends
-        (W.contents out.old)
-        (W.contents out.new)
-        (rows_text (rows_in names.now stretches.now))) }
-{
-    let mut sheet = Sheet::new(alloc);
-    for stretch in stretches {
-        add_stretch(alloc, &mut sheet, names, stretch)?;
-        sheet.hand_on(out)?;
+    write_report(alloc, report, pages, out)?;
+    if places {
+        write_places(alloc, report, pages, out)?;
     }
-    flush(out)
+    Ok(())
 }
 
-// The same, with some stretches made side by side.
-fn write_rows_at_once<T: Threads + Sync, W: Write>(
+/// The same, where threads may make stretches of the text side by side. A thread that can't be started is no fault, since
+/// the caller's own does its work.
+pub fn write_text_at_once<T: Threads + Sync, W: Write>(
     rt: &T,
     alloc: Global,
-    names: &Names,
-    stretches: &[Stretch],
+    places: bool,
+    report: &Report,
+    pages: &Pages,
     out: &mut W,
 ) -> Result<(), WriteFault>
-    requires { All (HasRows names.now) stretches.now }
+    requires writable { IsWritable pages.now (reported report.now) }
+    requires placed { places ≡ true → length report.now.places.items ≡ length pages.now }
     ensures { OnOk result (Appends
         (W.contents out.old)
         (W.contents out.new)
-        (rows_text (rows_in names.now stretches.now))) }
+        (text_of places pages.now report.now)) }
 {
-    let made = |_at: usize, part: &[Stretch]| -> Result<Sheet, AllocError>
-        requires { All (HasRows names.now) part.now }
-        ensures { IfOk result (λ sheet. sheet ≡ rows_text (rows_in names.entry.now part.entry.now)) }
-    { sheet_of(alloc, names, part) };
-    for round in stretches.chunks(AT_ONCE) {
-        hand_on_all(out, thread::map_chunks(rt, alloc, round, 1, &made)?)?;
+    let names = Names::new(alloc, pages)?;
+    write_rows_at_once(rt, alloc, &names, &report_stretches(alloc, report)?, out)?;
+    if !places {
+        return Ok(());
     }
-    flush(out)
-}
-
-// The text of stretches.
-fn sheet_of(alloc: Global, names: &Names, stretches: &[Stretch]) -> Result<Sheet, AllocError>
-    requires { All (HasRows names.now) stretches.now }
-    ensures { IfOk result (λ sheet. sheet ≡ rows_text (rows_in names.now stretches.now)) }
-{
-    let mut sheet = Sheet::new(alloc);
-    for stretch in stretches {
-        add_stretch(alloc, &mut sheet, names, stretch)?;
-    }
-    Ok(sheet)
-}
-
-// Hands the text of all sheets on, in their order, where all were made.
-fn hand_on_all<W: Write>(
-    out: &mut W,
-    sheets: Vec<Result<Sheet, AllocError>>,
-) -> Result<(), WriteFault>
-    ensures { OnOk result ((texts : List (List ℕ)) × (sheets.items ≡ map Ok texts)
-        × Appends (W.contents out.old) (W.contents out.new) (flat_map (λ text. text) texts)) }
-{
-    for sheet in sheets {
-        sheet?.hand_on(out)?;
-    }
-    Ok(())
-}
-
-// Lets the writer hand on what it keeps.
-fn flush<W: Write>(out: &mut W) -> Result<(), WriteFault>
-    ensures { OnOk result (Keeps (W.contents out.old) (W.contents out.new)) }
-{
-    if out.flush().is_err() {
-        return Err(WriteFault::Write);
-    }
-    Ok(())
+    let stretches = place_stretches(alloc, pages.len(), &report.places)?;
+    write_rows_at_once(rt, alloc, &names, &stretches, out)
 }

@@ -2,7 +2,7 @@ use Rattle.std.proofs.Common.{◌≡◌, [], take}
 use Rattle.std.specs.Io.KnownBytes.{Appends}
 use Rattle.like_replies.specs.Rows.{rows_text}
 use Rattle.like_replies.specs.Stretches.{rows_in}
-use Rattle.like_replies.proofs.report.text.write_rows.Given as goal
+use Rattle.like_replies.proofs.report.writing.write_rows.Given as goal
 
 abbrev pub invariant-loop-stretch : goal.invariant-loop-stretch
 invariant-loop-stretch g l = (l.sheet ≡ [])

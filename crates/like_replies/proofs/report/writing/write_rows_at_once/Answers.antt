@@ -8,7 +8,7 @@ use Rattle.like_replies.specs.declared.report.stretch.Stretch.{Stretch}
 use Rattle.like_replies.specs.Rows.{rows_text}
 use Rattle.like_replies.specs.Stretches.{rows_in, stretch_rows}
 use Rattle.like_replies.proofs.AtOnce.{texts-at_once}
-use Rattle.like_replies.proofs.report.text.write_rows_at_once.Goals as goal
+use Rattle.like_replies.proofs.report.writing.write_rows_at_once.Goals as goal
 
 pub loop-round-preserved : goal.loop-round-preserved
 loop-round-preserved g c =

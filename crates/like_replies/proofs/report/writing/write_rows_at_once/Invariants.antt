@@ -4,7 +4,7 @@ use Rattle.std.specs.Slice.Iter.{chunks_rest}
 use Rattle.like_replies.specs.declared.report.stretch.Stretch.{Stretch}
 use Rattle.like_replies.specs.Rows.{rows_text}
 use Rattle.like_replies.specs.Stretches.{rows_in}
-use Rattle.like_replies.proofs.report.text.write_rows_at_once.Given as goal
+use Rattle.like_replies.proofs.report.writing.write_rows_at_once.Given as goal
 
 abbrev pub invariant-loop-round : goal.invariant-loop-round
 invariant-loop-round g l =
