@@ -2,6 +2,7 @@ pub mod AtOnce
 pub mod Collecting
 pub mod Empty
 pub mod Examples
+pub mod Heads
 pub mod Holding
 pub mod Lists
 pub mod Named

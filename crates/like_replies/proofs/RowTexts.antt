@@ -5,11 +5,11 @@ use Rattle.std.specs.Option.{option_map_or}
 use Rattle.csv.specs.Writing.{default_writer, field_text, fields_text, is_blank, row_text}
 use Rattle.like_requests.specs.Pages.{Page}
 use Rattle.like_requests.specs.declared.verdict.Verdict.TheVariants.{OtherHome, UnknownPage, UnknownUser}
-use Rattle.like_roles.specs.declared.reply.Reply.TheVariants.{Refused, Seen}
+use Rattle.like_roles.specs.declared.reply.Reply.TheVariants.{Liked, Refused, Seen}
 use Rattle.like_replies.specs.declared.answer.Answer.{Answer}
 use Rattle.like_replies.specs.declared.place.Place.{Place}
 use Rattle.like_replies.specs.PlaceRows.{place_row}
-use Rattle.like_replies.specs.RowParts.{place_start, reply_start, shown_text}
+use Rattle.like_replies.specs.RowParts.{phase_text, place_start, reply_start, shown_text}
 use Rattle.like_replies.specs.Rows.{answer_word, hot_row, name_of, page_row, reply_row, shown_count, shown_page, user_row}
 
 -- the text of a number
@@ -24,6 +24,16 @@ name_text pages page = field_text default_writer (name_of pages page)
 pub start-text : (submitter : ℕ) → reply_start submitter ≡ (codes "reply," ++ number_text submitter) ++ 44 ∷ []
 unfolding fields_text
 start-text submitter = ap (λ t. codes "reply," ++ (t ++ 44 ∷ [])) (append-nil (number_text submitter))
+
+-- the phase of a row
+pub phase-text : (phase : ℕ) → phase_text phase ≡ codes "," ++ number_text phase
+unfolding fields_text
+phase-text phase = ap (λ t. codes "," ++ t) (append-nil (number_text phase))
+
+-- what a like shows
+pub liked-text : (pages : List Page) → shown_text pages Liked ≡ codes ",liked,,\n"
+unfolding fields_text
+liked-text pages = refl
 
 -- what a refusal shows
 pub unknown_user-text : (pages : List Page) → shown_text pages (Refused UnknownUser) ≡ codes ",unknown-user,,\n"
@@ -47,14 +57,14 @@ pub seen-text : (pages : List Page) (last : Option ℕ) (count : ℕ)
 unfolding fields_text
 seen-text pages last count = ap (λ t. codes ",seen," ++ t) (seen_in_parts (field_text default_writer (option_map_or (name_of pages) last [])) (number_text count))
 
--- the row of a request
+-- the row of a request: its head, its phase and what its reply shows
 reply_in_parts : (submitter number phase answer page count : List ℕ)
     → (submitter ++ 44 ∷ (number ++ 44 ∷ (phase ++ 44 ∷ (answer ++ 44 ∷ (page ++ 44 ∷ (count ++ [])))))) ++ 10 ∷ []
-    ≡ ((submitter ++ []) ++ 44 ∷ []) ++ (number ++ 44 ∷ (phase ++ ((44 ∷ (answer ++ 44 ∷ (page ++ 44 ∷ (count ++ [])))) ++ 10 ∷ [])))
+    ≡ (((submitter ++ []) ++ 44 ∷ []) ++ number) ++ (44 ∷ (phase ++ []) ++ ((44 ∷ (answer ++ 44 ∷ (page ++ 44 ∷ (count ++ [])))) ++ 10 ∷ []))
 reply_in_parts submitter number phase answer page count = simp (append_assoc, append-nil)
 
 pub reply-text : (pages : List Page) (submitter number : ℕ) (a : Answer)
-    → row_text default_writer (reply_row pages submitter number a) ≡ reply_start submitter ++ (number_text number ++ 44 ∷ (number_text a.phase ++ shown_text pages a.reply))
+    → row_text default_writer (reply_row pages submitter number a) ≡ (reply_start submitter ++ number_text number) ++ (phase_text a.phase ++ shown_text pages a.reply)
 unfolding fields_text is_blank
 reply-text pages submitter number a =
     ap (λ t. codes "reply," ++ t)

@@ -1,4 +1,6 @@
+mod head;
 mod names;
+mod phase_texts;
 mod rows;
 mod sheet;
 mod stretch;

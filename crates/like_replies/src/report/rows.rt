@@ -1,14 +1,16 @@
-ghost use Rattle.std.specs.Prelude.{◌≡◌, ◌<◌, ◌++◌, ℕ, List, IfOk, OnOk, length};
+ghost use Rattle.std.specs.Prelude.{◌≡◌, ◌<◌, ◌++◌, ℕ, List, IfOk, OnOk, codes, length};
 ghost use Rattle.csv.specs.Writing.{default_writer, row_text};
 ghost use Rattle.like_requests.specs.Pages.{Page};
 ghost use Rattle.like_roles.specs.declared.reply.Reply.TheVariants.{Refused};
 ghost use Rattle.like_replies.specs.Rows.{IsAnswer, IsShowable, header_row, hot_row, page_row, reply_row, user_row};
 ghost use Rattle.like_replies.specs.PlaceRows.{place_row};
-ghost use Rattle.like_replies.specs.RowParts.{place_start, reply_start, shown_text};
+ghost use Rattle.like_replies.specs.RowParts.{phase_text, place_start, reply_start, shown_text};
 
 use crate::answer::Answer;
 use crate::place::Place;
+use crate::report::head::Head;
 use crate::report::names::Names;
+use crate::report::phase_texts::PhaseTexts;
 use crate::report::sheet::Sheet;
 use like_requests::Verdict;
 use like_roles::Reply;
@@ -46,43 +48,52 @@ fn refusal(verdict: Verdict) -> &'static str
     }
 }
 
-// Adds what a reply shows, and ends the row.
-#[tactic(auto, unfolding(csv::specs::Writing::fields_text))]
-fn add_shown(sheet: &mut Sheet, names: &Names, reply: Reply) -> Result<(), AllocError>
+// Adds the phase of a reply and what it shows, and ends the row.
+fn add_shown(
+    sheet: &mut Sheet,
+    names: &Names,
+    texts: &PhaseTexts,
+    reply: Reply,
+) -> Result<(), AllocError>
     requires { IsShowable names.now reply }
-    ensures { OnOk result (sheet.new ≡ sheet.old ++ shown_text names.now reply) }
+    ensures { OnOk result (sheet.new ≡ sheet.old
+        ++ (phase_text texts.now ++ shown_text names.now reply)) }
 {
     match reply {
-        Reply::Liked => sheet.add(b",liked,,\n"),
+        Reply::Liked => sheet.add(texts.liked()),
         Reply::Seen { last, count } => {
-            sheet.add(b",seen,")?;
+            sheet.add(texts.seen())?;
             sheet.add(names.text_of_last(last))?;
             sheet.add(b",")?;
             sheet.add_number(count)?;
             sheet.add(b"\n")
         }
-        Reply::Refused(verdict) => sheet.add(refusal(verdict).as_bytes()),
+        Reply::Refused(verdict) => {
+            sheet.add(texts.start())?;
+            sheet.add(refusal(verdict).as_bytes())
+        }
     }
 }
 
-/// Adds the row of a submitter's request with this number, which begins like the submitter's others.
+/// Adds the row of a submitter's request, with the texts of an even and of an odd phase at hand: joined and split
+/// phases take turns.
 pub fn add_reply(
+    alloc: Global,
     sheet: &mut Sheet,
     names: &Names,
-    start: &Sheet,
-    number: u64,
+    head: &Head,
+    phases: &mut [PhaseTexts; 2],
     answer: &Answer,
 ) -> Result<(), AllocError>
     requires { IsShowable names.now answer.now.reply }
-    ensures { (submitter : ℕ) → start.now ≡ reply_start submitter
+    ensures { (submitter : ℕ) → head.now.start ≡ reply_start submitter
         → OnOk result (sheet.new ≡ sheet.old
-        ++ row_text default_writer (reply_row names.now submitter number answer.now)) }
+        ++ row_text default_writer (reply_row names.now submitter head.now.number answer.now)) }
 {
-    sheet.add(start.text())?;
-    sheet.add_number(number)?;
-    sheet.add(b",")?;
-    sheet.add_number(u64::from(answer.phase))?;
-    add_shown(sheet, names, answer.reply)
+    let texts = &mut phases[answer.phase as usize % 2];
+    texts.go_to(alloc, answer.phase)?;
+    sheet.add(head.text())?;
+    add_shown(sheet, names, texts, answer.reply)
 }
 
 /// Adds the row of a page with its final count.
@@ -100,14 +111,14 @@ pub fn add_page(sheet: &mut Sheet, names: &Names, page: u32, count: u64) -> Resu
     sheet.add(b"\n")
 }
 
-/// Adds the row of a user whose last like is of this page.
-pub fn add_user(sheet: &mut Sheet, names: &Names, user: u64, page: u32) -> Result<(), AllocError>
-    requires { page < length names.now }
+/// Adds the row of the head's user, whose last like is of this page.
+pub fn add_user(sheet: &mut Sheet, names: &Names, head: &Head, page: u32) -> Result<(), AllocError>
+    requires start { head.now.start ≡ codes "user," }
+    requires there { page < length names.now }
     ensures { OnOk result (sheet.new ≡ sheet.old
-        ++ row_text default_writer (user_row names.now user page)) }
+        ++ row_text default_writer (user_row names.now head.now.number page)) }
 {
-    sheet.add(b"user,")?;
-    sheet.add_number(user)?;
+    sheet.add(head.text())?;
     sheet.add(b",,,,")?;
     sheet.add(names.text(page))?;
     sheet.add(b",\n")

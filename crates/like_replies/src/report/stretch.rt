@@ -6,7 +6,9 @@ ghost use Rattle.like_replies.specs.Stretches.{HasRows, stretch_rows};
 
 use crate::answer::Answer;
 use crate::place::Place;
+use crate::report::head::Head;
 use crate::report::names::Names;
+use crate::report::phase_texts::PhaseTexts;
 use crate::report::rows::{
     add_header, add_hot, add_page, add_place, add_reply, add_user, start_reply,
 };
@@ -59,7 +61,7 @@ pub fn add_stretch(
             answers,
         } => add_answers(alloc, sheet, names, submitter, before, answers),
         Stretch::Counts(counts) => add_counts(sheet, names, counts),
-        Stretch::Users { before, last } => add_users(sheet, names, before, last),
+        Stretch::Users { before, last } => add_users(alloc, sheet, names, before, last),
         Stretch::Hot(hot) => add_all_hot(sheet, names, hot),
         Stretch::Places { page, places } => add_places(sheet, names, page, places),
     }
@@ -74,14 +76,17 @@ fn add_answers(
     before: u64,
     answers: &[Answer],
 ) -> Result<(), AllocError>
-    requires room { before + length answers.now < 2 ^ 64 }
+    requires room { before + 1 + length answers.now < 2 ^ 64 }
     requires shown { All (λ a. IsShowable names.now a.reply) answers.now }
     ensures { OnOk result (sheet.new ≡ sheet.old
         ++ rows_text (answer_rows names.now submitter before answers.now)) }
 {
     let start = start_reply(alloc, submitter)?;
-    for (place, answer) in answers.iter().enumerate() {
-        add_reply(sheet, names, &start, before + place as u64 + 1, answer)?;
+    let mut head = Head::new(alloc, start.text(), before + 1)?;
+    let mut phases = [PhaseTexts::new(alloc, 0)?, PhaseTexts::new(alloc, 1)?];
+    for answer in answers {
+        add_reply(alloc, sheet, names, &head, &mut phases, answer)?;
+        head.next();
     }
     Ok(())
 }
@@ -99,6 +104,7 @@ fn add_counts(sheet: &mut Sheet, names: &Names, counts: &[u64]) -> Result<(), Al
 
 // Adds the rows of those users with an accepted like that come after so many users.
 fn add_users(
+    alloc: Global,
     sheet: &mut Sheet,
     names: &Names,
     before: u64,
@@ -109,11 +115,12 @@ fn add_users(
     ensures { OnOk result (sheet.new ≡ sheet.old
         ++ rows_text (liker_rows names.now before last.now)) }
 {
-    for (place, page) in last.iter().enumerate() {
-        let Some(page) = *page else {
-            continue;
-        };
-        add_user(sheet, names, before + place as u64, page)?;
+    let mut head = Head::new(alloc, b"user,", before)?;
+    for page in last {
+        if let Some(page) = *page {
+            add_user(sheet, names, &head, page)?;
+        }
+        head.next();
     }
     Ok(())
 }

@@ -3,6 +3,9 @@ use Rattle.std.proofs.lemmas.Result.{IfOk-equal}
 use Rattle.like_replies.proofs.RowTexts.{seen-text}
 use Rattle.like_replies.proofs.report.rows.add_shown.Goals as goal
 
+pub returns-in-Liked : goal.returns-in-Liked
+returns-in-Liked c = rw (c.in-Liked.is, ← c.liked.ensures c.args.names.now) c.add.ensures
+
 pub returns-in_ok-add_number-in-Seen : goal.returns-in_ok-add_number-in-Seen
 returns-in_ok-add_number-in-Seen c =
     rw (c.in-Seen.is, seen-text c.args.names.now c.in-Seen.last c.in-Seen.count, ← c.text_of_last.ensures) (search (rules, IfOk-equal, append_assoc))
@@ -10,5 +13,5 @@ returns-in_ok-add_number-in-Seen c =
 pub refusal-requires : goal.refusal-requires
 refusal-requires c = rw c.in-Refused.is at c.requires.answer
 
-pub returns-in-Refused : goal.returns-in-Refused
-returns-in-Refused c = rw (c.in-Refused.is, ← c.refusal.ensures c.args.names.now, ← c.as_bytes.ensures.value) c.add-in-Refused.ensures
+pub returns-in_ok-add-in-Refused : goal.returns-in_ok-add-in-Refused
+returns-in_ok-add-in-Refused c = rw (c.in-Refused.is, ← c.refusal.ensures c.args.names.now) (search (rules, IfOk-equal, append_assoc))

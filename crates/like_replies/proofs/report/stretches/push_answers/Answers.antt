@@ -20,7 +20,7 @@ loop-part-preserved c =
     let whole : c.args.answers.now ≡ done ++ (part ++ rest) = c.loop-part.invariant.3 ∙ ap (λ r. done ++ r) step.1.0 in
     let lengths : length c.args.answers.now ≡ length done + (length part + length rest) =
     ap length whole ∙ length-append done (part ++ rest) ∙ ap (λ n. length done + n) (length-append part rest) in
-    let room : before + length part < 2 ^ 64 = omega (arith, lengths, c.loop-part.invariant.4) in
+    let room : before + 1 + length part < 2 ^ 64 = omega (arith, lengths, c.loop-part.invariant.4) in
     let number : 0 + length done ≡ before = omega (arith, c.loop-part.invariant.4) in
     let stretch : Stretch = Answers submitter before c.in-Some.part in (
       rw step.0 c.loop-part.invariant.0,

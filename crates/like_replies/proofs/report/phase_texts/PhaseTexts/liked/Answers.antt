@@ -1,0 +1,6 @@
+use Rattle.std.proofs.Common.{rules}
+use Rattle.like_replies.proofs.RowTexts.{liked-text}
+use Rattle.like_replies.proofs.report.phase_texts.PhaseTexts.liked.Goals as goal
+
+pub returns : goal.returns
+returns c = λ pages. rw (liked-text pages) (search rules)

@@ -1,0 +1,85 @@
+ghost use Rattle.std.specs.Prelude.{◌≡◌, ◌++◌, List, IfOk, OnOk, codes};
+ghost use Rattle.like_requests.specs.Pages.{Page};
+ghost use Rattle.like_roles.specs.declared.reply.Reply.TheVariants.{Liked};
+ghost use Rattle.like_replies.specs.RowParts.{phase_text, shown_text};
+
+use crate::report::sheet::Sheet;
+use std::alloc::{AllocError, Global};
+use std::marker::Model;
+
+/// What the rows of the answers of a phase have after their number: the phase alone, with the end of a like's row, and
+/// with the word of a look.
+#[derive(Drop)]
+pub struct PhaseTexts {
+    phase: u32,
+    start: Sheet,
+    liked: Sheet,
+    seen: Sheet,
+}
+
+impl Model for PhaseTexts {
+    ghost use Rattle.std.specs.Prelude.{◌≡◌, ◌++◌, ℕ, codes};
+    ghost use Rattle.like_replies.specs.RowParts.{phase_text};
+
+    ghost Value = { ℕ };
+
+    ghost view = { λ t. t.phase };
+
+    ghost invariant = { λ t. (t.start ≡ phase_text t.phase)
+        × (t.liked ≡ phase_text t.phase ++ codes ",liked,,\n")
+        × (t.seen ≡ phase_text t.phase ++ codes ",seen,") };
+}
+
+impl PhaseTexts {
+    /// The texts of this phase.
+    pub fn new(alloc: Global, phase: u32) -> Result<Self, AllocError>
+        ensures { IfOk result (λ texts. texts ≡ phase) }
+    {
+        let mut start = Sheet::new(alloc);
+        start.add(b",")?;
+        start.add_number(u64::from(phase))?;
+        let mut liked = Sheet::new(alloc);
+        liked.add(start.text())?;
+        liked.add(b",liked,,\n")?;
+        let mut seen = Sheet::new(alloc);
+        seen.add(start.text())?;
+        seen.add(b",seen,")?;
+        Ok(PhaseTexts {
+            phase,
+            start,
+            liked,
+            seen,
+        })
+    }
+
+    /// Goes to this phase, where it is not there already.
+    pub fn go_to(&mut self, alloc: Global, phase: u32) -> Result<(), AllocError>
+        ensures { OnOk result (self.new ≡ phase) }
+    {
+        if self.phase != phase {
+            *self = PhaseTexts::new(alloc, phase)?;
+        }
+        Ok(())
+    }
+
+    /// The phase.
+    pub fn start(&self) -> &[u8]
+        ensures { result.now ≡ phase_text self.now }
+    {
+        self.start.text()
+    }
+
+    /// The phase, and what a like shows.
+    pub fn liked(&self) -> &[u8]
+        ensures { (pages : List Page) → result.now ≡ phase_text self.now ++ shown_text pages Liked }
+    {
+        self.liked.text()
+    }
+
+    /// The phase, and the word of a look.
+    pub fn seen(&self) -> &[u8]
+        ensures { result.now ≡ phase_text self.now ++ codes ",seen," }
+    {
+        self.seen.text()
+    }
+}
