@@ -140,6 +140,8 @@ fn run_within<R: Threads + Wait + Sync, G: Gate>(
     let (sends, takes) = ends_of(alloc, &lines, passes)?;
     let crew = Crew::of_inboxes(alloc, setup, &site, seats, takes)?;
     let ended = on_threads(rt, alloc, crew, sends, gate, starts)?;
+    // The plans make room for the answers.
+    drop(lines);
     Ok(report_of(alloc, setup, &lists, site, ended)?)
 }
 

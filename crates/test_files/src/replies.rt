@@ -4,6 +4,7 @@ use like_roles::{Added, Ran, WorkerLog};
 use like_tables::Users;
 use std::alloc::{AllocError, Global};
 
+mod at_once;
 mod collecting;
 mod place_rows;
 mod placing;
