@@ -10,12 +10,12 @@ use Rattle.like_files.proofs.Writable.{IsWritable-end_to_end}
 use Rattle.like_files.proofs.run.run_files.Goals as goal
 
 pub write_text_at_once-requires-clause-writable : goal.write_text_at_once-requires-clause-writable
-write_text_at_once-requires-clause-writable g c =
+write_text_at_once-requires-clause-writable g c κs lives =
     IsWritable-end_to_end (asked c.with_pages-setup.result (map requests_of c.in_ok-plans.plans.items) (runs_of c.in_ok-report.report.logs.items)) (plans-within _ _ c.in_ok-report.ensures.within)
     c.with_pages-setup.result.workers c.in_ok-report.report c.in_ok-report.ensures.report
 
 pub write_text_at_once-requires-clause-placed : goal.write_text_at_once-requires-clause-placed
-write_text_at_once-requires-clause-placed g c wanted =
+write_text_at_once-requires-clause-placed g c κs lives wanted =
     one_list_a_page c.with_pages-setup.result (map requests_of c.in_ok-plans.plans.items) c.in_ok-report.report (c.in_ok-report.ensures.places wanted)
 
 pub returns-in_err-report-clause-fault : goal.returns-in_err-report-clause-fault
