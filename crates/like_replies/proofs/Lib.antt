@@ -9,7 +9,7 @@ pub mod Named
 pub mod PlaceLists
 pub mod Plain
 pub mod RowTexts
+pub mod Sections
 pub mod SlotPlaces
-pub mod Stretches
 pub mod Texts
 pub mod There

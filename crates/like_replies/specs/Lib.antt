@@ -5,5 +5,5 @@ pub mod PlaceRows
 pub mod Reported
 pub mod RowParts
 pub mod Rows
+pub mod Sections
 pub mod Slots
-pub mod Stretches

@@ -2,9 +2,9 @@ mod head;
 mod names;
 mod phase_texts;
 mod rows;
+mod section;
+mod sections;
 mod sheet;
-mod stretch;
-mod stretches;
 pub(crate) mod text;
 mod writing;
 

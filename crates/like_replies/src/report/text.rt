@@ -7,7 +7,7 @@ ghost use Rattle.like_replies.specs.Rows.{IsWritable, report_text, rows_text};
 
 use crate::report::Report;
 use crate::report::names::Names;
-use crate::report::stretches::{place_stretches, report_stretches};
+use crate::report::sections::{place_sections, report_sections};
 use crate::report::writing::{write_rows, write_rows_at_once};
 use crate::write_fault::WriteFault;
 use like_requests::Pages;
@@ -29,7 +29,7 @@ pub fn write_report<W: Write>(
         (report_text pages.now (reported report.now))) }
 {
     let names = Names::new(alloc, pages)?;
-    write_rows(alloc, &names, &report_stretches(alloc, report)?, out)
+    write_rows(alloc, &names, &report_sections(alloc, report)?, out)
 }
 
 /// Writes a row for each place of each page, with no header. After a fault nothing is said of how much was written.
@@ -46,8 +46,8 @@ pub fn write_places<W: Write>(
         (rows_text (place_rows pages.now (lists_in report.now.places.items)))) }
 {
     let names = Names::new(alloc, pages)?;
-    let stretches = place_stretches(alloc, pages.len(), &report.places)?;
-    write_rows(alloc, &names, &stretches, out)
+    let sections = place_sections(alloc, pages.len(), &report.places)?;
+    write_rows(alloc, &names, &sections, out)
 }
 
 /// Writes the text of a report, and behind it, where they are asked for, the rows of its places. After a fault nothing is
@@ -73,7 +73,7 @@ pub fn write_text<W: Write>(
     Ok(())
 }
 
-/// The same, where threads may make stretches of the text side by side. A thread that can't be started is no fault, since
+/// The same, where threads may make sections of the text side by side. A thread that can't be started is no fault, since
 /// the caller's own does its work.
 pub fn write_text_at_once<T: Threads + Sync, W: Write>(
     rt: &T,
@@ -91,10 +91,10 @@ pub fn write_text_at_once<T: Threads + Sync, W: Write>(
         (text_of places pages.now report.now)) }
 {
     let names = Names::new(alloc, pages)?;
-    write_rows_at_once(rt, alloc, &names, &report_stretches(alloc, report)?, out)?;
+    write_rows_at_once(rt, alloc, &names, &report_sections(alloc, report)?, out)?;
     if !places {
         return Ok(());
     }
-    let stretches = place_stretches(alloc, pages.len(), &report.places)?;
-    write_rows_at_once(rt, alloc, &names, &stretches, out)
+    let sections = place_sections(alloc, pages.len(), &report.places)?;
+    write_rows_at_once(rt, alloc, &names, &sections, out)
 }

@@ -1,4 +1,4 @@
-//! The text of a report whose stretches threads make side by side, on a writer in memory and on one that fails.
+//! The text of a report whose sections threads make side by side, on a writer in memory and on one that fails.
 ghost use Rattle.std.specs.Prelude.{◌≡◌, IfOk, List, length};
 ghost use Rattle.like_requests.specs.Pages.{Page};
 ghost use Rattle.like_replies.specs.Reported.{reported};
@@ -51,10 +51,10 @@ fn text_of_likes(alloc: Global, count: usize) -> Result<String, Fail> {
     Ok(text)
 }
 
-// 40,000 requests, users and places have three stretches each, the last of them shorter than the others: more than one
-// round of stretches.
+// 40,000 requests, users and places have three sections each, the last of them shorter than the others: more than one
+// round of sections.
 #[test]
-fn all_stretches_in_order(rt: HostRuntime) -> Result<(), Fail> {
+fn all_sections_in_order(rt: HostRuntime) -> Result<(), Fail> {
     let pages = one_page(&rt, rt.alloc(), "name,count,split\na,0,no\n");
     for count in [0, 1, 16_384, 40_000] {
         let report = report_of_likes(rt.alloc(), count)?;

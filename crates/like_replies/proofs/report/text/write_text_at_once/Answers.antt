@@ -11,7 +11,7 @@ use Rattle.like_replies.proofs.report.text.write_text_at_once.Goals as goal
 pub returns-then-not-places : goal.returns-then-not-places
 returns-then-not-places g c =
     let off : c.args.places ≡ false = c.if-not-places.true in
-    let rows = (c.in_ok-report_stretches.ensures c.args.pages.now c.requires.writable).same in
+    let rows = (c.in_ok-report_sections.ensures c.args.pages.now c.requires.writable).same in
     rw (off, append-nil (report_text c.args.pages.now (reported c.args.report.now)))
     (rw (c.in_ok-names.ensures, c.deref.ensures.value, rows) at c.in_ok-write_rows_at_once.ensures)
 
@@ -20,10 +20,10 @@ returns g c =
     let pages = c.args.pages.now in
     let report = c.args.report.now in
     let on : c.args.places ≡ true = c.if-not-places.false in
-    let rows = (c.in_ok-report_stretches.ensures pages c.requires.writable).same in
+    let rows = (c.in_ok-report_sections.ensures pages c.requires.writable).same in
     let first : Appends (g.W.Write.contents c.args.out.now) (g.W.Write.contents c.write_rows_at_once.new.out) (report_text pages (reported report)) =
     rw (c.in_ok-names.ensures, c.deref.ensures.value, rows) at c.in_ok-write_rows_at_once.ensures in
-    let placed = (c.in_ok-stretches.ensures pages (sym c.len.ensures.len)).same in
+    let placed = (c.in_ok-sections.ensures pages (sym c.len.ensures.len)).same in
     rw on
     (on_ok_weaker c.write_rows_at_once-2.result
     (λ second. Appends-trans _ _ _ (report_text pages (reported report)) (rows_text (place_rows pages (lists_in report.places.items))) first

@@ -1,6 +1,0 @@
-use Rattle.std.proofs.Common.{◌≡◌, ◌++◌}
-use Rattle.like_replies.specs.Rows.{hot_rows_below, rows_text}
-use Rattle.like_replies.proofs.report.stretch.add_chosen.Given as goal
-
-abbrev pub invariant-loop-page : goal.invariant-loop-page
-invariant-loop-page l = l.sheet ≡ l.initial.sheet ++ rows_text (hot_rows_below l.names l.chosen l.page)

@@ -1,0 +1,167 @@
+ghost use Rattle.std.specs.Prelude.{◌≡◌, ◌<◌, ◌+◌, ◌^◌, ◌++◌, All, OnOk, length};
+ghost use Rattle.std.specs.Option.{ForSome};
+ghost use Rattle.like_replies.specs.PlaceRows.{page_place_rows};
+ghost use Rattle.like_replies.specs.Rows.{IsShowable, answer_rows, hot_rows, hot_rows_below, liker_rows, page_rows, rows_text};
+ghost use Rattle.like_replies.specs.Sections.{HasRows, section_rows};
+
+use crate::answer::Answer;
+use crate::place::Place;
+use crate::report::head::Head;
+use crate::report::names::Names;
+use crate::report::phase_texts::PhaseTexts;
+use crate::report::rows::{
+    add_header, add_hot, add_page, add_place, add_reply, add_user, start_reply,
+};
+use crate::report::sheet::Sheet;
+use like_core::is_hot;
+use like_roles::Chosen;
+use std::alloc::{AllocError, Global};
+
+/// A section of rows whose text is made at once.
+#[derive(Drop)]
+pub enum Section<'a> {
+    Header,
+    /// Those of a submitter's requests that come after so many others of its own.
+    Answers {
+        submitter: u64,
+        before: u64,
+        answers: &'a [Answer],
+    },
+    /// The pages, by their final counts.
+    Counts(&'a [u64]),
+    /// The users that come after so many others, by their last likes.
+    Users {
+        before: u64,
+        last: &'a [Option<u32>],
+    },
+    /// The hot pages, phase by phase.
+    Hot(&'a [Chosen]),
+    /// Places of a page.
+    Places {
+        page: u32,
+        places: &'a [Place],
+    },
+}
+
+/// Adds the rows of a section.
+pub fn add_section(
+    alloc: Global,
+    sheet: &mut Sheet,
+    names: &Names,
+    section: &Section,
+) -> Result<(), AllocError>
+    requires { HasRows names.now section.now }
+    ensures { OnOk result (sheet.new ≡ sheet.old ++ rows_text (section_rows names.now section.now)) }
+{
+    match *section {
+        Section::Header => add_header(sheet),
+        Section::Answers {
+            submitter,
+            before,
+            answers,
+        } => add_answers(alloc, sheet, names, submitter, before, answers),
+        Section::Counts(counts) => add_counts(sheet, names, counts),
+        Section::Users { before, last } => add_users(alloc, sheet, names, before, last),
+        Section::Hot(hot) => add_all_hot(sheet, names, hot),
+        Section::Places { page, places } => add_places(sheet, names, page, places),
+    }
+}
+
+// Adds the rows of those of a submitter's requests that come after so many others.
+fn add_answers(
+    alloc: Global,
+    sheet: &mut Sheet,
+    names: &Names,
+    submitter: u64,
+    before: u64,
+    answers: &[Answer],
+) -> Result<(), AllocError>
+    requires room { before + 1 + length answers.now < 2 ^ 64 }
+    requires shown { All (λ a. IsShowable names.now a.reply) answers.now }
+    ensures { OnOk result (sheet.new ≡ sheet.old
+        ++ rows_text (answer_rows names.now submitter before answers.now)) }
+{
+    let start = start_reply(alloc, submitter)?;
+    let mut head = Head::new(alloc, start.text(), before + 1)?;
+    let mut phases = [PhaseTexts::new(alloc, 0)?, PhaseTexts::new(alloc, 1)?];
+    for answer in answers {
+        add_reply(alloc, sheet, names, &head, &mut phases, answer)?;
+        head.next();
+    }
+    Ok(())
+}
+
+// Adds the rows of the pages.
+fn add_counts(sheet: &mut Sheet, names: &Names, counts: &[u64]) -> Result<(), AllocError>
+    requires { length counts.now ≡ length names.now }
+    ensures { OnOk result (sheet.new ≡ sheet.old ++ rows_text (page_rows names.now counts.now)) }
+{
+    for page in 0..names.len() {
+        add_page(sheet, names, page, counts[page as usize])?;
+    }
+    Ok(())
+}
+
+// Adds the rows of those users with an accepted like that come after so many users.
+fn add_users(
+    alloc: Global,
+    sheet: &mut Sheet,
+    names: &Names,
+    before: u64,
+    last: &[Option<u32>],
+) -> Result<(), AllocError>
+    requires room { before + length last.now < 2 ^ 64 }
+    requires there { All (λ page. ForSome page (λ p. p < length names.now)) last.now }
+    ensures { OnOk result (sheet.new ≡ sheet.old
+        ++ rows_text (liker_rows names.now before last.now)) }
+{
+    let mut head = Head::new(alloc, b"user,", before)?;
+    for page in last {
+        if let Some(page) = *page {
+            add_user(sheet, names, &head, page)?;
+        }
+        head.next();
+    }
+    Ok(())
+}
+
+// Adds the rows of the hot pages, phase by phase.
+fn add_all_hot(sheet: &mut Sheet, names: &Names, hot: &[Chosen]) -> Result<(), AllocError>
+    ensures { OnOk result (sheet.new ≡ sheet.old ++ rows_text (hot_rows names.now hot.now)) }
+{
+    for chosen in hot {
+        add_chosen(sheet, names, *chosen)?;
+    }
+    Ok(())
+}
+
+// Adds the rows of a phase's hot pages.
+fn add_chosen(sheet: &mut Sheet, names: &Names, chosen: Chosen) -> Result<(), AllocError>
+    ensures { OnOk result (sheet.new ≡ sheet.old
+        ++ rows_text (hot_rows_below names.now chosen (length names.now))) }
+{
+    for page in 0..names.len() {
+        if !is_hot(chosen.mask, page) {
+            continue;
+        }
+        add_hot(sheet, names, chosen.phase, page)?;
+    }
+    Ok(())
+}
+
+// Adds the rows of places of a page.
+fn add_places(
+    sheet: &mut Sheet,
+    names: &Names,
+    page: u32,
+    places: &[Place],
+) -> Result<(), AllocError>
+    requires { page < length names.now }
+    ensures { OnOk result (sheet.new ≡ sheet.old
+        ++ rows_text (page_place_rows names.now page places.now)) }
+{
+    for place in places {
+        add_place(sheet, names, page, place)?;
+    }
+    Ok(())
+}

@@ -1,0 +1,102 @@
+ghost use Rattle.std.specs.Prelude.{◌≡◌, ◌<◌, ◌++◌, ℕ, All, IfOk, List, OnOk, length};
+ghost use Rattle.std.specs.Option.{ForSome};
+ghost use Rattle.like_requests.specs.Pages.{Page};
+ghost use Rattle.like_replies.specs.PlaceRows.{page_place_rows, place_rows};
+ghost use Rattle.like_replies.specs.Places.{lists_in};
+ghost use Rattle.like_replies.specs.Reported.{reported};
+ghost use Rattle.like_replies.specs.Rows.{IsShowable, IsWritable, report_rows, submitter_rows, user_rows};
+ghost use Rattle.like_replies.specs.Sections.{AreSections};
+
+use crate::answer::Answer;
+use crate::place::Place;
+use crate::report::Report;
+use crate::report::section::Section;
+use std::alloc::{AllocError, Global};
+
+// How many requests, users or places a section has rows of at most.
+const MOST: usize = 16_384;
+
+/// The sections of a report.
+pub fn report_sections(alloc: Global, report: &Report) -> Result<Vec<Section<'_>>, AllocError>
+    ensures { (pages : List Page) → IsWritable pages (reported report.now)
+        → IfOk result (λ all. AreSections pages (report_rows pages (reported report.now)) all.items) }
+{
+    let mut all = Vec::new(alloc);
+    all.push(Section::Header)?;
+    for (submitter, answers) in report.replies.rows.iter().enumerate() {
+        push_answers(&mut all, submitter as u64, answers)?;
+    }
+    all.push(Section::Counts(&report.counts))?;
+    push_users(&mut all, &report.last)?;
+    all.push(Section::Hot(&report.hot))?;
+    Ok(all)
+}
+
+/// The sections of places, by page.
+pub fn place_sections(
+    alloc: Global,
+    pages: u32,
+    places: &[Vec<Place>],
+) -> Result<Vec<Section<'_>>, AllocError>
+    requires { length places.now ≡ pages }
+    ensures { (named : List Page) → length named ≡ pages
+        → IfOk result (λ all. AreSections named (place_rows named (lists_in places.now)) all.items) }
+{
+    let mut all = Vec::new(alloc);
+    for page in 0..pages {
+        push_places(&mut all, page, &places[page as usize])?;
+    }
+    Ok(all)
+}
+
+// Adds the sections of a submitter's requests.
+fn push_answers<'a>(
+    all: &mut Vec<Section<'a>>,
+    submitter: u64,
+    answers: &'a [Answer],
+) -> Result<(), AllocError>
+    ensures { (pages : List Page) (rows : List (List (List ℕ))) → AreSections pages rows all.old.items
+        → All (λ a. IsShowable pages a.reply) answers.now
+        → OnOk result (AreSections pages (rows ++ submitter_rows pages submitter answers.now) all.new.items) }
+{
+    let mut before = 0;
+    for part in answers.chunks(MOST) {
+        all.push(Section::Answers {
+            submitter,
+            before,
+            answers: part,
+        })?;
+        before += part.len() as u64;
+    }
+    Ok(())
+}
+
+// Adds the sections of the users.
+fn push_users<'a>(all: &mut Vec<Section<'a>>, users: &'a [Option<u32>]) -> Result<(), AllocError>
+    ensures { (pages : List Page) (rows : List (List (List ℕ))) → AreSections pages rows all.old.items
+        → All (λ last. ForSome last (λ page. page < length pages)) users.now
+        → OnOk result (AreSections pages (rows ++ user_rows pages users.now) all.new.items) }
+{
+    let mut before = 0;
+    for part in users.chunks(MOST) {
+        all.push(Section::Users { before, last: part })?;
+        before += part.len() as u64;
+    }
+    Ok(())
+}
+
+// Adds the sections of a page's places.
+fn push_places<'a>(
+    all: &mut Vec<Section<'a>>,
+    page: u32,
+    places: &'a [Place],
+) -> Result<(), AllocError>
+    ensures { (pages : List Page) (rows : List (List (List ℕ))) → AreSections pages rows all.old.items
+        → page < length pages
+        → OnOk result (AreSections pages (rows ++ page_place_rows pages page places.now) all.new.items) }
+{
+    for part in places.chunks(MOST) {
+        all.push(Section::Places { page, places: part })?;
+    }
+    Ok(())
+}
