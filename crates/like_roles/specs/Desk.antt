@@ -127,6 +127,11 @@ pub record IsSound (post : PostView) (d : Desk) : Type 0 where
   pub waiting : IsWaiting d.held
   pub tried : (place : ℕ) → d.pending ≡ Some place → IsTried post d place
 
+-- and no submitter is tried
+pub record IsSettled (post : PostView) (d : Desk) : Type 0 where
+  pub sound : IsSound post d
+  pub untried : d.pending ≡ None
+
 -- a request of the worker, with its verdict, that may be answered now
 pub record CanServe (post : PostView) (d : Desk) (h : Held) (verdict : Verdict) : Type 0 where
   pub running : IsRunning post.state

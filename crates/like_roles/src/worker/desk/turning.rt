@@ -1,8 +1,8 @@
-ghost use Rattle.std.specs.Prelude.{◌≡◌, ◌≢◌, ◌<◌, ◌+◌, ◌*◌, ◌%◌, true, false, length, None, Some};
+ghost use Rattle.std.specs.Prelude.{◌≡◌, ◌≢◌, ◌<◌, ◌+◌, ◌*◌, ◌%◌, true, false, length, Some};
 ghost use Rattle.like_core.specs.declared.worker_state.WorkerState.TheVariants.{Gone};
 ghost use Rattle.like_core.specs.WorkerState.{IsSightOf, RunsJoined, RunsSplit, SawEnding, phase_of};
 ghost use Rattle.like_tables.specs.Share.{submitter_of};
-ghost use Rattle.like_roles.specs.Desk.{view_of, ArePlaces, IsSound};
+ghost use Rattle.like_roles.specs.Desk.{view_of, ArePlaces, IsSettled, IsSound};
 ghost use Rattle.like_roles.specs.Turns.{Turns, Works, enters_split, masks_in, saw};
 
 use crate::gate::Gate;
@@ -15,8 +15,7 @@ use like_requests::Verdict;
 impl Desk {
     /// Makes the next turn, or the part of it up to the take.
     pub fn turn<P: Post, G: Gate>(&mut self, post: &mut P, gate: &G) -> Turn
-        requires sound { IsSound (P.view post.old) self.old }
-        requires settled { self.old.pending ≡ None }
+        requires { IsSettled (P.view post.old) self.old }
         ensures sound { IsSound (P.view post.new) self.new }
         ensures case { let v = view_of (P.view post.old) self.old in
             Turns v result (view_of (P.view post.new) self.new) }
@@ -37,8 +36,7 @@ impl Desk {
 
     // Looks at the phase word, and enters the next phase where it was released; of a split one it then reads the mask.
     fn look<P: Post, G: Gate>(&mut self, post: &mut P, gate: &G) -> Sight
-        requires sound { IsSound (P.view post.old) self.old }
-        requires settled { self.old.pending ≡ None }
+        requires settled { IsSettled (P.view post.old) self.old }
         requires there { (P.view post.old).state ≢ Gone }
         ensures sound { IsSound (P.view post.new) self.new }
         ensures sight { IsSightOf (P.view post.old).state result }
@@ -73,8 +71,7 @@ impl Desk {
 
     // The turn of a worker that runs a joined phase.
     fn joined_turn<P: Post, G: Gate>(&mut self, post: &mut P, gate: &G, ending: bool) -> Turn
-        requires sound { IsSound (P.view post.old) self.old }
-        requires settled { self.old.pending ≡ None }
+        requires settled { IsSettled (P.view post.old) self.old }
         requires joined { RunsJoined (P.view post.old).state }
         requires ending { ending ≡ true → SawEnding (P.view post.old).last }
         ensures sound { IsSound (P.view post.new) self.new }
@@ -99,8 +96,7 @@ impl Desk {
 
     // The turn of a worker that runs a split phase.
     fn split_turn<P: Post>(&mut self, post: &mut P, ending: bool) -> Turn
-        requires sound { IsSound (P.view post.old) self.old }
-        requires settled { self.old.pending ≡ None }
+        requires settled { IsSettled (P.view post.old) self.old }
         requires split { RunsSplit (P.view post.old).state }
         requires ending { ending ≡ true → SawEnding (P.view post.old).last }
         ensures sound { IsSound (P.view post.new) self.new }

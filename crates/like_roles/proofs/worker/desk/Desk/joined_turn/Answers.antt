@@ -8,7 +8,7 @@ use Rattle.like_roles.proofs.worker.desk.Desk.joined_turn.Goals as goal
 
 pub run-requires-clause-sound : goal.run-requires-clause-sound
 run-requires-clause-sound g c κs within =
-    IsSound-pop (g.P.Post.view c.args.post.now) c.args.self.now c.pop_front.new.self c.requires.sound c.pop_front.ensures.rest c.requires.settled
+    IsSound-pop (g.P.Post.view c.args.post.now) c.args.self.now c.pop_front.new.self c.requires.settled.sound c.pop_front.ensures.rest c.requires.settled.untried
 
 pub returns-in-Some-clause-works : goal.returns-in-Some-clause-works
 returns-in-Some-clause-works g c =
