@@ -12,6 +12,8 @@ use std::alloc::{AllocError, Global};
 use std::process::Abort;
 use std::test::Fail;
 
+const HEADER: &str = "row,id,number,phase,answer,page,count\n";
+
 // The page of a file with one.
 pub fn one_page(rt: &impl Abort, alloc: Global, text: &str) -> Pages
     ensures { length result ≡ 1 }
@@ -83,15 +85,20 @@ fn verdicts_report(alloc: Global) -> Result<Report, AllocError>
     report(alloc, rows, 10, last, 0, Vec::new(alloc))
 }
 
-// The report on a like.
-fn like_report(alloc: Global) -> Result<Report, AllocError>
+// The report on a like in this phase, of so many phases, of which these had hot pages.
+fn like_report(
+    alloc: Global,
+    phase: u32,
+    phases: u32,
+    hot: Vec<Chosen>,
+) -> Result<Report, AllocError>
     ensures { IfOk result
         (λ r. (pages : List Page) → length pages ≡ 1 → IsWritable pages (reported r)) }
 {
-    let first = vec![in alloc; answer(0, Reply::Liked)]?;
+    let first = vec![in alloc; answer(phase, Reply::Liked)]?;
     let rows = vec![in alloc; first]?;
     let last = vec![in alloc; Some(0)]?;
-    report(alloc, rows, 1, last, 0, Vec::new(alloc))
+    report(alloc, rows, 1, last, phases, hot)
 }
 
 // The report on a like in phase 1, and on a look that waited for phase 2.
@@ -110,26 +117,29 @@ fn stashed_report(alloc: Global) -> Result<Report, AllocError>
     report(alloc, rows, 11, last, 4, Vec::new(alloc))
 }
 
-// The report on a like, where the page was hot in phases 3 and 5.
-fn hot_report(alloc: Global) -> Result<Report, AllocError>
-    ensures { IfOk result
-        (λ r. (pages : List Page) → length pages ≡ 1 → IsWritable pages (reported r)) }
+// Asserts that a text is written where there is room for all of it, and that with any less the write fails.
+pub fn assert_writes<F: Fn(&mut &mut [u8]) -> Result<(), WriteFault>>(
+    rt: &impl Abort,
+    alloc: Global,
+    text: &str,
+    write: F,
+) -> Result<(), Fail>
+    requires { F.IsAlwaysCallable write }
 {
-    let first = vec![in alloc; answer(1, Reply::Liked)]?;
-    let rows = vec![in alloc; first]?;
-    let last = vec![in alloc; Some(0)]?;
-    let hot = vec![in alloc; Chosen { phase: 3, mask: 1 }, Chosen { phase: 5, mask: 1 }]?;
-    report(alloc, rows, 1, last, 6, hot)
-}
-
-// Asserts that what was written is the header row and these.
-fn assert_rows(rt: &impl Abort, text: &[u8], rows: &str) {
-    let header = "row,id,number,phase,answer,page,count\n".as_bytes();
-    assert!(rt; text.starts_with(header));
-    let Some(body) = text.get(header.len()..) else {
-        panic!(rt; "no row");
-    };
-    assert_eq!(rt; body, rows.as_bytes());
+    for bytes in 0..text.len() {
+        let mut room = vec![in alloc; 0; bytes]?;
+        let mut out = room.as_mut_slice();
+        assert_eq!(rt;
+            write(&mut out),
+            Err(WriteFault::Write),
+            "where {bytes} bytes fit"
+        );
+    }
+    let mut room = vec![in alloc; 0; text.len()]?;
+    let mut out = room.as_mut_slice();
+    assert_eq!(rt; write(&mut out), Ok(()));
+    assert_eq!(rt; room.as_slice(), text.as_bytes());
+    Ok(())
 }
 
 // Asserts that a report on the page of a file is written as the header row and these.
@@ -139,14 +149,14 @@ fn assert_written(
     file: &str,
     report: &Report,
     rows: &str,
-) -> Result<(), WriteFault>
+) -> Result<(), Fail>
     requires { (pages : List Page) → length pages ≡ 1 → IsWritable pages (reported report.now) }
 {
     let pages = one_page(rt, alloc, file);
-    let mut out = Vec::with_capacity(alloc, 256)?;
-    write_report(alloc, report, &pages, &mut out)?;
-    assert_rows(rt, &out, rows);
-    Ok(())
+    let text = format!(in alloc; "{HEADER}{rows}")?;
+    assert_writes(rt, alloc, &text, |out| {
+        write_report(alloc, report, &pages, out)
+    })
 }
 
 #[test]
@@ -160,17 +170,15 @@ fn verdicts(rt: HostRuntime) -> Result<(), Fail> {
         "name,count,split\na,10,no\n",
         &report,
         rows,
-    )?;
-    Ok(())
+    )
 }
 
 #[test]
 fn quoted_names(rt: HostRuntime) -> Result<(), Fail> {
     let file = "name,count,split\r\n\"x,\"\"y\"\"\",0,no\r\n";
-    let report = like_report(rt.alloc())?;
+    let report = like_report(rt.alloc(), 0, 0, Vec::new(rt.alloc()))?;
     let rows = "reply,0,1,0,liked,,\npage,0,,,,\"x,\"\"y\"\"\",1\nuser,0,,,,\"x,\"\"y\"\"\",\n";
-    assert_written(&rt, rt.alloc(), file, &report, rows)?;
-    Ok(())
+    assert_written(&rt, rt.alloc(), file, &report, rows)
 }
 
 #[test]
@@ -183,49 +191,26 @@ fn split_and_stash(rt: HostRuntime) -> Result<(), Fail> {
         "name,count,split\na,10,yes\n",
         &report,
         rows,
-    )?;
-    Ok(())
+    )
 }
 
 #[test]
 fn hot_pages(rt: HostRuntime) -> Result<(), Fail> {
-    let report = hot_report(rt.alloc())?;
+    let hot = vec![in rt.alloc(); Chosen { phase: 3, mask: 1 }, Chosen { phase: 5, mask: 1 }]?;
+    let report = like_report(rt.alloc(), 1, 6, hot)?;
     let rows = "reply,0,1,1,liked,,\npage,0,,,,a,1\nuser,0,,,,a,\nhot,0,,3,,a,\nhot,0,,5,,a,\n";
-    assert_written(&rt, rt.alloc(), "name,count,split\na,0,no\n", &report, rows)?;
-    Ok(())
+    assert_written(&rt, rt.alloc(), "name,count,split\na,0,no\n", &report, rows)
 }
 
 // What was in the writer stays there.
 #[test]
 fn appends(rt: HostRuntime) -> Result<(), Fail> {
     let pages = one_page(&rt, rt.alloc(), "name,count,split\na,10,no\n");
-    let mut out = Vec::with_capacity(rt.alloc(), 256)?;
-    out.extend_from_slice(b"before\n")?;
-    let report = like_report(rt.alloc())?;
+    let mut out = Vec::from_slice(rt.alloc(), b"before\n")?;
+    let report = like_report(rt.alloc(), 0, 0, Vec::new(rt.alloc()))?;
     write_report(rt.alloc(), &report, &pages, &mut out)?;
-    let Some(text) = out.as_slice().strip_prefix(b"before\n".as_slice()) else {
-        panic!(rt; "it is gone");
-    };
-    assert_rows(
-        &rt,
-        text,
-        "reply,0,1,0,liked,,\npage,0,,,,a,1\nuser,0,,,,a,\n",
-    );
-    Ok(())
-}
-
-// The report has 108 bytes.
-#[test]
-fn failing_writes(rt: HostRuntime) -> Result<(), Fail> {
-    let pages = one_page(&rt, rt.alloc(), "name,count,split\na,10,yes\n");
-    let report = stashed_report(rt.alloc())?;
-    let mut room = [0; 108];
-    for bytes in 0..108 {
-        let mut out = &mut room[..bytes];
-        let result = write_report(rt.alloc(), &report, &pages, &mut out);
-        assert_eq!(rt; result, Err(WriteFault::Write), "where {bytes} bytes fit");
-    }
-    let mut out = room.as_mut_slice();
-    assert_eq!(rt; write_report(rt.alloc(), &report, &pages, &mut out), Ok(()));
+    let rows = "reply,0,1,0,liked,,\npage,0,,,,a,1\nuser,0,,,,a,\n";
+    let text = format!(in rt.alloc(); "before\n{HEADER}{rows}")?;
+    assert_eq!(rt; out.as_slice(), text.as_bytes());
     Ok(())
 }
