@@ -7,6 +7,8 @@ use Rattle.like_core.specs.declared.view.Addition.{Addition}
 use Rattle.like_core.specs.declared.view.PhaseMask.{PhaseMask}
 use Rattle.like_core.specs.declared.view.WorkerSeatView.{WorkerSeatView}
 use Rattle.like_core.specs.Post.{PostView}
+use Rattle.like_board.specs.declared.coord_seat.CoordSeat.{CoordSeat}
+use Rattle.like_board.specs.Seats.{coord_board, coord_view}
 
 -- a board of two workers and one page, which is split and begins at 10
 abbrev pub walk : Opening
@@ -28,6 +30,11 @@ pub record Walks (v : WorkerSeatView) (worker : ℕ) (state : WorkerState) (addi
   pub state_is : v.state ≡ state
   pub opening_is : v.opening ≡ walk
   pub additions_are : v.additions ≡ additions
+
+-- the coordinator's seat is still at its board, which began so
+pub record KeepsSeat (old new : CoordSeat) : Type 0 where
+  pub board : coord_board new ≡ coord_board old
+  pub opening : (coord_view new).opening ≡ (coord_view old).opening
 
 -- a board of one worker and one page, which is not marked and begins at 5
 abbrev pub hot_walk : Opening

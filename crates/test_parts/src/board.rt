@@ -4,7 +4,7 @@ ghost use Rattle.like_core.specs.Post.{IsFresh};
 ghost use Rattle.like_core.specs.Views.{looked_view, looked_coord};
 ghost use Rattle.like_board.specs.Seats.{board_id, coord_board, coord_view, seat_board, seat_view, post_board, post_view, post_meaning, AreFresh};
 ghost use Rattle.like_core.specs.Additions.{addition, page_read};
-ghost use Rattle.test_parts.specs.Walk.{walk, sight, coord_sight, Walks};
+ghost use Rattle.test_parts.specs.Walk.{walk, sight, coord_sight, KeepsSeat, Walks};
 
 mod hot;
 mod posts;
@@ -59,8 +59,7 @@ fn first_acknowledges(
 )
     requires here { coord_board coord.old ≡ board_id board.now }
     requires first { Walks (post_view first.old) 0 (Runs 0) [] }
-    ensures board { coord_board coord.new ≡ coord_board coord.old }
-    ensures opening { (coord_view coord.new).opening ≡ (coord_view coord.old).opening }
+    ensures coord { KeepsSeat coord.old coord.new }
     ensures first { Walks (post_view first.new) 0 (Answered 0) [] }
     ensures first_board { post_board first.new ≡ post_board first.old }
 {
@@ -82,8 +81,7 @@ fn second_acknowledges(
     requires here { coord_board coord.old ≡ board_id board.now }
     requires first { Walks (post_view first.old) 0 (Answered 0) [] }
     requires second { Walks (post_view second.old) 1 (Runs 0) [] }
-    ensures board { coord_board coord.new ≡ coord_board coord.old }
-    ensures opening { (coord_view coord.new).opening ≡ (coord_view coord.old).opening }
+    ensures coord { KeepsSeat coord.old coord.new }
     ensures first { Walks (post_view first.new) 0 (Runs 1) [] }
     ensures first_board { post_board first.new ≡ post_board first.old }
     ensures second { Walks (post_view second.new) 1 (Answered 0) [] }
@@ -101,8 +99,7 @@ fn second_acknowledges(
 fn first_reports(rt: &impl Abort, board: &Board, coord: &mut CoordSeat, first: &mut BoardPost<'_>)
     requires here { coord_board coord.old ≡ board_id board.now }
     requires first { Walks (post_view first.old) 0 (Runs 1) [] }
-    ensures board { coord_board coord.new ≡ coord_board coord.old }
-    ensures opening { (coord_view coord.new).opening ≡ (coord_view coord.old).opening }
+    ensures coord { KeepsSeat coord.old coord.new }
     ensures first { Walks (post_view first.new) 0 (Answered 1) (addition 1 0 10 3 ∷ []) }
     ensures first_board { post_board first.new ≡ post_board first.old }
 {
@@ -118,8 +115,7 @@ fn first_reports(rt: &impl Abort, board: &Board, coord: &mut CoordSeat, first: &
 fn second_reports(rt: &impl Abort, board: &Board, coord: &mut CoordSeat, second: &mut BoardPost<'_>)
     requires here { coord_board coord.old ≡ board_id board.now }
     requires second { Walks (post_view second.old) 1 (Answered 0) [] }
-    ensures board { coord_board coord.new ≡ coord_board coord.old }
-    ensures opening { (coord_view coord.new).opening ≡ (coord_view coord.old).opening }
+    ensures coord { KeepsSeat coord.old coord.new }
     ensures second { Walks (post_view second.new) 1 (Answered 1) [] }
     ensures second_board { post_board second.new ≡ post_board second.old }
 {
@@ -130,18 +126,9 @@ fn second_reports(rt: &impl Abort, board: &Board, coord: &mut CoordSeat, second:
 }
 
 // In phase 2 the first worker reads the page, and both retire.
-fn both_retire(
-    rt: &impl Abort,
-    board: &Board,
-    coord: &mut CoordSeat,
-    first: &mut BoardPost<'_>,
-    second: &mut BoardPost<'_>,
-)
-    requires here { coord_board coord.old ≡ board_id board.now }
+fn both_retire(rt: &impl Abort, first: &mut BoardPost<'_>, second: &mut BoardPost<'_>)
     requires first { Walks (post_view first.old) 0 (Answered 1) (addition 1 0 10 3 ∷ []) }
     requires second { Walks (post_view second.old) 1 (Answered 1) [] }
-    ensures board { coord_board coord.new ≡ coord_board coord.old }
-    ensures opening { (coord_view coord.new).opening ≡ (coord_view coord.old).opening }
     ensures first { Walks (post_view first.new) 0 Gone (addition 1 0 10 3 ∷ []) }
     ensures read { (post_view first.new).reads ≡ (post_view first.old).reads ++ page_read 2 0 13 1 ∷ [] }
     ensures first_board { post_board first.new ≡ post_board first.old }
@@ -154,7 +141,6 @@ fn both_retire(
     first.retire();
     sees(rt, second, 2, false, false);
     second.retire();
-    surveys(rt, coord, board, 2, false, true, true);
 }
 
 // The last seat of a list, whose worker made no step, taken to its board.
@@ -208,7 +194,8 @@ fn walks_through_three_phases(rt: HostRuntime) -> Result<(), Fail> {
     second_acknowledges(&rt, &board, &mut coord, &mut first, &mut second);
     first_reports(&rt, &board, &mut coord, &mut first);
     second_reports(&rt, &board, &mut coord, &mut second);
-    both_retire(&rt, &board, &mut coord, &mut first, &mut second);
+    both_retire(&rt, &mut first, &mut second);
+    surveys(&rt, &mut coord, &board, 2, false, true, true);
     let first = first.back();
     let second = second.back();
     assert_eq!(rt; ends(rt.alloc(), board, coord, first, second)?, 13);

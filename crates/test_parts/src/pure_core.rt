@@ -1,28 +1,47 @@
 use like_core::{
     CoordSight, Core, Event, Kind, NotNow, PhaseWord, Shown, Sight, Wrong, check_events,
 };
+use std::alloc::{AllocError, Global};
+use std::process::Abort;
 use std::test::Fail;
+
+// Of two workers and a page that is split: phase 1 is released, and the first worker likes the page in it.
+const LIKE_IN_PHASE_1: [Event; 6] = [
+    Event::Announce,
+    Event::Acknowledge(0),
+    Event::Acknowledge(1),
+    Event::Release(0),
+    Event::Look(0),
+    Event::Like(0, 0),
+];
+
+// The core that refuses the event of this index, of those and then these, because of its phase.
+fn refuses_at(
+    rt: &impl Abort,
+    alloc: Global,
+    then: &[Event],
+    index: usize,
+) -> Result<Core, AllocError> {
+    let mut core = Core::new(alloc, 2, &[0], &[true])?;
+    let mut events = Vec::from_slice(alloc, &LIKE_IN_PHASE_1)?;
+    events.extend_from_slice(then)?;
+    let wrong = Wrong {
+        index,
+        reason: NotNow::Phase,
+    };
+    assert_eq!(rt; check_events(&mut core, &events), Err(wrong));
+    Ok(core)
+}
 
 #[test]
 fn refuses_early_release(rt: HostRuntime) -> Result<(), Fail> {
-    let mut core = Core::new(rt.alloc(), 2, &[0], &[true])?;
-    let events = [
-        Event::Announce,
-        Event::Acknowledge(0),
-        Event::Acknowledge(1),
-        Event::Release(0),
-        Event::Look(0),
-        Event::Like(0, 0),
+    let then = [
         Event::Announce,
         Event::Look(1),
         Event::Report(1),
         Event::Release(0),
     ];
-    let wrong = Wrong {
-        index: 9,
-        reason: NotNow::Phase,
-    };
-    assert_eq!(rt; check_events(&mut core, &events), Err(wrong));
+    let mut core = refuses_at(&rt, rt.alloc(), &then, 9)?;
     assert_eq!(rt; core.step(Event::Merge(0, 0)), Ok(Shown::Old(0)));
     assert_eq!(rt; core.step(Event::Report(0)), Ok(Shown::Done));
     assert_eq!(rt; core.step(Event::Release(0)), Ok(Shown::Done));
@@ -31,21 +50,7 @@ fn refuses_early_release(rt: HostRuntime) -> Result<(), Fail> {
 
 #[test]
 fn refuses_retirement_in_split_phase(rt: HostRuntime) -> Result<(), Fail> {
-    let mut core = Core::new(rt.alloc(), 2, &[0], &[true])?;
-    let events = [
-        Event::Announce,
-        Event::Acknowledge(0),
-        Event::Acknowledge(1),
-        Event::Release(0),
-        Event::Look(0),
-        Event::Like(0, 0),
-        Event::Retire(0),
-    ];
-    let wrong = Wrong {
-        index: 6,
-        reason: NotNow::Phase,
-    };
-    assert_eq!(rt; check_events(&mut core, &events), Err(wrong));
+    let mut core = refuses_at(&rt, rt.alloc(), &[Event::Retire(0)], 6)?;
     assert_eq!(rt; core.step(Event::Look(2)), Err(NotNow::NoSuch));
     Ok(())
 }
@@ -87,14 +92,18 @@ fn refuses_announcement_in_last_phase(rt: HostRuntime) -> Result<(), Fail> {
     Ok(())
 }
 
+// What a worker sees that runs this phase.
+fn running(number: u32) -> Sight {
+    Sight {
+        number,
+        ending: false,
+        waits: false,
+    }
+}
+
 #[test]
 fn shows_each_step(rt: HostRuntime) -> Result<(), Fail> {
     let mut core = Core::new(rt.alloc(), 1, &[10], &[true])?;
-    let running = Sight {
-        number: 0,
-        ending: false,
-        waits: false,
-    };
     let all_in = CoordSight {
         number: 0,
         ending: true,
@@ -102,21 +111,14 @@ fn shows_each_step(rt: HostRuntime) -> Result<(), Fail> {
         all_gone: false,
     };
     let steps = [
-        (Event::Look(0), Shown::Seen(running)),
+        (Event::Look(0), Shown::Seen(running(0))),
         (Event::Like(0, 0), Shown::Old(10)),
         (Event::Read(0, 0), Shown::Count(11)),
         (Event::Announce, Shown::Done),
         (Event::Acknowledge(0), Shown::Done),
         (Event::CoordLook, Shown::Coord(all_in)),
         (Event::Release(0), Shown::Done),
-        (
-            Event::Look(0),
-            Shown::Seen(Sight {
-                number: 1,
-                ending: false,
-                waits: false,
-            }),
-        ),
+        (Event::Look(0), Shown::Seen(running(1))),
         (Event::Like(0, 0), Shown::Sliced),
         (Event::Announce, Shown::Done),
         (Event::Merge(0, 0), Shown::Old(11)),
@@ -130,14 +132,7 @@ fn shows_each_step(rt: HostRuntime) -> Result<(), Fail> {
             }),
         ),
         (Event::Release(0), Shown::Done),
-        (
-            Event::Look(0),
-            Shown::Seen(Sight {
-                number: 2,
-                ending: false,
-                waits: false,
-            }),
-        ),
+        (Event::Look(0), Shown::Seen(running(2))),
         (Event::Read(0, 0), Shown::Count(12)),
         (Event::Retire(0), Shown::Done),
     ];
@@ -151,11 +146,6 @@ fn shows_each_step(rt: HostRuntime) -> Result<(), Fail> {
 #[test]
 fn splits_hot_pages(rt: HostRuntime) -> Result<(), Fail> {
     let mut core = Core::new(rt.alloc(), 1, &[0, 0], &[false, true])?;
-    let running = |number: u32| Sight {
-        number,
-        ending: false,
-        waits: false,
-    };
     let steps = [
         (Event::Announce, Ok(Shown::Done)),
         (Event::Acknowledge(0), Ok(Shown::Done)),

@@ -3,7 +3,7 @@ ghost use Rattle.std.specs.Prelude.{◌≡◌, [], ◌∷◌, IfOk};
 ghost use Rattle.like_core.specs.declared.worker_state.WorkerState.TheVariants.{Runs, Answered, Gone};
 ghost use Rattle.like_board.specs.Seats.{board_id, coord_board, coord_view, seat_board, seat_view, post_board, post_view, AreFresh};
 ghost use Rattle.like_core.specs.Additions.{addition};
-ghost use Rattle.test_parts.specs.Walk.{hot_walk, mask_in, HotWalks};
+ghost use Rattle.test_parts.specs.Walk.{hot_walk, mask_in, HotWalks, KeepsSeat};
 
 use super::{sees, surveys};
 use like_board::{Board, BoardPost, CoordSeat, WorkerSeat};
@@ -48,8 +48,7 @@ fn worker_learns(rt: &impl Abort, post: &mut BoardPost<'_>)
 fn worker_reports(rt: &impl Abort, board: &Board, coord: &mut CoordSeat, post: &mut BoardPost<'_>)
     requires here { coord_board coord.old ≡ board_id board.now }
     requires post { HotWalks (post_view post.old) (Runs 1) [] (mask_in 1 1 ∷ []) }
-    ensures board { coord_board coord.new ≡ coord_board coord.old }
-    ensures opening { (coord_view coord.new).opening ≡ (coord_view coord.old).opening }
+    ensures coord { KeepsSeat coord.old coord.new }
     ensures post { HotWalks (post_view post.new) (Answered 1) (addition 1 0 5 2 ∷ []) (mask_in 1 1 ∷ []) }
     ensures post_board { post_board post.new ≡ post_board post.old }
 {
@@ -65,8 +64,7 @@ fn worker_reports(rt: &impl Abort, board: &Board, coord: &mut CoordSeat, post: &
 fn worker_retires(rt: &impl Abort, board: &Board, coord: &mut CoordSeat, post: &mut BoardPost<'_>)
     requires here { coord_board coord.old ≡ board_id board.now }
     requires post { HotWalks (post_view post.old) (Answered 1) (addition 1 0 5 2 ∷ []) (mask_in 1 1 ∷ []) }
-    ensures board { coord_board coord.new ≡ coord_board coord.old }
-    ensures opening { (coord_view coord.new).opening ≡ (coord_view coord.old).opening }
+    ensures coord { KeepsSeat coord.old coord.new }
     ensures post { HotWalks (post_view post.new) Gone (addition 1 0 5 2 ∷ []) (mask_in 1 1 ∷ []) }
     ensures post_board { post_board post.new ≡ post_board post.old }
 {
