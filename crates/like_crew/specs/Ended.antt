@@ -1,10 +1,11 @@
 -- What a crew leaves when its run has ended.
-use Rattle.std.specs.Prelude.{◌≡◌, ℕ, List}
+use Rattle.std.specs.Prelude.{◌≡◌, ℕ, All, List}
 use Rattle.std.specs.List.{AllZip}
 use Rattle.like_core.specs.Phase.{IsJoined}
 use Rattle.like_core.specs.declared.worker_state.WorkerState.TheVariants.{Gone}
+use Rattle.like_board.specs.declared.coord_seat.CoordSeat.{CoordSeat}
 use Rattle.like_board.specs.declared.worker_seat.WorkerSeat.{WorkerSeat}
-use Rattle.like_board.specs.Seats.{board_id, board_numbers, coord_board, coord_view, seat_meaning}
+use Rattle.like_board.specs.Seats.{AreAll, BoardId, board_id, board_numbers, coord_board, coord_view, seat_board, seat_meaning}
 use Rattle.like_roles.specs.CoordTurns.{ChoseByCounts, CoordinatorView, HasEndedJoined}
 use Rattle.like_roles.specs.declared.log.WorkerLog.{WorkerLog}
 use Rattle.like_requests.specs.declared.request.Request.{Request}
@@ -38,6 +39,13 @@ pub record HaveLeft (first : List ServerView) (logs : List WorkerLog) (seats : L
   pub gone : AllGone servers
   pub logs_are : AllZip IsLogOf servers logs
   pub seats_are : AllZip IsSeatOf servers seats
+
+-- a board's coordinator and all of its workers, which are gone, left these seats
+pub record AreLeft (board : BoardId) (coord : CoordSeat) (seats : List WorkerSeat) : Type 0 where
+  pub coord_here : coord_board coord ≡ board
+  pub seats_here : All (λ seat. seat_board seat ≡ board) seats
+  pub all : AreAll (coord_view coord).opening.workers seats
+  pub gone : All (λ seat. (seat_meaning seat).state ≡ Gone) seats
 
 -- the coordinator found the run ended, in a joined phase, and chose by the counts that it read; and it left this phase,
 -- this seat and its choices

@@ -1,10 +1,9 @@
 ghost use Rattle.std.specs.Prelude.{◌≡◌, ◌<◌, ◌≤◌, ℕ, false, true, All, IfOk, IfSome, length, slice_index};
 ghost use Rattle.like_requests.specs.Setup.{IsWithinLimits};
-ghost use Rattle.like_board.specs.Seats.{AreAll, AreCounted, board_id, coord_board, coord_view, last_count, seat_board, seat_meaning, HavePlaces, HaveReadBetween, HaveReadMasks};
-ghost use Rattle.like_core.specs.declared.worker_state.WorkerState.TheVariants.{Gone};
+ghost use Rattle.like_board.specs.Seats.{AreCounted, board_id, coord_view, last_count, seat_meaning, HavePlaces, HaveReadBetween, HaveReadMasks};
 ghost use Rattle.like_crew.specs.Asked.{lists_of};
 ghost use Rattle.like_crew.specs.EndToEnd.{IsRightReport};
-ghost use Rattle.like_crew.specs.Ended.{IsEnded};
+ghost use Rattle.like_crew.specs.Ended.{AreLeft, IsEnded};
 ghost use Rattle.like_crew.specs.Site.{IsSite};
 ghost use Rattle.like_crew.specs.Tiling.{HasNoPlaces, HasRightPlaces};
 
@@ -69,10 +68,7 @@ fn final_counts(
     seats: Vec<WorkerSeat>,
     initial: Vec<u64>,
 ) -> Vec<u64>
-    requires coord_here { coord_board coord ≡ board_id board }
-    requires seats_here { All (λ seat. seat_board seat ≡ board_id board) seats.items }
-    requires all { AreAll (coord_view coord).opening.workers seats.items }
-    requires gone { All (λ seat. (seat_meaning seat).state ≡ Gone) seats.items }
+    requires left { AreLeft (board_id board) coord seats.items }
     requires places { length initial.items ≡ length (coord_view coord).opening.counts }
     ensures len { length result.items ≡ length initial.items }
     ensures counts { (page : ℕ) → page < length initial.items

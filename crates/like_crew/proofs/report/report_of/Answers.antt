@@ -18,14 +18,13 @@ use Rattle.like_crew.proofs.Tiled.{all-there, of-likes, placed-are, tiles-are}
 use Rattle.like_crew.proofs.Whole.{all-gone, all-here, are-all, chosen-are, counts-are, known, last-likes-are, log-at, logs-are, logs-size, runs-once, seen-counts, tables}
 use Rattle.like_crew.proofs.report.report_of.Goals as goal
 
-pub final_counts-counts-requires-clause-seats_here : goal.final_counts-counts-requires-clause-seats_here
-final_counts-counts-requires-clause-seats_here c = all-here c.args.setup.now (lists_of c.args.plans.now.value.items) c.args.site c.args.ended c.requires.ended
-
-pub final_counts-counts-requires-clause-gone : goal.final_counts-counts-requires-clause-gone
-final_counts-counts-requires-clause-gone c = all-gone c.args.setup.now (lists_of c.args.plans.now.value.items) c.args.site c.args.ended c.requires.ended
-
-pub final_counts-counts-requires-clause-all : goal.final_counts-counts-requires-clause-all
-final_counts-counts-requires-clause-all c = are-all c.args.setup.now (lists_of c.args.plans.now.value.items) c.args.site c.args.ended c.requires.ended refl
+pub final_counts-counts-requires-clause-left : goal.final_counts-counts-requires-clause-left
+final_counts-counts-requires-clause-left c = record {
+  coord_here = c.requires.ended.coord;
+  seats_here = all-here c.args.setup.now (lists_of c.args.plans.now.value.items) c.args.site c.args.ended c.requires.ended;
+  all = are-all c.args.setup.now (lists_of c.args.plans.now.value.items) c.args.site c.args.ended c.requires.ended refl;
+  gone = all-gone c.args.setup.now (lists_of c.args.plans.now.value.items) c.args.site c.args.ended c.requires.ended;
+}
 
 pub final_counts-counts-requires-clause-places : goal.final_counts-counts-requires-clause-places
 final_counts-counts-requires-clause-places c = ap (λ (xs : List ℕ). length xs) (c.requires.site.counts ∙ sym (ap (λ (z : Opening). z.counts) c.requires.ended.opening))
