@@ -1,3 +1,4 @@
 pub mod Asked
+pub mod Built
 pub mod CommandLine
 pub mod Fault

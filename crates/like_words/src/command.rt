@@ -1,6 +1,6 @@
-ghost use Rattle.std.specs.Prelude.{◌≡◌, IfOk, codes, false, fold};
-ghost use Rattle.clap.specs.Words.{app_of, rule_of, shape_of, with_rule};
-ghost use Rattle.clap.specs.declared.builder.command.Command.TheViews.{out-Command};
+ghost use Rattle.std.specs.Prelude.{◌≡◌, IfOk, codes, fold};
+ghost use Rattle.clap.specs.Words.{app_of, new_app, with_rule};
+ghost use Rattle.like_words.specs.Built.{IsArgument, IsCommand, IsSubcommand};
 ghost use Rattle.like_words.specs.CommandLine.{bounded_rule, flag_rule, likes, number_rule, option_rules, replay_command, required_list_rule, required_rule, run_command, text_rule};
 
 use crate::help;
@@ -16,8 +16,7 @@ fn bounded_option<'a>(
     least: u32,
     most: u32,
 ) -> Arg<'a>
-    ensures rule { rule_of result ≡ bounded_rule name.entry.now least most }
-    ensures local { result.global ≡ false }
+    ensures { IsArgument (bounded_rule name.entry.now least most) result }
 {
     Arg::new(alloc, name)
         .long(name)
@@ -35,16 +34,14 @@ fn number_option<'a>(
     least: u32,
     most: u32,
 ) -> Arg<'a>
-    ensures rule { rule_of result ≡ number_rule name.entry.now default.entry.now least most }
-    ensures local { result.global ≡ false }
+    ensures { IsArgument (number_rule name.entry.now default.entry.now least most) result }
 {
     bounded_option(alloc, name, value_name, least, most).default_value(default)
 }
 
 // The flag that asks for places.
 fn places_flag<'a>(alloc: Global) -> Arg<'a>
-    ensures rule { rule_of result ≡ flag_rule (codes "places") }
-    ensures local { result.global ≡ false }
+    ensures { IsArgument (flag_rule (codes "places")) result }
 {
     Arg::new(alloc, "places")
         .long("places")
@@ -54,8 +51,7 @@ fn places_flag<'a>(alloc: Global) -> Arg<'a>
 
 // The option for the script file.
 fn script_option<'a>(alloc: Global) -> Arg<'a>
-    ensures rule { rule_of result ≡ text_rule (codes "script") }
-    ensures local { result.global ≡ false }
+    ensures { IsArgument (text_rule (codes "script")) result }
 {
     Arg::new(alloc, "script")
         .long("script")
@@ -66,8 +62,7 @@ fn script_option<'a>(alloc: Global) -> Arg<'a>
 
 // The name of the pages file.
 fn pages_argument<'a>(alloc: Global) -> Arg<'a>
-    ensures rule { rule_of result ≡ required_rule (codes "pages") }
-    ensures local { result.global ≡ false }
+    ensures { IsArgument (required_rule (codes "pages")) result }
 {
     Arg::new(alloc, "pages")
         .value_name("PAGES")
@@ -78,8 +73,7 @@ fn pages_argument<'a>(alloc: Global) -> Arg<'a>
 
 // The names of the request files.
 fn requests_argument<'a>(alloc: Global) -> Arg<'a>
-    ensures rule { rule_of result ≡ required_list_rule (codes "requests") }
-    ensures local { result.global ≡ false }
+    ensures { IsArgument (required_list_rule (codes "requests")) result }
 {
     Arg::new(alloc, "requests")
         .value_name("REQUESTS")
@@ -89,18 +83,18 @@ fn requests_argument<'a>(alloc: Global) -> Arg<'a>
         .help(help::REQUESTS)
 }
 
-// The command with the options of runs and replays.
-fn with_options<'a>(alloc: Global, command: Command<'a>) -> Result<Command<'a>, AllocError>
-    ensures rules { IfOk result (λ c. app_of c ≡ fold with_rule (app_of command.entry) option_rules) }
-    ensures local { (out-Command command.entry).has_globals ≡ false
-        → IfOk result (λ c. (out-Command c).has_globals ≡ false) }
+// A subcommand of this name, about which this is said, with the options of runs and replays.
+fn with_options<'a>(alloc: Global, name: &'a str, about: &'a str) -> Result<Command<'a>, AllocError>
+    ensures { IfOk result (IsCommand (fold with_rule (new_app name.entry.now) option_rules)) }
 {
     let workers = number_option(alloc, "workers", "N", "4", 1, 16).help(help::WORKERS);
     let users = number_option(alloc, "users", "U", "1000", 1, 1_000_000).help(help::USERS);
     let stash = number_option(alloc, "stash", "C", "256", 1, 4_096).help(help::STASH);
     let turns = number_option(alloc, "turns", "T", "1000", 0, 1_000_000).help(help::TURNS);
     let hot = bounded_option(alloc, "hot", "H", 1, 1_000_000).help(help::HOT);
-    command
+    Command::new(alloc, name)
+        .about(about)
+        .after_help(help::REPORT)
         .arg(workers)?
         .arg(users)?
         .arg(stash)?
@@ -111,26 +105,18 @@ fn with_options<'a>(alloc: Global, command: Command<'a>) -> Result<Command<'a>, 
 
 // The subcommand `run`.
 fn run<'a>(alloc: Global) -> Result<Command<'a>, AllocError>
-    ensures shape { IfOk result (λ c. shape_of c ≡ run_command) }
-    ensures local { IfOk result (λ c. (out-Command c).has_globals ≡ false) }
+    ensures { IfOk result (IsSubcommand run_command) }
 {
-    let command = Command::new(alloc, "run")
-        .about(help::RUN)
-        .after_help(help::REPORT);
-    with_options(alloc, command)?
+    with_options(alloc, "run", help::RUN)?
         .arg(pages_argument(alloc))?
         .arg(requests_argument(alloc))
 }
 
 // The subcommand `replay`.
 fn replay<'a>(alloc: Global) -> Result<Command<'a>, AllocError>
-    ensures shape { IfOk result (λ c. shape_of c ≡ replay_command) }
-    ensures local { IfOk result (λ c. (out-Command c).has_globals ≡ false) }
+    ensures { IfOk result (IsSubcommand replay_command) }
 {
-    let command = Command::new(alloc, "replay")
-        .about(help::REPLAY)
-        .after_help(help::REPORT);
-    with_options(alloc, command)?
+    with_options(alloc, "replay", help::REPLAY)?
         .arg(script_option(alloc))?
         .arg(pages_argument(alloc))?
         .arg(requests_argument(alloc))

@@ -19,6 +19,6 @@ returns c =
     let s2 = ap app_of_fields c.subcommand_required.ensures ∙ ap (λ (a : App). record a { top = record a.top { subcommand_required = true } }) s1 in
     let s3 = ap app_of_fields c.disable_help_subcommand.ensures ∙ ap (λ (a : App). record a { top = record a.top { disable_help_subcommand = true } }) s2 in
     let s4 : app_of c.after_help.result ≡ app1 = ap app_of_fields c.after_help.ensures ∙ (ap app_of_fields c.about.ensures ∙ s3) in
-    let s5 = sub_added c.after_help.result c.in_ok-run.field-0 c.in_ok-subcommand.field-0 run_command app1 c.in_ok-subcommand.ensures c.in_ok-run.ensures.local c.in_ok-run.ensures.shape s4 in
+    let s5 = sub_added c.after_help.result c.in_ok-run.field-0 c.in_ok-subcommand.field-0 run_command app1 c.in_ok-subcommand.ensures c.in_ok-run.ensures s4 in
     IfOk-weaker c.subcommand-2.result _ _
-    (λ x h. sub_added c.in_ok-subcommand.field-0 c.in_ok-replay.field-0 x replay_command (with_subcommand app1 run_command) h c.in_ok-replay.ensures.local c.in_ok-replay.ensures.shape s5) c.subcommand-2.ensures
+    (λ x h. sub_added c.in_ok-subcommand.field-0 c.in_ok-replay.field-0 x replay_command (with_subcommand app1 run_command) h c.in_ok-replay.ensures s5) c.subcommand-2.ensures

@@ -1,0 +1,21 @@
+-- What the command line is built of: arguments, and commands that have them.
+use Rattle.std.specs.Prelude.{◌≡◌, false}
+use Rattle.clap.specs.Words.{App, Rule, Shape, app_of, rule_of, shape_of}
+use Rattle.clap.specs.declared.builder.arg.Arg.{Arg}
+use Rattle.clap.specs.declared.builder.command.Command.{Command}
+use Rattle.clap.specs.declared.builder.command.Command.TheViews.{out-Command}
+
+-- an argument with this rule, of its command alone
+pub record IsArgument (rule : Rule) (a : Arg) : Type 0 where
+  pub rule_is : rule_of a ≡ rule
+  pub local : a.global ≡ false
+
+-- a command that reads words so, each of whose arguments is its own alone
+pub record IsCommand (app : App) (c : Command) : Type 0 where
+  pub app_is : app_of c ≡ app
+  pub local : (out-Command c).has_globals ≡ false
+
+-- and one without subcommands
+pub record IsSubcommand (shape : Shape) (c : Command) : Type 0 where
+  pub shape_is : shape_of c ≡ shape
+  pub local : (out-Command c).has_globals ≡ false
