@@ -1,6 +1,10 @@
 /// Texts of CSV, each with what RFC 4180 and the tests of the Rust crate `csv-core` read in it: `|` ends a field and
-/// `;` a record.
-pub const CASES: [(&str, &str); 40] = [
+/// `;` a record. A test that walks them has none of the texts before it in its proof, as it would with a constant.
+pub fn csv_cases() -> [(&'static str, &'static str); 40] {
+    CASES
+}
+
+const CASES: [(&str, &str); 40] = [
     ("", ""),
     ("a", "a|;"),
     ("a,b,c", "a|b|c|;"),

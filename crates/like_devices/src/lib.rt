@@ -5,6 +5,6 @@ mod cases;
 mod narrow;
 mod trickle;
 
-pub use cases::CASES;
+pub use cases::csv_cases;
 pub use narrow::Narrow;
 pub use trickle::Trickle;

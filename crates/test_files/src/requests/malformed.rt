@@ -1,6 +1,6 @@
 //! Files that are cut short, fail in mid-stream, have a byte changed, or are texts of CSV of another kind.
 use super::{one_page, request};
-use like_devices::{CASES, Trickle};
+use like_devices::{Trickle, csv_cases};
 use like_requests::{Op, PageRef, PagesFault, RequestsFault, read_pages, read_requests};
 
 // A good pages file and a good requests file, with quoted names and CRLF.
@@ -109,7 +109,7 @@ fn a_byte_that_is_changed_in_requests(rt: HostRuntime) {
 #[test]
 fn a_file_of_another_kind(rt: HostRuntime) {
     let pages = one_page(&rt, rt.alloc());
-    for (text, _) in CASES {
+    for (text, _) in csv_cases() {
         let text = text.as_bytes();
         assert_eq!(rt;
             read_pages(rt.alloc(), text).err(),

@@ -1,5 +1,5 @@
 //! Scripts that are cut short, fail in mid-stream, have a byte changed, or are texts of CSV of another kind.
-use like_devices::{CASES, Trickle};
+use like_devices::{Trickle, csv_cases};
 use like_script::{ScriptFault, read_script};
 
 const SCRIPT: &[u8] = b"turn,index\nworker,0\nfly,1\n";
@@ -55,7 +55,7 @@ fn a_byte_that_is_changed(rt: HostRuntime) {
 
 #[test]
 fn a_file_of_another_kind(rt: HostRuntime) {
-    for (text, _) in CASES {
+    for (text, _) in csv_cases() {
         let fault = read_script(rt.alloc(), text.as_bytes()).err();
         assert_eq!(rt; fault, Some(ScriptFault::Line { row: 0 }));
     }
