@@ -1,12 +1,12 @@
-//! The text of a report whose sections threads make side by side, on a writer in memory and on one that fails.
+//! The text of a report whose sections threads make side by side.
 ghost use Rattle.std.specs.Prelude.{◌≡◌, IfOk, List, length};
 ghost use Rattle.like_requests.specs.Pages.{Page};
 ghost use Rattle.like_replies.specs.Reported.{reported};
 ghost use Rattle.like_replies.specs.Rows.{IsWritable};
 
 use super::placing::place;
-use super::writing::one_page;
-use like_replies::{Answer, Replies, Report, WriteFault, write_text_at_once};
+use super::writing::{HEADER, assert_writes, one_page};
+use like_replies::{Answer, Replies, Report, write_text_at_once};
 use like_roles::Reply;
 use std::alloc::{AllocError, Global};
 use std::test::Fail;
@@ -37,7 +37,7 @@ fn report_of_likes(alloc: Global, count: usize) -> Result<Report, AllocError>
 
 // Its text, with its places.
 fn text_of_likes(alloc: Global, count: usize) -> Result<String, Fail> {
-    let mut text = String::from_str(alloc, "row,id,number,phase,answer,page,count\n")?;
+    let mut text = String::from_str(alloc, HEADER)?;
     for number in 1..=count {
         write!(text, "reply,0,{number},0,liked,,\n")?;
     }
@@ -67,29 +67,16 @@ fn all_sections_in_order(rt: HostRuntime) -> Result<(), Fail> {
 }
 
 #[test]
-fn no_places_unasked(rt: HostRuntime) -> Result<(), Fail> {
+fn places_where_asked(rt: HostRuntime) -> Result<(), Fail> {
     let pages = one_page(&rt, rt.alloc(), "name,count,split\na,0,no\n");
     let report = report_of_likes(rt.alloc(), 1)?;
-    let mut out = Vec::new(rt.alloc());
-    write_text_at_once(&rt, rt.alloc(), false, &report, &pages, &mut out)?;
-    let text = b"row,id,number,phase,answer,page,count\nreply,0,1,0,liked,,\npage,0,,,,a,7\nuser,0,,,,a,\n";
-    assert_eq!(rt; out.as_slice(), text.as_slice());
-    Ok(())
-}
-
-// The text has 103 bytes.
-#[test]
-fn failing_writes_at_once(rt: HostRuntime) -> Result<(), Fail> {
-    let pages = one_page(&rt, rt.alloc(), "name,count,split\na,0,no\n");
-    let report = report_of_likes(rt.alloc(), 1)?;
-    let mut room = [0; 103];
-    for bytes in 0..103 {
-        let mut out = &mut room[..bytes];
-        let result = write_text_at_once(&rt, rt.alloc(), true, &report, &pages, &mut out);
-        assert_eq!(rt; result, Err(WriteFault::Write), "where {bytes} bytes fit");
-    }
-    let mut out = room.as_mut_slice();
-    let result = write_text_at_once(&rt, rt.alloc(), true, &report, &pages, &mut out);
-    assert_eq!(rt; result, Ok(()));
-    Ok(())
+    let rows = "reply,0,1,0,liked,,\npage,0,,,,a,7\nuser,0,,,,a,\n";
+    let text = format!(in rt.alloc(); "{HEADER}{rows}")?;
+    assert_writes(&rt, rt.alloc(), &text, |out| {
+        write_text_at_once(&rt, rt.alloc(), false, &report, &pages, out)
+    })?;
+    let text = format!(in rt.alloc(); "{text}place,0,0,1,7,a,1\n")?;
+    assert_writes(&rt, rt.alloc(), &text, |out| {
+        write_text_at_once(&rt, rt.alloc(), true, &report, &pages, out)
+    })
 }

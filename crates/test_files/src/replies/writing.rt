@@ -12,7 +12,8 @@ use std::alloc::{AllocError, Global};
 use std::process::Abort;
 use std::test::Fail;
 
-const HEADER: &str = "row,id,number,phase,answer,page,count\n";
+/// The header row.
+pub const HEADER: &str = "row,id,number,phase,answer,page,count\n";
 
 // The page of a file with one.
 pub fn one_page(rt: &impl Abort, alloc: Global, text: &str) -> Pages
