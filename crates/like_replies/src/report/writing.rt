@@ -55,8 +55,8 @@ pub fn write_rows_at_once<T: Threads + Sync, W: Write>(
         requires { All (HasRows names.now) part.now }
         ensures { IfOk result (λ sheet. sheet ≡ rows_text (rows_in names.entry.now part.entry.now)) }
     { sheet_of(alloc, names, part) };
-    for round in sections.chunks(AT_ONCE) {
-        hand_on_all(out, thread::map_chunks(rt, alloc, round, 1, &made)?)?;
+    for group in sections.chunks(AT_ONCE) {
+        hand_on_all(out, thread::map_chunks(rt, alloc, group, 1, &made)?)?;
     }
     flush(out)
 }

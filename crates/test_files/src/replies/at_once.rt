@@ -51,8 +51,8 @@ fn text_of_likes(alloc: Global, count: usize) -> Result<String, Fail> {
     Ok(text)
 }
 
-// 40,000 requests, users and places have three sections each, the last of them shorter than the others: more than one
-// round of sections.
+// 40,000 requests, users and places have three sections each, the last of them shorter than the others: more than are
+// made side by side.
 #[test]
 fn all_sections_in_order(rt: HostRuntime) -> Result<(), Fail> {
     let pages = one_page(&rt, rt.alloc(), "name,count,split\na,0,no\n");

@@ -6,8 +6,8 @@ use Rattle.like_replies.specs.Rows.{rows_text}
 use Rattle.like_replies.specs.Sections.{rows_in}
 use Rattle.like_replies.proofs.report.writing.write_rows_at_once.Given as goal
 
-abbrev pub invariant-loop-round : goal.invariant-loop-round
-invariant-loop-round g l =
-    (goal.iterator-loop-round g).can_next l.round-iterator × (goal.iterator-loop-round g).is_finite l.round-iterator
-    × (done : List Section) × (l.sections ≡ done ++ chunks_rest l.round-iterator)
+abbrev pub invariant-loop-group : goal.invariant-loop-group
+invariant-loop-group g l =
+    (goal.iterator-loop-group g).can_next l.group-iterator × (goal.iterator-loop-group g).is_finite l.group-iterator
+    × (done : List Section) × (l.sections ≡ done ++ chunks_rest l.group-iterator)
     × Appends (g.W.Write.contents l.initial.out) (g.W.Write.contents l.out) (rows_text (rows_in l.names done))
