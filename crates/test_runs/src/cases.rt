@@ -93,91 +93,75 @@ pub fn likes(rt: &impl Abort, alloc: Global, submitters: u32, each: u32) -> Vec<
     requests(rt, alloc, Op::Like, submitters, each)
 }
 
-/// Two workers, and one page that is split, whose requests are given by `requests`.
-pub const ONE_PAGE: Case = Case {
-    workers: 2,
-    users: 2,
+/// One worker, whose phases end as soon as they may, one user, and one page that is split.
+pub const SMALL: Case = Case {
+    workers: 1,
+    users: 1,
     stash: 256,
-    turns: 1_000,
+    turns: 0,
     hot: None,
     pages: "a,0,yes\n",
     requests: &[],
     script: "",
 };
 
-pub const PLAIN_LIKES: Case = Case {
-    workers: 1,
+/// Two workers, and one page that is split, whose requests are given by `requests`.
+pub const ONE_PAGE: Case = Case {
+    workers: 2,
     users: 2,
-    stash: 256,
     turns: 1_000,
-    hot: None,
+    ..SMALL
+};
+
+pub const PLAIN_LIKES: Case = Case {
+    users: 2,
+    turns: 1_000,
     pages: "a,10,no\n",
     requests: &["like,0,a\nlike,1,a\nlike,0,a\n"],
-    script: "",
+    ..SMALL
 };
 
 pub const SPLIT_AND_STASH: Case = Case {
-    workers: 1,
     users: 2,
-    stash: 256,
-    turns: 0,
-    hot: None,
     pages: "a,10,yes\n",
     requests: &["like,0,a\nlook,0,a\n"],
     script: "o0 o0 c0 w0 c0 w0 w0 c0 w0 c0 w0",
+    ..SMALL
 };
 
 pub const LATE_WORKER: Case = Case {
     workers: 2,
     users: 2,
-    stash: 256,
-    turns: 0,
-    hot: None,
-    pages: "a,0,yes\n",
     requests: &["", "look,1,a\nlook,1,a\n"],
     script: "o1 o1 c0 w0 w1 c0 w1 w1 c0 w0 w1 c0 c0 w1 w1 w1",
+    ..SMALL
 };
 
 pub const STASH_THEN_LIKE: Case = Case {
-    workers: 1,
-    users: 1,
-    stash: 256,
-    turns: 0,
-    hot: None,
     pages: "a,5,yes\nb,0,no\n",
     requests: &["look,0,a\nlike,0,b\n"],
     script: "o0 o0 c0 w0 c0 w0 w0 c0 w0 c0 w0",
+    ..SMALL
 };
 
 pub const FULL_STASH: Case = Case {
-    workers: 1,
-    users: 1,
     stash: 1,
-    turns: 0,
-    hot: None,
-    pages: "a,0,yes\n",
     requests: &["look,0,a\nlook,0,a\n"],
     script: "o0 o0 c0 w0 c0 w0 w0 c0 w0 c0 w0 w0",
+    ..SMALL
 };
 
 pub const TWO_SLICES: Case = Case {
     workers: 2,
     users: 2,
-    stash: 256,
-    turns: 0,
-    hot: None,
     pages: "a,100,yes\n",
     requests: &["like,0,a\nlook,0,a\n", "like,1,a\n"],
     script: "o0 o0 o1 c0 w0 w1 c0 w0 w1 w0 c0 w0 c0 w0 w1 c0 w0",
+    ..SMALL
 };
 
 pub const IDLE_WORKERS: Case = Case {
     workers: 4,
-    users: 1,
-    stash: 256,
-    turns: 0,
-    hot: None,
-    pages: "a,0,yes\n",
     requests: &["like,0,a\n"],
-    script: "",
+    ..SMALL
 };

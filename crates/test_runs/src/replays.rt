@@ -1,9 +1,9 @@
 //! Replays of scripts: what the workers took and ran, refused scripts, and how long a replay may last.
 use super::cases::{
-    Case, FULL_STASH, LATE_WORKER, SPLIT_AND_STASH, STASH_THEN_LIKE, TWO_SLICES, likes,
+    Case, FULL_STASH, LATE_WORKER, SMALL, SPLIT_AND_STASH, STASH_THEN_LIKE, TWO_SLICES, likes,
 };
 use like_replies::Report;
-use like_requests::{Op, PageRef, Request, SettingsFault, Setup, read_pages};
+use like_requests::SettingsFault;
 use like_roles::Chosen;
 use like_run::{ReplayFault, replay};
 use std::alloc::Global;
@@ -72,14 +72,10 @@ fn logs_of_scripts(rt: HostRuntime) {
 
 // Example `hot-choice`: the page is hot in phase 3, so the look that is taken there waits for phase 4.
 const HOT_CHOICE: Case = Case {
-    workers: 1,
-    users: 1,
-    stash: 256,
-    turns: 0,
     hot: Some(2),
     pages: "a,0,no\n",
     requests: &["like,0,a\nlike,0,a\nlook,0,a\n"],
-    script: "",
+    ..SMALL
 };
 
 #[test]
@@ -124,13 +120,9 @@ fn chooses_in_1024_phases_at_most(rt: HostRuntime) {
 fn names_the_entry_that_is_not_there(rt: HostRuntime) {
     let case = Case {
         workers: 2,
-        users: 1,
-        stash: 256,
-        turns: 0,
-        hot: None,
-        pages: "a,0,yes\n",
         requests: &["like,0,a\n"],
         script: "w0 w5",
+        ..SMALL
     };
     match case.replay(&rt, rt.alloc()) {
         Ok(_) => panic!(rt; "a report"),
@@ -143,27 +135,13 @@ fn names_the_entry_that_is_not_there(rt: HostRuntime) {
 
 // Replays so many likes of one user, without a script.
 fn many_likes(rt: &impl Abort, alloc: Global, number: u32) -> Result<Report, ReplayFault> {
-    let pages = read_pages(alloc, b"name,count,split\na,0,no\n".as_slice()).expect(rt, "pages");
-    let setup = Setup {
-        workers: 1,
-        users: 1,
-        stash: 256,
+    let case = Case {
         turns: 1_000_000,
-        hot: None,
-        pages,
+        pages: "a,0,no\n",
+        ..SMALL
     };
-    let like = Request {
-        op: Op::Like,
-        user: 0,
-        page: PageRef::Known(0),
-    };
-    let mut plan = Vec::new(alloc);
-    for _ in 0..number {
-        assert!(rt; plan.push(like).is_ok());
-    }
-    let mut plans = Vec::new(alloc);
-    assert!(rt; plans.push(plan).is_ok());
-    replay(alloc, &setup, plans, &[])
+    let setup = case.setup(rt, alloc);
+    replay(alloc, &setup, likes(rt, alloc, 1, number), &[])
 }
 
 #[test]
