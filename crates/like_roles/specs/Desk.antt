@@ -20,6 +20,8 @@ use Rattle.like_tables.specs.Share.{Share, dealt, share_of, submitter_of, worker
 use Rattle.like_tables.specs.UserTable.{table_without_likes}
 use Rattle.like_requests.specs.Pages.{marks_of}
 use Rattle.like_requests.specs.Setup.{IsThere}
+use Rattle.like_roles.specs.declared.turn.Turn.{Turn}
+use Rattle.like_roles.specs.Turns.{Works}
 use Rattle.like_roles.specs.WorkerView.{WorkerView, IsSliceInSplit, has_to_wait}
 
 -- the worker of a post and what is kept beside it
@@ -131,6 +133,10 @@ pub record IsSound (post : PostView) (d : Desk) : Type 0 where
 pub record IsSettled (post : PostView) (d : Desk) : Type 0 where
   pub sound : IsSound post d
   pub untried : d.pending ≡ None
+
+-- what the worker does that has looked and runs a phase, by its post and its desk before and after
+abbrev pub WorksAt : PostView → Desk → Bool → Turn → PostView → Desk → Type 0
+WorksAt post d ending answer next e = Works (view_of post d) ending answer (view_of next e)
 
 -- a request of the worker, with its verdict, that may be answered now
 pub record CanServe (post : PostView) (d : Desk) (h : Held) (verdict : Verdict) : Type 0 where

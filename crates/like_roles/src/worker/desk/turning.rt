@@ -2,8 +2,8 @@ ghost use Rattle.std.specs.Prelude.{◌≡◌, ◌≢◌, ◌<◌, ◌+◌, ◌*
 ghost use Rattle.like_core.specs.declared.worker_state.WorkerState.TheVariants.{Gone};
 ghost use Rattle.like_core.specs.WorkerState.{IsSightOf, RunsJoined, RunsSplit, SawEnding, phase_of};
 ghost use Rattle.like_tables.specs.Share.{submitter_of};
-ghost use Rattle.like_roles.specs.Desk.{view_of, ArePlaces, IsSettled, IsSound};
-ghost use Rattle.like_roles.specs.Turns.{Turns, Works, enters_split, masks_in, saw};
+ghost use Rattle.like_roles.specs.Desk.{view_of, ArePlaces, IsSettled, IsSound, WorksAt};
+ghost use Rattle.like_roles.specs.Turns.{Turns, enters_split, masks_in, saw};
 
 use crate::gate::Gate;
 use crate::turn::Turn;
@@ -75,8 +75,7 @@ impl Desk {
         requires joined { RunsJoined (P.view post.old).state }
         requires ending { ending ≡ true → SawEnding (P.view post.old).last }
         ensures sound { IsSound (P.view post.new) self.new }
-        ensures works { let v = view_of (P.view post.old) self.old in
-            Works v ending result (view_of (P.view post.new) self.new) }
+        ensures works { WorksAt (P.view post.old) self.old ending result (P.view post.new) self.new }
     {
         if let Some(first) = self.held.pop_front() {
             self.run(post, gate, first, Verdict::Accepted, true);
@@ -100,8 +99,7 @@ impl Desk {
         requires split { RunsSplit (P.view post.old).state }
         requires ending { ending ≡ true → SawEnding (P.view post.old).last }
         ensures sound { IsSound (P.view post.new) self.new }
-        ensures works { let v = view_of (P.view post.old) self.old in
-            Works v ending result (view_of (P.view post.new) self.new) }
+        ensures works { WorksAt (P.view post.old) self.old ending result (P.view post.new) self.new }
     {
         if ending {
             self.merge(post);
