@@ -1,9 +1,5 @@
 ghost use Rattle.std.specs.Prelude.{◌≡◌, ◌≤◌, false, true, IfErr, IfOk, MatchResult, OnOk, is_some, length, option_map};
 ghost use Rattle.like_script.specs.Limits.{max_entries};
-ghost use Rattle.like_crew.specs.Asked.{lists_of};
-ghost use Rattle.like_crew.specs.EndToEnd.{IsRightReport};
-ghost use Rattle.like_crew.specs.Tiling.{HasNoPlaces, HasRightPlaces};
-ghost use Rattle.like_run.specs.Rounds as rounds;
 ghost use Rattle.like_files.specs.Faults.{IsBeforeOutput};
 ghost use Rattle.like_files.specs.Inputs.{GivesScript, RefusesScript, inputs_of};
 ghost use Rattle.like_files.specs.Replay.{HasReplayed, IsReplayFault};
@@ -11,9 +7,9 @@ ghost use Rattle.like_files.specs.Replay.{HasReplayed, IsReplayFault};
 use crate::fault::DriverFault;
 use crate::plans::read_plans;
 use crate::setup::with_pages;
-use like_replies::{Report, write_text};
-use like_requests::{Request, Setup, read_pages};
-use like_run::{ReplayFault, ScriptFault, Turned, read_script, replay, replay_without_places};
+use like_replies::write_text;
+use like_requests::read_pages;
+use like_run::{ScriptFault, Turned, read_script, replay_noting};
 use like_words::Options;
 use std::alloc::Global;
 use std::io::{Read, Write};
@@ -41,31 +37,9 @@ pub fn replay_files<R: Read + Drop, W: Write>(
     let plans = read_plans(alloc, &pages, requests)?;
     let script = read_turns(alloc, script)?;
     let setup = with_pages(options, pages);
-    let report = made(alloc, options.places, &setup, plans, &script)?;
+    let report = replay_noting(alloc, &setup, plans, &script, options.places)?;
     write_text(alloc, options.places, &report, &setup.pages, out)?;
     Ok(())
-}
-
-// Replays the run, whose workers note their additions where places are asked for.
-fn made(
-    alloc: Global,
-    places: bool,
-    setup: &Setup,
-    plans: Vec<Vec<Request>>,
-    script: &[Turned],
-) -> Result<Report, ReplayFault>
-    requires { length script.now ≤ max_entries }
-    ensures report { IfOk result (IsRightReport setup.now (lists_of plans.items)) }
-    ensures places { places ≡ true → IfOk result (HasRightPlaces setup.now (lists_of plans.items)) }
-    ensures none { places ≡ false → IfOk result HasNoPlaces }
-    ensures fits { OnOk result (rounds.Fits setup.now (lists_of plans.items) script.now) }
-    ensures fault { IfErr result (rounds.IsReplayFault setup.now (lists_of plans.items) script.now) }
-{
-    if places {
-        replay(alloc, setup, plans, script)
-    } else {
-        replay_without_places(alloc, setup, plans, script)
-    }
 }
 
 // The entries of the script, and none where there is no script.

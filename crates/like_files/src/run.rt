@@ -1,9 +1,4 @@
-ghost use Rattle.std.specs.Prelude.{◌≡◌, false, true, IfErr, IfOk, None, OnOk, length};
-ghost use Rattle.like_requests.specs.Setup.{IsWithinLimits};
-ghost use Rattle.like_crew.specs.Asked.{lists_of};
-ghost use Rattle.like_crew.specs.EndToEnd.{IsRightReport};
-ghost use Rattle.like_crew.specs.Tiling.{HasNoPlaces, HasRightPlaces};
-ghost use Rattle.like_run.specs.Threads as threads;
+ghost use Rattle.std.specs.Prelude.{◌≡◌, IfErr, None, OnOk, length};
 ghost use Rattle.like_files.specs.Faults.{IsBeforeOutput};
 ghost use Rattle.like_files.specs.Inputs.{inputs_of};
 ghost use Rattle.like_files.specs.Run.{HasRun, IsRunFault};
@@ -11,10 +6,10 @@ ghost use Rattle.like_files.specs.Run.{HasRun, IsRunFault};
 use crate::fault::DriverFault;
 use crate::plans::read_plans_at_once;
 use crate::setup::with_pages;
-use like_replies::{Report, write_text_at_once};
-use like_requests::{Request, Setup, read_pages};
+use like_replies::write_text_at_once;
+use like_requests::read_pages;
 use like_roles::NoGate;
-use like_run::{RunFault, run, run_without_places};
+use like_run::run_noting;
 use like_words::Options;
 use std::alloc::Global;
 use std::io::{Read, Write};
@@ -42,28 +37,7 @@ pub fn run_files<T: Threads + Wait + Sync, R: Read + Drop + Send, W: Write>(
     let pages = read_pages(alloc, pages)?;
     let plans = read_plans_at_once(rt, alloc, &pages, requests)?;
     let setup = with_pages(options, pages);
-    let report = made(rt, alloc, options.places, &setup, plans)?;
+    let report = run_noting(rt, alloc, &setup, plans, &NoGate, options.places)?;
     write_text_at_once(rt, alloc, options.places, &report, &setup.pages, out)?;
     Ok(())
-}
-
-// Makes the run, whose workers note their additions where places are asked for.
-fn made<T: Threads + Wait + Sync>(
-    rt: &T,
-    alloc: Global,
-    places: bool,
-    setup: &Setup,
-    plans: Vec<Vec<Request>>,
-) -> Result<Report, RunFault>
-    ensures report { IfOk result (IsRightReport setup.now (lists_of plans.items)) }
-    ensures places { places ≡ true → IfOk result (HasRightPlaces setup.now (lists_of plans.items)) }
-    ensures none { places ≡ false → IfOk result HasNoPlaces }
-    ensures within { OnOk result (IsWithinLimits setup.now (lists_of plans.items)) }
-    ensures fault { IfErr result (threads.IsRunFault setup.now (lists_of plans.items)) }
-{
-    if places {
-        run(rt, alloc, setup, plans, &NoGate)
-    } else {
-        run_without_places(rt, alloc, setup, plans, &NoGate)
-    }
 }

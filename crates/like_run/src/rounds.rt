@@ -44,25 +44,9 @@ pub fn replay(
     replay_noting(alloc, setup, plans, script, true)
 }
 
-/// Replays a run, as `replay`, whose workers note no additions: it takes no room for them, and its report has no
-/// places.
-pub fn replay_without_places(
-    alloc: Global,
-    setup: &Setup,
-    plans: Vec<Vec<Request>>,
-    script: &[Turned],
-) -> Result<Report, ReplayFault>
-    requires { length script.now ≤ max_entries }
-    ensures report { IfOk result (IsRightReport setup.now (lists_of plans.items)) }
-    ensures none { IfOk result HasNoPlaces }
-    ensures fits { OnOk result (Fits setup.now (lists_of plans.items) script.now) }
-    ensures fault { IfErr result (IsReplayFault setup.now (lists_of plans.items) script.now) }
-{
-    replay_noting(alloc, setup, plans, script, false)
-}
-
-// Replays a run, whose workers note their additions or do not.
-fn replay_noting(
+/// Replays a run, as `replay`, whose workers note their additions or do not: then it takes no room for them, and its
+/// report has no places.
+pub fn replay_noting(
     alloc: Global,
     setup: &Setup,
     plans: Vec<Vec<Request>>,

@@ -50,25 +50,27 @@ pub fn run<R: Threads + Wait + Sync, G: Gate>(
     ensures within { OnOk result (IsWithinLimits setup.now (lists_of plans.items)) }
     ensures fault { IfErr result (IsRunFault setup.now (lists_of plans.items)) }
 {
-    let starts = starts_of(setup, &plans);
-    run_limited(rt, alloc, setup, plans, gate, starts)
+    run_noting(rt, alloc, setup, plans, gate, true)
 }
 
-/// Makes a run, as `run`, whose workers note no additions: it takes no room for them, and its report has no places.
-pub fn run_without_places<R: Threads + Wait + Sync, G: Gate>(
+/// Makes a run, as `run`, whose workers note their additions or do not: then it takes no room for them, and its report
+/// has no places.
+pub fn run_noting<R: Threads + Wait + Sync, G: Gate>(
     rt: &R,
     alloc: Global,
     setup: &Setup,
     plans: Vec<Vec<Request>>,
     gate: &G,
+    notes: bool,
 ) -> Result<Report, RunFault>
     ensures report { IfOk result (IsRightReport setup.now (lists_of plans.items)) }
-    ensures none { IfOk result HasNoPlaces }
+    ensures places { notes ≡ true → IfOk result (HasRightPlaces setup.now (lists_of plans.items)) }
+    ensures none { notes ≡ false → IfOk result HasNoPlaces }
     ensures within { OnOk result (IsWithinLimits setup.now (lists_of plans.items)) }
     ensures fault { IfErr result (IsRunFault setup.now (lists_of plans.items)) }
 {
     let starts = starts_of(setup, &plans);
-    run_noting(rt, alloc, setup, plans, gate, starts, false)
+    run_with(rt, alloc, setup, plans, gate, starts, notes)
 }
 
 // How many threads a run starts.
@@ -93,11 +95,11 @@ pub fn run_limited<R: Threads + Wait + Sync, G: Gate>(
     ensures enough { OnOk result (setup.now.workers + length plans.items ≤ starts) }
     ensures fault { IfErr result (IsRunFault setup.now (lists_of plans.items)) }
 {
-    run_noting(rt, alloc, setup, plans, gate, starts, true)
+    run_with(rt, alloc, setup, plans, gate, starts, true)
 }
 
 // Makes a run with at most so many threads, whose workers note their additions or do not.
-fn run_noting<R: Threads + Wait + Sync, G: Gate>(
+fn run_with<R: Threads + Wait + Sync, G: Gate>(
     rt: &R,
     alloc: Global,
     setup: &Setup,

@@ -2,7 +2,7 @@
 use super::cases::{Case, PLAIN_LIKES, SPLIT_AND_STASH, TWO_SLICES};
 use super::watch::{Held, Watch};
 use like_replies::Report;
-use like_run::{replay_without_places, run, run_without_places};
+use like_run::{replay_noting, run, run_noting};
 use std::process::Abort;
 
 // Three likes of one worker in phase 1 are one addition.
@@ -66,10 +66,10 @@ fn assert_none(rt: &impl Abort, report: &Report) {
 fn notes_no_places_where_none_are_asked(rt: HostRuntime) {
     let setup = PLAIN_LIKES.setup(&rt, rt.alloc());
     let plans = PLAIN_LIKES.plans(&rt, rt.alloc(), &setup);
-    let report = replay_without_places(rt.alloc(), &setup, plans, &[]).expect(&rt, "a report");
+    let report = replay_noting(rt.alloc(), &setup, plans, &[], false).expect(&rt, "a report");
     assert_none(&rt, &report);
     let plans = PLAIN_LIKES.plans(&rt, rt.alloc(), &setup);
     let gate = Watch::new(Held::Nobody, 0);
-    let report = run_without_places(&rt, rt.alloc(), &setup, plans, &gate).expect(&rt, "a report");
+    let report = run_noting(&rt, rt.alloc(), &setup, plans, &gate, false).expect(&rt, "a report");
     assert_none(&rt, &report);
 }

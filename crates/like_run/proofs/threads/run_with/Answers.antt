@@ -7,7 +7,7 @@ use Rattle.like_replies.specs.declared.report.Report.{Report}
 use Rattle.like_run.specs.declared.threads.fault.RunFault.{RunFault}
 use Rattle.like_run.specs.declared.threads.fault.RunFault.TheVariants.{Settings, Memory, Start}
 use Rattle.like_run.specs.Threads.{IsFaultUnderWay, IsRunFault}
-use Rattle.like_run.proofs.threads.run_noting.Goals as goal
+use Rattle.like_run.proofs.threads.run_with.Goals as goal
 
 abbrev requests_of : Vec Request Global → List Request
 requests_of plan = plan.items
