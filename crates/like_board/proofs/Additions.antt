@@ -15,9 +15,9 @@ use Rattle.like_core.specs.declared.view.View.{View}
 use Rattle.like_core.specs.declared.view.View.TheVariants.{Coord, Worker}
 use Rattle.like_core.specs.Limits.{max_workers, max_count, max_likes}
 use Rattle.like_core.specs.Functions.{update}
-use Rattle.like_core.specs.Phase.{split}
+use Rattle.like_core.specs.Phase.{is_marked, split}
 use Rattle.like_core.specs.Table.{IsShown}
-use Rattle.like_core.specs.State.{CoreState, Label, labelled, marked, after, numbers}
+use Rattle.like_core.specs.State.{CoreState, Label, labelled, after, numbers}
 use Rattle.like_core.specs.Reachable.{Reachable, after_all}
 use Rattle.like_core.specs.WorkerState.{IsIn, phase_of}
 use Rattle.like_core.specs.Post.{PostView, MayAdd, slices}
@@ -196,7 +196,7 @@ adds z words views place v page n some_state at may =
     let sums = some_state.tallied.sums page in
     let part = sum_part (paged page) views place (Worker v) at in
     let found : get_or words (page + 1) 0 ≡ get_or z.counts page 0 + length (s.applied page) = sh.pages page on in
-    let same : split (marked z) s.hot s.phase page ≡ slices (post_of v) page = slices_are z s v page old present may.known in
+    let same : split (is_marked z.marks) s.hot s.phase page ≡ slices (post_of v) page = slices_are z s v page old present may.known in
     let a : Adding z s i page n (likes_merged v page n) (adding v page) =
     adds_either z s i page n (slices (post_of v) page) same may.like
     (λ sliced. old.ending may.runs (may.merge sliced).1)

@@ -12,10 +12,10 @@ use Rattle.like_core.specs.declared.view.CoordSeatView.{CoordSeatView}
 use Rattle.like_core.specs.declared.view.View.{View}
 use Rattle.like_core.specs.declared.view.View.TheVariants.{Coord, Worker, Spent}
 use Rattle.like_core.specs.Numbers.{CoordSees}
-use Rattle.like_core.specs.Phase.{split}
+use Rattle.like_core.specs.Phase.{is_marked, split}
 use Rattle.like_core.specs.WorkerState.{phase_of}
 use Rattle.like_core.specs.Post.{slices, KnowsSlices}
-use Rattle.like_core.specs.State.{CoreState, Label, labelled, marked, numbers}
+use Rattle.like_core.specs.State.{CoreState, Label, labelled, numbers}
 use Rattle.like_core.specs.ShownWord.{shown_word}
 use Rattle.like_core.specs.Views.{post_of, seats_of}
 use Rattle.like_core.specs.Reads.{all_before, IsCounted, ReadsFit}
@@ -24,10 +24,10 @@ use Rattle.like_core.proofs.PhaseMasks.{split-known}
 use Rattle.like_board.proofs.Moves.{if_some, joined_other, worker_other, worker_steps}
 
 -- what the post knows of slices is what is split in the state
-pub slices_are : (z : Opening) (s : CoreState) (v : WorkerSeatView) (page : ℕ) → FitsWorker z s v → phase_of v.state ≡ s.phase → KnowsSlices (post_of v) page → split (marked z) s.hot s.phase page ≡ slices (post_of v) page
+pub slices_are : (z : Opening) (s : CoreState) (v : WorkerSeatView) (page : ℕ) → FitsWorker z s v → phase_of v.state ≡ s.phase → KnowsSlices (post_of v) page → split (is_marked z.marks) s.hot s.phase page ≡ slices (post_of v) page
 slices_are z s v page f present knows =
-    sym (λ m. split (marked (f.opening m)) s.hot (present m) page) ∙
-    split-known (marked v.opening) s.hot v.masks (phase_of v.state) page (λ i d inside. (f.masks i d inside).1) knows
+    sym (λ m. split (is_marked (f.opening m).marks) s.hot (present m) page) ∙
+    split-known (is_marked v.opening.marks) s.hot v.masks (phase_of v.state) page (λ i d inside. (f.masks i d inside).1) knows
 
 -- the state with these unmerged and applied likes
 abbrev pub with_likes : CoreState → (ℕ → List ℕ) → (ℕ → List Label) → CoreState

@@ -13,9 +13,9 @@ use Rattle.like_core.specs.declared.view.PhaseMask.{PhaseMask}
 use Rattle.like_core.specs.declared.view.WorkerSeatView.{WorkerSeatView}
 use Rattle.like_core.specs.declared.view.View.{View}
 use Rattle.like_core.specs.declared.view.View.TheVariants.{Worker}
-use Rattle.like_core.specs.Phase.{IsSplit, split}
+use Rattle.like_core.specs.Phase.{IsSplit, is_marked, split}
 use Rattle.like_core.specs.Table.{Permits}
-use Rattle.like_core.specs.State.{marked, numbers}
+use Rattle.like_core.specs.State.{numbers}
 use Rattle.like_core.specs.WorkerState.{phase_of, RunsSplit}
 use Rattle.like_core.specs.Post.{MayRead, slices}
 use Rattle.like_core.specs.Additions.{added_to}
@@ -48,7 +48,7 @@ reads z words views place v page some_state at may =
     in
     let may_there = may.there in
     let on : page < length z.counts = omega arith in
-    let same : split (marked z) s.hot s.phase page ≡ slices (post_of v) page = slices_are z s v page old present may.known in
+    let same : split (is_marked z.marks) s.hot s.phase page ≡ slices (post_of v) page = slices_are z s v page old present may.known in
     let sums = some_state.tallied.sums page in
     let part = sum_part (paged page) views place (Worker v) at in
     let found : get_or words (page + 1) 0 ≡ get_or z.counts page 0 + length (s.applied page) = sh.pages page on in

@@ -8,10 +8,10 @@ use Rattle.like_core.specs.declared.shown.Shown.TheVariants.{Sliced, Old}
 use Rattle.like_core.specs.declared.opening.Opening.{Opening}
 use Rattle.like_core.specs.Limits.{total_bound}
 use Rattle.like_core.specs.Functions.{sum_below, update, times}
-use Rattle.like_core.specs.Phase.{split}
+use Rattle.like_core.specs.Phase.{is_marked, split}
 use Rattle.like_core.specs.Numbers.{total}
 use Rattle.like_core.specs.Table.{Permits, IsShown}
-use Rattle.like_core.specs.State.{Label, CoreState, marked, without, after, numbers}
+use Rattle.like_core.specs.State.{Label, CoreState, without, after, numbers}
 use Rattle.like_core.specs.Reachable.{after_all, PermitsAll}
 use Rattle.like_core.proofs.Updates.{update-same, update-other, update_cases}
 use Rattle.like_core.proofs.Times.{times-cons_same}
@@ -39,7 +39,7 @@ without-replicate page zero = refl
 without-replicate page (suc n) = rw (eq-eqb page page refl) (without-replicate page n)
 
 -- so many likes of a sliced page are permitted one after the other, and give their worker so many
-likes_of : (z : Opening) (s : CoreState) (i page n : ℕ) → i < z.workers → page < length z.counts → s.state i ≡ Runs s.phase → split (marked z) s.hot s.phase page ≡ true → total (numbers z s) page + n < total_bound → PermitsAll z s (replicate n (Like i page)) × (after_all z s (replicate n (Like i page)) ≡ given_to s i (replicate n page))
+likes_of : (z : Opening) (s : CoreState) (i page n : ℕ) → i < z.workers → page < length z.counts → s.state i ≡ Runs s.phase → split (is_marked z.marks) s.hot s.phase page ≡ true → total (numbers z s) page + n < total_bound → PermitsAll z s (replicate n (Like i page)) × (after_all z s (replicate n (Like i page)) ≡ given_to s i (replicate n page))
 likes_of z s i page zero there on runs sliced room = (tt, sym (given_to-nil s i))
 likes_of z s i page (suc n) there on runs sliced room =
     let one : CoreState = given_to s i (page ∷ []) in
@@ -70,20 +70,20 @@ pub record Adding (z : Opening) (s : CoreState) (i page n : ℕ) (events : List 
   pub leads : after z (after_all z s events) event ≡ with_applied s rest page (replicate n (label i s.phase))
 
 -- a like of a page that is not sliced
-adds_plain : (z : Opening) (s : CoreState) (i page : ℕ) → ((j : ℕ) → s.unmerged j ≡ []) → i < z.workers → page < length z.counts → s.state i ≡ Runs s.phase → split (marked z) s.hot s.phase page ≡ false → get_or z.counts page 0 + length (s.applied page) + 1 < total_bound → Adding z s i page 1 [] (Like i page)
+adds_plain : (z : Opening) (s : CoreState) (i page : ℕ) → ((j : ℕ) → s.unmerged j ≡ []) → i < z.workers → page < length z.counts → s.state i ≡ Runs s.phase → split (is_marked z.marks) s.hot s.phase page ≡ false → get_or z.counts page 0 + length (s.applied page) + 1 < total_bound → Adding z s i page 1 [] (Like i page)
 adds_plain z s i page merged there on runs plain small =
     let all = total_merged z s page merged in
     record {
       before = tt;
       permits = record { there = (there, on); suits = runs; leaves_last = tt; room = omega arith };
-      tells = sym (cond-false (split (marked z) s.hot s.phase page) Sliced (Old (get_or z.counts page 0 + length (s.applied page))) plain);
+      tells = sym (cond-false (split (is_marked z.marks) s.hot s.phase page) Sliced (Old (get_or z.counts page 0 + length (s.applied page))) plain);
       rest = s.unmerged;
       merged = merged;
-      leads = cond-false (split (marked z) s.hot s.phase page) _ _ plain;
+      leads = cond-false (split (is_marked z.marks) s.hot s.phase page) _ _ plain;
     }
 
 -- likes of a sliced page and their merge
-adds_sliced : (z : Opening) (s : CoreState) (i page n : ℕ) → ((j : ℕ) → s.unmerged j ≡ []) → i < z.workers → page < length z.counts → s.state i ≡ Runs s.phase → split (marked z) s.hot s.phase page ≡ true → s.ending ≡ true → get_or z.counts page 0 + length (s.applied page) + n < total_bound → Adding z s i page n (replicate n (Like i page)) (Merge i page)
+adds_sliced : (z : Opening) (s : CoreState) (i page n : ℕ) → ((j : ℕ) → s.unmerged j ≡ []) → i < z.workers → page < length z.counts → s.state i ≡ Runs s.phase → split (is_marked z.marks) s.hot s.phase page ≡ true → s.ending ≡ true → get_or z.counts page 0 + length (s.applied page) + n < total_bound → Adding z s i page n (replicate n (Like i page)) (Merge i page)
 adds_sliced z s i page n merged there on runs sliced ending small =
     let all = total_merged z s page merged in
     let likes = likes_of z s i page n there on runs sliced (omega arith) in
@@ -119,7 +119,7 @@ adds_sliced z s i page n merged there on runs sliced ending small =
     }
 
 -- an addition is the like where the page is not sliced, and else the likes and their merge
-pub adds_either : (z : Opening) (s : CoreState) (i page n : ℕ) (sliced : Bool) → split (marked z) s.hot s.phase page ≡ sliced → (sliced ≡ false → n ≡ 1) → (sliced ≡ true → s.ending ≡ true) → ((j : ℕ) → s.unmerged j ≡ []) → i < z.workers → page < length z.counts → s.state i ≡ Runs s.phase → get_or z.counts page 0 + length (s.applied page) + n < total_bound → Adding z s i page n (cond sliced (replicate n (Like i page)) []) (cond sliced (Merge i page) (Like i page))
+pub adds_either : (z : Opening) (s : CoreState) (i page n : ℕ) (sliced : Bool) → split (is_marked z.marks) s.hot s.phase page ≡ sliced → (sliced ≡ false → n ≡ 1) → (sliced ≡ true → s.ending ≡ true) → ((j : ℕ) → s.unmerged j ≡ []) → i < z.workers → page < length z.counts → s.state i ≡ Runs s.phase → get_or z.counts page 0 + length (s.applied page) + n < total_bound → Adding z s i page n (cond sliced (replicate n (Like i page)) []) (cond sliced (Merge i page) (Like i page))
 adds_either z s i page n true is one ending merged there on runs small =
     adds_sliced z s i page n merged there on runs is (ending refl) small
 adds_either z s i page n false is one ending merged there on runs small =

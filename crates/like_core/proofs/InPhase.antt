@@ -6,11 +6,11 @@ use Rattle.like_core.specs.declared.event.Event.{Event}
 use Rattle.like_core.specs.declared.event.Event.TheVariants.{Look, Acknowledge, Report, Retire, Like, Read, Merge, Hot, CoordLook, CoordRead, Announce, Release}
 use Rattle.like_core.specs.declared.opening.Opening.{Opening}
 use Rattle.like_core.specs.Functions.{update, times}
-use Rattle.like_core.specs.Phase.{last_phase, IsJoined, IsSplit, is_hot, split}
+use Rattle.like_core.specs.Phase.{IsJoined, IsSplit, is_hot, is_marked, last_phase, split}
 use Rattle.like_core.specs.WorkerState.{IsIn, looked}
 use Rattle.like_core.specs.Numbers.{Numbers}
 use Rattle.like_core.specs.Table.{Permits}
-use Rattle.like_core.specs.State.{CoreState, Label, start, marked, without, after, numbers}
+use Rattle.like_core.specs.State.{CoreState, Label, start, without, after, numbers}
 use Rattle.like_core.specs.Reachable.{Reachable, after_all, PermitsAll}
 use Rattle.like_core.specs.Exclusive.{IsExclusive, IsInPhase}
 use Rattle.like_core.proofs.Updates.{update-other, update_cases}
@@ -156,8 +156,8 @@ keeps_in_phase z s (Like i page) p may =
     let sliced_like : CoreState = record s { unmerged = update s.unmerged i (s.unmerged i ++ page ∷ []) } in
     let label : Label = record { worker = i; phase = s.phase } in
     let plain_like : CoreState = record s { applied = update s.applied page (s.applied page ++ label ∷ []) } in
-    in_phase_either z (split (marked z) s.hot s.phase page) sliced_like plain_like
-    (λ sliced. moves_likes z s i (s.unmerged i ++ page ∷ []) p may.suits (split-IsSplit (marked z) s.hot s.phase page sliced))
+    in_phase_either z (split (is_marked z.marks) s.hot s.phase page) sliced_like plain_like
+    (λ sliced. moves_likes z s i (s.unmerged i ++ page ∷ []) p may.suits (split-IsSplit (is_marked z.marks) s.hot s.phase page sliced))
     (record {
       runs = p.runs;
       answered = p.answered;
@@ -168,7 +168,7 @@ keeps_in_phase z s (Like i page) p may =
     })
 keeps_in_phase z s (Read i page) p may = p
 keeps_in_phase z s (Merge i page) p may =
-    let odd = split-IsSplit (marked z) s.hot s.phase page may.suits.1 in
+    let odd = split-IsSplit (is_marked z.marks) s.hot s.phase page may.suits.1 in
     let q = moves_likes z s i (without page (s.unmerged i)) p may.suits.0 odd in
     record {
       runs = q.runs;

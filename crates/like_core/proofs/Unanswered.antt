@@ -6,10 +6,10 @@ use Rattle.like_core.specs.declared.event.Event.{Event}
 use Rattle.like_core.specs.declared.event.Event.TheVariants.{Look, Acknowledge, Report, Retire, Like, Read, Merge, Hot, CoordLook, CoordRead, Announce, Release}
 use Rattle.like_core.specs.declared.opening.Opening.{Opening}
 use Rattle.like_core.specs.Functions.{update}
-use Rattle.like_core.specs.Phase.{split}
+use Rattle.like_core.specs.Phase.{is_marked, split}
 use Rattle.like_core.specs.WorkerState.{looked}
 use Rattle.like_core.specs.Table.{Permits}
-use Rattle.like_core.specs.State.{CoreState, Label, start, marked, after, numbers}
+use Rattle.like_core.specs.State.{CoreState, Label, start, after, numbers}
 use Rattle.like_core.specs.Reachable.{Reachable, after_all, PermitsAll}
 use Rattle.like_core.specs.Exclusive.{IsInPhase}
 use Rattle.like_core.specs.ShownWord.{has_answered, is_gone}
@@ -76,7 +76,7 @@ keeps_unanswered z s (Report i) p none may = λ running. let ends = may.suits.2 
 keeps_unanswered z s (Retire i) p none may = moves s i Gone none (λ _. refl)
 keeps_unanswered z s (Like i page) p none may =
     let label : Label = record { worker = i; phase = s.phase } in
-    either (split (marked z) s.hot s.phase page)
+    either (split (is_marked z.marks) s.hot s.phase page)
     (record s { unmerged = _ })
     (record s { applied = _ })
     none

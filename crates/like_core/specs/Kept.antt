@@ -1,7 +1,8 @@
-use Rattle.std.specs.Prelude.{◌≡◌, ℕ, ◌<◌, Bool, false, List, [], length, slice_index, slice_index_or}
+use Rattle.std.specs.Prelude.{◌≡◌, ℕ, ◌<◌, Bool, List, [], length, slice_index, slice_index_or}
 use Rattle.like_core.specs.declared.worker_state.WorkerState.{WorkerState}
 use Rattle.like_core.specs.declared.worker_state.WorkerState.TheVariants.{Gone}
 use Rattle.like_core.specs.Numbers.{Numbers}
+use Rattle.like_core.specs.Phase.{is_marked}
 
 -- each of the rows has so many numbers
 abbrev pub AreRowsOf : ℕ → List (List ℕ) → Type 0
@@ -12,7 +13,7 @@ abbrev pub kept : ℕ → Bool → ℕ → List WorkerState → List (List ℕ) 
 kept phase ending hot states unmerged counts marks = record {
   workers = length unmerged;
   pages = length counts;
-  marked = λ page. slice_index_or marks page false;
+  marked = is_marked marks;
   phase = phase;
   ending = ending;
   hot = hot;

@@ -1,4 +1,4 @@
-use Rattle.std.specs.Prelude.{◌≡◌, ℕ, ◌%◌, ◌==◌, nat_lt, Bool, ◌&&◌, ◌||◌}
+use Rattle.std.specs.Prelude.{◌≡◌, ℕ, ◌%◌, ◌==◌, nat_lt, Bool, false, ◌&&◌, ◌||◌, List, slice_index_or}
 use Rattle.like_core.specs.Limits.{hot_pages}
 use Rattle.like_core.specs.Functions.{has_bit}
 
@@ -13,6 +13,10 @@ IsJoined phase = phase % 2 ≡ 0
 -- an odd phase is split
 abbrev pub IsSplit : ℕ → Type 0
 IsSplit phase = phase % 2 ≡ 1
+
+-- whether a page is marked as split
+abbrev pub is_marked : List Bool → ℕ → Bool
+is_marked marks page = slice_index_or marks page false
 
 -- whether a page is hot by a mask: it is one of the first 64, and its bit is set
 abbrev pub is_hot : ℕ → ℕ → Bool

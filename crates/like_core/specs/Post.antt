@@ -1,4 +1,4 @@
-use Rattle.std.specs.Prelude.{◌≡◌, ℕ, ◌+◌, ◌<◌, ◌≤◌, Bool, true, false, List, [], ◌∷◌, ◌++◌, length, slice_index_or, Option, Some, None}
+use Rattle.std.specs.Prelude.{◌≡◌, ℕ, ◌+◌, ◌<◌, ◌≤◌, Bool, true, false, List, [], ◌∷◌, ◌++◌, length, Option, Some, None}
 use Rattle.like_core.specs.declared.worker_state.WorkerState.{WorkerState}
 use Rattle.like_core.specs.declared.worker_state.WorkerState.TheVariants.{Runs, Answered, Gone}
 use Rattle.like_core.specs.declared.sight.Sight.{Sight}
@@ -7,7 +7,7 @@ use Rattle.like_core.specs.declared.view.PageRead.{PageRead}
 use Rattle.like_core.specs.declared.view.PhaseMask.{PhaseMask}
 use Rattle.like_core.specs.Limits.{max_likes, hot_pages}
 use Rattle.like_core.specs.Additions.{addition, all_added, added_to, added_in, page_read}
-use Rattle.like_core.specs.Phase.{IsSplit, split}
+use Rattle.like_core.specs.Phase.{IsSplit, is_marked, split}
 use Rattle.like_core.specs.PhaseMasks.{mask_of, HasMask}
 use Rattle.like_core.specs.WorkerState.{IsRunning, SawEnding, phase_of, seen}
 
@@ -28,10 +28,6 @@ pub record PostView : Type 0 where
 abbrev pub pages_of : PostView → ℕ
 pages_of v = length v.marks
 
--- whether a page is marked as split
-abbrev pub is_marked : PostView → ℕ → Bool
-is_marked v page = slice_index_or v.marks page false
-
 -- how much was added to a page
 abbrev pub additions_of : PostView → ℕ → ℕ
 additions_of v page = added_to page v.additions
@@ -50,13 +46,13 @@ pub record IsFresh (v : PostView) : Type 0 where
 
 -- whether the page is sliced in the post's phase
 abbrev pub slices : PostView → ℕ → Bool
-slices v page = split (is_marked v) (mask_of v.masks) (phase_of v.state) page
+slices v page = split (is_marked v.marks) (mask_of v.masks) (phase_of v.state) page
 
 -- whether it is sliced is known to the post: an unmarked page of the first 64 may be hot in a split phase, so there the
 -- post has read the phase's mask
 abbrev pub KnowsSlices : PostView → ℕ → Type 0
 KnowsSlices v page =
-    IsSplit (phase_of v.state) → is_marked v page ≡ false → page < hot_pages
+    IsSplit (phase_of v.state) → is_marked v.marks page ≡ false → page < hot_pages
     → HasMask (phase_of v.state) v.masks
 
 -- the post after a look

@@ -1,11 +1,11 @@
-use Rattle.std.specs.Prelude.{ℕ, ◌+◌, ◌==◌, nat_lt, Bool, true, false, not, ◌&&◌, if◌then◌else◌, List, [], ◌∷◌, ◌++◌, length, filter, count_by, replicate, slice_index, slice_index_or}
+use Rattle.std.specs.Prelude.{ℕ, ◌+◌, ◌==◌, nat_lt, Bool, true, false, not, ◌&&◌, if◌then◌else◌, List, [], ◌∷◌, ◌++◌, length, filter, count_by, replicate, slice_index}
 use Rattle.like_core.specs.declared.worker_state.WorkerState.{WorkerState}
 use Rattle.like_core.specs.declared.worker_state.WorkerState.TheVariants.{Runs, Answered, Gone}
 use Rattle.like_core.specs.declared.event.Event.{Event}
 use Rattle.like_core.specs.declared.event.Event.TheVariants.{Look, Acknowledge, Report, Retire, Like, Read, Merge, Hot, CoordLook, CoordRead, Announce, Release}
 use Rattle.like_core.specs.declared.opening.Opening.{Opening}
 use Rattle.like_core.specs.Functions.{update, times}
-use Rattle.like_core.specs.Phase.{split}
+use Rattle.like_core.specs.Phase.{is_marked, split}
 use Rattle.like_core.specs.WorkerState.{looked}
 use Rattle.like_core.specs.Numbers.{Numbers}
 
@@ -48,10 +48,6 @@ start z = record {
   applied = λ _. [];
 }
 
--- whether a page is marked as split
-abbrev pub marked : Opening → ℕ → Bool
-marked z page = slice_index_or z.marks page false
-
 -- the likes of other pages
 abbrev pub without : ℕ → List ℕ → List ℕ
 without page likes = filter (λ other. not (other == page)) likes
@@ -63,7 +59,7 @@ after z s (Acknowledge i) = record s { state = update s.state i (Answered s.phas
 after z s (Report i) = record s { state = update s.state i (Answered s.phase) }
 after z s (Retire i) = record s { state = update s.state i Gone }
 after z s (Like i page) =
-    (if split (marked z) s.hot s.phase page then
+    (if split (is_marked z.marks) s.hot s.phase page then
     record s { unmerged = update s.unmerged i (s.unmerged i ++ page ∷ []) }
     else
     record s { applied = update s.applied page (s.applied page ++ label_now s i ∷ []) })
@@ -88,7 +84,7 @@ abbrev pub numbers : Opening → CoreState → Numbers
 numbers z s = record {
   workers = z.workers;
   pages = length z.counts;
-  marked = marked z;
+  marked = is_marked z.marks;
   phase = s.phase;
   ending = s.ending;
   hot = s.hot s.phase;

@@ -7,7 +7,7 @@ use Rattle.like_core.specs.Post.{slices}
 use Rattle.like_tables.specs.declared.held.Held.{Held}
 use Rattle.like_roles.specs.declared.reply.Reply.{Reply}
 use Rattle.like_roles.specs.declared.turn.Turn.{Turn}
-use Rattle.like_roles.specs.Serve.{Runs, GivesReply, refuses, likes, looks, adding, liked}
+use Rattle.like_roles.specs.Serve.{Runs, GivesReply, refuses, likes, looks, with_addition, liked}
 use Rattle.like_roles.specs.Turns as turns
 use Rattle.like_roles.specs.Turns.{Gives, TakesAsk, Turns, Works, saw, settled, with_taken, without_first}
 use Rattle.like_roles.specs.WorkerView.{WorkerView}
@@ -18,7 +18,7 @@ whose v = (v.post.worker, v.post.board)
 
 liked-whose : (v : WorkerView) (user page old : ℕ) → whose (liked v user page old) ≡ whose v
 liked-whose v user page old = by_test (slices v.post page) where
-  by_test : (b : Bool) → whose (cond b (record v { slice = set v.slice page (get_or v.slice page 0 + 1) }) (adding v page old 1)) ≡ whose v
+  by_test : (b : Bool) → whose (cond b (record v { slice = set v.slice page (get_or v.slice page 0 + 1) }) (with_addition v page old 1)) ≡ whose v
   by_test true = refl
   by_test false = refl
 

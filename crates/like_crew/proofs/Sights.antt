@@ -18,7 +18,7 @@ use Rattle.like_roles.specs.declared.log.Took.{Took}
 use Rattle.like_roles.specs.declared.reply.Reply.{Reply}
 use Rattle.like_roles.specs.declared.turn.Turn.{Turn}
 use Rattle.like_roles.specs.declared.turn.Turn.TheVariants as turn
-use Rattle.like_roles.specs.Serve.{Runs, GivesReply, refuses, likes, looks, adding, liked}
+use Rattle.like_roles.specs.Serve.{Runs, GivesReply, refuses, likes, looks, with_addition, liked}
 use Rattle.like_roles.specs.Turns as turns
 use Rattle.like_roles.specs.Turns.{Gives, TakesAsk, Turns, Works, merged, saw, settled, with_taken, without_first}
 use Rattle.like_roles.specs.WorkerView.{WorkerView, phase_at, submitter_at}
@@ -86,7 +86,7 @@ running_here P state.Gone r = absurd r
 -- a request that runs leaves the last sight
 liked-last : (v : WorkerView) (user page old : ℕ) → (liked v user page old).post.last ≡ v.post.last
 liked-last v user page old = by_test (slices v.post page) where
-  by_test : (b : Bool) → (cond b (record v { slice = set v.slice page (get_or v.slice page 0 + 1) }) (adding v page old 1)).post.last ≡ v.post.last
+  by_test : (b : Bool) → (cond b (record v { slice = set v.slice page (get_or v.slice page 0 + 1) }) (with_addition v page old 1)).post.last ≡ v.post.last
   by_test true = refl
   by_test false = refl
 

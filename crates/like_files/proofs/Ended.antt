@@ -23,8 +23,8 @@ use Rattle.like_words.specs.declared.options.Options.{Options}
 use Rattle.like_replies.specs.PlaceRows.{text_of}
 use Rattle.like_files.specs.Faults.{fault_of, fault_of_replay, fault_of_run}
 use Rattle.like_files.specs.Inputs.{GivesLists, Inputs, WritesReport, setup_of}
-use Rattle.like_files.specs.Replay.{CanReplay, GivesAll, IsReplayFault}
-use Rattle.like_files.specs.Run.{CanRun, IsRunFault}
+use Rattle.like_files.specs.Replay.{CanReplay, GivesAll, IsReplayFilesFault}
+use Rattle.like_files.specs.Run.{CanRun, IsRunFilesFault}
 
 -- right places are one list for each page
 pub one_list_a_page : (setup : Setup) (plans : List (List Request)) (report : Report) → HasRightPlaces setup plans report → length report.places.items ≡ length setup.pages
@@ -42,13 +42,13 @@ module _ (options : Options) (inputs : Inputs) (pages : List Page) (plans : List
     can-replay fits = record { pages = pages; plans = plans; script = script; given = given; fits = fits }
 
     -- the replay gave no report
-    pub replay-refused : (fault : ReplayFault) → run.IsReplayFault (setup_of options pages) plans script fault → IsReplayFault options inputs (fault_of_replay fault)
+    pub replay-refused : (fault : ReplayFault) → run.IsReplayFault (setup_of options pages) plans script fault → IsReplayFilesFault options inputs (fault_of_replay fault)
     replay-refused (why.Settings fault) refused = record { pages = pages; plans = plans; script = script; given = given; refused = refused }
     replay-refused why.Unfinished refused = record { pages = pages; plans = plans; script = script; given = given; refused = refused }
     replay-refused why.Memory refused = can-replay refused
 
     -- its report was not written
-    pub replay-unwritten : (fault : WriteFault) → run.Fits (setup_of options pages) plans script → IsReplayFault options inputs (fault_of fault)
+    pub replay-unwritten : (fault : WriteFault) → run.Fits (setup_of options pages) plans script → IsReplayFilesFault options inputs (fault_of fault)
     replay-unwritten write.Write fits = can-replay fits
     replay-unwritten write.Memory fits = can-replay fits
 
@@ -57,12 +57,12 @@ module _ (options : Options) (inputs : Inputs) (pages : List Page) (plans : List
     can-run within = record { pages = pages; plans = plans; given = given; within = within }
 
     -- the run on threads gave no report
-    pub run-refused : (fault : RunFault) → on_threads.IsRunFault (setup_of options pages) plans fault → IsRunFault options inputs (fault_of_run fault)
+    pub run-refused : (fault : RunFault) → on_threads.IsRunFault (setup_of options pages) plans fault → IsRunFilesFault options inputs (fault_of_run fault)
     run-refused (threads.Settings fault) refused = record { pages = pages; plans = plans; given = given; refused = refused }
     run-refused threads.Start refused = record { pages = pages; plans = plans; given = given; refused = refused }
     run-refused threads.Memory refused = can-run refused
 
     -- its report was not written
-    pub run-unwritten : (fault : WriteFault) → IsWithinLimits (setup_of options pages) plans → IsRunFault options inputs (fault_of fault)
+    pub run-unwritten : (fault : WriteFault) → IsWithinLimits (setup_of options pages) plans → IsRunFilesFault options inputs (fault_of fault)
     run-unwritten write.Write within = can-run within
     run-unwritten write.Memory within = can-run within

@@ -58,12 +58,12 @@ pub record CanReplay (options : Options) (inputs : Inputs) : Type 0 where
 
 -- why a replay ended: the first fault of the pages file, the request files, the script file, the settings, the replay and the
 -- output; want of memory is that of the replay or of its report
-abbrev pub IsReplayFault : Options → Inputs → DriverFault → Type 0
-IsReplayFault options inputs (Pages fault) = RefusesLists inputs.pages inputs.requests (Pages fault)
-IsReplayFault options inputs (Requests submitter fault) = RefusesLists inputs.pages inputs.requests (Requests submitter fault)
-IsReplayFault options inputs (Script fault) = ScriptRefused inputs fault
-IsReplayFault options inputs (Settings fault) = ReplayRefused options inputs (why.Settings fault)
-IsReplayFault options inputs Start = ⊥
-IsReplayFault options inputs Unfinished = ReplayRefused options inputs why.Unfinished
-IsReplayFault options inputs Write = CanReplay options inputs
-IsReplayFault options inputs Memory = CanReplay options inputs
+abbrev pub IsReplayFilesFault : Options → Inputs → DriverFault → Type 0
+IsReplayFilesFault options inputs (Pages fault) = RefusesLists inputs.pages inputs.requests (Pages fault)
+IsReplayFilesFault options inputs (Requests submitter fault) = RefusesLists inputs.pages inputs.requests (Requests submitter fault)
+IsReplayFilesFault options inputs (Script fault) = ScriptRefused inputs fault
+IsReplayFilesFault options inputs (Settings fault) = ReplayRefused options inputs (why.Settings fault)
+IsReplayFilesFault options inputs Start = ⊥
+IsReplayFilesFault options inputs Unfinished = ReplayRefused options inputs why.Unfinished
+IsReplayFilesFault options inputs Write = CanReplay options inputs
+IsReplayFilesFault options inputs Memory = CanReplay options inputs

@@ -41,12 +41,12 @@ pub record CanRun (options : Options) (inputs : Inputs) : Type 0 where
 
 -- why a run ended: the first fault of the pages file, the request files, the settings, the run and the output; want of memory
 -- is that of the run or of its report
-abbrev pub IsRunFault : Options → Inputs → DriverFault → Type 0
-IsRunFault options inputs (Pages fault) = RefusesLists inputs.pages inputs.requests (Pages fault)
-IsRunFault options inputs (Requests submitter fault) = RefusesLists inputs.pages inputs.requests (Requests submitter fault)
-IsRunFault options inputs (Script fault) = ⊥
-IsRunFault options inputs (Settings fault) = RunRefused options inputs (why.Settings fault)
-IsRunFault options inputs Start = RunRefused options inputs why.Start
-IsRunFault options inputs Unfinished = ⊥
-IsRunFault options inputs Write = CanRun options inputs
-IsRunFault options inputs Memory = CanRun options inputs
+abbrev pub IsRunFilesFault : Options → Inputs → DriverFault → Type 0
+IsRunFilesFault options inputs (Pages fault) = RefusesLists inputs.pages inputs.requests (Pages fault)
+IsRunFilesFault options inputs (Requests submitter fault) = RefusesLists inputs.pages inputs.requests (Requests submitter fault)
+IsRunFilesFault options inputs (Script fault) = ⊥
+IsRunFilesFault options inputs (Settings fault) = RunRefused options inputs (why.Settings fault)
+IsRunFilesFault options inputs Start = RunRefused options inputs why.Start
+IsRunFilesFault options inputs Unfinished = ⊥
+IsRunFilesFault options inputs Write = CanRun options inputs
+IsRunFilesFault options inputs Memory = CanRun options inputs

@@ -2,7 +2,7 @@ ghost use Rattle.std.specs.Prelude.{◌≡◌, ◌≤◌, false, true, IfErr, If
 ghost use Rattle.like_script.specs.Limits.{max_entries};
 ghost use Rattle.like_files.specs.Faults.{IsBeforeOutput};
 ghost use Rattle.like_files.specs.Inputs.{GivesScript, RefusesScript, inputs_of};
-ghost use Rattle.like_files.specs.Replay.{HasReplayed, IsReplayFault};
+ghost use Rattle.like_files.specs.Replay.{HasReplayed, IsReplayFilesFault};
 
 use crate::fault::DriverFault;
 use crate::plans::read_plans;
@@ -30,7 +30,7 @@ pub fn replay_files<R: Read + Drop, W: Write>(
     ensures replayed { let inputs = inputs_of R.remaining pages requests.items script in
         OnOk result (HasReplayed options.now inputs (W.contents out.old) (W.contents out.new)) }
     ensures fault { let inputs = inputs_of R.remaining pages requests.items script in
-        IfErr result (IsReplayFault options.now inputs) }
+        IfErr result (IsReplayFilesFault options.now inputs) }
     ensures untouched { IfErr result (λ fault. IsBeforeOutput fault → out.new ≡ out.old) }
 {
     let pages = read_pages(alloc, pages)?;

@@ -1,7 +1,7 @@
 ghost use Rattle.std.specs.Prelude.{◌≡◌, IfErr, None, OnOk, length};
 ghost use Rattle.like_files.specs.Faults.{IsBeforeOutput};
 ghost use Rattle.like_files.specs.Inputs.{inputs_of};
-ghost use Rattle.like_files.specs.Run.{HasRun, IsRunFault};
+ghost use Rattle.like_files.specs.Run.{HasRun, IsRunFilesFault};
 
 use crate::fault::DriverFault;
 use crate::plans::read_plans_at_once;
@@ -31,7 +31,7 @@ pub fn run_files<T: Threads + Wait + Sync, R: Read + Drop + Send, W: Write>(
     ensures run { let inputs = inputs_of R.remaining pages requests.items None in
         OnOk result (HasRun options.now inputs (W.contents out.old) (W.contents out.new)) }
     ensures fault { let inputs = inputs_of R.remaining pages requests.items None in
-        IfErr result (IsRunFault options.now inputs) }
+        IfErr result (IsRunFilesFault options.now inputs) }
     ensures untouched { IfErr result (λ fault. IsBeforeOutput fault → out.new ≡ out.old) }
 {
     let pages = read_pages(alloc, pages)?;

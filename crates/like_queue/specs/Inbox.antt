@@ -36,7 +36,7 @@ abbrev pub NoneLeft : Inbox → Type 0
 NoneLeft v = (v.opened ≤ v.taken) × (v.taken ≤ length v.plan)
 
 -- a take from a list inbox hands over what the inbox has, opens nothing, and answers nothing just where none is left
-pub record Takes (v : Inbox) (answer : Taken) (w : Inbox) : Type 0 where
+pub record TakesFromList (v : Inbox) (answer : Taken) (w : Inbox) : Type 0 where
   pub handed : HandsOver (view_of v) answer (view_of w)
   pub opened : w.opened ≡ v.opened
   pub nothing : (answer ≡ Nothing) ↔ NoneLeft v

@@ -17,8 +17,8 @@ use std::time::Duration;
 /// How many items a line holds at most.
 const CAPACITY: usize = 64;
 
-/// How many items one end hands over before it wakes the other, where that waits: half of those that a line holds.
-pub const BATCH: usize = CAPACITY / 2;
+/// How many items one end hands over before it wakes the other, where that waits: as many as a line holds.
+pub const BATCH: usize = CAPACITY;
 
 // How many microseconds the thread that sends waits at most.
 const PATIENCE: u64 = 1000;

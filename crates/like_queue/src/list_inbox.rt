@@ -1,5 +1,5 @@
 ghost use Rattle.std.specs.Prelude.{◌≡◌, ◌+◌, ◌<◌, ◌≤◌, length, min, nat_lt};
-ghost use Rattle.like_queue.specs.Inbox.{Takes, item_count};
+ghost use Rattle.like_queue.specs.Inbox.{TakesFromList, item_count};
 ghost use Rattle.like_requests.specs.Limits.{max_requests};
 
 use crate::inbox::{Inbox, TakeWith};
@@ -64,7 +64,7 @@ impl ListInbox {
 
     /// Takes the next open item; after the end mark, that again.
     pub fn take(&mut self) -> Taken
-        ensures { Takes self.old result self.new }
+        ensures { TakesFromList self.old result self.new }
     {
         let next = self.taken;
         if next > self.plan.len() {

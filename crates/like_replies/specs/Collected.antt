@@ -24,7 +24,7 @@ pub record IsCollected (sizes : List ℕ) (entries : List Ran) (rows : List (Lis
       → map answer_of (entries_of submitter number entries) ≡ option_to_list (answer_at rows submitter number)
 
 -- the first bad entry has this submitter and number: the entries before it are good, and with them the fact makes it bad
-pub record IsFirstBad (sizes : List ℕ) (entries : List Ran) (submitter number : ℕ) (Bad : List Ran → Type 0) : Type 0 where
+pub record IsFirstBadEntry (sizes : List ℕ) (entries : List Ran) (submitter number : ℕ) (Bad : List Ran → Type 0) : Type 0 where
   pub before : List Ran
   pub entry : Ran
   pub after : List Ran
@@ -44,9 +44,9 @@ pub record IsFirstMissing (sizes : List ℕ) (entries : List Ran) (submitter num
 -- the first entry that is bad is of no request, or has the same request as an earlier one
 abbrev pub IsEntryFault : List ℕ → List Ran → CollectFault → Type 0
 IsEntryFault sizes entries (Stranger submitter number) =
-    IsFirstBad sizes entries submitter number (λ before. ¬ IsRequest sizes submitter number)
+    IsFirstBadEntry sizes entries submitter number (λ before. ¬ IsRequest sizes submitter number)
 IsEntryFault sizes entries (Double submitter number) =
-    IsFirstBad sizes entries submitter number
+    IsFirstBadEntry sizes entries submitter number
     (λ before. IsRequest sizes submitter number × (entries_of submitter number before ≢ []))
 IsEntryFault sizes entries (Missing submitter number) = ⊥
 IsEntryFault sizes entries Memory = ⊥

@@ -16,10 +16,10 @@ use Rattle.like_requests.specs.declared.verdict.Verdict.{Verdict}
 use Rattle.like_requests.specs.declared.verdict.Verdict.TheVariants.{Accepted}
 use Rattle.like_tables.specs.Share.{submitter_of}
 use Rattle.like_tables.specs.UserTable.{UserTable}
-use Rattle.like_core.specs.Phase.{split}
+use Rattle.like_core.specs.Phase.{is_marked, split}
 use Rattle.like_core.specs.WorkerState.{IsRunning, phase_of}
 use Rattle.like_core.specs.PhaseMasks.{mask_of}
-use Rattle.like_core.specs.Post.{PostView, is_marked, slices}
+use Rattle.like_core.specs.Post.{PostView, slices}
 use Rattle.like_core.proofs.InPhase.{split-IsSplit}
 use Rattle.like_core.proofs.PhaseMasks.{split-by}
 use Rattle.like_tables.specs.Waiting.{Waiting}
@@ -93,7 +93,7 @@ IsSound-push post d h pushed s room fits own n e =
 pub slices-by_desk : (post : PostView) (d : Desk) (page : ℕ) → IsPlaced post d → IsRunning post.state → slices post page ≡ split (λ p. get_or d.marks.items p false) (λ _. d.hot) d.phase page
 slices-by_desk post d page p run =
     let phase = running_phase (λ _. Unit {0}) post.state d.phase d.gone p.standing run in
-    split-by (is_marked post) (mask_of post.masks) (λ _. d.hot) (phase_of post.state) page (λ odd. sym (p.hot (runs-split post.state run odd)).1)
+    split-by (is_marked post.marks) (mask_of post.masks) (λ _. d.hot) (phase_of post.state) page (λ odd. sym (p.hot (runs-split post.state run odd)).1)
     ∙ (λ m. split (λ q. get_or (p.marks m) q false) (λ _. d.hot) (phase m) page)
 
 -- and whether a request has to wait

@@ -10,7 +10,7 @@ use Rattle.like_core.specs.Post.{pages_of}
 use Rattle.like_core.proofs.Labels.{one_before-next}
 use Rattle.like_tables.specs.Liked.{AreUnliked}
 use Rattle.like_roles.specs.Turns.{IsMerged, Merges, from_zero, merged_page, merging, slice_addition}
-use Rattle.like_roles.specs.Serve.{adding, noted, noted_at}
+use Rattle.like_roles.specs.Serve.{with_addition, noted, noted_at}
 use Rattle.like_roles.specs.declared.log.Added.{Added}
 use Rattle.like_roles.specs.WorkerView.{WorkerView, phase_at}
 use Rattle.like_roles.proofs.Shown.{cond_same}
@@ -110,7 +110,7 @@ Merging-page v0 v n old m inside liked =
       adds = m.adds ++ new ∷ [];
       merges = map-append from_zero m.adds (new ∷ []) ∙ ((λ k. m.merges k ++ zero_is k ∷ []) ∙ sym more);
       rest =
-          ap {A = WorkerView} (λ w. record (adding w n old likes) { slice = slice }) m.rest
+          ap {A = WorkerView} (λ w. record (with_addition w n old likes) { slice = slice }) m.rest
           ∙ (λ k. merged_as v0 slice (append_assoc v0.post.additions m.adds (new ∷ []) k) (noted-append v0 m.adds (new ∷ []) k));
       slice_sized = length-set v.slice n 0 ∙ m.slice_sized;
       emptied = below v.slice n 0 (λ _. 0) inside refl m.emptied;

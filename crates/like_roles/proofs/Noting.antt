@@ -21,7 +21,7 @@ use Rattle.like_roles.specs.Adds.{IsOfLikes, addition_of, is_add_to, adds_to, ad
 use Rattle.like_roles.specs.Follows.{IsAsked, IsNoted, IsServed, IsUnmerged}
 use Rattle.like_roles.specs.Likes.{AcceptedLike, like_ran, likes_within}
 use Rattle.like_roles.specs.Looks.{look_ran}
-use Rattle.like_roles.specs.Serve.{GivesReply, refuses, likes, looks, adding, counted, noted_at, ran_now}
+use Rattle.like_roles.specs.Serve.{GivesReply, refuses, likes, looks, with_addition, counted, noted_at, ran_now}
 use Rattle.like_roles.specs.Service.{Service, is_split_in, submitters}
 use Rattle.like_roles.specs.WorkerView.{WorkerView, phase_at}
 use Rattle.like_roles.proofs.Noted.{AddsLikes, apart, count-all, count-none, looks-adds, looks-push, no-more, none-passes, noted-each, noted-push}
@@ -126,12 +126,12 @@ one_like service v e page old user notes was un now like no_look_ran alike = by_
     new : Addition
     new = record { phase = k; page = page; old = old; likes = 1 }
 
-    on_board : is_split_in service k page ≡ false → P (adding v page old 1)
+    on_board : is_split_in service k page ≡ false → P (with_addition v page old 1)
     on_board is =
         let a : Added = noted_at (length v.ran) new in
         let all : List Added = v.adds ++ a ∷ [] in
         let count : (phase q : ℕ) → adds_to phase q (a ∷ []) ≡ one phase q = λ phase q. (sum_by-cons (λ (b : Added). cond {A = ℕ} (is_add_to phase q b) 1 0) a [] ∙ omega arith) in
-        subst (λ (xs : List Added). P (record (adding v page old 1) { adds = v.adds ++ xs })) (sym (noted-each v (new ∷ []) notes)) (
+        subst (λ (xs : List Added). P (record (with_addition v page old 1) { adds = v.adds ++ xs })) (sym (noted-each v (new ∷ []) notes)) (
           noted-push service v.post.additions (v.post.additions ++ new ∷ []) v.post.reads v.post.reads v.adds (a ∷ []) all v.ran e one was by refl
               (record {
                 at_end = one_of (λ b. b.at ≡ length v.ran) a refl;
@@ -163,8 +163,8 @@ one_like service v e page old user notes was un now like no_look_ran alike = by_
         one_of Q a q (suc i) d inside = absurd (omega arith)
 
     by_test : (b : Bool) → slices v.post page ≡ b → P (counted v page old)
-    by_test true e' = subst (λ (b : Bool). P (cond b sliced (adding v page old 1))) (sym e') (in_slice (alike ∙ e'))
-    by_test false e' = subst (λ (b : Bool). P (cond b sliced (adding v page old 1))) (sym e') (on_board (alike ∙ e'))
+    by_test true e' = subst (λ (b : Bool). P (cond b sliced (with_addition v page old 1))) (sym e') (in_slice (alike ∙ e'))
+    by_test false e' = subst (λ (b : Bool). P (cond b sliced (with_addition v page old 1))) (sym e') (on_board (alike ∙ e'))
 
 -- whatever the answer is, of a worker that notes its additions
 pub GivesReply-noted : (service : Service) (v : WorkerView) (h : Held) (stashed : Bool) (answer : Reply) (w : WorkerView) → IsServed service v → v.notes ≡ true → IsNoted service v.post.additions v.post.reads v.adds v.ran → IsUnmerged service v.adds v.ran (state.Runs (phase_at v)) → IsAsked service h

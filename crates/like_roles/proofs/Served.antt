@@ -10,7 +10,7 @@ use Rattle.like_tables.specs.declared.held.Held.{Held}
 use Rattle.like_roles.specs.declared.log.Ran.{Ran}
 use Rattle.like_roles.specs.declared.reply.Reply.{Reply}
 use Rattle.like_roles.specs.Desk.{IsStanding}
-use Rattle.like_roles.specs.Serve.{GivesReply, refuses, likes, looks, adding, counted, liked, shown, ran_now, Runs}
+use Rattle.like_roles.specs.Serve.{GivesReply, refuses, likes, looks, with_addition, counted, liked, shown, ran_now, Runs}
 use Rattle.like_roles.specs.WorkerView.{WorkerView, phase_at}
 
 -- a worker that runs a phase has its number
@@ -27,9 +27,9 @@ runs-split state.Gone r odd = absurd r
 
 -- what holds with one more like in the slice, and with one more on the board, holds once a like is counted
 pub counted_by : (P : WorkerView → Type 0) (v : WorkerView) (page old : ℕ) → P (record v { slice = slice_set v.slice page (slice_index v.slice page + 1) })
-    → P (adding v page old 1) → P (counted v page old)
+    → P (with_addition v page old 1) → P (counted v page old)
 counted_by P v page old in_slice on_board = by_test (slices v.post page) where
-  by_test : (b : Bool) → P (cond b (record v { slice = slice_set v.slice page (slice_index v.slice page + 1) }) (adding v page old 1))
+  by_test : (b : Bool) → P (cond b (record v { slice = slice_set v.slice page (slice_index v.slice page + 1) }) (with_addition v page old 1))
   by_test true = in_slice
   by_test false = on_board
 

@@ -30,7 +30,7 @@ use Rattle.like_roles.specs.Follows.{IsAsked, IsServed, IsSized, IsTallied}
 use Rattle.like_roles.specs.Likes.{AcceptedLike, accepted_like, last_like, last_page, like_ran, likes_among, likes_ran, likes_within, page_likes}
 use Rattle.like_roles.specs.Looks.{ShownCount, accepted_look, look_ran, shown_by, shown_in, shown_to}
 use Rattle.like_roles.specs.Replies.{Answers, HasRightAnswers, IsRightAnswer, page_looked_at}
-use Rattle.like_roles.specs.Serve.{GivesReply, refuses, likes, looks, adding, counted, liked, shown, ran_now, verdict_at}
+use Rattle.like_roles.specs.Serve.{GivesReply, refuses, likes, looks, with_addition, counted, liked, shown, ran_now, verdict_at}
 use Rattle.like_roles.specs.Service.{Service, marks, request_of, submitters}
 use Rattle.like_requests.specs.Setup.{IsThere}
 use Rattle.like_roles.specs.WorkerView.{WorkerView, phase_at}
@@ -151,7 +151,7 @@ counted-one : (v : WorkerView) (page old other : ℕ) → page < length v.slice
 counted-one v page old other in_slice =
     counted_by (λ w. additions_of w.post other + get_or w.slice other 0 ≡ (additions_of v.post other + get_or v.slice other 0) + cond (eqb page other) 1 0)
     v page old (omega (arith, one_more-at v.slice page other in_slice))
-    (let push : additions_of (adding v page old 1).post other ≡ additions_of v.post other + cond (eqb page other) 1 0 = added_to-push v.post.additions (phase_of v.post.state) page old 1 other in
+    (let push : additions_of (with_addition v page old 1).post other ≡ additions_of v.post other + cond (eqb page other) 1 0 = added_to-push v.post.additions (phase_of v.post.state) page old 1 other in
     omega arith)
 
 -- and in its phase

@@ -29,8 +29,8 @@ abbrev pub noted : WorkerView → List Addition → List Added
 noted v adds = if v.notes then map (noted_at (length v.ran)) adds else []
 
 -- n is added to a page's count on the board, which was this before, and noted
-abbrev pub adding : WorkerView → ℕ → ℕ → ℕ → WorkerView
-adding v page old n = record v {
+abbrev pub with_addition : WorkerView → ℕ → ℕ → ℕ → WorkerView
+with_addition v page old n = record v {
   post = added v.post page old n;
   adds = v.adds ++ noted v (record {
     phase = phase_at v;
@@ -45,7 +45,7 @@ abbrev pub counted : WorkerView → ℕ → ℕ → WorkerView
 counted v page old =
     if slices v.post page
     then record v { slice = slice_set v.slice page (slice_index v.slice page + 1) }
-    else adding v page old 1
+    else with_addition v page old 1
 
 -- a user's accepted like of a page is counted, and is the user's last like
 abbrev pub liked : WorkerView → ℕ → ℕ → ℕ → WorkerView

@@ -1,8 +1,8 @@
 -- What a run serves.
-use Rattle.std.specs.Prelude.{ℕ, zero, suc, Bool, false, List, length, map, slice_get, slice_index_or, Option, None, option_and_then}
-use Rattle.like_requests.specs.Pages.{Page}
+use Rattle.std.specs.Prelude.{ℕ, zero, suc, Bool, List, length, slice_get, Option, None, option_and_then}
+use Rattle.like_requests.specs.Pages.{Page, marks_of}
 use Rattle.like_requests.specs.declared.request.Request.{Request}
-use Rattle.like_core.specs.Phase.{split}
+use Rattle.like_core.specs.Phase.{is_marked, split}
 use Rattle.like_roles.specs.declared.log.Ran.{Ran}
 
 -- so many users, these pages, the mask of each phase's hot pages, and the plan of each submitter: its requests in their
@@ -33,9 +33,9 @@ request_of service e = request_at service e.submitter e.number
 
 -- whether each page is marked as split
 abbrev pub marks : Service → List Bool
-marks service = map (λ p. p.split) service.pages
+marks service = marks_of service.pages
 
 -- split pages: whether a page is split in a phase, which no page is in an even one
 abbrev pub is_split_in : Service → ℕ → ℕ → Bool
 is_split_in service phase page =
-    split (λ p. slice_index_or (marks service) p false) service.hot phase page
+    split (is_marked (marks service)) service.hot phase page

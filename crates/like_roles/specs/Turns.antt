@@ -17,7 +17,7 @@ use Rattle.like_roles.specs.declared.turn.Turn.{Turn}
 use Rattle.like_roles.specs.declared.turn.Turn.TheVariants as turn
 use Rattle.like_requests.specs.Setup.{IsThere}
 use Rattle.like_roles.specs.WorkerView.{WorkerView, HasEnded, IsNextPlace, phase_at, submitter_at, has_to_wait}
-use Rattle.like_roles.specs.Serve.{Runs, adding, noted}
+use Rattle.like_roles.specs.Serve.{Runs, with_addition, noted}
 
 -- whether who goes from one phase to another enters a split phase
 abbrev pub enters_split : ℕ → ℕ → Bool
@@ -80,7 +80,7 @@ IsMerged v after =
 -- a page's slice is, where the page's count was this
 abbrev pub merged_page : WorkerView → ℕ → ℕ → WorkerView
 merged_page v page old =
-    let w = adding v page old (slice_index v.slice page) in
+    let w = with_addition v page old (slice_index v.slice page) in
     record w { slice = slice_set v.slice page 0 }
 
 -- it cannot take a request in a split phase

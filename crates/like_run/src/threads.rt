@@ -50,7 +50,8 @@ pub fn run<R: Threads + Wait + Sync, G: Gate>(
     ensures within { OnOk result (IsWithinLimits setup.now (lists_of plans.items)) }
     ensures fault { IfErr result (IsRunFault setup.now (lists_of plans.items)) }
 {
-    run_noting(rt, alloc, setup, plans, gate, true)
+    let starts = starts_of(setup, &plans);
+    run_limited(rt, alloc, setup, plans, gate, starts)
 }
 
 /// Makes a run, as `run`, whose workers note their additions or do not: then it takes no room for them, and its report

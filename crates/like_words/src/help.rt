@@ -11,7 +11,7 @@ file. Phases, and what looks show, may differ from run to run.";
 
 pub const REPLAY: &str = "\
 Runs the requests on one thread, in rounds, and gives the same report
-every time: for tests, for comparing, and beside other busy processes.";
+every time: for tests and for comparing.";
 
 pub const WORKERS: &str = "\
 Workers, 1 to 16, to which the files are dealt in turn:

@@ -1,5 +1,5 @@
-ghost use Rattle.std.specs.Prelude.{◌≡◌, ◌<◌, false, slice_index_or, length};
-ghost use Rattle.like_core.specs.Phase.{split};
+ghost use Rattle.std.specs.Prelude.{◌≡◌, ◌<◌, length};
+ghost use Rattle.like_core.specs.Phase.{is_marked, split};
 
 mod adding;
 mod giving;
@@ -49,7 +49,7 @@ impl Desk {
     pub fn is_sliced(&self, page: u32) -> bool
         requires { page < length self.now.marks.items }
         ensures { result
-            ≡ split (λ p. slice_index_or self.now.marks.items p false) (λ _. self.now.hot) self.now.phase page }
+            ≡ split (is_marked self.now.marks.items) (λ _. self.now.hot) self.now.phase page }
     {
         self.phase % 2 == 1 && (self.marks[page as usize] || is_hot(self.hot, page))
     }

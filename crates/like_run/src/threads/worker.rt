@@ -14,6 +14,9 @@ use std::snapshot::Snapshot;
 use std::sync::{OnceLock, OnceToken, Wait};
 use std::thread::Promise;
 
+// How often a worker looks into each of its inboxes, and finds nothing, before it waits.
+const LOOKS: usize = 32;
+
 /// What a worker's thread ends with.
 #[derive(Drop)]
 pub enum Served<'a> {
@@ -59,7 +62,7 @@ pub fn serve<'a, R: Wait, G: Gate>(
 }
 
 // Makes turns until the worker is gone. It waits where it has nothing to do in its phase, and where it found nothing in
-// as many turns as it has inboxes.
+// `LOOKS` turns for each of its inboxes.
 fn make_turns<R: Wait, G: Gate, P: Post, I: TakeWith<R>>(
     rt: &R,
     gate: &G,
@@ -70,19 +73,19 @@ fn make_turns<R: Wait, G: Gate, P: Post, I: TakeWith<R>>(
     ensures goes_on { ServerGoesOn server.old server.new }
     ensures gone { server.new.worker.post.state ≡ Gone }
 {
-    let round = server.inbox_count();
-    let mut tries = round;
+    let most = server.inbox_count().saturating_mul(LOOKS);
+    let mut tries = most;
     for _ in rt.forever() {
         match server.turn(rt, gate) {
             Turn::Retired => return,
             Turn::Nothing if tries > 1 => tries -= 1,
             Turn::Waiting | Turn::Nothing => {
                 parkers.wait(rt, worker);
-                tries = round;
+                tries = most;
             }
             Turn::Idle => parkers.idle(rt, worker),
             Turn::Acknowledged | Turn::Reported => parkers.answer(),
-            _ => tries = round,
+            _ => tries = most,
         }
     }
     unreachable!()

@@ -58,9 +58,9 @@ fn all_sections_in_order(rt: HostRuntime) -> Result<(), Fail> {
     let pages = one_page(&rt, rt.alloc(), "name,count,split\na,0,no\n");
     for count in [0, 1, 16_384, 40_000] {
         let report = report_of_likes(rt.alloc(), count)?;
-        let mut out = Vec::new(rt.alloc());
-        write_text_at_once(&rt, rt.alloc(), true, &report, &pages, &mut out)?;
         let text = text_of_likes(rt.alloc(), count)?;
+        let mut out = Vec::with_capacity(rt.alloc(), text.len())?;
+        write_text_at_once(&rt, rt.alloc(), true, &report, &pages, &mut out)?;
         assert!(rt; out.as_slice() == text.as_bytes(), "of {count} likes");
     }
     Ok(())
@@ -70,10 +70,10 @@ fn all_sections_in_order(rt: HostRuntime) -> Result<(), Fail> {
 fn no_places_unasked(rt: HostRuntime) -> Result<(), Fail> {
     let pages = one_page(&rt, rt.alloc(), "name,count,split\na,0,no\n");
     let report = report_of_likes(rt.alloc(), 1)?;
-    let mut out = Vec::new(rt.alloc());
-    write_text_at_once(&rt, rt.alloc(), false, &report, &pages, &mut out)?;
     let rows = "reply,0,1,0,liked,,\npage,0,,,,a,7\nuser,0,,,,a,\n";
     let text = format!(in rt.alloc(); "{HEADER}{rows}")?;
+    let mut out = Vec::with_capacity(rt.alloc(), text.len())?;
+    write_text_at_once(&rt, rt.alloc(), false, &report, &pages, &mut out)?;
     assert!(rt; out.as_slice() == text.as_bytes());
     Ok(())
 }

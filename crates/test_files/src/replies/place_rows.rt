@@ -56,8 +56,10 @@ fn appends_places(rt: HostRuntime) -> Result<(), Fail> {
     let pages = one_page(&rt, rt.alloc(), "name,count,split\na,0,no\n");
     let places = vec![in rt.alloc(); place(0, 0, 1)]?;
     let report = report_on(rt.alloc(), places)?;
-    let mut out = Vec::from_slice(rt.alloc(), b"before\n")?;
+    let text = b"before\nplace,0,0,1,0,a,1\n";
+    let mut out = Vec::with_capacity(rt.alloc(), text.len())?;
+    out.extend_from_slice(b"before\n")?;
     write_places(rt.alloc(), &report, &pages, &mut out)?;
-    assert_eq!(rt; out.as_slice(), b"before\nplace,0,0,1,0,a,1\n".as_slice());
+    assert_eq!(rt; out.as_slice(), text.as_slice());
     Ok(())
 }

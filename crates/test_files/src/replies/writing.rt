@@ -207,11 +207,12 @@ fn hot_pages(rt: HostRuntime) -> Result<(), Fail> {
 #[test]
 fn appends(rt: HostRuntime) -> Result<(), Fail> {
     let pages = one_page(&rt, rt.alloc(), "name,count,split\na,10,no\n");
-    let mut out = Vec::from_slice(rt.alloc(), b"before\n")?;
-    let report = like_report(rt.alloc(), 0, 0, Vec::new(rt.alloc()))?;
-    write_report(rt.alloc(), &report, &pages, &mut out)?;
     let rows = "reply,0,1,0,liked,,\npage,0,,,,a,1\nuser,0,,,,a,\n";
     let text = format!(in rt.alloc(); "before\n{HEADER}{rows}")?;
+    let mut out = Vec::with_capacity(rt.alloc(), text.len())?;
+    out.extend_from_slice(b"before\n")?;
+    let report = like_report(rt.alloc(), 0, 0, Vec::new(rt.alloc()))?;
+    write_report(rt.alloc(), &report, &pages, &mut out)?;
     assert_eq!(rt; out.as_slice(), text.as_bytes());
     Ok(())
 }

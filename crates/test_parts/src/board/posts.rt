@@ -3,8 +3,8 @@ ghost use Rattle.std.specs.Prelude.{◌≡◌, ◌+◌, ◌<◌, ◌≤◌, true
 ghost use Rattle.std.specs.Bool.{OnTrue, OnFalse};
 ghost use Rattle.like_core.specs.declared.worker_state.WorkerState.TheVariants.{Runs, Answered, Gone};
 ghost use Rattle.like_core.specs.Limits.{max_likes};
-ghost use Rattle.like_core.specs.Phase.{last_phase, IsJoined, IsSplit};
-ghost use Rattle.like_core.specs.Post.{IsFresh, is_marked, pages_of};
+ghost use Rattle.like_core.specs.Phase.{IsJoined, IsSplit, is_marked, last_phase};
+ghost use Rattle.like_core.specs.Post.{IsFresh, pages_of};
 ghost use Rattle.like_board.specs.Seats.{board_id, coord_board};
 ghost use Rattle.test_parts.specs.Walk.{KeepsBoard};
 
@@ -45,7 +45,7 @@ fn enter<P: Post>(post: &mut P, phase: u32) -> bool
 fn merge<P: Post>(post: &mut P, likes: u64) -> Option<u64>
     requires runs { (P.view post.old).state ≡ Runs 1 }
     requires page { 0 < pages_of (P.view post.old) }
-    requires split { is_marked (P.view post.old) 0 ≡ true }
+    requires split { is_marked (P.view post.old).marks 0 ≡ true }
     requires added_nothing { (P.view post.old).additions ≡ [] }
     requires some { 1 ≤ likes }
     requires few { likes ≤ max_likes }

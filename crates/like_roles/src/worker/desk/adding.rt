@@ -1,7 +1,7 @@
 ghost use Rattle.std.specs.Prelude.{◌≡◌};
 ghost use Rattle.like_core.specs.Post.{MayAdd};
 ghost use Rattle.like_roles.specs.Desk.{view_of, HasRoomToAdd, IsSound};
-ghost use Rattle.like_roles.specs.Serve.{adding};
+ghost use Rattle.like_roles.specs.Serve.{with_addition};
 
 use crate::log::Added;
 use crate::worker::desk::Desk;
@@ -15,7 +15,7 @@ impl Desk {
         requires room { HasRoomToAdd (P.view post.old) self.old n }
         ensures sound { IsSound (P.view post.new) self.new }
         ensures adding { view_of (P.view post.new) self.new
-            ≡ adding (view_of (P.view post.old) self.old) page result n }
+            ≡ with_addition (view_of (P.view post.old) self.old) page result n }
         ensures rest { self.new ≡ record self.old { adds = self.new.adds } }
     {
         let old = post.add(page, n);

@@ -1,5 +1,5 @@
-ghost use Rattle.std.specs.Prelude.{◌≡◌, ◌<◌, true, false, IsTrue, slice_index_or, length};
-ghost use Rattle.like_core.specs.Phase.{split};
+ghost use Rattle.std.specs.Prelude.{◌≡◌, ◌<◌, true, false, IsTrue, length};
+ghost use Rattle.like_core.specs.Phase.{is_marked, split};
 ghost use Rattle.like_core.specs.WorkerState.{IsRunning};
 ghost use Rattle.like_requests.specs.Setup.{IsThere};
 ghost use Rattle.like_tables.specs.Share.{owns};
@@ -23,7 +23,7 @@ impl Desk {
         requires there { IsThere (length self.now.marks.items) held.now.ask.request.page }
         ensures waits { let share = self.now.last.share in
             result ≡ is_look_at_sliced share.users share.submitters
-            (λ page. split (λ p. slice_index_or self.now.marks.items p false) (λ _. self.now.hot) self.now.phase page)
+            (λ page. split (is_marked self.now.marks.items) (λ _. self.now.hot) self.now.phase page)
             held.now.submitter held.now.ask.request }
         ensures accepted { result ≡ true → verdict ≡ Verdict.Accepted }
     {
