@@ -1,6 +1,7 @@
-/* What bench/core loads into `likes`: when its threads ran. Threads that run side by side are a group; when the program
- * ends, the seconds from the start of the first thread of the last group to the end of its last one are written to the
- * file that STAMPS names. One thread starts and joins all, so nothing here is shared. */
+/* What bench/core loads into `likes`: how long the threads of its run took. Threads that the first thread starts and that
+ * run side by side are a group. One group reads the files, one is the run's workers and submitters, others make the
+ * report; with four submitters the run's has the most threads. When the program ends, the seconds from the start of the
+ * first thread of that group to the end of its last one are written to the file that STAMPS names. */
 #define _GNU_SOURCE
 #include <dlfcn.h>
 #include <pthread.h>
@@ -8,8 +9,9 @@
 #include <stdlib.h>
 #include <time.h>
 
-static double began, ended;
-static int running;
+static pthread_t first;
+static double began, took;
+static int running, started, most;
 
 static double now(void) {
     struct timespec time;
@@ -17,18 +19,35 @@ static double now(void) {
     return time.tv_sec + time.tv_nsec * 1e-9;
 }
 
+__attribute__((constructor)) static void note_the_first_thread(void) {
+    first = pthread_self();
+}
+
+static int is_first(void) {
+    return pthread_equal(pthread_self(), first);
+}
+
 int pthread_create(pthread_t *thread, const pthread_attr_t *attributes, void *(*start)(void *), void *with) {
     int (*create)(pthread_t *, const pthread_attr_t *, void *(*)(void *), void *) = dlsym(RTLD_NEXT, "pthread_create");
-    if (running == 0) began = now();
+    if (is_first() && running == 0) {
+        began = now();
+        started = 0;
+    }
     int failed = create(thread, attributes, start, with);
-    if (!failed) running++;
+    if (is_first() && !failed) {
+        running++;
+        started++;
+    }
     return failed;
 }
 
 int pthread_join(pthread_t thread, void **result) {
     int (*join)(pthread_t, void **) = dlsym(RTLD_NEXT, "pthread_join");
     int failed = join(thread, result);
-    if (--running == 0) ended = now();
+    if (is_first() && --running == 0 && started > most) {
+        most = started;
+        took = now() - began;
+    }
     return failed;
 }
 
@@ -36,7 +55,7 @@ void _exit(int status) {
     void (*leave)(int) __attribute__((noreturn)) = dlsym(RTLD_NEXT, "_exit");
     FILE *file = fopen(getenv("STAMPS"), "w");
     if (file) {
-        fprintf(file, "%.6f\n", ended - began);
+        fprintf(file, "%.6f\n", took);
         fclose(file);
     }
     leave(status);

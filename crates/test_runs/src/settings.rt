@@ -34,9 +34,9 @@ fn watched(
     gate
 }
 
-// 16 submitters look until phase 400, and let others run after each look, as the coordinator does after each turn. So on
-// any machine one of them at least looks as often as it makes turns, or nearly: in phases of 1,000 turns each of them has
-// given up long before, loaded or not, and in phases of none no one has, save in a run now and then.
+// 16 submitters look until phase 400, and let others run after each look; the coordinator rests after 32 turns in a
+// row. So on any machine one of them at least looks as often as it makes turns, or nearly: in phases of 1,000 turns each
+// of them has given up long before, loaded or not, and in phases of none no one has, save in a run now and then.
 #[test]
 fn comes_soon_to_phases_of_no_turns(rt: HostRuntime) {
     for _ in 0..10 {

@@ -312,8 +312,8 @@ fn split_and_stash(rt: HostRuntime) {
     );
 }
 
-// Worker 0 has not looked at phase 2 when its end is announced, and goes through it all the same.
-/// The script of `late-worker`.
+/// The script of `late-worker`: worker 0 has not looked at phase 2 when its end is announced, and goes through it all
+/// the same.
 pub const LATE_WORKER: &str = "turn,index\nopen,1\nopen,1\ncoordinator,0\nworker,0\nworker,1\n\
     coordinator,0\nworker,1\nworker,1\ncoordinator,0\nworker,0\nworker,1\ncoordinator,0\n\
     coordinator,0\nworker,1\nworker,1\nworker,1\n";
