@@ -5,7 +5,7 @@ use Rattle.like_tables.specs.Share.{owns, share_of, worker_of}
 use Rattle.like_roles.specs.declared.log.Ran.{Ran}
 use Rattle.like_replies.specs.declared.collect_fault.CollectFault.{CollectFault}
 use Rattle.like_replies.specs.declared.collect_fault.CollectFault.TheVariants.{Stranger, Double, Missing, Memory}
-use Rattle.like_replies.specs.Collected.{IsCollectFault, IsFirstBad}
+use Rattle.like_replies.specs.Collected.{IsCollectFault, IsFirstBadEntry}
 use Rattle.like_replies.specs.Entries.{entries_of, is_of}
 use Rattle.like_requests.specs.Verdict.{home}
 use Rattle.like_crew.specs.Gathered.{RunsOnce}
@@ -26,7 +26,7 @@ some_left : (xs : List Ran) → xs ≢ [] → 1 ≤ length xs
 some_left [] some = absurd (some refl)
 some_left (x ∷ xs) some = omega arith
 
-counted : (sizes : List ℕ) (entries : List Ran) (submitter number : ℕ) (Bad : List Ran → Type 0) → (f : IsFirstBad sizes entries submitter number Bad)
+counted : (sizes : List ℕ) (entries : List Ran) (submitter number : ℕ) (Bad : List Ran → Type 0) → (f : IsFirstBadEntry sizes entries submitter number Bad)
     → length (entries_of submitter number entries) ≡ length (entries_of submitter number f.before) + suc (length (entries_of submitter number f.after))
 counted sizes entries submitter number Bad f =
     ap (λ xs. length (entries_of submitter number xs)) f.parts
