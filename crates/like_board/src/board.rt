@@ -3,7 +3,7 @@ ghost use Rattle.like_core.specs.Limits.{max_workers, max_pages, max_count};
 
 use crate::coord_seat::CoordSeat;
 use crate::key::Key;
-use crate::making::make_seats;
+use crate::new_seats::make_seats;
 use crate::rule::BoardRule;
 use crate::worker_seat::WorkerSeat;
 use atomic_table::Table;

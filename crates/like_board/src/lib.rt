@@ -4,10 +4,10 @@
 
 mod board;
 mod board_post;
-mod closing;
+mod closed_board;
 mod coord_seat;
 mod key;
-mod making;
+mod new_seats;
 mod plays;
 mod rule;
 mod worker_seat;

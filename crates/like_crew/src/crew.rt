@@ -8,7 +8,7 @@ ghost use Rattle.like_crew.specs.Server.{AreUntouched, plans_of};
 ghost use Rattle.like_crew.specs.Site.{AreSeats, IsSite};
 
 use crate::crew::lists::list_inboxes;
-use crate::crew::making::servers_of;
+use crate::crew::new_servers::servers_of;
 use crate::crew::servers::{finish_all, open_all, open_one, turn_of, turns};
 use crate::ended::Ended;
 use crate::site::{Seats, Site};
@@ -21,7 +21,7 @@ use std::alloc::{AllocError, Global};
 mod hands;
 mod lead;
 mod lists;
-mod making;
+mod new_servers;
 mod server;
 mod servers;
 

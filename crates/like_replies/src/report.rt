@@ -5,8 +5,8 @@ mod rows;
 mod section;
 mod sections;
 mod sheet;
+mod sheets;
 pub(crate) mod text;
-mod writing;
 
 use crate::place::Place;
 use crate::replies::Replies;

@@ -6,12 +6,12 @@ ghost use Rattle.like_crew.specs.Tiling.{HasNoPlaces, HasRightPlaces};
 ghost use Rattle.like_run.specs.Lines.{AreNewEnds};
 ghost use Rattle.like_run.specs.Threads.{HasEndedOn, IsFaultUnderWay, IsRunFault};
 
-use crate::threads::end::{coordinate, join_all};
+use crate::threads::coordinator::{coordinate, join_all};
 use crate::threads::lines::{Lines, ends_of};
 use crate::threads::parkers::Parkers;
 use crate::threads::signal::tell;
-use crate::threads::start::start_workers;
 use crate::threads::submitters::start_submitters;
+use crate::threads::workers::start_workers;
 use like_crew::{Crew, Ended, Site, report_of};
 use like_queue::{SendEnd, TakeEnd};
 use like_replies::Report;
@@ -23,15 +23,15 @@ use std::sync::{OnceLock, Wait};
 use std::thread;
 use std::thread::{Scope, Threads};
 
-mod end;
+mod coordinator;
 mod fault;
 mod lines;
 mod parkers;
 mod signal;
-mod start;
 mod submitter;
 mod submitters;
 mod worker;
+mod workers;
 
 pub use fault::RunFault;
 

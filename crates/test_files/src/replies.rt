@@ -4,11 +4,11 @@ use like_roles::{Added, Ran, WorkerLog};
 use like_tables::Users;
 use std::alloc::{AllocError, Global};
 
-mod at_once;
-mod collecting;
+mod collection;
 mod place_rows;
-mod placing;
-mod writing;
+mod places;
+mod texts;
+mod texts_at_once;
 
 // The log of a worker that ran these entries and made these additions.
 fn log_of(alloc: Global, ran: &[Ran], adds: &[Added]) -> Result<WorkerLog, AllocError>

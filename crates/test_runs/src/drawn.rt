@@ -1,7 +1,7 @@
 //! Drawn replays, compared with runs that are played by the tables of turns.
 ghost use Rattle.std.specs.Prelude.{◌+◌, ◌<◌, ◌≤◌, ◌^◌, IfOk};
 
-use super::by_the_tables::play;
+use super::players::play;
 use like_requests::{Op, PageRef, Request, Setup, read_pages};
 use like_run::{MAX_ENTRIES, Turned, replay};
 use std::alloc::{AllocError, Global};

@@ -3,8 +3,6 @@
 #![tactic(auto)]
 
 #[cfg(test)]
-mod by_the_tables;
-#[cfg(test)]
 mod cases;
 #[cfg(test)]
 mod drawn;
@@ -12,6 +10,8 @@ mod drawn;
 mod mixed;
 #[cfg(test)]
 mod places;
+#[cfg(test)]
+mod players;
 #[cfg(test)]
 mod replays;
 #[cfg(test)]

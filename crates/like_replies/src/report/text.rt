@@ -8,7 +8,7 @@ ghost use Rattle.like_replies.specs.Rows.{IsWritable, report_text, rows_text};
 use crate::report::Report;
 use crate::report::names::Names;
 use crate::report::sections::{place_sections, report_sections};
-use crate::report::writing::{write_rows, write_rows_at_once};
+use crate::report::sheets::{write_rows, write_rows_at_once};
 use crate::write_fault::WriteFault;
 use like_requests::Pages;
 use std::alloc::Global;

@@ -1,12 +1,12 @@
 ghost use Rattle.std.specs.Prelude.{◌≡◌, ◌<◌, length};
 ghost use Rattle.like_core.specs.Phase.{is_marked, split};
 
-mod adding;
-mod giving;
-mod making;
-mod merging;
-mod serving;
-mod turning;
+mod addition;
+mod merge;
+mod new_desk;
+mod request;
+mod taken;
+mod turns;
 
 use crate::log::{Added, Ran, Took};
 use like_core::is_hot;

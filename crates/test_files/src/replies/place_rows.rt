@@ -1,8 +1,8 @@
 //! The rows of places, on a writer in memory and on one that fails.
 ghost use Rattle.std.specs.Prelude.{◌≡◌, IfOk, length};
 
-use super::placing::place;
-use super::writing::{assert_writes, one_page};
+use super::places::place;
+use super::texts::{assert_writes, one_page};
 use like_replies::{Place, Replies, Report, write_places};
 use std::alloc::{AllocError, Global};
 use std::test::Fail;

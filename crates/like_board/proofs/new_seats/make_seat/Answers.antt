@@ -1,0 +1,16 @@
+use Rattle.std.proofs.Common.{ℕ, ◌<◌, subst}
+use Rattle.like_board.specs.Known.{coord_view_of}
+use Rattle.like_board.proofs.Allowed.{making, fresh_seat}
+use Rattle.like_board.proofs.Meanings.{is_fresh}
+use Rattle.like_board.proofs.new_seats.make_seat.Goals as goal
+
+pub split_seat-seat-requires : goal.split_seat-seat-requires
+split_seat-seat-requires c =
+    let known = coord_view_of c.args.coord.now.me.0 in (
+      c.requires.here,
+      c.args.board.now.some_word,
+      making c.args.board.now.table.shared.key _ _ (λ m. (c.requires.coord m).0) (subst (λ (n : ℕ). n < known.opening.workers) c.requires.next c.requires.room),
+    )
+
+pub returns-clause-fresh : goal.returns-clause-fresh
+returns-clause-fresh c = is_fresh _ _ (fresh_seat _ _ _ c.split_seat-seat.ensures.4)

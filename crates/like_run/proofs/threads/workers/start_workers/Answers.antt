@@ -1,0 +1,38 @@
+use Rattle.std.proofs.Common.{◌≡◌, ◌∙◌, ◌++◌, ◌∷◌, [], ℕ, List, length-append, map, subst, sym, ap, arith}
+use Rattle.std.specs.List.{All}
+use Rattle.std.proofs.lemmas.List.{map_push}
+use Rattle.std.proofs.lemmas.List.Elements.{All-append}
+use Rattle.std.specs.declared.thread.PromisedHandle.{PromisedHandle}
+use Rattle.like_run.specs.declared.threads.worker.Owes.{Owes}
+use Rattle.like_run.specs.declared.threads.worker.Served.{Served}
+use Rattle.like_crew.specs.Server.{ServerView}
+use Rattle.like_crew.proofs.Leaving.{all-one}
+use Rattle.like_run.proofs.threads.workers.start_workers.Goals as goal
+
+abbrev first_of : PromisedHandle Served Owes → ServerView
+first_of thread = thread.promise.server.value
+
+abbrev start_of : PromisedHandle Served Owes → ℕ
+start_of thread = thread.promise.start.now.id
+
+-- the servers with which the threads began, of which there is one more
+servers-more : (old new : List (PromisedHandle Served Owes)) (thread : PromisedHandle Served Owes) (servers : List ServerView) (server : ServerView) → new ≡ old ++ thread ∷ [] → map first_of old ≡ servers
+    → first_of thread ≡ server → map first_of new ≡ servers ++ server ∷ []
+servers-more old new thread servers server pushed before first =
+    ap (map first_of) pushed ∙ map_push first_of old thread ∙ ap (λ xs. xs ++ first_of thread ∷ []) before ∙ ap (λ s. servers ++ s ∷ []) first
+
+pub loop-server-preserved : goal.loop-server-preserved
+loop-server-preserved g c =
+    let l = c.loop-server in
+    let thread : PromisedHandle Served Owes = c.in-Ok.thread in
+    let pushed : c.push_reserved.new.self.items ≡ l.threads.items ++ thread ∷ [] = c.push_reserved.ensures.items in
+    let whose : thread.promise ≡ record { server = c.of.result; start = c.args.start } = c.in-Ok.ensures.ok in
+    let told : start_of thread ≡ c.args.start.now.id = ap (λ (p : Owes). p.start.now.id) whose in
+    let first : first_of thread ≡ c.in-Some.server = ap (λ (p : Owes). p.server.value) whose ∙ c.of.ensures in
+    let Told : PromisedHandle Served Owes → Type 0 = λ t. start_of t ≡ c.args.start.now.id in
+    record {
+      few = grind (arith, length-append, pushed, l.invariant.few);
+      room = omega (arith, c.push_reserved.ensures.capacity, l.invariant.room);
+      told = subst (All Told) (sym pushed) (All-append Told l.threads.items (thread ∷ []) l.invariant.told (all-one Told thread told));
+      servers = servers-more l.threads.items c.push_reserved.new.self.items thread l.yielded c.in-Some.server pushed l.invariant.servers first;
+    }
