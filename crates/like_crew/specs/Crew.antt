@@ -1,12 +1,12 @@
 -- The crew of a run: the coordinator at its board, and the servers of the workers.
-use Rattle.std.specs.Prelude.{◌≡◌, ◌%◌, ◌<◌, ℕ, List, Some, length, slice_get, All}
+use Rattle.std.specs.Prelude.{◌≡◌, ◌<◌, ℕ, List, Some, length, slice_get, All}
 use Rattle.std.specs.List.{AllZip}
 use Rattle.like_requests.specs.declared.request.Request.{Request}
 use Rattle.like_requests.specs.declared.setup.Setup.{Setup}
 use Rattle.like_core.specs.declared.worker_state.WorkerState.TheVariants.{Gone}
 use Rattle.like_board.specs.Seats.{board_id, board_numbers}
 use Rattle.like_roles.specs.CoordTurns.{CoordinatorView}
-use Rattle.like_tables.specs.Share.{place_of}
+use Rattle.like_tables.specs.Share.{place_of, worker_of}
 use Rattle.like_crew.specs.declared.crew.Crew.{Crew}
 use Rattle.like_crew.specs.declared.site.Site.{Site}
 use Rattle.like_crew.specs.Asked.{service_of}
@@ -39,7 +39,7 @@ pub record IsCrew {I : Type 0} (setup : Setup) (plans : List (List Request)) (si
 -- among these servers a submitter has an inbox: that of its worker has it
 abbrev pub HasInbox : List ServerView → ℕ → Type 0
 HasInbox servers submitter = (0 < length servers)
-    × ((s : ServerView) → slice_get servers (submitter % length servers) ≡ Some s
+    × ((s : ServerView) → slice_get servers (worker_of (length servers) submitter) ≡ Some s
     → place_of s.worker.last.share.workers submitter < length s.inboxes)
 
 -- the workers of these servers are gone
