@@ -3,9 +3,8 @@ use Rattle.like_core.specs.declared.worker_state.WorkerState.TheVariants.{Runs}
 use Rattle.like_core.specs.declared.opening.Opening.{Opening}
 use Rattle.like_core.specs.Limits.{total_bound}
 use Rattle.like_core.specs.Functions.{times}
-use Rattle.like_core.specs.Phase.{is_marked, split}
 use Rattle.like_core.specs.Numbers.{total}
-use Rattle.like_core.specs.State.{CoreState, numbers}
+use Rattle.like_core.specs.State.{CoreState, is_split_now, numbers}
 use Rattle.like_core.specs.Reachable.{Reachable}
 
 -- each worker has unmerged likes of these pages more
@@ -17,7 +16,7 @@ given s more = record s { unmerged = λ i. s.unmerged i ++ more i }
 pub record MayLike (z : Opening) (s : CoreState) (more : ℕ → List ℕ) : Type 0 where
   pub runs : (i page : ℕ) → 0 < times page (more i) → s.state i ≡ Runs s.phase
   pub there : (i page : ℕ) → 0 < times page (more i) → page < length z.counts
-  pub splits : (i page : ℕ) → 0 < times page (more i) → split (is_marked z.marks) s.hot s.phase page ≡ true
+  pub splits : (i page : ℕ) → 0 < times page (more i) → is_split_now z s page ≡ true
   pub totals : (page : ℕ) → total (numbers z (given s more)) page < total_bound
 
 -- a state that can be reached can also be reached with such likes

@@ -52,6 +52,10 @@ start z = record {
 abbrev pub without : ℕ → List ℕ → List ℕ
 without page likes = filter (λ other. not (other == page)) likes
 
+-- whether the page is split in the present phase
+abbrev pub is_split_now : Opening → CoreState → ℕ → Bool
+is_split_now z s page = split (is_marked z.marks) s.hot s.phase page
+
 -- the state after the event
 abbrev pub after : Opening → CoreState → Event → CoreState
 after z s (Look i) = record s { state = update s.state i (looked s.phase (s.state i)) }
@@ -59,7 +63,7 @@ after z s (Acknowledge i) = record s { state = update s.state i (Answered s.phas
 after z s (Report i) = record s { state = update s.state i (Answered s.phase) }
 after z s (Retire i) = record s { state = update s.state i Gone }
 after z s (Like i page) =
-    (if split (is_marked z.marks) s.hot s.phase page then
+    (if is_split_now z s page then
     record s { unmerged = update s.unmerged i (s.unmerged i ++ page ∷ []) }
     else
     record s { applied = update s.applied page (s.applied page ++ label_now s i ∷ []) })

@@ -8,7 +8,7 @@ use Rattle.like_tables.specs.Limits.{max_likes}
 use Rattle.like_core.specs.declared.worker_state.WorkerState.{WorkerState}
 use Rattle.like_core.specs.declared.worker_state.WorkerState.TheVariants.{Runs, Answered, Gone}
 use Rattle.like_core.specs.Additions.{all_added}
-use Rattle.like_core.specs.Phase.{IsJoined, IsSplit}
+use Rattle.like_core.specs.Phase.{IsJoined, IsSplit, is_marked, split}
 use Rattle.like_core.specs.PhaseMasks.{mask_of, HasMask}
 use Rattle.like_core.specs.WorkerState.{IsRunning, RunsSplit, phase_of}
 use Rattle.like_core.specs.Post.{PostView}
@@ -40,6 +40,10 @@ view_of post d = record {
   notes = d.notes;
   adds = d.adds.items;
 }
+
+-- whether the page is split in the phase that the worker runs, as its desk has it
+abbrev pub is_split_at : Desk → ℕ → Bool
+is_split_at d page = split (is_marked d.marks.items) (λ _. d.hot) d.phase page
 
 -- the phase and whether the worker is gone, as its state has them
 abbrev pub IsStanding : WorkerState → ℕ → Bool → Type 0

@@ -1,5 +1,5 @@
 ghost use Rattle.std.specs.Prelude.{◌≡◌, ◌<◌, length};
-ghost use Rattle.like_core.specs.Phase.{is_marked, split};
+ghost use Rattle.like_roles.specs.Desk.{is_split_at};
 
 mod addition;
 mod merge;
@@ -48,8 +48,7 @@ impl Desk {
     // Whether the page is split in the phase that the worker runs.
     pub fn is_sliced(&self, page: u32) -> bool
         requires { page < length self.now.marks.items }
-        ensures { result
-            ≡ split (is_marked self.now.marks.items) (λ _. self.now.hot) self.now.phase page }
+        ensures { result ≡ is_split_at self.now page }
     {
         self.phase % 2 == 1 && (self.marks[page as usize] || is_hot(self.hot, page))
     }

@@ -1,9 +1,8 @@
 ghost use Rattle.std.specs.Prelude.{◌≡◌, ◌<◌, true, false, IsTrue, length};
-ghost use Rattle.like_core.specs.Phase.{is_marked, split};
 ghost use Rattle.like_core.specs.WorkerState.{IsRunning};
 ghost use Rattle.like_requests.specs.Setup.{IsThere};
 ghost use Rattle.like_tables.specs.Share.{owns};
-ghost use Rattle.like_roles.specs.Desk.{view_of, CanServe, HasRoomForOne, HasRoomToNote, IsJudged, IsSound};
+ghost use Rattle.like_roles.specs.Desk.{view_of, is_split_at, CanServe, HasRoomForOne, HasRoomToNote, IsJudged, IsSound};
 ghost use Rattle.like_roles.specs.Order.{is_look_at_sliced};
 ghost use Rattle.like_roles.specs.Serve.{Counts, Likes, Runs, GivesReply};
 
@@ -22,8 +21,7 @@ impl Desk {
         requires judged { IsJudged self.now.last.share held.now verdict }
         requires there { IsThere (length self.now.marks.items) held.now.ask.request.page }
         ensures waits { let share = self.now.last.share in
-            result ≡ is_look_at_sliced share.users share.submitters
-            (λ page. split (is_marked self.now.marks.items) (λ _. self.now.hot) self.now.phase page)
+            result ≡ is_look_at_sliced share.users share.submitters (is_split_at self.now)
             held.now.submitter held.now.ask.request }
         ensures accepted { result ≡ true → verdict ≡ Verdict.Accepted }
     {
