@@ -6,9 +6,12 @@ ghost use Rattle.like_core.specs.Core.{numbers_of};
 
 use super::{Core, NotNow};
 use crate::event::Event;
-use crate::hot::is_hot;
+use crate::hot::{HOT_PAGES, is_hot};
 use crate::phase_word::LAST_PHASE;
 use crate::worker_state::WorkerState;
+
+/// How many bits a mask has: one for each page that can be hot.
+const MASK_BITS: usize = HOT_PAGES as usize;
 
 /// The largest total of a page.
 const MOST: u64 = 9_223_372_036_854_775_807;
@@ -31,7 +34,7 @@ impl Core {
         ensures { IsTrue result ↔ (mask < 2 ^ (numbers_of self.now).pages) }
     {
         let pages = self.counts.len();
-        pages >= 64 || mask >> pages == 0
+        pages >= MASK_BITS || mask >> pages == 0
     }
 
     pub(super) fn is_there(&self, event: Event) -> bool

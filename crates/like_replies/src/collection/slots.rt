@@ -1,4 +1,5 @@
 ghost use Rattle.std.specs.Prelude.{◌≡◌, ◌<◌, ◌≤◌, ◌^◌, ◌↔◌, ℕ, List, ◌∷◌, [], ◌++◌, All, IfOk, IsTrue, MatchResult, Some, None, length, map, replicate};
+ghost use Rattle.like_requests.specs.Limits.{max_submitters};
 ghost use Rattle.like_roles.specs.declared.log.Ran.{Ran};
 ghost use Rattle.like_replies.specs.Collected.{IsEntryFault, rows_of};
 ghost use Rattle.like_replies.specs.Slots.{HoldsAll, IsSlot, IsSlotsFault, Puts, Refuses};
@@ -93,7 +94,7 @@ impl Slots {
 
     /// The answers of all requests; `Missing` at the first place that is empty.
     pub fn into_replies(self, alloc: Global) -> Result<Replies, CollectFault>
-        requires few { length self ≤ 64 }
+        requires few { length self ≤ max_submitters }
         requires short { All (λ row. length row < 2 ^ 32) self }
         ensures { MatchResult result
             (λ replies. self ≡ map (map Some) (rows_of replies))
@@ -108,7 +109,7 @@ impl Slots {
 
 // The answers of all submitters.
 fn answer_rows(alloc: Global, slots: Vec<SlotRow>) -> Result<Vec<Vec<Answer>>, CollectFault>
-    requires few { length slots.items ≤ 64 }
+    requires few { length slots.items ≤ max_submitters }
     requires short { All (λ row. length row < 2 ^ 32) slots.items }
     ensures { MatchResult result
         (λ rows. slots.items ≡ map (map Some) (map (λ row. row.items) rows.items))

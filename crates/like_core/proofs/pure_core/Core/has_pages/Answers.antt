@@ -4,17 +4,17 @@ use lib.Pow.{pow_mono}
 use Rattle.like_core.proofs.Masks.{shr_none}
 use Rattle.like_core.proofs.pure_core.Core.has_pages.Goals as goal
 
-pub returns-then-pages-ge64 : goal.returns-then-pages-ge64
-returns-then-pages-ge64 c =
+pub returns-then-pages-ge-MASK_BITS : goal.returns-then-pages-ge-MASK_BITS
+returns-then-pages-ge-MASK_BITS c =
     let n : ℕ = length c.args.self.now.counts in
     let fits = c.ranges.mask.fits in
     let is = c.len-pages.ensures in
-    let many : 64 ≤ n = (let h = c.if-pages-ge64.true in omega arith) in
+    let many : 64 ≤ n = (let h = c.if-pages-ge-MASK_BITS.true in omega arith) in
     let wide : 2 ^ 64 ≤ 2 ^ n = pow_mono many in
-    (λ _. omega arith, λ _. le-leb 64 c.len-pages.result c.if-pages-ge64.true)
+    (λ _. omega arith, λ _. le-leb 64 c.len-pages.result c.if-pages-ge-MASK_BITS.true)
 
-pub returns-else-pages-ge64 : goal.returns-else-pages-ge64
-returns-else-pages-ge64 c =
+pub returns-else-pages-ge-MASK_BITS : goal.returns-else-pages-ge-MASK_BITS
+returns-else-pages-ge-MASK_BITS c =
     let n : ℕ = length c.args.self.now.counts in
     let none = shr_none c.args.mask c.len-pages.result in
     let P : ℕ → Type 0 = λ k. c.args.mask < 2 ^ k in (
