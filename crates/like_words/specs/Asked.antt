@@ -8,6 +8,7 @@ use Rattle.clap.specs.Words.{Row, Text, all_of, fault_of, first_of, one_of, subc
 use Rattle.clap.specs.declared.error.kind.ErrorKind.{ErrorKind}
 use Rattle.clap.specs.declared.error.kind.ErrorKind.TheVariants.{DisplayHelp}
 use Rattle.like_words.specs.CommandLine.{likes}
+use Rattle.like_words.specs.Limits.{max_hot, max_stash, max_turns, max_users, max_workers}
 use Rattle.like_words.specs.declared.asked.Asked.{Asked}
 use Rattle.like_words.specs.declared.asked.Asked.TheVariants.{Run, Replay, Help}
 use Rattle.like_words.specs.declared.options.Options.{Options}
@@ -45,22 +46,22 @@ HasFlag rows name = (b : Bool) × IsFlag rows name b
 
 -- clap found what a run and a replay need
 pub record HasAll (rows : List Row) : Type 0 where
-  pub workers : HasNumber rows (codes "workers") 1 16
-  pub users : HasNumber rows (codes "users") 1 1000000
-  pub stash : HasNumber rows (codes "stash") 1 4096
-  pub turns : HasNumber rows (codes "turns") 0 1000000
-  pub hot : MayHaveNumber rows (codes "hot") 1 1000000
+  pub workers : HasNumber rows (codes "workers") 1 max_workers
+  pub users : HasNumber rows (codes "users") 1 max_users
+  pub stash : HasNumber rows (codes "stash") 1 max_stash
+  pub turns : HasNumber rows (codes "turns") 0 max_turns
+  pub hot : MayHaveNumber rows (codes "hot") 1 max_hot
   pub places : HasFlag rows (codes "places")
   pub pages : (name : Text) × (first_of (codes "pages") rows ≡ Some name)
   pub requests : (names : List Text) × (all_of (codes "requests") rows ≡ Some names) × (0 < length names)
 
 -- options have the values that clap found for a run or a replay, the script aside
 pub record HasValues (rows : List Row) (o : Options) : Type 0 where
-  pub workers : IsNumber rows (codes "workers") 1 16 o.workers
-  pub users : IsNumber rows (codes "users") 1 1000000 o.users
-  pub stash : IsNumber rows (codes "stash") 1 4096 o.stash
-  pub turns : IsNumber rows (codes "turns") 0 1000000 o.turns
-  pub hot : MayBeNumber rows (codes "hot") 1 1000000 o.hot
+  pub workers : IsNumber rows (codes "workers") 1 max_workers o.workers
+  pub users : IsNumber rows (codes "users") 1 max_users o.users
+  pub stash : IsNumber rows (codes "stash") 1 max_stash o.stash
+  pub turns : IsNumber rows (codes "turns") 0 max_turns o.turns
+  pub hot : MayBeNumber rows (codes "hot") 1 max_hot o.hot
   pub places : IsFlag rows (codes "places") o.places
   pub pages : first_of (codes "pages") rows ≡ Some (string_bytes o.pages)
   pub requests : all_of (codes "requests") rows ≡ Some (map string_bytes o.requests.items)

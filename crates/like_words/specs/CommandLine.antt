@@ -5,6 +5,7 @@ use Rattle.clap.specs.Simple.{new_shape}
 use Rattle.clap.specs.Words.{App, Rule, Shape, Text, new_rule}
 use Rattle.clap.specs.declared.builder.action.ArgAction.TheVariants.{Append, Set, SetTrue}
 use Rattle.clap.specs.declared.builder.value_parser.ValueParser.TheVariants as vp
+use Rattle.like_words.specs.Limits.{max_hot, max_stash, max_turns, max_users, max_workers}
 
 -- an option for a whole number within bounds, which may be left out
 abbrev pub bounded_rule : Text → ℕ → ℕ → Rule
@@ -42,11 +43,11 @@ required_list_rule name = record (new_rule name) {
 
 -- the options of runs and replays
 abbrev pub option_rules : List Rule
-option_rules = number_rule (codes "workers") (codes "4") 1 16
-    ∷ number_rule (codes "users") (codes "1000") 1 1000000
-    ∷ number_rule (codes "stash") (codes "256") 1 4096
-    ∷ number_rule (codes "turns") (codes "1000") 0 1000000
-    ∷ bounded_rule (codes "hot") 1 1000000
+option_rules = number_rule (codes "workers") (codes "4") 1 max_workers
+    ∷ number_rule (codes "users") (codes "1000") 1 max_users
+    ∷ number_rule (codes "stash") (codes "256") 1 max_stash
+    ∷ number_rule (codes "turns") (codes "1000") 0 max_turns
+    ∷ bounded_rule (codes "hot") 1 max_hot
     ∷ flag_rule (codes "places")
     ∷ []
 

@@ -2,3 +2,4 @@ pub mod Asked
 pub mod Built
 pub mod CommandLine
 pub mod Fault
+pub mod Limits
