@@ -44,7 +44,8 @@ requests_taken i = min i.taken (length i.plan)
 abbrev pub numbers_given : Share → List InboxView → ℕ → List ℕ
 numbers_given share inboxes submitter =
     if serves share submitter
-    then range_with_len 1 (option_map_or requests_taken (slice_get inboxes (place_of share.workers submitter)) 0) else []
+    then range_with_len 1 (option_map_or requests_taken (slice_get inboxes (place_of share.workers submitter)) 0)
+    else []
 
 -- what a worker keeps of the submitter at a place agrees with its inbox: how many requests are left, and whether the end
 -- mark was taken; and the pages of its plan are there

@@ -32,7 +32,12 @@ pub record IsExample (o : Options) : Type 0 where
 pub record HasReplayedExample (old new : Option (List ℕ)) : Type 0 where
   pub options : Options
   pub numbers : IsExample options
-  pub replayed : HasReplayed options (record { pages = Some example_pages; requests = Some example_requests ∷ []; script = None }) old new
+  pub replayed :
+      HasReplayed options (record {
+        pages = Some example_pages;
+        requests = Some example_requests ∷ [];
+        script = None;
+      }) old new
 
 -- what was asked for was done
 abbrev pub HasDone : Asked → Option (List ℕ) → Option (List ℕ) → Type 0

@@ -31,11 +31,22 @@ pub record Inputs : Type 0 where
 
 -- what readers have left to give, by what each has
 abbrev pub inputs_of : {R : Type 0} → (R → Option (List ℕ)) → R → List R → Option R → Inputs
-inputs_of left pages requests script = record { pages = left pages; requests = map left requests; script = option_map left script }
+inputs_of left pages requests script = record {
+  pages = left pages;
+  requests = map left requests;
+  script = option_map left script;
+}
 
 -- the settings that options ask for with these pages
 abbrev pub setup_of : Options → List Page → Setup
-setup_of o pages = record { workers = o.workers; users = o.users; stash = o.stash; turns = o.turns; hot = o.hot; pages = pages }
+setup_of o pages = record {
+  workers = o.workers;
+  users = o.users;
+  stash = o.stash;
+  turns = o.turns;
+  hot = o.hot;
+  pages = pages;
+}
 
 -- a fact of the records of a file, where its bytes are known
 abbrev pub OfRecords : Option (List ℕ) → (List Record → Type 0) → Type 0
@@ -72,7 +83,8 @@ abbrev pub GivesPlans : List Page → List (Option (List ℕ)) → List (List Re
 GivesPlans pages sources plans = AllZip (GivesPlan pages) sources plans
 
 -- the request file at this place is the first that is refused
-pub record IsFirstRefused (pages : List Page) (sources : List (Option (List ℕ))) (place : ℕ) (fault : RequestsFault) : Type 0 where
+pub record IsFirstRefused (pages : List Page) (sources : List (Option (List ℕ))) (place : ℕ)
+    (fault : RequestsFault) : Type 0 where
   pub plans : List (List Request)
   pub before : GivesPlans pages (take place sources) plans
   pub refused : IsSomeAnd (slice_get sources place) (λ source. RefusesPlan source fault)
@@ -84,13 +96,15 @@ RefusesPlans pages sources (driver.Requests submitter fault) =
 RefusesPlans pages sources fault = ⊥
 
 -- the answer of a reading of the request files: their plans, or why they give none
-abbrev pub ReadsPlans : List Page → List (Option (List ℕ)) → Result (Vec (Vec Request Global) Global) DriverFault → Type 0
+abbrev pub ReadsPlans :
+    List Page → List (Option (List ℕ)) → Result (Vec (Vec Request Global) Global) DriverFault → Type 0
 ReadsPlans pages sources answer =
     MatchResult answer (λ plans. GivesPlans pages sources (map (λ plan. plan.items) plans.items))
     (RefusesPlans pages sources)
 
 -- a pages file and request files give these values
-pub record GivesLists (file : Option (List ℕ)) (files : List (Option (List ℕ))) (pages : List Page) (plans : List (List Request)) : Type 0 where
+pub record GivesLists (file : Option (List ℕ)) (files : List (Option (List ℕ))) (pages : List Page)
+    (plans : List (List Request)) : Type 0 where
   pub pages_given : GivesPages file pages
   pub plans_given : GivesPlans pages files plans
 
@@ -108,7 +122,8 @@ RefusesLists file files fault = ⊥
 
 -- the text of a report was written that is right end to end; its places are right where they are asked for, and else there
 -- are none
-pub record WritesReport (places : Bool) (setup : Setup) (plans : List (List Request)) (old new : Option (List ℕ)) : Type 0 where
+pub record WritesReport (places : Bool) (setup : Setup) (plans : List (List Request))
+    (old new : Option (List ℕ)) : Type 0 where
   pub report : Report
   pub right : IsRightReport setup plans report
   pub placed : places ≡ true → HasRightPlaces setup plans report

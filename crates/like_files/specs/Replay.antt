@@ -13,7 +13,8 @@ use Rattle.like_files.specs.declared.fault.DriverFault.{DriverFault}
 use Rattle.like_files.specs.declared.fault.DriverFault.TheVariants.{Pages, Requests, Script, Settings, Start, Unfinished, Write, Memory}
 
 -- all files give these values
-pub record GivesAll (inputs : Inputs) (pages : List Page) (plans : List (List Request)) (script : List Turned) : Type 0 where
+pub record GivesAll (inputs : Inputs) (pages : List Page) (plans : List (List Request))
+    (script : List Turned) : Type 0 where
   pub lists : GivesLists inputs.pages inputs.requests pages plans
   pub script_given : GivesScript inputs.script script
 
@@ -60,7 +61,8 @@ pub record CanReplay (options : Options) (inputs : Inputs) : Type 0 where
 -- output; want of memory is that of the replay or of its report
 abbrev pub IsReplayFilesFault : Options → Inputs → DriverFault → Type 0
 IsReplayFilesFault options inputs (Pages fault) = RefusesLists inputs.pages inputs.requests (Pages fault)
-IsReplayFilesFault options inputs (Requests submitter fault) = RefusesLists inputs.pages inputs.requests (Requests submitter fault)
+IsReplayFilesFault options inputs (Requests submitter fault) =
+    RefusesLists inputs.pages inputs.requests (Requests submitter fault)
 IsReplayFilesFault options inputs (Script fault) = ScriptRefused inputs fault
 IsReplayFilesFault options inputs (Settings fault) = ReplayRefused options inputs (why.Settings fault)
 IsReplayFilesFault options inputs Start = ⊥

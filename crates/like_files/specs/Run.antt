@@ -43,7 +43,8 @@ pub record CanRun (options : Options) (inputs : Inputs) : Type 0 where
 -- is that of the run or of its report
 abbrev pub IsRunFilesFault : Options → Inputs → DriverFault → Type 0
 IsRunFilesFault options inputs (Pages fault) = RefusesLists inputs.pages inputs.requests (Pages fault)
-IsRunFilesFault options inputs (Requests submitter fault) = RefusesLists inputs.pages inputs.requests (Requests submitter fault)
+IsRunFilesFault options inputs (Requests submitter fault) =
+    RefusesLists inputs.pages inputs.requests (Requests submitter fault)
 IsRunFilesFault options inputs (Script fault) = ⊥
 IsRunFilesFault options inputs (Settings fault) = RunRefused options inputs (why.Settings fault)
 IsRunFilesFault options inputs Start = RunRefused options inputs why.Start

@@ -32,7 +32,8 @@ Excuses fault_of t = (why : RecordsFault) × (t ≡ fault_of why)
 module _ {T : Type 0} (Asks : List Record → Record → T → Type 0) (tests : ℕ → List T) where
   -- every record passes every test of its row
   abbrev pub PassAll : List Record → Type 0
-  PassAll body = (k : ℕ) (r : Record) → slice_get body k ≡ Some r → AllByRecursion (Asks (take k body) r) (tests (k + 1))
+  PassAll body =
+      (k : ℕ) (r : Record) → slice_get body k ≡ Some r → AllByRecursion (Asks (take k body) r) (tests (k + 1))
 
   -- t is the first test that fails of the first record that fails one
   abbrev pub IsFirstFailed : List Record → T → Type 0

@@ -24,7 +24,8 @@ pub record IsCollected (sizes : List ℕ) (entries : List Ran) (rows : List (Lis
       → map answer_of (entries_of submitter number entries) ≡ option_to_list (answer_at rows submitter number)
 
 -- the first bad entry has this submitter and number: the entries before it are good, and with them the fact makes it bad
-pub record IsFirstBadEntry (sizes : List ℕ) (entries : List Ran) (submitter number : ℕ) (Bad : List Ran → Type 0) : Type 0 where
+pub record IsFirstBadEntry (sizes : List ℕ) (entries : List Ran) (submitter number : ℕ)
+    (Bad : List Ran → Type 0) : Type 0 where
   pub before : List Ran
   pub entry : Ran
   pub after : List Ran

@@ -25,4 +25,5 @@ place_rows pages rows = flat_map (λ p. page_place_rows pages p.0 p.1) (enumerat
 -- the text of a report, and behind it, where they are asked for, the rows of its places
 abbrev pub text_of : Bool → List Page → Report → List ℕ
 text_of places pages report =
-    report_text pages (reported report) ++ (if places then rows_text (place_rows pages (lists_in report.places.items)) else [])
+    report_text pages (reported report)
+    ++ (if places then rows_text (place_rows pages (lists_in report.places.items)) else [])

@@ -42,7 +42,8 @@ shown_count (Seen last count) = decimal count
 shown_count (Refused verdict) = []
 
 abbrev pub header_row : List (List ℕ)
-header_row = codes "row" ∷ codes "id" ∷ codes "number" ∷ codes "phase" ∷ codes "answer" ∷ codes "page" ∷ codes "count" ∷ []
+header_row =
+    codes "row" ∷ codes "id" ∷ codes "number" ∷ codes "phase" ∷ codes "answer" ∷ codes "page" ∷ codes "count" ∷ []
 
 -- the row of a submitter's request with this number
 abbrev pub reply_row : List Page → ℕ → ℕ → Answer → List (List ℕ)
@@ -66,7 +67,8 @@ hot_row pages phase page =
 
 -- the rows of those of a submitter's requests that come after so many others, by their numbers
 abbrev pub answer_rows : List Page → ℕ → ℕ → List Answer → List (List (List ℕ))
-answer_rows pages submitter before answers = map (λ p. reply_row pages submitter p.0 p.1) (enumerate_from (before + 1) answers)
+answer_rows pages submitter before answers =
+    map (λ p. reply_row pages submitter p.0 p.1) (enumerate_from (before + 1) answers)
 
 -- the rows of a submitter's requests, by their numbers from 1
 abbrev pub submitter_rows : List Page → ℕ → List Answer → List (List (List ℕ))
@@ -99,7 +101,8 @@ hot_rows pages hot = flat_map (λ c. hot_rows_below pages c (length pages)) hot
 -- the rows of a report: the header, the requests, the pages, the users, the hot pages
 abbrev pub report_rows : List Page → Reported → List (List (List ℕ))
 report_rows pages r =
-    header_row ∷ (reply_rows pages r.replies ++ page_rows pages r.counts ++ user_rows pages r.last ++ hot_rows pages r.hot)
+    header_row
+    ∷ (reply_rows pages r.replies ++ page_rows pages r.counts ++ user_rows pages r.last ++ hot_rows pages r.hot)
 
 -- the text of rows
 abbrev pub rows_text : List (List (List ℕ)) → List ℕ

@@ -20,9 +20,11 @@ section_rows pages (Places page places) = page_place_rows pages page places.now
 -- a section shows replies that can be shown and pages that are there, and its numbers are those of 64 bits
 abbrev pub HasRows : List Page → Section → Type 0
 HasRows pages Header = ⊤
-HasRows pages (Answers submitter before answers) = (before + 1 + length answers.now < 2 ^ 64) × All (λ a. IsShowable pages a.reply) answers.now
+HasRows pages (Answers submitter before answers) =
+    (before + 1 + length answers.now < 2 ^ 64) × All (λ a. IsShowable pages a.reply) answers.now
 HasRows pages (Counts counts) = length counts.now ≡ length pages
-HasRows pages (Users before last) = (before + length last.now < 2 ^ 64) × All (λ page. ForSome page (λ p. p < length pages)) last.now
+HasRows pages (Users before last) =
+    (before + length last.now < 2 ^ 64) × All (λ page. ForSome page (λ p. p < length pages)) last.now
 HasRows pages (Hot hot) = ⊤
 HasRows pages (Places page places) = page < length pages
 

@@ -111,6 +111,10 @@ const IDLE: &str =
     Announced Reported Retired Retired Retired Released TookEnd Retired Retired Retired \
     Announced Retired Retired Retired Retired Ended";
 
+// Two workers with a slice each: the coordinator and the first wait for the second, which has not reported yet.
+const SLICES: &str = "Announced Acknowledged Acknowledged Released Ran Ran Stashed \
+    Announced Reported Waiting Waiting Reported Released Ran";
+
 #[test]
 fn answers_of_scripts(rt: HostRuntime) {
     let plain_likes = Case {
@@ -143,11 +147,7 @@ fn answers_of_scripts(rt: HostRuntime) {
             FULL_STASH,
             "Announced Acknowledged Released Stashed Idle Announced Reported Released Ran Ran",
         ),
-        (
-            TWO_SLICES,
-            "Announced Acknowledged Acknowledged Released Ran Ran Stashed \
-            Announced Reported Waiting Waiting Reported Released Ran",
-        ),
+        (TWO_SLICES, SLICES),
         (idle_workers, IDLE),
     ] {
         assert_answers(&rt, rt.alloc(), &case, answers);
