@@ -29,7 +29,23 @@ pub fn write_report<W: Write>(
         (report_text pages.now (reported report.now))) }
 {
     let names = Names::new(alloc, pages)?;
-    write_rows(alloc, &names, &report_sections(alloc, report)?, out)
+    write_report_rows(alloc, &names, report, out)
+}
+
+// The same, with the pages' names at hand.
+fn write_report_rows<W: Write>(
+    alloc: Global,
+    names: &Names,
+    report: &Report,
+    out: &mut W,
+) -> Result<(), WriteFault>
+    requires { IsWritable names.now (reported report.now) }
+    ensures { OnOk result (Appends
+        (W.contents out.old)
+        (W.contents out.new)
+        (report_text names.now (reported report.now))) }
+{
+    write_rows(alloc, names, &report_sections(alloc, report)?, out)
 }
 
 /// Writes a row for each place of each page, with no header. After a fault nothing is said of how much was written.
@@ -46,8 +62,24 @@ pub fn write_places<W: Write>(
         (rows_text (place_rows pages.now (lists_in report.now.places.items)))) }
 {
     let names = Names::new(alloc, pages)?;
-    let sections = place_sections(alloc, pages.len(), &report.places)?;
-    write_rows(alloc, &names, &sections, out)
+    write_place_rows(alloc, &names, report, out)
+}
+
+// The same, with the pages' names at hand.
+fn write_place_rows<W: Write>(
+    alloc: Global,
+    names: &Names,
+    report: &Report,
+    out: &mut W,
+) -> Result<(), WriteFault>
+    requires { length report.now.places.items ≡ length names.now }
+    ensures { OnOk result (Appends
+        (W.contents out.old)
+        (W.contents out.new)
+        (rows_text (place_rows names.now (lists_in report.now.places.items)))) }
+{
+    let sections = place_sections(alloc, names.len(), &report.places)?;
+    write_rows(alloc, names, &sections, out)
 }
 
 /// Writes the text of a report, and behind it, where they are asked for, the rows of its places. After a fault nothing is
@@ -66,9 +98,10 @@ pub fn write_text<W: Write>(
         (W.contents out.new)
         (text_of places pages.now report.now)) }
 {
-    write_report(alloc, report, pages, out)?;
+    let names = Names::new(alloc, pages)?;
+    write_report_rows(alloc, &names, report, out)?;
     if places {
-        write_places(alloc, report, pages, out)?;
+        write_place_rows(alloc, &names, report, out)?;
     }
     Ok(())
 }
