@@ -14,19 +14,19 @@ use Rattle.like_core.specs.Phase.{last_phase, IsJoined, IsSplit}
 use Rattle.like_core.specs.Numbers.{Numbers, with_state, with_unmerged, sliced, total, AllIn, Sees, CoordSees, with_look, with_like, with_more}
 
 -- the worker and the page that the event names are there, and the page of each bit of its mask
-abbrev pub IsThere : Numbers → Event → Type 0
-IsThere n (Look i) = i < n.workers
-IsThere n (Acknowledge i) = i < n.workers
-IsThere n (Report i) = i < n.workers
-IsThere n (Retire i) = i < n.workers
-IsThere n (Like i page) = (i < n.workers) × (page < n.pages)
-IsThere n (Read i page) = (i < n.workers) × (page < n.pages)
-IsThere n (Merge i page) = (i < n.workers) × (page < n.pages)
-IsThere n (Hot i) = i < n.workers
-IsThere n CoordLook = Unit {0}
-IsThere n (CoordRead page) = page < n.pages
-IsThere n Announce = Unit {0}
-IsThere n (Release mask) = mask < 2 ^ n.pages
+abbrev pub NamesWhatIsThere : Numbers → Event → Type 0
+NamesWhatIsThere n (Look i) = i < n.workers
+NamesWhatIsThere n (Acknowledge i) = i < n.workers
+NamesWhatIsThere n (Report i) = i < n.workers
+NamesWhatIsThere n (Retire i) = i < n.workers
+NamesWhatIsThere n (Like i page) = (i < n.workers) × (page < n.pages)
+NamesWhatIsThere n (Read i page) = (i < n.workers) × (page < n.pages)
+NamesWhatIsThere n (Merge i page) = (i < n.workers) × (page < n.pages)
+NamesWhatIsThere n (Hot i) = i < n.workers
+NamesWhatIsThere n CoordLook = Unit {0}
+NamesWhatIsThere n (CoordRead page) = page < n.pages
+NamesWhatIsThere n Announce = Unit {0}
+NamesWhatIsThere n (Release mask) = mask < 2 ^ n.pages
 
 -- the event suits the workers' states, the kind of the phase and the unmerged likes
 abbrev pub Suits : Numbers → Event → Type 0
@@ -51,23 +51,23 @@ LeavesLast n Announce = n.phase < last_phase
 LeavesLast n _ = Unit {0}
 
 -- the event does not take a page's total to its bound
-abbrev pub HasRoom : Numbers → Event → Type 0
-HasRoom n (Like i page) = total n page + 1 < total_bound
-HasRoom n _ = Unit {0}
+abbrev pub StaysBelowBound : Numbers → Event → Type 0
+StaysBelowBound n (Like i page) = total n page + 1 < total_bound
+StaysBelowBound n _ = Unit {0}
 
 -- the event may happen
 pub record Permits (n : Numbers) (event : Event) : Type 0 where
-  pub there : IsThere n event
+  pub there : NamesWhatIsThere n event
   pub suits : Suits n event
   pub leaves_last : LeavesLast n event
-  pub room : HasRoom n event
+  pub room : StaysBelowBound n event
 
 -- the reason is the first for which the event may not happen
 abbrev pub Refuses : Numbers → Event → NotNow → Type 0
-Refuses n event NoSuch = ¬ IsThere n event
-Refuses n event Phase = IsThere n event × ¬ Suits n event
-Refuses n event Last = IsThere n event × Suits n event × ¬ LeavesLast n event
-Refuses n event Full = IsThere n event × Suits n event × LeavesLast n event × ¬ HasRoom n event
+Refuses n event NoSuch = ¬ NamesWhatIsThere n event
+Refuses n event Phase = NamesWhatIsThere n event × ¬ Suits n event
+Refuses n event Last = NamesWhatIsThere n event × Suits n event × ¬ LeavesLast n event
+Refuses n event Full = NamesWhatIsThere n event × Suits n event × LeavesLast n event × ¬ StaysBelowBound n event
 
 -- what the event shows
 abbrev pub IsShown : Numbers → Event → Shown → Type 0

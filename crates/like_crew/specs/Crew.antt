@@ -43,5 +43,5 @@ HasInbox servers submitter = (0 < length servers)
     → place_of s.worker.last.share.workers submitter < length s.inboxes)
 
 -- the workers of these servers are gone
-abbrev pub AllGone : List ServerView → Type 0
-AllGone servers = All (λ s. s.worker.post.state ≡ Gone) servers
+abbrev pub AreGone : List ServerView → Type 0
+AreGone servers = All (λ s. s.worker.post.state ≡ Gone) servers

@@ -16,7 +16,7 @@ use Rattle.like_crew.specs.declared.ended.Ended.{Ended}
 use Rattle.like_crew.specs.declared.site.Site.{Site}
 use Rattle.like_crew.specs.Asked.{service_of}
 use Rattle.like_crew.specs.Site.{opening_of}
-use Rattle.like_crew.specs.Crew.{AllGone, LeadGoesOn}
+use Rattle.like_crew.specs.Crew.{AreGone, LeadGoesOn}
 use Rattle.like_crew.specs.Server.{IsLogOf, ServerGoesOn, ServerView}
 use Rattle.like_crew.specs.Servers.{AreServers}
 
@@ -36,7 +36,7 @@ pub record HasLeft (first : ServerView) (log : WorkerLog) (seat : WorkerSeat) : 
 pub record HaveLeft (first : List ServerView) (logs : List WorkerLog) (seats : List WorkerSeat) : Type 0 where
   pub servers : List ServerView
   pub later : AllZip ServerGoesOn first servers
-  pub gone : AllGone servers
+  pub gone : AreGone servers
   pub logs_are : AllZip IsLogOf servers logs
   pub seats_are : AllZip IsSeatOf servers seats
 
@@ -71,7 +71,7 @@ pub record IsEnded (setup : Setup) (plans : List (List Request)) (site : Site) (
   pub servers : List ServerView
   pub are_servers : AreServers (service_of setup plans) setup.workers (board_numbers (board_id site.board)) site.notes
       servers
-  pub gone : AllGone servers
+  pub gone : AreGone servers
   pub logs : AllZip IsLogOf servers e.logs.items
   pub seats : AllZip IsSeatOf servers e.seats.items
   pub coord : coord_board e.coord ≡ board_id site.board

@@ -2,7 +2,7 @@ ghost use Rattle.std.specs.Prelude.{◌≡◌, ◌<◌, IfOk, length, map, true}
 ghost use Rattle.like_requests.specs.Setup.{IsWithinLimits};
 ghost use Rattle.like_roles.specs.CoordTurns.{HasEndedJoined};
 ghost use Rattle.like_crew.specs.Asked.{lists_of};
-ghost use Rattle.like_crew.specs.Crew.{AllGone, GoesOn, HasInbox, IsCrew};
+ghost use Rattle.like_crew.specs.Crew.{AreGone, GoesOn, HasInbox, IsCrew};
 ghost use Rattle.like_crew.specs.Ended.{HasEnded};
 ghost use Rattle.like_crew.specs.Server.{AreUntouched, plans_of};
 ghost use Rattle.like_crew.specs.Site.{AreSeats, IsSite};
@@ -76,7 +76,7 @@ impl<'a, I: Inbox> Crew<'a, I> {
     /// Takes a crew apart whose run has ended.
     pub fn finish(self, alloc: Global) -> Result<Ended, AllocError>
         requires ended { HasEndedJoined self.lead }
-        requires gone { AllGone self.servers.items }
+        requires gone { AreGone self.servers.items }
         ensures { IfOk result (HasEnded self.entry) }
     {
         let Crew { lead, servers } = self;
@@ -107,7 +107,7 @@ impl<'a> Crew<'a, ListInbox> {
     pub fn round(&mut self) -> bool
         ensures goes_on { GoesOn self.old self.new }
         ensures ended { result ≡ true → HasEndedJoined self.new.lead }
-        ensures gone { result ≡ true → AllGone self.new.servers.items }
+        ensures gone { result ≡ true → AreGone self.new.servers.items }
     {
         let ended = self.lead.ends();
         let gone = turns(&mut self.servers);

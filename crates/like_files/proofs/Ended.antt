@@ -38,7 +38,7 @@ writes places setup asked plans report old new same right placed none written =
 
 module _ (options : Options) (inputs : Inputs) (pages : List Page) (plans : List (List Request)) where
   module _ (script : List Turned) (given : GivesAll inputs pages plans script) where
-    can-replay : run.Fits (setup_of options pages) plans script → CanReplay options inputs
+    can-replay : run.CanReplayScript (setup_of options pages) plans script → CanReplay options inputs
     can-replay fits = record { pages = pages; plans = plans; script = script; given = given; fits = fits }
 
     -- the replay gave no report
@@ -48,7 +48,7 @@ module _ (options : Options) (inputs : Inputs) (pages : List Page) (plans : List
     replay-refused why.Memory refused = can-replay refused
 
     -- its report was not written
-    pub replay-unwritten : (fault : WriteFault) → run.Fits (setup_of options pages) plans script → IsReplayFilesFault options inputs (fault_of fault)
+    pub replay-unwritten : (fault : WriteFault) → run.CanReplayScript (setup_of options pages) plans script → IsReplayFilesFault options inputs (fault_of fault)
     replay-unwritten write.Write fits = can-replay fits
     replay-unwritten write.Memory fits = can-replay fits
 

@@ -24,7 +24,7 @@ pub record HasReplayed (options : Options) (inputs : Inputs) (old new : Option (
   pub plans : List (List Request)
   pub script : List Turned
   pub given : GivesAll inputs pages plans script
-  pub fits : replay.Fits (setup_of options pages) plans script
+  pub fits : replay.CanReplayScript (setup_of options pages) plans script
   pub reported : WritesReport options.places (setup_of options pages) plans old new
 
 -- some files were replayed, as many request files as the options name, and with a script just where they name one
@@ -55,7 +55,7 @@ pub record CanReplay (options : Options) (inputs : Inputs) : Type 0 where
   pub plans : List (List Request)
   pub script : List Turned
   pub given : GivesAll inputs pages plans script
-  pub fits : replay.Fits (setup_of options pages) plans script
+  pub fits : replay.CanReplayScript (setup_of options pages) plans script
 
 -- why a replay ended: the first fault of the pages file, the request files, the script file, the settings, the replay and the
 -- output; want of memory is that of the replay or of its report

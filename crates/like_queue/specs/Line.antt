@@ -56,7 +56,7 @@ Pushes v request (Err (at_push.Full back)) w =
 Pushes v request (Err (at_push.Ended back)) w = HasSentEnd v × (back ≡ request) × (w ≡ v)
 
 -- what a push of the end mark answers, and what it leaves
-abbrev pub Ends : Sender → Result (Unit {0}) EndRefused → Sender → Type 0
-Ends v (Ok done) w = (v.sent ≡ length v.line.plan) × (w ≡ one_sent v)
-Ends v (Err at_end.Full) w = (v.sent ≡ length v.line.plan) × (line_capacity ≤ v.sent) × (w ≡ v)
-Ends v (Err at_end.Ended) w = HasSentEnd v × (w ≡ v)
+abbrev pub SendsEnd : Sender → Result (Unit {0}) EndRefused → Sender → Type 0
+SendsEnd v (Ok done) w = (v.sent ≡ length v.line.plan) × (w ≡ one_sent v)
+SendsEnd v (Err at_end.Full) w = (v.sent ≡ length v.line.plan) × (line_capacity ≤ v.sent) × (w ≡ v)
+SendsEnd v (Err at_end.Ended) w = HasSentEnd v × (w ≡ v)

@@ -38,7 +38,7 @@ one_more v = record v { count = v.count + 1 }
 
 -- the rule of a line with its two passes: what was taken, then what the queue holds, then what is yet to be sent are the
 -- items of the plan; one pass has sent as many as were taken or are in the queue, and the other has taken those taken
-pub record IsInOrder (items : List Item) (views : List Known) : Type 0 where
+pub record HasTwoEnds (items : List Item) (views : List Known) : Type 0 where
   pub plan : List Request
   pub taken : List Item
   pub left : List Item
@@ -47,4 +47,4 @@ pub record IsInOrder (items : List Item) (views : List Known) : Type 0 where
 
 -- the rule of a line: its one pass is not split yet, and nothing is in the queue; or the items are in order
 abbrev pub IsLine : List Item → List Known → Type 0
-IsLine items views = ((items ≡ []) × (views ≡ unsplit ∷ [])) ⊎ IsInOrder items views
+IsLine items views = ((items ≡ []) × (views ≡ unsplit ∷ [])) ⊎ HasTwoEnds items views

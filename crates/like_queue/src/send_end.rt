@@ -1,6 +1,6 @@
 ghost use Rattle.std.specs.Prelude.{◌≡◌, ◌⊎◌, ◌<◌, ◌≤◌, None, Some, length, true, false};
 ghost use Rattle.like_requests.specs.Limits.{max_requests};
-ghost use Rattle.like_queue.specs.Line.{Ends, HasSentEnd, Pushes, next_of};
+ghost use Rattle.like_queue.specs.Line.{SendsEnd, HasSentEnd, Pushes, next_of};
 
 use crate::line::Line;
 use crate::refused::{EndRefused, PushRefused};
@@ -59,7 +59,7 @@ impl SendEnd<'_> {
     /// Pushes the end mark, after all requests of the plan.
     pub fn end<R: Wait>(&mut self, rt: &R) -> Result<(), EndRefused>
         requires { next_of self.old ≡ None }
-        ensures { Ends self.old result self.new }
+        ensures { SendsEnd self.old result self.new }
     {
         if self.has_ended() {
             return Err(EndRefused::Ended);

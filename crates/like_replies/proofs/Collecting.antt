@@ -10,14 +10,14 @@ use Rattle.like_replies.specs.declared.collect_fault.CollectFault.{CollectFault}
 use Rattle.like_replies.specs.declared.collect_fault.CollectFault.TheVariants.{Stranger, Double, Missing, Memory}
 use Rattle.like_replies.specs.Collected.{IsCollectFault, IsCollected, IsEntryFault, IsFirstMissing}
 use Rattle.like_replies.specs.Entries.{IsRequest, entries_in, entries_of}
-use Rattle.like_replies.specs.Slots.{HoldsAll, IsSlotsFault, Refuses}
+use Rattle.like_replies.specs.Slots.{HoldsAll, IsSlotsFault, RefusesEntry}
 use Rattle.like_replies.proofs.Holding.{AreGood-held, none-from_slot, slot-from_none}
 use Rattle.like_replies.proofs.Lists.{parts_at}
 use Rattle.like_replies.proofs.SlotPlaces.{IsRequest-slot, IsSlot-request, sized-full, slot_at-full}
 
 -- an entry that is refused is the first that is bad
 pub IsEntryFault-refused : (sizes : List ℕ) (before : List Ran) (slots : List (List (Option Answer))) (e : Ran) (after entries : List Ran) (fault : CollectFault)
-    → HoldsAll sizes before slots → entries ≡ before ++ e ∷ after → Refuses slots e fault → IsEntryFault sizes entries fault
+    → HoldsAll sizes before slots → entries ≡ before ++ e ∷ after → RefusesEntry slots e fault → IsEntryFault sizes entries fault
 IsEntryFault-refused sizes before slots e after entries (Stranger submitter number) held parts refused =
     record {
       before = before;

@@ -11,36 +11,36 @@ use Rattle.std.specs.List.{enumerate_from, filter, flat_map}
 use Rattle.like_roles.specs.declared.log.Added.{Added}
 use Rattle.like_roles.specs.declared.log.WorkerLog.{WorkerLog}
 use Rattle.like_replies.specs.declared.place.Place.{Place}
-use Rattle.like_replies.specs.Places.{AreByOld, lists_in, place_of, places_of, places_in}
+use Rattle.like_replies.specs.Places.{AreByOld, lists_in, place_made, places_of, places_in}
 use Rattle.like_replies.proofs.Texts.{enumerate_from-append}
 
 -- the place of an addition, where it is to the page
 abbrev pub place_if : ℕ → ℕ → Added → List Place
-place_if page worker a = cond (a.page == page) (place_of worker a ∷ []) []
+place_if page worker a = cond (a.page == page) (place_made worker a ∷ []) []
 
 -- one addition more
 pub places_of-push : (page worker : ℕ) (adds : List Added) (a : Added) → places_of page worker (adds ++ a ∷ []) ≡ places_of page worker adds ++ place_if page worker a
 places_of-push page worker adds a =
-    ap (map (place_of worker)) (filter-append (λ (b : Added). b.page == page) adds (a ∷ [])) ∙ map_of (a.page == page)
+    ap (map (place_made worker)) (filter-append (λ (b : Added). b.page == page) adds (a ∷ [])) ∙ map_of (a.page == page)
   where
-    map_of : (b : Bool) → map (place_of worker) (filter (λ (x : Added). x.page == page) adds ++ cond b (a ∷ []) []) ≡ places_of page worker adds ++ cond b (place_of worker a ∷ []) []
-    map_of true = map-append (place_of worker) (filter (λ (x : Added). x.page == page) adds) (a ∷ [])
-    map_of false = map-append (place_of worker) (filter (λ (x : Added). x.page == page) adds) []
+    map_of : (b : Bool) → map (place_made worker) (filter (λ (x : Added). x.page == page) adds ++ cond b (a ∷ []) []) ≡ places_of page worker adds ++ cond b (place_made worker a ∷ []) []
+    map_of true = map-append (place_made worker) (filter (λ (x : Added). x.page == page) adds) (a ∷ [])
+    map_of false = map-append (place_made worker) (filter (λ (x : Added). x.page == page) adds) []
 
 -- its place is put behind those of its page
-pub put-place : (rows : List (List Place)) (page worker : ℕ) (a : Added) → a.page < length rows → get_or (set rows a.page (get_or rows a.page [] ++ place_of worker a ∷ [])) page [] ≡ get_or rows page [] ++ place_if page worker a
+pub put-place : (rows : List (List Place)) (page worker : ℕ) (a : Added) → a.page < length rows → get_or (set rows a.page (get_or rows a.page [] ++ place_made worker a ∷ [])) page [] ≡ get_or rows page [] ++ place_if page worker a
 put-place rows page worker a there = elim (cases_eq a.page page) [
   | inl same ↦
-      let put : List Place = get_or rows a.page [] ++ place_of worker a ∷ [] in
-      let here : get_or (set rows a.page put) page [] ≡ get_or rows page [] ++ place_of worker a ∷ [] =
-      subst (λ (p : ℕ). get_or (set rows a.page put) p [] ≡ get_or rows p [] ++ place_of worker a ∷ []) same (get_or-set_same rows a.page put [] there)
+      let put : List Place = get_or rows a.page [] ++ place_made worker a ∷ [] in
+      let here : get_or (set rows a.page put) page [] ≡ get_or rows page [] ++ place_made worker a ∷ [] =
+      subst (λ (p : ℕ). get_or (set rows a.page put) p [] ≡ get_or rows p [] ++ place_made worker a ∷ []) same (get_or-set_same rows a.page put [] there)
       in
-      here ∙ sym (ap (λ (b : Bool). get_or rows page [] ++ cond b (place_of worker a ∷ []) []) (eq-eqb a.page page same))
+      here ∙ sym (ap (λ (b : Bool). get_or rows page [] ++ cond b (place_made worker a ∷ []) []) (eq-eqb a.page page same))
   | inr other ↦
-      let put : List Place = get_or rows a.page [] ++ place_of worker a ∷ [] in
+      let put : List Place = get_or rows a.page [] ++ place_made worker a ∷ [] in
       get_or-set_other rows a.page page put [] (λ same. other (sym same))
       ∙ (sym (append-nil (get_or rows page []))
-      ∙ sym (ap (λ (b : Bool). get_or rows page [] ++ cond b (place_of worker a ∷ []) []) (ne_eqb a.page page other)))
+      ∙ sym (ap (λ (b : Bool). get_or rows page [] ++ cond b (place_made worker a ∷ []) []) (ne_eqb a.page page other)))
 ]
 
 -- the places of one more log

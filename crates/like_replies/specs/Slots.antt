@@ -35,14 +35,14 @@ pub record Puts (old : List (List (Option Answer))) (e : Ran) (new : List (List 
   pub is : new ≡ with_answer old e.submitter e.number (answer_of e)
 
 -- an entry has no place, or its place is not empty
-abbrev pub Refuses : List (List (Option Answer)) → Ran → CollectFault → Type 0
-Refuses slots e (Stranger submitter number) =
+abbrev pub RefusesEntry : List (List (Option Answer)) → Ran → CollectFault → Type 0
+RefusesEntry slots e (Stranger submitter number) =
     (submitter ≡ e.submitter) × (number ≡ e.number) × ¬ IsSlot slots e.submitter e.number
-Refuses slots e (Double submitter number) =
+RefusesEntry slots e (Double submitter number) =
     (submitter ≡ e.submitter) × (number ≡ e.number) × IsSlot slots e.submitter e.number
     × (slot_at slots e.submitter e.number ≢ None)
-Refuses slots e (Missing submitter number) = ⊥
-Refuses slots e Memory = ⊥
+RefusesEntry slots e (Missing submitter number) = ⊥
+RefusesEntry slots e Memory = ⊥
 
 -- the places hold the answers of these entries, one at most for each request, and nothing else
 pub record HoldsAll (sizes : List ℕ) (entries : List Ran) (slots : List (List (Option Answer))) : Type 0 where

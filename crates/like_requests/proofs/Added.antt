@@ -9,7 +9,7 @@ use Rattle.std.proofs.lemmas.Bool.{false_from_ne_true}
 use Rattle.std.proofs.lemmas.List.{map-append, length_push}
 use Rattle.std.proofs.lemmas.List.Elements.{All-push}
 use Rattle.like_requests.specs.declared.entries.Listed.{Listed}
-use Rattle.like_requests.specs.Entries.{AreKeyed, Entry, page_of_entry, pages_of}
+use Rattle.like_requests.specs.Entries.{AreKeyed, NamedPage, page_of_entry, listed_pages}
 use Rattle.like_requests.specs.Pages.{AreEntries, IsName, Page, names}
 use Rattle.like_requests.specs.Limits.{max_pages, max_count}
 
@@ -18,7 +18,7 @@ abbrev key_eq : Vec ℕ Global → Vec ℕ Global → Bool
 key_eq a b = bytes_eq a.items b.items
 
 -- an entry with a new key goes last
-insert_entry-other : (es : List Entry) (key : Vec ℕ Global) (listed : Listed) → ¬ Contains (map (λ e. e.0.items) es) key.items
+insert_entry-other : (es : List NamedPage) (key : Vec ℕ Global) (listed : Listed) → ¬ Contains (map (λ e. e.0.items) es) key.items
     → insert_entry key_eq es key listed ≡ es ++ (key, listed) ∷ []
 insert_entry-other [] key listed other = refl
 insert_entry-other (e ∷ es) key listed other =
@@ -27,34 +27,34 @@ insert_entry-other (e ∷ es) key listed other =
     rw (here, insert_entry-other es key listed (λ found. other (suc found.0, omega (arith, found.1), found.2))) refl
 
 -- an entry of a page with a new name is added behind the others
-pub entry-added : (es new : List Entry) (key : Vec ℕ Global) (listed : Listed) (name : List ℕ) → new ≡ insert_entry key_eq es key listed → AreKeyed es → key.items ≡ name
-    → ¬ Contains (names (pages_of es)) name → new ≡ es ++ (key, listed) ∷ []
+pub entry-added : (es new : List NamedPage) (key : Vec ℕ Global) (listed : Listed) (name : List ℕ) → new ≡ insert_entry key_eq es key listed → AreKeyed es → key.items ≡ name
+    → ¬ Contains (names (listed_pages es)) name → new ≡ es ++ (key, listed) ∷ []
 entry-added es new key listed name inserted keyed same other =
-    inserted ∙ insert_entry-other es key listed (λ found. other (subst (λ ns. Contains ns name) keyed (subst (Contains (map (λ (e : Entry). e.0.items) es)) same found)))
+    inserted ∙ insert_entry-other es key listed (λ found. other (subst (λ ns. Contains ns name) keyed (subst (Contains (map (λ (e : NamedPage). e.0.items) es)) same found)))
 
 -- one page more is listed
-pub pages_of-push : (es : List Entry) (key : Vec ℕ Global) (listed : Listed) → pages_of (es ++ (key, listed) ∷ []) ≡ pages_of es ++ page_of_entry (key, listed) ∷ []
+pub pages_of-push : (es : List NamedPage) (key : Vec ℕ Global) (listed : Listed) → listed_pages (es ++ (key, listed) ∷ []) ≡ listed_pages es ++ page_of_entry (key, listed) ∷ []
 pages_of-push es key listed = map-append page_of_entry es _
 
 -- by its name
-pub keyed-push : (es : List Entry) (key : Vec ℕ Global) (listed : Listed) → AreKeyed es → key.items ≡ string_bytes listed.name → AreKeyed (es ++ (key, listed) ∷ [])
+pub keyed-push : (es : List NamedPage) (key : Vec ℕ Global) (listed : Listed) → AreKeyed es → key.items ≡ string_bytes listed.name → AreKeyed (es ++ (key, listed) ∷ [])
 keyed-push es key listed keyed same =
-    map-append (λ (e : Entry). e.0.items) es _ ∙ (λ i. keyed i ++ same i ∷ [])
-    ∙ sym (ap names (pages_of-push es key listed) ∙ map-append (λ (p : Page). p.name) (pages_of es) _)
+    map-append (λ (e : NamedPage). e.0.items) es _ ∙ (λ i. keyed i ++ same i ∷ [])
+    ∙ sym (ap names (pages_of-push es key listed) ∙ map-append (λ (p : Page). p.name) (listed_pages es) _)
 
-differs : (key : Vec ℕ Global) (es : List Entry) → AllByRecursion (λ y. key_eq key y ≡ false) (map (λ e. e.0) es)
+differs : (key : Vec ℕ Global) (es : List NamedPage) → AllByRecursion (λ y. key_eq key y ≡ false) (map (λ e. e.0) es)
     → AllByRecursion (λ y. bytes_eq key.items y ≡ false) (map (λ e. e.0.items) es)
 differs key [] h = tt
 differs key (e ∷ es) h = (h.0, differs key es h.1)
 
 -- distinct keys have distinct bytes
-distinct-bytes : (es : List Entry) → IsDistinct key_eq (map (λ e. e.0) es) → IsDistinct bytes_eq (map (λ e. e.0.items) es)
+distinct-bytes : (es : List NamedPage) → IsDistinct key_eq (map (λ e. e.0) es) → IsDistinct bytes_eq (map (λ e. e.0.items) es)
 unfolding IsDistinct
 distinct-bytes [] h = tt
 distinct-bytes (e ∷ es) h = (differs e.0 es h.0, distinct-bytes es h.1)
 
 -- and are distinct names
-pub IsDistinct-names : (es : List Entry) → AreKeyed es → IsDistinct key_eq (map (λ e. e.0) es) → IsDistinct bytes_eq (names (pages_of es))
+pub IsDistinct-names : (es : List NamedPage) → AreKeyed es → IsDistinct key_eq (map (λ e. e.0) es) → IsDistinct bytes_eq (names (listed_pages es))
 IsDistinct-names es keyed h = subst (IsDistinct bytes_eq) keyed (distinct-bytes es h)
 
 -- the entries with one more page

@@ -5,7 +5,7 @@ use Rattle.like_records.specs.declared.fault.RecordsFault.TheVariants as records
 use Rattle.like_records.specs.Rows.{Behind, Excuses, IsFirstFailed, IsHeadless, PassAll, Record}
 use Rattle.like_records.proofs.RowsRead.{among, stopped}
 use Rattle.like_requests.specs.Pages.{Page}
-use Rattle.like_requests.specs.RequestsFile.{AsksRequestRecord, IsRequestsFault, IsRequestsFile, fault_of, request_of, request_tests, requests_header}
+use Rattle.like_requests.specs.RequestsFile.{AsksRequestRecord, IsRequestsFault, IsRequestsFile, fault_of, request_made, request_tests, requests_header}
 use Rattle.like_requests.specs.declared.request.Request.{Request}
 use Rattle.like_requests.specs.declared.requests_file.RequestsFault.{RequestsFault}
 use Rattle.like_requests.specs.declared.requests_file.RequestsFault.TheVariants.{Read, Header, Fields, Op, User, TooMany, Memory}
@@ -35,7 +35,7 @@ excused rows records.Memory = tt
 
 -- what was read of the file is what it says
 pub requests-read : (pages : List Page) (rows : List Record) (r : Result (Vec Request Global) RequestsFault)
-    → MatchResult r (λ requests. Behind requests_header (λ body. PassAll AsksRequestRecord request_tests body × (requests.items ≡ map (request_of pages) body)) rows)
+    → MatchResult r (λ requests. Behind requests_header (λ body. PassAll AsksRequestRecord request_tests body × (requests.items ≡ map (request_made pages) body)) rows)
     (λ fault. Excuses fault_of fault ⊎ IsHeadless requests_header Header rows fault ⊎ Behind requests_header (λ body. IsFirstFailed AsksRequestRecord request_tests body fault) rows)
     → MatchResult r (λ requests. IsRequestsFile pages rows requests.items) (IsRequestsFault rows)
 requests-read pages rows (Ok requests) made = (made.0, made.1, made.2.0, made.2.1)

@@ -32,8 +32,8 @@ page_ref None = Unknown
 page_ref (Some number) = Known number
 
 -- the request that a record makes
-abbrev pub request_of : List Page → Record → Request
-request_of pages r = record {
+abbrev pub request_made : List Page → Record → Request
+request_made pages r = record {
   op = op_of (field r 0);
   user = decimal_value (field r 1);
   page = page_ref (number_of pages (field r 2));
@@ -74,4 +74,4 @@ IsRequestsFault rows why =
 abbrev pub IsRequestsFile : List Page → List Record → List Request → Type 0
 IsRequestsFile pages rows requests =
     (body : List Record) × (rows ≡ requests_header ∷ body) × PassAll AsksRequestRecord request_tests body
-    × (requests ≡ map (request_of pages) body)
+    × (requests ≡ map (request_made pages) body)

@@ -33,11 +33,11 @@ impl Model for Entries {
 
     ghost Value = { List Page };
 
-    ghost use Rattle.like_requests.specs.Entries.{AreKeyed, pages_of};
+    ghost use Rattle.like_requests.specs.Entries.{AreKeyed, listed_pages};
 
-    ghost view = { λ e. pages_of e.by_name.entries };
+    ghost view = { λ e. listed_pages e.by_name.entries };
 
-    ghost invariant = { λ e. AreKeyed e.by_name.entries × AreEntries (pages_of e.by_name.entries) };
+    ghost invariant = { λ e. AreKeyed e.by_name.entries × AreEntries (listed_pages e.by_name.entries) };
 }
 
 impl Entries {

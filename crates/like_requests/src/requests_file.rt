@@ -3,7 +3,7 @@ ghost use Rattle.std.specs.List.{AllByRecursion};
 ghost use Rattle.like_records.specs.Reading.{records_of};
 ghost use Rattle.like_records.specs.First.{FailsFirst};
 ghost use Rattle.like_requests.specs.Pages.{number_of};
-ghost use Rattle.like_requests.specs.RequestsFile.{AsksRequest, AsksRequestRecord, IsOp, IsRequestsFault, IsRequestsFile, fault_of, op_of, page_ref, request_of, request_tests, requests_header};
+ghost use Rattle.like_requests.specs.RequestsFile.{AsksRequest, AsksRequestRecord, IsOp, IsRequestsFault, IsRequestsFile, fault_of, op_of, page_ref, request_made, request_tests, requests_header};
 ghost use Rattle.like_records.specs.Rows.{PassAll, Record};
 
 use crate::pages::Pages;
@@ -48,7 +48,7 @@ struct RequestsFile<'p> {
 
 impl FileKind for RequestsFile<'_> {
     ghost use Rattle.std.specs.Prelude.{◌≡◌, map};
-    ghost use Rattle.like_requests.specs.RequestsFile.{AsksRequestRecord, fault_of, request_of, request_tests};
+    ghost use Rattle.like_requests.specs.RequestsFile.{AsksRequestRecord, fault_of, request_made, request_tests};
 
     type Made = Vec<Request>;
 
@@ -60,7 +60,7 @@ impl FileKind for RequestsFile<'_> {
 
     ghost fault_of = { fault_of };
 
-    ghost holds = { λ file requests done. requests.items ≡ map (request_of file.pages.now) done };
+    ghost holds = { λ file requests done. requests.items ≡ map (request_made file.pages.now) done };
 
     fn fault(why: RecordsFault) -> RequestsFault
         ensures { result ≡ fault_of why }
@@ -113,7 +113,7 @@ fn request_at<R: Read>(
     requires { 0 < row }
     ensures { MatchResult result
         (λ request. AllByRecursion (AsksRequest (row - 1) records.now.fields) (request_tests row)
-        × (request ≡ request_of pages.now records.now.fields))
+        × (request ≡ request_made pages.now records.now.fields))
         (FailsFirst (AsksRequest (row - 1) records.now.fields) (request_tests row)) }
 {
     if records.field_count() != 3 {

@@ -25,7 +25,7 @@ use Rattle.like_core.proofs.PhaseMasks.{split-by}
 use Rattle.like_tables.specs.Waiting.{Waiting}
 use Rattle.like_tables.specs.declared.held.Held.{Held}
 use Rattle.like_roles.specs.declared.worker.desk.Desk.{Desk}
-use Rattle.like_roles.specs.Desk.{ArePlaces, CanServe, IsJudged, IsPlaced, IsOwn, IsSound, HasRoomForOne, view_of}
+use Rattle.like_roles.specs.Desk.{HasSubmitters, CanServe, IsJudged, IsPlaced, IsOwn, IsSound, HasRoomForOne, view_of}
 use Rattle.like_roles.specs.Order.{is_look_at_sliced}
 use Rattle.like_requests.specs.Setup.{IsThere}
 use Rattle.like_roles.specs.Turns.{trying}
@@ -54,7 +54,7 @@ IsPlaced-held post d w p = record {
   started = p.started;
 }
 
-ArePlaces-held : (d : Desk) (w : Waiting) → ArePlaces d → ArePlaces (record d { held = w })
+ArePlaces-held : (d : Desk) (w : Waiting) → HasSubmitters d → HasSubmitters (record d { held = w })
 ArePlaces-held d w a = record { sized = a.sized; submitters = a.submitters; cursor = a.cursor }
 
 AreOwn-held : (d : Desk) (w : Waiting) (hs : List Held) → All (IsOwn d) hs → All (IsOwn (record d { held = w })) hs

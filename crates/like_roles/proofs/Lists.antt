@@ -3,7 +3,7 @@ use Rattle.std.proofs.Common.{◌≡◌, ℕ, zero, suc, ◌-◌, ◌<◌, inl, 
 use Rattle.std.proofs.lemmas.Bool.{cases_lt}
 use Rattle.std.proofs.lemmas.List.{length-append, length-replicate, get_or_past, get_or-replicate}
 use Rattle.std.specs.List.{slice_get}
-use Rattle.like_roles.specs.Likes.{last_of}
+use Rattle.like_roles.specs.Likes.{last_in}
 
 -- an element of the first list keeps its place where another list follows
 pub slice_get-before : {X : Type 0} (xs ys : List X) (i : ℕ) → i < length xs → slice_get (xs ++ ys) i ≡ slice_get xs i
@@ -17,7 +17,7 @@ slice_get-at_end [] x = refl
 slice_get-at_end (y ∷ xs) x = slice_get-at_end xs x
 
 -- an element that is put at the end is the last one
-pub last_of-push : {X : Type 0} (xs : List X) (x : X) → last_of (xs ++ x ∷ []) ≡ Some x
+pub last_of-push : {X : Type 0} (xs : List X) (x : X) → last_in (xs ++ x ∷ []) ≡ Some x
 last_of-push xs x =
     let n : length (xs ++ x ∷ []) - 1 ≡ length xs = simp length-append (omega arith) in
     rw n (slice_get-at_end xs x)

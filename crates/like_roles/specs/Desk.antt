@@ -87,7 +87,7 @@ pub record IsPlaced (post : PostView) (d : Desk) : Type 0 where
   pub started : d.started ≡ is_some post.last
 
 -- the submitters by place
-pub record ArePlaces (d : Desk) : Type 0 where
+pub record HasSubmitters (d : Desk) : Type 0 where
   pub sized : vec_len d.left ≡ vec_len d.ended
   pub submitters : (place : ℕ) → place < vec_len d.ended
       → submitter_of d.last.share.workers d.last.share.worker place < d.last.share.submitters
@@ -126,7 +126,7 @@ pub record HasRoomToNote (d : Desk) : Type 0 where
 -- what is true of a worker between two calls
 pub record IsSound (post : PostView) (d : Desk) : Type 0 where
   pub placed : IsPlaced post d
-  pub places : ArePlaces d
+  pub places : HasSubmitters d
   pub room : HasRoom post d
   pub slice : IsSliceInSplit post d.slice
   pub held : All (IsOwn d) d.held.held

@@ -22,7 +22,7 @@ use Rattle.like_roles.specs.Order.{Entry, block, entry_of, order, order_below}
 use Rattle.like_roles.specs.Replies.{HasRightAnswers}
 use Rattle.like_roles.specs.Service.{Service, is_split_in, marks, request_at, submitters}
 use Rattle.like_requests.specs.Setup.{IsThere}
-use Rattle.like_roles.specs.WorkerView.{WorkerView, HasEnded, phase_at, submitter_at}
+use Rattle.like_roles.specs.WorkerView.{WorkerView, TookAllEnds, phase_at, submitter_at}
 
 -- the service is the one that the worker serves, and the masks that its post read are the service's
 pub record IsServed (service : Service) (v : WorkerView) : Type 0 where
@@ -111,7 +111,7 @@ pub record IsInBlocks (service : Service) (v : WorkerView) (phase : ℕ) : Type 
 abbrev pub Stands : Service → WorkerView → WorkerState → Type 0
 Stands service v (Runs phase) = IsInBlocks service v phase
 Stands service v (Answered phase) = IsInBlocks service v phase × (IsJoined phase → v.held.held ≡ [])
-Stands service v Gone = (v.held.held ≡ []) × HasEnded v
+Stands service v Gone = (v.held.held ≡ []) × TookAllEnds v
 
 -- all of this, of a worker whose requests are those of the service's plans
 pub record Follows (service : Service) (v : WorkerView) : Type 0 where
@@ -161,4 +161,4 @@ pub record IsDone (service : Service) (v : WorkerView) : Type 0 where
   pub noted : v.notes ≡ true → AreNoted service v
   pub replies : HasRightAnswers service v.ran
   pub last : (user : ℕ) → last_of v.last user ≡ last_like service user v.ran
-  pub ended : HasEnded v
+  pub ended : TookAllEnds v

@@ -39,12 +39,12 @@ abbrev pub likes_ran : Service → List Ran → List AcceptedLike
 likes_ran service entries = filter_map (like_ran service) entries
 
 -- the last element of a list, if there is one
-abbrev pub last_of : {X : Type 0} → List X → Option X
-last_of xs = slice_get xs (length xs - 1)
+abbrev pub last_in : {X : Type 0} → List X → Option X
+last_in xs = slice_get xs (length xs - 1)
 
 -- the page of a user's last like among likes, if there is one
 abbrev pub last_page : ℕ → List AcceptedLike → Option ℕ
-last_page user likes = last_of (map (λ l. l.page) (filter (λ l. l.user == user) likes))
+last_page user likes = last_in (map (λ l. l.page) (filter (λ l. l.user == user) likes))
 
 -- the page of a user's last accepted like among entries, if there is one
 abbrev pub last_like : Service → ℕ → List Ran → Option ℕ

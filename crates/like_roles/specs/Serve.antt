@@ -53,8 +53,8 @@ liked v user page old =
     let w = counted v page old in record w { last = with_last v.last user page }
 
 -- one more like of a page is counted, whatever its count is
-abbrev pub Counts : WorkerView → ℕ → WorkerView → Type 0
-Counts v page after = (old : ℕ) × (after ≡ counted v page old)
+abbrev pub CountsLike : WorkerView → ℕ → WorkerView → Type 0
+CountsLike v page after = (old : ℕ) × (after ≡ counted v page old)
 
 -- and is the user's last
 abbrev pub Likes : WorkerView → ℕ → ℕ → WorkerView → Type 0

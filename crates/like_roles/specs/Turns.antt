@@ -16,7 +16,7 @@ use Rattle.like_tables.specs.declared.held.Held.{Held}
 use Rattle.like_roles.specs.declared.turn.Turn.{Turn}
 use Rattle.like_roles.specs.declared.turn.Turn.TheVariants as turn
 use Rattle.like_requests.specs.Setup.{IsThere}
-use Rattle.like_roles.specs.WorkerView.{WorkerView, HasEnded, IsNextPlace, phase_at, submitter_at, has_to_wait}
+use Rattle.like_roles.specs.WorkerView.{WorkerView, TookAllEnds, IsNextPlace, phase_at, submitter_at, has_to_wait}
 use Rattle.like_roles.specs.Serve.{Runs, with_addition, noted}
 
 -- whether who goes from one phase to another enters a split phase
@@ -85,7 +85,7 @@ merged_page v page old =
 
 -- it cannot take a request in a split phase
 abbrev pub IsStuck : WorkerView → Type 0
-IsStuck v = HasEnded v ⊎ (length v.held.held ≡ v.held.capacity)
+IsStuck v = TookAllEnds v ⊎ (length v.held.held ≡ v.held.capacity)
 
 -- what a worker does that has looked and runs a phase: the answer, and the worker after
 pub data Works (v : WorkerView) (ending : Bool) (answer : Turn) (after : WorkerView) : Type 0 where
@@ -93,10 +93,10 @@ pub data Works (v : WorkerView) (ending : Bool) (answer : Turn) (after : WorkerV
       → RunsJoined v.post.state → v.held.held ≡ first ∷ rest
       → answer ≡ turn.Ran → Runs (without_first v rest) first true after
       → Works v ending answer after
-  retires : RunsJoined v.post.state → v.held.held ≡ [] → HasEnded v
+  retires : RunsJoined v.post.state → v.held.held ≡ [] → TookAllEnds v
       → answer ≡ turn.Retired → after ≡ record v { post = retired v.post }
       → Works v ending answer after
-  acknowledges : RunsJoined v.post.state → v.held.held ≡ [] → ¬ HasEnded v → ending ≡ true
+  acknowledges : RunsJoined v.post.state → v.held.held ≡ [] → ¬ TookAllEnds v → ending ≡ true
       → answer ≡ turn.Acknowledged → after ≡ record v { post = answered v.post }
       → Works v ending answer after
   tries_joined : (place : ℕ) → RunsJoined v.post.state → v.held.held ≡ []

@@ -40,8 +40,8 @@ abbrev pub submitter_at : WorkerView → ℕ → ℕ
 submitter_at v place = submitter_of v.last.share.workers v.last.share.worker place
 
 -- it took the end mark of each of its submitters
-abbrev pub HasEnded : WorkerView → Type 0
-HasEnded v = (place : ℕ) → place < length v.ended → slice_index_or v.ended place true ≡ true
+abbrev pub TookAllEnds : WorkerView → Type 0
+TookAllEnds v = (place : ℕ) → place < length v.ended → slice_index_or v.ended place true ≡ true
 
 -- how many steps there are from one place to another of n, going up, and from the last place on to the first
 abbrev pub steps_between : ℕ → ℕ → ℕ → ℕ

@@ -18,20 +18,20 @@ CanMake servers (Worker worker) = worker < length servers
 CanMake servers Coordinator = ⊤
 
 -- the settings and the lists are within their limits, and the script's submitters and workers are there
-pub record Fits (setup : Setup) (plans : List (List Request)) (script : List Turned) : Type 0 where
+pub record CanReplayScript (setup : Setup) (plans : List (List Request)) (script : List Turned) : Type 0 where
   pub within : IsWithinLimits setup plans
   pub there : All (IsInRun setup.workers (length plans)) script
 
 -- no fault of the settings, the lists or the script
-abbrev pub IsFaultUnderWay : ReplayFault → Type 0
-IsFaultUnderWay (Settings why) = ⊥
-IsFaultUnderWay Memory = ⊤
-IsFaultUnderWay Unfinished = ⊤
+abbrev pub IsReplayFaultUnderWay : ReplayFault → Type 0
+IsReplayFaultUnderWay (Settings why) = ⊥
+IsReplayFaultUnderWay Memory = ⊤
+IsReplayFaultUnderWay Unfinished = ⊤
 
 -- the first limit that the settings and the lists break, or else the first entry of the script that is away; or else
 -- memory ran out, or the run did not end
 abbrev pub IsReplayFault : Setup → List (List Request) → List Turned → ReplayFault → Type 0
 IsReplayFault setup plans script (Settings why) =
     IsFirstBroken setup plans why ⊎ (IsWithinLimits setup plans × IsFirstAway setup.workers (length plans) script why)
-IsReplayFault setup plans script Memory = Fits setup plans script
-IsReplayFault setup plans script Unfinished = Fits setup plans script
+IsReplayFault setup plans script Memory = CanReplayScript setup plans script
+IsReplayFault setup plans script Unfinished = CanReplayScript setup plans script

@@ -25,10 +25,10 @@ pub record HasEndedOn {I E : Type 0} (starts : ℕ) (c : Crew I) (ends : List E)
   pub enough : length c.servers.items + length ends ≤ starts
 
 -- no fault of the settings or the lists
-abbrev pub IsFaultUnderWay : RunFault → Type 0
-IsFaultUnderWay (Settings why) = ⊥
-IsFaultUnderWay Memory = ⊤
-IsFaultUnderWay Start = ⊤
+abbrev pub IsRunFaultUnderWay : RunFault → Type 0
+IsRunFaultUnderWay (Settings why) = ⊥
+IsRunFaultUnderWay Memory = ⊤
+IsRunFaultUnderWay Start = ⊤
 
 -- the first limit that the settings and the lists break; or else memory ran out, or a thread could not be started
 abbrev pub IsRunFault : Setup → List (List Request) → RunFault → Type 0

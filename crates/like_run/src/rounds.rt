@@ -4,11 +4,11 @@ ghost use Rattle.like_roles.specs.CoordTurns.{HasEndedJoined};
 ghost use Rattle.like_script.specs.Fit.{IsInRun};
 ghost use Rattle.like_script.specs.Limits.{max_entries};
 ghost use Rattle.like_crew.specs.Asked.{lists_of};
-ghost use Rattle.like_crew.specs.Crew.{AllGone, GoesOn};
+ghost use Rattle.like_crew.specs.Crew.{AreGone, GoesOn};
 ghost use Rattle.like_crew.specs.EndToEnd.{IsRightReport};
 ghost use Rattle.like_crew.specs.Ended.{HasEnded};
 ghost use Rattle.like_crew.specs.Tiling.{HasNoPlaces, HasRightPlaces};
-ghost use Rattle.like_run.specs.Rounds.{CanMake, Fits, IsFaultUnderWay, IsReplayFault};
+ghost use Rattle.like_run.specs.Rounds.{CanMake, CanReplayScript, IsReplayFaultUnderWay, IsReplayFault};
 
 use like_crew::{Crew, Ended, Site, report_of};
 use like_queue::ListInbox;
@@ -38,7 +38,7 @@ pub fn replay(
     requires { length script.now ≤ max_entries }
     ensures report { IfOk result (IsRightReport setup.now (lists_of plans.items)) }
     ensures places { IfOk result (HasRightPlaces setup.now (lists_of plans.items)) }
-    ensures fits { OnOk result (Fits setup.now (lists_of plans.items) script.now) }
+    ensures fits { OnOk result (CanReplayScript setup.now (lists_of plans.items) script.now) }
     ensures fault { IfErr result (IsReplayFault setup.now (lists_of plans.items) script.now) }
 {
     replay_noting(alloc, setup, plans, script, true)
@@ -57,7 +57,7 @@ pub fn replay_noting(
     ensures report { IfOk result (IsRightReport setup.now (lists_of plans.items)) }
     ensures places { notes ≡ true → IfOk result (HasRightPlaces setup.now (lists_of plans.items)) }
     ensures none { notes ≡ false → IfOk result HasNoPlaces }
-    ensures fits { OnOk result (Fits setup.now (lists_of plans.items) script.now) }
+    ensures fits { OnOk result (CanReplayScript setup.now (lists_of plans.items) script.now) }
     ensures fault { IfErr result (IsReplayFault setup.now (lists_of plans.items) script.now) }
 {
     check_setup(setup, &plans)?;
@@ -78,7 +78,7 @@ fn replay_within(
     ensures report { IfOk result (IsRightReport setup.now (lists_of plans.items)) }
     ensures places { notes ≡ true → IfOk result (HasRightPlaces setup.now (lists_of plans.items)) }
     ensures none { notes ≡ false → IfOk result HasNoPlaces }
-    ensures fault { IfErr result IsFaultUnderWay }
+    ensures fault { IfErr result IsReplayFaultUnderWay }
 {
     let (site, seats) = Site::new(alloc, setup, &plans, notes)?;
     let lists = Snapshot::of(&plans);
@@ -91,7 +91,7 @@ fn replay_within(
 fn play(alloc: Global, crew: Crew<'_, ListInbox>, script: &[Turned]) -> Result<Ended, ReplayFault>
     requires { All (CanMake crew.servers.items) script.now }
     ensures ended { IfOk result (HasEnded crew.entry) }
-    ensures fault { IfErr result IsFaultUnderWay }
+    ensures fault { IfErr result IsReplayFaultUnderWay }
 {
     let mut crew = crew;
     make_all(&mut crew, script);
@@ -130,7 +130,7 @@ fn make(crew: &mut Crew<'_, ListInbox>, entry: &Turned)
 fn make_rounds(crew: &mut Crew<'_, ListInbox>) -> Result<(), ReplayFault>
     ensures goes_on { GoesOn crew.old crew.new }
     ensures ended { OnOk result (HasEndedJoined crew.new.lead) }
-    ensures gone { OnOk result (AllGone crew.new.servers.items) }
+    ensures gone { OnOk result (AreGone crew.new.servers.items) }
     ensures fault { IfErr result (λ fault. fault ≡ ReplayFault.Unfinished) }
 {
     for _ in 0..MAX_ROUNDS {

@@ -4,7 +4,7 @@ ghost use Rattle.like_crew.specs.Asked.{lists_of};
 ghost use Rattle.like_crew.specs.EndToEnd.{IsRightReport};
 ghost use Rattle.like_crew.specs.Tiling.{HasNoPlaces, HasRightPlaces};
 ghost use Rattle.like_run.specs.Lines.{AreNewEnds};
-ghost use Rattle.like_run.specs.Threads.{HasEndedOn, IsFaultUnderWay, IsRunFault};
+ghost use Rattle.like_run.specs.Threads.{HasEndedOn, IsRunFaultUnderWay, IsRunFault};
 
 use crate::threads::coordinator::{coordinate, join_all};
 use crate::threads::lines::{Lines, ends_of};
@@ -135,7 +135,7 @@ fn run_within<R: Threads + Wait + Sync, G: Gate>(
     ensures places { notes ≡ true → IfOk result (HasRightPlaces setup.now (lists_of plans.items)) }
     ensures none { notes ≡ false → IfOk result HasNoPlaces }
     ensures enough { OnOk result (setup.now.workers + length plans.items ≤ starts) }
-    ensures fault { IfErr result IsFaultUnderWay }
+    ensures fault { IfErr result IsRunFaultUnderWay }
 {
     let (site, seats) = Site::new(alloc, setup, &plans, notes)?;
     let lists = Snapshot::of(&plans);
@@ -159,7 +159,7 @@ fn on_threads<R: Threads + Wait + Sync, G: Gate>(
 ) -> Result<Ended, RunFault>
     requires { AreNewEnds ends.items }
     ensures ended { IfOk result (HasEndedOn starts crew.entry ends.entry.items) }
-    ensures fault { IfErr result IsFaultUnderWay }
+    ensures fault { IfErr result IsRunFaultUnderWay }
 {
     let parkers = &Parkers::new(alloc, crew.servers.len())?;
     let start = &OnceLock::new();
@@ -169,7 +169,7 @@ fn on_threads<R: Threads + Wait + Sync, G: Gate>(
         move |scope| -> Result<Ended, RunFault>
             requires { AreNewEnds ends.items }
             ensures ended { IfOk result (HasEndedOn starts crew.entry ends.entry.items) }
-            ensures fault { IfErr result IsFaultUnderWay }
+            ensures fault { IfErr result IsRunFaultUnderWay }
         { in_scope(scope, rt, alloc, start, parkers, crew, ends, gate, starts) },
     )
 }
@@ -188,7 +188,7 @@ fn in_scope<'s, E, R: Threads + Wait + Sync, G: Gate>(
 ) -> Result<Ended, RunFault>
     requires { AreNewEnds ends.items }
     ensures ended { IfOk result (HasEndedOn starts crew.entry ends.entry.items) }
-    ensures fault { IfErr result IsFaultUnderWay }
+    ensures fault { IfErr result IsRunFaultUnderWay }
 {
     let Crew { mut lead, servers } = crew;
     let mut logs = Vec::with_capacity(alloc, servers.len())?;

@@ -6,7 +6,7 @@ use Rattle.like_records.specs.declared.fault.RecordsFault.{RecordsFault}
 use Rattle.like_records.specs.declared.fault.RecordsFault.TheVariants as records
 use Rattle.like_records.specs.Rows.{Behind, Excuses, IsFirstFailed, IsHeadless, MadeOf, PassAll, Record}
 use Rattle.like_records.proofs.RowsRead.{among, stopped}
-use Rattle.like_script.specs.File.{AsksEntryRecord, IsScriptFault, IsScriptFile, fault_of, entry_of, entry_tests, script_header}
+use Rattle.like_script.specs.File.{AsksEntryRecord, IsScriptFault, IsScriptFile, fault_of, turned_of, entry_tests, script_header}
 use Rattle.like_script.specs.Limits.{max_entries}
 use Rattle.like_script.specs.declared.turned.Turned.{Turned}
 use Rattle.like_script.specs.declared.file.ScriptFault.{ScriptFault}
@@ -36,7 +36,7 @@ excused rows records.Memory = tt
 
 -- what was read of the file is what it says
 pub script-read : (rows : List Record) (r : Result (Vec Turned Global) ScriptFault)
-    → MatchResult r (λ entries. Behind script_header (λ body. PassAll AsksEntryRecord entry_tests body × (entries.items ≡ map entry_of body)) rows)
+    → MatchResult r (λ entries. Behind script_header (λ body. PassAll AsksEntryRecord entry_tests body × (entries.items ≡ map turned_of body)) rows)
     (λ fault. Excuses fault_of fault ⊎ IsHeadless script_header (Line 0) rows fault ⊎ Behind script_header (λ body. IsFirstFailed AsksEntryRecord entry_tests body fault) rows)
     → MatchResult r (λ entries. IsScriptFile rows entries.items) (IsScriptFault rows)
 script-read rows (Ok entries) made = (made.0, made.1, made.2.0, made.2.1)
@@ -52,8 +52,8 @@ few-records (r ∷ body) passed =
     omega (arith, earlier, length-take-le (length body) (r ∷ body) (omega arith))
 
 -- the entries that records made are not too many
-pub few-entries : (entries : List Turned) → MadeOf AsksEntryRecord entry_tests (λ body. entries ≡ map entry_of body) → length entries ≤ max_entries
+pub few-entries : (entries : List Turned) → MadeOf AsksEntryRecord entry_tests (λ body. entries ≡ map turned_of body) → length entries ≤ max_entries
 few-entries entries made =
     let few = few-records made.0 made.1 in
-    let size : length entries ≡ length made.0 = ap (λ (es : List Turned). length es) made.2 ∙ length-map made.0 entry_of in
+    let size : length entries ≡ length made.0 = ap (λ (es : List Turned). length es) made.2 ∙ length-map made.0 turned_of in
     omega (arith, few, size)

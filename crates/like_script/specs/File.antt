@@ -35,8 +35,8 @@ abbrev pub IsEntry : Record → Type 0
 IsEntry r = (length r ≡ 2) × Names (field r 0) (field r 1)
 
 -- the entry that it makes
-abbrev pub entry_of : Record → Turned
-entry_of r = named (field r 0) (field r 1)
+abbrev pub turned_of : Record → Turned
+turned_of r = named (field r 0) (field r 1)
 
 -- what the test asks that is named by its fault, of a record after so many others
 abbrev pub AsksEntry : ℕ → Record → ScriptFault → Type 0
@@ -75,4 +75,4 @@ IsScriptFault rows fault.TooMany = StopsBehindHeader rows fault.TooMany
 abbrev pub IsScriptFile : List Record → List Turned → Type 0
 IsScriptFile rows entries =
     (body : List Record) × (rows ≡ script_header ∷ body)
-    × PassAll AsksEntryRecord entry_tests body × (entries ≡ map entry_of body)
+    × PassAll AsksEntryRecord entry_tests body × (entries ≡ map turned_of body)

@@ -5,7 +5,7 @@ ghost use Rattle.like_records.specs.Reading.{records_of};
 ghost use Rattle.like_records.specs.First.{FailsFirst};
 ghost use Rattle.like_records.specs.Rows.{PassAll, Record};
 ghost use Rattle.like_script.specs.Limits.{max_entries};
-ghost use Rattle.like_script.specs.File.{AsksEntry, AsksEntryRecord, IsEntry, IsIndex, IsScriptFault, IsScriptFile, Names, entry_of, entry_tests, fault_of, named, script_header};
+ghost use Rattle.like_script.specs.File.{AsksEntry, AsksEntryRecord, IsEntry, IsIndex, IsScriptFault, IsScriptFile, Names, turned_of, entry_tests, fault_of, named, script_header};
 
 use crate::turned::Turned;
 use like_records::{FileKind, Records, RecordsFault, decimal, read_file};
@@ -42,7 +42,7 @@ struct ScriptFile;
 
 impl FileKind for ScriptFile {
     ghost use Rattle.std.specs.Prelude.{◌≡◌, map};
-    ghost use Rattle.like_script.specs.File.{AsksEntryRecord, entry_of, entry_tests, fault_of};
+    ghost use Rattle.like_script.specs.File.{AsksEntryRecord, turned_of, entry_tests, fault_of};
 
     type Made = Vec<Turned>;
 
@@ -54,7 +54,7 @@ impl FileKind for ScriptFile {
 
     ghost fault_of = { fault_of };
 
-    ghost holds = { λ _ entries done. entries.items ≡ map entry_of done };
+    ghost holds = { λ _ entries done. entries.items ≡ map turned_of done };
 
     fn fault(why: RecordsFault) -> ScriptFault
         ensures { result ≡ fault_of why }
@@ -98,7 +98,7 @@ fn entry_at<R: Read>(records: &Records<R>, row: u32) -> Result<Turned, ScriptFau
     requires { 0 < row }
     ensures { MatchResult result
         (λ entry. AllByRecursion (AsksEntry (row - 1) records.now.fields) (entry_tests row)
-        × (entry ≡ entry_of records.now.fields))
+        × (entry ≡ turned_of records.now.fields))
         (FailsFirst (AsksEntry (row - 1) records.now.fields) (entry_tests row)) }
 {
     let Some(entry) = entry_in(records) else {
@@ -113,7 +113,7 @@ fn entry_at<R: Read>(records: &Records<R>, row: u32) -> Result<Turned, ScriptFau
 // The entry that the present record makes, if it makes one.
 fn entry_in<R: Read>(records: &Records<R>) -> Option<Turned>
     ensures { MatchOption result (¬ IsEntry records.now.fields)
-        (λ entry. IsEntry records.now.fields × (entry ≡ entry_of records.now.fields)) }
+        (λ entry. IsEntry records.now.fields × (entry ≡ turned_of records.now.fields)) }
 {
     if records.field_count() != 2 {
         return None;

@@ -5,7 +5,7 @@ use Rattle.std.proofs.Math.Seq.{get_or-append_seam}
 use Rattle.std.proofs.lemmas.Bool.{cases_lt, ne_eqb}
 use Rattle.std.proofs.lemmas.List.{get_or_read}
 use Rattle.std.proofs.lemmas.Nat.{mod_below}
-use Rattle.like_tables.specs.Homes.{IsKept}
+use Rattle.like_tables.specs.Homes.{AreHomesBelow}
 use Rattle.like_tables.specs.Share.{Share, homes_below, owned_below, serves}
 use Rattle.like_tables.proofs.Owned.{homes_below-more, owned_below-div, rounds-le}
 
@@ -34,18 +34,18 @@ homes-push s homes k more long each is n less =
     ]
 
 -- what is read of the numbers
-read-homes : (s : Share) (homes : List ℕ) (n read : ℕ) → IsKept s homes → n ≤ s.submitters → read ≡ get_or homes n read
+read-homes : (s : Share) (homes : List ℕ) (n read : ℕ) → AreHomesBelow s homes → n ≤ s.submitters → read ≡ get_or homes n read
     → read ≡ homes_below s n
 read-homes s homes n read k le is = get_or_read homes n read (omega (arith, k.enough)) is 0 ∙ k.below n le
 
 -- the users of whole rounds are no more than the users
-pub read-rounds-le : (s : Share) (homes : List ℕ) (user all : ℕ) → IsKept s homes → all ≡ get_or homes s.submitters all
+pub read-rounds-le : (s : Share) (homes : List ℕ) (user all : ℕ) → AreHomesBelow s homes → all ≡ get_or homes s.submitters all
     → user / s.submitters * all ≤ user
 read-rounds-le s homes user all k is =
     rw (read-homes s homes s.submitters all k (omega arith) is) (rounds-le s user k.lawful.submitters)
 
 -- with those of the last round they make the user's place
-pub read-place : (s : Share) (homes : List ℕ) (user all some : ℕ) → IsKept s homes → all ≡ get_or homes s.submitters all
+pub read-place : (s : Share) (homes : List ℕ) (user all some : ℕ) → AreHomesBelow s homes → all ≡ get_or homes s.submitters all
     → some ≡ get_or homes (user % s.submitters) some → user / s.submitters * all + some ≡ owned_below s user
 read-place s homes user all some k is_all is_some =
     let least = k.lawful.submitters in

@@ -5,7 +5,7 @@ use Rattle.std.proofs.lemmas.Bool.{cases_lt, cases_eq, and_parts, ltb-true, le-l
 use Rattle.std.proofs.lemmas.List.{get_or_past, get_or_read, get_or-replicate, length-replicate, same_lists}
 use Rattle.std.proofs.lemmas.List.FromFn.{get_or-map-range_with_len, length-map-range_with_len}
 use Rattle.like_tables.specs.Share.{Share, owned_below, owns, serves_home}
-use Rattle.like_tables.specs.Places.{ArePlaces, last_at, table_of}
+use Rattle.like_tables.specs.Places.{HoldsUsers, last_at, table_of}
 use Rattle.like_tables.specs.UserTable.{IsUserTable, UserTable, last_of, table_without_likes, with_last}
 use Rattle.like_tables.proofs.Owned.{owned_below-lt, owned_below-other}
 
@@ -27,7 +27,7 @@ pub owns-inside : (s : Share) (pages : List (Option ℕ)) (t : UserTable) (user 
 owns-inside s pages t user e owned = subst (λ (t : UserTable). owns t.share user ≡ true) (sym e) owned
 
 -- a user that the worker owns has a place
-pub place-lt : (s : Share) (pages : List (Option ℕ)) (user : ℕ) → ArePlaces s pages → owns s user ≡ true
+pub place-lt : (s : Share) (pages : List (Option ℕ)) (user : ℕ) → HoldsUsers s pages → owns s user ≡ true
     → owned_below s user < length pages
 place-lt s pages user p owned =
     omega (arith, p.enough, owned_below-lt s user s.users (owns-served s user owned) (owns-there s user owned))
@@ -57,7 +57,7 @@ pub last_of-owned : (s : Share) (pages : List (Option ℕ)) (user place : ℕ) (
 last_of-owned s pages user place r owned e within read =
     get_or_read pages place r within read None ∙ ap (λ p. get_or pages p None) e ∙ sym (last_of-table_of s pages user ∙ last_at-owned s pages user owned)
 
-pub IsUserTable-table_of : (s : Share) (pages : List (Option ℕ)) → ArePlaces s pages → IsUserTable (table_of s pages)
+pub IsUserTable-table_of : (s : Share) (pages : List (Option ℕ)) → HoldsUsers s pages → IsUserTable (table_of s pages)
 IsUserTable-table_of s pages p = record {
   lawful = p.lawful;
   users = length-map-range_with_len (last_at s pages) 0 s.users;
@@ -96,7 +96,7 @@ table_of-replicate s =
     (length-replicate n None)
 
 -- a page written at a user's place is that user's
-last_at-set_same : (s : Share) (pages : List (Option ℕ)) (user : ℕ) (v : Option ℕ) → ArePlaces s pages → owns s user ≡ true
+last_at-set_same : (s : Share) (pages : List (Option ℕ)) (user : ℕ) (v : Option ℕ) → HoldsUsers s pages → owns s user ≡ true
     → last_at s (set pages (owned_below s user) v) user ≡ v
 last_at-set_same s pages user v p owned =
     last_at-owned s _ user owned ∙ get_or-set_same pages (owned_below s user) v None (place-lt s pages user p owned)
@@ -112,7 +112,7 @@ last_at-set_other s pages user other v owned apart = go (owns s other) refl
     go false e = last_at-other s _ other e ∙ sym (last_at-other s pages other e)
 
 -- the table after such a write
-pub table_of-set : (s : Share) (pages : List (Option ℕ)) (user page : ℕ) → ArePlaces s pages → owns s user ≡ true
+pub table_of-set : (s : Share) (pages : List (Option ℕ)) (user page : ℕ) → HoldsUsers s pages → owns s user ≡ true
     → table_of s (set pages (owned_below s user) (Some page)) ≡ with_last (table_of s pages) user page
 table_of-set s pages user page p owned =
     let place = owned_below s user in
@@ -137,7 +137,7 @@ table_of-set s pages user page p owned =
               now ∙ last_at-set_other s pages user k (Some page) owned apart ∙ sym (get_or-set_other _ user k (Some page) d apart ∙ had)
         ]
 
-pub last_of-set_same : (s : Share) (pages : List (Option ℕ)) (user page : ℕ) → ArePlaces s pages → owns s user ≡ true
+pub last_of-set_same : (s : Share) (pages : List (Option ℕ)) (user page : ℕ) → HoldsUsers s pages → owns s user ≡ true
     → last_of (table_of s (set pages (owned_below s user) (Some page))) user ≡ Some page
 last_of-set_same s pages user page p owned =
     last_of-table_of s _ user ∙ last_at-set_same s pages user (Some page) p owned

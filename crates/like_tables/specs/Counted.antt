@@ -3,7 +3,7 @@ use Rattle.std.specs.Prelude.{◌≡◌, ℕ, ◌*◌, ◌≤◌, List, length, 
 use Rattle.like_tables.specs.PageSet.{bit_of}
 
 -- just the pages whose number is not 0 are in the set, and it has a bit for each page
-pub record IsCounted (likes pages : List ℕ) (count : ℕ) : Type 0 where
+pub record AreLikedPages (likes pages : List ℕ) (count : ℕ) : Type 0 where
   pub total : count ≡ sum likes
   pub room : length likes ≤ 64 * length pages
   pub liked : (page : ℕ) → bit_of pages page ≡ min (slice_index_or likes page 0) 1

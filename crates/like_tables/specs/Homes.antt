@@ -3,7 +3,7 @@ use Rattle.std.specs.Prelude.{◌≡◌, ℕ, ◌+◌, ◌^◌, ◌<◌, ◌≤�
 use Rattle.like_tables.specs.Share.{IsShare, Share, homes_below}
 
 -- the numbers say how many of the submitters below one the worker serves, of each and of all
-pub record IsKept (share : Share) (homes : List ℕ) : Type 0 where
+pub record AreHomesBelow (share : Share) (homes : List ℕ) : Type 0 where
   pub lawful : IsShare share
   pub fits : share.submitters < 2 ^ 32
   pub enough : length homes ≡ share.submitters + 1

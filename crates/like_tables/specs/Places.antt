@@ -5,7 +5,7 @@ use Rattle.like_tables.specs.Share.{IsShare, Share, owned_below, owns}
 use Rattle.like_tables.specs.UserTable.{UserTable}
 
 -- there are as many places as users of the share
-pub record ArePlaces (share : Share) (pages : List (Option ℕ)) : Type 0 where
+pub record HoldsUsers (share : Share) (pages : List (Option ℕ)) : Type 0 where
   pub lawful : IsShare share
   pub enough : length pages ≡ owned_below share share.users
 

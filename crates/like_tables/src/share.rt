@@ -1,5 +1,5 @@
 ghost use Rattle.std.specs.Prelude.{◌≡◌, ◌<◌, ◌≤◌, IfOk, length};
-ghost use Rattle.like_tables.specs.Places.{ArePlaces, IsGiven};
+ghost use Rattle.like_tables.specs.Places.{HoldsUsers, IsGiven};
 ghost use Rattle.like_tables.specs.Share.{owned_below, owns, share_of, submitter_of};
 
 use std::alloc::{AllocError, Global};
@@ -18,7 +18,7 @@ pub(crate) struct UserShare {
 }
 
 impl Model for UserShare {
-    ghost use Rattle.like_tables.specs.Homes.{IsKept};
+    ghost use Rattle.like_tables.specs.Homes.{AreHomesBelow};
     ghost use Rattle.like_tables.specs.Share.{Share, share_of};
 
     ghost Value = { Share };
@@ -26,7 +26,7 @@ impl Model for UserShare {
     ghost view = { λ s. share_of s.users s.submitters s.workers s.worker };
 
     ghost invariant = { λ s. let share = share_of s.users s.submitters s.workers s.worker in
-        IsKept share s.homes_below.items };
+        AreHomesBelow share s.homes_below.items };
 }
 
 impl UserShare {
@@ -84,7 +84,7 @@ impl UserShare {
     // Writes the pages at the places of the worker's users to the places of all users. It walks over the users
     // submitter by submitter and round by round, so that none costs a division.
     pub fn give(&self, pages: &[Option<u32>], last: &mut [Option<u32>])
-        requires places { ArePlaces self.now pages.now }
+        requires places { HoldsUsers self.now pages.now }
         requires users { length last.old ≡ self.now.users }
         ensures { IsGiven self.now pages.now last.old last.new (length pages.now) }
     {

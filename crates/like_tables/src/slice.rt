@@ -19,13 +19,13 @@ pub struct Slice {
 
 impl Model for Slice {
     ghost use Rattle.std.specs.Prelude.{ℕ, List};
-    ghost use Rattle.like_tables.specs.Counted.{IsCounted};
+    ghost use Rattle.like_tables.specs.Counted.{AreLikedPages};
 
     ghost Value = { List ℕ };
 
     ghost view = { λ s. s.counts.items };
 
-    ghost invariant = { λ s. IsCounted s.counts.items s.liked s.total };
+    ghost invariant = { λ s. AreLikedPages s.counts.items s.liked s.total };
 }
 
 impl Slice {

@@ -19,14 +19,14 @@ pub struct Users {
 }
 
 impl Model for Users {
-    ghost use Rattle.like_tables.specs.Places.{ArePlaces, table_of};
+    ghost use Rattle.like_tables.specs.Places.{HoldsUsers, table_of};
     ghost use Rattle.like_tables.specs.UserTable.{UserTable};
 
     ghost Value = { UserTable };
 
     ghost view = { λ u. table_of u.share u.pages.items };
 
-    ghost invariant = { λ u. ArePlaces u.share u.pages.items };
+    ghost invariant = { λ u. HoldsUsers u.share u.pages.items };
 }
 
 impl Users {

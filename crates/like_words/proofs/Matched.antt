@@ -29,8 +29,8 @@ use Rattle.clap.specs.declared.parser.matches.ValueSource.{ValueSource}
 use Rattle.clap.specs.declared.parser.matches.ValueSource.TheVariants.{DefaultValue}
 use Rattle.like_words.specs.declared.asked.Asked.{Asked}
 use Rattle.like_words.specs.declared.asked.Asked.TheVariants.{Run, Replay, Help}
-use Rattle.like_words.specs.Asked.{Asks, Gives, GivesReplay, GivesRun, HasAll, HasFlag, HasNumber, IsEntered, MayHaveNumber}
-use Rattle.like_words.specs.CommandLine.{likes, replay_command, run_command}
+use Rattle.like_words.specs.Asked.{Asks, MeansAsked, GivesReplay, GivesRun, HasAll, HasFlag, HasNumber, IsEntered, MayHaveNumber}
+use Rattle.like_words.specs.CommandLine.{likes_app, replay_command, run_command}
 use Rattle.like_words.proofs.Walked.{AllFit, FirstPasses, Good, IsGood, good_defaults, good_settled, good_walk, neither, some_kind}
 
 -- ---- rows that are there
@@ -190,7 +190,7 @@ given_row id (r ∷ rs) h = go (bytes_eq r.id id) h (given_row id rs)
 -- ---- the subcommands as they are built
 
 abbrev built_sub : Shape → Shape
-built_sub s = built_leaf (inherited (with_leaf_noted (marked_built likes.top)) s)
+built_sub s = built_leaf (inherited (with_leaf_noted (marked_built likes_app.top)) s)
 
 abbrev run_built : Shape
 run_built = built_sub run_command
@@ -275,9 +275,9 @@ replay_found words none =
 
 -- ---- the words
 
-found_one : (p : Text × List Text) → entered_fault (built likes) (Some p) ≡ []
-    → is_some (entered (built likes) (Some p)) ≡ true
-    → (rows : List Row) × IsEntered (entered (built likes) (Some p)) rows × HasAll rows
+found_one : (p : Text × List Text) → entered_fault (built likes_app) (Some p) ≡ []
+    → is_some (entered (built likes_app) (Some p)) ≡ true
+    → (rows : List Row) × IsEntered (entered (built likes_app) (Some p)) rows × HasAll rows
 found_one p none has = go (answers_to p.0 (codes "run", [])) (answers_to p.0 (codes "replay", [])) none has
   where
     go : (b d : Bool) → option_map_or (λ s. level_fault s [] nothing_held p.1 false []) (cond b (Some run_built) (cond d (Some replay_built) None)) [] ≡ []
@@ -298,24 +298,24 @@ level_parts s names h words has below none =
     (b.0, d.1)
 
 -- the program's own level: nothing fails below, and a subcommand was entered
-top_level : (words : List Text) (has : Bool) (below : Kinds) → level_fault (built likes).top (names_of (built likes)) nothing_held words has below ≡ []
+top_level : (words : List Text) (has : Bool) (below : Kinds) → level_fault (built likes_app).top (names_of (built likes_app)) nothing_held words has below ≡ []
     → (below ≡ []) × (has ≡ true)
-top_level words true below none = ((level_parts (built likes).top (names_of (built likes)) nothing_held words true below none).0, refl)
+top_level words true below none = ((level_parts (built likes_app).top (names_of (built likes_app)) nothing_held words true below none).0, refl)
 top_level words false below none =
-    let parts = level_parts (built likes).top (names_of (built likes)) nothing_held words false below none in
+    let parts = level_parts (built likes_app).top (names_of (built likes_app)) nothing_held words false below none in
     absurd (some_kind _ refl parts.1)
 
 -- words with no fault enter a subcommand
-pub enters : (words : List Text) → fault_of likes words ≡ []
-    → (rows : List Row) × IsEntered (subcommand_of likes words) rows × HasAll rows
-enters words none = go (stop_after (built likes).top.rules (names_of (built likes)) words) none
+pub enters : (words : List Text) → fault_of likes_app words ≡ []
+    → (rows : List Row) × IsEntered (subcommand_of likes_app words) rows × HasAll rows
+enters words none = go (stop_after (built likes_app).top.rules (names_of (built likes_app)) words) none
   where
     go : (stop : Option (Text × List Text))
-        → level_fault (built likes).top (names_of (built likes)) nothing_held words (is_some (entered (built likes) stop)) (entered_fault (built likes) stop) ≡ []
-        → (rows : List Row) × IsEntered (entered (built likes) stop) rows × HasAll rows
+        → level_fault (built likes_app).top (names_of (built likes_app)) nothing_held words (is_some (entered (built likes_app) stop)) (entered_fault (built likes_app) stop) ≡ []
+        → (rows : List Row) × IsEntered (entered (built likes_app) stop) rows × HasAll rows
     go None e = absurd (true≢false (sym (top_level words false [] e).1))
     go (Some p) e =
-        let parts = top_level words (is_some (entered (built likes) (Some p))) (entered_fault (built likes) (Some p)) e in
+        let parts = top_level words (is_some (entered (built likes_app) (Some p))) (entered_fault (built likes_app) (Some p)) e in
         found_one p parts.0 parts.1
 
 -- ---- the matches of the subcommand
@@ -352,7 +352,7 @@ one_named m rows (inl e) no_run = absurd (no_run (named m (codes "run") rows e))
 one_named m rows (inr e) no_run = named m (codes "replay") rows e
 
 -- what a subcommand gives is what the words ask for
-pub asks : (words : List Text) (m : ArgMatches) (asked : Asked) → fault_of likes words ≡ [] → subcommand_rows_of m ≡ subcommand_of likes words → Gives (subcommand_rows_of m) asked → Asks words asked
+pub asks : (words : List Text) (m : ArgMatches) (asked : Asked) → fault_of likes_app words ≡ [] → subcommand_rows_of m ≡ subcommand_of likes_app words → MeansAsked (subcommand_rows_of m) asked → Asks words asked
 asks words m (Run options) none same h = (none, subst (λ found. GivesRun found options) same h)
 asks words m (Replay options) none same h = (none, subst (λ found. GivesReplay found options) same h)
 asks words m (Help text) none same h = absurd h
@@ -360,18 +360,18 @@ asks words m (Help text) none same h = absurd h
 -- ---- a parse
 
 -- a parse that succeeds met no fault, and entered a subcommand with what it needs
-pub parsed : (command : Command) (words : List Text) (m : ArgMatches) → app_of command ≡ likes
+pub parsed : (command : Command) (words : List Text) (m : ArgMatches) → app_of command ≡ likes_app
     → (is_simple_and_free (app_of command) ≡ true → fault_of (app_of command) words ≡ []) → HasMatchesOf (app_of command) words m
-    → (fault_of likes words ≡ []) × (subcommand_rows_of m ≡ subcommand_of likes words) × (rows : List Row) × IsEntered (subcommand_rows_of m) rows × HasAll rows
+    → (fault_of likes_app words ≡ []) × (subcommand_rows_of m ≡ subcommand_of likes_app words) × (rows : List Row) × IsEntered (subcommand_rows_of m) rows × HasAll rows
 parsed command words m same kinds matches =
-    let none : fault_of likes words ≡ [] = subst (λ (a : App). fault_of a words ≡ []) same (kinds (ap is_simple_and_free same)) in
+    let none : fault_of likes_app words ≡ [] = subst (λ (a : App). fault_of a words ≡ []) same (kinds (ap is_simple_and_free same)) in
     let found = enters words none in
     let entered_is = (matches (ap is_simple same)).1 ∙ ap (λ (a : App). subcommand_of a words) same in
     (none, entered_is, found.0, subst (λ e. IsEntered e found.0) (sym entered_is) found.1, found.2)
 
 -- the kinds of fault of a parse that fails
-pub failed : (command : Command) (words : List Text) (e : Error) → app_of command ≡ likes
-    → (is_simple_and_free (app_of command) ≡ true → HasKind (fault_of (app_of command) words) e) → HasKind (fault_of likes words) e
+pub failed : (command : Command) (words : List Text) (e : Error) → app_of command ≡ likes_app
+    → (is_simple_and_free (app_of command) ≡ true → HasKind (fault_of (app_of command) words) e) → HasKind (fault_of likes_app words) e
 failed command words e same kinds = subst (λ (a : App). HasKind (fault_of a words) e) same (kinds (ap is_simple_and_free same))
 
 pub when_ok : {T E : Type 0} (r : Result T E) (P : T → Type 0) (Q : E → Type 0) → MatchResult r P Q → IfOk r P

@@ -7,7 +7,7 @@ use Rattle.clap.specs.Values.{IsSignedIn, bool_text}
 use Rattle.clap.specs.Words.{Row, Text, all_of, fault_of, first_of, one_of, subcommand_of}
 use Rattle.clap.specs.declared.error.kind.ErrorKind.{ErrorKind}
 use Rattle.clap.specs.declared.error.kind.ErrorKind.TheVariants.{DisplayHelp}
-use Rattle.like_words.specs.CommandLine.{likes}
+use Rattle.like_words.specs.CommandLine.{likes_app}
 use Rattle.like_words.specs.Limits.{max_hot, max_stash, max_turns, max_users, max_workers}
 use Rattle.like_words.specs.declared.asked.Asked.{Asked}
 use Rattle.like_words.specs.declared.asked.Asked.TheVariants.{Run, Replay, Help}
@@ -86,10 +86,10 @@ pub record GivesReplay (entered : Option (Text × List Row)) (o : Options) : Typ
   pub script : first_of (codes "script") rows ≡ option_map string_bytes o.script
 
 -- what was entered asks for that
-abbrev pub Gives : Option (Text × List Row) → Asked → Type 0
-Gives entered (Run options) = GivesRun entered options
-Gives entered (Replay options) = GivesReplay entered options
-Gives entered (Help text) = ⊥
+abbrev pub MeansAsked : Option (Text × List Row) → Asked → Type 0
+MeansAsked entered (Run options) = GivesRun entered options
+MeansAsked entered (Replay options) = GivesReplay entered options
+MeansAsked entered (Help text) = ⊥
 
 -- the words after the program's name, each by its bytes
 abbrev pub Words : Type 0
@@ -97,19 +97,19 @@ Words = List Text
 
 -- the words ask for help
 abbrev pub AsksForHelp : Words → Type 0
-AsksForHelp words = IsAmong DisplayHelp (fault_of likes words)
+AsksForHelp words = IsAmong DisplayHelp (fault_of likes_app words)
 
 -- what the words ask for: a run or a replay where they have no fault
 abbrev pub Asks : Words → Asked → Type 0
-Asks words (Run options) = (fault_of likes words ≡ []) × GivesRun (subcommand_of likes words) options
-Asks words (Replay options) = (fault_of likes words ≡ []) × GivesReplay (subcommand_of likes words) options
+Asks words (Run options) = (fault_of likes_app words ≡ []) × GivesRun (subcommand_of likes_app words) options
+Asks words (Replay options) = (fault_of likes_app words ≡ []) × GivesReplay (subcommand_of likes_app words) options
 Asks words (Help text) = AsksForHelp words
 
 -- why the words ask for nothing: they have a fault that is no request for help, or want of memory
 abbrev pub IsParseFault : Words → ParseFault → Type 0
-IsParseFault words (Usage text) = (kind : ErrorKind) × IsAmong kind (fault_of likes words) × (kind ≢ DisplayHelp)
+IsParseFault words (Usage text) = (kind : ErrorKind) × IsAmong kind (fault_of likes_app words) × (kind ≢ DisplayHelp)
 IsParseFault words Memory = ⊤
 
 -- what words are answered that clap gives no matches
-abbrev pub Refuses : Words → Result Asked ParseFault → Type 0
-Refuses words result = MatchResult result (Asks words) (IsParseFault words)
+abbrev pub RefusesWords : Words → Result Asked ParseFault → Type 0
+RefusesWords words result = MatchResult result (Asks words) (IsParseFault words)

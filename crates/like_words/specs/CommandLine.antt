@@ -64,8 +64,8 @@ replay_command = record (new_shape (codes "replay")) {
 }
 
 -- the command line of the program: one of its subcommands is required, and the words have no name of the program
-abbrev pub likes : App
-likes = record {
+abbrev pub likes_app : App
+likes_app = record {
   top = record (new_shape (codes "likes")) {
     is_leaf = false;
     no_binary_name = true;

@@ -1,7 +1,7 @@
 ghost use Rattle.std.specs.Prelude.{◌≡◌, IfOk, codes, fold};
 ghost use Rattle.clap.specs.Words.{app_of, new_app, with_rule};
 ghost use Rattle.like_words.specs.Built.{IsArgument, IsCommand, IsSubcommand};
-ghost use Rattle.like_words.specs.CommandLine.{bounded_rule, flag_rule, likes, number_rule, option_rules, replay_command, required_list_rule, required_rule, run_command, text_rule};
+ghost use Rattle.like_words.specs.CommandLine.{bounded_rule, flag_rule, likes_app, number_rule, option_rules, replay_command, required_list_rule, required_rule, run_command, text_rule};
 
 use crate::help;
 use clap::builder::ValueParser;
@@ -124,7 +124,7 @@ fn replay<'a>(alloc: Global) -> Result<Command<'a>, AllocError>
 
 /// The command line of the program, of which the first word is the first after the program's name.
 pub fn likes_command<'a>(alloc: Global) -> Result<Command<'a>, AllocError>
-    ensures { IfOk result (λ c. app_of c ≡ likes) }
+    ensures { IfOk result (λ c. app_of c ≡ likes_app) }
 {
     Command::new(alloc, "likes")
         .bin_name("likes")?

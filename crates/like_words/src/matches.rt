@@ -1,6 +1,6 @@
 ghost use Rattle.std.specs.Prelude.{◌≡◌, ◌<◌, ◌^◌, ℕ, List, IfOk, Some, codes, map, option_map, string_bytes};
 ghost use Rattle.clap.specs.Words.{Row, Text, all_of, first_of, found_of, rows_of, subcommand_rows_of};
-ghost use Rattle.like_words.specs.Asked.{Gives, HasAll, HasFlag, HasNumber, HasValues, IsEntered, IsFlag, IsNumber, MayBeNumber, MayHaveNumber};
+ghost use Rattle.like_words.specs.Asked.{MeansAsked, HasAll, HasFlag, HasNumber, HasValues, IsEntered, IsFlag, IsNumber, MayBeNumber, MayHaveNumber};
 
 use crate::asked::Asked;
 use crate::options::Options;
@@ -10,7 +10,7 @@ use std::alloc::{AllocError, Global};
 /// What the subcommand asks for that was matched.
 pub fn matched(alloc: Global, matches: &ArgMatches<'_>) -> Result<Asked, AllocError>
     requires { (rows : List Row) × IsEntered (subcommand_rows_of matches.now) rows × HasAll rows }
-    ensures { IfOk result (Gives (subcommand_rows_of matches.now)) }
+    ensures { IfOk result (MeansAsked (subcommand_rows_of matches.now)) }
 {
     if let Some(run) = matches.subcommand_matches("run") {
         return Ok(Asked::Run(options(alloc, run, None)?));

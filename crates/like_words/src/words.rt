@@ -1,8 +1,8 @@
 ghost use Rattle.std.specs.Prelude.{List, IfErr, IfOk, map};
 ghost use Rattle.clap.specs.Words.{Text, fault_of};
 ghost use Rattle.clap.specs.Kinds.{HasKind};
-ghost use Rattle.like_words.specs.Asked.{Asks, IsParseFault, Refuses};
-ghost use Rattle.like_words.specs.CommandLine.{likes};
+ghost use Rattle.like_words.specs.Asked.{Asks, IsParseFault, RefusesWords};
+ghost use Rattle.like_words.specs.CommandLine.{likes_app};
 
 use crate::asked::Asked;
 use crate::command::likes_command;
@@ -27,7 +27,7 @@ pub fn parse<S: AsStr>(alloc: Global, words: &[S]) -> Result<Asked, ParseFault>
 
 // What words ask for that have no matches: help, or nothing.
 fn refused(alloc: Global, error: &Error) -> Result<Asked, ParseFault>
-    ensures { (words : List Text) → HasKind (fault_of likes words) error.now → Refuses words result }
+    ensures { (words : List Text) → HasKind (fault_of likes_app words) error.now → RefusesWords words result }
 {
     if error.kind() == ErrorKind::OutOfMemory {
         return Err(ParseFault::Memory);

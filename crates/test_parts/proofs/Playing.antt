@@ -17,7 +17,7 @@ use Rattle.like_roles.specs.declared.log.Took.{Took}
 use Rattle.like_roles.specs.declared.turn.Turn.{Turn}
 use Rattle.like_roles.specs.declared.turn.Turn.TheVariants as turn
 use Rattle.like_roles.specs.New.{IsNew, IsPostOf}
-use Rattle.test_parts.specs.Playing.{IsAt, IsGiven, IsPlaying}
+use Rattle.test_parts.specs.Playing.{IsAt, IsNextGiven, IsPlaying}
 use Rattle.like_roles.specs.Turns.{CanGive, HasTaken, IsNext, Pends, TakesNothing, with_taken}
 use Rattle.like_roles.specs.WorkerView.{WorkerView, phase_at, submitter_at}
 
@@ -53,7 +53,7 @@ only_place plan next v submitter place p tries is =
     omega arith
 
 -- what is given may be given
-pub may_give : (plan : List Request) (next then : ℕ) (v : WorkerView) (submitter : ℕ) (given : Taken) → IsAt plan next v → Pends (turn.Try submitter) v → IsGiven plan next given then → CanGive v given
+pub may_give : (plan : List Request) (next then : ℕ) (v : WorkerView) (submitter : ℕ) (given : Taken) → IsAt plan next v → Pends (turn.Try submitter) v → IsNextGiven plan next given then → CanGive v given
 may_give plan next then v submitter (taken.Ask ask) p tries given = λ place is.
     let within = slice_get_within plan next ask.request given.0 in
     let below = tries.1.2 in
@@ -79,7 +79,7 @@ count_by-push : {X : Type 0} (p : X → Bool) (xs : List X) (x : X) → p x ≡ 
 count_by-push p xs x passes = sum_by_push (λ y. cond (p y) 1 0) xs x ∙ ap (λ (b : Bool). count_by p xs + cond b 1 0) passes
 
 -- and then it is one further
-pub gave : (plan : List Request) (next then : ℕ) (v new : WorkerView) (submitter : ℕ) (given : Taken) → IsAt plan next v → Pends (turn.Try submitter) v → IsGiven plan next given then → HasTaken v given new → IsAt plan then new
+pub gave : (plan : List Request) (next then : ℕ) (v new : WorkerView) (submitter : ℕ) (given : Taken) → IsAt plan next v → Pends (turn.Try submitter) v → IsNextGiven plan next given then → HasTaken v given new → IsAt plan then new
 gave plan next then v new submitter (taken.Ask ask) p tries given took =
     let first = sym (only_place plan next v submitter tries.0 p tries tries.1.0) in
     let same : TakesNothing (with_taken v 0 ask) new = took 0 (tries.1.0 ∙ ap Some first) in

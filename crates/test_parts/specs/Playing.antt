@@ -22,8 +22,8 @@ pub record IsPlaying (plan : List Request) (next : ℕ) (v : WorkerView) : Type 
   pub settled : v.pending ≡ None
 
 -- what is given when so many requests of the plan were taken, and how many were taken then
-abbrev pub IsGiven : List Request → ℕ → Taken → ℕ → Type 0
-IsGiven plan next (Ask ask) then =
+abbrev pub IsNextGiven : List Request → ℕ → Taken → ℕ → Type 0
+IsNextGiven plan next (Ask ask) then =
     (slice_get plan next ≡ Some ask.request) × (ask.number ≡ next + 1) × (then ≡ next + 1)
-IsGiven plan next End then = then ≡ next
-IsGiven plan next Nothing then = ⊥
+IsNextGiven plan next End then = then ≡ next
+IsNextGiven plan next Nothing then = ⊥

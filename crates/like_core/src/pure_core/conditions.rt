@@ -1,7 +1,7 @@
 ghost use Rattle.std.specs.Prelude.{◌≡◌, ◌<◌, ◌^◌, ◌↔◌, ℕ, IsTrue, MatchOption};
 ghost use Rattle.like_core.specs.declared.worker_state.WorkerState.TheVariants.{Runs};
 ghost use Rattle.like_core.specs.Numbers.{sliced, total, AllIn, AllGone};
-ghost use Rattle.like_core.specs.Table.{IsThere, Suits, LeavesLast, HasRoom, Permits, Refuses};
+ghost use Rattle.like_core.specs.Table.{NamesWhatIsThere, Suits, LeavesLast, StaysBelowBound, Permits, Refuses};
 ghost use Rattle.like_core.specs.Core.{numbers_of};
 
 use super::{Core, NotNow};
@@ -38,7 +38,7 @@ impl Core {
     }
 
     pub(super) fn is_there(&self, event: Event) -> bool
-        ensures { IsTrue result ↔ IsThere (numbers_of self.now) event }
+        ensures { IsTrue result ↔ NamesWhatIsThere (numbers_of self.now) event }
     {
         match event {
             Event::Look(worker)
@@ -101,7 +101,7 @@ impl Core {
     }
 
     fn suits(&self, event: Event) -> bool
-        requires { IsThere (numbers_of self.now) event }
+        requires { NamesWhatIsThere (numbers_of self.now) event }
         ensures { IsTrue result ↔ Suits (numbers_of self.now) event }
     {
         let joined = self.phase % 2 == 0;
@@ -134,8 +134,8 @@ impl Core {
     }
 
     fn has_room(&self, event: Event) -> bool
-        requires { IsThere (numbers_of self.now) event }
-        ensures { IsTrue result ↔ HasRoom (numbers_of self.now) event }
+        requires { NamesWhatIsThere (numbers_of self.now) event }
+        ensures { IsTrue result ↔ StaysBelowBound (numbers_of self.now) event }
     {
         match event {
             Event::Like(_, page) => self.total(page) < MOST,

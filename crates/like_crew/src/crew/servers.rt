@@ -1,7 +1,7 @@
 ghost use Rattle.std.specs.Prelude.{◌≡◌, ◌<◌, IfOk, length, true};
 ghost use Rattle.std.specs.List.{AllZip};
 ghost use Rattle.like_core.specs.declared.worker_state.WorkerState.TheVariants.{Gone};
-ghost use Rattle.like_crew.specs.Crew.{AllGone, HasInbox};
+ghost use Rattle.like_crew.specs.Crew.{AreGone, HasInbox};
 ghost use Rattle.like_crew.specs.Server.{IsLogOf, ServerGoesOn};
 ghost use Rattle.like_crew.specs.Ended.{IsSeatOf};
 
@@ -15,7 +15,7 @@ use std::alloc::{AllocError, Global};
 /// Makes one turn of each worker, in order, and says whether all are gone.
 pub fn turns<P: Post>(servers: &mut Vec<Server<P, ListInbox>>) -> bool
     ensures go_on { AllZip ServerGoesOn servers.old.items servers.new.items }
-    ensures gone { result ≡ true → AllGone servers.new.items }
+    ensures gone { result ≡ true → AreGone servers.new.items }
 {
     let mut gone = true;
     for worker in 0..servers.len() {
@@ -67,7 +67,7 @@ pub fn finish_all<I: Inbox>(
     alloc: Global,
     servers: Vec<Server<BoardPost<'_>, I>>,
 ) -> Result<(Vec<WorkerLog>, Vec<WorkerSeat>), AllocError>
-    requires gone { AllGone servers.items }
+    requires gone { AreGone servers.items }
     ensures logs { IfOk result (λ r. AllZip IsLogOf servers.entry.items r.0.items) }
     ensures seats { IfOk result (λ r. AllZip IsSeatOf servers.entry.items r.1.items) }
 {

@@ -2,7 +2,7 @@ ghost use Rattle.std.specs.Prelude.{◌≡◌, ◌<◌, ◌≤◌, ◌^◌, ◌�
 ghost use Rattle.like_requests.specs.Limits.{max_submitters};
 ghost use Rattle.like_roles.specs.declared.log.Ran.{Ran};
 ghost use Rattle.like_replies.specs.Collected.{IsEntryFault, rows_of};
-ghost use Rattle.like_replies.specs.Slots.{HoldsAll, IsSlot, IsSlotsFault, Puts, Refuses};
+ghost use Rattle.like_replies.specs.Slots.{HoldsAll, IsSlot, IsSlotsFault, Puts, RefusesEntry};
 
 use crate::answer::Answer;
 use crate::collect_fault::CollectFault;
@@ -51,7 +51,7 @@ impl Slots {
     fn put(&mut self, entry: &Ran) -> Result<(), CollectFault>
         ensures { MatchResult result
             (λ _. Puts self.old entry.now self.new)
-            (Refuses self.old entry.now) }
+            (RefusesEntry self.old entry.now) }
     {
         let Ran {
             phase,

@@ -3,7 +3,7 @@ ghost use Rattle.like_requests.specs.Limits.{max_requests};
 ghost use Rattle.like_requests.specs.Setup.{IsWithin, IsWithinLimits};
 ghost use Rattle.like_board.specs.Seats.{post_meaning};
 ghost use Rattle.like_roles.specs.New.{IsNew, IsPostOf};
-ghost use Rattle.test_parts.specs.Playing.{IsGiven};
+ghost use Rattle.test_parts.specs.Playing.{IsNextGiven};
 
 use super::gates::Expecting;
 use like_board::BoardPost;
@@ -37,7 +37,7 @@ impl<'a> Model for Player<'a> {
 /// What is there for a worker that takes: the next request of the plan, and after the last one the end mark.
 fn next_of(plan: &[Request], next: &mut usize) -> Taken
     requires { length plan.now ≤ max_requests }
-    ensures { IsGiven plan.now next.old result next.new }
+    ensures { IsNextGiven plan.now next.old result next.new }
 {
     let Some(request) = plan.get(*next) else {
         return Taken::End;

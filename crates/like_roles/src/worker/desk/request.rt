@@ -4,7 +4,7 @@ ghost use Rattle.like_requests.specs.Setup.{IsThere};
 ghost use Rattle.like_tables.specs.Share.{owns};
 ghost use Rattle.like_roles.specs.Desk.{view_of, is_split_at, CanServe, HasRoomForOne, HasRoomToNote, IsJudged, IsSound};
 ghost use Rattle.like_roles.specs.Order.{is_look_at_sliced};
-ghost use Rattle.like_roles.specs.Serve.{Counts, Likes, Runs, GivesReply};
+ghost use Rattle.like_roles.specs.Serve.{CountsLike, Likes, Runs, GivesReply};
 
 use crate::gate::Gate;
 use crate::log::Ran;
@@ -42,7 +42,7 @@ impl Desk {
         requires there { page < length self.old.marks.items }
         ensures sound { IsSound (P.view post.new) self.new }
         ensures room { HasRoomToNote self.new }
-        ensures counted { Counts (view_of (P.view post.old) self.old) page (view_of (P.view post.new) self.new) }
+        ensures counted { CountsLike (view_of (P.view post.old) self.old) page (view_of (P.view post.new) self.new) }
         ensures last { self.new.last ≡ self.old.last }
     {
         if self.is_sliced(page) {

@@ -2,7 +2,7 @@ ghost use Rattle.std.specs.Prelude.{◌≡◌, ◌≢◌, ◌<◌, ◌+◌, ◌*
 ghost use Rattle.like_core.specs.declared.worker_state.WorkerState.TheVariants.{Gone};
 ghost use Rattle.like_core.specs.WorkerState.{IsSightOf, RunsJoined, RunsSplit, SawEnding, phase_of};
 ghost use Rattle.like_tables.specs.Share.{submitter_of};
-ghost use Rattle.like_roles.specs.Desk.{view_of, ArePlaces, IsSettled, IsSound, WorksAt};
+ghost use Rattle.like_roles.specs.Desk.{view_of, HasSubmitters, IsSettled, IsSound, WorksAt};
 ghost use Rattle.like_roles.specs.Turns.{Turns, enters_split, masks_in, saw};
 
 use crate::gate::Gate;
@@ -117,7 +117,7 @@ impl Desk {
 
     // Tries the submitter at a place. The next one is looked for after it.
     fn try_next(&mut self, place: usize) -> Turn
-        requires places { ArePlaces self.old }
+        requires places { HasSubmitters self.old }
         requires there { place < length self.old.ended.items }
         ensures tried { self.new ≡ record self.old {
           pending = Some place;

@@ -9,7 +9,7 @@ use Rattle.like_replies.specs.declared.report.Report.{Report}
 use Rattle.like_run.specs.declared.rounds.fault.ReplayFault.{ReplayFault}
 use Rattle.like_run.specs.declared.rounds.fault.ReplayFault.TheVariants.{Settings, Memory, Unfinished}
 use Rattle.like_script.specs.declared.turned.Turned.{Turned}
-use Rattle.like_run.specs.Rounds.{Fits, IsFaultUnderWay, IsReplayFault}
+use Rattle.like_run.specs.Rounds.{CanReplayScript, IsReplayFaultUnderWay, IsReplayFault}
 use Rattle.like_script.specs.Fit.{IsFirstAway, IsInRun}
 use Rattle.like_run.proofs.rounds.replay_noting.Goals as goal
 
@@ -37,11 +37,11 @@ returns-in_err-check_script-clause-fault c =
     ))
 
 -- what fits says so of an answer, and of each fault of the run itself
-when-fits : (setup : Setup) (plans : List (List Request)) (script : List Turned) (r : Result Report ReplayFault) → Fits setup plans script → OnOk r (Fits setup plans script)
+when-fits : (setup : Setup) (plans : List (List Request)) (script : List Turned) (r : Result Report ReplayFault) → CanReplayScript setup plans script → OnOk r (CanReplayScript setup plans script)
 when-fits setup plans script (Ok report) fits = fits
 when-fits setup plans script (Err fault) fits = tt
 
-run-fault : (setup : Setup) (plans : List (List Request)) (script : List Turned) (r : Result Report ReplayFault) → Fits setup plans script → IfErr r IsFaultUnderWay → IfErr r (IsReplayFault setup plans script)
+run-fault : (setup : Setup) (plans : List (List Request)) (script : List Turned) (r : Result Report ReplayFault) → CanReplayScript setup plans script → IfErr r IsReplayFaultUnderWay → IfErr r (IsReplayFault setup plans script)
 run-fault setup plans script (Ok report) fits h = tt
 run-fault setup plans script (Err (Settings why)) fits h = absurd h
 run-fault setup plans script (Err Memory) fits h = fits
@@ -49,7 +49,7 @@ run-fault setup plans script (Err Unfinished) fits h = fits
 
 -- what was tested fits
 tested : (setup : Setup) (plans : List (Vec Request Global)) (script : List Turned) (many : ℕ) → IsWithinLimits setup (map requests_of plans) → many ≡ length plans → All (IsInRun setup.workers many) script
-    → Fits setup (map requests_of plans) script
+    → CanReplayScript setup (map requests_of plans) script
 tested setup plans script many within sized there = record {
   within = within;
   there = subst (λ n. All (IsInRun setup.workers n) script) (sized ∙ sym (length-map plans requests_of)) there;

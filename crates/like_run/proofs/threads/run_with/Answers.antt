@@ -6,7 +6,7 @@ use Rattle.like_requests.specs.declared.setup.Setup.{Setup}
 use Rattle.like_replies.specs.declared.report.Report.{Report}
 use Rattle.like_run.specs.declared.threads.fault.RunFault.{RunFault}
 use Rattle.like_run.specs.declared.threads.fault.RunFault.TheVariants.{Settings, Memory, Start}
-use Rattle.like_run.specs.Threads.{IsFaultUnderWay, IsRunFault}
+use Rattle.like_run.specs.Threads.{IsRunFaultUnderWay, IsRunFault}
 use Rattle.like_run.proofs.threads.run_with.Goals as goal
 
 abbrev requests_of : Vec Request Global → List Request
@@ -28,7 +28,7 @@ when-within : (setup : Setup) (plans : List (List Request)) (r : Result Report R
 when-within setup plans (Ok report) within = within
 when-within setup plans (Err fault) within = tt
 
-run-fault : (setup : Setup) (plans : List (List Request)) (r : Result Report RunFault) → IsWithinLimits setup plans → IfErr r IsFaultUnderWay → IfErr r (IsRunFault setup plans)
+run-fault : (setup : Setup) (plans : List (List Request)) (r : Result Report RunFault) → IsWithinLimits setup plans → IfErr r IsRunFaultUnderWay → IfErr r (IsRunFault setup plans)
 run-fault setup plans (Ok report) within h = tt
 run-fault setup plans (Err (Settings why)) within h = absurd h
 run-fault setup plans (Err Memory) within h = within

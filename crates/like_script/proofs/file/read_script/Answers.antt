@@ -1,6 +1,6 @@
 use Rattle.std.proofs.Common.{IfOk, Vec, Global, Result, Ok, Err, ◌≡◌, ◌≤◌, length, map}
 use Rattle.like_records.specs.Rows.{MadeOf}
-use Rattle.like_script.specs.File.{AsksEntryRecord, entry_of, entry_tests}
+use Rattle.like_script.specs.File.{AsksEntryRecord, turned_of, entry_tests}
 use Rattle.like_script.specs.Limits.{max_entries}
 use Rattle.like_script.specs.declared.turned.Turned.{Turned}
 use Rattle.like_script.specs.declared.file.ScriptFault.{ScriptFault}
@@ -8,7 +8,7 @@ use Rattle.like_script.proofs.ScriptRead.{few-entries, script-read}
 use Rattle.like_script.proofs.file.read_script.Goals as goal
 
 -- where entries were read, they are not too many
-few : (r : Result (Vec Turned Global) ScriptFault) → IfOk r (λ entries. MadeOf AsksEntryRecord entry_tests (λ body. entries.items ≡ map entry_of body)) → IfOk r (λ entries. length entries.items ≤ max_entries)
+few : (r : Result (Vec Turned Global) ScriptFault) → IfOk r (λ entries. MadeOf AsksEntryRecord entry_tests (λ body. entries.items ≡ map turned_of body)) → IfOk r (λ entries. length entries.items ≤ max_entries)
 few (Ok entries) made = few-entries entries.items made
 few (Err fault) made = tt
 
