@@ -11,25 +11,25 @@ use Rattle.like_core.specs.declared.view.WorkerSeatView.{WorkerSeatView}
 use Rattle.like_core.specs.declared.view.CoordSeatView.{CoordSeatView}
 use Rattle.like_core.specs.declared.view.View.{View}
 use Rattle.like_core.specs.declared.view.View.TheVariants.{Coord, Worker, Spent}
-use Rattle.like_core.specs.Word.{Fields, packed, IsLawful, released, answer_bit, retirement_bit}
-use Rattle.like_core.specs.Sights.{sight_of, coord_sight_of}
+use Rattle.like_core.specs.word.Word.{Fields, packed, IsLawful, released, answer_bit, retirement_bit}
+use Rattle.like_core.specs.views.Sights.{sight_of, coord_sight_of}
 use Rattle.like_core.specs.Post.{IsFresh, MayAdd, MayRead}
 use Rattle.like_core.specs.WorkerState.{RunsJoined, RunsSplit, SawEnding}
-use Rattle.like_core.specs.Views.{MayAnnounce, MayCount, MayPublish, MayRelease, fresh, looked_view, answered_view, retired_view, added_view, read_view, masked_view, post_of, likes_merged, adding, looked_coord, announced_coord, counted_coord, published_coord, mask_released, released_coord, made_coord, gathered_coord}
-use Rattle.like_core.specs.Actions.{Acknowledges, Reports, Retires, Announces, Releases}
-use Rattle.like_core.specs.Shows.{ShowsSome, FitsWorker, FitsCoord, IsStep, IsSteps}
-use Rattle.like_core.proofs.Posts.{post_fresh}
+use Rattle.like_core.specs.views.Views.{MayAnnounce, MayCount, MayPublish, MayRelease, fresh, looked_view, answered_view, retired_view, added_view, read_view, masked_view, post_of, likes_merged, adding, looked_coord, announced_coord, counted_coord, published_coord, mask_released, released_coord, made_coord, gathered_coord}
+use Rattle.like_core.specs.views.Actions.{Acknowledges, Reports, Retires, Announces, Releases}
+use Rattle.like_core.specs.views.Shows.{ShowsSome, FitsWorker, FitsCoord, IsStep, IsSteps}
+use Rattle.like_core.proofs.views.Posts.{post_fresh}
 use Rattle.like_board.specs.declared.key.Key.{Key}
 use Rattle.like_board.specs.Known.{worker_view_of, coord_view_of}
 use Rattle.like_board.specs.Rule.{opening_of, IsShowing}
 use Rattle.like_board.specs.Plays.{Looked, Surveyed, TellsLook, TellsSurvey, TellsWorker, TellsCoord, TellsAdd, TellsRead, TellsAddAt, TellsReadAt, TellsMask, TellsCount, TellsCountAt}
-use Rattle.like_board.proofs.Leads.{splits}
-use Rattle.like_board.proofs.WorkerSteps.{looks, acknowledges, reports, retires}
-use Rattle.like_board.proofs.CoordSteps.{surveys, announces, releases}
-use Rattle.like_board.proofs.Choosing.{counts, publishes}
+use Rattle.like_board.proofs.coordinator.Leads.{splits}
+use Rattle.like_board.proofs.worker.WorkerSteps.{looks, acknowledges, reports, retires}
+use Rattle.like_board.proofs.coordinator.CoordSteps.{surveys, announces, releases}
+use Rattle.like_board.proofs.coordinator.Choosing.{counts, publishes}
 use Rattle.like_board.proofs.Tallying.{tallied_made, places_made}
-use Rattle.like_board.proofs.Additions.{adds}
-use Rattle.like_board.proofs.Readings.{reads, reads_mask}
+use Rattle.like_board.proofs.worker.Additions.{adds}
+use Rattle.like_board.proofs.worker.Readings.{reads, reads_mask}
 use Rattle.like_board.proofs.Gathering.{gathers}
 
 -- the opening in a worker's view is the board's

@@ -12,18 +12,18 @@ use Rattle.like_core.specs.declared.view.WorkerSeatView.{WorkerSeatView}
 use Rattle.like_core.specs.declared.view.CoordSeatView.{CoordSeatView}
 use Rattle.like_core.specs.declared.view.View.{View}
 use Rattle.like_core.specs.declared.view.View.TheVariants.{Coord, Worker, Spent}
-use Rattle.like_core.specs.State.{CoreState}
+use Rattle.like_core.specs.core.State.{CoreState}
 use Rattle.like_core.specs.Additions.{added_to, added_before}
-use Rattle.like_core.specs.Views.{gathered_coord, seats_of}
-use Rattle.like_core.specs.Reads.{before_in, all_before, AreBetween, IsCounted}
-use Rattle.like_core.specs.Places.{Counting, AreTiles, ArePlaced, passing, all_passing, count_after}
-use Rattle.like_core.specs.Tallies.{paged, left_to, room}
-use Rattle.like_core.specs.Shows.{Shows, ShowsSome, Fits, FitsWorker, FitsCoord}
-use Rattle.like_core.proofs.ViewLists.{within, sum_two, sum_lone, sum_gathered}
-use Rattle.like_core.proofs.KeptPlaces.{join_keeps_places, placed_on, tiles_on}
-use Rattle.like_core.proofs.KeptReads.{between_on, counted_on, join_keeps_reads}
-use Rattle.like_board.proofs.Moves.{same_coord, has_seat, once_at_most}
-use Rattle.like_board.proofs.Leads.{of_coord}
+use Rattle.like_core.specs.views.Views.{gathered_coord, seats_of}
+use Rattle.like_core.specs.views.Reads.{before_in, all_before, AreBetween, IsCounted}
+use Rattle.like_core.specs.views.Places.{Counting, AreTiles, ArePlaced, passing, all_passing, count_after}
+use Rattle.like_core.specs.views.Tallies.{paged, left_to, room}
+use Rattle.like_core.specs.views.Shows.{Shows, ShowsSome, Fits, FitsWorker, FitsCoord}
+use Rattle.like_core.proofs.views.ViewLists.{within, sum_two, sum_lone, sum_gathered}
+use Rattle.like_core.proofs.views.KeptPlaces.{join_keeps_places, placed_on, tiles_on}
+use Rattle.like_core.proofs.views.KeptReads.{between_on, counted_on, join_keeps_reads}
+use Rattle.like_board.proofs.worker.Moves.{same_coord, has_seat, once_at_most}
+use Rattle.like_board.proofs.coordinator.Leads.{of_coord}
 
 -- the views after the seat at `other` was given back to the coordinator's at `place`
 abbrev pub gathered : List View → ℕ → ℕ → CoordSeatView → WorkerSeatView → List View

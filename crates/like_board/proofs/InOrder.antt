@@ -5,7 +5,7 @@ use mathlib.Core.Option.{some, some-injective, some-ne-none}
 use lib.ListN.{get_elem?}
 use Rattle.like_board.specs.declared.worker_seat.WorkerSeat.{WorkerSeat}
 use Rattle.like_board.specs.Seats.{seat_meaning, AreAll}
-use Rattle.like_core.proofs.ViewLists.{sum_lone}
+use Rattle.like_core.proofs.views.ViewLists.{sum_lone}
 
 module _ {A : Type 0} where
   -- a list has an element at each place within it

@@ -15,19 +15,19 @@ use Rattle.like_core.specs.declared.view.View.{View}
 use Rattle.like_core.specs.declared.view.View.TheVariants.{Coord}
 use Rattle.like_core.specs.Post.{additions_of}
 use Rattle.like_core.specs.Additions.{added_to, added_before}
-use Rattle.like_core.specs.Views.{post_of, seats_of}
-use Rattle.like_core.specs.Reads.{before_in, AreBetween, IsCounted}
+use Rattle.like_core.specs.views.Views.{post_of, seats_of}
+use Rattle.like_core.specs.views.Reads.{before_in, AreBetween, IsCounted}
 use Rattle.like_core.specs.PhaseMasks.{mask_of, AreMasksOf}
-use Rattle.like_core.specs.Places.{Counting, AreTiles, ArePlaced, passing}
-use Rattle.like_core.specs.Tallies.{paged}
-use Rattle.like_core.specs.Shows.{ShowsSome, FitsWorker, FitsCoord}
-use Rattle.like_core.proofs.KeptReads.{between_on, counted_on}
+use Rattle.like_core.specs.views.Places.{Counting, AreTiles, ArePlaced, passing}
+use Rattle.like_core.specs.views.Tallies.{paged}
+use Rattle.like_core.specs.views.Shows.{ShowsSome, FitsWorker, FitsCoord}
+use Rattle.like_core.proofs.views.KeptReads.{between_on, counted_on}
 use Rattle.like_board.specs.declared.key.Key.{Key}
 use Rattle.like_board.specs.declared.worker_seat.WorkerSeat.{WorkerSeat}
 use Rattle.like_board.specs.Known.{coord_view_of}
 use Rattle.like_board.specs.Rule.{opening_of, IsShowing}
 use Rattle.like_board.specs.Seats.{seat_view, seat_meaning, AreAll, last_count, seats_before, HaveReadBetween, AreCounted, HaveReadMasks, HavePlaces, seats_passing}
-use Rattle.like_board.proofs.Moves.{if_some}
+use Rattle.like_board.proofs.worker.Moves.{if_some}
 use Rattle.like_board.proofs.Gathering.{last_word, last_reads, last_counted, last_places}
 
 -- what stands at a place is what is read there

@@ -1,12 +1,6 @@
-pub mod Moves
+pub mod worker
 pub mod Tallying
-pub mod Leads
-pub mod WorkerSteps
-pub mod CoordSteps
-pub mod Choosing
-pub mod Pages
-pub mod Additions
-pub mod Readings
+pub mod coordinator
 pub mod Gathering
 pub mod LastCounts
 pub mod InOrder

@@ -15,20 +15,20 @@ use Rattle.like_core.specs.declared.view.CoordSeatView.{CoordSeatView}
 use Rattle.like_core.specs.declared.view.View.{View}
 use Rattle.like_core.specs.declared.view.View.TheVariants.{Coord}
 use Rattle.like_core.specs.Limits.{max_workers, max_pages, max_count}
-use Rattle.like_core.specs.Numbers.{AllIn}
-use Rattle.like_core.specs.Word.{packed}
-use Rattle.like_core.specs.State.{start, numbers}
-use Rattle.like_core.specs.ShownWord.{mask, has_answered, is_gone, shown_fields}
-use Rattle.like_core.specs.Sights.{first_fields}
-use Rattle.like_core.specs.Views.{fresh_coord}
-use Rattle.like_core.specs.Reads.{all_before, IsCounted, HasReads, ReadsFit}
-use Rattle.like_core.specs.Shows.{IsOpening, ShowsSome, Fits, FitsCoord}
-use Rattle.like_core.proofs.KeptPlaces.{places_open}
-use Rattle.like_core.proofs.Reached.{start_reached}
-use Rattle.like_core.proofs.Masks.{mask_none}
+use Rattle.like_core.specs.core.Numbers.{AllIn}
+use Rattle.like_core.specs.word.Word.{packed}
+use Rattle.like_core.specs.core.State.{start, numbers}
+use Rattle.like_core.specs.word.ShownWord.{mask, has_answered, is_gone, shown_fields}
+use Rattle.like_core.specs.views.Sights.{first_fields}
+use Rattle.like_core.specs.views.Views.{fresh_coord}
+use Rattle.like_core.specs.views.Reads.{all_before, IsCounted, HasReads, ReadsFit}
+use Rattle.like_core.specs.views.Shows.{IsOpening, ShowsSome, Fits, FitsCoord}
+use Rattle.like_core.proofs.views.KeptPlaces.{places_open}
+use Rattle.like_core.proofs.core.Reached.{start_reached}
+use Rattle.like_core.proofs.word.Masks.{mask_none}
 use Rattle.like_board.specs.declared.key.Key.{Key}
 use Rattle.like_board.specs.Rule.{opening_of, first_view}
-use Rattle.like_board.proofs.Moves.{counts_none}
+use Rattle.like_board.proofs.worker.Moves.{counts_none}
 
 -- the fields at the start are those of the core's start
 start_fields : (z : Opening) → shown_fields z (start z) ≡ first_fields z.workers

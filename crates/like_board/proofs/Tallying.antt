@@ -9,13 +9,13 @@ use Rattle.like_core.specs.declared.view.CoordSeatView.{CoordSeatView}
 use Rattle.like_core.specs.declared.view.View.{View}
 use Rattle.like_core.specs.declared.view.View.TheVariants.{Coord, Worker}
 use Rattle.like_core.specs.Limits.{max_likes}
-use Rattle.like_core.specs.State.{CoreState, Label}
-use Rattle.like_core.specs.Views.{fresh, made_coord}
-use Rattle.like_core.specs.Reads.{before_in}
-use Rattle.like_core.specs.Places.{PlacesTile}
-use Rattle.like_core.specs.Tallies.{Tallied, paged, room}
-use Rattle.like_core.proofs.KeptPlaces.{placed_nothing, places_push, places_same}
-use Rattle.like_core.proofs.ViewLists.{sum_set, sum_swap}
+use Rattle.like_core.specs.core.State.{CoreState, Label}
+use Rattle.like_core.specs.views.Views.{fresh, made_coord}
+use Rattle.like_core.specs.views.Reads.{before_in}
+use Rattle.like_core.specs.views.Places.{PlacesTile}
+use Rattle.like_core.specs.views.Tallies.{Tallied, paged, room}
+use Rattle.like_core.proofs.views.KeptPlaces.{placed_nothing, places_push, places_same}
+use Rattle.like_core.proofs.views.ViewLists.{sum_set, sum_swap}
 
 -- after a step that applies no like, with a new view that has the same additions
 pub tallied_on : (s t : CoreState) (views : List View) (place : ℕ) (a b : View) → s.phase ≤ t.phase → ((page : ℕ) → t.applied page ≡ s.applied page) → get_elem? views place ≡ some a → ((page : ℕ) → paged page b ≡ paged page a) → ((page : ℕ) → room page b ≡ room page a) → ((phase page : ℕ) → before_in phase page b ≡ before_in phase page a) → Tallied s views → Tallied t (set views place b)

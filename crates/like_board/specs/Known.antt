@@ -4,7 +4,7 @@ use Rattle.like_core.specs.declared.view.WorkerSeatView.{WorkerSeatView}
 use Rattle.like_core.specs.declared.view.CoordSeatView.{CoordSeatView}
 use Rattle.like_core.specs.declared.view.View.{View}
 use Rattle.like_core.specs.declared.view.View.TheVariants.{Coord, Worker, Spent}
-use Rattle.like_core.specs.Views.{fresh, fresh_coord}
+use Rattle.like_core.specs.views.Views.{fresh, fresh_coord}
 
 -- the opening of a view that is of no board
 abbrev pub nowhere : Opening

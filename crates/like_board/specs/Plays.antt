@@ -7,13 +7,13 @@ use Rattle.like_core.specs.declared.view.CoordSeatView.{CoordSeatView}
 use Rattle.like_core.specs.declared.view.View.{View}
 use Rattle.like_core.specs.declared.view.View.TheVariants.{Coord, Worker}
 use Rattle.like_core.specs.Phase.{IsSplit}
-use Rattle.like_core.specs.Word.{Fields, packed, IsLawful}
-use Rattle.like_core.specs.Sights.{sight_of, coord_sight_of}
+use Rattle.like_core.specs.word.Word.{Fields, packed, IsLawful}
+use Rattle.like_core.specs.views.Sights.{sight_of, coord_sight_of}
 use Rattle.like_core.specs.WorkerState.{IsSightOf, SeesEndingStill}
 use Rattle.like_core.specs.Additions.{added_to}
-use Rattle.like_core.specs.Views.{looked_view, added_view, read_view, masked_view, looked_coord, counted_coord}
-use Rattle.like_core.specs.Shows.{IsStep}
-use Rattle.like_core.specs.Actions.{Adds, Reads, ReadsMask, Counts}
+use Rattle.like_core.specs.views.Views.{looked_view, added_view, read_view, masked_view, looked_coord, counted_coord}
+use Rattle.like_core.specs.views.Shows.{IsStep}
+use Rattle.like_core.specs.views.Actions.{Adds, Reads, ReadsMask, Counts}
 use Rattle.like_board.specs.Known.{worker_view_of, coord_view_of}
 
 -- what a worker's look finds and shows

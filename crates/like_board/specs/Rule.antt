@@ -4,10 +4,10 @@ use Rattle.like_core.specs.declared.opening.Opening.{Opening}
 use Rattle.like_core.specs.declared.view.CoordSeatView.{CoordSeatView}
 use Rattle.like_core.specs.declared.view.View.{View}
 use Rattle.like_core.specs.declared.view.View.TheVariants.{Coord}
-use Rattle.like_core.specs.Word.{packed}
-use Rattle.like_core.specs.Sights.{first_fields}
-use Rattle.like_core.specs.Views.{fresh_coord}
-use Rattle.like_core.specs.Shows.{ShowsSome}
+use Rattle.like_core.specs.word.Word.{packed}
+use Rattle.like_core.specs.views.Sights.{first_fields}
+use Rattle.like_core.specs.views.Views.{fresh_coord}
+use Rattle.like_core.specs.views.Shows.{ShowsSome}
 use Rattle.like_board.specs.declared.key.Key.{Key}
 
 -- the opening that a key stands for

@@ -11,9 +11,9 @@ use Rattle.like_board.specs.declared.worker_seat.WorkerSeat.{WorkerSeat}
 use Rattle.like_board.specs.declared.board_post.BoardPost.{BoardPost}
 use Rattle.like_core.specs.Additions.{added_before}
 use Rattle.like_core.specs.Post.{PostView, IsFresh, additions_of}
-use Rattle.like_core.specs.Views.{fresh, post_of}
-use Rattle.like_core.specs.Reads.{AreBetween, IsCounted}
-use Rattle.like_core.specs.Places.{Counting, AreTiles, ArePlaced}
+use Rattle.like_core.specs.views.Views.{fresh, post_of}
+use Rattle.like_core.specs.views.Reads.{AreBetween, IsCounted}
+use Rattle.like_core.specs.views.Places.{Counting, AreTiles, ArePlaced}
 use Rattle.like_core.specs.PhaseMasks.{mask_of, AreMasksOf}
 use Rattle.like_board.specs.Known.{worker_view_of, coord_view_of}
 

@@ -19,7 +19,7 @@ pub struct Board {
 }
 
 impl Board {
-    ghost use Rattle.like_core.specs.State.{opening};
+    ghost use Rattle.like_core.specs.core.State.{opening};
     ghost use Rattle.like_board.specs.Rule.{opened_coord};
     ghost use Rattle.like_board.specs.Seats.{board_id, coord_board, coord_view, AreFresh};
 

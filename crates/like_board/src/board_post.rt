@@ -30,8 +30,8 @@ impl Post for BoardPost<'_> {
     ghost use Rattle.like_core.specs.declared.worker_state.WorkerState.TheVariants.{Gone};
     ghost use Rattle.like_core.specs.WorkerState.{RunsJoined, RunsSplit, SawEnding, IsSightOf, SeesEndingStill};
     ghost use Rattle.like_core.specs.Post.{looked_at, answered, retired, added, has_read, with_mask, additions_of, MayAdd, MayRead};
-    ghost use Rattle.like_core.specs.Views.{looked_view, answered_view, retired_view, added_view, read_view, masked_view};
-    ghost use Rattle.like_core.specs.Actions.{Looks, Acknowledges, Reports, Retires, Adds, Reads, ReadsMask};
+    ghost use Rattle.like_core.specs.views.Views.{looked_view, answered_view, retired_view, added_view, read_view, masked_view};
+    ghost use Rattle.like_core.specs.views.Actions.{Looks, Acknowledges, Reports, Retires, Adds, Reads, ReadsMask};
     ghost use Rattle.like_board.specs.Seats.{post_board, post_view, post_meaning};
 
     ghost view = { post_meaning };

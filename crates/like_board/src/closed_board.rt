@@ -6,7 +6,7 @@ ghost use lib.ListN.{get_elem?};
 ghost use Rattle.like_core.specs.declared.view.View.TheVariants.{Coord};
 ghost use Rattle.like_core.specs.declared.worker_state.WorkerState.TheVariants.{Gone};
 ghost use Rattle.like_core.specs.WorkerState.{SawNoLater};
-ghost use Rattle.like_core.specs.Views.{gathered_all};
+ghost use Rattle.like_core.specs.views.Views.{gathered_all};
 ghost use Rattle.like_board.specs.Known.{coord_view_of};
 ghost use Rattle.like_board.specs.Seats.{board_id, coord_board, coord_view, seat_board, seat_view, seat_meaning, AreAll, last_count, HaveReadBetween, HaveReadMasks, HavePlaces, AreCounted};
 

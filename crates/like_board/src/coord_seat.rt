@@ -1,9 +1,9 @@
 ghost use Rattle.std.specs.Prelude.{◌≡◌, ◌+◌, true, [], length};
 ghost use Rattle.std.specs.Option.{option_map};
 ghost use Rattle.like_core.specs.declared.view.View.TheVariants.{Coord};
-ghost use Rattle.like_core.specs.Word.{packed};
-ghost use Rattle.like_core.specs.PhaseWord.{fields_of};
-ghost use Rattle.like_core.specs.Sights.{coord_sight_of};
+ghost use Rattle.like_core.specs.word.Word.{packed};
+ghost use Rattle.like_core.specs.word.PhaseWord.{fields_of};
+ghost use Rattle.like_core.specs.views.Sights.{coord_sight_of};
 ghost use Rattle.like_board.specs.Known.{coord_view_of};
 
 use crate::board::Board;
@@ -28,8 +28,8 @@ pub struct CoordSeat {
 
 impl CoordSeat {
     ghost use Rattle.like_core.specs.Phase.{IsSplit};
-    ghost use Rattle.like_core.specs.Views.{looked_coord, announced_coord, counted_coord, published_coord, released_coord, MayAnnounce, MayCount, MayPublish, MayRelease};
-    ghost use Rattle.like_core.specs.Actions.{Surveys, Announces, Counts, Releases};
+    ghost use Rattle.like_core.specs.views.Views.{looked_coord, announced_coord, counted_coord, published_coord, released_coord, MayAnnounce, MayCount, MayPublish, MayRelease};
+    ghost use Rattle.like_core.specs.views.Actions.{Surveys, Announces, Counts, Releases};
     ghost use Rattle.like_board.specs.Seats.{board_id, coord_board, coord_view};
 
     /// Looks at the phase word. Once it showed all workers in, it shows that until the release.

@@ -3,7 +3,7 @@ ghost use Rattle.std.specs.Prelude.{◌≡◌, ◌+◌, ◌<◌, ◌≤◌, [], 
 ghost use Rattle.like_core.specs.declared.view.View.TheVariants.{Coord};
 ghost use Rattle.like_core.specs.Limits.{max_workers};
 ghost use Rattle.like_core.specs.Post.{IsFresh};
-ghost use Rattle.like_core.specs.Views.{fresh, made_coord};
+ghost use Rattle.like_core.specs.views.Views.{fresh, made_coord};
 ghost use Rattle.like_board.specs.Known.{coord_view_of};
 ghost use Rattle.like_board.specs.Seats.{board_id, seat_board, seat_view, seat_meaning, AreFresh};
 

@@ -1,8 +1,8 @@
 //! What each kind of step tells the seat that makes it, and how a worker's seat is made and given back.
 ghost use Rattle.std.specs.Prelude.{◌≡◌, []};
 ghost use Rattle.like_core.specs.declared.view.View.TheVariants.{Coord, Worker, Spent};
-ghost use Rattle.like_core.specs.Views.{fresh, answered_view, retired_view, announced_coord, released_coord, published_coord, made_coord, gathered_coord};
-ghost use Rattle.like_core.specs.Actions.{Acknowledges, Reports, Retires, Announces, Releases};
+ghost use Rattle.like_core.specs.views.Views.{fresh, answered_view, retired_view, announced_coord, released_coord, published_coord, made_coord, gathered_coord};
+ghost use Rattle.like_core.specs.views.Actions.{Acknowledges, Reports, Retires, Announces, Releases};
 ghost use Rattle.like_board.specs.Known.{coord_view_of, worker_view_of};
 ghost use Rattle.like_board.specs.Plays.{TellsLook, TellsSurvey, TellsWorker, TellsCoord, TellsAddAt, TellsReadAt, TellsMask, TellsCountAt};
 

@@ -25,8 +25,8 @@ impl WorkerSeat {
     ghost use Rattle.like_core.specs.WorkerState.{IsSightOf, RunsJoined, RunsSplit, SawEnding, SeesEndingStill};
     ghost use Rattle.like_core.specs.Post.{MayAdd, MayRead};
     ghost use Rattle.like_core.specs.Additions.{added_to};
-    ghost use Rattle.like_core.specs.Views.{looked_view, answered_view, retired_view, added_view, read_view, masked_view};
-    ghost use Rattle.like_core.specs.Actions.{Looks, Acknowledges, Reports, Retires, Adds, Reads, ReadsMask};
+    ghost use Rattle.like_core.specs.views.Views.{looked_view, answered_view, retired_view, added_view, read_view, masked_view};
+    ghost use Rattle.like_core.specs.views.Actions.{Looks, Acknowledges, Reports, Retires, Adds, Reads, ReadsMask};
     ghost use Rattle.like_board.specs.Seats.{board_id, seat_board, seat_view, seat_meaning, post_board, post_view, post_meaning};
 
     /// Takes the seat to its board.

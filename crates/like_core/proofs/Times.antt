@@ -2,7 +2,7 @@ use Rattle.std.proofs.Common.{◌≡◌, ◌≢◌, ℕ, ◌+◌, ◌==◌, inl,
 use Rattle.std.proofs.lemmas.Bool.{cases_eq, cond-true, cond-false, eq-eqb, ne_eqb}
 use Rattle.std.proofs.lemmas.List.Sums.{sum_by-append, sum_by-cons}
 use Rattle.like_core.specs.Functions.{update, times}
-use Rattle.like_core.specs.State.{without}
+use Rattle.like_core.specs.core.State.{without}
 use Rattle.like_core.proofs.Updates.{update-same, update-other}
 
 -- a list that is joined to another adds what it has of each number

@@ -1,8 +1,8 @@
 //! Laws of the core's states and of the views of seats. Each is the contract of a function that does nothing.
-ghost use Rattle.like_core.specs.Exclusive.{ReachableIsExclusive};
-ghost use Rattle.like_core.specs.Likes.{LikesStayReachable};
-ghost use Rattle.like_core.specs.Places.{AdditionKeepsPlaces, ReadKeepsPlaces, JoinKeepsPlaces};
-ghost use Rattle.like_core.specs.Reads.{AdditionKeepsReads, ReadKeepsReads, JoinKeepsReads};
+ghost use Rattle.like_core.specs.core.Exclusive.{ReachableIsExclusive};
+ghost use Rattle.like_core.specs.core.Likes.{LikesStayReachable};
+ghost use Rattle.like_core.specs.views.Places.{AdditionKeepsPlaces, ReadKeepsPlaces, JoinKeepsPlaces};
+ghost use Rattle.like_core.specs.views.Reads.{AdditionKeepsReads, ReadKeepsReads, JoinKeepsReads};
 
 /// No worker runs joined work while another has unmerged likes, after any list of events.
 pub fn reachable_is_exclusive()

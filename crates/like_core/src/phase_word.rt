@@ -1,5 +1,5 @@
 ghost use Rattle.std.specs.Prelude.{◌≡◌, ◌↔◌, IsSome, IfSome, IsSomeAnd};
-ghost use Rattle.like_core.specs.Word.{word_fields, packed, IsLawful};
+ghost use Rattle.like_core.specs.word.Word.{word_fields, packed, IsLawful};
 
 mod kind;
 mod sights;
@@ -37,7 +37,7 @@ pub struct PhaseWord {
 }
 
 impl PhaseWord {
-    ghost use Rattle.like_core.specs.PhaseWord.{fields_of};
+    ghost use Rattle.like_core.specs.word.PhaseWord.{fields_of};
 
     /// The word with these fields, or `None` where they are not lawful.
     pub fn new(

@@ -1,8 +1,8 @@
 ghost use Rattle.std.specs.Prelude.{◌≡◌, ℕ, ◌^◌, ◌<◌, ◌≤◌, ◌↔◌, true, [], length, replicate, slice_index_or, All, IsOk, IfOk, OnOk, IfErr, OnErr};
 ghost use Rattle.like_core.specs.Phase.{last_phase};
 ghost use Rattle.like_core.specs.Limits.{max_workers, max_pages, total_bound};
-ghost use Rattle.like_core.specs.Numbers.{AreBounded};
-ghost use Rattle.like_core.specs.Kept.{kept, AreRowsOf};
+ghost use Rattle.like_core.specs.core.Numbers.{AreBounded};
+ghost use Rattle.like_core.specs.core.Kept.{kept, AreRowsOf};
 
 use crate::event::Event;
 use crate::shown::Shown;
@@ -53,9 +53,9 @@ fn empty_rows(alloc: Global, workers: u32, pages: usize) -> Result<Vec<PageNumbe
 }
 
 impl Core {
-    ghost use Rattle.like_core.specs.Table.{Permits, IsShown, next, Refuses};
-    ghost use Rattle.like_core.specs.State.{opening};
-    ghost use Rattle.like_core.specs.Core.{numbers_of, StandsForStart, TakesStates, IsReachable, KeepsReachable, IsCoreExclusive};
+    ghost use Rattle.like_core.specs.core.Table.{Permits, IsShown, next, Refuses};
+    ghost use Rattle.like_core.specs.core.State.{opening};
+    ghost use Rattle.like_core.specs.core.Core.{numbers_of, StandsForStart, TakesStates, IsReachable, KeepsReachable, IsCoreExclusive};
 
     /// The core at the start of phase 0, running, with these counts and marks by page. Pages that are marked in `split`
     /// are split in each odd phase, and others of the first 64 in those that are released with their bit.

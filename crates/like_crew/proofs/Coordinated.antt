@@ -5,16 +5,16 @@ use Rattle.like_core.specs.declared.sight.CoordSight.{CoordSight}
 use Rattle.like_core.specs.declared.view.CoordSeatView.{CoordSeatView}
 use Rattle.like_tables.specs.Share.{Share, place_of}
 use Rattle.like_roles.specs.declared.coord_turn.CoordTurn.{CoordTurn}
-use Rattle.like_roles.specs.Choice as choice
-use Rattle.like_roles.specs.Choice.{ChoiceView, ReleasesNext}
-use Rattle.like_roles.proofs.Choosing.{release-opening}
-use Rattle.like_roles.specs.CoordTurns as turns
-use Rattle.like_roles.specs.CoordTurns.{Acts, CoordTurns, CoordinatorView, surveyed}
+use Rattle.like_roles.specs.coordinator.Choice as choice
+use Rattle.like_roles.specs.coordinator.Choice.{ChoiceView, ReleasesNext}
+use Rattle.like_roles.proofs.choice.Choosing.{release-opening}
+use Rattle.like_roles.specs.coordinator.CoordTurns as turns
+use Rattle.like_roles.specs.coordinator.CoordTurns.{Acts, CoordTurns, CoordinatorView, surveyed}
 use Rattle.like_crew.specs.Server.{ServerGoesOn, ServerView}
 use Rattle.like_crew.specs.declared.crew.Crew.{Crew}
 use Rattle.like_crew.specs.Crew.{GoesOn, HasInbox, LeadGoesOn}
-use Rattle.like_crew.proofs.Later.{all-further-both, all-same}
-use Rattle.like_crew.proofs.Pairs.{pairs-length}
+use Rattle.like_crew.proofs.servers.Later.{all-further-both, all-same}
+use Rattle.like_crew.proofs.lists.Pairs.{pairs-length}
 
 board-acts : (v : CoordinatorView) (sight : CoordSight) (answer : CoordTurn) (w : CoordinatorView) → Acts v sight answer w → w.board ≡ v.board
 board-acts v sight answer w (turns.ends g a x) = ap (λ (y : CoordinatorView). y.board) x

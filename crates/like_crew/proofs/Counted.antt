@@ -10,8 +10,8 @@ use Rattle.like_tables.specs.Share.{worker_of}
 use Rattle.like_roles.specs.declared.log.Ran.{Ran}
 use Rattle.like_roles.specs.declared.log.Took.{Took}
 use Rattle.like_roles.specs.declared.log.WorkerLog.{WorkerLog}
-use Rattle.like_roles.specs.Order.{Entry, entry_of}
-use Rattle.like_roles.specs.Service.{Service}
+use Rattle.like_roles.specs.service.Order.{Entry, entry_of}
+use Rattle.like_roles.specs.service.Service.{Service}
 use Rattle.like_crew.specs.Log.{IsLog, numbers_taken, plan_of}
 use Rattle.like_crew.proofs.Ordered.{order-weighs}
 

@@ -7,7 +7,7 @@ use Rattle.std.proofs.lemmas.List.FromFn.{length-range_with_len}
 use Rattle.std.proofs.lemmas.Option.{slice_get-get_or, slice_get_within}
 use Rattle.like_board.specs.Seats.{board_id, board_numbers}
 use Rattle.like_tables.specs.Share.{Share, place_of}
-use Rattle.like_roles.specs.Service.{Service, submitters}
+use Rattle.like_roles.specs.service.Service.{Service, submitters}
 use Rattle.like_crew.specs.declared.ended.Ended.{Ended}
 use Rattle.like_crew.specs.declared.crew.Crew.{Crew}
 use Rattle.like_crew.specs.declared.site.Site.{Site}
@@ -17,13 +17,13 @@ use Rattle.like_crew.specs.Ended.{HasEnded, IsEnded}
 use Rattle.like_requests.specs.declared.request.Request.{Request}
 use Rattle.like_requests.specs.declared.setup.Setup.{Setup}
 use Rattle.like_core.specs.declared.view.CoordSeatView.{CoordSeatView}
-use Rattle.like_roles.specs.Choice.{AreTotals, HasChosen}
+use Rattle.like_roles.specs.coordinator.Choice.{AreTotals, HasChosen}
 use Rattle.like_crew.specs.Servers.{AreServers, IsServer}
 use Rattle.like_crew.specs.Server.{ServerGoesOn, ServerView, plans_of}
 use Rattle.like_crew.proofs.Coordinated.{lead-further}
-use Rattle.like_crew.proofs.Later.{all-further-both}
-use Rattle.like_crew.proofs.Shares.{plan-at}
-use Rattle.like_crew.proofs.Pairs.{pairs-at, pairs-both, pairs-length}
+use Rattle.like_crew.proofs.servers.Later.{all-further-both}
+use Rattle.like_crew.proofs.servers.Shares.{plan-at}
+use Rattle.like_crew.proofs.lists.Pairs.{pairs-at, pairs-both, pairs-length}
 
 -- the servers of a run, later
 pub servers-later : (service : Service) (workers : ℕ) (board : List ℕ) (notes : Bool) (ss ts : List ServerView) → AreServers service workers board notes ss → AllZip ServerGoesOn ss ts

@@ -4,16 +4,16 @@ use Rattle.std.specs.List.{All, filter, flat_map, range_with_len}
 use Rattle.std.proofs.lemmas.Bool.{cases_eq, cases_lt, eq-eqb, ne_eqb, le-ltb, lt-ltb}
 use Rattle.std.proofs.lemmas.List.Sums.{sum_by-cons}
 use Rattle.like_core.specs.Limits.{hot_pages}
-use Rattle.like_core.specs.ShownWord.{mask}
-use Rattle.like_core.proofs.Masks.{mask_same}
+use Rattle.like_core.specs.word.ShownWord.{mask}
+use Rattle.like_core.proofs.word.Masks.{mask_same}
 use Rattle.like_roles.specs.declared.log.Ran.{Ran}
 use Rattle.like_roles.specs.declared.log.Took.{Took}
-use Rattle.like_roles.specs.Choice.{likes_counted, total_before}
-use Rattle.like_roles.specs.HotPages.{chosen_below, hot_by, liked_pages, likes_lately, max_chosen}
-use Rattle.like_roles.specs.Likes.{likes_among, likes_below}
-use Rattle.like_roles.specs.Order.{Entry, block, entry_in, is_due, is_prompt, order, phases_of, took_to_wait}
-use Rattle.like_roles.specs.Service.{Service}
-use Rattle.like_roles.proofs.Tallied.{likes_among-append}
+use Rattle.like_roles.specs.coordinator.Choice.{likes_counted, total_before}
+use Rattle.like_roles.specs.service.HotPages.{chosen_below, hot_by, liked_pages, likes_lately, max_chosen}
+use Rattle.like_roles.specs.service.Likes.{likes_among, likes_below}
+use Rattle.like_roles.specs.service.Order.{Entry, block, entry_in, is_due, is_prompt, order, phases_of, took_to_wait}
+use Rattle.like_roles.specs.service.Service.{Service}
+use Rattle.like_roles.proofs.counts.Tallied.{likes_among-append}
 
 -- the two phases before a phase
 abbrev lately : ℕ → ℕ → Bool

@@ -12,15 +12,15 @@ use Rattle.like_requests.specs.declared.setup.Setup.{Setup}
 use Rattle.like_core.specs.Post.{PostView}
 use Rattle.like_queue.specs.Inbox.{InboxView}
 use Rattle.like_tables.specs.Share.{dealt, share_of}
-use Rattle.like_roles.specs.Follows.{IsServiceOf}
-use Rattle.like_roles.specs.New.{IsPostOf}
-use Rattle.like_roles.specs.Service.{Service}
+use Rattle.like_roles.specs.worker.Follows.{IsServiceOf}
+use Rattle.like_roles.specs.worker.New.{IsPostOf}
+use Rattle.like_roles.specs.service.Service.{Service}
 use Rattle.like_crew.specs.Servers.{IsServer}
 use Rattle.like_crew.specs.Server.{AreInboxesFor, AreOwnPlans, AreUntouched, WorksFor, ServerView, plans_of, untouched}
 use Rattle.like_crew.specs.Asked.{lists_of, service_of}
 use Rattle.like_tables.proofs.Dealt.{get-dealt, map-dealt, there-dealt}
-use Rattle.like_crew.proofs.Shares.{plans-untouched}
-use Rattle.like_crew.proofs.Pairs.{pairs-more}
+use Rattle.like_crew.proofs.servers.Shares.{plans-untouched}
+use Rattle.like_crew.proofs.lists.Pairs.{pairs-more}
 
 -- f and then g
 pub map-twice : {A B C : Type 0} (f : A → B) (g : B → C) (xs : List A) → map (λ x. g (f x)) xs ≡ map g (map f xs)

@@ -19,7 +19,7 @@ use Rattle.like_core.specs.declared.view.PageCount.{PageCount}
 use Rattle.like_core.specs.Additions.{added_before}
 use Rattle.like_core.specs.PhaseMasks.{mask_of, AreMasksOf}
 use Rattle.like_core.specs.Post.{PostView, additions_of}
-use Rattle.like_core.specs.Reads.{AreBetween}
+use Rattle.like_core.specs.views.Reads.{AreBetween}
 use Rattle.like_board.specs.declared.worker_seat.WorkerSeat.{WorkerSeat}
 use Rattle.like_board.specs.Seats.{AreAll, AreCounted, BoardId, board_id, board_numbers, coord_view, last_count, seat_board, seat_meaning, seats_before, HaveReadBetween, HaveReadMasks}
 use Rattle.like_board.proofs.InOrder.{all_in_order}
@@ -30,13 +30,13 @@ use Rattle.like_tables.specs.UserTable.{last_of}
 use Rattle.like_roles.specs.declared.log.Ran.{Ran}
 use Rattle.like_roles.specs.declared.log.Took.{Took}
 use Rattle.like_roles.specs.declared.log.WorkerLog.{WorkerLog}
-use Rattle.like_roles.specs.Likes.{initial_count, last_like, likes, likes_among, likes_below}
-use Rattle.like_roles.proofs.Choosing.{chosen-more}
-use Rattle.like_roles.proofs.Releasing.{none-even}
-use Rattle.like_roles.proofs.RightCounts.{below-is, right-counts}
-use Rattle.like_roles.specs.Choice.{AreTotals, likes_counted}
-use Rattle.like_roles.specs.HotPages.{chosen_below, hot_by, likes_lately}
-use Rattle.like_roles.specs.Service.{Service, submitters}
+use Rattle.like_roles.specs.service.Likes.{initial_count, last_like, likes, likes_among, likes_below}
+use Rattle.like_roles.proofs.choice.Choosing.{chosen-more}
+use Rattle.like_roles.proofs.choice.Releasing.{none-even}
+use Rattle.like_roles.proofs.counts.RightCounts.{below-is, right-counts}
+use Rattle.like_roles.specs.coordinator.Choice.{AreTotals, likes_counted}
+use Rattle.like_roles.specs.service.HotPages.{chosen_below, hot_by, likes_lately}
+use Rattle.like_roles.specs.service.Service.{Service, submitters}
 use Rattle.like_replies.specs.Entries.{IsRequest, entries_in, entries_of}
 use Rattle.like_crew.specs.declared.ended.Ended.{Ended}
 use Rattle.like_crew.specs.declared.site.Site.{Site}
@@ -50,8 +50,8 @@ use Rattle.like_crew.specs.Site.{opening_of}
 use Rattle.like_crew.specs.Servers.{IsServer}
 use Rattle.like_crew.proofs.Hot.{hot-same, order-same, total}
 use Rattle.like_crew.proofs.Counted.{count-in-all, in_range}
-use Rattle.like_crew.proofs.Pairs.{pairs-at, pairs-length, pairs-sum}
-use Rattle.like_crew.proofs.Sums.{sum-of-map}
+use Rattle.like_crew.proofs.lists.Pairs.{pairs-at, pairs-length, pairs-sum}
+use Rattle.like_crew.proofs.lists.Sums.{sum-of-map}
 
 -- what matches an element that stands at a place
 pub left-at : {A B : Type 0} (R : A → B → Type 0) (xs : List A) (ys : List B) (k : ℕ) (y : B) → AllZip R xs ys → slice_get ys k ≡ Some y → (x : A) × ((slice_get xs k ≡ Some x) × R x y)

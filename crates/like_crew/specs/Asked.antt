@@ -4,8 +4,8 @@ use Rattle.std.specs.declared.alloc.Global.{Global}
 use Rattle.like_requests.specs.declared.request.Request.{Request}
 use Rattle.like_requests.specs.declared.setup.Setup.{Setup}
 use Rattle.like_roles.specs.declared.log.Ran.{Ran}
-use Rattle.like_roles.specs.HotPages.{hot_in}
-use Rattle.like_roles.specs.Service.{Service}
+use Rattle.like_roles.specs.service.HotPages.{hot_in}
+use Rattle.like_roles.specs.service.Service.{Service}
 
 -- the run of these users and pages, and of these lists of requests, in which no page is hot
 abbrev pub service_of : Setup → List (List Request) → Service

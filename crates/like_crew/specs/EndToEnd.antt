@@ -6,10 +6,10 @@ use Rattle.like_core.specs.Phase.{IsJoined}
 use Rattle.like_tables.specs.Share.{worker_of}
 use Rattle.like_roles.specs.declared.log.Ran.{Ran}
 use Rattle.like_roles.specs.declared.log.WorkerLog.{WorkerLog}
-use Rattle.like_roles.specs.Likes.{initial_count, last_like, likes}
-use Rattle.like_roles.specs.Replies.{HasRightCounts}
-use Rattle.like_roles.specs.HotPages.{chosen_below}
-use Rattle.like_roles.specs.Service.{Service, submitters}
+use Rattle.like_roles.specs.service.Likes.{initial_count, last_like, likes}
+use Rattle.like_roles.specs.service.Replies.{HasRightCounts}
+use Rattle.like_roles.specs.service.HotPages.{chosen_below}
+use Rattle.like_roles.specs.service.Service.{Service, submitters}
 use Rattle.like_replies.specs.declared.report.Report.{Report}
 use Rattle.like_replies.specs.Collected.{IsCollected, rows_of}
 use Rattle.like_replies.specs.Entries.{entries_in}

@@ -7,10 +7,10 @@ use Rattle.like_tables.specs.Share.{worker_of}
 use Rattle.like_tables.specs.UserTable.{last_of}
 use Rattle.like_roles.specs.declared.log.Took.{Took}
 use Rattle.like_roles.specs.declared.log.WorkerLog.{WorkerLog}
-use Rattle.like_roles.specs.Likes.{last_like}
-use Rattle.like_roles.specs.Order.{entry_of, order}
-use Rattle.like_roles.specs.Replies.{HasRightAnswers}
-use Rattle.like_roles.specs.Service.{Service}
+use Rattle.like_roles.specs.service.Likes.{last_like}
+use Rattle.like_roles.specs.service.Order.{entry_of, order}
+use Rattle.like_roles.specs.service.Replies.{HasRightAnswers}
+use Rattle.like_roles.specs.service.Service.{Service}
 
 -- the numbers of the requests that were taken from a submitter, in their order
 abbrev pub numbers_taken : ℕ → List Took → List ℕ

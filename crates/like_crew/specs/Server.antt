@@ -10,12 +10,12 @@ use Rattle.like_core.specs.PhaseMasks.{AreMasksOf}
 use Rattle.like_core.specs.Post.{additions_in, additions_of, pages_of}
 use Rattle.like_queue.specs.Inbox.{InboxView}
 use Rattle.like_tables.specs.Share.{Share, dealt, place_of, serves}
-use Rattle.like_roles.specs.Follows.{AreNoted, Follows}
+use Rattle.like_roles.specs.worker.Follows.{AreNoted, Follows}
 use Rattle.like_roles.specs.declared.log.WorkerLog.{WorkerLog}
-use Rattle.like_roles.specs.Likes.{likes_among, likes_within}
-use Rattle.like_roles.specs.Looks.{shown_by, shown_in}
-use Rattle.like_roles.specs.Service.{Service}
-use Rattle.like_roles.specs.WorkerView.{WorkerView, phase_at}
+use Rattle.like_roles.specs.service.Likes.{likes_among, likes_within}
+use Rattle.like_roles.specs.service.Looks.{shown_by, shown_in}
+use Rattle.like_roles.specs.service.Service.{Service}
+use Rattle.like_roles.specs.worker.WorkerView.{WorkerView, phase_at}
 use Rattle.like_crew.specs.Log.{IsLog, IsRising, NoneAbove, numbers_taken}
 
 -- the worker, and the inboxes of its submitters by place

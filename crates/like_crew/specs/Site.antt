@@ -5,7 +5,7 @@ use Rattle.like_requests.specs.declared.request.Request.{Request}
 use Rattle.like_requests.specs.declared.setup.Setup.{Setup}
 use Rattle.like_core.specs.declared.opening.Opening.{Opening}
 use Rattle.like_board.specs.Seats.{board_id, coord_board, coord_view}
-use Rattle.like_roles.specs.New.{AreNewSeats}
+use Rattle.like_roles.specs.worker.New.{AreNewSeats}
 use Rattle.like_crew.specs.declared.site.Seats.{Seats}
 use Rattle.like_crew.specs.declared.site.Site.{Site}
 

@@ -5,12 +5,12 @@ use Rattle.like_requests.specs.declared.request.Request.{Request}
 use Rattle.like_requests.specs.declared.setup.Setup.{Setup}
 use Rattle.like_core.specs.declared.view.Addition.{Addition}
 use Rattle.like_core.specs.declared.view.PageRead.{PageRead}
-use Rattle.like_core.specs.Places.{ArePlaced, AreTiles, Counting}
+use Rattle.like_core.specs.views.Places.{ArePlaced, AreTiles, Counting}
 use Rattle.like_roles.specs.declared.log.WorkerLog.{WorkerLog}
-use Rattle.like_roles.specs.Adds.{AreOfLikes, addition_of, adds_before_looks}
-use Rattle.like_roles.specs.Likes.{initial_count}
-use Rattle.like_roles.specs.Looks.{ShownCount, shown_in}
-use Rattle.like_roles.specs.Service.{Service}
+use Rattle.like_roles.specs.service.Adds.{AreOfLikes, addition_of, adds_before_looks}
+use Rattle.like_roles.specs.service.Likes.{initial_count}
+use Rattle.like_roles.specs.service.Looks.{ShownCount, shown_in}
+use Rattle.like_roles.specs.service.Service.{Service}
 use Rattle.like_replies.specs.declared.report.Report.{Report}
 use Rattle.like_replies.specs.Places.{ArePlaces, lists_in}
 use Rattle.like_crew.specs.Asked.{asked}

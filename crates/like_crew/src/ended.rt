@@ -1,5 +1,5 @@
 ghost use Rattle.std.specs.Prelude.{◌≡◌};
-ghost use Rattle.like_roles.specs.CoordTurns.{HasEndedJoined};
+ghost use Rattle.like_roles.specs.coordinator.CoordTurns.{HasEndedJoined};
 ghost use Rattle.like_crew.specs.Ended.{IsLeadOf};
 
 use crate::crew::Lead;

@@ -19,9 +19,9 @@ use Rattle.like_roles.specs.declared.log.Ran.{Ran}
 use Rattle.like_roles.specs.declared.log.WorkerLog.{WorkerLog}
 use Rattle.like_roles.specs.declared.reply.Reply.{Reply}
 use Rattle.like_roles.specs.declared.reply.Reply.TheVariants.{Liked, Seen, Refused}
-use Rattle.like_roles.specs.Likes.{AcceptedLike, accepted_like, last_like, like_of, likes_ran}
-use Rattle.like_roles.specs.Replies.{Answers, HasRightAnswers, IsRightAnswer}
-use Rattle.like_roles.specs.Service.{Service, numbered_in, request_at, request_of, submitters}
+use Rattle.like_roles.specs.service.Likes.{AcceptedLike, accepted_like, last_like, like_of, likes_ran}
+use Rattle.like_roles.specs.service.Replies.{Answers, HasRightAnswers, IsRightAnswer}
+use Rattle.like_roles.specs.service.Service.{Service, numbered_in, request_at, request_of, submitters}
 use Rattle.like_replies.specs.declared.answer.Answer.{Answer}
 use Rattle.like_replies.specs.declared.report.Report.{Report}
 use Rattle.like_replies.specs.Collected.{answer_at, rows_of}

@@ -1,15 +1,7 @@
 pub mod AtOnce
-pub mod Collecting
-pub mod Empty
+pub mod slots
 pub mod Examples
-pub mod Heads
-pub mod Holding
+pub mod rows
 pub mod Lists
-pub mod Named
 pub mod PlaceLists
-pub mod Plain
-pub mod RowTexts
 pub mod Sections
-pub mod SlotPlaces
-pub mod Texts
-pub mod There

@@ -12,7 +12,7 @@ use Rattle.like_roles.specs.declared.log.Added.{Added}
 use Rattle.like_roles.specs.declared.log.WorkerLog.{WorkerLog}
 use Rattle.like_replies.specs.declared.place.Place.{Place}
 use Rattle.like_replies.specs.Places.{AreByOld, lists_in, place_made, places_of, places_in}
-use Rattle.like_replies.proofs.Texts.{enumerate_from-append}
+use Rattle.like_replies.proofs.rows.Texts.{enumerate_from-append}
 
 -- the place of an addition, where it is to the page
 abbrev pub place_if : ℕ → ℕ → Added → List Place

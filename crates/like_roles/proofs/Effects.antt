@@ -2,8 +2,8 @@
 use Rattle.std.proofs.Common.{◌≡◌, Bool, [], ◌∷◌, ◌++◌, refl, ap, ◌∙◌}
 use Rattle.like_tables.specs.declared.held.Held.{Held}
 use Rattle.like_roles.specs.declared.reply.Reply.{Reply}
-use Rattle.like_roles.specs.Serve.{Runs, ran_now}
-use Rattle.like_roles.specs.WorkerView.{WorkerView}
+use Rattle.like_roles.specs.worker.Serve.{Runs, ran_now}
+use Rattle.like_roles.specs.worker.WorkerView.{WorkerView}
 use Rattle.like_roles.proofs.Served.{GivesReply-keeps, GivesReply-state, counted_by}
 
 -- a request that ran: its entry is the last that was run, and all else of these is as before

@@ -23,27 +23,27 @@ use Rattle.like_core.specs.Post.{additions_in, additions_of, answered, looked_at
 use Rattle.like_tables.specs.declared.held.Held.{Held}
 use Rattle.like_roles.specs.declared.log.Took.{Took}
 use Rattle.like_roles.specs.declared.turn.Turn.{Turn}
-use Rattle.like_roles.specs.Follows.{Follows, IsAsked, IsAskedBy, IsInBlocks, IsNoted, IsServed, IsSized, IsTallied, IsUnmerged, Stands, entry_held, next_joined}
-use Rattle.like_roles.specs.Order.{block, entry_of, is_look_at_sliced, order_below, took_to_wait, waits}
-use Rattle.like_roles.specs.Replies.{page_looked_at}
-use Rattle.like_roles.specs.Serve.{Runs, ran_now, verdict_at}
-use Rattle.like_roles.specs.Service.{Service, is_split_in, marks, request_at, submitters}
-use Rattle.like_roles.specs.Turns as turns
-use Rattle.like_roles.specs.Turns.{CanGive, Gives, TakesAsk, Turns, Works, held_from, masks_in, merged, merging, saw, settled, trying, with_stashed, with_taken, without_first, Merges, from_zero}
+use Rattle.like_roles.specs.worker.Follows.{Follows, IsAsked, IsAskedBy, IsInBlocks, IsNoted, IsServed, IsSized, IsTallied, IsUnmerged, Stands, entry_held, next_joined}
+use Rattle.like_roles.specs.service.Order.{block, entry_of, is_look_at_sliced, order_below, took_to_wait, waits}
+use Rattle.like_roles.specs.service.Replies.{page_looked_at}
+use Rattle.like_roles.specs.worker.Serve.{Runs, ran_now, verdict_at}
+use Rattle.like_roles.specs.service.Service.{Service, is_split_in, marks, request_at, submitters}
+use Rattle.like_roles.specs.worker.Turns as turns
+use Rattle.like_roles.specs.worker.Turns.{CanGive, Gives, TakesAsk, Turns, Works, held_from, masks_in, merged, merging, saw, settled, trying, with_stashed, with_taken, without_first, Merges, from_zero}
 use Rattle.like_requests.specs.Setup.{IsThere}
-use Rattle.like_roles.specs.WorkerView.{WorkerView, HasPhaseMask, IsSliceInSplit, has_to_wait, phase_at, submitter_at}
-use Rattle.like_roles.proofs.Blocks.{block-after_joined, block-later, order_below-more, block-next-prompt, block-next-waits, order_below-prompt, order_below-waits, waits-joined}
+use Rattle.like_roles.specs.worker.WorkerView.{WorkerView, HasPhaseMask, IsSliceInSplit, has_to_wait, phase_at, submitter_at}
+use Rattle.like_roles.proofs.order.Blocks.{block-after_joined, block-later, order_below-more, block-next-prompt, block-next-waits, order_below-prompt, order_below-waits, waits-joined}
 use Rattle.like_roles.proofs.Effects.{HasRunOne, Runs-effects}
-use Rattle.like_roles.proofs.InBlocks.{before-next, blocks-of_running, order-of_blocks, parity, running-of_blocks, runs-phase, runs-weaker}
+use Rattle.like_roles.proofs.order.InBlocks.{before-next, blocks-of_running, order-of_blocks, parity, running-of_blocks, runs-phase, runs-weaker}
 use Rattle.like_roles.proofs.Lists.{same_everywhere}
 use Rattle.like_roles.proofs.Keeps.{runs-keeps, works-keeps}
 use Rattle.like_roles.proofs.Looking.{saw-has, saw-splits}
 use Rattle.like_roles.proofs.Merging.{merging-all}
-use Rattle.like_roles.proofs.NotedMerge.{merge-noted}
-use Rattle.like_roles.proofs.Noting.{GivesReply-noted, running-unmerged, unmerged-running, unmerged-seen}
+use Rattle.like_roles.proofs.notes.NotedMerge.{merge-noted}
+use Rattle.like_roles.proofs.notes.Noting.{GivesReply-noted, running-unmerged, unmerged-running, unmerged-seen}
 use Rattle.like_roles.proofs.Served.{runs-split}
-use Rattle.like_roles.proofs.Shown.{after-more, cond_same, shown_by-more}
-use Rattle.like_roles.proofs.Tallied.{GivesReply-tallied, accepted-true}
+use Rattle.like_roles.proofs.counts.Shown.{after-more, cond_same, shown_by-more}
+use Rattle.like_roles.proofs.counts.Tallied.{GivesReply-tallied, accepted-true}
 
 -- a worker that runs a phase and is in its blocks follows the plans
 follows-running : (service : Service) (v : WorkerView) → IsRunning v.post.state → IsServed service v → IsSized v → IsTallied service v → (v.notes ≡ true → IsNoted service v.post.additions v.post.reads v.adds v.ran) → (v.notes ≡ true → IsUnmerged service v.adds v.ran v.post.state) → All (IsAsked service) v.held.held

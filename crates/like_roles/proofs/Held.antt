@@ -8,7 +8,7 @@ use Rattle.std.proofs.lemmas.List.Elements.{All-drop, All-append, All-cons}
 use Rattle.std.specs.List.{All, slice_get}
 use Rattle.std.specs.Option.{option_map_or}
 use Rattle.like_requests.specs.Verdict.{is_accepted}
-use Rattle.like_roles.specs.Replies.{page_looked_at}
+use Rattle.like_roles.specs.service.Replies.{page_looked_at}
 use Rattle.like_requests.specs.declared.request.Numbered.{Numbered}
 use Rattle.like_requests.specs.declared.request.PageRef.{PageRef}
 use Rattle.like_requests.specs.declared.request.Request.{Request}
@@ -20,16 +20,16 @@ use Rattle.like_core.specs.Phase.{is_marked, split}
 use Rattle.like_core.specs.WorkerState.{IsRunning, phase_of}
 use Rattle.like_core.specs.PhaseMasks.{mask_of}
 use Rattle.like_core.specs.Post.{PostView, slices}
-use Rattle.like_core.proofs.InPhase.{split-IsSplit}
+use Rattle.like_core.proofs.core.InPhase.{split-IsSplit}
 use Rattle.like_core.proofs.PhaseMasks.{split-by}
 use Rattle.like_tables.specs.Waiting.{Waiting}
 use Rattle.like_tables.specs.declared.held.Held.{Held}
 use Rattle.like_roles.specs.declared.worker.desk.Desk.{Desk}
-use Rattle.like_roles.specs.Desk.{HasSubmitters, CanServe, IsJudged, IsPlaced, IsOwn, IsSound, HasRoomForOne, view_of}
-use Rattle.like_roles.specs.Order.{is_look_at_sliced}
+use Rattle.like_roles.specs.worker.Desk.{HasSubmitters, CanServe, IsJudged, IsPlaced, IsOwn, IsSound, HasRoomForOne, view_of}
+use Rattle.like_roles.specs.service.Order.{is_look_at_sliced}
 use Rattle.like_requests.specs.Setup.{IsThere}
-use Rattle.like_roles.specs.Turns.{trying}
-use Rattle.like_roles.specs.WorkerView.{has_to_wait}
+use Rattle.like_roles.specs.worker.Turns.{trying}
+use Rattle.like_roles.specs.worker.WorkerView.{has_to_wait}
 use Rattle.like_roles.proofs.Served.{running_phase, runs-split}
 
 -- a list whose first element is known

@@ -9,10 +9,10 @@ use Rattle.like_core.proofs.PhaseMasks.{masks-both}
 use Rattle.like_tables.specs.declared.held.Held.{Held}
 use Rattle.like_roles.specs.declared.reply.Reply.{Reply}
 use Rattle.like_roles.specs.declared.turn.Turn.{Turn}
-use Rattle.like_roles.specs.Serve.{Runs, GivesReply, refuses, likes, looks, counted}
-use Rattle.like_roles.specs.Turns as turns
-use Rattle.like_roles.specs.Turns.{Gives, HasTaken, TakesAsk, TakesNothing, Turns, Works, merged}
-use Rattle.like_roles.specs.WorkerView.{WorkerView, phase_at}
+use Rattle.like_roles.specs.worker.Serve.{Runs, GivesReply, refuses, likes, looks, counted}
+use Rattle.like_roles.specs.worker.Turns as turns
+use Rattle.like_roles.specs.worker.Turns.{Gives, HasTaken, TakesAsk, TakesNothing, Turns, Works, merged}
+use Rattle.like_roles.specs.worker.WorkerView.{WorkerView, phase_at}
 use Rattle.like_roles.proofs.Served.{counted_by}
 
 -- nothing was taken from a worker to itself

@@ -1,9 +1,7 @@
-pub mod Blocks
+pub mod order
 pub mod Effects
-pub mod Examples
 pub mod Followed
 pub mod Held
-pub mod InBlocks
 pub mod Keeps
 pub mod Lists
 pub mod Looking
@@ -11,13 +9,7 @@ pub mod Made
 pub mod Merging
 pub mod Seats
 pub mod Served
-pub mod Shown
-pub mod Noted
-pub mod RightCounts
+pub mod counts
+pub mod notes
 pub mod Started
-pub mod Tallied
-pub mod Choosing
-pub mod Releasing
-pub mod Noting
-pub mod NotedMerge
-pub mod Coordinating
+pub mod choice

@@ -3,7 +3,7 @@ use Rattle.std.proofs.Common.{◌≡◌, ℕ, zero, suc, ◌-◌, ◌<◌, inl, 
 use Rattle.std.proofs.lemmas.Bool.{cases_lt}
 use Rattle.std.proofs.lemmas.List.{length-append, length-replicate, get_or_past, get_or-replicate}
 use Rattle.std.specs.List.{slice_get}
-use Rattle.like_roles.specs.Likes.{last_in}
+use Rattle.like_roles.specs.service.Likes.{last_in}
 
 -- an element of the first list keeps its place where another list follows
 pub slice_get-before : {X : Type 0} (xs ys : List X) (i : ℕ) → i < length xs → slice_get (xs ++ ys) i ≡ slice_get xs i

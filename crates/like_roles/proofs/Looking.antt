@@ -9,8 +9,8 @@ use Rattle.like_core.specs.declared.worker_state.WorkerState.TheVariants as stat
 use Rattle.like_core.specs.WorkerState.{IsSightOf, RunsSplit, phase_of, seen}
 use Rattle.like_core.specs.PhaseMasks.{HasMask}
 use Rattle.like_core.specs.Post.{PostView, looked_at, slices}
-use Rattle.like_roles.specs.Turns.{enters_split, masks_in, saw}
-use Rattle.like_roles.specs.WorkerView.{WorkerView, HasPhaseMask, IsSliceInSplit}
+use Rattle.like_roles.specs.worker.Turns.{enters_split, masks_in, saw}
+use Rattle.like_roles.specs.worker.WorkerView.{WorkerView, HasPhaseMask, IsSliceInSplit}
 
 -- who stays in a phase enters none
 stays : (from to : ℕ) → to ≡ from → enters_split from to ≡ false

@@ -7,13 +7,13 @@ use Rattle.std.proofs.lemmas.List.FromFn.{filter_of_map_range_with_len_more}
 use Rattle.like_core.specs.declared.view.Addition.{Addition}
 use Rattle.std.proofs.lemmas.List.Sums.{sum_by-append, sum_by-cons}
 use Rattle.like_core.specs.Post.{pages_of}
-use Rattle.like_core.proofs.Labels.{one_before-next}
+use Rattle.like_core.proofs.core.Labels.{one_before-next}
 use Rattle.like_tables.specs.Liked.{AreUnliked}
-use Rattle.like_roles.specs.Turns.{IsMerged, Merges, from_zero, merged_page, merging, slice_addition}
-use Rattle.like_roles.specs.Serve.{with_addition, noted, noted_at}
+use Rattle.like_roles.specs.worker.Turns.{IsMerged, Merges, from_zero, merged_page, merging, slice_addition}
+use Rattle.like_roles.specs.worker.Serve.{with_addition, noted, noted_at}
 use Rattle.like_roles.specs.declared.log.Added.{Added}
-use Rattle.like_roles.specs.WorkerView.{WorkerView, phase_at}
-use Rattle.like_roles.proofs.Shown.{cond_same}
+use Rattle.like_roles.specs.worker.WorkerView.{WorkerView, phase_at}
+use Rattle.like_roles.proofs.counts.Shown.{cond_same}
 
 -- no addition leaves what was noted
 noted-none : (v : WorkerView) → v.adds ++ noted v [] ≡ v.adds

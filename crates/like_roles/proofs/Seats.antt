@@ -5,7 +5,7 @@ use Rattle.like_core.specs.declared.opening.Opening.{Opening}
 use Rattle.like_core.specs.declared.view.WorkerSeatView.{WorkerSeatView}
 use Rattle.like_board.specs.declared.worker_seat.WorkerSeat.{WorkerSeat}
 use Rattle.like_board.specs.Seats.{AreFresh, BoardId}
-use Rattle.like_roles.specs.New.{AreNewSeats}
+use Rattle.like_roles.specs.worker.New.{AreNewSeats}
 
 -- fresh seats are new ones, of posts at a board with these pages
 pub new_seats : (board : BoardId) (z : Opening) (pages : List Page) (seats : List WorkerSeat) → z.marks ≡ marks_of pages → AreFresh board z seats → AreNewSeats board pages seats

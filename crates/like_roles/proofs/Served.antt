@@ -9,9 +9,9 @@ use Rattle.like_core.specs.Post.{slices}
 use Rattle.like_tables.specs.declared.held.Held.{Held}
 use Rattle.like_roles.specs.declared.log.Ran.{Ran}
 use Rattle.like_roles.specs.declared.reply.Reply.{Reply}
-use Rattle.like_roles.specs.Desk.{IsStanding}
-use Rattle.like_roles.specs.Serve.{GivesReply, refuses, likes, looks, with_addition, counted, liked, shown, ran_now, Runs}
-use Rattle.like_roles.specs.WorkerView.{WorkerView, phase_at}
+use Rattle.like_roles.specs.worker.Desk.{IsStanding}
+use Rattle.like_roles.specs.worker.Serve.{GivesReply, refuses, likes, looks, with_addition, counted, liked, shown, ran_now, Runs}
+use Rattle.like_roles.specs.worker.WorkerView.{WorkerView, phase_at}
 
 -- a worker that runs a phase has its number
 pub running_phase : (P : ℕ → Type 0) (s : WorkerState) (phase : ℕ) (gone : Bool) → IsStanding s phase gone → RunsSome P s → phase_of s ≡ phase

@@ -13,20 +13,20 @@ use Rattle.like_core.specs.Post.{PostView, additions_in, additions_of, pages_of}
 use Rattle.like_tables.specs.UserTable.{last_of}
 use Rattle.like_roles.specs.declared.turn.Turn.{Turn}
 use Rattle.like_roles.specs.declared.turn.Turn.TheVariants as turn
-use Rattle.like_roles.specs.Adds.{adds_to}
-use Rattle.like_roles.specs.Likes.{likes_within}
-use Rattle.like_roles.specs.Follows.{Follows, IsDone, IsInBlocks, IsNoted, IsServiceOf, IsUnmerged, Stands, entry_held, next_joined}
-use Rattle.like_roles.specs.New.{IsNew, IsPostOf}
-use Rattle.like_roles.specs.Order.{entry_of}
-use Rattle.like_roles.specs.Service.{Service, marks}
-use Rattle.like_roles.specs.Turns as turns
-use Rattle.like_roles.specs.Turns.{Pends, Turns, Works}
-use Rattle.like_roles.specs.Looks.{shown_by, shown_in}
-use Rattle.like_roles.specs.WorkerView.{WorkerView, IsSliceInSplit, phase_at, submitter_at}
+use Rattle.like_roles.specs.service.Adds.{adds_to}
+use Rattle.like_roles.specs.service.Likes.{likes_within}
+use Rattle.like_roles.specs.worker.Follows.{Follows, IsDone, IsInBlocks, IsNoted, IsServiceOf, IsUnmerged, Stands, entry_held, next_joined}
+use Rattle.like_roles.specs.worker.New.{IsNew, IsPostOf}
+use Rattle.like_roles.specs.service.Order.{entry_of}
+use Rattle.like_roles.specs.service.Service.{Service, marks}
+use Rattle.like_roles.specs.worker.Turns as turns
+use Rattle.like_roles.specs.worker.Turns.{Pends, Turns, Works}
+use Rattle.like_roles.specs.service.Looks.{shown_by, shown_in}
+use Rattle.like_roles.specs.worker.WorkerView.{WorkerView, IsSliceInSplit, phase_at, submitter_at}
 use Rattle.like_roles.proofs.Effects.{Runs-effects}
 use Rattle.like_roles.proofs.Lists.{same_everywhere}
-use Rattle.like_roles.proofs.NotedMerge.{noted-nothing, one-of_likes}
-use Rattle.like_roles.proofs.Shown.{cond_same}
+use Rattle.like_roles.proofs.notes.NotedMerge.{noted-nothing, one-of_likes}
+use Rattle.like_roles.proofs.counts.Shown.{cond_same}
 
 -- a new worker follows the plans
 pub follows-new : (s : Setup) (sizes : List ℕ) (worker : ℕ) (post : PostView) (notes : Bool) (v : WorkerView) (service : Service) → IsPostOf worker s.pages post → IsNew s sizes worker post notes v

@@ -1,9 +1,9 @@
 ghost use Rattle.std.specs.Prelude.{◌≡◌, ◌≤◌, [], IfErr, IfOk, length};
 ghost use Rattle.like_board.specs.Seats.{board_id, coord_board, coord_view};
 ghost use Rattle.like_core.specs.Phase.{last_phase};
-ghost use Rattle.like_core.specs.Views.{SawAllIn};
-ghost use Rattle.like_roles.specs.Choice.{first_choice, ReleasesNext};
-ghost use Rattle.like_roles.specs.CoordTurns.{ChoseByCounts, CoordTurns, HasEndedJoined, IsBeforeEnd};
+ghost use Rattle.like_core.specs.views.Views.{SawAllIn};
+ghost use Rattle.like_roles.specs.coordinator.Choice.{first_choice, ReleasesNext};
+ghost use Rattle.like_roles.specs.coordinator.CoordTurns.{ChoseByCounts, CoordTurns, HasEndedJoined, IsBeforeEnd};
 
 mod choice;
 
@@ -32,7 +32,7 @@ impl Model for Coordinator {
     ghost use Rattle.std.specs.Prelude.{◌≡◌, length, min};
     ghost use Rattle.like_board.specs.Seats.{coord_board, coord_view};
     ghost use Rattle.like_core.specs.Limits.{hot_pages};
-    ghost use Rattle.like_roles.specs.CoordTurns.{CoordinatorView};
+    ghost use Rattle.like_roles.specs.coordinator.CoordTurns.{CoordinatorView};
 
     ghost Value = { CoordinatorView };
 

@@ -2,11 +2,11 @@ ghost use Rattle.std.specs.Prelude.{◌≡◌, ◌<◌, true, IfOk, IfErr, IsSom
 ghost use Rattle.like_core.specs.declared.worker_state.WorkerState.TheVariants.{Gone};
 ghost use Rattle.like_core.specs.PhaseMasks.{AreMasksOf};
 ghost use Rattle.like_requests.specs.Setup.{IsWithin};
-ghost use Rattle.like_roles.specs.New.{IsNew, IsPostOf};
-ghost use Rattle.like_roles.specs.Follows.{Follows, IsAskedBy, IsDone, IsServiceOf};
-ghost use Rattle.like_roles.specs.Service.{Service};
-ghost use Rattle.like_roles.specs.Turns.{CanGive, Gives, HasTaken, Pends, TakesNothing, Turns};
-ghost use Rattle.like_roles.specs.WorkerView.{IsSliceInSplit};
+ghost use Rattle.like_roles.specs.worker.New.{IsNew, IsPostOf};
+ghost use Rattle.like_roles.specs.worker.Follows.{Follows, IsAskedBy, IsDone, IsServiceOf};
+ghost use Rattle.like_roles.specs.service.Service.{Service};
+ghost use Rattle.like_roles.specs.worker.Turns.{CanGive, Gives, HasTaken, Pends, TakesNothing, Turns};
+ghost use Rattle.like_roles.specs.worker.WorkerView.{IsSliceInSplit};
 
 mod desk;
 mod places;
@@ -30,11 +30,11 @@ pub struct Worker<P: Post> {
 }
 
 impl<P: Post> Model for Worker<P> {
-    ghost use Rattle.like_roles.specs.WorkerView.{WorkerView};
+    ghost use Rattle.like_roles.specs.worker.WorkerView.{WorkerView};
 
     ghost Value = { WorkerView };
 
-    ghost use Rattle.like_roles.specs.Desk.{view_of, IsSound};
+    ghost use Rattle.like_roles.specs.worker.Desk.{view_of, IsSound};
 
     ghost view = { λ w. view_of (P.view w.post) w.desk };
 

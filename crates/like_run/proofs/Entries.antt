@@ -14,7 +14,7 @@ use Rattle.like_crew.specs.Crew.{IsCrew}
 use Rattle.like_crew.specs.Server.{ServerGoesOn, ServerView}
 use Rattle.like_crew.proofs.Coordinated.{inbox-later}
 use Rattle.like_crew.proofs.Ending.{as-many, has-inbox}
-use Rattle.like_crew.proofs.Pairs.{pairs-length}
+use Rattle.like_crew.proofs.lists.Pairs.{pairs-length}
 use Rattle.like_run.specs.Rounds.{CanMake}
 
 -- an entry whose submitter or worker is there can be made

@@ -1,6 +1,6 @@
 ghost use Rattle.std.specs.Prelude.{◌≡◌, ◌≤◌, All, IfErr, IfOk, OnOk, length, false, true};
 ghost use Rattle.like_requests.specs.Setup.{IsWithinLimits};
-ghost use Rattle.like_roles.specs.CoordTurns.{HasEndedJoined};
+ghost use Rattle.like_roles.specs.coordinator.CoordTurns.{HasEndedJoined};
 ghost use Rattle.like_script.specs.Fit.{IsInRun};
 ghost use Rattle.like_script.specs.Limits.{max_entries};
 ghost use Rattle.like_crew.specs.Asked.{lists_of};

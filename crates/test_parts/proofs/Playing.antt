@@ -16,10 +16,10 @@ use Rattle.like_tables.specs.Share.{dealt}
 use Rattle.like_roles.specs.declared.log.Took.{Took}
 use Rattle.like_roles.specs.declared.turn.Turn.{Turn}
 use Rattle.like_roles.specs.declared.turn.Turn.TheVariants as turn
-use Rattle.like_roles.specs.New.{IsNew, IsPostOf}
+use Rattle.like_roles.specs.worker.New.{IsNew, IsPostOf}
 use Rattle.test_parts.specs.Playing.{IsAt, IsNextGiven, IsPlaying}
-use Rattle.like_roles.specs.Turns.{CanGive, HasTaken, IsNext, Pends, TakesNothing, with_taken}
-use Rattle.like_roles.specs.WorkerView.{WorkerView, phase_at, submitter_at}
+use Rattle.like_roles.specs.worker.Turns.{CanGive, HasTaken, IsNext, Pends, TakesNothing, with_taken}
+use Rattle.like_roles.specs.worker.WorkerView.{WorkerView, phase_at, submitter_at}
 
 -- where nothing was taken, it is where it was
 pub stays_at : (plan : List Request) (next : ℕ) (old new : WorkerView) → IsAt plan next old → TakesNothing old new → IsAt plan next new

@@ -6,7 +6,7 @@ use Rattle.like_requests.specs.declared.request.Taken.TheVariants.{Ask, End, Not
 use Rattle.like_requests.specs.Limits.{max_requests}
 use Rattle.like_requests.specs.Setup.{IsThere}
 use Rattle.like_core.specs.Post.{pages_of}
-use Rattle.like_roles.specs.WorkerView.{WorkerView, submitter_at}
+use Rattle.like_roles.specs.worker.WorkerView.{WorkerView, submitter_at}
 
 -- the first so many requests of the plan were taken, and the rest are left where the submitter is the worker's
 pub record IsAt (plan : List Request) (next : ℕ) (v : WorkerView) : Type 0 where

@@ -1,7 +1,7 @@
 ghost use Rattle.std.specs.Prelude.{◌≡◌, ◌≢◌, ◌+◌, ◌<◌, [], ◌∷◌, ◌++◌, IfOk, vec_len};
 ghost use Rattle.like_core.specs.declared.worker_state.WorkerState.TheVariants.{Runs, Answered, Gone};
 ghost use Rattle.like_core.specs.Post.{IsFresh};
-ghost use Rattle.like_core.specs.Views.{looked_view, looked_coord};
+ghost use Rattle.like_core.specs.views.Views.{looked_view, looked_coord};
 ghost use Rattle.like_board.specs.Seats.{board_id, coord_board, coord_view, seat_board, seat_view, post_board, post_view, post_meaning, AreFresh};
 ghost use Rattle.like_core.specs.Additions.{addition, page_read};
 ghost use Rattle.test_parts.specs.Walk.{walk, sight, coord_sight, KeepsSeat, Walks};

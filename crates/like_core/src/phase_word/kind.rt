@@ -1,5 +1,5 @@
 ghost use Rattle.std.specs.Prelude.{◌≡◌, ◌/◌, ◌%◌, ◌↔◌, ◌<◌, IsTrue};
-ghost use Rattle.like_core.specs.Kind.{code_of};
+ghost use Rattle.like_core.specs.word.Kind.{code_of};
 
 /// The kind of a phase: joined or split, and running or ending.
 #[derive(Clone, Copy, Debug, PartialEq, Eq)]

@@ -1,8 +1,8 @@
 ghost use Rattle.std.specs.Prelude.{◌≡◌, ◌<◌, ◌≤◌};
 ghost use Rattle.like_core.specs.Limits.{max_workers};
-ghost use Rattle.like_core.specs.Word.{Fields, packed, IsLawful};
-ghost use Rattle.like_core.specs.PhaseWord.{fields_of};
-ghost use Rattle.like_core.specs.Sights.{first_fields, sight_of, coord_sight_of};
+ghost use Rattle.like_core.specs.word.Word.{Fields, packed, IsLawful};
+ghost use Rattle.like_core.specs.word.PhaseWord.{fields_of};
+ghost use Rattle.like_core.specs.views.Sights.{first_fields, sight_of, coord_sight_of};
 
 use super::{Kind, PhaseWord};
 use crate::sight::{CoordSight, Sight};

@@ -1,10 +1,10 @@
 ghost use Rattle.std.specs.Prelude.{◌≡◌, ◌+◌, ◌^◌, ◌<◌, ◌%◌, bit_or};
 ghost use Rattle.std.specs.Int.{bit_at};
-ghost use Rattle.like_core.specs.Kind.{code_of};
+ghost use Rattle.like_core.specs.word.Kind.{code_of};
 ghost use Rattle.like_core.specs.Limits.{max_workers};
 ghost use Rattle.like_core.specs.Phase.{last_phase};
-ghost use Rattle.like_core.specs.Word.{packed, answer_bit, retirement_bit, announced, answered_by, retired_by, released};
-ghost use Rattle.like_core.specs.PhaseWord.{fields_of};
+ghost use Rattle.like_core.specs.word.Word.{packed, answer_bit, retirement_bit, announced, answered_by, retired_by, released};
+ghost use Rattle.like_core.specs.word.PhaseWord.{fields_of};
 
 use super::{ANSWERED_AT, Kind, PhaseWord, RETIRED_AT};
 

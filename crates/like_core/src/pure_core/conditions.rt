@@ -1,8 +1,8 @@
 ghost use Rattle.std.specs.Prelude.{◌≡◌, ◌<◌, ◌^◌, ◌↔◌, ℕ, IsTrue, MatchOption};
 ghost use Rattle.like_core.specs.declared.worker_state.WorkerState.TheVariants.{Runs};
-ghost use Rattle.like_core.specs.Numbers.{sliced, total, AllIn, AllGone};
-ghost use Rattle.like_core.specs.Table.{NamesWhatIsThere, Suits, LeavesLast, StaysBelowBound, Permits, Refuses};
-ghost use Rattle.like_core.specs.Core.{numbers_of};
+ghost use Rattle.like_core.specs.core.Numbers.{sliced, total, AllIn, AllGone};
+ghost use Rattle.like_core.specs.core.Table.{NamesWhatIsThere, Suits, LeavesLast, StaysBelowBound, Permits, Refuses};
+ghost use Rattle.like_core.specs.core.Core.{numbers_of};
 
 use super::{Core, NotNow};
 use crate::event::Event;

@@ -1,6 +1,6 @@
 ghost use Rattle.std.specs.Prelude.{◌≡◌, ◌↔◌, IsOk, OnOk, IfErr, take};
-ghost use Rattle.like_core.specs.Table.{PermitsEach, next_all, IsWrong};
-ghost use Rattle.like_core.specs.Core.{numbers_of, TakesStatesAll, KeepsReachable, IsCoreExclusive};
+ghost use Rattle.like_core.specs.core.Table.{PermitsEach, next_all, IsWrong};
+ghost use Rattle.like_core.specs.core.Core.{numbers_of, TakesStatesAll, KeepsReachable, IsCoreExclusive};
 
 use super::{Core, Wrong};
 use crate::event::Event;

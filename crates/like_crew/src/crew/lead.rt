@@ -1,6 +1,6 @@
 ghost use Rattle.std.specs.Prelude.{◌≡◌, [], IfOk, true};
 ghost use Rattle.like_board.specs.Seats.{board_id, coord_board, coord_view};
-ghost use Rattle.like_roles.specs.CoordTurns.{CoordTurns, HasEndedJoined};
+ghost use Rattle.like_roles.specs.coordinator.CoordTurns.{CoordTurns, HasEndedJoined};
 ghost use Rattle.like_crew.specs.Crew.{LeadGoesOn};
 
 use like_board::{Board, CoordSeat};
@@ -18,7 +18,7 @@ pub struct Lead<'a> {
 impl<'a> Model for Lead<'a> {
     ghost use Rattle.std.specs.Prelude.{◌≡◌};
     ghost use Rattle.like_board.specs.Seats.{board_id};
-    ghost use Rattle.like_roles.specs.CoordTurns.{ChoseByCounts, CoordinatorView, IsBeforeEnd};
+    ghost use Rattle.like_roles.specs.coordinator.CoordTurns.{ChoseByCounts, CoordinatorView, IsBeforeEnd};
 
     ghost Value = { CoordinatorView };
 

@@ -2,9 +2,9 @@ ghost use Rattle.std.specs.Prelude.{◌≡◌, ◌<◌, ℕ, IfOk, IfErr, length
 ghost use Rattle.like_core.specs.declared.worker_state.WorkerState.TheVariants.{Gone};
 ghost use Rattle.like_tables.specs.Share.{place_of, share_of};
 ghost use Rattle.like_requests.specs.Setup.{IsWithin};
-ghost use Rattle.like_roles.specs.New.{IsPostOf};
-ghost use Rattle.like_roles.specs.Service.{Service};
-ghost use Rattle.like_roles.specs.Follows.{IsServiceOf};
+ghost use Rattle.like_roles.specs.worker.New.{IsPostOf};
+ghost use Rattle.like_roles.specs.service.Service.{Service};
+ghost use Rattle.like_roles.specs.worker.Follows.{IsServiceOf};
 ghost use Rattle.like_crew.specs.Server.{AreInboxesFor, AreOwnPlans, IsLogOf, ServerGoesOn, WorksFor};
 
 use like_core::Post;

@@ -2,9 +2,9 @@ ghost use Rattle.std.specs.Prelude.{◌≡◌, ◌<◌, ◌≤◌, IfOk, length}
 ghost use Rattle.like_board.specs.Seats.{board_id, coord_board, coord_view};
 ghost use Rattle.like_core.specs.Limits.{hot_pages};
 ghost use Rattle.like_core.specs.Phase.{last_phase, IsJoined};
-ghost use Rattle.like_core.specs.Views.{SawAllIn};
-ghost use Rattle.like_roles.specs.Choice.{Chooses, counted_from, first_choice, risen, with_chosen, within_limit};
-ghost use Rattle.like_roles.specs.HotPages.{max_chosen};
+ghost use Rattle.like_core.specs.views.Views.{SawAllIn};
+ghost use Rattle.like_roles.specs.coordinator.Choice.{Chooses, counted_from, first_choice, risen, with_chosen, within_limit};
+ghost use Rattle.like_roles.specs.service.HotPages.{max_chosen};
 
 use crate::chosen::Chosen;
 use like_board::{Board, CoordSeat};
@@ -29,8 +29,8 @@ pub(crate) struct Choice {
 impl Model for Choice {
     ghost use Rattle.std.specs.Prelude.{◌≤◌, length, vec_capacity, vec_len};
     ghost use Rattle.like_core.specs.Limits.{hot_pages};
-    ghost use Rattle.like_roles.specs.Choice.{ChoiceView};
-    ghost use Rattle.like_roles.specs.HotPages.{max_chosen};
+    ghost use Rattle.like_roles.specs.coordinator.Choice.{ChoiceView};
+    ghost use Rattle.like_roles.specs.service.HotPages.{max_chosen};
 
     ghost Value = { ChoiceView };
 

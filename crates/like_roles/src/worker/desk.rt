@@ -1,5 +1,5 @@
 ghost use Rattle.std.specs.Prelude.{◌≡◌, ◌<◌, length};
-ghost use Rattle.like_roles.specs.Desk.{is_split_at};
+ghost use Rattle.like_roles.specs.worker.Desk.{is_split_at};
 
 mod addition;
 mod merge;

@@ -1,6 +1,6 @@
 ghost use Rattle.std.specs.Prelude.{◌≡◌, ◌<◌, ◌≤◌, ℕ, true, false, slice_index_or, MatchOption, length};
-ghost use Rattle.like_roles.specs.WorkerView.{IsNextPlace};
-ghost use Rattle.like_roles.specs.Places.{IsFirstOpen};
+ghost use Rattle.like_roles.specs.worker.WorkerView.{IsNextPlace};
+ghost use Rattle.like_roles.specs.worker.Places.{IsFirstOpen};
 
 /// The first place at or after the cursor, in cyclic order, that has not ended.
 pub(crate) fn next_place(ended: &[bool], cursor: usize) -> Option<usize>

@@ -3,7 +3,7 @@ ghost use Rattle.like_requests.specs.Limits.{max_workers};
 ghost use Rattle.like_requests.specs.Setup.{IsWithinLimits};
 ghost use Rattle.like_board.specs.Seats.{board_id, coord_board, coord_view};
 ghost use Rattle.like_requests.specs.Pages.{counts_of};
-ghost use Rattle.like_roles.specs.New.{AreNewSeats};
+ghost use Rattle.like_roles.specs.worker.New.{AreNewSeats};
 
 use super::gates::Expecting;
 use super::player::Player;

@@ -2,7 +2,7 @@ ghost use Rattle.std.specs.Prelude.{◌≡◌, ◌<◌, ◌≤◌, [], ◌∷◌
 ghost use Rattle.like_requests.specs.Limits.{max_requests};
 ghost use Rattle.like_requests.specs.Setup.{IsWithin, IsWithinLimits};
 ghost use Rattle.like_board.specs.Seats.{post_meaning};
-ghost use Rattle.like_roles.specs.New.{IsNew, IsPostOf};
+ghost use Rattle.like_roles.specs.worker.New.{IsNew, IsPostOf};
 ghost use Rattle.test_parts.specs.Playing.{IsNextGiven};
 
 use super::gates::Expecting;
@@ -25,7 +25,7 @@ pub struct Player<'a> {
 
 impl<'a> Model for Player<'a> {
     ghost use Rattle.test_parts.specs.Playing.{IsPlaying};
-    ghost use Rattle.like_roles.specs.WorkerView.{WorkerView};
+    ghost use Rattle.like_roles.specs.worker.WorkerView.{WorkerView};
 
     ghost Value = { WorkerView };
 

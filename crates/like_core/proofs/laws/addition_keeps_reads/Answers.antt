@@ -1,4 +1,4 @@
-use Rattle.like_core.proofs.KeptReads.{addition_keeps_reads}
+use Rattle.like_core.proofs.views.KeptReads.{addition_keeps_reads}
 use Rattle.like_core.proofs.laws.addition_keeps_reads.Goals as goal
 
 pub returns : goal.returns

@@ -1,4 +1,4 @@
-use Rattle.like_core.proofs.GivenLikes.{likes_stay_reachable}
+use Rattle.like_core.proofs.core.GivenLikes.{likes_stay_reachable}
 use Rattle.like_core.proofs.laws.likes_stay_reachable.Goals as goal
 
 pub returns : goal.returns

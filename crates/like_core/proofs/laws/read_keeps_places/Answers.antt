@@ -1,4 +1,4 @@
-use Rattle.like_core.proofs.KeptPlaces.{read_keeps_places}
+use Rattle.like_core.proofs.views.KeptPlaces.{read_keeps_places}
 use Rattle.like_core.proofs.laws.read_keeps_places.Goals as goal
 
 pub returns : goal.returns

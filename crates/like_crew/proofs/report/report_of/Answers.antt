@@ -14,7 +14,7 @@ use Rattle.like_tables.specs.Share.{worker_of}
 use Rattle.like_crew.specs.Asked.{asked, lists_of}
 use Rattle.like_crew.specs.Gathered.{AreTables, RunsOnce}
 use Rattle.like_crew.specs.EndToEnd.{runs_of}
-use Rattle.like_crew.proofs.Tiled.{all-there, of-likes, placed-are, tiles-are}
+use Rattle.like_crew.proofs.additions.Tiled.{all-there, of-likes, placed-are, tiles-are}
 use Rattle.like_crew.proofs.Whole.{all-gone, all-here, are-all, chosen-are, counts-are, known, last-likes-are, log-at, logs-are, logs-size, runs-once, seen-counts, tables}
 use Rattle.like_crew.proofs.report.report_of.Goals as goal
 

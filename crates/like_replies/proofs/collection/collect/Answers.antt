@@ -6,8 +6,8 @@ use Rattle.like_roles.specs.declared.log.WorkerLog.{WorkerLog}
 use Rattle.like_replies.specs.Collected.{IsCollectFault, rows_of}
 use Rattle.like_replies.specs.Entries.{entries_in}
 use Rattle.like_replies.specs.Slots.{HoldsAll}
-use Rattle.like_replies.proofs.Collecting.{IsCollectFault-empty, IsCollectFault-log, IsCollected-held, entries_in-more, short_rows}
-use Rattle.like_replies.proofs.Holding.{HoldsAll-start}
+use Rattle.like_replies.proofs.slots.Collecting.{IsCollectFault-empty, IsCollectFault-log, IsCollected-held, entries_in-more, short_rows}
+use Rattle.like_replies.proofs.slots.Holding.{HoldsAll-start}
 use Rattle.like_replies.proofs.collection.collect.Goals as goal
 
 pub loop-log-init : goal.loop-log-init

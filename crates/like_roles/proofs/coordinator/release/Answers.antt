@@ -1,10 +1,10 @@
 use Rattle.std.proofs.Common.{◌≡◌, ◌%◌, ℕ, ap, sym, ◌∙◌, subst, arith}
 use Rattle.like_core.specs.Phase.{IsJoined, IsSplit}
-use Rattle.like_core.specs.Views.{MayRelease, released_coord}
+use Rattle.like_core.specs.views.Views.{MayRelease, released_coord}
 use Rattle.like_board.specs.declared.coord_seat.CoordSeat.{CoordSeat}
 use Rattle.like_board.specs.Seats.{coord_view}
-use Rattle.like_roles.specs.Choice.{ChoiceView, ReleasesNext, releases_joined, releases_split}
-use Rattle.like_roles.proofs.Choosing.{may-release}
+use Rattle.like_roles.specs.coordinator.Choice.{ChoiceView, ReleasesNext, releases_joined, releases_split}
+use Rattle.like_roles.proofs.choice.Choosing.{may-release}
 use Rattle.like_roles.proofs.coordinator.release.Goals as goal
 use Rattle.like_roles.proofs.coordinator.release.Goals.{then-phase-eq0, else-phase-eq0}
 

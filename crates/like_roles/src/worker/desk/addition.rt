@@ -1,7 +1,7 @@
 ghost use Rattle.std.specs.Prelude.{◌≡◌};
 ghost use Rattle.like_core.specs.Post.{MayAdd};
-ghost use Rattle.like_roles.specs.Desk.{view_of, HasRoomToAdd, IsSound};
-ghost use Rattle.like_roles.specs.Serve.{with_addition};
+ghost use Rattle.like_roles.specs.worker.Desk.{view_of, HasRoomToAdd, IsSound};
+ghost use Rattle.like_roles.specs.worker.Serve.{with_addition};
 
 use crate::log::Added;
 use crate::worker::desk::Desk;

@@ -1,7 +1,7 @@
 ghost use Rattle.std.specs.Prelude.{◌≡◌, ◌≢◌, ◌<◌, length, slice_index};
 ghost use Rattle.like_core.specs.WorkerState.{RunsSplit, SawEnding};
-ghost use Rattle.like_roles.specs.Desk.{view_of, IsSound};
-ghost use Rattle.like_roles.specs.Turns.{IsMerged, merged_page};
+ghost use Rattle.like_roles.specs.worker.Desk.{view_of, IsSound};
+ghost use Rattle.like_roles.specs.worker.Turns.{IsMerged, merged_page};
 
 use crate::worker::desk::Desk;
 use like_core::Post;

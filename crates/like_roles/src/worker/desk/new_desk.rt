@@ -3,7 +3,7 @@ ghost use Rattle.like_requests.specs.Limits.{max_requests, max_submitters, max_w
 ghost use Rattle.like_tables.specs.Limits.{max_likes};
 ghost use Rattle.like_tables.specs.Share.{dealt, submitter_of};
 ghost use Rattle.like_requests.specs.Setup.{IsWithin};
-ghost use Rattle.like_roles.specs.Desk.{IsNewDesk};
+ghost use Rattle.like_roles.specs.worker.Desk.{IsNewDesk};
 
 use crate::worker::desk::Desk;
 use like_requests::Setup;

@@ -2,9 +2,9 @@ ghost use Rattle.std.specs.Prelude.{◌≡◌, ◌<◌, true, false, IsTrue, len
 ghost use Rattle.like_core.specs.WorkerState.{IsRunning};
 ghost use Rattle.like_requests.specs.Setup.{IsThere};
 ghost use Rattle.like_tables.specs.Share.{owns};
-ghost use Rattle.like_roles.specs.Desk.{view_of, is_split_at, CanServe, HasRoomForOne, HasRoomToNote, IsJudged, IsSound};
-ghost use Rattle.like_roles.specs.Order.{is_look_at_sliced};
-ghost use Rattle.like_roles.specs.Serve.{CountsLike, Likes, Runs, GivesReply};
+ghost use Rattle.like_roles.specs.worker.Desk.{view_of, is_split_at, CanServe, HasRoomForOne, HasRoomToNote, IsJudged, IsSound};
+ghost use Rattle.like_roles.specs.service.Order.{is_look_at_sliced};
+ghost use Rattle.like_roles.specs.worker.Serve.{CountsLike, Likes, Runs, GivesReply};
 
 use crate::gate::Gate;
 use crate::log::Ran;

@@ -1,6 +1,6 @@
 ghost use Rattle.std.specs.Prelude.{◌≡◌, ◌<◌, ◌≤◌, ◌+◌, ◌-◌, [], ◌∷◌, ◌++◌, length, slice_index, slice_set, vec_len, vec_capacity, None, IsSome};
-ghost use Rattle.like_roles.specs.Desk.{view_of, IsSound, IsTried};
-ghost use Rattle.like_roles.specs.Turns.{CanGive, Gives, IsNext, TakesAsk};
+ghost use Rattle.like_roles.specs.worker.Desk.{view_of, IsSound, IsTried};
+ghost use Rattle.like_roles.specs.worker.Turns.{CanGive, Gives, IsNext, TakesAsk};
 
 use crate::gate::Gate;
 use crate::log::Took;

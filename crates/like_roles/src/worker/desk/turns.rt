@@ -2,8 +2,8 @@ ghost use Rattle.std.specs.Prelude.{◌≡◌, ◌≢◌, ◌<◌, ◌+◌, ◌*
 ghost use Rattle.like_core.specs.declared.worker_state.WorkerState.TheVariants.{Gone};
 ghost use Rattle.like_core.specs.WorkerState.{IsSightOf, RunsJoined, RunsSplit, SawEnding, phase_of};
 ghost use Rattle.like_tables.specs.Share.{submitter_of};
-ghost use Rattle.like_roles.specs.Desk.{view_of, HasSubmitters, IsSettled, IsSound, WorksAt};
-ghost use Rattle.like_roles.specs.Turns.{Turns, enters_split, masks_in, saw};
+ghost use Rattle.like_roles.specs.worker.Desk.{view_of, HasSubmitters, IsSettled, IsSound, WorksAt};
+ghost use Rattle.like_roles.specs.worker.Turns.{Turns, enters_split, masks_in, saw};
 
 use crate::gate::Gate;
 use crate::turn::Turn;

@@ -1,5 +1,5 @@
 use Rattle.std.proofs.Common.{ℕ, List, [], ◌∷◌, ◌++◌, ap, ◌∙◌}
-use Rattle.like_core.specs.Word.{packed}
+use Rattle.like_core.specs.word.Word.{packed}
 use Rattle.like_board.proofs.Opens.{opens_key}
 use Rattle.like_board.proofs.board.Board.new.Goals as goal
 

@@ -1,6 +1,6 @@
 use Rattle.std.proofs.Common.{ap, ◌∙◌}
-use Rattle.like_core.specs.Word.{packed}
-use Rattle.like_core.specs.PhaseWord.{fields_of}
+use Rattle.like_core.specs.word.Word.{packed}
+use Rattle.like_core.specs.word.PhaseWord.{fields_of}
 use Rattle.like_board.proofs.Allowed.{releasing}
 use Rattle.like_board.proofs.coord_seat.CoordSeat.release.Goals as goal
 

@@ -1,5 +1,5 @@
 use Rattle.std.proofs.Common.{ap, ◌∙◌}
-use Rattle.like_core.specs.Word.{answer_bit}
+use Rattle.like_core.specs.word.Word.{answer_bit}
 use Rattle.like_board.proofs.Allowed.{acknowledging}
 use Rattle.like_board.proofs.worker_seat.WorkerSeat.acknowledge.Goals as goal
 

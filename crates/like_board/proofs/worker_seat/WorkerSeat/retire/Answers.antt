@@ -1,5 +1,5 @@
 use Rattle.std.proofs.Common.{ap, ◌∙◌}
-use Rattle.like_core.specs.Word.{retirement_bit}
+use Rattle.like_core.specs.word.Word.{retirement_bit}
 use Rattle.like_board.proofs.Allowed.{retiring}
 use Rattle.like_board.proofs.worker_seat.WorkerSeat.retire.Goals as goal
 

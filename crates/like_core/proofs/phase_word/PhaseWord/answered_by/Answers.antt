@@ -1,6 +1,6 @@
 use Rattle.std.proofs.Common.{sym}
-use Rattle.like_core.specs.PhaseWord.{fields_of}
-use Rattle.like_core.proofs.WordSteps.{lawful-answered_by, packed-answered_by}
+use Rattle.like_core.specs.word.PhaseWord.{fields_of}
+use Rattle.like_core.proofs.word.WordSteps.{lawful-answered_by, packed-answered_by}
 use Rattle.like_core.proofs.phase_word.PhaseWord.answered_by.Goals as goal
 
 pub invariant_of-word : goal.invariant_of-word

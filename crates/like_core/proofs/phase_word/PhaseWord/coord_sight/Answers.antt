@@ -1,7 +1,7 @@
 use Rattle.std.proofs.Common.{◌≡◌, ℕ, ◌-◌, ◌*◌, ◌%◌, ◌^◌, ◌==◌, ◌||◌, bit_or, ap, ◌∙◌, arith, eq-eqb}
 use Rattle.std.proofs.lemmas.Bool.{eqb-true}
 use Rattle.std.proofs.lemmas.Nat.{one_shl, or_lt}
-use Rattle.like_core.specs.Kind.{code_of}
+use Rattle.like_core.specs.word.Kind.{code_of}
 use Rattle.like_core.specs.Functions.{each_below, has_bit}
 use Rattle.like_core.proofs.Below.{each_below-same, full_bits, has_bit-or, same_truth}
 use Rattle.like_core.proofs.phase_word.PhaseWord.coord_sight.Goals as goal

@@ -1,8 +1,8 @@
 use Rattle.std.proofs.Common.{ap, sym, ◌∙◌}
-use Rattle.like_core.specs.Word.{packed}
-use Rattle.like_core.specs.PhaseWord.{fields_of}
-use Rattle.like_core.proofs.FromFields.{word_with}
-use Rattle.like_core.proofs.ShownEvents.{same_fields}
+use Rattle.like_core.specs.word.Word.{packed}
+use Rattle.like_core.specs.word.PhaseWord.{fields_of}
+use Rattle.like_core.proofs.word.FromFields.{word_with}
+use Rattle.like_core.proofs.word.ShownEvents.{same_fields}
 use Rattle.like_core.proofs.phase_word.PhaseWord.of_packed.Goals as goal
 
 pub unreachable-requires : goal.unreachable-requires

@@ -1,4 +1,4 @@
-use Rattle.like_core.proofs.WordParts.{finds}
+use Rattle.like_core.proofs.word.WordParts.{finds}
 use Rattle.like_core.proofs.phase_word.PhaseWord.unpack.Goals as goal
 
 pub returns-clause-found : goal.returns-clause-found

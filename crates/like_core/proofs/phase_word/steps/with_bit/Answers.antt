@@ -1,6 +1,6 @@
 use Rattle.std.proofs.Common.{bit_or, ap, ◌∙◌}
 use Rattle.std.proofs.lemmas.Nat.{one_shl}
-use Rattle.like_core.proofs.WordSteps.{or_unset}
+use Rattle.like_core.proofs.word.WordSteps.{or_unset}
 use Rattle.like_core.proofs.phase_word.steps.with_bit.Goals as goal
 
 pub returns : goal.returns

@@ -1,8 +1,8 @@
 use Rattle.std.proofs.Common.{◌≡◌, ◌+◌, ℕ, List, [], slice_index, slice_set, ap, ◌∙◌, arith}
 use Rattle.std.proofs.lemmas.List.{get_or_read}
-use Rattle.like_core.specs.Core.{numbers_of}
-use Rattle.like_core.proofs.KeptWrites.{unmerged-le-total}
-use Rattle.like_core.proofs.CoreWrites.{WritesRow, written_numbers, written_sizes, written_bounds}
+use Rattle.like_core.specs.core.Core.{numbers_of}
+use Rattle.like_core.proofs.core.KeptWrites.{unmerged-le-total}
+use Rattle.like_core.proofs.core.CoreWrites.{WritesRow, written_numbers, written_sizes, written_bounds}
 use Rattle.like_core.proofs.pure_core.Core.add_unmerged.Goals as goal
 
 pub overflow_add-likes : goal.overflow_add-likes

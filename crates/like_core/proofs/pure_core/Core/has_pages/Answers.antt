@@ -1,7 +1,7 @@
 use Rattle.std.proofs.Common.{ℕ, ◌^◌, ◌<◌, ◌≤◌, length, subst, sym, arith, eq-eqb}
 use Rattle.std.proofs.lemmas.Bool.{eqb-true, le-leb}
 use lib.Pow.{pow_mono}
-use Rattle.like_core.proofs.Masks.{shr_none}
+use Rattle.like_core.proofs.word.Masks.{shr_none}
 use Rattle.like_core.proofs.pure_core.Core.has_pages.Goals as goal
 
 pub returns-then-pages-ge-MASK_BITS : goal.returns-then-pages-ge-MASK_BITS

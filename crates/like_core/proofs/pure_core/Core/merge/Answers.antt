@@ -1,6 +1,6 @@
 use Rattle.std.proofs.Common.{ℕ, ◌+◌, ap, ◌∙◌}
-use Rattle.like_core.specs.Numbers.{Numbers, with_unmerged, with_count}
-use Rattle.like_core.specs.Core.{numbers_of}
+use Rattle.like_core.specs.core.Numbers.{Numbers, with_unmerged, with_count}
+use Rattle.like_core.specs.core.Core.{numbers_of}
 use Rattle.like_core.proofs.pure_core.Core.merge.Goals as goal
 
 pub returns-clause-old : goal.returns-clause-old

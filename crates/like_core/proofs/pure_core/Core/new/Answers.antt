@@ -1,6 +1,6 @@
 use Rattle.std.proofs.Common.{length, sym, ◌∙◌, ap, rules}
-use Rattle.like_core.proofs.Started.{start_sizes, start_bounds, start_stands}
-use Rattle.like_core.proofs.CoreReached.{starts_reachable, core_is_exclusive}
+use Rattle.like_core.proofs.core.Started.{start_sizes, start_bounds, start_stands}
+use Rattle.like_core.proofs.core.CoreReached.{starts_reachable, core_is_exclusive}
 use Rattle.like_core.proofs.pure_core.Core.new.Goals as goal
 
 pub invariant_of-result-clause-rows_sized : goal.invariant_of-result-clause-rows_sized

@@ -1,5 +1,5 @@
-use Rattle.like_core.proofs.EventLists.{takes_states}
-use Rattle.like_core.proofs.CoreReached.{keeps_reachable, core_is_exclusive}
+use Rattle.like_core.proofs.core.EventLists.{takes_states}
+use Rattle.like_core.proofs.core.CoreReached.{keeps_reachable, core_is_exclusive}
 use Rattle.like_core.proofs.pure_core.Core.step.Goals as goal
 
 pub returns-in-Some-clause-exclusive : goal.returns-in-Some-clause-exclusive

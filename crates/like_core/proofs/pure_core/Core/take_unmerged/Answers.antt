@@ -1,10 +1,10 @@
 use Rattle.std.proofs.Common.{◌≡◌, ◌+◌, ℕ, List, [], slice_index, ap, ◌∙◌, arith}
 use Rattle.std.proofs.lemmas.List.{get_or_read}
-use Rattle.like_core.specs.Numbers.{Numbers, total}
-use Rattle.like_core.specs.Core.{numbers_of}
+use Rattle.like_core.specs.core.Numbers.{Numbers, total}
+use Rattle.like_core.specs.core.Core.{numbers_of}
 use Rattle.like_core.proofs.Updates.{update-same}
-use Rattle.like_core.proofs.KeptWrites.{total-with_unmerged}
-use Rattle.like_core.proofs.CoreWrites.{WritesRow, written_numbers, written_sizes, written_bounds}
+use Rattle.like_core.proofs.core.KeptWrites.{total-with_unmerged}
+use Rattle.like_core.proofs.core.CoreWrites.{WritesRow, written_numbers, written_sizes, written_bounds}
 use Rattle.like_core.proofs.pure_core.Core.take_unmerged.Goals as goal
 
 pub invariant_of-self-clause-rows_sized : goal.invariant_of-self-clause-rows_sized

@@ -1,6 +1,6 @@
 use Rattle.std.proofs.Common.{◌≡◌, ℕ, ◌+◌, slice_index, slice_index_or, List, [], ap, ◌∙◌, arith}
 use Rattle.std.proofs.lemmas.List.{get_or_read}
-use Rattle.like_core.specs.Core.{numbers_of}
+use Rattle.like_core.specs.core.Core.{numbers_of}
 use Rattle.like_core.proofs.Sums.{sum_below-suc, sum_below-mono}
 use Rattle.like_core.proofs.pure_core.Core.total.Goals as goal
 

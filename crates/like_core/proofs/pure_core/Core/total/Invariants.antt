@@ -1,6 +1,6 @@
 use Rattle.std.proofs.Common.{◌≡◌, ◌+◌}
 use Rattle.like_core.specs.Functions.{sum_below}
-use Rattle.like_core.specs.Core.{numbers_of}
+use Rattle.like_core.specs.core.Core.{numbers_of}
 use Rattle.like_core.proofs.pure_core.Core.total.Given as goal
 
 abbrev pub invariant-loop-row : goal.invariant-loop-row

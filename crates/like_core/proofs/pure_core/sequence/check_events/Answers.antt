@@ -3,11 +3,11 @@ use Rattle.std.proofs.lemmas.Option.{slice_get-get_or}
 use Rattle.std.proofs.lemmas.List.{take_all}
 use Rattle.like_core.specs.declared.event.Event.{Event}
 use Rattle.like_core.specs.declared.event.Event.TheVariants.{Look}
-use Rattle.like_core.specs.Numbers.{Numbers}
-use Rattle.like_core.specs.Table.{Permits, Refuses, next, next_all, PermitsEach}
-use Rattle.like_core.specs.Core.{numbers_of}
-use Rattle.like_core.proofs.EventLists.{Refuses-Permits, next_all-take, PermitsEach-take, PermitsEach-at, takes_states_all}
-use Rattle.like_core.proofs.CoreReached.{keeps_reachable_all, core_is_exclusive}
+use Rattle.like_core.specs.core.Numbers.{Numbers}
+use Rattle.like_core.specs.core.Table.{Permits, Refuses, next, next_all, PermitsEach}
+use Rattle.like_core.specs.core.Core.{numbers_of}
+use Rattle.like_core.proofs.core.EventLists.{Refuses-Permits, next_all-take, PermitsEach-take, PermitsEach-at, takes_states_all}
+use Rattle.like_core.proofs.core.CoreReached.{keeps_reachable_all, core_is_exclusive}
 use Rattle.like_core.proofs.pure_core.sequence.check_events.Goals as goal
 
 pub returns-in-Err-clause-permitted : goal.returns-in-Err-clause-permitted

@@ -1,6 +1,6 @@
 use Rattle.std.proofs.Common.{◌≡◌, take}
-use Rattle.like_core.specs.Table.{PermitsEach, next_all}
-use Rattle.like_core.specs.Core.{numbers_of}
+use Rattle.like_core.specs.core.Table.{PermitsEach, next_all}
+use Rattle.like_core.specs.core.Core.{numbers_of}
 use Rattle.like_core.proofs.pure_core.sequence.check_events.Given as goal
 
 abbrev pub invariant-loop-index : goal.invariant-loop-index

@@ -1,4 +1,4 @@
-use Rattle.like_crew.proofs.Later.{all-same}
+use Rattle.like_crew.proofs.servers.Later.{all-same}
 use Rattle.like_crew.proofs.crew.Crew+ListInbox.turn.Goals as goal
 
 pub returns : goal.returns

@@ -5,7 +5,7 @@ use Rattle.like_roles.specs.declared.log.WorkerLog.{WorkerLog}
 use Rattle.like_crew.specs.Server.{IsLogOf}
 use Rattle.like_crew.specs.Ended.{IsSeatOf}
 use Rattle.like_crew.proofs.Coordinated.{lead-same}
-use Rattle.like_crew.proofs.Later.{all-same}
+use Rattle.like_crew.proofs.servers.Later.{all-same}
 use Rattle.like_crew.proofs.crew.Crew.finish.Goals as goal
 
 pub returns : goal.returns

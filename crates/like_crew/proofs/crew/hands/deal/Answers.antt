@@ -4,7 +4,7 @@ use Rattle.std.proofs.lemmas.Iterator.Adapters.{YieldsList-from_vec}
 use Rattle.std.proofs.lemmas.Iterator.Consumers.{YieldsList-end}
 use Rattle.like_tables.specs.Share.{dealt}
 use Rattle.like_tables.proofs.Dealt.{is-dealt}
-use Rattle.like_crew.proofs.Deals.{deal-none, deal-pushed}
+use Rattle.like_crew.proofs.lists.Deals.{deal-none, deal-pushed}
 use Rattle.like_crew.proofs.crew.hands.deal.Goals as goal
 
 -- what is in a hand

@@ -1,5 +1,5 @@
 use Rattle.std.proofs.Common.{◌≡◌, length, map}
-use Rattle.like_crew.proofs.Deals.{AllDealt}
+use Rattle.like_crew.proofs.lists.Deals.{AllDealt}
 use Rattle.like_crew.proofs.crew.hands.deal.Given as goal
 
 abbrev pub invariant-loop-item : goal.invariant-loop-item

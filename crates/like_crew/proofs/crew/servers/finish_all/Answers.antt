@@ -6,7 +6,7 @@ use Rattle.std.proofs.lemmas.List.{map-id}
 use Rattle.like_core.specs.declared.worker_state.WorkerState.TheVariants.{Gone}
 use Rattle.like_crew.specs.Server.{IsLogOf, ServerView}
 use Rattle.like_crew.specs.Ended.{IsSeatOf}
-use Rattle.like_crew.proofs.Pairs.{pairs-more}
+use Rattle.like_crew.proofs.lists.Pairs.{pairs-more}
 use Rattle.like_crew.proofs.crew.servers.finish_all.Goals as goal
 
 pub finish-log-requires : goal.finish-log-requires

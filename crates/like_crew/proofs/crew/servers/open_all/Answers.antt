@@ -1,7 +1,7 @@
 use Rattle.std.proofs.Common.{length, refl, ◌∙◌, arith}
 use Rattle.std.proofs.lemmas.List.{length-set}
 use Rattle.std.proofs.lemmas.Option.{slice_get_read}
-use Rattle.like_crew.proofs.Later.{all-further, all-same}
+use Rattle.like_crew.proofs.servers.Later.{all-further, all-same}
 use Rattle.like_crew.proofs.crew.servers.open_all.Goals as goal
 
 pub loop-worker-init : goal.loop-worker-init

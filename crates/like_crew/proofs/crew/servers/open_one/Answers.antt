@@ -3,7 +3,7 @@ use Rattle.std.specs.List.{AllZip}
 use Rattle.std.proofs.Math.Nat.{mod-lt}
 use Rattle.std.proofs.lemmas.Option.{slice_get_read}
 use Rattle.like_crew.specs.Server.{ServerGoesOn}
-use Rattle.like_crew.proofs.Later.{all-further, all-same}
+use Rattle.like_crew.proofs.servers.Later.{all-further, all-same}
 use Rattle.like_crew.proofs.crew.servers.open_one.Goals as goal
 
 pub open_one-requires : goal.open_one-requires

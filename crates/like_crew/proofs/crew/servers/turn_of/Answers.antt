@@ -1,6 +1,6 @@
 use Rattle.std.proofs.Common.{length, refl}
 use Rattle.std.proofs.lemmas.Option.{slice_get_read}
-use Rattle.like_crew.proofs.Later.{all-further, all-same}
+use Rattle.like_crew.proofs.servers.Later.{all-further, all-same}
 use Rattle.like_crew.proofs.crew.servers.turn_of.Goals as goal
 
 pub returns : goal.returns

@@ -1,7 +1,7 @@
 use Rattle.std.proofs.Common.{◌<◌, length, refl, sym, ◌∙◌, arith}
 use Rattle.std.proofs.lemmas.List.{length-set}
 use Rattle.std.proofs.lemmas.Option.{slice_get_read}
-use Rattle.like_crew.proofs.Later.{all-further, all-same, gone-more}
+use Rattle.like_crew.proofs.servers.Later.{all-further, all-same, gone-more}
 use Rattle.like_crew.proofs.crew.servers.turns.Goals as goal
 use Rattle.like_crew.proofs.crew.servers.turns.Goals.{then-gone, else-gone}
 

@@ -1,5 +1,5 @@
 use Rattle.std.proofs.Common.{ap, ◌∙◌, subst}
-use Rattle.like_roles.specs.CoordTurns.{ChoseByCounts, CoordinatorView}
+use Rattle.like_roles.specs.coordinator.CoordTurns.{ChoseByCounts, CoordinatorView}
 use Rattle.like_crew.proofs.ended.Ended.new.Goals as goal
 
 pub returns-clause-lead : goal.returns-clause-lead

@@ -4,7 +4,7 @@ use Rattle.std.proofs.lemmas.Iterator.Consumers.{YieldsList-end, YieldsList-turn
 use Rattle.std.proofs.lemmas.List.{length-map, map-append, map-id}
 use Rattle.like_replies.specs.declared.answer.Answer.{Answer}
 use Rattle.like_replies.specs.Slots.{IsSlotsFault}
-use Rattle.like_replies.proofs.Empty.{first_of_all}
+use Rattle.like_replies.proofs.slots.Empty.{first_of_all}
 use Rattle.like_replies.proofs.Lists.{take-more_taken}
 use Rattle.like_replies.proofs.collection.slots.answer_rows.Goals as goal
 

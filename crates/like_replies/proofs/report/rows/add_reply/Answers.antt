@@ -3,7 +3,7 @@ use Rattle.std.proofs.lemmas.Result.{IfOk-equal}
 use Rattle.csv.specs.Writing.{default_writer, row_text}
 use Rattle.like_replies.specs.RowParts.{phase_text, shown_text}
 use Rattle.like_replies.specs.Rows.{reply_row}
-use Rattle.like_replies.proofs.RowTexts.{number_text, reply-text}
+use Rattle.like_replies.proofs.rows.RowTexts.{number_text, reply-text}
 use Rattle.like_replies.proofs.report.rows.add_reply.Goals as goal
 
 pub returns : goal.returns

@@ -2,7 +2,7 @@ use Rattle.std.proofs.Common.{◌≡◌, ◌++◌, ◌∙◌, ap, sym, codes, ru
 use Rattle.std.proofs.lemmas.Result.{IfOk-equal}
 use Rattle.csv.specs.Writing.{default_writer, row_text}
 use Rattle.like_replies.specs.Rows.{user_row}
-use Rattle.like_replies.proofs.RowTexts.{name_text, number_text, user-text}
+use Rattle.like_replies.proofs.rows.RowTexts.{name_text, number_text, user-text}
 use Rattle.like_replies.proofs.report.rows.add_user.Goals as goal
 
 pub returns : goal.returns

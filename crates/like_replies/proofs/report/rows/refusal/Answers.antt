@@ -1,5 +1,5 @@
 use Rattle.std.proofs.Common.{refl}
-use Rattle.like_replies.proofs.RowTexts.{other_home-text, unknown_page-text, unknown_user-text}
+use Rattle.like_replies.proofs.rows.RowTexts.{other_home-text, unknown_page-text, unknown_user-text}
 use Rattle.like_replies.proofs.report.rows.refusal.Goals as goal
 
 pub returns-in-UnknownUser : goal.returns-in-UnknownUser

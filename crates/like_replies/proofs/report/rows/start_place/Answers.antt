@@ -1,6 +1,6 @@
 use Rattle.std.proofs.Common.{rules, append_assoc}
 use Rattle.std.proofs.lemmas.Result.{IfOk-equal}
-use Rattle.like_replies.proofs.RowTexts.{place_start-text}
+use Rattle.like_replies.proofs.rows.RowTexts.{place_start-text}
 use Rattle.like_replies.proofs.report.rows.start_place.Goals as goal
 
 pub returns : goal.returns

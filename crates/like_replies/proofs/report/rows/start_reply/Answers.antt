@@ -1,5 +1,5 @@
 use Rattle.std.proofs.Common.{rules, append_assoc}
-use Rattle.like_replies.proofs.RowTexts.{start-text}
+use Rattle.like_replies.proofs.rows.RowTexts.{start-text}
 use Rattle.like_replies.proofs.report.rows.start_reply.Goals as goal
 
 pub returns : goal.returns

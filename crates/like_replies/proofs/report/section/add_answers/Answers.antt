@@ -4,7 +4,7 @@ use Rattle.like_roles.specs.declared.reply.Reply.TheVariants.{Liked}
 use Rattle.like_replies.specs.declared.answer.Answer.{Answer}
 use Rattle.like_replies.specs.RowParts.{RowHead}
 use Rattle.like_replies.specs.Rows.{answer_rows, reply_row}
-use Rattle.like_replies.proofs.Texts.{AddsRow, answer_rows-append}
+use Rattle.like_replies.proofs.rows.Texts.{AddsRow, answer_rows-append}
 use Rattle.like_replies.proofs.report.section.add_answers.Goals as goal
 
 -- what stands past the end of the answers

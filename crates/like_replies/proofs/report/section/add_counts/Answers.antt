@@ -1,7 +1,7 @@
 use Rattle.std.proofs.Common.{◌≡◌, ◌<◌, length, get_or, take, arith}
 use Rattle.std.proofs.lemmas.List.{length-take-le, take_more}
 use Rattle.like_replies.specs.Rows.{page_row, page_rows}
-use Rattle.like_replies.proofs.Texts.{AddsRow, page_rows-push}
+use Rattle.like_replies.proofs.rows.Texts.{AddsRow, page_rows-push}
 use Rattle.like_replies.proofs.report.section.add_counts.Goals as goal
 
 pub loop-page-preserved : goal.loop-page-preserved

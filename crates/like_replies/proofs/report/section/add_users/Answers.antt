@@ -2,7 +2,7 @@ use Rattle.std.proofs.Common.{◌≡◌, ◌+◌, ◌∷◌, [], ◌∙◌, ap, 
 use Rattle.std.proofs.lemmas.List.{length-take-le, take_all, take_more}
 use Rattle.like_replies.specs.RowParts.{RowHead}
 use Rattle.like_replies.specs.Rows.{liker_rows, user_row}
-use Rattle.like_replies.proofs.Texts.{AddsRow, liker_rows-append}
+use Rattle.like_replies.proofs.rows.Texts.{AddsRow, liker_rows-append}
 use Rattle.like_replies.proofs.report.section.add_users.Goals.{in-Some+in_ok-add_user, in_default}
 use Rattle.like_replies.proofs.report.section.add_users.Goals as goal
 

@@ -3,7 +3,7 @@ use Rattle.std.proofs.lemmas.List.{length-map, length-take-le, map-append, take_
 use Rattle.like_replies.specs.declared.place.Place.{Place}
 use Rattle.like_replies.specs.Places.{lists_in}
 use Rattle.like_replies.specs.PlaceRows.{place_rows}
-use Rattle.like_replies.proofs.Texts.{place_rows-push}
+use Rattle.like_replies.proofs.rows.Texts.{place_rows-push}
 use Rattle.like_replies.proofs.report.sections.place_sections.Goals as goal
 
 -- the places in a page's vector

@@ -6,7 +6,7 @@ use Rattle.like_replies.specs.declared.report.section.Section.TheVariants.{Answe
 use Rattle.like_replies.specs.Rows.{IsShowable, answer_rows, submitter_rows}
 use Rattle.like_replies.specs.Sections.{HasRows}
 use Rattle.like_replies.proofs.Sections.{All-part, AreSections-push}
-use Rattle.like_replies.proofs.Texts.{answer_rows-append}
+use Rattle.like_replies.proofs.rows.Texts.{answer_rows-append}
 use Rattle.like_replies.proofs.report.sections.push_answers.Goals as goal
 
 pub loop-part-preserved : goal.loop-part-preserved

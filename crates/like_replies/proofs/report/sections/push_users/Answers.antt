@@ -6,7 +6,7 @@ use Rattle.like_replies.specs.declared.report.section.Section.TheVariants.{Users
 use Rattle.like_replies.specs.Rows.{liker_rows, user_rows}
 use Rattle.like_replies.specs.Sections.{HasRows}
 use Rattle.like_replies.proofs.Sections.{All-part, AreSections-push}
-use Rattle.like_replies.proofs.Texts.{liker_rows-append}
+use Rattle.like_replies.proofs.rows.Texts.{liker_rows-append}
 use Rattle.like_replies.proofs.report.sections.push_users.Goals as goal
 
 pub loop-part-preserved : goal.loop-part-preserved

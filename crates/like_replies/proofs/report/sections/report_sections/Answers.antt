@@ -6,7 +6,7 @@ use Rattle.like_replies.specs.declared.report.section.Section.TheVariants.{Count
 use Rattle.like_replies.specs.Rows.{IsShowable, header_row, hot_rows, page_rows, reply_rows, user_rows}
 use Rattle.like_replies.specs.Sections.{AreSections}
 use Rattle.like_replies.proofs.Sections.{AreSections-push}
-use Rattle.like_replies.proofs.Texts.{All-image, reply_rows-push}
+use Rattle.like_replies.proofs.rows.Texts.{All-image, reply_rows-push}
 use Rattle.like_replies.proofs.report.sections.report_sections.Goals as goal
 
 -- the answers in a submitter's vector

@@ -2,8 +2,8 @@ use Rattle.std.proofs.Common.{◌≡◌, ◌-◌, ◌<◌, true, false, subst, s
 use Rattle.like_core.specs.Phase.{last_phase}
 use Rattle.like_board.specs.Seats.{coord_board, coord_view}
 use Rattle.like_roles.specs.declared.coord_turn.CoordTurn.TheVariants as turn
-use Rattle.like_roles.specs.CoordTurns.{CoordinatorView, CoordTurns, ends, counts, stays, announces, releases, waits}
-use Rattle.like_roles.proofs.Coordinating.{Looked, by_case, phase_within}
+use Rattle.like_roles.specs.coordinator.CoordTurns.{CoordinatorView, CoordTurns, ends, counts, stays, announces, releases, waits}
+use Rattle.like_roles.proofs.choice.Coordinating.{Looked, by_case, phase_within}
 use Rattle.like_roles.proofs.coordinator.Coordinator.act.Goals as goal
 use Rattle.like_roles.proofs.coordinator.Coordinator.act.Goals.{else-sight-2-via-then-sight-2+else-sight-3, else-sight-2-via-else-sight-2}
 

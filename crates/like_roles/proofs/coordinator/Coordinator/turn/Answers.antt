@@ -1,4 +1,4 @@
-use Rattle.like_roles.proofs.Coordinating.{before_end, chose-on, ended_joined, same_board}
+use Rattle.like_roles.proofs.choice.Coordinating.{before_end, chose-on, ended_joined, same_board}
 use Rattle.like_roles.proofs.coordinator.Coordinator.turn.Goals as goal
 
 pub returns : goal.returns

@@ -2,11 +2,11 @@ use Rattle.std.proofs.Common.{◌≡◌, ◌+◌, ◌-◌, ◌*◌, ◌^◌, ◌
 use Rattle.std.proofs.lemmas.Bool.{lt-leb, le-leb}
 use Rattle.std.proofs.lemmas.List.{get_or-set_other, length-set, length-take-le, take_more_set}
 use Rattle.like_core.specs.declared.view.CoordSeatView.{CoordSeatView}
-use Rattle.like_core.specs.ShownWord.{weight}
-use Rattle.like_core.specs.Views.{counted_coord, MayCount}
+use Rattle.like_core.specs.word.ShownWord.{weight}
+use Rattle.like_core.specs.views.Views.{counted_coord, MayCount}
 use Rattle.like_board.specs.Seats.{coord_view}
-use Rattle.like_roles.specs.Choice.{counted_from, has_risen}
-use Rattle.like_roles.proofs.Choosing.{bit-fits, bit-is, counted-more, mask-more, may-count}
+use Rattle.like_roles.specs.coordinator.Choice.{counted_from, has_risen}
+use Rattle.like_roles.proofs.choice.Choosing.{bit-fits, bit-is, counted-more, mask-more, may-count}
 use Rattle.like_roles.proofs.coordinator.choice.count_risen.Goals as goal
 use Rattle.like_roles.proofs.coordinator.choice.count_risen.Goals.{then-saturating_sub-from, else-saturating_sub-from}
 

@@ -1,5 +1,5 @@
 use Rattle.std.proofs.Common.{subst}
-use Rattle.like_roles.specs.WorkerView.{WorkerView, IsSliceInSplit}
+use Rattle.like_roles.specs.worker.WorkerView.{WorkerView, IsSliceInSplit}
 use Rattle.like_roles.proofs.Started.{follows-done}
 use Rattle.like_roles.proofs.worker.Worker.finish.Goals as goal
 

@@ -1,7 +1,7 @@
 use Rattle.std.proofs.Common.{subst}
-use Rattle.like_roles.specs.Desk.{view_of}
-use Rattle.like_roles.specs.WorkerView.{WorkerView, HasPhaseMask, IsSliceInSplit}
-use Rattle.like_roles.specs.Turns.{Turns}
+use Rattle.like_roles.specs.worker.Desk.{view_of}
+use Rattle.like_roles.specs.worker.WorkerView.{WorkerView, HasPhaseMask, IsSliceInSplit}
+use Rattle.like_roles.specs.worker.Turns.{Turns}
 use Rattle.like_roles.proofs.Followed.{follows-turn}
 use Rattle.like_roles.proofs.Keeps.{turns-keeps}
 use Rattle.like_roles.proofs.Started.{turns-pends, turns-retired}

@@ -6,7 +6,7 @@ use Rattle.std.specs.declared.thread.PromisedHandle.{PromisedHandle}
 use Rattle.like_run.specs.declared.threads.worker.Owes.{Owes}
 use Rattle.like_run.specs.declared.threads.worker.Served.{Served}
 use Rattle.like_crew.specs.Server.{ServerView}
-use Rattle.like_crew.proofs.Leaving.{logs-left, one-left, seats-left}
+use Rattle.like_crew.proofs.servers.Leaving.{logs-left, one-left, seats-left}
 use Rattle.like_run.proofs.threads.coordinator.join_all.Goals as goal
 
 abbrev first_of : PromisedHandle Served Owes → ServerView

@@ -1,4 +1,4 @@
-use Rattle.like_crew.proofs.Later.{goes-further, goes-same}
+use Rattle.like_crew.proofs.servers.Later.{goes-further, goes-same}
 use Rattle.like_run.proofs.threads.worker.make_turns.Goals as goal
 
 pub loop-init : goal.loop-init

@@ -6,7 +6,7 @@ use Rattle.std.specs.declared.thread.PromisedHandle.{PromisedHandle}
 use Rattle.like_run.specs.declared.threads.worker.Owes.{Owes}
 use Rattle.like_run.specs.declared.threads.worker.Served.{Served}
 use Rattle.like_crew.specs.Server.{ServerView}
-use Rattle.like_crew.proofs.Leaving.{all-one}
+use Rattle.like_crew.proofs.servers.Leaving.{all-one}
 use Rattle.like_run.proofs.threads.workers.start_workers.Goals as goal
 
 abbrev first_of : PromisedHandle Served Owes → ServerView

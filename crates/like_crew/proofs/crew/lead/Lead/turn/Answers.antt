@@ -1,5 +1,5 @@
 use Rattle.std.proofs.Common.{subst}
-use Rattle.like_roles.specs.CoordTurns.{CoordTurns}
+use Rattle.like_roles.specs.coordinator.CoordTurns.{CoordTurns}
 use Rattle.like_crew.specs.Crew.{LeadGoesOn}
 use Rattle.like_crew.proofs.Coordinated.{lead-goes-on}
 use Rattle.like_crew.proofs.crew.lead.Lead.turn.Goals as goal

@@ -1,4 +1,4 @@
-use Rattle.like_crew.proofs.Later.{goes-further}
+use Rattle.like_crew.proofs.servers.Later.{goes-further}
 use Rattle.like_crew.proofs.crew.server.Server+P+ListInbox.open_all.Goals as goal
 
 pub loop-place-preserved : goal.loop-place-preserved

@@ -2,7 +2,7 @@ use Rattle.std.proofs.Common.{◌≡◌, ℕ, ◌/◌, List, map, set, sym, ap, 
 use Rattle.std.proofs.Math.Seq.{map-set_same}
 use Rattle.like_queue.specs.Inbox.{Inbox, InboxView, view_of}
 use Rattle.like_crew.specs.Server.{Agree, ServerGoesOn, ServerView}
-use Rattle.like_crew.proofs.Later.{goes-same}
+use Rattle.like_crew.proofs.servers.Later.{goes-same}
 use Rattle.like_crew.proofs.crew.server.Server+P+ListInbox.open_one.Goals as goal
 
 pub invariant_of-self : goal.invariant_of-self

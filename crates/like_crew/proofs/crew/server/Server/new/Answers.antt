@@ -1,7 +1,7 @@
 use Rattle.std.proofs.Common.{◌≡◌, length, map, sym, ap}
 use Rattle.like_tables.specs.Share.{Share, share_of}
 use Rattle.like_tables.specs.UserTable.{UserTable, table_without_likes}
-use Rattle.like_crew.proofs.Finishing.{agree-new}
+use Rattle.like_crew.proofs.servers.Finishing.{agree-new}
 use Rattle.like_crew.proofs.crew.server.Server.new.Goals as goal
 
 -- the workers among which a table without likes is shared

@@ -2,12 +2,12 @@ use Rattle.std.proofs.Common.{◌≡◌, ℕ, ◌/◌, ◌<◌, List, length, ge
 use Rattle.std.proofs.lemmas.Option.{slice_get-map, slice_get_read}
 use Rattle.like_queue.specs.Inbox.{InboxView}
 use Rattle.like_tables.specs.Share.{Share}
-use Rattle.like_roles.specs.WorkerView.{WorkerView, submitter_at}
+use Rattle.like_roles.specs.worker.WorkerView.{WorkerView, submitter_at}
 use Rattle.like_crew.specs.Server.{Agree, ServerGoesOn, WorksFor, ServerView}
-use Rattle.like_crew.proofs.Agreeing.{agree-give, agree-turn, can-give, none-pending, notes-given, serves-give, serves-turn, share-given}
-use Rattle.like_crew.proofs.Numbers.{place-own}
-use Rattle.like_crew.proofs.Posts.{gives-whose, turns-whose, whose}
-use Rattle.like_crew.proofs.Sights.{turns-tries}
+use Rattle.like_crew.proofs.servers.Agreeing.{agree-give, agree-turn, can-give, none-pending, notes-given, serves-give, serves-turn, share-given}
+use Rattle.like_crew.proofs.servers.Numbers.{place-own}
+use Rattle.like_crew.proofs.servers.Posts.{gives-whose, turns-whose, whose}
+use Rattle.like_crew.proofs.servers.Sights.{turns-tries}
 use Rattle.std.proofs.lemmas.List.{length-map, length-set, map-set}
 use Rattle.like_crew.proofs.crew.server.Server.turn.Goals as goal
 

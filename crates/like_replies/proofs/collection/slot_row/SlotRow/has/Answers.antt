@@ -1,5 +1,5 @@
 use Rattle.std.proofs.Common.{◌<◌, ap, length, arith}
-use Rattle.like_replies.proofs.There.{is_some-there, length-there}
+use Rattle.like_replies.proofs.slots.There.{is_some-there, length-there}
 use Rattle.like_replies.proofs.collection.slot_row.SlotRow.has.Goals as goal
 
 pub index-requires : goal.index-requires

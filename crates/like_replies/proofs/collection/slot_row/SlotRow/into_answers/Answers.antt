@@ -4,8 +4,8 @@ use Rattle.like_roles.specs.declared.reply.Reply.TheVariants.{Liked}
 use Rattle.like_replies.specs.declared.answer.Answer.{Answer}
 use Rattle.like_replies.specs.declared.collect_fault.CollectFault.TheVariants.{Missing}
 use Rattle.like_replies.specs.Slots.{IsFirstEmpty, IsSlotsFault, answers_there}
-use Rattle.like_replies.proofs.Empty.{first_of_row}
-use Rattle.like_replies.proofs.There.{get_or-there, length-there, take-there}
+use Rattle.like_replies.proofs.slots.Empty.{first_of_row}
+use Rattle.like_replies.proofs.slots.There.{get_or-there, length-there, take-there}
 use Rattle.like_replies.proofs.collection.slot_row.SlotRow.into_answers.Goals as goal
 
 -- what stands past the end of the answers

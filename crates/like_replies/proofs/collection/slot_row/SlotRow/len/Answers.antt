@@ -1,5 +1,5 @@
 use Rattle.std.proofs.Common.{◌∙◌, sym, ap, length}
-use Rattle.like_replies.proofs.There.{length-there}
+use Rattle.like_replies.proofs.slots.There.{length-there}
 use Rattle.like_replies.proofs.collection.slot_row.SlotRow.len.Goals as goal
 
 pub returns : goal.returns

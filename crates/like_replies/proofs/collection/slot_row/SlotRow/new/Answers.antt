@@ -1,5 +1,5 @@
 use Rattle.std.proofs.Common.{rules}
-use Rattle.like_replies.proofs.There.{there-start}
+use Rattle.like_replies.proofs.slots.There.{there-start}
 use Rattle.like_replies.proofs.collection.slot_row.SlotRow.new.Goals as goal
 
 pub returns : goal.returns

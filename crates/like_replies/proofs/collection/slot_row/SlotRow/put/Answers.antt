@@ -1,5 +1,5 @@
 use Rattle.std.proofs.Common.{◌∙◌, Some, ap, set, length, arith}
-use Rattle.like_replies.proofs.There.{length-there, there-set}
+use Rattle.like_replies.proofs.slots.There.{length-there, there-set}
 use Rattle.like_replies.proofs.collection.slot_row.SlotRow.put.Goals as goal
 
 pub index_mut-requires : goal.index_mut-requires

@@ -4,8 +4,8 @@ use Rattle.like_roles.specs.declared.log.Ran.{Ran}
 use Rattle.like_roles.specs.declared.reply.Reply.TheVariants.{Liked}
 use Rattle.like_replies.specs.Collected.{IsEntryFault}
 use Rattle.like_replies.specs.Slots.{HoldsAll}
-use Rattle.like_replies.proofs.Collecting.{IsEntryFault-refused}
-use Rattle.like_replies.proofs.Holding.{HoldsAll-put}
+use Rattle.like_replies.proofs.slots.Collecting.{IsEntryFault-refused}
+use Rattle.like_replies.proofs.slots.Holding.{HoldsAll-put}
 use Rattle.like_replies.proofs.Lists.{parts_at}
 use Rattle.like_replies.proofs.collection.slots.Slots.put_all.Goals as goal
 

@@ -1,7 +1,7 @@
 use Rattle.std.proofs.Common.{◌≡◌, ◌++◌, length, refl, sym, ◌∙◌, rules, arith}
 use Rattle.std.specs.Prelude.{decimal}
 use Rattle.std.proofs.lemmas.List.{drop_at}
-use Rattle.like_replies.proofs.Plain.{field_text-decimal}
+use Rattle.like_replies.proofs.rows.Plain.{field_text-decimal}
 use Rattle.like_replies.proofs.report.head.Head.new.Goals as goal
 
 pub invariant_of-result : goal.invariant_of-result

@@ -1,7 +1,7 @@
 use Rattle.std.proofs.Common.{◌≡◌, ◌+◌, ◌-◌, ◌++◌, length, take, refl, sym, ◌∙◌, rules, arith}
 use Rattle.std.specs.Prelude.{decimal}
 use Rattle.std.proofs.lemmas.List.{get_or_read}
-use Rattle.like_replies.proofs.Heads.{ends_in, raised, renewed}
+use Rattle.like_replies.proofs.rows.Heads.{ends_in, raised, renewed}
 use Rattle.like_replies.proofs.report.head.Head.next.Goals as goal
 
 pub overflow_sub-last : goal.overflow_sub-last

@@ -1,7 +1,7 @@
 use Rattle.std.proofs.Common.{◌≡◌, refl, add-one, Some, option_map, slice_get}
 use Rattle.std.proofs.lemmas.List.{map-append}
 use Rattle.like_requests.proofs.Fronts.{map-more}
-use Rattle.like_replies.proofs.Named.{bytes_in, text-named, text_of_name}
+use Rattle.like_replies.proofs.rows.Named.{bytes_in, text-named, text_of_name}
 use Rattle.like_replies.proofs.report.names.Names.new.Goals as goal
 
 pub loop-page-preserved : goal.loop-page-preserved

@@ -1,5 +1,5 @@
 use Rattle.std.proofs.Common.{◌≡◌, map, take}
-use Rattle.like_replies.proofs.Named.{bytes_in, text_of_name}
+use Rattle.like_replies.proofs.rows.Named.{bytes_in, text_of_name}
 use Rattle.like_replies.proofs.report.names.Names.new.Given as goal
 
 abbrev pub invariant-loop-page : goal.invariant-loop-page

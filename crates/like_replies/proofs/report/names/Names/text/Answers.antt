@@ -1,4 +1,4 @@
-use Rattle.like_replies.proofs.Named.{text-at}
+use Rattle.like_replies.proofs.rows.Named.{text-at}
 use Rattle.like_replies.proofs.report.names.Names.text.Goals as goal
 
 pub returns : goal.returns

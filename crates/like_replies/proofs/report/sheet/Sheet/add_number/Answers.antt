@@ -1,5 +1,5 @@
 use Rattle.std.proofs.Common.{rules}
-use Rattle.like_replies.proofs.Plain.{field_text-decimal}
+use Rattle.like_replies.proofs.rows.Plain.{field_text-decimal}
 use Rattle.like_replies.proofs.report.sheet.Sheet.add_number.Goals as goal
 
 pub returns : goal.returns

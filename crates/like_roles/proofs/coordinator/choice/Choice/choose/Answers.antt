@@ -2,11 +2,11 @@ use Rattle.std.proofs.Common.{◌≡◌, ◌+◌, ◌<◌, ◌≤◌, ◌^◌, �
 use Rattle.std.proofs.Math.Seq.{take-append_seam}
 use Rattle.like_core.specs.declared.view.CoordSeatView.{CoordSeatView}
 use Rattle.like_core.specs.Phase.{IsJoined}
-use Rattle.like_core.specs.Views.{published_coord, MayPublish}
+use Rattle.like_core.specs.views.Views.{published_coord, MayPublish}
 use Rattle.like_board.specs.Seats.{coord_view}
 use Rattle.like_roles.specs.declared.chosen.Chosen.{Chosen}
-use Rattle.like_roles.specs.Choice.{ChoiceView, Chooses, chooses_risen, counted_from, has_risen, risen, with_chosen, within_limit}
-use Rattle.like_roles.proofs.Choosing.{counted-is, limited-lt, saw-still}
+use Rattle.like_roles.specs.coordinator.Choice.{ChoiceView, Chooses, chooses_risen, counted_from, has_risen, risen, with_chosen, within_limit}
+use Rattle.like_roles.proofs.choice.Choosing.{counted-is, limited-lt, saw-still}
 use Rattle.like_roles.proofs.coordinator.choice.Choice.choose.Goals as goal
 
 pub publish-requires-2-clause-may : goal.publish-requires-2-clause-may

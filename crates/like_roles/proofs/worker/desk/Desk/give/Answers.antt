@@ -1,6 +1,6 @@
 use Rattle.std.proofs.Common.{refl, subst}
-use Rattle.like_roles.specs.Desk.{view_of}
-use Rattle.like_roles.specs.Turns.{CanGive, ends, asks}
+use Rattle.like_roles.specs.worker.Desk.{view_of}
+use Rattle.like_roles.specs.worker.Turns.{CanGive, ends, asks}
 use Rattle.like_roles.proofs.worker.desk.Desk.give.Goals as goal
 
 pub take-requires-clause-given : goal.take-requires-clause-given

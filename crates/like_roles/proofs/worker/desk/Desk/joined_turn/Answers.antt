@@ -1,8 +1,8 @@
 use Rattle.std.proofs.Common.{◌≡◌, true, drop, refl, ap, sym, ◌∙◌, subst}
-use Rattle.like_roles.specs.Desk.{view_of}
-use Rattle.like_roles.specs.Serve.{Runs}
-use Rattle.like_roles.specs.Turns.{runs_held, tries_joined}
-use Rattle.like_roles.specs.WorkerView.{IsNextPlace}
+use Rattle.like_roles.specs.worker.Desk.{view_of}
+use Rattle.like_roles.specs.worker.Serve.{Runs}
+use Rattle.like_roles.specs.worker.Turns.{runs_held, tries_joined}
+use Rattle.like_roles.specs.worker.WorkerView.{IsNextPlace}
 use Rattle.like_roles.proofs.Held.{IsSound-pop, first_of, none_first, view_of-tried}
 use Rattle.like_roles.proofs.worker.desk.Desk.joined_turn.Goals as goal
 

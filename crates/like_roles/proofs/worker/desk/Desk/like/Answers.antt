@@ -1,8 +1,8 @@
 use Rattle.std.proofs.Common.{ap, ◌∙◌}
 use Rattle.like_tables.specs.UserTable.{UserTable, with_last}
-use Rattle.like_roles.specs.Desk.{view_of}
-use Rattle.like_roles.specs.Serve.{counted}
-use Rattle.like_roles.specs.WorkerView.{WorkerView}
+use Rattle.like_roles.specs.worker.Desk.{view_of}
+use Rattle.like_roles.specs.worker.Serve.{counted}
+use Rattle.like_roles.specs.worker.WorkerView.{WorkerView}
 use Rattle.like_roles.proofs.Held.{IsSound-last}
 use Rattle.like_roles.proofs.worker.desk.Desk.like.Goals as goal
 

@@ -1,7 +1,7 @@
 use Rattle.std.proofs.Common.{◌+◌, length, subst, ap, sym, ◌∙◌, arith}
 use Rattle.std.proofs.lemmas.List.{length-set}
-use Rattle.like_roles.specs.Desk.{view_of}
-use Rattle.like_roles.specs.WorkerView.{WorkerView}
+use Rattle.like_roles.specs.worker.Desk.{view_of}
+use Rattle.like_roles.specs.worker.WorkerView.{WorkerView}
 use Rattle.like_roles.proofs.Merging.{Merging, Merging-end, Merging-page, Merging-unliked}
 use Rattle.like_roles.proofs.worker.desk.Desk.merge.Goals as goal
 

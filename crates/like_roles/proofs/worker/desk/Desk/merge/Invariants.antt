@@ -1,6 +1,6 @@
 use Rattle.std.proofs.Common.{◌-◌, ◌≤◌, length}
 use Rattle.like_core.specs.Post.{pages_of}
-use Rattle.like_roles.specs.Desk.{view_of, IsSound}
+use Rattle.like_roles.specs.worker.Desk.{view_of, IsSound}
 use Rattle.like_roles.proofs.Merging.{Merging}
 use Rattle.like_roles.proofs.worker.desk.Desk.merge.Given as goal
 

@@ -1,4 +1,4 @@
-use Rattle.like_roles.specs.Desk.{view_of}
+use Rattle.like_roles.specs.worker.Desk.{view_of}
 use Rattle.like_roles.proofs.Served.{GivesReply-state, Runs-noted, running_phase}
 use Rattle.like_roles.proofs.worker.desk.Desk.run.Goals as goal
 

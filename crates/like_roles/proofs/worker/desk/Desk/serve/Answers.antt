@@ -1,6 +1,6 @@
 use Rattle.std.proofs.Common.{refl, ap, sym, ◌∙◌}
-use Rattle.like_roles.specs.Desk.{view_of}
-use Rattle.like_roles.specs.Serve.{likes, looks}
+use Rattle.like_roles.specs.worker.Desk.{view_of}
+use Rattle.like_roles.specs.worker.Serve.{likes, looks}
 use Rattle.like_roles.specs.declared.reply.Reply.TheVariants.{Seen}
 use Rattle.like_roles.proofs.worker.desk.Desk.serve.Goals as goal
 

@@ -1,7 +1,7 @@
 use Rattle.std.proofs.Common.{◌≢◌, length, refl, ap, subst}
-use Rattle.like_roles.specs.Desk.{view_of}
-use Rattle.like_roles.specs.Turns.{reports, tries_split}
-use Rattle.like_roles.specs.WorkerView.{IsNextPlace}
+use Rattle.like_roles.specs.worker.Desk.{view_of}
+use Rattle.like_roles.specs.worker.Turns.{reports, tries_split}
+use Rattle.like_roles.specs.worker.WorkerView.{IsNextPlace}
 use Rattle.like_roles.proofs.Held.{view_of-tried}
 use Rattle.like_roles.proofs.worker.desk.Desk.split_turn.Goals as goal
 

@@ -1,6 +1,6 @@
 use Rattle.std.proofs.Common.{◌≡◌, ◌<◌, false, get_or, length, ap, sym, ◌∙◌, subst, arith}
 use Rattle.like_tables.specs.declared.held.Held.{Held}
-use Rattle.like_roles.specs.Desk.{IsJudged}
+use Rattle.like_roles.specs.worker.Desk.{IsJudged}
 use Rattle.like_roles.specs.declared.worker.desk.Desk.{Desk}
 use Rattle.like_roles.proofs.Held.{IsSound-push, IsSound-taken, IsOwn-taken, CanServe-taken, waits-split}
 use Rattle.like_roles.proofs.worker.desk.Desk.take.Goals as goal

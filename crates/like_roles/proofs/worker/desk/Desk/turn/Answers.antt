@@ -1,6 +1,6 @@
 use Rattle.std.proofs.Common.{refl, subst, ◌∙◌}
-use Rattle.like_roles.specs.Desk.{view_of}
-use Rattle.like_roles.specs.Turns.{Works, waits, works}
+use Rattle.like_roles.specs.worker.Desk.{view_of}
+use Rattle.like_roles.specs.worker.Turns.{Works, waits, works}
 use Rattle.like_roles.proofs.Looking.{waits-masks}
 use Rattle.like_roles.proofs.Served.{not_gone}
 use Rattle.like_roles.proofs.worker.desk.Desk.turn.Goals as goal

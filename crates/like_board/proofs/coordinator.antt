@@ -1,0 +1,4 @@
+-- Each step of the coordinator keeps what the board shows.
+pub mod Leads
+pub mod CoordSteps
+pub mod Choosing

@@ -1,0 +1,343 @@
+-- Each step of the coordinator is the event, and keeps what the board shows.
+use Rattle.std.proofs.Common.{◌≡◌, ℕ, ◌+◌, ◌%◌, ◌^◌, ◌<◌, ◌≤◌, ◌==◌, true, false, cond, inl, inr, List, length, get_or, set, Option, Some, None, IsSome, IfSome, IsSomeAnd, subst, ap, sym, ◌∙◌, refl, eq-eqb, arith}
+use Rattle.std.specs.Option.{unwrap_or}
+use Rattle.std.proofs.lemmas.Bool.{cases_eq, cond-true, cond-false, ne_eqb}
+use Rattle.std.proofs.lemmas.Nat.{pow_pos}
+use mathlib.Core.Option.{some}
+use lib.ListN.{get_elem?}
+use Rattle.like_core.specs.declared.sight.Sight.{Sight}
+use Rattle.like_core.specs.declared.sight.CoordSight.{CoordSight}
+use Rattle.like_core.specs.declared.event.Event.TheVariants.{CoordLook, Announce, Release}
+use Rattle.like_core.specs.declared.shown.Shown.TheVariants.{Done}
+use Rattle.like_core.specs.declared.opening.Opening.{Opening}
+use Rattle.like_core.specs.declared.view.PhaseMask.{PhaseMask}
+use Rattle.like_core.specs.declared.view.WorkerSeatView.{WorkerSeatView}
+use Rattle.like_core.specs.declared.view.CoordSeatView.{CoordSeatView}
+use Rattle.like_core.specs.declared.view.View.{View}
+use Rattle.like_core.specs.declared.view.View.TheVariants.{Coord}
+use Rattle.like_core.specs.Phase.{last_phase, IsJoined, IsSplit}
+use Rattle.like_core.specs.Functions.{update}
+use Rattle.like_core.specs.WorkerState.{IsIn}
+use Rattle.like_core.specs.word.Word.{Fields, packed, IsLawful, released}
+use Rattle.like_core.specs.core.Numbers.{AllIn, AllGone, CoordSees}
+use Rattle.like_core.specs.core.Table.{Permits}
+use Rattle.like_core.specs.core.State.{CoreState, numbers}
+use Rattle.like_core.specs.views.Sights.{coord_sight_of}
+use Rattle.like_core.specs.word.ShownWord.{shown_fields, shown_word}
+use Rattle.like_core.specs.views.Views.{looked_coord, announced_coord, released_coord, mask_released, saw_all_gone, SawAllIn, MayAnnounce, MayRelease}
+use Rattle.like_core.specs.views.Shows.{Shows, ShowsSome, FitsWorker, FitsCoord, IsStep}
+use Rattle.like_core.proofs.Updates.{update-same, update-other}
+use Rattle.like_core.proofs.core.Reached.{goes_on_by}
+use Rattle.like_core.proofs.core.InPhase.{reached_in_phase}
+use Rattle.like_core.proofs.core.Unanswered.{reached_unanswered}
+use Rattle.like_core.proofs.word.ShownEvents.{shown_lawful, same_fields, fields_released, word_announced, coord_sees}
+use Rattle.like_core.proofs.views.KeptPlaces.{places_same}
+use Rattle.like_board.specs.Plays.{Surveyed}
+use Rattle.like_board.proofs.worker.Moves.{if_some}
+use Rattle.like_board.proofs.Tallying.{tallied_on}
+use Rattle.like_board.proofs.coordinator.Leads.{phased, of_coord, leads_word}
+use Rattle.like_board.proofs.worker.WorkerSteps.{running_is}
+
+-- a look of the coordinator is the event
+pub surveys : (z : Opening) (words : List ℕ) (views : List View) (place : ℕ) (c : CoordSeatView) → ShowsSome z words views → get_elem? views place ≡ some (Coord c) → (r : Surveyed z (get_or words 0 0) c) × ShowsSome z (set words 0 (get_or words 0 0)) (set views place (Coord (looked_coord c (get_or words 0 0) (coord_sight_of r.fields))))
+surveys z words views place c some_state at =
+    let s = some_state.state in
+    let sh = some_state.shows in
+    let p = reached_in_phase z s some_state.reachable in
+    let lawful = shown_lawful z s sh.opening p (reached_unanswered z s some_state.reachable) in
+    let old : FitsCoord z s c = sh.each place (Coord c) at in
+    let f : Fields = shown_fields z s in
+    let sight : CoordSight = coord_sight_of f in
+    let sees : CoordSees (numbers z s) sight = coord_sees z s in
+    let found : ℕ = get_or words 0 0 in
+    let d : CoordSeatView = looked_coord c found sight in
+    let fits : FitsCoord z s d =
+    record {
+      opening = old.opening;
+      made = old.made;
+      unmade = old.unmade;
+      unlabelled = old.unlabelled;
+      phase = old.phase;
+      ending = old.ending;
+      last = (sees.number, sees.ending);
+      stays = λ _. (sees, sh.word);
+      all_in = λ is. sees.all_in.0 is;
+      gone = old.gone;
+      counted = old.counted;
+      published = tt;
+      masks = old.masks;
+      joined = old.joined;
+    }
+    in
+    let after_it : Shows z s (set words 0 found) (set views place (Coord d)) =
+    leads_word z s words views place c d s.phase s.ending s.hot found sh at refl refl refl (omega arith) sh.word sh.mask tt fits (λ v f. f)
+    in
+    let permits : Permits (numbers z s) CoordLook = record { there = tt; suits = tt; leaves_last = tt; room = tt } in (
+      record {
+        fields = f;
+        lawful = lawful;
+        found_is = sh.word;
+        number = sees.number ∙ sym old.phase;
+        ending = sees.ending ∙ sym old.ending;
+        all_in = λ is. sees.all_in.1 (old.all_in is);
+        gone = λ split all. old.gone (subst IsSplit old.phase split) (sees.all_gone.0 all);
+        step = record {
+          words = words;
+          views = views;
+          place = place;
+          state = s;
+          reachable = some_state.reachable;
+          shows = sh;
+          mine = at;
+          before = tt;
+          permits = permits;
+          tells = (sight, refl, sees);
+          changed = 0;
+          word = found;
+          shows_after = after_it;
+        };
+      },
+      record {
+        state = s;
+        reachable = some_state.reachable;
+        shows = after_it;
+        tallied = tallied_on s s views place (Coord c) (Coord d) (omega arith) (λ _. refl) at (λ _. refl) (λ _. refl) (λ _ _. refl) some_state.tallied;
+        places = places_same z.counts views place (Coord c) (Coord d) at (λ _. refl) (λ _. refl) (λ _ _ has. has) some_state.places;
+      },
+    )
+
+-- what holds of the value of an option, in two ways
+some_and : {A : Type 0} (o : Option A) (P Q R : A → Type 0) → IsSomeAnd o P → IfSome o Q → IfSome o R → (a : A) × (o ≡ Some a) × P a × Q a × R a
+some_and None P Q R p q r = absurd p
+some_and (Some a) P Q R p q r = (a, refl, p, q, r)
+
+-- an announcement is the event
+pub announces : (z : Opening) (words : List ℕ) (views : List View) (place : ℕ) (c : CoordSeatView) → ShowsSome z words views → get_elem? views place ≡ some (Coord c) → MayAnnounce c → IsStep z Announce Done (Coord c) (Coord (announced_coord c)) × ShowsSome z (set words 0 ((get_or words 0 0 + 1) % 2 ^ 64)) (set views place (Coord (announced_coord c)))
+announces z words views place c some_state at may =
+    let s = some_state.state in
+    let sh = some_state.shows in
+    let old : FitsCoord z s c = sh.each place (Coord c) at in
+    let last = some_and c.last
+    (λ (sight : CoordSight). (sight.ending ≡ false) × (sight.number < last_phase))
+    (λ (sight : CoordSight). (sight.number ≡ s.phase) × (sight.ending ≡ s.ending))
+    (λ (sight : CoordSight). sight.all_in ≡ true → CoordSees (numbers z s) sight × (c.word ≡ shown_word z s))
+    may old.last old.stays
+    in
+    let running : s.ending ≡ false = sym last.3.1 ∙ last.2.0 in
+    let below : s.phase < last_phase = subst (λ n. n < last_phase) last.3.0 last.2.1 in
+    let permits : Permits (numbers z s) Announce = record { there = tt; suits = running; leaves_last = below; room = tt } in
+    let t : CoreState = phased s s.phase true s.hot in
+    let reachable = goes_on_by z s Announce some_state.reachable permits in
+    let lawful = shown_lawful z t sh.opening (reached_in_phase z t reachable) (reached_unanswered z t reachable) in
+    let word : ℕ = (get_or words 0 0 + 1) % 2 ^ 64 in
+    let d : CoordSeatView = announced_coord c in
+    let workers : (v : WorkerSeatView) → FitsWorker z s v → FitsWorker z t v =
+    λ v f. record {
+      opening = f.opening;
+      there = f.there;
+      state = f.state;
+      number = f.number;
+      ending = λ _ _. refl;
+      labels = f.labels;
+      masks = f.masks;
+    }
+    in
+    let fits : FitsCoord z t d =
+    record {
+      opening = old.opening;
+      made = old.made;
+      unmade = old.unmade;
+      unlabelled = old.unlabelled;
+      phase = old.phase;
+      ending = refl;
+      last = tt;
+      stays = tt;
+      all_in = old.all_in;
+      gone = old.gone;
+      counted = old.counted;
+      published = old.published;
+      masks = old.masks;
+      joined = λ at_place v found. workers v (old.joined at_place v found);
+    }
+    in
+    let after_it : Shows z t (set words 0 word) (set views place (Coord d)) =
+    leads_word z s words views place c d s.phase true s.hot word sh at refl refl refl (omega arith)
+    (ap (λ n. (n + 1) % 2 ^ 64) sh.word ∙ word_announced z s lawful running)
+    sh.mask
+    (of_coord z s words views place c sh at).0
+    fits
+    workers
+    in (
+      record {
+        words = words;
+        views = views;
+        place = place;
+        state = s;
+        reachable = some_state.reachable;
+        shows = sh;
+        mine = at;
+        before = tt;
+        permits = permits;
+        tells = refl;
+        changed = 0;
+        word = word;
+        shows_after = after_it;
+      },
+      record {
+        state = t;
+        reachable = reachable;
+        shows = after_it;
+        tallied = tallied_on s t views place (Coord c) (Coord d) (omega arith) (λ _. refl) at (λ _. refl) (λ _. refl) (λ _ _. refl) some_state.tallied;
+        places = places_same z.counts views place (Coord c) (Coord d) at (λ _. refl) (λ _. refl) (λ _ _ has. has) some_state.places;
+      },
+    )
+
+-- what the coordinator knows where it saw all in: the sight is still what a look would show, and the word the one seen
+pub record AllAreIn (z : Opening) (s : CoreState) (c : CoordSeatView) : Type 0 where
+  pub ending : s.ending ≡ true
+  pub all_in : AllIn (numbers z s)
+  pub word : c.word ≡ shown_word z s
+  pub gone : AllGone (numbers z s) → saw_all_gone c.last ≡ true
+
+-- it knows that
+pub saw_all_in : (z : Opening) (s : CoreState) (c : CoordSeatView) → FitsCoord z s c → SawAllIn c → AllAreIn z s c
+saw_all_in z s c f saw =
+    let last = some_and c.last
+    (λ (sight : CoordSight). (sight.ending ≡ true) × (sight.all_in ≡ true))
+    (λ (sight : CoordSight). (sight.number ≡ s.phase) × (sight.ending ≡ s.ending))
+    (λ (sight : CoordSight). sight.all_in ≡ true → CoordSees (numbers z s) sight × (c.word ≡ shown_word z s))
+    saw f.last f.stays
+    in
+    let now = last.4 last.2.1 in
+    record {
+      ending = sym last.3.1 ∙ last.2.0;
+      all_in = now.0.all_in.0 last.2.1;
+      word = now.1;
+      gone = λ all. ap saw_all_gone last.1 ∙ now.0.all_gone.1 all;
+    }
+
+-- of the mask with which a phase is released: its bits are of pages that are there, it is 0 for a joined phase, and for a
+-- split one it is the word that was published
+record IsReleased (z : Opening) (c : CoordSeatView) (word : ℕ) : Type 0 where
+  pub there : mask_released c < 2 ^ length z.counts
+  pub none : IsSplit c.phase → mask_released c ≡ 0
+  pub word_is : IsJoined c.phase → word ≡ mask_released c
+
+is_released : (z : Opening) (c : CoordSeatView) (word : ℕ) → (IsJoined c.phase → IsSome c.published) → IfSome c.published (λ mask. mask < 2 ^ length z.counts) → IfSome c.published (λ mask. word ≡ mask) → IsReleased z c word
+is_released z c word some_mask below is = elim (cases_eq (c.phase % 2) 0) [
+  | inl even ↦
+      let mask = published_mask c.published (some_mask even) below is in
+      let same : mask_released c ≡ unwrap_or c.published 0 = cond-true (c.phase % 2 == 0) (unwrap_or c.published 0) 0 (eq-eqb (c.phase % 2) 0 even) in
+      record {
+        there = subst (λ (m : ℕ). m < 2 ^ length z.counts) (sym same) mask.0;
+        none = λ odd. absurd (omega arith);
+        word_is = λ _. mask.1 ∙ sym same;
+      }
+  | inr odd ↦
+      let same : mask_released c ≡ 0 = cond-false (c.phase % 2 == 0) (unwrap_or c.published 0) 0 (ne_eqb (c.phase % 2) 0 odd) in
+      record {
+        there = subst (λ (m : ℕ). m < 2 ^ length z.counts) (sym same) (pow_pos (length z.counts));
+        none = λ _. same;
+        word_is = λ even. absurd (odd even);
+      }
+]
+  where
+    published_mask : (p : Option ℕ) → IsSome p → IfSome p (λ mask. mask < 2 ^ length z.counts) → IfSome p (λ mask. word ≡ mask) → (unwrap_or p 0 < 2 ^ length z.counts) × (word ≡ unwrap_or p 0)
+    published_mask None there low same = absurd (cc)
+    published_mask (Some mask) there low same = (low, same)
+
+-- a release is the event, where what is stored is made of the word that the last look saw
+pub releases : (z : Opening) (words : List ℕ) (views : List View) (place : ℕ) (c : CoordSeatView) (seen : Fields) → ShowsSome z words views → get_elem? views place ≡ some (Coord c) → MayRelease c → IsLawful seen → packed seen ≡ c.word → IsStep z (Release (mask_released c)) Done (Coord c) (Coord (released_coord c)) × ShowsSome z (set words 0 (packed (released seen))) (set views place (Coord (released_coord c)))
+releases z words views place c seen some_state at may seen_lawful seen_is =
+    let s = some_state.state in
+    let sh = some_state.shows in
+    let old : FitsCoord z s c = sh.each place (Coord c) at in
+    let now : AllAreIn z s c = saw_all_in z s c old may.0 in
+    let mask : ℕ = mask_released c in
+    let published = of_coord z s words views place c sh at in
+    let is : IsReleased z c (get_or words (length z.counts + 1) 0) = is_released z c _ may.1 old.published published.0 in
+    let permits : Permits (numbers z s) (Release mask) =
+    record {
+      there = is.there;
+      suits = (now.ending, now.all_in, λ odd. is.none (subst IsSplit (sym old.phase) odd));
+      leaves_last = tt;
+      room = tt;
+    }
+    in
+    let hot : ℕ → ℕ = update s.hot (s.phase + 1) mask in
+    let t : CoreState = phased s (s.phase + 1) false hot in
+    let p = reached_in_phase z s some_state.reachable in
+    let lawful = shown_lawful z s sh.opening p (reached_unanswered z s some_state.reachable) in
+    let same : seen ≡ shown_fields z s = same_fields seen (shown_fields z s) seen_lawful lawful (seen_is ∙ now.word) in
+    let d : CoordSeatView = released_coord c in
+    let workers : (v : WorkerSeatView) → FitsWorker z s v → FitsWorker z t v =
+    λ v f. record {
+      opening = f.opening;
+      there = f.there;
+      state = f.state;
+      number = if_some v.last (λ (sight : Sight). sight.number ≤ s.phase) (λ (sight : Sight). sight.number ≤ s.phase + 1) (λ sight below. omega arith) f.number;
+      ending = λ runs _.
+          let is = running_is (λ _. Unit {0}) v.state runs in
+          absurd (subst (IsIn s.phase) (f.state ∙ is.1) (now.all_in v.worker f.there));
+      labels = f.labels;
+      masks = λ i m inside.
+          let own : PhaseMask = get_or v.masks i m in
+          let before = f.masks i m inside in
+          let earlier = before.0 in (
+            omega arith,
+            before.1 ∙ sym (update-other s.hot (s.phase + 1) mask own.phase (λ next. absurd (omega arith))),
+          );
+    }
+    in
+    let fits : FitsCoord z t d =
+    record {
+      opening = old.opening;
+      made = old.made;
+      unmade = old.unmade;
+      unlabelled = old.unlabelled;
+      phase = ap (λ n. n + 1) old.phase;
+      ending = refl;
+      last = tt;
+      stays = tt;
+      all_in = λ is. absurd (cc);
+      gone = λ _ all. now.gone all;
+      counted = λ i r inside. (let before = (old.counted i r inside).0 in (omega arith, λ later. absurd (omega arith)));
+      published = old.published;
+      masks = λ phase m. cond (phase == old.phase m + 1) mask (old.masks phase m);
+      joined = λ at_place v found. workers v (old.joined at_place v found);
+    }
+    in
+    let after_it : Shows z t (set words 0 (packed (released seen))) (set views place (Coord d)) =
+    leads_word z s words views place c d (s.phase + 1) false hot (packed (released seen)) sh at refl refl refl (omega arith)
+    (ap (λ f. packed (released f)) same ∙ ap packed (sym (fields_released z s now.ending now.all_in)))
+    (λ odd.
+    let phase = old.phase in
+    let even : IsJoined c.phase = omega arith in
+    is.word_is even ∙ sym (update-same s.hot (s.phase + 1) mask))
+    published.0
+    fits
+    workers
+    in (
+      record {
+        words = words;
+        views = views;
+        place = place;
+        state = s;
+        reachable = some_state.reachable;
+        shows = sh;
+        mine = at;
+        before = tt;
+        permits = permits;
+        tells = refl;
+        changed = 0;
+        word = packed (released seen);
+        shows_after = after_it;
+      },
+      record {
+        state = t;
+        reachable = goes_on_by z s (Release mask) some_state.reachable permits;
+        shows = after_it;
+        tallied = tallied_on s t views place (Coord c) (Coord d) (omega arith) (λ _. refl) at (λ _. refl) (λ _. refl) (λ _ _. refl) some_state.tallied;
+        places = places_same z.counts views place (Coord c) (Coord d) at (λ _. refl) (λ _. refl) (λ _ _ has. has) some_state.places;
+      },
+    )

@@ -1,0 +1,213 @@
+-- A step of the coordinator keeps what the board shows.
+use Rattle.std.proofs.Common.{◌≡◌, ◌≢◌, ℕ, ◌+◌, ◌<◌, ◌≤◌, ◌==◌, nat_lt, Bool, cond, inl, inr, List, [], ◌∷◌, ◌++◌, All, IfSome, length, get_or, set, count_by, subst, ap, sym, ◌∙◌, refl, eq-eqb, arith}
+use Rattle.std.proofs.Math.ListN.{length-set}
+use Rattle.std.proofs.lemmas.List.{get_or-set_same, get_or-set_other}
+use Rattle.std.specs.List.{sum_by}
+use Rattle.std.proofs.lemmas.List.Elements.{All-nil}
+use Rattle.std.proofs.lemmas.List.Sums.{sum_by_push}
+use Rattle.std.proofs.lemmas.Bool.{cases_eq, cases_lt, le-ltb, lt-ltb, ne_eqb}
+use mathlib.Core.Option.{some}
+use lib.ListN.{get_elem?}
+use Rattle.atomic_table.proofs.Lists.{at_set, at_snoc, at_longer, set_here}
+use Rattle.like_core.specs.declared.opening.Opening.{Opening}
+use Rattle.like_core.specs.declared.view.PageRead.{PageRead}
+use Rattle.like_core.specs.declared.view.PhaseMask.{PhaseMask}
+use Rattle.like_core.specs.declared.view.WorkerSeatView.{WorkerSeatView}
+use Rattle.like_core.specs.declared.view.CoordSeatView.{CoordSeatView}
+use Rattle.like_core.specs.declared.view.View.{View}
+use Rattle.like_core.specs.declared.view.View.TheVariants.{Coord, Worker, Spent}
+use Rattle.like_core.specs.Phase.{IsSplit}
+use Rattle.like_core.specs.core.State.{CoreState}
+use Rattle.like_core.specs.word.ShownWord.{shown_word}
+use Rattle.like_core.specs.Additions.{added_before}
+use Rattle.like_core.specs.views.Views.{fresh, made_coord, seats_of}
+use Rattle.like_core.specs.views.Reads.{before_in, all_before, IsBetween, AreBetween, IsCounted}
+use Rattle.like_core.specs.views.Shows.{Shows, Fits, FitsWorker, FitsCoord}
+use Rattle.like_core.proofs.views.ViewLists.{within, sum_set}
+use Rattle.like_core.proofs.views.KeptReads.{reads_same, reads_push, counted_on, counted_same}
+use Rattle.like_board.proofs.worker.Moves.{if_some, same_coord, counts_none, counts_one}
+
+-- the reads of the views of seats that were given back lie between
+abbrev HasJoinedReads : List ℕ → (ℕ → ℕ → ℕ) → ℕ → List WorkerSeatView → Type 0
+HasJoinedReads counts before phase joined =
+    (place : ℕ) (v : WorkerSeatView) → get_elem? joined place ≡ some v → AreBetween counts before phase v.additions v.reads
+
+-- the state in another phase, where these are the masks of phases
+abbrev pub phased : CoreState → ℕ → Bool → (ℕ → ℕ) → CoreState
+phased s phase ending hot = record s { phase = phase; ending = ending; hot = hot }
+
+-- what the words and the views show of what the coordinator published and counted
+pub of_coord : (z : Opening) (s : CoreState) (words : List ℕ) (views : List View) (place : ℕ) (c : CoordSeatView) → Shows z s words views → get_elem? views place ≡ some (Coord c) → IfSome c.published (λ mask. get_or words (length z.counts + 1) 0 ≡ mask) × All (IsCounted z.counts (all_before views)) c.counted
+of_coord z s words views place c sh at =
+    let is = same_coord z s words views place c sh at in (
+      subst (λ (e : CoordSeatView). IfSome e.published (λ mask. get_or words (length z.counts + 1) 0 ≡ mask)) is.1 sh.published,
+      subst (λ (e : CoordSeatView). All (IsCounted z.counts (all_before views)) e.counted) is.1 sh.counted,
+    )
+
+-- after the coordinator led to this phase, with a new view of its own that fits, the words, of which one was written, and
+-- the views show the state after, where the words do and all workers' views fit that too
+pub leads : (z : Opening) (s : CoreState) (words : List ℕ) (views : List View) (place : ℕ) (c d : CoordSeatView) (phase : ℕ) (ending : Bool) (hot : ℕ → ℕ) (changed word : ℕ) → Shows z s words views → get_elem? views place ≡ some (Coord c) → d.made ≡ c.made → d.joined ≡ c.joined → s.phase ≤ phase → get_or (set words changed word) 0 0 ≡ shown_word z (phased s phase ending hot) → ((page : ℕ) → page < length z.counts → get_or (set words changed word) (page + 1) 0 ≡ get_or words (page + 1) 0) → (IsSplit phase → get_or (set words changed word) (length z.counts + 1) 0 ≡ hot phase) → IfSome d.published (λ mask. get_or (set words changed word) (length z.counts + 1) 0 ≡ mask) → All (IsCounted z.counts (all_before views)) d.counted → FitsCoord z (phased s phase ending hot) d → ((v : WorkerSeatView) → FitsWorker z s v → FitsWorker z (phased s phase ending hot) v) → Shows z (phased s phase ending hot) (set words changed word) (set views place (Coord d))
+leads z s words views place c d phase ending hot changed word sh at made joined on word_is pages_are mask_is published_is counted_are fits workers =
+    let t : CoreState = phased s phase ending hot in
+    let is = same_coord z s words views place c sh at in
+    let same_additions : (k p : ℕ) → before_in k p (Coord d) ≡ before_in k p (Coord c) =
+    λ k p. ap (sum_by (λ (v : WorkerSeatView). added_before k p v.additions)) joined
+    in
+    let others : (j : ℕ) (u : View) → j ≢ place → get_elem? views j ≡ some u → Fits z s u → Fits z t u =
+    λ j u other found f.
+    let P : View → Type 0 = λ x. ((e : CoordSeatView) → x ≡ Coord e → ⊥) → Fits z s x → Fits z t x in
+    let by_view : P u =
+    elim u as P [
+      | Coord e ↦ λ no_coord _. absurd (no_coord e refl)
+      | Worker v ↦ λ _ g. workers v g
+      | Spent ↦ λ _ _. tt
+    ]
+    in
+    by_view (λ e same. other (sh.only j e (found ∙ ap some same) ∙ sym is.0)) f
+    in
+    record {
+      opening = sh.opening;
+      width = length-set words changed word ∙ sh.width;
+      word = word_is;
+      pages = λ page below. pages_are page below ∙ sh.pages page below;
+      mask = mask_is;
+      merged = sh.merged;
+      coord = d;
+      first = ap (get_elem? (set views place (Coord d))) (sym is.0) ∙ set_here views place (Coord d) (within views place (Coord c) at);
+      only = λ j e found. elim (at_set views place j (Coord d) (Coord e) found) [
+        | inl here ↦ here.0 ∙ is.0
+        | inr there ↦ sh.only j e there.1
+      ];
+      each = λ j u found. elim (at_set views place j (Coord d) u found) [
+        | inl here ↦ subst (Fits z t) here.1 fits
+        | inr there ↦ others j u there.0 there.1 (sh.each j u there.1)
+      ];
+      once = λ i.
+          sum_set (seats_of i) views place (Coord c) (Coord d) at (ap (count_by (λ (w : WorkerSeatView). w.worker == i)) joined) ∙
+          (sh.once i ∙ ap (λ n. cond (nat_lt i n) 1 0) (ap (λ (e : CoordSeatView). e.made) is.1 ∙ sym made));
+      published = published_is;
+      reads = reads_same z.counts s.phase phase views place (Coord c) (Coord d) on at same_additions
+          (λ f has. subst (HasJoinedReads z.counts f phase) (sym joined) has)
+          sh.reads;
+      counted = counted_same z.counts views place (Coord c) (Coord d) d.counted at same_additions counted_are;
+    }
+
+-- the same of a step on the phase word
+pub leads_word : (z : Opening) (s : CoreState) (words : List ℕ) (views : List View) (place : ℕ) (c d : CoordSeatView) (phase : ℕ) (ending : Bool) (hot : ℕ → ℕ) (word : ℕ) → Shows z s words views → get_elem? views place ≡ some (Coord c) → d.made ≡ c.made → d.joined ≡ c.joined → d.counted ≡ c.counted → s.phase ≤ phase → word ≡ shown_word z (phased s phase ending hot) → (IsSplit phase → get_or words (length z.counts + 1) 0 ≡ hot phase) → IfSome d.published (λ mask. get_or words (length z.counts + 1) 0 ≡ mask) → FitsCoord z (phased s phase ending hot) d → ((v : WorkerSeatView) → FitsWorker z s v → FitsWorker z (phased s phase ending hot) v) → Shows z (phased s phase ending hot) (set words 0 word) (set views place (Coord d))
+leads_word z s words views place c d phase ending hot word sh at made joined counted on word_is mask_is published_is fits workers =
+    let wide = sh.width in
+    let last : ℕ = length z.counts + 1 in
+    let same : get_or (set words 0 word) last 0 ≡ get_or words last 0 = get_or-set_other words 0 last word 0 (λ eq. absurd (omega arith)) in
+    leads z s words views place c d phase ending hot 0 word sh at made joined on
+    (get_or-set_same words 0 word 0 (omega arith) ∙ word_is)
+    (λ page below. get_or-set_other words 0 (page + 1) word 0 (λ eq. absurd (omega arith)))
+    (λ odd. same ∙ mask_is odd)
+    (if_some d.published (λ mask. get_or words last 0 ≡ mask) (λ mask. get_or (set words 0 word) last 0 ≡ mask) (λ mask is. same ∙ is) published_is)
+    (subst (All (IsCounted z.counts (all_before views))) (sym counted) (of_coord z s words views place c sh at).1)
+    fits
+    workers
+
+one_more : (i n : ℕ) → cond (nat_lt i n) 1 0 + cond (n == i) 1 0 ≡ cond (nat_lt i (n + 1)) 1 0
+one_more i n = elim (cases_lt i n) [
+  | inl less ↦
+      let a = counts_one (nat_lt i n) (lt-ltb i n less) in
+      let b = counts_none (n == i) (ne_eqb n i (λ same. absurd (omega arith))) in
+      let d = counts_one (nat_lt i (n + 1)) (lt-ltb i (n + 1) (omega arith)) in
+      omega arith
+  | inr past ↦ elim (cases_eq n i) [
+    | inl same ↦
+        let a = counts_none (nat_lt i n) (le-ltb i n past) in
+        let b = counts_one (n == i) (eq-eqb n i same) in
+        let d = counts_one (nat_lt i (n + 1)) (lt-ltb i (n + 1) (omega arith)) in
+        omega arith
+    | inr other ↦
+        let a = counts_none (nat_lt i n) (le-ltb i n past) in
+        let b = counts_none (n == i) (ne_eqb n i other) in
+        let d = counts_none (nat_lt i (n + 1)) (le-ltb i (n + 1) (omega arith)) in
+        omega arith
+  ]
+]
+
+-- a seat for the next worker changes nothing that is shown
+pub splits : (z : Opening) (s : CoreState) (words : List ℕ) (views : List View) (place : ℕ) (c : CoordSeatView) → Shows z s words views → get_elem? views place ≡ some (Coord c) → c.made < z.workers → Shows z s words (set views place (Coord (made_coord c)) ++ Worker (fresh z c.made) ∷ [])
+splits z s words views place c sh at room =
+    let is = same_coord z s words views place c sh at in
+    let d : CoordSeatView = made_coord c in
+    let changed : List View = set views place (Coord d) in
+    let new : WorkerSeatView = fresh z c.made in
+    let old : FitsCoord z s c = sh.each place (Coord c) at in
+    let fits : FitsCoord z s d =
+    record {
+      opening = old.opening;
+      made = omega arith;
+      unmade = λ i past below. old.unmade i (omega arith) below;
+      unlabelled = λ i phase page past below. old.unlabelled i phase page (omega arith) below;
+      phase = old.phase;
+      ending = old.ending;
+      last = old.last;
+      stays = old.stays;
+      all_in = old.all_in;
+      gone = old.gone;
+      counted = old.counted;
+      published = old.published;
+      masks = old.masks;
+      joined = old.joined;
+    }
+    in
+    let fits_new : FitsWorker z s new =
+    record {
+      opening = refl;
+      there = room;
+      state = old.unmade c.made (omega arith) room;
+      number = tt;
+      ending = λ _ saw. absurd (saw);
+      labels = λ phase page. old.unlabelled c.made phase page (omega arith) room;
+      masks = All-nil (λ (m : PhaseMask). (m.phase ≤ s.phase) × (m.mask ≡ s.hot m.phase));
+    }
+    in
+    record {
+      opening = sh.opening;
+      width = sh.width;
+      word = sh.word;
+      pages = sh.pages;
+      mask = sh.mask;
+      merged = sh.merged;
+      coord = d;
+      first = at_longer changed (Worker new ∷ []) 0 (Coord d)
+          (ap (get_elem? changed) (sym is.0) ∙ set_here views place (Coord d) (within views place (Coord c) at));
+      only = λ j e found. elim (at_snoc changed (Worker new) (Coord e) j found) [
+        | inl before ↦ elim (at_set views place j (Coord d) (Coord e) before) [
+          | inl here ↦ here.0 ∙ is.0
+          | inr there ↦ sh.only j e there.1
+        ]
+        | inr last ↦ absurd (cc)
+      ];
+      each = λ j u found. elim (at_snoc changed (Worker new) u j found) [
+        | inl before ↦ elim (at_set views place j (Coord d) u before) [
+          | inl here ↦ subst (Fits z s) here.1 fits
+          | inr there ↦ sh.each j u there.1
+        ]
+        | inr last ↦ subst (Fits z s) last fits_new
+      ];
+      once = λ i.
+          sum_by_push (seats_of i) changed (Worker new) ∙
+          (ap (λ n. n + cond (c.made == i) 1 0)
+          (sum_set (seats_of i) views place (Coord c) (Coord d) at refl ∙
+          (sh.once i ∙ ap (λ (e : CoordSeatView). cond (nat_lt i e.made) 1 0) is.1)) ∙
+          one_more i c.made);
+      reads = λ j u found.
+          reads_push z.counts s.phase changed (Worker new) (λ k p. refl) (λ f. All-nil (λ (r : PageRead). (r.phase ≤ s.phase) × IsBetween z.counts f [] r))
+          (reads_same z.counts s.phase s.phase views place (Coord c) (Coord d) (omega arith) at (λ k p. refl) (λ f has. has) sh.reads)
+          j u
+          (at_snoc changed (Worker new) u j found);
+      published = (of_coord z s words views place c sh at).0;
+      counted = counted_on z.counts (all_before views) (all_before (changed ++ Worker new ∷ [])) c.counted
+          (λ i r inside.
+          let k : ℕ = (get_or c.counted i r).phase + 1 in
+          let p : ℕ = (get_or c.counted i r).page in
+          let push = sum_by_push (before_in k p) changed (Worker new) in
+          let none : before_in k p (Worker new) ≡ 0 = refl in
+          let same = sum_set (before_in k p) views place (Coord c) (Coord d) at refl in
+          omega arith)
+          (of_coord z s words views place c sh at).1;
+    }

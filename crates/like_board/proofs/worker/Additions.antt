@@ -1,0 +1,250 @@
+-- An addition to a page's word is its events, and keeps what the board shows.
+use Rattle.std.proofs.Common.{◌≡◌, ◌≢◌, ℕ, ◌+◌, ◌*◌, ◌-◌, ◌%◌, ◌^◌, ◌<◌, ◌≤◌, ◌==◌, ◌&&◌, nat_lt, Bool, true, false, cond, inl, inr, List, ◌++◌, All, length, get_or, set, replicate, subst, ap, sym, ◌∙◌, refl, arith}
+use Rattle.std.specs.List.{sum_by}
+use Rattle.std.proofs.lemmas.Bool.{cases_eq, cases_lt, lt-ltb}
+use Rattle.std.proofs.lemmas.List.{length-append, length-replicate}
+use Rattle.std.proofs.lemmas.List.Elements.{All-get_or}
+use mathlib.Core.Option.{some}
+use lib.ListN.{get_elem?}
+use Rattle.like_core.specs.declared.worker_state.WorkerState.TheVariants.{Runs}
+use Rattle.like_core.specs.declared.shown.Shown.TheVariants.{Old}
+use Rattle.like_core.specs.declared.opening.Opening.{Opening}
+use Rattle.like_core.specs.declared.view.PageCount.{PageCount}
+use Rattle.like_core.specs.declared.view.WorkerSeatView.{WorkerSeatView}
+use Rattle.like_core.specs.declared.view.View.{View}
+use Rattle.like_core.specs.declared.view.View.TheVariants.{Coord, Worker}
+use Rattle.like_core.specs.Limits.{max_workers, max_count, max_likes}
+use Rattle.like_core.specs.Functions.{update}
+use Rattle.like_core.specs.Phase.{is_marked, split}
+use Rattle.like_core.specs.core.Table.{IsShown}
+use Rattle.like_core.specs.core.State.{CoreState, Label, labelled, after, numbers}
+use Rattle.like_core.specs.core.Reachable.{Reachable, after_all}
+use Rattle.like_core.specs.WorkerState.{IsIn, phase_of}
+use Rattle.like_core.specs.Post.{PostView, MayAdd, slices}
+use Rattle.like_core.specs.Additions.{added_to, added_in}
+use Rattle.like_core.specs.views.Views.{added_view, post_of, likes_merged, adding}
+use Rattle.like_core.specs.views.Reads.{before_in, all_before, IsCounted, ReadsFit}
+use Rattle.like_core.specs.views.Tallies.{Tallied, paged, room}
+use Rattle.like_core.specs.views.Shows.{Shows, ShowsSome, FitsWorker, FitsCoord, IsSteps}
+use Rattle.like_core.proofs.Updates.{update-same, update-other, update_cases}
+use Rattle.like_core.proofs.core.Reached.{goes_on, goes_on_by}
+use Rattle.like_core.proofs.core.InPhase.{reached_in_phase}
+use Rattle.like_core.proofs.core.Labels.{label, labelled-append, labels_else, labels_here, added_in-push, added_before-push, added_to-push, added_in_else, added_to_here, added_to_else}
+use Rattle.like_core.proofs.core.Adding.{Adding, with_applied, adds_either}
+use Rattle.like_core.proofs.views.KeptPlaces.{addition_keeps_places}
+use Rattle.like_core.proofs.views.KeptReads.{addition_before, counted_on, addition_keeps_reads}
+use Rattle.like_core.proofs.views.Posts.{added_to-le}
+use Rattle.like_core.proofs.views.ViewLists.{sum_part, sum_set, sum_swap}
+use Rattle.like_board.proofs.worker.WorkerSteps.{running_is}
+use Rattle.like_board.proofs.worker.Pages.{KeepsOthers, slices_are, page_steps}
+
+-- what stands of likes that worker i applied to a page in phase k
+abbrev pub applied_by : CoreState → ℕ → ℕ → ℕ → ℕ → List Label
+applied_by s i page n = update s.applied page (s.applied page ++ replicate n (label i s.phase))
+
+-- the likes of the others keep their labels
+others_keep : (s : CoreState) (i page n : ℕ) → KeepsOthers s (applied_by s i page n) i
+others_keep s i page n j phase q other =
+    let more : List Label = replicate n (label i s.phase) in
+    let P : ℕ → List Label → Type 0 = λ r l. labelled j phase l ≡ labelled j phase (s.applied r) in
+    let none = labels_else i j s.phase phase n other in
+    let joined = labelled-append j phase (s.applied page) more in
+    update_cases P s.applied page (s.applied page ++ more) (omega arith) (λ r apart. refl) q
+
+-- the own view's additions are the labels
+own_labels : (z : Opening) (s : CoreState) (v : WorkerSeatView) (page count n : ℕ) → FitsWorker z s v → phase_of v.state ≡ s.phase → (phase q : ℕ) → labelled v.worker phase (applied_by s v.worker page n q) ≡ added_in phase q (added_view v page count n).additions
+own_labels z s v page count n f present phase q =
+    let more : List Label = replicate n (label v.worker s.phase) in
+    let P : ℕ → List Label → Type 0 = λ r l. labelled v.worker phase l ≡ added_in phase r (added_view v page count n).additions in
+    let here : P page (s.applied page ++ more) =
+    labelled-append v.worker phase (s.applied page) more ∙
+    ((λ m. f.labels phase page m + labels_here v.worker s.phase phase page n m) ∙
+    (ap (λ (k : ℕ). added_in phase page v.additions + cond ((k == phase) && (page == page)) n 0) (sym present) ∙
+    sym (added_in-push v.additions (phase_of v.state) page count n phase page)))
+    in
+    update_cases P s.applied page (s.applied page ++ more) here
+    (λ r other. f.labels phase r ∙ sym (added_in_else v.additions (phase_of v.state) page count n phase r other))
+    q
+
+-- the view fits after its addition
+fits_added : (z : Opening) (s : CoreState) (v : WorkerSeatView) (page count n : ℕ) (rest : ℕ → List ℕ) → FitsWorker z s v → phase_of v.state ≡ s.phase → FitsWorker z (record s { unmerged = rest; applied = applied_by s v.worker page n }) (added_view v page count n)
+fits_added z s v page count n rest f present = record {
+  opening = f.opening;
+  there = f.there;
+  state = f.state;
+  number = f.number;
+  ending = f.ending;
+  labels = own_labels z s v page count n f present;
+  masks = f.masks;
+}
+
+-- how long the lists are after the addition
+applied_here : (s : CoreState) (i page n : ℕ) → length (applied_by s i page n page) ≡ length (s.applied page) + n
+applied_here s i page n =
+    ap (λ (l : List Label). length l) (update-same s.applied page (s.applied page ++ replicate n (label i s.phase))) ∙
+    (length-append (s.applied page) (replicate n (label i s.phase)) ∙
+    ap (λ (k : ℕ). length (s.applied page) + k) (length-replicate n (label i s.phase)))
+
+applied_else : (s : CoreState) (i page n q : ℕ) → q ≢ page → length (applied_by s i page n q) ≡ length (s.applied q)
+applied_else s i page n q other =
+    ap (λ (l : List Label). length l) (update-other s.applied page (s.applied page ++ replicate n (label i s.phase)) q other)
+
+-- what the views have added and may still add, after an addition
+tallied_added : (s : CoreState) (views : List View) (place : ℕ) (v : WorkerSeatView) (page count n : ℕ) (rest : ℕ → List ℕ) → get_elem? views place ≡ some (Worker v) → phase_of v.state ≡ s.phase → added_to page v.additions + n ≤ max_likes → Tallied s views → Tallied (record s { unmerged = rest; applied = applied_by s v.worker page n }) (set views place (Worker (added_view v page count n)))
+tallied_added s views place v page count n rest at present few old =
+    let w : WorkerSeatView = added_view v page count n in
+    let sums_now : (q : ℕ) → length (applied_by s v.worker page n q) ≡ sum_by (paged q) (set views place (Worker w)) =
+    λ q.
+    elim (cases_eq q page) [
+      | inl same ↦
+          rw same
+          (let before = old.sums page in
+          let swap = sum_swap (paged page) views place (Worker v) (Worker w) at in
+          let more = added_to_here v.additions (phase_of v.state) page count n in
+          let long = applied_here s v.worker page n in
+          omega arith)
+      | inr other ↦
+          applied_else s v.worker page n q other ∙
+          (old.sums q ∙
+          sym (sum_set (paged q) views place (Worker v) (Worker w) at (added_to_else v.additions (phase_of v.state) page count n q other)))
+    ]
+    in
+    let rooms_now : (q : ℕ) → length (applied_by s v.worker page n q) + sum_by (room q) (set views place (Worker w)) ≤ max_likes * max_workers =
+    λ q.
+    elim (cases_eq q page) [
+      | inl same ↦
+          rw same
+          (let before = old.rooms page in
+          let swap = sum_swap (room page) views place (Worker v) (Worker w) at in
+          let more = added_to_here v.additions (phase_of v.state) page count n in
+          let long = applied_here s v.worker page n in
+          omega arith)
+      | inr other ↦
+          let before = old.rooms q in
+          let long = applied_else s v.worker page n q other in
+          let same =
+          sum_set (room q) views place (Worker v) (Worker w) at
+          (ap (λ (k : ℕ). max_likes - k) (added_to_else v.additions (phase_of v.state) page count n q other))
+          in
+          omega arith
+    ]
+    in
+    let past_now : (phase q : ℕ) → s.phase < phase → all_before (set views place (Worker w)) phase q ≡ sum_by (paged q) (set views place (Worker w)) =
+    λ phase q later.
+    let before = old.past phase q later in
+    let swap_before = sum_swap (before_in phase q) views place (Worker v) (Worker w) at in
+    let swap = sum_swap (paged q) views place (Worker v) (Worker w) at in
+    let more_before = added_before-push v.additions (phase_of v.state) page count n phase q in
+    let more = added_to-push v.additions (phase_of v.state) page count n q in
+    let now : cond {A = ℕ} (nat_lt (phase_of v.state) phase && (page == q)) n 0 ≡ cond (page == q) n 0 =
+    ap (λ b. cond {A = ℕ} (b && (page == q)) n 0) (lt-ltb (phase_of v.state) phase (omega arith))
+    in
+    omega arith
+    in
+    record { sums = sums_now; rooms = rooms_now; past = past_now }
+
+-- the counts that the coordinator read have none of it: in their phases nobody runs any more
+counted_added : (z : Opening) (s : CoreState) (words : List ℕ) (views : List View) (place : ℕ) (v : WorkerSeatView) (page count n : ℕ) → (sh : Shows z s words views) → get_elem? views place ≡ some (Worker v) → s.state v.worker ≡ Runs s.phase → phase_of v.state ≡ s.phase → All (IsCounted z.counts (all_before (set views place (Worker (added_view v page count n))))) sh.coord.counted
+counted_added z s words views place v page count n sh at runs present =
+    let old : FitsWorker z s v = sh.each place (Worker v) at in
+    let coord : FitsCoord z s sh.coord = sh.each 0 (Coord sh.coord) sh.first in
+    counted_on z.counts (all_before views) (all_before (set views place (Worker (added_view v page count n)))) sh.coord.counted
+    (λ k d inside.
+    let r : PageCount = get_or sh.coord.counted k d in
+    let of = coord.counted k d inside in
+    elim (cases_lt r.phase s.phase) [
+      | inl over ↦ addition_before views place v page count n (r.phase + 1) r.page at (omega arith)
+      | inr not ↦
+          let within = of.0 in
+          absurd (subst (IsIn s.phase) runs (of.1 (omega arith) v.worker old.there))
+    ])
+    sh.counted
+
+-- a count is at most as large as counts may be at the start
+count_low : (counts : List ℕ) (page : ℕ) → page < length counts → All (λ n. n ≤ max_count) counts → get_or counts page 0 ≤ max_count
+count_low counts page on low = All-get_or (λ (n : ℕ). n ≤ max_count) counts page 0 on low
+
+-- something is added
+some_likes : (v : PostView) (page n : ℕ) → MayAdd v page n → 1 ≤ n
+some_likes v page n may = by_test (slices v page) refl
+  where
+    by_test : (b : Bool) → slices v page ≡ b → 1 ≤ n
+    by_test true sliced = (may.merge sliced).0
+    by_test false plain = let one = may.like plain in omega arith
+
+-- an addition is its events
+pub adds : (z : Opening) (words : List ℕ) (views : List View) (place : ℕ) (v : WorkerSeatView) (page n : ℕ) → ShowsSome z words views → get_elem? views place ≡ some (Worker v) → MayAdd (post_of v) page n → IsSteps z (likes_merged v page n) (adding v page) (Old (get_or words (page + 1) 0)) (Worker v) (Worker (added_view v page (get_or words (page + 1) 0) n)) × ShowsSome z (set words (page + 1) ((get_or words (page + 1) 0 + n) % 2 ^ 64)) (set views place (Worker (added_view v page (get_or words (page + 1) 0) n))) × (added_to page v.additions ≤ get_or words (page + 1) 0)
+adds z words views place v page n some_state at may =
+    let s = some_state.state in
+    let sh = some_state.shows in
+    let i = v.worker in
+    let old : FitsWorker z s v = sh.each place (Worker v) at in
+    let runs = running_is (λ _. Unit {0}) v.state may.runs in
+    let here : s.state i ≡ Runs runs.0 = old.state ∙ runs.1 in
+    let now : runs.0 ≡ s.phase = (reached_in_phase z s some_state.reachable).runs i runs.0 here in
+    let present : phase_of v.state ≡ s.phase = ap phase_of runs.1 ∙ now in
+    let marks : length v.opening.marks ≡ length z.counts =
+    ap (λ (y : Opening). length y.marks) old.opening ∙ sh.opening.marks
+    in
+    let may_there = may.there in
+    let on : page < length z.counts = omega arith in
+    let few : added_to page v.additions + n ≤ max_likes =
+    (let part = added_to-le v.additions page in let all = may.few in omega arith)
+    in
+    let low = count_low z.counts page on sh.opening.counts in
+    let full = some_state.tallied.rooms page in
+    let sums = some_state.tallied.sums page in
+    let part = sum_part (paged page) views place (Worker v) at in
+    let found : get_or words (page + 1) 0 ≡ get_or z.counts page 0 + length (s.applied page) = sh.pages page on in
+    let same : split (is_marked z.marks) s.hot s.phase page ≡ slices (post_of v) page = slices_are z s v page old present may.known in
+    let a : Adding z s i page n (likes_merged v page n) (adding v page) =
+    adds_either z s i page n (slices (post_of v) page) same may.like
+    (λ sliced. old.ending may.runs (may.merge sliced).1)
+    sh.merged old.there on (here ∙ ap Runs now) (omega arith)
+    in
+    let t : CoreState = with_applied s a.rest page (replicate n (label i s.phase)) in
+    let word : ℕ = (get_or words (page + 1) 0 + n) % 2 ^ 64 in
+    let count : ℕ = get_or words (page + 1) 0 in
+    let w : WorkerSeatView = added_view v page count n in
+    let long = applied_here s i page n in
+    let word_is : word ≡ get_or z.counts page 0 + length (applied_by s i page n page) = omega arith in
+    let shows : Shows z t (set words (page + 1) word) (set views place (Worker w)) =
+    page_steps z s a.rest (applied_by s i page n) words views place v w page word sh at refl on word_is
+    (λ q other. applied_else s i page n q other)
+    a.merged
+    (others_keep s i page n)
+    (fits_added z s v page count n a.rest old present)
+    (subst (λ (now : ℕ). ReadsFit z.counts now (set views place (Worker w))) present
+    (addition_keeps_reads z.counts views place v page count n at (subst (λ (now : ℕ). ReadsFit z.counts now views) (sym present) sh.reads)))
+    (counted_added z s words views place v page count n sh at (here ∙ ap Runs now) present)
+    in
+    let last : CoreState = after z (after_all z s (likes_merged v page n)) (adding v page) in
+    let reached : Reachable z last =
+    goes_on_by z (after_all z s (likes_merged v page n)) (adding v page)
+    (goes_on z s (likes_merged v page n) some_state.reachable a.before)
+    a.permits
+    in (
+      record {
+        words = words;
+        views = views;
+        place = place;
+        state = s;
+        reachable = some_state.reachable;
+        shows = sh;
+        mine = at;
+        before = a.before;
+        permits = a.permits;
+        tells = subst (λ (k : ℕ). IsShown (numbers z (after_all z s (likes_merged v page n))) (adding v page) (Old k)) (sym found) a.tells;
+        changed = page + 1;
+        word = word;
+        shows_after = subst (λ (u : CoreState). Shows z u (set words (page + 1) word) (set views place (Worker w))) (sym a.leads) shows;
+      },
+      record {
+        state = t;
+        reachable = subst (Reachable z) a.leads reached;
+        shows = shows;
+        tallied = tallied_added s views place v page count n a.rest at present few some_state.tallied;
+        places = addition_keeps_places z.counts views place v page count n at (omega arith) (some_likes (post_of v) page n may) some_state.places;
+      },
+      omega arith,
+    )

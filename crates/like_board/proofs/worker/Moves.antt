@@ -1,0 +1,225 @@
+-- A step of one worker keeps what the board shows.
+use Rattle.std.proofs.Common.{◌≡◌, ◌≢◌, ℕ, ◌+◌, ◌<◌, ◌≤◌, ◌==◌, nat_lt, Bool, true, false, cond, inl, inr, List, [], All, length, get_or, set, Option, Some, None, IfSome, subst, ap, sym, ◌∙◌, refl, eq-eqb, arith}
+use Rattle.std.proofs.Math.ListN.{length-set}
+use Rattle.std.proofs.lemmas.List.{get_or-set_same, get_or-set_other}
+use Rattle.std.proofs.lemmas.Bool.{cases_eq, cases_lt, le-ltb, cond-true, cond-false}
+use mathlib.Core.Option.{some, some-injective}
+use lib.ListN.{get_elem?}
+use Rattle.atomic_table.proofs.Lists.{at_set, set_else}
+use Rattle.like_core.specs.declared.worker_state.WorkerState.{WorkerState}
+use Rattle.like_core.specs.declared.worker_state.WorkerState.TheVariants.{Gone}
+use Rattle.like_core.specs.declared.sight.CoordSight.{CoordSight}
+use Rattle.like_core.specs.declared.opening.Opening.{Opening}
+use Rattle.like_core.specs.declared.view.WorkerSeatView.{WorkerSeatView}
+use Rattle.like_core.specs.declared.view.CoordSeatView.{CoordSeatView}
+use Rattle.like_core.specs.declared.view.View.{View}
+use Rattle.like_core.specs.declared.view.View.TheVariants.{Coord, Worker, Spent}
+use Rattle.like_core.specs.Functions.{update}
+use Rattle.like_core.specs.Phase.{IsSplit}
+use Rattle.like_core.specs.WorkerState.{IsIn}
+use Rattle.like_core.specs.core.Numbers.{AllIn, CoordSees}
+use Rattle.like_core.specs.core.State.{CoreState, numbers}
+use Rattle.like_core.specs.word.ShownWord.{shown_word}
+use Rattle.like_core.specs.Additions.{added_before}
+use Rattle.like_core.specs.views.Views.{seats_of}
+use Rattle.like_core.specs.views.Reads.{all_before, AreBetween, IsCounted, ReadsFit}
+use Rattle.like_core.specs.views.Shows.{Shows, Fits, FitsWorker, FitsCoord}
+use Rattle.like_core.proofs.Updates.{update-same, update-other, update_cases}
+use Rattle.like_core.proofs.word.ShownEvents.{moved}
+use Rattle.like_core.proofs.views.KeptReads.{reads_same, counted_same}
+use Rattle.like_core.proofs.views.ViewLists.{sum_part, sum_two, sum_set}
+
+-- what holds of the value of an option may be exchanged for what follows from it
+pub if_some : {A : Type 0} (o : Option A) (P Q : A → Type 0) → ((a : A) → P a → Q a) → IfSome o P → IfSome o Q
+if_some None P Q f h = tt
+if_some (Some a) P Q f h = f a h
+
+-- a move to the same state changes nothing
+pub moved_same : (s : CoreState) (i : ℕ) (state : WorkerState) → state ≡ s.state i → moved s i state ≡ s
+moved_same s i state same =
+    let P : ℕ → WorkerState → Type 0 = λ j st. st ≡ s.state j in
+    let each : (j : ℕ) → update s.state i state j ≡ s.state j = update_cases P s.state i state same (λ j other. refl) in
+    λ m. record s { state = λ j. each j m }
+
+-- a view of another worker keeps fitting while a worker moves
+fits_worker_moved : (z : Opening) (s : CoreState) (i : ℕ) (state : WorkerState) (v : WorkerSeatView) → v.worker ≢ i → FitsWorker z s v → FitsWorker z (moved s i state) v
+fits_worker_moved z s i state v other f = record {
+  opening = f.opening;
+  there = f.there;
+  state = update-other s.state i state v.worker other ∙ f.state;
+  number = f.number;
+  ending = f.ending;
+  labels = f.labels;
+  masks = f.masks;
+}
+
+-- a worker of which no seat was given back is none of those whose seats were
+pub joined_other : (c : CoordSeatView) (i place : ℕ) (v : WorkerSeatView) → seats_of i (Coord c) ≡ 0 → get_elem? c.joined place ≡ some v → v.worker ≢ i
+joined_other c i place v none at =
+    λ same.
+    let part = sum_part (λ (w : WorkerSeatView). cond (w.worker == i) 1 0) c.joined place v at in
+    let one : cond {A = ℕ} (v.worker == i) 1 0 ≡ 1 = cond-true (v.worker == i) 1 0 (eq-eqb v.worker i same) in
+    absurd (omega arith)
+
+-- the coordinator's view keeps fitting while a worker moves
+fits_coord_moved : (z : Opening) (s : CoreState) (c : CoordSeatView) (i : ℕ) (state : WorkerState) → i < z.workers → i < c.made → seats_of i (Coord c) ≡ 0 → (IsIn s.phase (s.state i) → state ≡ s.state i) → (IsSplit s.phase → state ≡ Gone → s.state i ≡ Gone) → FitsCoord z s c → FitsCoord z (moved s i state) c
+fits_coord_moved z s c i state there has_seat none stays gone f =
+    let t : CoreState = moved s i state in
+    let same : AllIn (numbers z s) → t ≡ s = λ all. moved_same s i state (stays (all i there)) in
+    record {
+      opening = f.opening;
+      made = f.made;
+      unmade = λ j past below. update-other s.state i state j (λ eq. absurd (omega arith)) ∙ f.unmade j past below;
+      unlabelled = f.unlabelled;
+      phase = f.phase;
+      ending = f.ending;
+      last = f.last;
+      stays = if_some c.last
+          (λ (sight : CoordSight). sight.all_in ≡ true → CoordSees (numbers z s) sight × (c.word ≡ shown_word z s))
+          (λ (sight : CoordSight). sight.all_in ≡ true → CoordSees (numbers z t) sight × (c.word ≡ shown_word z t))
+          (λ sight before all_in.
+          let now = before all_in in
+          let P : CoreState → Type 0 = λ u. CoordSees (numbers z u) sight × (c.word ≡ shown_word z u) in
+          subst P (sym (same (now.0.all_in.0 all_in))) now)
+          f.stays;
+      all_in = λ is.
+          let P : CoreState → Type 0 = λ u. AllIn (numbers z u) in
+          subst P (sym (same (f.all_in is))) (f.all_in is);
+      gone = λ split all.
+          f.gone split
+          (λ j below. elim (cases_eq j i) [
+            | inl here ↦
+                let now : state ≡ Gone = sym (update-same s.state i state) ∙ all i there in
+                ap s.state here ∙ gone split now
+            | inr other ↦ sym (update-other s.state i state j other) ∙ all j below
+          ]);
+      counted = λ k d inside.
+          let before = f.counted k d inside in (
+            before.0,
+            λ now.
+                let P : CoreState → Type 0 = λ u. AllIn (numbers z u) in
+                subst P (sym (same (before.1 now))) (before.1 now),
+          );
+      published = f.published;
+      masks = f.masks;
+      joined = λ place v at. fits_worker_moved z s i state v (joined_other c i place v none at) (f.joined place v at);
+    }
+
+-- a view that is no seat of a worker's is of another
+pub worker_other : (i : ℕ) (v : WorkerSeatView) → seats_of i (Worker v) ≡ 0 → v.worker ≢ i
+worker_other i v none =
+    λ same.
+    let one : seats_of i (Worker v) ≡ 1 = cond-true (v.worker == i) 1 0 (eq-eqb v.worker i same) in
+    absurd (omega arith)
+
+-- another seat's view keeps fitting while a worker moves
+fits_other : (z : Opening) (s : CoreState) (i : ℕ) (state : WorkerState) → i < z.workers → (IsIn s.phase (s.state i) → state ≡ s.state i) → (IsSplit s.phase → state ≡ Gone → s.state i ≡ Gone) → (u : View) → seats_of i u ≡ 0 → ((c : CoordSeatView) → u ≡ Coord c → i < c.made) → Fits z s u → Fits z (moved s i state) u
+fits_other z s i state there stays gone (Coord c) none has_seat f =
+    fits_coord_moved z s c i state there (has_seat c refl) none stays gone f
+fits_other z s i state there stays gone (Worker v) none has_seat f =
+    fits_worker_moved z s i state v (worker_other i v none) f
+fits_other z s i state there stays gone Spent none has_seat f = tt
+
+-- a test that says no counts nothing
+pub counts_none : (b : Bool) → b ≡ false → ◌≡◌ {A = ℕ} (cond b 1 0) 0
+counts_none b is = cond-false b 1 0 is
+
+-- a test that says yes counts one
+pub counts_one : (b : Bool) → b ≡ true → ◌≡◌ {A = ℕ} (cond b 1 0) 1
+counts_one b is = cond-true b 1 0 is
+
+-- a worker that has a seat is among those for which one was made
+pub has_seat : (z : Opening) (s : CoreState) (words : List ℕ) (views : List View) (place : ℕ) (v : WorkerSeatView) → (sh : Shows z s words views) → get_elem? views place ≡ some (Worker v) → v.worker < sh.coord.made
+has_seat z s words views place v sh at =
+    let part = sum_part (seats_of v.worker) views place (Worker v) at in
+    let one : seats_of v.worker (Worker v) ≡ 1 = cond-true (v.worker == v.worker) 1 0 (eq-eqb v.worker v.worker refl) in
+    let once = sh.once v.worker in
+    elim (cases_lt v.worker sh.coord.made) [
+      | inl less ↦ less
+      | inr past ↦
+          let none = counts_none (nat_lt v.worker sh.coord.made) (le-ltb v.worker sh.coord.made past) in
+          absurd (omega arith)
+    ]
+
+-- no more than one seat has a worker's number
+pub once_at_most : (b : Bool) → cond b 1 0 ≤ 1
+once_at_most true = omega arith
+once_at_most false = omega arith
+
+-- the one coordinator's view
+pub same_coord : (z : Opening) (s : CoreState) (words : List ℕ) (views : List View) (place : ℕ) (c : CoordSeatView) → (sh : Shows z s words views) → get_elem? views place ≡ some (Coord c) → (place ≡ 0) × (sh.coord ≡ c)
+same_coord z s words views place c sh at =
+    let zeroth = sh.only place c at in
+    let here : get_elem? views 0 ≡ some (Coord c) = ap (get_elem? views) (sym zeroth) ∙ at in
+    let same : some (Coord sh.coord) ≡ some (Coord c) = sym sh.first ∙ here in
+    let inner : Coord sh.coord ≡ Coord c = some-injective (Coord sh.coord) (Coord c) same in
+    (zeroth, cc)
+
+-- after a worker's step, with a new view of its own that fits, the words and the views show the state after, where the
+-- words do and each view fits it that is no seat of the worker's
+pub worker_steps : (z : Opening) (s t : CoreState) (words later : List ℕ) (views : List View) (place : ℕ) (v w : WorkerSeatView) → (sh : Shows z s words views) → get_elem? views place ≡ some (Worker v) → w.worker ≡ v.worker → length later ≡ length words → get_or later 0 0 ≡ shown_word z t → ((page : ℕ) → page < length z.counts → get_or later (page + 1) 0 ≡ get_or z.counts page 0 + length (t.applied page)) → get_or later (length z.counts + 1) 0 ≡ get_or words (length z.counts + 1) 0 → (IsSplit t.phase → get_or words (length z.counts + 1) 0 ≡ t.hot t.phase) → ((i : ℕ) → t.unmerged i ≡ []) → FitsWorker z t w → ((u : View) → seats_of v.worker u ≡ 0 → ((c : CoordSeatView) → u ≡ Coord c → v.worker < c.made) → Fits z s u → Fits z t u) → ReadsFit z.counts t.phase (set views place (Worker w)) → All (IsCounted z.counts (all_before (set views place (Worker w)))) sh.coord.counted → Shows z t later (set views place (Worker w))
+worker_steps z s t words later views place v w sh at number width word pages same_mask mask merged fits others reads counted =
+    let seated = has_seat z s words views place v sh at in
+    let not_first : place ≢ 0 = λ zeroth.
+    let here : get_elem? views 0 ≡ some (Worker v) = ap (get_elem? views) (sym zeroth) ∙ at in
+    let same : some (Coord sh.coord) ≡ some (Worker v) = sym sh.first ∙ here in
+    let inner : Coord sh.coord ≡ Worker v = some-injective (Coord sh.coord) (Worker v) same in
+    cc
+    in
+    record {
+      opening = sh.opening;
+      width = width ∙ sh.width;
+      word = word;
+      pages = pages;
+      mask = λ odd. same_mask ∙ mask odd;
+      merged = merged;
+      coord = sh.coord;
+      first = set_else views place 0 (Worker w) (λ eq. not_first (sym eq)) ∙ sh.first;
+      only = λ j c found. elim (at_set views place j (Worker w) (Coord c) found) [
+        | inl here ↦ let clash = here.1 in absurd (cc)
+        | inr there ↦ sh.only j c there.1
+      ];
+      each = λ j u found. elim (at_set views place j (Worker w) u found) [
+        | inl here ↦ subst (Fits z t) here.1 fits
+        | inr there ↦
+            let two = sum_two (seats_of v.worker) views place j (Worker v) u (λ eq. there.0 (sym eq)) at there.1 in
+            let once = sh.once v.worker in
+            let most = once_at_most (nat_lt v.worker sh.coord.made) in
+            let one : seats_of v.worker (Worker v) ≡ 1 = cond-true (v.worker == v.worker) 1 0 (eq-eqb v.worker v.worker refl) in
+            others u (omega arith)
+            (λ c is. subst (λ (d : CoordSeatView). v.worker < d.made) (same_coord z s words views j c sh (there.1 ∙ ap some is)).1 seated)
+            (sh.each j u there.1)
+      ];
+      once = λ i.
+          sum_set (seats_of i) views place (Worker v) (Worker w) at (ap (λ k. cond (k == i) 1 0) number) ∙ sh.once i;
+      published = if_some sh.coord.published
+          (λ mask. get_or words (length z.counts + 1) 0 ≡ mask)
+          (λ mask. get_or later (length z.counts + 1) 0 ≡ mask)
+          (λ mask is. same_mask ∙ is)
+          sh.published;
+      reads = reads;
+      counted = counted;
+    }
+
+-- after worker i moved, with a new view of its own that fits and has the same additions and reads, the words and the
+-- views show the state after
+pub worker_moves : (z : Opening) (s : CoreState) (words : List ℕ) (views : List View) (place : ℕ) (v w : WorkerSeatView) (state : WorkerState) (word : ℕ) → Shows z s words views → get_elem? views place ≡ some (Worker v) → w ≡ record v { state = w.state; last = w.last } → word ≡ shown_word z (moved s v.worker state) → FitsWorker z (moved s v.worker state) w → (IsIn s.phase (s.state v.worker) → state ≡ s.state v.worker) → (IsSplit s.phase → state ≡ Gone → s.state v.worker ≡ Gone) → Shows z (moved s v.worker state) (set words 0 word) (set views place (Worker w))
+worker_moves z s words views place v w state word sh at rest word_is fits stays gone =
+    let wide = sh.width in
+    let old : FitsWorker z s v = sh.each place (Worker v) at in
+    worker_steps z s (moved s v.worker state) words (set words 0 word) views place v w sh at (ap (λ (x : WorkerSeatView). x.worker) rest)
+    (length-set words 0 word)
+    (get_or-set_same words 0 word 0 (omega arith) ∙ word_is)
+    (λ page below. get_or-set_other words 0 (page + 1) word 0 (λ eq. absurd (omega arith)) ∙ sh.pages page below)
+    (get_or-set_other words 0 (length z.counts + 1) word 0 (λ eq. absurd (omega arith)))
+    sh.mask
+    sh.merged
+    fits
+    (λ u none seat f. fits_other z s v.worker state old.there stays gone u none seat f)
+    (reads_same z.counts s.phase s.phase views place (Worker v) (Worker w) (omega arith) at
+    (λ k p. ap (λ (x : WorkerSeatView). added_before k p x.additions) rest)
+    (λ f has. subst (λ (x : WorkerSeatView). AreBetween z.counts f s.phase x.additions x.reads) (sym rest) has)
+    sh.reads)
+    (counted_same z.counts views place (Worker v) (Worker w) sh.coord.counted at
+    (λ k p. ap (λ (x : WorkerSeatView). added_before k p x.additions) rest)
+    sh.counted)

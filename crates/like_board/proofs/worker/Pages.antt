@@ -1,0 +1,112 @@
+-- A step on a page's word keeps what the board shows.
+use Rattle.std.proofs.Common.{◌≡◌, ◌≢◌, ℕ, ◌+◌, ◌<◌, true, inl, inr, List, [], All, length, get_or, set, ap, sym, ◌∙◌, refl, arith}
+use Rattle.std.proofs.Math.ListN.{length-set}
+use Rattle.std.proofs.lemmas.List.{get_or-set_same, get_or-set_other}
+use Rattle.std.proofs.lemmas.Bool.{cases_eq}
+use mathlib.Core.Option.{some}
+use lib.ListN.{get_elem?}
+use Rattle.like_core.specs.declared.sight.CoordSight.{CoordSight}
+use Rattle.like_core.specs.declared.opening.Opening.{Opening}
+use Rattle.like_core.specs.declared.view.WorkerSeatView.{WorkerSeatView}
+use Rattle.like_core.specs.declared.view.CoordSeatView.{CoordSeatView}
+use Rattle.like_core.specs.declared.view.View.{View}
+use Rattle.like_core.specs.declared.view.View.TheVariants.{Coord, Worker, Spent}
+use Rattle.like_core.specs.core.Numbers.{CoordSees}
+use Rattle.like_core.specs.Phase.{is_marked, split}
+use Rattle.like_core.specs.WorkerState.{phase_of}
+use Rattle.like_core.specs.Post.{slices, KnowsSlices}
+use Rattle.like_core.specs.core.State.{CoreState, Label, labelled, numbers}
+use Rattle.like_core.specs.word.ShownWord.{shown_word}
+use Rattle.like_core.specs.views.Views.{post_of, seats_of}
+use Rattle.like_core.specs.views.Reads.{all_before, IsCounted, ReadsFit}
+use Rattle.like_core.specs.views.Shows.{Shows, Fits, FitsWorker}
+use Rattle.like_core.proofs.PhaseMasks.{split-known}
+use Rattle.like_board.proofs.worker.Moves.{if_some, joined_other, worker_other, worker_steps}
+
+-- what the post knows of slices is what is split in the state
+pub slices_are : (z : Opening) (s : CoreState) (v : WorkerSeatView) (page : ℕ) → FitsWorker z s v → phase_of v.state ≡ s.phase → KnowsSlices (post_of v) page → split (is_marked z.marks) s.hot s.phase page ≡ slices (post_of v) page
+slices_are z s v page f present knows =
+    sym (λ m. split (is_marked (f.opening m).marks) s.hot (present m) page) ∙
+    split-known (is_marked v.opening.marks) s.hot v.masks (phase_of v.state) page (λ i d inside. (f.masks i d inside).1) knows
+
+-- the state with these unmerged and applied likes
+abbrev pub with_likes : CoreState → (ℕ → List ℕ) → (ℕ → List Label) → CoreState
+with_likes s unmerged applied = record s { unmerged = unmerged; applied = applied }
+
+-- the likes of all workers but one have the labels that they had
+abbrev pub KeepsOthers : CoreState → (ℕ → List Label) → ℕ → Type 0
+KeepsOthers s applied i = (j phase page : ℕ) → j ≢ i → labelled j phase (applied page) ≡ labelled j phase (s.applied page)
+
+-- a view of another worker keeps fitting
+fits_worker_else : (z : Opening) (s : CoreState) (unmerged : ℕ → List ℕ) (applied : ℕ → List Label) (i : ℕ) (v : WorkerSeatView) → KeepsOthers s applied i → v.worker ≢ i → FitsWorker z s v → FitsWorker z (with_likes s unmerged applied) v
+fits_worker_else z s unmerged applied i v keeps other f = record {
+  opening = f.opening;
+  there = f.there;
+  state = f.state;
+  number = f.number;
+  ending = f.ending;
+  labels = λ phase page. keeps v.worker phase page other ∙ f.labels phase page;
+  masks = f.masks;
+}
+
+-- the view of another seat keeps fitting
+fits_else : (z : Opening) (s : CoreState) (unmerged : ℕ → List ℕ) (applied : ℕ → List Label) (i : ℕ) → KeepsOthers s applied i → (u : View) → seats_of i u ≡ 0 → ((c : CoordSeatView) → u ≡ Coord c → i < c.made) → Fits z s u → Fits z (with_likes s unmerged applied) u
+fits_else z s unmerged applied i keeps (Coord c) none has_seat f =
+    let seated = has_seat c refl in
+    let t : CoreState = with_likes s unmerged applied in
+    record {
+      opening = f.opening;
+      made = f.made;
+      unmade = f.unmade;
+      unlabelled = λ j phase page past below.
+          keeps j phase page (λ same. absurd (omega arith)) ∙ f.unlabelled j phase page past below;
+      phase = f.phase;
+      ending = f.ending;
+      last = f.last;
+      stays = if_some c.last
+          (λ (sight : CoordSight). sight.all_in ≡ true → CoordSees (numbers z s) sight × (c.word ≡ shown_word z s))
+          (λ (sight : CoordSight). sight.all_in ≡ true → CoordSees (numbers z t) sight × (c.word ≡ shown_word z t))
+          (λ sight before all_in.
+          let now = before all_in in (
+            record { number = now.0.number; ending = now.0.ending; all_in = now.0.all_in; all_gone = now.0.all_gone },
+            now.1,
+          ))
+          f.stays;
+      all_in = f.all_in;
+      gone = f.gone;
+      counted = f.counted;
+      published = f.published;
+      masks = f.masks;
+      joined = λ place v at.
+          fits_worker_else z s unmerged applied i v keeps (joined_other c i place v none at) (f.joined place v at);
+    }
+fits_else z s unmerged applied i keeps (Worker v) none has_seat f =
+    fits_worker_else z s unmerged applied i v keeps (worker_other i v none) f
+fits_else z s unmerged applied i keeps Spent none has_seat f = tt
+
+-- after a step on a page's word, with a new view of its own that fits, the words and the views show the state after
+pub page_steps : (z : Opening) (s : CoreState) (unmerged : ℕ → List ℕ) (applied : ℕ → List Label) (words : List ℕ) (views : List View) (place : ℕ) (v w : WorkerSeatView) (page word : ℕ) → (sh : Shows z s words views) → get_elem? views place ≡ some (Worker v) → w.worker ≡ v.worker → page < length z.counts → word ≡ get_or z.counts page 0 + length (applied page) → ((q : ℕ) → q ≢ page → length (applied q) ≡ length (s.applied q)) → ((j : ℕ) → unmerged j ≡ []) → KeepsOthers s applied v.worker → FitsWorker z (with_likes s unmerged applied) w → ReadsFit z.counts s.phase (set views place (Worker w)) → All (IsCounted z.counts (all_before (set views place (Worker w)))) sh.coord.counted → Shows z (with_likes s unmerged applied) (set words (page + 1) word) (set views place (Worker w))
+page_steps z s unmerged applied words views place v w page word sh at number on word_is others merged keeps fits reads counted =
+    let wide = sh.width in
+    let t : CoreState = with_likes s unmerged applied in
+    let later : List ℕ = set words (page + 1) word in
+    let pages : (q : ℕ) → q < length z.counts → get_or later (q + 1) 0 ≡ get_or z.counts q 0 + length (applied q) =
+    λ q below.
+    elim (cases_eq q page) [
+      | inl same ↦ rw same (get_or-set_same words (page + 1) word 0 (omega arith) ∙ word_is)
+      | inr other ↦
+          get_or-set_other words (page + 1) (q + 1) word 0 (λ eq. other (omega arith)) ∙
+          (sh.pages q below ∙ ap (λ (n : ℕ). get_or z.counts q 0 + n) (sym (others q other)))
+    ]
+    in
+    worker_steps z s t words later views place v w sh at number
+    (length-set words (page + 1) word)
+    (get_or-set_other words (page + 1) 0 word 0 (λ eq. absurd (omega arith)) ∙ sh.word)
+    pages
+    (get_or-set_other words (page + 1) (length z.counts + 1) word 0 (λ eq. absurd (omega arith)))
+    sh.mask
+    merged
+    fits
+    (λ u none seat f. fits_else z s unmerged applied v.worker keeps u none seat f)
+    reads
+    counted

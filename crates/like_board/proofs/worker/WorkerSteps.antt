@@ -1,0 +1,341 @@
+-- Each step of a worker is the event, and keeps what the board shows.
+use Rattle.std.proofs.Common.{◌≡◌, ◌≢◌, ℕ, ◌+◌, nat_lt, bit_or, Bool, true, false, cond, ◌⊎◌, inl, inr, IsTrue, ◌↔◌, MatchBool, List, get_or, set, subst, ap, sym, ◌∙◌, refl, arith}
+use Rattle.std.proofs.lemmas.Bool.{cond-true, cond-false, lt-ltb, le-ltb}
+use mathlib.Core.Option.{some}
+use lib.ListN.{get_elem?}
+use Rattle.like_core.specs.declared.worker_state.WorkerState.{WorkerState}
+use Rattle.like_core.specs.declared.worker_state.WorkerState.TheVariants.{Runs, Answered, Gone}
+use Rattle.like_core.specs.declared.sight.Sight.{Sight}
+use Rattle.like_core.specs.declared.event.Event.TheVariants.{Look, Acknowledge, Report, Retire}
+use Rattle.like_core.specs.declared.shown.Shown.TheVariants.{Done}
+use Rattle.like_core.specs.declared.opening.Opening.{Opening}
+use Rattle.like_core.specs.declared.view.WorkerSeatView.{WorkerSeatView}
+use Rattle.like_core.specs.declared.view.View.{View}
+use Rattle.like_core.specs.declared.view.View.TheVariants.{Worker}
+use Rattle.like_core.specs.Functions.{times}
+use Rattle.like_core.specs.Phase.{IsJoined, IsSplit}
+use Rattle.like_core.specs.WorkerState.{IsIn, looked, RunsSome, IsSightOf, seen, phase_of, IsRunning, RunsJoined, RunsSplit, SawEnding}
+use Rattle.like_core.specs.word.Word.{Fields, packed, answer_bit, retirement_bit}
+use Rattle.like_core.specs.core.Numbers.{Sees}
+use Rattle.like_core.specs.core.Table.{Permits}
+use Rattle.like_core.specs.core.State.{CoreState, numbers}
+use Rattle.like_core.specs.core.Reachable.{Reachable}
+use Rattle.like_core.specs.views.Sights.{sight_of}
+use Rattle.like_core.specs.word.ShownWord.{shown_fields}
+use Rattle.like_core.specs.views.Views.{looked_view, answered_view, retired_view}
+use Rattle.like_core.specs.views.Shows.{Shows, ShowsSome, FitsWorker, IsStep}
+use Rattle.like_core.proofs.Updates.{update-same}
+use Rattle.like_core.proofs.core.Reached.{goes_on_by}
+use Rattle.like_core.proofs.core.InPhase.{reached_in_phase}
+use Rattle.like_core.proofs.core.Unanswered.{reached_unanswered}
+use Rattle.like_core.proofs.word.ShownEvents.{moved, shown_lawful, fields_looked, word_answered, word_retired, worker_sees}
+use Rattle.like_core.proofs.views.KeptPlaces.{places_same}
+use Rattle.like_board.specs.Plays.{Looked}
+use Rattle.like_board.proofs.worker.Moves.{worker_moves}
+use Rattle.like_board.proofs.Tallying.{tallied_on}
+
+-- the phase that a worker runs
+pub running_is : (P : ℕ → Type 0) (state : WorkerState) → RunsSome P state → (phase : ℕ) × (state ≡ Runs phase) × P phase
+running_is P (Runs phase) h = (phase, refl, h)
+running_is P (Answered phase) h = absurd h
+running_is P Gone h = absurd h
+
+-- a view whose worker runs a phase
+pub runs_view : (v : WorkerSeatView) (phase : ℕ) → v.state ≡ Runs phase → IsRunning v.state
+runs_view v phase is = subst (RunsSome (λ _. Unit {0})) (sym is) tt
+
+not_true : (b : Bool) → (IsTrue b → ⊥) → b ≡ false
+not_true true no_ = absurd (no_ refl)
+not_true false no_ = refl
+
+-- what a look shows to a worker in this state, and where it takes the worker
+pub record LooksAt (phase : ℕ) (state : WorkerState) (sight : Sight) : Type 0 where
+  pub can : IsSightOf state sight
+  pub goes : seen state sight ≡ looked phase state
+
+-- whoever is not gone looks so
+looks_at : (phase : ℕ) (state : WorkerState) (sight : Sight) → ((j : ℕ) → state ≡ Runs j → j ≡ phase) → ((j : ℕ) → state ≡ Answered j → (j ≡ phase) ⊎ (j + 1 ≡ phase)) → state ≢ Gone → sight.number ≡ phase → (IsTrue sight.waits ↔ (state ≡ Answered phase)) → LooksAt phase state sight
+looks_at phase (Runs j) sight runs answered there number waits = record {
+  can = (number ∙ sym (runs j refl), not_true sight.waits (λ is. let e = waits.0 is in cc));
+  goes = refl;
+}
+looks_at phase (Answered j) sight runs answered there number waits = elim (answered j refl) [
+  | inl now ↦
+      let is : sight.waits ≡ true = waits.1 (ap Answered now) in
+      record {
+        can = subst (λ (b : Bool). MatchBool b (sight.number ≡ j) (sight.number ≡ j + 1)) (sym is) (number ∙ sym now);
+        goes =
+            cond-true sight.waits (Answered j) (Runs (j + 1)) is ∙
+            sym (cond-false (nat_lt j phase) (Runs phase) (Answered j) (le-ltb j phase (omega arith)));
+      }
+  | inr before ↦
+      let not : sight.waits ≡ false = not_true sight.waits (λ is. let e = waits.0 is in let same : j ≡ phase = cc in omega arith) in
+      record {
+        can = subst (λ (b : Bool). MatchBool b (sight.number ≡ j) (sight.number ≡ j + 1)) (sym not) (number ∙ sym before);
+        goes =
+            cond-false sight.waits (Answered j) (Runs (j + 1)) not ∙
+            (ap Runs before ∙ sym (cond-true (nat_lt j phase) (Runs phase) (Answered j) (lt-ltb j phase (omega arith))));
+      }
+]
+looks_at phase Gone sight runs answered there number waits = absurd (there refl)
+
+-- a look of one who is in changes nothing
+looked_in : (phase : ℕ) (state : WorkerState) → IsIn phase state → looked phase state ≡ state
+looked_in phase (Runs j) is = absurd is
+looked_in phase (Answered j) is = cond-false (nat_lt j phase) (Runs phase) (Answered j) (le-ltb j phase (omega (arith, is)))
+looked_in phase Gone is = refl
+
+-- nor does a look make anyone gone
+looked_gone : (phase : ℕ) (state : WorkerState) → looked phase state ≡ Gone → state ≡ Gone
+looked_gone phase (Runs j) is = absurd (cc)
+looked_gone phase (Answered j) is =
+    let P : Bool → Type 0 = λ b. cond b (Runs phase) (Answered j) ≡ Gone → ⊥ in
+    let Q : P (nat_lt j phase) = elim (nat_lt j phase) as P [ true ↦ λ e. cc | false ↦ λ e. cc ] in
+    absurd (Q is)
+looked_gone phase Gone is = refl
+
+-- a look of a worker that is not gone is the event
+pub looks : (z : Opening) (words : List ℕ) (views : List View) (place : ℕ) (v : WorkerSeatView) → ShowsSome z words views → get_elem? views place ≡ some (Worker v) → v.state ≢ Gone → (r : Looked z (get_or words 0 0) v) × ShowsSome z (set words 0 (get_or words 0 0)) (set views place (Worker (looked_view v (sight_of r.fields v.worker))))
+looks z words views place v some_state at there =
+    let s = some_state.state in
+    let sh = some_state.shows in
+    let i = v.worker in
+    let p = reached_in_phase z s some_state.reachable in
+    let lawful = shown_lawful z s sh.opening p (reached_unanswered z s some_state.reachable) in
+    let old : FitsWorker z s v = sh.each place (Worker v) at in
+    let f : Fields = shown_fields z s in
+    let sight : Sight = sight_of f i in
+    let sees : Sees (numbers z s) i sight = worker_sees z s i old.there in
+    let not_gone : s.state i ≢ Gone = λ gone. there (sym old.state ∙ gone) in
+    let la : LooksAt s.phase (s.state i) sight = looks_at s.phase (s.state i) sight (p.runs i) (p.answered i) not_gone sees.number sees.waits in
+    let state : WorkerState = looked s.phase (s.state i) in
+    let t : CoreState = moved s i state in
+    let w : WorkerSeatView = looked_view v sight in
+    let found : ℕ = get_or words 0 0 in
+    let fits : FitsWorker z t w =
+    record {
+      opening = old.opening;
+      there = old.there;
+      state = update-same s.state i state ∙ (sym la.goes ∙ ap (λ st. seen st sight) old.state);
+      number = (let e : sight.number ≡ s.phase = sees.number in omega arith);
+      ending = λ _ saw. sym sees.ending ∙ saw;
+      labels = old.labels;
+      masks = old.masks;
+    }
+    in
+    let shows_after : Shows z t (set words 0 found) (set views place (Worker w)) =
+    worker_moves z s words views place v w state found sh at refl
+    (sh.word ∙ ap packed (sym (fields_looked z s i)))
+    fits
+    (looked_in s.phase (s.state i))
+    (λ _. looked_gone s.phase (s.state i))
+    in
+    let permits : Permits (numbers z s) (Look i) =
+    record { there = old.there; suits = not_gone; leaves_last = tt; room = tt }
+    in (
+      record {
+        fields = f;
+        lawful = lawful;
+        found_is = sh.word;
+        can = subst (λ (st : WorkerState). IsSightOf st sight) old.state la.can;
+        ending = λ runs saw. sees.ending ∙ old.ending runs saw;
+        step = record {
+          words = words;
+          views = views;
+          place = place;
+          state = s;
+          reachable = some_state.reachable;
+          shows = sh;
+          mine = at;
+          before = tt;
+          permits = permits;
+          tells = (sight, refl, sees);
+          changed = 0;
+          word = found;
+          shows_after = shows_after;
+        };
+      },
+      record {
+        state = t;
+        reachable = goes_on_by z s (Look i) some_state.reachable permits;
+        shows = shows_after;
+        tallied = tallied_on s t views place (Worker v) (Worker w) (omega arith) (λ _. refl) at (λ _. refl) (λ _. refl) (λ _ _. refl) some_state.tallied;
+        places = places_same z.counts views place (Worker v) (Worker w) at (λ _. refl) (λ _. refl) (λ _ _ has. has) some_state.places;
+      },
+    )
+
+-- what a worker that runs the present phase makes of the board by its answer
+answers : (z : Opening) (s : CoreState) (words : List ℕ) (views : List View) (place : ℕ) (v : WorkerSeatView) (phase : ℕ) → Reachable z s → Shows z s words views → get_elem? views place ≡ some (Worker v) → v.state ≡ Runs phase → phase ≡ s.phase → Shows z (moved s v.worker (Answered s.phase)) (set words 0 (bit_or (get_or words 0 0) (answer_bit v.worker))) (set views place (Worker (answered_view v)))
+answers z s words views place v phase reached sh at runs present =
+    let i = v.worker in
+    let p = reached_in_phase z s reached in
+    let lawful = shown_lawful z s sh.opening p (reached_unanswered z s reached) in
+    let old : FitsWorker z s v = sh.each place (Worker v) at in
+    let here : s.state i ≡ Runs phase = old.state ∙ runs in
+    let state : WorkerState = Answered s.phase in
+    let fits : FitsWorker z (moved s i state) (answered_view v) =
+    record {
+      opening = old.opening;
+      there = old.there;
+      state = update-same s.state i state ∙ ap Answered (sym present ∙ sym (ap phase_of runs));
+      number = old.number;
+      ending = λ running _. absurd running;
+      labels = old.labels;
+      masks = old.masks;
+    }
+    in
+    worker_moves z s words views place v (answered_view v) state (bit_or (get_or words 0 0) (answer_bit i)) sh at refl
+    (ap (λ n. bit_or n (answer_bit i)) sh.word ∙ word_answered z s i phase lawful old.there here)
+    fits
+    (λ is. absurd (subst (IsIn s.phase) here is))
+    (λ _ gone. absurd (cc))
+
+-- an acknowledgement is the event
+pub acknowledges : (z : Opening) (words : List ℕ) (views : List View) (place : ℕ) (v : WorkerSeatView) → ShowsSome z words views → get_elem? views place ≡ some (Worker v) → RunsJoined v.state → SawEnding v.last → IsStep z (Acknowledge v.worker) Done (Worker v) (Worker (answered_view v)) × ShowsSome z (set words 0 (bit_or (get_or words 0 0) (answer_bit v.worker))) (set views place (Worker (answered_view v)))
+acknowledges z words views place v some_state at joined saw =
+    let s = some_state.state in
+    let sh = some_state.shows in
+    let runs = running_is IsJoined v.state joined in
+    let old : FitsWorker z s v = sh.each place (Worker v) at in
+    let here : s.state v.worker ≡ Runs runs.0 = old.state ∙ runs.1 in
+    let present : runs.0 ≡ s.phase = (reached_in_phase z s some_state.reachable).runs v.worker runs.0 here in
+    let after_it = answers z s words views place v runs.0 some_state.reachable sh at runs.1 present in
+    let ending : s.ending ≡ true = old.ending (runs_view v runs.0 runs.1) saw in
+    let permits : Permits (numbers z s) (Acknowledge v.worker) =
+    record {
+      there = old.there;
+      suits = (here ∙ ap Runs present, subst IsJoined present runs.2, ending);
+      leaves_last = tt;
+      room = tt;
+    }
+    in (
+      record {
+        words = words;
+        views = views;
+        place = place;
+        state = s;
+        reachable = some_state.reachable;
+        shows = sh;
+        mine = at;
+        before = tt;
+        permits = permits;
+        tells = refl;
+        changed = 0;
+        word = bit_or (get_or words 0 0) (answer_bit v.worker);
+        shows_after = after_it;
+      },
+      record {
+        state = moved s v.worker (Answered s.phase);
+        reachable = goes_on_by z s (Acknowledge v.worker) some_state.reachable permits;
+        shows = after_it;
+        tallied =
+            tallied_on s (moved s v.worker (Answered s.phase)) views place (Worker v) (Worker (answered_view v))
+            (omega arith) (λ _. refl) at (λ _. refl) (λ _. refl) (λ _ _. refl) some_state.tallied;
+        places = places_same z.counts views place (Worker v) (Worker (answered_view v)) at (λ _. refl) (λ _. refl) (λ _ _ has. has) some_state.places;
+      },
+    )
+
+-- a report is the event
+pub reports : (z : Opening) (words : List ℕ) (views : List View) (place : ℕ) (v : WorkerSeatView) → ShowsSome z words views → get_elem? views place ≡ some (Worker v) → RunsSplit v.state → SawEnding v.last → IsStep z (Report v.worker) Done (Worker v) (Worker (answered_view v)) × ShowsSome z (set words 0 (bit_or (get_or words 0 0) (answer_bit v.worker))) (set views place (Worker (answered_view v)))
+reports z words views place v some_state at split saw =
+    let s = some_state.state in
+    let sh = some_state.shows in
+    let runs = running_is IsSplit v.state split in
+    let old : FitsWorker z s v = sh.each place (Worker v) at in
+    let here : s.state v.worker ≡ Runs runs.0 = old.state ∙ runs.1 in
+    let present : runs.0 ≡ s.phase = (reached_in_phase z s some_state.reachable).runs v.worker runs.0 here in
+    let after_it = answers z s words views place v runs.0 some_state.reachable sh at runs.1 present in
+    let ending : s.ending ≡ true = old.ending (runs_view v runs.0 runs.1) saw in
+    let permits : Permits (numbers z s) (Report v.worker) =
+    record {
+      there = old.there;
+      suits = (here ∙ ap Runs present, subst IsSplit present runs.2, ending, λ page. ap (times page) (sh.merged v.worker));
+      leaves_last = tt;
+      room = tt;
+    }
+    in (
+      record {
+        words = words;
+        views = views;
+        place = place;
+        state = s;
+        reachable = some_state.reachable;
+        shows = sh;
+        mine = at;
+        before = tt;
+        permits = permits;
+        tells = refl;
+        changed = 0;
+        word = bit_or (get_or words 0 0) (answer_bit v.worker);
+        shows_after = after_it;
+      },
+      record {
+        state = moved s v.worker (Answered s.phase);
+        reachable = goes_on_by z s (Report v.worker) some_state.reachable permits;
+        shows = after_it;
+        tallied =
+            tallied_on s (moved s v.worker (Answered s.phase)) views place (Worker v) (Worker (answered_view v))
+            (omega arith) (λ _. refl) at (λ _. refl) (λ _. refl) (λ _ _. refl) some_state.tallied;
+        places = places_same z.counts views place (Worker v) (Worker (answered_view v)) at (λ _. refl) (λ _. refl) (λ _ _ has. has) some_state.places;
+      },
+    )
+
+-- a retirement is the event
+pub retires : (z : Opening) (words : List ℕ) (views : List View) (place : ℕ) (v : WorkerSeatView) → ShowsSome z words views → get_elem? views place ≡ some (Worker v) → RunsJoined v.state → IsStep z (Retire v.worker) Done (Worker v) (Worker (retired_view v)) × ShowsSome z (set words 0 (bit_or (get_or words 0 0) (retirement_bit v.worker))) (set views place (Worker (retired_view v)))
+retires z words views place v some_state at joined =
+    let s = some_state.state in
+    let sh = some_state.shows in
+    let i = v.worker in
+    let runs = running_is IsJoined v.state joined in
+    let p = reached_in_phase z s some_state.reachable in
+    let lawful = shown_lawful z s sh.opening p (reached_unanswered z s some_state.reachable) in
+    let old : FitsWorker z s v = sh.each place (Worker v) at in
+    let here : s.state i ≡ Runs runs.0 = old.state ∙ runs.1 in
+    let present : runs.0 ≡ s.phase = p.runs i runs.0 here in
+    let even : IsJoined s.phase = subst IsJoined present runs.2 in
+    let fits : FitsWorker z (moved s i Gone) (retired_view v) =
+    record {
+      opening = old.opening;
+      there = old.there;
+      state = update-same s.state i Gone;
+      number = old.number;
+      ending = λ running _. absurd running;
+      labels = old.labels;
+      masks = old.masks;
+    }
+    in
+    let after_it : Shows z (moved s i Gone) (set words 0 (bit_or (get_or words 0 0) (retirement_bit i))) (set views place (Worker (retired_view v))) =
+    worker_moves z s words views place v (retired_view v) Gone (bit_or (get_or words 0 0) (retirement_bit i)) sh at refl
+    (ap (λ n. bit_or n (retirement_bit i)) sh.word ∙ word_retired z s i runs.0 lawful old.there here)
+    fits
+    (λ is. absurd (subst (IsIn s.phase) here is))
+    (λ odd _. absurd (omega arith))
+    in
+    let permits : Permits (numbers z s) (Retire i) =
+    record { there = old.there; suits = (here ∙ ap Runs present, even); leaves_last = tt; room = tt }
+    in (
+      record {
+        words = words;
+        views = views;
+        place = place;
+        state = s;
+        reachable = some_state.reachable;
+        shows = sh;
+        mine = at;
+        before = tt;
+        permits = permits;
+        tells = refl;
+        changed = 0;
+        word = bit_or (get_or words 0 0) (retirement_bit i);
+        shows_after = after_it;
+      },
+      record {
+        state = moved s i Gone;
+        reachable = goes_on_by z s (Retire i) some_state.reachable permits;
+        shows = after_it;
+        tallied =
+            tallied_on s (moved s i Gone) views place (Worker v) (Worker (retired_view v)) (omega arith) (λ _. refl) at (λ _. refl)
+            (λ _. refl) (λ _ _. refl) some_state.tallied;
+        places = places_same z.counts views place (Worker v) (Worker (retired_view v)) at (λ _. refl) (λ _. refl) (λ _ _ has. has) some_state.places;
+      },
+    )

@@ -1,0 +1,13 @@
+-- The core: what its events change, and what is so in every state that can be reached.
+pub mod Labels
+pub mod KeptWrites
+pub mod CoreWrites
+pub mod NumbersAfter
+pub mod EventLists
+pub mod Started
+pub mod Reached
+pub mod InPhase
+pub mod GivenLikes
+pub mod CoreReached
+pub mod Unanswered
+pub mod Adding

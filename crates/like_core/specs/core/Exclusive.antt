@@ -1,0 +1,34 @@
+use Rattle.std.specs.Prelude.{◌≡◌, ℕ, ◌+◌, ◌<◌, ◌≤◌, ◌⊎◌, true, []}
+use Rattle.like_core.specs.declared.worker_state.WorkerState.TheVariants.{Runs, Answered, Gone}
+use Rattle.like_core.specs.declared.opening.Opening.{Opening}
+use Rattle.like_core.specs.Phase.{last_phase, IsJoined, IsSplit}
+use Rattle.like_core.specs.core.State.{CoreState}
+use Rattle.like_core.specs.core.Reachable.{Reachable}
+
+-- no worker has unmerged likes
+abbrev pub NoneUnmerged : CoreState → Type 0
+NoneUnmerged s = (i : ℕ) → s.unmerged i ≡ []
+
+-- no worker runs a split phase
+abbrev pub NoneRunsSplit : CoreState → Type 0
+NoneRunsSplit s = (i phase : ℕ) → s.state i ≡ Runs phase → ¬ IsSplit phase
+
+-- while some worker runs a joined phase, no worker has unmerged likes and none runs a split phase
+abbrev pub IsExclusive : CoreState → Type 0
+IsExclusive s =
+    (i phase : ℕ) → s.state i ≡ Runs phase → IsJoined phase → NoneUnmerged s × NoneRunsSplit s
+
+-- who runs a phase runs the present one; who has answered one has answered the present one or the one before; who has
+-- unmerged likes runs the present phase, and that is split; who is no worker is gone; the last phase is never ending
+pub record IsInPhase (z : Opening) (s : CoreState) : Type 0 where
+  pub runs : (i phase : ℕ) → s.state i ≡ Runs phase → phase ≡ s.phase
+  pub answered : (i phase : ℕ) → s.state i ≡ Answered phase
+      → (phase ≡ s.phase) ⊎ (phase + 1 ≡ s.phase)
+  pub unmerged : (i : ℕ) → (s.unmerged i ≡ []) ⊎ ((s.state i ≡ Runs s.phase) × IsSplit s.phase)
+  pub outside : (i : ℕ) → z.workers ≤ i → s.state i ≡ Gone
+  pub within : s.phase ≤ last_phase
+  pub last : s.ending ≡ true → s.phase < last_phase
+
+-- every state that can be reached is exclusive, and in phase
+abbrev pub ReachableIsExclusive : Type 0
+ReachableIsExclusive = (z : Opening) (s : CoreState) → Reachable z s → IsExclusive s × IsInPhase z s

@@ -1,0 +1,23 @@
+use Rattle.std.specs.Prelude.{◌≡◌, ℕ, ◌<◌, Bool, List, [], length, slice_index, slice_index_or}
+use Rattle.like_core.specs.declared.worker_state.WorkerState.{WorkerState}
+use Rattle.like_core.specs.declared.worker_state.WorkerState.TheVariants.{Gone}
+use Rattle.like_core.specs.core.Numbers.{Numbers}
+use Rattle.like_core.specs.Phase.{is_marked}
+
+-- each of the rows has so many numbers
+abbrev pub AreRowsOf : ℕ → List (List ℕ) → Type 0
+AreRowsOf pages rows = (i : ℕ) → i < length rows → length (slice_index_or rows i []) ≡ pages
+
+-- the numbers that lists by worker and page keep; who is no worker is gone
+abbrev pub kept : ℕ → Bool → ℕ → List WorkerState → List (List ℕ) → List ℕ → List Bool → Numbers
+kept phase ending hot states unmerged counts marks = record {
+  workers = length unmerged;
+  pages = length counts;
+  marked = is_marked marks;
+  phase = phase;
+  ending = ending;
+  hot = hot;
+  state = λ i. slice_index_or states i Gone;
+  unmerged = λ i page. slice_index (slice_index_or unmerged i []) page;
+  count = λ page. slice_index counts page;
+}

@@ -1,0 +1,26 @@
+use Rattle.std.specs.Prelude.{◌≡◌, ℕ, ◌<◌, true, List, ◌++◌, length}
+use Rattle.like_core.specs.declared.worker_state.WorkerState.TheVariants.{Runs}
+use Rattle.like_core.specs.declared.opening.Opening.{Opening}
+use Rattle.like_core.specs.Limits.{total_bound}
+use Rattle.like_core.specs.Functions.{times}
+use Rattle.like_core.specs.core.Numbers.{total}
+use Rattle.like_core.specs.core.State.{CoreState, is_split_now, numbers}
+use Rattle.like_core.specs.core.Reachable.{Reachable}
+
+-- each worker has unmerged likes of these pages more
+abbrev pub given : CoreState → (ℕ → List ℕ) → CoreState
+given s more = record s { unmerged = λ i. s.unmerged i ++ more i }
+
+-- likes are given only to workers that run the present phase, of pages that are split in it, and with them the totals
+-- stay below their bound
+pub record MayLike (z : Opening) (s : CoreState) (more : ℕ → List ℕ) : Type 0 where
+  pub runs : (i page : ℕ) → 0 < times page (more i) → s.state i ≡ Runs s.phase
+  pub there : (i page : ℕ) → 0 < times page (more i) → page < length z.counts
+  pub splits : (i page : ℕ) → 0 < times page (more i) → is_split_now z s page ≡ true
+  pub totals : (page : ℕ) → total (numbers z (given s more)) page < total_bound
+
+-- a state that can be reached can also be reached with such likes
+abbrev pub LikesStayReachable : Type 0
+LikesStayReachable =
+    (z : Opening) (s : CoreState) (more : ℕ → List ℕ)
+    → Reachable z s → MayLike z s more → Reachable z (given s more)

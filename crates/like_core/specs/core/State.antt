@@ -1,0 +1,98 @@
+use Rattle.std.specs.Prelude.{ℕ, ◌+◌, ◌==◌, nat_lt, Bool, true, false, not, ◌&&◌, if◌then◌else◌, List, [], ◌∷◌, ◌++◌, length, filter, count_by, replicate, slice_index}
+use Rattle.like_core.specs.declared.worker_state.WorkerState.{WorkerState}
+use Rattle.like_core.specs.declared.worker_state.WorkerState.TheVariants.{Runs, Answered, Gone}
+use Rattle.like_core.specs.declared.event.Event.{Event}
+use Rattle.like_core.specs.declared.event.Event.TheVariants.{Look, Acknowledge, Report, Retire, Like, Read, Merge, Hot, CoordLook, CoordRead, Announce, Release}
+use Rattle.like_core.specs.declared.opening.Opening.{Opening}
+use Rattle.like_core.specs.Functions.{update, times}
+use Rattle.like_core.specs.Phase.{is_marked, split}
+use Rattle.like_core.specs.WorkerState.{looked}
+use Rattle.like_core.specs.core.Numbers.{Numbers}
+
+-- who ran a like, and in which phase
+pub record Label : Type 0 where
+  pub worker : ℕ
+  pub phase : ℕ
+
+-- how many likes of a list the worker ran in the phase
+abbrev pub labelled : ℕ → ℕ → List Label → ℕ
+labelled worker phase likes = count_by (λ l. (l.worker == worker) && (l.phase == phase)) likes
+
+-- a state of the core: the phase and whether its end was announced, the mask of each phase's hot pages, each worker's
+-- state, the pages of the likes that each worker has not merged, in the order of its likes, and the likes applied to
+-- each page
+pub record CoreState : Type 0 where
+  pub phase : ℕ
+  pub ending : Bool
+  pub hot : ℕ → ℕ
+  pub state : ℕ → WorkerState
+  pub unmerged : ℕ → List ℕ
+  pub applied : ℕ → List Label
+
+-- the label of a like that the worker runs now
+abbrev pub label_now : CoreState → ℕ → Label
+label_now s i = record { worker = i; phase = s.phase }
+
+-- the opening with these workers, counts and marks
+abbrev pub opening : ℕ → List ℕ → List Bool → Opening
+opening workers counts marks = record { workers = workers; counts = counts; marks = marks }
+
+-- the core at the start: each worker runs phase 0; who is no worker is gone; no phase has hot pages yet
+abbrev pub start : Opening → CoreState
+start z = record {
+  phase = 0;
+  ending = false;
+  hot = λ _. 0;
+  state = λ i. (if nat_lt i z.workers then Runs 0 else Gone);
+  unmerged = λ _. [];
+  applied = λ _. [];
+}
+
+-- the likes of other pages
+abbrev pub without : ℕ → List ℕ → List ℕ
+without page likes = filter (λ other. not (other == page)) likes
+
+-- whether the page is split in the present phase
+abbrev pub is_split_now : Opening → CoreState → ℕ → Bool
+is_split_now z s page = split (is_marked z.marks) s.hot s.phase page
+
+-- the state after the event
+abbrev pub after : Opening → CoreState → Event → CoreState
+after z s (Look i) = record s { state = update s.state i (looked s.phase (s.state i)) }
+after z s (Acknowledge i) = record s { state = update s.state i (Answered s.phase) }
+after z s (Report i) = record s { state = update s.state i (Answered s.phase) }
+after z s (Retire i) = record s { state = update s.state i Gone }
+after z s (Like i page) =
+    (if is_split_now z s page then
+    record s { unmerged = update s.unmerged i (s.unmerged i ++ page ∷ []) }
+    else
+    record s { applied = update s.applied page (s.applied page ++ label_now s i ∷ []) })
+after z s (Read i page) = s
+after z s (Merge i page) = record s {
+  unmerged = update s.unmerged i (without page (s.unmerged i));
+  applied = update s.applied page
+      (s.applied page ++ replicate (times page (s.unmerged i)) (label_now s i));
+}
+after z s (Hot i) = s
+after z s CoordLook = s
+after z s (CoordRead page) = s
+after z s Announce = record s { ending = true }
+after z s (Release mask) = record s {
+  phase = s.phase + 1;
+  ending = false;
+  hot = update s.hot (s.phase + 1) mask;
+}
+
+-- the numbers of a state: lengths of its lists, and the mask of its phase
+abbrev pub numbers : Opening → CoreState → Numbers
+numbers z s = record {
+  workers = z.workers;
+  pages = length z.counts;
+  marked = is_marked z.marks;
+  phase = s.phase;
+  ending = s.ending;
+  hot = s.hot s.phase;
+  state = s.state;
+  unmerged = λ i page. times page (s.unmerged i);
+  count = λ page. slice_index z.counts page + length (s.applied page);
+}

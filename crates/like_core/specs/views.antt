@@ -1,0 +1,8 @@
+-- What seats know of a board, what its words and all views show, and what calls change of it.
+pub mod Sights
+pub mod Views
+pub mod Reads
+pub mod Tallies
+pub mod Places
+pub mod Shows
+pub mod Actions

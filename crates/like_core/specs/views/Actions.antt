@@ -1,0 +1,56 @@
+-- What the calls at a board are: each leads a seat's view to another, and is one event, or the likes that it merges first.
+use Rattle.std.specs.Prelude.{ℕ}
+use Rattle.like_core.specs.declared.sight.Sight.{Sight}
+use Rattle.like_core.specs.declared.sight.CoordSight.{CoordSight}
+use Rattle.like_core.specs.declared.event.Event.TheVariants.{Look, Acknowledge, Report, Retire, Read, Hot, CoordLook, CoordRead, Announce, Release}
+use Rattle.like_core.specs.declared.shown.Shown.TheVariants.{Seen, Done, Old, Count, Hot as HotShown, Coord as CoordShown}
+use Rattle.like_core.specs.declared.view.WorkerSeatView.{WorkerSeatView}
+use Rattle.like_core.specs.declared.view.CoordSeatView.{CoordSeatView}
+use Rattle.like_core.specs.declared.view.View.TheVariants.{Coord, Worker}
+use Rattle.like_core.specs.views.Views.{likes_merged, adding, mask_released}
+use Rattle.like_core.specs.views.Shows.{IsStep, IsSteps}
+
+-- the worker looks at the phase word, and sees this
+abbrev pub Looks : WorkerSeatView → Sight → WorkerSeatView → Type 0
+Looks v sight w = IsStep v.opening (Look v.worker) (Seen sight) (Worker v) (Worker w)
+
+-- it acknowledges the end of a joined phase
+abbrev pub Acknowledges : WorkerSeatView → WorkerSeatView → Type 0
+Acknowledges v w = IsStep v.opening (Acknowledge v.worker) Done (Worker v) (Worker w)
+
+-- it reports the end of a split phase
+abbrev pub Reports : WorkerSeatView → WorkerSeatView → Type 0
+Reports v w = IsStep v.opening (Report v.worker) Done (Worker v) (Worker w)
+
+-- it retires
+abbrev pub Retires : WorkerSeatView → WorkerSeatView → Type 0
+Retires v w = IsStep v.opening (Retire v.worker) Done (Worker v) (Worker w)
+
+-- it adds n to a page's count, which was this before
+abbrev pub Adds : WorkerSeatView → ℕ → ℕ → ℕ → WorkerSeatView → Type 0
+Adds v page n count w =
+    IsSteps v.opening (likes_merged v page n) (adding v page) (Old count) (Worker v) (Worker w)
+
+-- it reads a page's count, which is this
+abbrev pub Reads : WorkerSeatView → ℕ → ℕ → WorkerSeatView → Type 0
+Reads v page count w = IsStep v.opening (Read v.worker page) (Count count) (Worker v) (Worker w)
+
+-- it reads the mask of its phase's hot pages, which is this
+abbrev pub ReadsMask : WorkerSeatView → ℕ → WorkerSeatView → Type 0
+ReadsMask v mask w = IsStep v.opening (Hot v.worker) (HotShown mask) (Worker v) (Worker w)
+
+-- the coordinator looks at the phase word, and sees this
+abbrev pub Surveys : CoordSeatView → CoordSight → CoordSeatView → Type 0
+Surveys c sight d = IsStep c.opening CoordLook (CoordShown sight) (Coord c) (Coord d)
+
+-- it reads a page's count, which is this
+abbrev pub Counts : CoordSeatView → ℕ → ℕ → CoordSeatView → Type 0
+Counts c page count d = IsStep c.opening (CoordRead page) (Count count) (Coord c) (Coord d)
+
+-- it announces the end of the phase
+abbrev pub Announces : CoordSeatView → CoordSeatView → Type 0
+Announces c d = IsStep c.opening Announce Done (Coord c) (Coord d)
+
+-- it releases the next phase, a split one with the mask that it published last
+abbrev pub Releases : CoordSeatView → CoordSeatView → Type 0
+Releases c d = IsStep c.opening (Release (mask_released c)) Done (Coord c) (Coord d)

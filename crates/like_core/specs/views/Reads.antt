@@ -1,0 +1,87 @@
+-- What stands of the counts that workers read, over a plain list of the views of all seats; and that it is kept.
+use Rattle.std.specs.Prelude.{◌≡◌, ℕ, ◌+◌, ◌≤◌, All, List, take, drop, length, slice_index, slice_set}
+use Rattle.std.specs.List.{sum_by}
+use mathlib.Core.Option.{some}
+use lib.ListN.{get_elem?}
+use Rattle.like_core.specs.declared.view.Addition.{Addition}
+use Rattle.like_core.specs.declared.view.PageRead.{PageRead}
+use Rattle.like_core.specs.declared.view.PageCount.{PageCount}
+use Rattle.like_core.specs.declared.view.WorkerSeatView.{WorkerSeatView}
+use Rattle.like_core.specs.declared.view.CoordSeatView.{CoordSeatView}
+use Rattle.like_core.specs.declared.view.View.{View}
+use Rattle.like_core.specs.declared.view.View.TheVariants.{Coord, Worker, Spent}
+use Rattle.like_core.specs.Additions.{added_in, added_before}
+use Rattle.like_core.specs.WorkerState.{phase_of}
+use Rattle.like_core.specs.views.Views.{added_view, read_view, gathered_coord}
+
+-- how much a view, or the views of seats that were given back, have added to a page in the phases before one
+abbrev pub before_in : ℕ → ℕ → View → ℕ
+before_in phase page (Coord c) = sum_by (λ v. added_before phase page v.additions) c.joined
+before_in phase page (Worker v) = added_before phase page v.additions
+before_in phase page Spent = 0
+
+-- how much all views have
+abbrev pub all_before : List View → ℕ → ℕ → ℕ
+all_before views phase page = sum_by (before_in phase page) views
+
+-- the count that a worker with these additions read, where all have added so much to a page before a phase, has the count
+-- at the start, all additions of earlier phases and the worker's own before in its phase; and it has none of a later
+-- phase, and none of the worker's own later ones
+pub record IsBetween (counts : List ℕ) (before : ℕ → ℕ → ℕ) (own : List Addition) (r : PageRead)
+    : Type 0 where
+  pub after : r.after ≤ length own
+  pub least : slice_index counts r.page + before r.phase r.page
+      + added_in r.phase r.page (take r.after own) ≤ r.count
+  pub most : r.count + added_in r.phase r.page (drop r.after own)
+      ≤ slice_index counts r.page + before (r.phase + 1) r.page
+
+-- each of a worker's reads is, and none is of a later phase than this
+abbrev pub AreBetween : List ℕ → (ℕ → ℕ → ℕ) → ℕ → List Addition → List PageRead → Type 0
+AreBetween counts before phase own reads =
+    All (λ r. (r.phase ≤ phase) × IsBetween counts before own r) reads
+
+-- the reads of a view are, and those of the views of seats that were given back
+abbrev pub HasReads : List ℕ → (ℕ → ℕ → ℕ) → ℕ → View → Type 0
+HasReads counts before phase (Coord c) =
+    (place : ℕ) (v : WorkerSeatView) → get_elem? c.joined place ≡ some v
+    → AreBetween counts before phase v.additions v.reads
+HasReads counts before phase (Worker v) = AreBetween counts before phase v.additions v.reads
+HasReads counts before phase Spent = Unit {0}
+
+-- in a phase, with these counts at the start, the reads of all views lie between what all views have added
+abbrev pub ReadsFit : List ℕ → ℕ → List View → Type 0
+ReadsFit counts phase views =
+    (place : ℕ) (view : View) → get_elem? views place ≡ some view
+    → HasReads counts (all_before views) phase view
+
+-- a count that the coordinator read is the one at the start and all that was added up to its phase
+abbrev pub IsCounted : List ℕ → (ℕ → ℕ → ℕ) → PageCount → Type 0
+IsCounted counts before r = r.count ≡ slice_index counts r.page + before (r.phase + 1) r.page
+
+-- an addition in the phase keeps it so
+abbrev pub AdditionKeepsReads : Type 0
+AdditionKeepsReads =
+    (counts : List ℕ) (views : List View) (place : ℕ) (v : WorkerSeatView) (page old n : ℕ)
+    → get_elem? views place ≡ some (Worker v)
+    → ReadsFit counts (phase_of v.state) views
+    → ReadsFit counts (phase_of v.state) (slice_set views place (Worker (added_view v page old n)))
+
+-- a read in the phase does, where the count is the one at the start and all that was added up to that phase
+abbrev pub ReadKeepsReads : Type 0
+ReadKeepsReads =
+    (counts : List ℕ) (views : List View) (place : ℕ) (v : WorkerSeatView) (page count : ℕ)
+    → get_elem? views place ≡ some (Worker v)
+    → count ≡ slice_index counts page + all_before views (phase_of v.state + 1) page
+    → ReadsFit counts (phase_of v.state) views
+    → ReadsFit counts (phase_of v.state) (slice_set views place (Worker (read_view v page count)))
+
+-- a worker's seat that is given back to the coordinator's does
+abbrev pub JoinKeepsReads : Type 0
+JoinKeepsReads =
+    (counts : List ℕ) (phase : ℕ) (views : List View) (place other : ℕ)
+    (c : CoordSeatView) (v : WorkerSeatView)
+    → get_elem? views place ≡ some (Coord c)
+    → get_elem? views other ≡ some (Worker v)
+    → ReadsFit counts phase views
+    → ReadsFit counts phase
+    (slice_set (slice_set views place (Coord (gathered_coord c v))) other Spent)

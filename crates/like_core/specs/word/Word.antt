@@ -1,0 +1,68 @@
+use Rattle.std.specs.Prelude.{◌≡◌, ℕ, ◌+◌, ◌*◌, ◌%◌, ◌^◌, ◌<◌, ◌≤◌, ◌↔◌, bit_and, ◌==◌, if◌then◌else◌}
+use Rattle.like_core.specs.declared.phase_word.kind.Kind.{Kind}
+use Rattle.like_core.specs.Limits.{max_workers}
+use Rattle.like_core.specs.word.Kind.{code_of}
+use Rattle.like_core.specs.Phase.{last_phase, IsJoined}
+
+-- the fields of a phase word as numbers: bit i of `answered` and of `retired` is worker i's
+pub record Fields : Type 0 where
+  pub kind : ℕ
+  pub workers : ℕ
+  pub answered : ℕ
+  pub retired : ℕ
+  pub number : ℕ
+
+-- the fields with these values
+abbrev pub word_fields : Kind → ℕ → ℕ → ℕ → ℕ → Fields
+word_fields kind workers answered retired number = record {
+  kind = code_of kind;
+  workers = workers;
+  answered = answered;
+  retired = retired;
+  number = number;
+}
+
+-- the word with these fields
+abbrev pub packed : Fields → ℕ
+packed f = f.kind + 4 * f.workers + 2 ^ 8 * f.answered + 2 ^ 24 * f.retired + 2 ^ 40 * f.number
+
+-- the bit of the word by which worker i acknowledges or reports
+abbrev pub answer_bit : ℕ → ℕ
+answer_bit i = 2 ^ (8 + i)
+
+-- the bit by which it retires
+abbrev pub retirement_bit : ℕ → ℕ
+retirement_bit i = 2 ^ (24 + i)
+
+-- the fields are those of a phase word
+pub record IsLawful (f : Fields) : Type 0 where
+  pub some_worker : 1 ≤ f.workers
+  pub few_workers : f.workers ≤ max_workers
+  pub answered : f.answered < 2 ^ f.workers
+  pub retired : f.retired < 2 ^ f.workers
+  pub apart : bit_and f.answered f.retired ≡ 0
+  pub kind : f.kind < 4
+  pub joined : (f.kind < 2) ↔ IsJoined f.number
+  pub running : f.kind % 2 ≡ 0 → f.answered ≡ 0
+  pub number : f.number ≤ last_phase
+  pub last : f.number ≡ last_phase → f.kind ≡ 0
+
+-- after the end of a running phase was announced
+abbrev pub announced : Fields → Fields
+announced f = record f { kind = f.kind + 1 }
+
+-- after worker i acknowledged or reported
+abbrev pub answered_by : Fields → ℕ → Fields
+answered_by f i = record f { answered = f.answered + 2 ^ i }
+
+-- after worker i retired
+abbrev pub retired_by : Fields → ℕ → Fields
+retired_by f i = record f { retired = f.retired + 2 ^ i }
+
+-- after the phase that follows an ending one was released
+abbrev pub released : Fields → Fields
+released f = record f {
+  kind = (if f.kind == 1 then 2 else 0);
+  answered = 0;
+  number = f.number + 1;
+}

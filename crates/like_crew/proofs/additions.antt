@@ -1,0 +1,5 @@
+-- The additions that a run leaves, and the looks beside them.
+pub mod AddedPages
+pub mod AddedPhases
+pub mod ReadsShown
+pub mod Tiled

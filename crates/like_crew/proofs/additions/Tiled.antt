@@ -1,0 +1,150 @@
+-- The places of the additions of a run that has ended.
+use Rattle.std.proofs.Common.{◌≡◌, ℕ, suc, ◌<◌, ◌≤◌, Bool, true, List, [], ◌∷◌, length, map, get_or, slice_get, count_by, Some, IfSome, refl, sym, ap, ◌∙◌, subst, arith, inl, inr}
+use Rattle.std.specs.List.{All, AllZip}
+use Rattle.std.proofs.lemmas.Bool.{cases_lt}
+use Rattle.std.proofs.lemmas.List.{get_or_past, length-map}
+use Rattle.std.proofs.lemmas.Option.{get_or_from_slice_get, slice_get-get_or, slice_get_within}
+use Rattle.like_requests.specs.Pages.{Page}
+use Rattle.like_requests.specs.Setup.{AreThere}
+use Rattle.like_requests.specs.declared.request.Request.{Request}
+use Rattle.like_requests.specs.declared.setup.Setup.{Setup}
+use Rattle.like_core.specs.declared.opening.Opening.{Opening}
+use Rattle.like_core.specs.declared.view.Addition.{Addition}
+use Rattle.like_core.specs.declared.view.PageRead.{PageRead}
+use Rattle.like_core.specs.views.Places.{ArePlaced, AreTiles, Counting}
+use Rattle.like_core.specs.Post.{PostView}
+use Rattle.like_board.specs.declared.worker_seat.WorkerSeat.{WorkerSeat}
+use Rattle.like_board.specs.Seats.{AreCounted, HavePlaces, HaveReadMasks, coord_view, last_count, seat_meaning, seats_passing}
+use Rattle.like_roles.specs.declared.log.Ran.{Ran}
+use Rattle.like_roles.specs.declared.log.WorkerLog.{WorkerLog}
+use Rattle.like_roles.specs.service.Adds.{AreOfLikes, addition_of, adds_before_looks}
+use Rattle.like_roles.specs.worker.Follows.{AreNoted}
+use Rattle.like_roles.specs.service.Likes.{initial_count}
+use Rattle.like_crew.specs.declared.ended.Ended.{Ended}
+use Rattle.like_crew.specs.declared.site.Site.{Site}
+use Rattle.like_crew.specs.Asked.{service_of}
+use Rattle.like_crew.specs.EndToEnd.{runs_of}
+use Rattle.like_crew.specs.Ended.{IsEnded, IsSeatOf}
+use Rattle.like_crew.specs.Server.{HasWorkedFor, IsLogOf, ServerView}
+use Rattle.like_crew.specs.Tiling.{additions_noted, logs_passing, reads_shown}
+use Rattle.like_crew.proofs.additions.AddedPages.{adds-there, none-liked}
+use Rattle.like_crew.proofs.additions.AddedPhases.{of-likes-same, ran-within}
+use Rattle.like_crew.proofs.lists.Pairs.{pairs-sum}
+use Rattle.like_crew.proofs.additions.ReadsShown.{reads-are}
+use Rattle.like_crew.proofs.Whole.{all-likes, hot_known, initial-at, known, left-at, logs-are, masks-known, right-at, right-at-server, served, server-at, z}
+
+-- what a log has noted, where its worker notes its additions
+pub record HasNoted (setup : Setup) (plans : List (List Request)) (site : Site) (e : Ended) (h : IsEnded setup plans site e) (s : ServerView) (log : WorkerLog) : Type 0 where
+  pub of_log : IsLogOf s log
+  pub worked : HasWorkedFor (known setup plans site e h) s
+  pub additions : s.worker.post.additions ≡ additions_noted log
+  pub adds : AreOfLikes (known setup plans site e h) log.ran.items log.adds.items
+  pub reads : map (λ r. r.after) s.worker.post.reads ≡ adds_before_looks (known setup plans site e h) log.adds.items log.ran.items
+
+module _ (setup : Setup) (plans : List (List Request)) (site : Site) (e : Ended) (h : IsEnded setup plans site e) (masks : HaveReadMasks (coord_view e.coord).masks e.seats.items)
+    (counted : AreCounted (coord_view e.coord) e.seats.items) (notes : site.notes ≡ true) where
+  -- the log of each worker has
+  noted-by : (worker : ℕ) (s : ServerView) (log : WorkerLog) → slice_get h.servers worker ≡ Some s → IsLogOf s log → HasNoted setup plans site e h s log
+  noted-by worker s log at of_log =
+      let is = server-at setup plans site e h worker s at in
+      let worked : HasWorkedFor (known setup plans site e h) s = (is.works (hot_known setup plans site e h), right-at-server setup plans site e h masks worker s at) in
+      let noted : AreNoted (known setup plans site e h) s.worker = of_log.noted (is.notes_are ∙ notes) (known setup plans site e h) worked in
+      record {
+        of_log = of_log;
+        worked = worked;
+        additions = noted.additions ∙ ap (map addition_of) (sym of_log.adds);
+        adds = subst (λ (ran : List Ran). AreOfLikes (known setup plans site e h) ran log.adds.items) (sym of_log.ran)
+            (subst (AreOfLikes (known setup plans site e h) s.worker.ran) (sym of_log.adds) noted.adds);
+        reads = noted.reads ∙ (λ i. adds_before_looks (known setup plans site e h) (sym of_log.adds i) (sym of_log.ran i));
+      }
+
+  noted-at : (worker : ℕ) (log : WorkerLog) → slice_get e.logs.items worker ≡ Some log → (s : ServerView) × ((slice_get h.servers worker ≡ Some s) × HasNoted setup plans site e h s log)
+  noted-at worker log at =
+      let s = left-at IsLogOf h.servers e.logs.items worker log h.logs at in
+      (s.0, (s.1.0, noted-by worker s.0 log s.1.0 s.1.1))
+
+  -- of its accepted likes
+  pub of-likes : All (λ seat. IfSome (seat_meaning seat).last (λ sight. sight.number ≤ (coord_view e.coord).phase)) e.seats.items
+      → All (λ log. AreOfLikes (served setup plans site e h) log.ran.items log.adds.items) e.logs.items
+  of-likes phases worker d within =
+      let log : WorkerLog = get_or e.logs.items worker d in
+      let at : slice_get e.logs.items worker ≡ Some log = slice_get-get_or e.logs.items worker d within in
+      let is = logs-are setup plans site e h masks counted phases worker log at in
+      of-likes-same (service_of setup plans) (hot_known setup plans site e h) (served setup plans site e h).hot e.phases (masks-known setup plans site e h masks counted) log.ran.items log.adds.items
+      (ran-within (served setup plans site e h) log.taken.items e.phases h.joined is.1 log.ran.items is.0.ran)
+      (noted-at worker log at).1.1.adds
+
+  -- to pages that are there
+  pub all-there : All (AreThere setup.pages) plans → All (λ log. All (λ a. a.page < length setup.pages) log.adds.items) e.logs.items
+  all-there there worker d within =
+      let log : WorkerLog = get_or e.logs.items worker d in
+      let n = noted-at worker log (slice_get-get_or e.logs.items worker d within) in
+      adds-there (known setup plans site e h) there n.0.worker.post.additions log.adds.items log.ran.items n.1.1.additions
+      (n.1.1.of_log.additions (known setup plans site e h) n.1.1.worked) n.1.1.adds.each
+
+  -- as many of the logs' additions pass a test as of the seats'
+  passing-same : (test : Addition → Bool) → seats_passing e.seats.items test ≡ logs_passing e.logs.items test
+  passing-same test =
+      sym (pairs-sum IsSeatOf (λ (s : ServerView). count_by test s.worker.post.additions) (λ (seat : WorkerSeat). count_by test (seat_meaning seat).additions) h.servers e.seats.items
+      (λ s seat m. ap (λ (p : PostView). count_by test p.additions) (sym m)) h.seats)
+      ∙ pairs-sum (λ (s : ServerView) (log : WorkerLog). s.worker.post.additions ≡ additions_noted log)
+      (λ (s : ServerView). count_by test s.worker.post.additions) (λ (log : WorkerLog). count_by test (additions_noted log)) h.servers e.logs.items (λ s log m. ap (count_by test) m) matched
+    where
+      matches : (ss : List ServerView) (logs : List WorkerLog) → ((i : ℕ) (s : ServerView) (log : WorkerLog) → slice_get ss i ≡ Some s → IsLogOf s log → s.worker.post.additions ≡ additions_noted log)
+          → AllZip IsLogOf ss logs → AllZip (λ (s : ServerView) (log : WorkerLog). s.worker.post.additions ≡ additions_noted log) ss logs
+      matches [] [] each all = tt
+      matches [] (log ∷ logs) each all = absurd all
+      matches (s ∷ ss) [] each all = absurd all
+      matches (s ∷ ss) (log ∷ logs) each all = (each 0 s log refl all.0, matches ss logs (λ i t l at of_log. each (suc i) t l at of_log) all.1)
+
+      matched : AllZip (λ (s : ServerView) (log : WorkerLog). s.worker.post.additions ≡ additions_noted log) h.servers e.logs.items
+      matched = matches h.servers e.logs.items (λ i s log at of_log. (noted-by i s log at of_log).additions) h.logs
+
+  -- each page's count at the start
+  first-same : (page : ℕ) → get_or (coord_view e.coord).opening.counts page 0 ≡ initial_count setup.pages page
+  first-same page = ap (λ (x : Opening). get_or x.counts page 0) h.opening ∙ initial-at (known setup plans site e h) page
+
+  module _ (there : All (AreThere setup.pages) plans) (counts : List ℕ) (sized : length counts ≡ length setup.pages)
+      (told : (page : ℕ) → page < length setup.pages → get_or counts page 0 ≡ last_count (coord_view e.coord).opening e.seats.items page) where
+    -- and its last one
+    last-same : (page : ℕ) → last_count (coord_view e.coord).opening e.seats.items page ≡ get_or counts page 0
+    last-same page = elim (cases_lt page (length setup.pages)) [
+      | inl within ↦ sym (told page within)
+      | inr past ↦
+          let none = get_or_past counts page 0 (omega arith) in
+          let start = ap (λ (x : Opening). get_or x.counts page 0) h.opening ∙ get_or_past (z setup plans site e h).counts page 0 (omega (arith, length-map setup.pages (λ (p : Page). p.count))) in
+          let added = all-likes setup plans site e h masks page ∙ none-liked (known setup plans site e h) there (runs_of e.logs.items) page past in
+          omega (arith, none, start, added)
+    ]
+
+    pub tiles-are : HavePlaces (coord_view e.coord).opening e.seats.items → AreTiles (initial_count setup.pages) (λ page. get_or counts page 0) (logs_passing e.logs.items)
+    tiles-are places =
+        let first : (λ page. get_or (coord_view e.coord).opening.counts page 0) ≡ initial_count setup.pages = λ i page. first-same page i in
+        let last : last_count (coord_view e.coord).opening e.seats.items ≡ (λ page. get_or counts page 0) = λ i page. last-same page i in
+        let passing : seats_passing e.seats.items ≡ logs_passing e.logs.items = λ i test. passing-same test i in
+        subst (λ (c : Counting). AreTiles (initial_count setup.pages) (λ page. get_or counts page 0) c) passing
+        (subst (λ (f : ℕ → ℕ). AreTiles (initial_count setup.pages) f (seats_passing e.seats.items)) last
+        (subst (λ (f : ℕ → ℕ). AreTiles f (last_count (coord_view e.coord).opening e.seats.items) (seats_passing e.seats.items)) first places.tiles))
+
+  -- the calls of each worker are placed
+  pub placed-are : HavePlaces (coord_view e.coord).opening e.seats.items
+      → All (λ log. ArePlaced (initial_count setup.pages) (logs_passing e.logs.items) (additions_noted log) (reads_shown (served setup plans site e h) log)) e.logs.items
+  placed-are places worker d within =
+      let log : WorkerLog = get_or e.logs.items worker d in
+      let n = noted-at worker log (slice_get-get_or e.logs.items worker d within) in
+      let seat = right-at IsSeatOf h.servers e.seats.items worker n.0 h.seats n.1.0 in
+      let P : PostView → Type 0 = λ p. ArePlaced (λ page. get_or (coord_view e.coord).opening.counts page 0) (seats_passing e.seats.items) p.additions p.reads in
+      let own : P (seat_meaning seat.0) =
+      subst (λ (x : WorkerSeat). P (seat_meaning x)) (get_or_from_slice_get e.seats.items worker seat.0 seat.0 seat.1.0)
+      (places.each worker seat.0 (slice_get_within e.seats.items worker seat.0 seat.1.0))
+      in
+      let post : P n.0.worker.post = subst P seat.1.1 own in
+      let first : (λ page. get_or (coord_view e.coord).opening.counts page 0) ≡ initial_count setup.pages = λ i page. first-same page i in
+      let passing : seats_passing e.seats.items ≡ logs_passing e.logs.items = λ i test. passing-same test i in
+      let reads : reads_shown (known setup plans site e h) log ≡ n.0.worker.post.reads =
+      reads-are (known setup plans site e h) log n.0.worker.post.additions n.0.worker.post.reads (n.1.1.of_log.looks (known setup plans site e h) n.1.1.worked) n.1.1.reads
+      in
+      subst (λ (c : Counting). ArePlaced (initial_count setup.pages) c (additions_noted log) (reads_shown (known setup plans site e h) log)) passing
+      (subst (λ (f : ℕ → ℕ). ArePlaced f (seats_passing e.seats.items) (additions_noted log) (reads_shown (known setup plans site e h) log)) first
+      (subst (λ (rs : List PageRead). ArePlaced (λ page. get_or (coord_view e.coord).opening.counts page 0) (seats_passing e.seats.items) (additions_noted log) rs) (sym reads)
+      (subst (λ (made : List Addition). ArePlaced (λ page. get_or (coord_view e.coord).opening.counts page 0) (seats_passing e.seats.items) made n.0.worker.post.reads) n.1.1.additions post)))

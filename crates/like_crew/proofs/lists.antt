@@ -1,0 +1,4 @@
+-- Lists: sums, pairs, and dealing out.
+pub mod Pairs
+pub mod Sums
+pub mod Deals

@@ -1,0 +1,9 @@
+-- A worker with its inboxes: how they begin, go on, agree and end.
+pub mod Shares
+pub mod Numbers
+pub mod Posts
+pub mod Sights
+pub mod Agreeing
+pub mod Later
+pub mod Finishing
+pub mod Leaving

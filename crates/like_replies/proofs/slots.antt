@@ -1,0 +1,6 @@
+-- The places of requests, and the answers at them.
+pub mod There
+pub mod Empty
+pub mod SlotPlaces
+pub mod Holding
+pub mod Collecting

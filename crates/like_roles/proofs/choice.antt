@@ -1,0 +1,4 @@
+-- The coordinator: its turns, its choices and its releases.
+pub mod Choosing
+pub mod Releasing
+pub mod Coordinating

@@ -1,0 +1,108 @@
+-- What the coordinator's turns keep.
+use Rattle.std.proofs.Common.{◌≡◌, ℕ, ◌≤◌, true, false, subst, ap, sym, ◌∙◌, arith}
+use Rattle.like_core.specs.declared.event.Event.TheVariants.{CoordLook}
+use Rattle.like_core.specs.declared.opening.Opening.{Opening}
+use Rattle.like_core.specs.declared.shown.Shown.{Shown}
+use Rattle.like_core.specs.declared.shown.Shown.TheVariants.{Coord as CoordShown}
+use Rattle.like_core.specs.declared.sight.CoordSight.{CoordSight}
+use Rattle.like_core.specs.declared.view.CoordSeatView.{CoordSeatView}
+use Rattle.like_core.specs.declared.view.View.{View}
+use Rattle.like_core.specs.declared.view.View.TheVariants.{Coord}
+use Rattle.like_core.specs.views.Views.{announced_coord}
+use Rattle.like_core.specs.Phase.{last_phase, IsJoined, IsSplit}
+use Rattle.like_core.specs.views.Shows.{FitsCoord, IsStep}
+use Rattle.like_core.proofs.core.InPhase.{reached_in_phase}
+use Rattle.like_roles.specs.declared.coord_turn.CoordTurn.{CoordTurn}
+use Rattle.like_roles.specs.declared.coord_turn.CoordTurn.TheVariants.{Ended}
+use Rattle.like_roles.proofs.choice.Choosing.{release-gone}
+use Rattle.like_roles.proofs.choice.Releasing.{release-on}
+use Rattle.like_roles.specs.coordinator.CoordTurns.{Acts, ends, counts, stays, announces, releases, waits, ChoseByCounts, CoordinatorView, CoordTurns, HasEndedJoined, IsBeforeEnd, IsCoordSight, looks, surveyed}
+
+-- no phase is above the last
+pub phase_within : (z : Opening) (shown : Shown) (c : CoordSeatView) (w : View) → IsStep z CoordLook shown (Coord c) w → c.phase ≤ last_phase
+phase_within z shown c w step =
+    let fits : FitsCoord z step.state c = step.shows.each step.place (Coord c) step.mine in
+    let within = (reached_in_phase z step.state step.reachable).within in
+    omega (arith, fits.phase)
+
+-- no turn releases a split phase after all are gone
+pub before_end : (v : CoordinatorView) (answer : CoordTurn) (after : CoordinatorView) → CoordTurns v answer after → IsBeforeEnd v → IsBeforeEnd after
+before_end v answer after t before = kept t.acts
+  where
+    kept : Acts (surveyed v t.word t.sight) t.sight answer after → IsBeforeEnd after
+    kept (ends g a e) = subst IsBeforeEnd (sym e) before
+    kept (counts g n l a e) = subst IsBeforeEnd (sym e) before
+    kept (stays g n l k a e) = subst IsBeforeEnd (sym e) before
+    kept (announces g n l k a e) = subst IsBeforeEnd (sym e) before
+    kept (releases g n i seat choice r a e) = subst IsBeforeEnd (sym e) (λ _. release-gone _ _ _ _ r ∙ g)
+    kept (waits g n i a e) = subst IsBeforeEnd (sym e) before
+
+-- a phase that is not split is joined
+joined : (phase : ℕ) → (IsSplit phase → ⊥) → IsJoined phase
+joined phase other = omega arith
+
+-- where the turn answers that all are gone, the phase is joined
+pub ended_joined : (v : CoordinatorView) (answer : CoordTurn) (after : CoordinatorView) → CoordTurns v answer after → IsBeforeEnd v → answer ≡ Ended → HasEndedJoined after
+ended_joined v answer after t before is = shown t.acts
+  where
+    shown : Acts (surveyed v t.word t.sight) t.sight answer after → HasEndedJoined after
+    shown (ends g a e) =
+        let at : HasEndedJoined (surveyed v t.word t.sight) =
+        record {
+          gone = g;
+          phase = t.shows.number;
+          joined = subst IsJoined (sym t.shows.number) (joined v.seat.phase (λ split. let clash : true ≡ false = sym (t.shows.all_gone split g) ∙ before split in cc));
+        }
+        in
+        subst HasEndedJoined (sym e) at
+    shown (counts g n l a e) = absurd (let clash = sym a ∙ is in cc)
+    shown (stays g n l k a e) = absurd (let clash = sym a ∙ is in cc)
+    shown (announces g n l k a e) = absurd (let clash = sym a ∙ is in cc)
+    shown (releases g n i seat choice r a e) = absurd (let clash = sym a ∙ is in cc)
+    shown (waits g n i a e) = absurd (let clash = sym a ∙ is in cc)
+
+-- the coordinator after a look
+pub record Looked (v w : CoordinatorView) (sight : CoordSight) : Type 0 where
+  pub shows : IsCoordSight v.seat sight
+  pub event : IsStep v.seat.opening CoordLook (CoordShown sight) (Coord v.seat) (Coord w.seat)
+  pub is : w ≡ surveyed v w.seat.word sight
+
+-- what it does then is a turn case
+pub by_case : (v w : CoordinatorView) (sight : CoordSight) (answer : CoordTurn) (after : CoordinatorView) → Looked v w sight → Acts w sight answer after → CoordTurns v answer after
+by_case v w sight answer after l acts = record {
+  word = w.seat.word;
+  sight = sight;
+  shows = l.shows;
+  event = looks (subst (λ (x : CoordinatorView). IsStep v.seat.opening CoordLook (CoordShown sight) (Coord v.seat) (Coord x.seat)) l.is l.event);
+  acts = subst (λ (x : CoordinatorView). Acts x sight answer after) l.is acts;
+}
+
+-- a turn steps on its own board
+pub same_board : (v : CoordinatorView) (answer : CoordTurn) (after : CoordinatorView) → CoordTurns v answer after → after.board ≡ v.board
+same_board v answer after t = kept t.acts
+  where
+    kept : Acts (surveyed v t.word t.sight) t.sight answer after → after.board ≡ v.board
+    kept (ends g a e) = ap (λ (x : CoordinatorView). x.board) e
+    kept (counts g n l a e) = ap (λ (x : CoordinatorView). x.board) e
+    kept (stays g n l k a e) = ap (λ (x : CoordinatorView). x.board) e
+    kept (announces g n l k a e) = ap (λ (x : CoordinatorView). x.board) e
+    kept (releases g n i seat choice r a e) = ap (λ (x : CoordinatorView). x.board) e
+    kept (waits g n i a e) = ap (λ (x : CoordinatorView). x.board) e
+
+-- a turn keeps that it chose by its counts
+pub chose-on : (v : CoordinatorView) (answer : CoordTurn) (after : CoordinatorView) → CoordTurns v answer after → ChoseByCounts v → ChoseByCounts after
+chose-on v answer after t old = kept t.acts
+  where
+    looked : ChoseByCounts (surveyed v t.word t.sight)
+    looked total all = let h = old total all in record { masks = h.masks; chosen = h.chosen; sized = h.sized; before = h.before }
+
+    announced : ChoseByCounts (record (surveyed v t.word t.sight) { seat = announced_coord (surveyed v t.word t.sight).seat })
+    announced total all = let h = old total all in record { masks = h.masks; chosen = h.chosen; sized = h.sized; before = h.before }
+
+    kept : Acts (surveyed v t.word t.sight) t.sight answer after → ChoseByCounts after
+    kept (ends g a e) = subst ChoseByCounts (sym e) looked
+    kept (counts g n l a e) = subst ChoseByCounts (sym e) looked
+    kept (stays g n l k a e) = subst ChoseByCounts (sym e) looked
+    kept (announces g n l k a e) = subst ChoseByCounts (sym e) announced
+    kept (releases g n i seat choice r a e) = subst ChoseByCounts (sym e) (release-on (surveyed v t.word t.sight).seat seat v.choice choice r looked)
+    kept (waits g n i a e) = subst ChoseByCounts (sym e) looked

@@ -1,0 +1,4 @@
+-- The additions that a worker notes.
+pub mod Noted
+pub mod Noting
+pub mod NotedMerge

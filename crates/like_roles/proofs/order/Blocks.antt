@@ -1,0 +1,175 @@
+-- How the blocks of run order grow.
+use Rattle.std.proofs.Common.{◌≡◌, ◌≢◌, ℕ, zero, suc, ◌+◌, ◌-◌, ◌<◌, ◌≤◌, ◌%◌, Bool, true, false, eqb, ◌&&◌, List, [], ◌∷◌, ◌++◌, Option, Some, None, refl, ap, sym, ◌∙◌, arith, add-one, append-nil, append_assoc}
+use Rattle.std.proofs.lemmas.Bool.{eqb-true, ne_eqb, eq-eqb}
+use Rattle.std.proofs.lemmas.Grind.{flat_map-append}
+use Rattle.std.proofs.lemmas.List.{map-append}
+use Rattle.std.proofs.lemmas.List.Elements.{filter-append}
+use Rattle.std.specs.List.{AllByRecursion, filter, flat_map, range_with_len}
+use Rattle.std.specs.Option.{option_map_or}
+use Rattle.like_requests.specs.Verdict.{is_accepted}
+use Rattle.like_requests.specs.declared.request.Request.{Request}
+use Rattle.like_roles.specs.declared.log.Took.{Took}
+use Rattle.like_roles.specs.service.Order.{block, entry_in, is_due, is_prompt, order, order_below, phases_of, took_to_wait, waits}
+use Rattle.like_roles.specs.service.Replies.{page_looked_at}
+use Rattle.like_roles.specs.service.Service.{Service, is_split_in, request_at}
+
+-- what neither is due nor prompt in a phase changes no block of it
+pub block-other : (service : Service) (xs : List Took) (t : Took) (k : ℕ) → is_due service k t ≡ false → is_prompt service k t ≡ false → block service (xs ++ t ∷ []) k ≡ block service xs k
+block-other service xs t k d p = simp (filter-append, d, p, append-nil)
+
+-- what runs in the phase of taking comes last in its block
+pub block-prompt : (service : Service) (xs : List Took) (t : Took) (k : ℕ) → is_due service k t ≡ false → is_prompt service k t ≡ true
+    → block service (xs ++ t ∷ []) k ≡ block service xs k ++ entry_in k false t ∷ []
+block-prompt service xs t k d p = simp (filter-append, d, p, append-nil, map-append, append_assoc)
+
+-- what has to wait comes last in the next block, as long as nothing was taken in that phase
+pub block-due : (service : Service) (xs : List Took) (t : Took) (k : ℕ) → is_due service k t ≡ true → is_prompt service k t ≡ false → filter (is_prompt service k) xs ≡ []
+    → block service (xs ++ t ∷ []) k ≡ block service xs k ++ entry_in k true t ∷ []
+block-due service xs t k d p none = simp (filter-append, d, p, none, append-nil, map-append)
+
+-- nothing waits in a joined phase
+pub waits-joined : (service : Service) (k submitter : ℕ) (r : Request) → k % 2 ≡ 0 → waits service k submitter r ≡ false
+waits-joined service k submitter r j = of_test (is_accepted service.users _ submitter r) (page_looked_at r.op r.page) where
+  even : eqb (k % 2) 1 ≡ false
+  even = rw j refl
+
+  of_test : (b : Bool) (o : Option ℕ) → (b && option_map_or (is_split_in service k) o false) ≡ false
+  of_test false o = refl
+  of_test true None = refl
+  of_test true (Some page) = rw even refl
+
+pub took_to_wait-joined : (service : Service) (t : Took) → t.phase % 2 ≡ 0 → took_to_wait service t ≡ false
+took_to_wait-joined service t j = of_request (request_at service t.submitter t.number) where
+  of_request : (o : Option Request) → option_map_or (waits service t.phase t.submitter) o false ≡ false
+  of_request None = refl
+  of_request (Some r) = waits-joined service t.phase t.submitter r j
+
+-- what was taken before phase m runs in m at the latest
+pub nothing_prompt : (service : Service) (xs : List Took) (m k : ℕ) → AllByRecursion (λ t. t.phase + 1 ≤ m) xs → m ≤ k → filter (is_prompt service k) xs ≡ []
+nothing_prompt service [] m k all h = refl
+nothing_prompt service (t ∷ xs) m k all h =
+    let other : eqb t.phase k ≡ false = ne_eqb t.phase k (λ e. absurd (omega (arith, all.0))) in
+    rw other (nothing_prompt service xs m k all.1 h)
+
+pub nothing_due : (service : Service) (xs : List Took) (m k : ℕ) → AllByRecursion (λ t. t.phase + 1 ≤ m) xs → m < k → filter (is_due service k) xs ≡ []
+nothing_due service [] m k all h = refl
+nothing_due service (t ∷ xs) m k all h =
+    let other : eqb (t.phase + 1) k ≡ false = ne_eqb (t.phase + 1) k (λ e. absurd (omega (arith, all.0))) in
+    rw other (nothing_due service xs m k all.1 h)
+
+-- nothing is due after a joined phase
+pub nothing_due-joined : (service : Service) (xs : List Took) (p : ℕ) → p % 2 ≡ 0 → filter (is_due service (p + 1)) xs ≡ []
+nothing_due-joined service [] p j = refl
+nothing_due-joined service (t ∷ xs) p j = rw (not_due (eqb (t.phase + 1) (p + 1)) refl) (nothing_due-joined service xs p j) where
+  not_due : (b : Bool) → eqb (t.phase + 1) (p + 1) ≡ b → is_due service (p + 1) t ≡ false
+  not_due false e = rw e refl
+  not_due true e =
+      let same : t.phase ≡ p = omega (arith, eqb-true (t.phase + 1) (p + 1) e) in
+      rw (e, took_to_wait-joined service t (ap (λ x. x % 2) same ∙ j)) refl
+
+-- the block after a joined phase is empty as long as nothing later was taken
+pub block-after_joined : (service : Service) (xs : List Took) (p : ℕ) → AllByRecursion (λ t. t.phase + 1 ≤ p + 1) xs → p % 2 ≡ 0 → block service xs (p + 1) ≡ []
+block-after_joined service xs p all j = rw (nothing_due-joined service xs p j, nothing_prompt service xs (p + 1) (p + 1) all (omega arith)) refl
+
+-- a block that is later still is empty
+pub block-later : (service : Service) (xs : List Took) (m k : ℕ) → AllByRecursion (λ t. t.phase + 1 ≤ m) xs → m < k → block service xs k ≡ []
+block-later service xs m k all h = rw (nothing_due service xs m k all h, nothing_prompt service xs m k all (omega arith)) refl
+
+-- one more number of a range
+range_more : (a n : ℕ) → range_with_len a (suc n) ≡ range_with_len a n ++ (a + n) ∷ []
+range_more a zero = ap (λ x. x ∷ []) (omega arith)
+range_more a (suc n) =
+    let e : (a + 1) + n ≡ a + suc n = omega arith in
+    ap (λ xs. a ∷ xs) (range_more (a + 1) n) ∙ ap (λ x. a ∷ (range_with_len (a + 1) n ++ x ∷ [])) e
+
+-- one more block
+pub order_below-suc : (service : Service) (xs : List Took) (n : ℕ) → order_below service xs (suc n) ≡ order_below service xs n ++ block service xs n
+order_below-suc service xs n =
+    ap (flat_map (block service xs)) (range_more 0 n)
+    ∙ flat_map-append (block service xs) (range_with_len 0 n) ((0 + n) ∷ [])
+    ∙ ap (λ k. order_below service xs n ++ (block service xs k ++ [])) (omega arith)
+    ∙ ap (λ ys. order_below service xs n ++ ys) (append-nil _)
+
+pub order_below-more : (service : Service) (xs : List Took) (n : ℕ) → order_below service xs (n + 1) ≡ order_below service xs n ++ block service xs n
+order_below-more service xs n = ap (λ k. order_below service xs k) (add-one n) ∙ order_below-suc service xs n
+
+-- lists with the same first blocks have the same order up to them
+pub order_below-alike : (service : Service) (xs ys : List Took) (n : ℕ) → ((k : ℕ) → k < n → block service xs k ≡ block service ys k) → order_below service xs n ≡ order_below service ys n
+order_below-alike service xs ys zero h = refl
+order_below-alike service xs ys (suc n) h =
+    order_below-suc service xs n
+    ∙ ap (λ zs. zs ++ block service xs n) (order_below-alike service xs ys n (λ k l. h k (omega arith)))
+    ∙ ap (λ zs. order_below service ys n ++ zs) (h n (omega arith))
+    ∙ sym (order_below-suc service ys n)
+
+-- a test that fails on one side
+and-false : (b : Bool) → (b && false) ≡ false
+and-false true = refl
+and-false false = refl
+
+-- what is taken in a phase is neither due nor prompt in an earlier one
+not_due-before : (service : Service) (t : Took) (k : ℕ) → k < t.phase + 1 → is_due service k t ≡ false
+not_due-before service t k h = let other : eqb (t.phase + 1) k ≡ false = ne_eqb (t.phase + 1) k (λ e. absurd (omega arith)) in rw other refl
+
+not_prompt-other : (service : Service) (t : Took) (k : ℕ) → t.phase ≢ k → is_prompt service k t ≡ false
+not_prompt-other service t k h = rw (ne_eqb t.phase k h) refl
+
+not_prompt-waits : (service : Service) (t : Took) (k : ℕ) → took_to_wait service t ≡ true → is_prompt service k t ≡ false
+not_prompt-waits service t k w = rw w (and-false (eqb t.phase k))
+
+-- what runs in the phase of taking is the last of the order up to that phase
+pub order_below-prompt : (service : Service) (xs : List Took) (t : Took) → took_to_wait service t ≡ false
+    → order_below service (xs ++ t ∷ []) (t.phase + 1) ≡ order_below service xs (t.phase + 1) ++ entry_in t.phase false t ∷ []
+order_below-prompt service xs t w =
+    let prompt : is_prompt service t.phase t ≡ true = rw (eq-eqb t.phase t.phase refl, w) refl in
+    order_below-more service (xs ++ t ∷ []) t.phase
+    ∙ ap (λ zs. zs ++ block service (xs ++ t ∷ []) t.phase)
+    (order_below-alike service (xs ++ t ∷ []) xs t.phase (λ k h. block-other service xs t k (not_due-before service t k (omega arith)) (not_prompt-other service t k (λ e. absurd (omega arith)))))
+    ∙ ap (λ zs. order_below service xs t.phase ++ zs) (block-prompt service xs t t.phase (not_due-before service t t.phase (omega arith)) prompt)
+    ∙ sym (append_assoc (order_below service xs t.phase) (block service xs t.phase) (entry_in t.phase false t ∷ []))
+    ∙ ap (λ zs. zs ++ entry_in t.phase false t ∷ []) (sym (order_below-more service xs t.phase))
+
+-- and changes nothing of the next block
+pub block-next-prompt : (service : Service) (xs : List Took) (t : Took) → took_to_wait service t ≡ false → block service (xs ++ t ∷ []) (t.phase + 1) ≡ block service xs (t.phase + 1)
+block-next-prompt service xs t w =
+    let due : is_due service (t.phase + 1) t ≡ false = rw w (and-false (eqb (t.phase + 1) (t.phase + 1))) in
+    block-other service xs t (t.phase + 1) due (not_prompt-other service t (t.phase + 1) (λ e. absurd (omega arith)))
+
+-- what has to wait changes nothing of the order up to its phase
+pub order_below-waits : (service : Service) (xs : List Took) (t : Took) → took_to_wait service t ≡ true
+    → order_below service (xs ++ t ∷ []) (t.phase + 1) ≡ order_below service xs (t.phase + 1)
+order_below-waits service xs t w =
+    order_below-alike service (xs ++ t ∷ []) xs (t.phase + 1) (λ k h. block-other service xs t k (not_due-before service t k h) (not_prompt-waits service t k w))
+
+-- and is the last of the next block, as long as nothing was taken in that phase
+pub block-next-waits : (service : Service) (xs : List Took) (t : Took) → took_to_wait service t ≡ true → AllByRecursion (λ s. s.phase + 1 ≤ t.phase + 1) xs
+    → block service (xs ++ t ∷ []) (t.phase + 1) ≡ block service xs (t.phase + 1) ++ entry_in (t.phase + 1) true t ∷ []
+block-next-waits service xs t w all =
+    let due : is_due service (t.phase + 1) t ≡ true = rw (eq-eqb (t.phase + 1) (t.phase + 1) refl, w) refl in
+    block-due service xs t (t.phase + 1) due (not_prompt-waits service t (t.phase + 1) w) (nothing_prompt service xs (t.phase + 1) (t.phase + 1) all (omega arith))
+
+-- each phase of taking is below the number of phases
+phases_of-bounds : (xs : List Took) (n : ℕ) → phases_of xs ≤ n → AllByRecursion (λ t. t.phase + 1 ≤ n) xs
+phases_of-bounds [] n h = tt
+phases_of-bounds (t ∷ xs) n h = (omega arith, phases_of-bounds xs n (omega arith))
+
+pub phases_of-within : (xs : List Took) (n : ℕ) → AllByRecursion (λ t. t.phase + 1 ≤ n) xs → phases_of xs ≤ n
+phases_of-within [] n all = omega arith
+phases_of-within (t ∷ xs) n all = omega (arith, all.0, phases_of-within xs n all.1)
+
+-- more blocks than the run order has add nothing
+order-more : (service : Service) (xs : List Took) (d : ℕ) → order_below service xs ((phases_of xs + 1) + d) ≡ order service xs
+order-more service xs zero = let e : (phases_of xs + 1) + 0 ≡ phases_of xs + 1 = omega arith in ap (λ n. order_below service xs n) e
+order-more service xs (suc d) =
+    let m = (phases_of xs + 1) + d in
+    let e : (phases_of xs + 1) + suc d ≡ suc m = omega arith in
+    ap (λ n. order_below service xs n) e
+    ∙ order_below-suc service xs m
+    ∙ ap (λ zs. order_below service xs m ++ zs) (block-later service xs (phases_of xs) m (phases_of-bounds xs (phases_of xs) (omega arith)) (omega arith))
+    ∙ append-nil _
+    ∙ order-more service xs d
+
+pub order-enough : (service : Service) (xs : List Took) (n : ℕ) → phases_of xs + 1 ≤ n → order_below service xs n ≡ order service xs
+order-enough service xs n h =
+    let e : n ≡ (phases_of xs + 1) + (n - (phases_of xs + 1)) = omega arith in
+    ap (λ k. order_below service xs k) e ∙ order-more service xs (n - (phases_of xs + 1))

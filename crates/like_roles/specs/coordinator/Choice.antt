@@ -1,0 +1,88 @@
+-- How the coordinator chooses hot pages: by how much the counts of pages rose since its last choice.
+use Rattle.std.specs.Prelude.{◌≡◌, ℕ, zero, suc, ◌+◌, ◌-◌, ◌%◌, ◌<◌, ◌≤◌, nat_lt, nat_le, Bool, if◌then◌else◌, List, [], ◌∷◌, ◌++◌, length, min, take, slice_index, All, Option, Some, None}
+use Rattle.like_core.specs.declared.view.CoordSeatView.{CoordSeatView}
+use Rattle.like_core.specs.declared.view.PageCount.{PageCount}
+use Rattle.like_core.specs.Limits.{hot_pages}
+use Rattle.like_core.specs.Phase.{IsJoined, IsSplit}
+use Rattle.like_core.specs.PhaseMasks.{mask_of}
+use Rattle.like_core.specs.word.ShownWord.{mask}
+use Rattle.like_core.specs.views.Views.{counted_coord, published_coord, released_coord}
+use Rattle.like_roles.specs.declared.chosen.Chosen.{Chosen}
+use Rattle.like_roles.specs.service.HotPages.{chosen_below, hot_by, max_chosen}
+
+-- what the coordinator chooses by: how many likes make a page hot, if any do; the counts at its last choice of the pages
+-- that may be hot; and the choices of some page, in order
+pub record ChoiceView : Type 0 where
+  pub hot : Option ℕ
+  pub before : List ℕ
+  pub chosen : List Chosen
+
+-- what it begins with, where these are the pages' counts at the start
+abbrev pub first_choice : Option ℕ → List ℕ → ChoiceView
+first_choice hot counts =
+    record { hot = hot; before = take (min hot_pages (length counts)) counts; chosen = [] }
+
+-- what the coordinator's seat knows after it read these counts, of the pages from this one on
+abbrev pub counted_from : CoordSeatView → ℕ → List ℕ → CoordSeatView
+counted_from c page [] = c
+counted_from c page (count ∷ counts) = counted_from (counted_coord c page count) (page + 1) counts
+
+-- whether a page's count rose by at least so many
+abbrev pub has_risen : ℕ → List ℕ → List ℕ → ℕ → Bool
+has_risen least before counts page =
+    nat_le least (slice_index counts page - slice_index before page)
+
+-- the mask of the pages whose counts rose by at least so many
+abbrev pub risen : ℕ → List ℕ → List ℕ → ℕ
+risen least before counts = mask (has_risen least before counts) (length before)
+
+-- the mask that is published: that one, as long as fewer than 1,024 choices were of some page
+abbrev pub within_limit : List Chosen → ℕ → ℕ
+within_limit chosen m = (if nat_lt (length chosen) max_chosen then m else 0)
+
+-- the choices with that of this mask, where it is of some page
+abbrev pub with_chosen : List Chosen → ℕ → ℕ → List Chosen
+with_chosen chosen phase m =
+    chosen ++ (if nat_lt 0 m then record { phase = phase; mask = m } ∷ [] else [])
+
+-- the coordinator chooses the hot pages of the split phase that comes next and publishes them: none where none are to be
+-- hot; else it reads the counts of the pages that may be, and chooses those whose counts rose enough
+pub data Chooses (c : CoordSeatView) (v : ChoiceView) (d : CoordSeatView) (w : ChoiceView) : Type 0 where
+  chooses_none : v.hot ≡ None → d ≡ published_coord c 0 → w ≡ v → Chooses c v d w
+  chooses_risen : (least : ℕ) (counts : List ℕ) → v.hot ≡ Some least → length counts ≡ length v.before
+      → (m : ℕ) → m ≡ within_limit v.chosen (risen least v.before counts)
+      → d ≡ published_coord (counted_from c 0 counts) m
+      → w ≡ record v { before = counts; chosen = with_chosen v.chosen (c.phase + 1) m }
+      → Chooses c v d w
+
+-- the coordinator releases the next phase: before a split one it chooses that phase's hot pages
+pub data ReleasesNext (c : CoordSeatView) (v : ChoiceView) (d : CoordSeatView) (w : ChoiceView) : Type 0 where
+  releases_split : IsJoined c.phase → (ready : CoordSeatView) → Chooses c v ready w
+      → d ≡ released_coord ready → ReleasesNext c v d w
+  releases_joined : IsSplit c.phase → d ≡ released_coord c → w ≡ v → ReleasesNext c v d w
+
+-- each count that was read is the total of its page at the end of its phase
+abbrev pub AreTotals : (ℕ → ℕ → ℕ) → List PageCount → Type 0
+AreTotals total counted = All (λ r. r.count ≡ total r.phase r.page) counted
+
+-- a page's total when the coordinator chose last before it came to a phase, and at first its count at the start
+abbrev pub total_before : List ℕ → (ℕ → ℕ → ℕ) → ℕ → ℕ → ℕ
+total_before counts total zero page = slice_index counts page
+total_before counts total (suc phase) page = total (phase - phase % 2) page
+
+-- how many likes a page got between the last two choices before a split phase
+abbrev pub likes_counted : List ℕ → (ℕ → ℕ → ℕ) → ℕ → ℕ → ℕ
+likes_counted counts total phase page =
+    total (phase - 1) page - total_before counts total (phase - 1) page
+
+-- what was chosen and released, where these are the totals: each mask is that of the pages that got enough likes by them,
+-- all choices of some page are noted, and the counts of the last choice are kept
+pub record HasChosen (c : CoordSeatView) (v : ChoiceView) (total : ℕ → ℕ → ℕ) : Type 0 where
+  pub masks : let got = likes_counted c.opening.counts total in
+      (phase : ℕ) → phase ≤ c.phase
+      → mask_of c.masks phase ≡ hot_by v.hot (length c.opening.counts) got phase
+  pub chosen : let got = likes_counted c.opening.counts total in
+      v.chosen ≡ chosen_below (hot_by v.hot (length c.opening.counts) got) (c.phase + 1)
+  pub sized : length v.before ≡ min hot_pages (length c.opening.counts)
+  pub before : (least : ℕ) → v.hot ≡ Some least → (page : ℕ) → page < length v.before
+      → slice_index v.before page ≡ total_before c.opening.counts total c.phase page

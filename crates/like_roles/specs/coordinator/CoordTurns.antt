@@ -1,0 +1,79 @@
+-- The turns of the coordinator, case by case.
+use Rattle.std.specs.Prelude.{◌≡◌, ℕ, ◌-◌, ◌<◌, true, false, IsSomeAnd}
+use Rattle.like_core.specs.declared.sight.CoordSight.{CoordSight}
+use Rattle.like_core.specs.declared.view.CoordSeatView.{CoordSeatView}
+use Rattle.like_core.specs.Phase.{last_phase, IsJoined, IsSplit}
+use Rattle.like_core.specs.views.Actions.{Surveys}
+use Rattle.like_core.specs.views.Views.{announced_coord, looked_coord}
+use Rattle.like_board.specs.Seats.{BoardId}
+use Rattle.like_roles.specs.declared.coord_turn.CoordTurn.{CoordTurn}
+use Rattle.like_roles.specs.declared.coord_turn.CoordTurn.TheVariants.{Counted, Announced, Waiting, Released, Ended, Stays}
+use Rattle.like_roles.specs.coordinator.Choice.{AreTotals, ChoiceView, HasChosen, ReleasesNext}
+
+-- the coordinator as contracts see it: its board; what its seat knows; how many turns it counts in each phase, and how
+-- many of them the present phase has left; the phase of its last look; and what it chooses hot pages by
+pub record CoordinatorView : Type 0 where
+  pub board : BoardId
+  pub seat : CoordSeatView
+  pub turns : ℕ
+  pub left : ℕ
+  pub phase : ℕ
+  pub choice : ChoiceView
+
+-- what a look can show: the present phase, and whether it is ending; all in, once a look at this phase showed that; and
+-- all gone in a split phase only where the last sight before its release showed that
+pub record IsCoordSight (c : CoordSeatView) (sight : CoordSight) : Type 0 where
+  pub number : sight.number ≡ c.phase
+  pub ending : sight.ending ≡ c.ending
+  pub all_in : c.all_in ≡ true → sight.all_in ≡ true
+  pub all_gone : IsSplit c.phase → sight.all_gone ≡ true → c.gone ≡ true
+
+-- the coordinator after a look at a word
+abbrev pub surveyed : CoordinatorView → ℕ → CoordSight → CoordinatorView
+surveyed v word sight = record v { seat = looked_coord v.seat word sight; phase = sight.number }
+
+-- what the coordinator does that saw this: the answer, and the coordinator after
+pub data Acts (v : CoordinatorView) (sight : CoordSight) (answer : CoordTurn)
+    (after : CoordinatorView) : Type 0 where
+  ends : sight.all_gone ≡ true → answer ≡ Ended → after ≡ v → Acts v sight answer after
+  counts : sight.all_gone ≡ false → sight.ending ≡ false → 0 < v.left
+      → answer ≡ Counted → after ≡ record v { left = v.left - 1 } → Acts v sight answer after
+  stays : sight.all_gone ≡ false → sight.ending ≡ false → v.left ≡ 0 → sight.number ≡ last_phase
+      → answer ≡ Stays → after ≡ v → Acts v sight answer after
+  announces : sight.all_gone ≡ false → sight.ending ≡ false → v.left ≡ 0 → sight.number < last_phase
+      → answer ≡ Announced → after ≡ record v { seat = announced_coord v.seat }
+      → Acts v sight answer after
+  releases : sight.all_gone ≡ false → sight.ending ≡ true → sight.all_in ≡ true
+      → (seat : CoordSeatView) (choice : ChoiceView) → ReleasesNext v.seat v.choice seat choice
+      → answer ≡ Released → after ≡ record v { seat = seat; choice = choice; left = v.turns }
+      → Acts v sight answer after
+  waits : sight.all_gone ≡ false → sight.ending ≡ true → sight.all_in ≡ false
+      → answer ≡ Waiting → after ≡ v → Acts v sight answer after
+
+-- a look of the seat at this word is the event of the core, and shows what the core shows
+pub data IsLook (c : CoordSeatView) (word : ℕ) (sight : CoordSight) : Type 0 where
+  looks : Surveys c sight (looked_coord c word sight) → IsLook c word sight
+
+-- turn case of the coordinator: it looks, and does what the sight asks for; its answer, and the coordinator after
+pub record CoordTurns (v : CoordinatorView) (answer : CoordTurn) (after : CoordinatorView)
+    : Type 0 where
+  pub word : ℕ
+  pub sight : CoordSight
+  pub shows : IsCoordSight v.seat sight
+  pub event : IsLook v.seat word sight
+  pub acts : Acts (surveyed v word sight) sight answer after
+
+-- no split phase was released after a look showed all workers gone
+abbrev pub IsBeforeEnd : CoordinatorView → Type 0
+IsBeforeEnd v = IsSplit v.seat.phase → v.seat.gone ≡ false
+
+-- its last look showed all workers gone, in a joined phase
+pub record HasEndedJoined (v : CoordinatorView) : Type 0 where
+  pub gone : IsSomeAnd v.seat.last (λ sight. sight.all_gone ≡ true)
+  pub phase : v.phase ≡ v.seat.phase
+  pub joined : IsJoined v.phase
+
+-- it chose by the counts that it read
+abbrev pub ChoseByCounts : CoordinatorView → Type 0
+ChoseByCounts v =
+    (total : ℕ → ℕ → ℕ) → AreTotals total v.seat.counted → HasChosen v.seat v.choice total

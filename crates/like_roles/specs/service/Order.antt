@@ -1,0 +1,72 @@
+-- In which order a worker runs what it has taken.
+use Rattle.std.specs.Prelude.{ℕ, ◌+◌, ◌==◌, Bool, true, false, ◌&&◌, not, max, List, [], ◌∷◌, ◌++◌, map, filter}
+use Rattle.std.specs.List.{flat_map, range_with_len}
+use Rattle.std.specs.Option.{option_map_or}
+use Rattle.like_requests.specs.Verdict.{is_accepted}
+use Rattle.like_requests.specs.declared.request.Request.{Request}
+use Rattle.like_roles.specs.declared.log.Ran.{Ran}
+use Rattle.like_roles.specs.declared.log.Took.{Took}
+use Rattle.like_roles.specs.service.Service.{Service, submitters, request_at, is_split_in}
+use Rattle.like_roles.specs.service.Replies.{page_looked_at}
+
+-- the request is an accepted look at a page that is sliced
+abbrev pub is_look_at_sliced : ℕ → ℕ → (ℕ → Bool) → ℕ → Request → Bool
+is_look_at_sliced users submitters is_sliced submitter r =
+    is_accepted users submitters submitter r
+    && option_map_or is_sliced (page_looked_at r.op r.page) false
+
+-- waits: an accepted look at a page that is split in the phase cannot run in it
+abbrev pub waits : Service → ℕ → ℕ → Request → Bool
+waits service phase submitter r =
+    is_look_at_sliced service.users (submitters service) (is_split_in service phase) submitter r
+
+-- whether what was taken had to wait
+abbrev pub took_to_wait : Service → Took → Bool
+took_to_wait service t =
+    option_map_or (waits service t.phase t.submitter)
+    (request_at service t.submitter t.number) false
+
+-- a place in the run order: which request runs in which phase, and whether it comes out of the stash
+pub record Entry : Type 0 where
+  pub phase : ℕ
+  pub submitter : ℕ
+  pub number : ℕ
+  pub stashed : Bool
+
+-- the entry that a run list shows
+abbrev pub entry_of : Ran → Entry
+entry_of e =
+    record { phase = e.phase; submitter = e.submitter; number = e.number; stashed = e.stashed }
+
+-- what was taken, as it runs in a phase
+abbrev pub entry_in : ℕ → Bool → Took → Entry
+entry_in phase stashed t =
+    record { phase = phase; submitter = t.submitter; number = t.number; stashed = stashed }
+
+-- taken in the phase before this one, to wait
+abbrev pub is_due : Service → ℕ → Took → Bool
+is_due service phase t = (t.phase + 1 == phase) && took_to_wait service t
+
+-- taken in this phase, to run at once
+abbrev pub is_prompt : Service → ℕ → Took → Bool
+is_prompt service phase t = (t.phase == phase) && not (took_to_wait service t)
+
+-- the block of a phase: what was taken in the phase before and had to wait, and then what was taken in this phase and
+-- need not wait; in an even phase nothing has to wait, as no page is split
+abbrev pub block : Service → List Took → ℕ → List Entry
+block service taken phase =
+    map (entry_in phase true) (filter (is_due service phase) taken)
+    ++ map (entry_in phase false) (filter (is_prompt service phase) taken)
+
+-- the blocks of the first phases, 0, 1, 2, .., so many of them, joined end to end
+abbrev pub order_below : Service → List Took → ℕ → List Entry
+order_below service taken phases = flat_map (block service taken) (range_with_len 0 phases)
+
+-- the number after the greatest phase of taking, and 0 where nothing was taken
+abbrev pub phases_of : List Took → ℕ
+phases_of [] = 0
+phases_of (t ∷ taken) = max (t.phase + 1) (phases_of taken)
+
+-- run order: the blocks of all phases in which anything can run
+abbrev pub order : Service → List Took → List Entry
+order service taken = order_below service taken (phases_of taken + 1)

@@ -1,0 +1,8 @@
+-- A worker: what contracts see of it, its turns, what it keeps, and how it follows the plans.
+pub mod WorkerView
+pub mod Serve
+pub mod Turns
+pub mod Places
+pub mod New
+pub mod Desk
+pub mod Follows

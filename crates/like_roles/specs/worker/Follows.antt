@@ -1,0 +1,164 @@
+-- What a worker has done, as the plans of its submitters say it should.
+use Rattle.std.specs.Prelude.{◌≡◌, ℕ, ◌+◌, ◌%◌, ◌≤◌, ◌==◌, if◌then◌else◌, true, false, List, [], ◌++◌, length, map, slice_index, All, Some, ⊤}
+use Rattle.like_requests.specs.Pages.{Page}
+use Rattle.like_requests.specs.declared.request.Taken.{Taken}
+use Rattle.like_requests.specs.declared.request.Taken.TheVariants as taken
+use Rattle.like_core.specs.declared.view.Addition.{Addition}
+use Rattle.like_core.specs.declared.view.PageRead.{PageRead}
+use Rattle.like_core.specs.declared.worker_state.WorkerState.{WorkerState}
+use Rattle.like_core.specs.declared.worker_state.WorkerState.TheVariants.{Runs, Answered, Gone}
+use Rattle.like_core.specs.Phase.{IsJoined, IsSplit}
+use Rattle.like_core.specs.PhaseMasks.{AreMasksOf}
+use Rattle.like_core.specs.WorkerState.{IsRunning, RunsJoined}
+use Rattle.like_core.specs.Post.{additions_of, additions_in, pages_of}
+use Rattle.like_tables.specs.UserTable.{last_of}
+use Rattle.like_tables.specs.declared.held.Held.{Held}
+use Rattle.like_roles.specs.declared.log.Added.{Added}
+use Rattle.like_roles.specs.declared.log.Ran.{Ran}
+use Rattle.like_roles.specs.service.Adds.{IsOfLikes, AreOfLikes, addition_of, adds_at, adds_before_looks, adds_to, likes_at}
+use Rattle.like_roles.specs.service.Likes.{last_like, likes_among, likes_within}
+use Rattle.like_roles.specs.service.Looks.{shown_by, shown_in}
+use Rattle.like_roles.specs.service.Order.{Entry, block, entry_of, order, order_below}
+use Rattle.like_roles.specs.service.Replies.{HasRightAnswers}
+use Rattle.like_roles.specs.service.Service.{Service, is_split_in, marks, request_at, submitters}
+use Rattle.like_requests.specs.Setup.{IsThere}
+use Rattle.like_roles.specs.worker.WorkerView.{WorkerView, TookAllEnds, phase_at, submitter_at}
+
+-- the service is the one that the worker serves, and the masks that its post read are the service's
+pub record IsServed (service : Service) (v : WorkerView) : Type 0 where
+  pub users : service.users ≡ v.last.share.users
+  pub submitters_alike : submitters service ≡ v.last.share.submitters
+  pub marks_alike : marks service ≡ v.post.marks
+  pub hot_alike : AreMasksOf service.hot v.post.masks
+
+-- the worker has a place for each page, and for each user
+pub record IsSized (v : WorkerView) : Type 0 where
+  pub slice : length v.slice ≡ pages_of v.post
+  pub users : length v.last.last ≡ v.last.share.users
+
+-- likes: the accepted likes of each page that it ran are as many as its post's additions and its slice together, and so
+-- are those of each phase, where the slice is of the present one; the accepted looks that it ran are the post's reads, in
+-- order, with equal counts, and before each ran as many likes of its page in its phase as the post had added by then;
+-- replies: each reply is right, save that nothing is said of counts; and its table has each user's last like
+pub record IsTallied (service : Service) (v : WorkerView) : Type 0 where
+  pub likes : (page : ℕ)
+      → likes_among service page v.ran ≡ additions_of v.post page + slice_index v.slice page
+  pub by_phase : (phase page : ℕ) → likes_within service page v.ran phase
+      ≡ additions_in v.post phase page
+      + (if phase_at v == phase then slice_index v.slice page else 0)
+  pub looks : shown_in service v.ran ≡ map (shown_by v.post.additions) v.post.reads
+  pub after : All (λ r. r.after ≤ length v.post.additions) v.post.reads
+  pub replies : HasRightAnswers service v.ran
+  pub last : (user : ℕ) → last_of v.last user ≡ last_like service user v.ran
+
+-- the additions of a worker are noted: they are its post's, in order; each is of accepted likes of its run list, of a page
+-- that is not split in the phase one at each like, and of a page that is at most one; and before each look ran as many
+-- as its post had made before the read
+pub record IsNoted (service : Service) (additions : List Addition) (reads : List PageRead)
+    (adds : List Added) (ran : List Ran) : Type 0 where
+  pub additions_are : additions ≡ map addition_of adds
+  pub at : All (λ a. a.at ≤ length ran) adds
+  pub each : All (IsOfLikes service ran) adds
+  pub plain : (phase page at : ℕ) → is_split_in service phase page ≡ false
+      → adds_at phase page at adds ≡ likes_at service phase page at ran
+  pub split : (phase page : ℕ) → is_split_in service phase page ≡ true
+      → adds_to phase page adds ≤ 1
+  pub looks : map (λ r. r.after) reads ≡ adds_before_looks service adds ran
+
+-- no addition was made and no entry ran in a later phase than the present one, and while a split phase runs, no addition
+-- was made in it to a page that is split in it
+abbrev pub IsUnmerged : Service → List Added → List Ran → WorkerState → Type 0
+IsUnmerged service adds ran (Runs phase) =
+    All (λ a. a.phase ≤ phase) adds
+    × ((page : ℕ) → is_split_in service phase page ≡ true → adds_to phase page adds ≡ 0)
+    × All (λ e. e.phase ≤ phase) ran
+IsUnmerged service adds ran (Answered phase) =
+    All (λ a. a.phase ≤ phase) adds × All (λ e. e.phase ≤ phase) ran
+IsUnmerged service adds ran Gone = ⊤
+
+-- a request that is held is that of its submitter's plan, of a page that is there
+pub record IsAsked (service : Service) (h : Held) : Type 0 where
+  pub asked : request_at service h.submitter h.ask.number ≡ Some h.ask.request
+  pub there : IsThere (length (marks service)) h.ask.request.page
+
+-- a request that is held, as it runs in a phase
+abbrev pub entry_held : ℕ → Held → Entry
+entry_held phase h =
+    record { phase = phase; submitter = h.submitter; number = h.ask.number; stashed = true }
+
+-- the joined phase in which what is held runs: the present one or the next
+abbrev pub next_joined : WorkerView → ℕ
+next_joined v = phase_at v + phase_at v % 2
+
+-- order: what it ran, and then what it holds, is the run order of what it took
+abbrev pub IsInOrder : Service → WorkerView → Type 0
+IsInOrder service v =
+    map entry_of v.ran ++ map (entry_held (next_joined v)) v.held.held ≡ order service v.taken
+
+-- the same, by the blocks of phases, for a worker that runs a phase: in a split phase what it holds is the whole part
+-- of the next block that is known
+pub record IsInBlocks (service : Service) (v : WorkerView) (phase : ℕ) : Type 0 where
+  pub within : All (λ t. t.phase ≤ phase) v.taken
+  pub joined : IsJoined phase
+      → order_below service v.taken (phase + 1)
+      ≡ map entry_of v.ran ++ map (entry_held phase) v.held.held
+  pub split_ran : IsSplit phase → order_below service v.taken (phase + 1) ≡ map entry_of v.ran
+  pub split_held : IsSplit phase
+      → block service v.taken (phase + 1) ≡ map (entry_held (phase + 1)) v.held.held
+
+-- what its state says of what it has done: it answers a joined phase only when it holds nothing, and is gone only when
+-- its submitters have ended, too
+abbrev pub Stands : Service → WorkerView → WorkerState → Type 0
+Stands service v (Runs phase) = IsInBlocks service v phase
+Stands service v (Answered phase) = IsInBlocks service v phase × (IsJoined phase → v.held.held ≡ [])
+Stands service v Gone = (v.held.held ≡ []) × TookAllEnds v
+
+-- all of this, of a worker whose requests are those of the service's plans
+pub record Follows (service : Service) (v : WorkerView) : Type 0 where
+  pub served : IsServed service v
+  pub sized : IsSized v
+  pub tallied : IsTallied service v
+  pub noted : v.notes ≡ true → IsNoted service v.post.additions v.post.reads v.adds v.ran
+  pub unmerged : v.notes ≡ true → IsUnmerged service v.adds v.ran v.post.state
+  pub in_order : IsInOrder service v
+  pub held : All (IsAsked service) v.held.held
+  pub stands : Stands service v v.post.state
+  pub trying : (place : ℕ) → v.pending ≡ Some place
+      → IsRunning v.post.state × (RunsJoined v.post.state → v.held.held ≡ [])
+
+-- what is given is asked by the plan of the submitter that is tried
+abbrev pub IsAskedBy : Service → WorkerView → Taken → Type 0
+IsAskedBy service v (taken.Ask ask) =
+    (place : ℕ) → v.pending ≡ Some place
+    → request_at service (submitter_at v place) ask.number ≡ Some ask.request
+IsAskedBy service v taken.End = ⊤
+IsAskedBy service v taken.Nothing = ⊤
+
+-- the service has these users and pages, and plans of these sizes
+pub record IsServiceOf (users : ℕ) (pages : List Page) (sizes : List ℕ) (service : Service)
+    : Type 0 where
+  pub users_are : service.users ≡ users
+  pub pages_are : service.pages ≡ pages
+  pub sizes_are : map length service.plans ≡ sizes
+
+-- the additions of a worker that is gone are noted: they are its post's, in order; each is of its likes; and as many came
+-- before each look as its post had made before the read
+pub record AreNoted (service : Service) (v : WorkerView) : Type 0 where
+  pub additions : v.post.additions ≡ map addition_of v.adds
+  pub adds : AreOfLikes service v.ran v.adds
+  pub reads : map (λ r. r.after) v.post.reads ≡ adds_before_looks service v.adds v.ran
+
+-- what a worker that is gone has done: it ran what it took in run order; its post's additions are the accepted likes
+-- that it ran, in each phase, and its post's reads the accepted looks; its additions are noted, where it notes them; each
+-- reply is right, save that nothing is said of counts; its table has each user's last like; and the end mark of each of
+-- its submitters was taken
+pub record IsDone (service : Service) (v : WorkerView) : Type 0 where
+  pub in_order : map entry_of v.ran ≡ order service v.taken
+  pub likes : (page : ℕ) → likes_among service page v.ran ≡ additions_of v.post page
+  pub by_phase : (phase page : ℕ)
+      → likes_within service page v.ran phase ≡ additions_in v.post phase page
+  pub looks : shown_in service v.ran ≡ map (shown_by v.post.additions) v.post.reads
+  pub noted : v.notes ≡ true → AreNoted service v
+  pub replies : HasRightAnswers service v.ran
+  pub last : (user : ℕ) → last_of v.last user ≡ last_like service user v.ran
+  pub ended : TookAllEnds v

@@ -1,0 +1,38 @@
+-- A worker that was just made.
+use Rattle.std.specs.Prelude.{◌≡◌, ℕ, Bool, false, List, [], length, replicate, slice_get, Some, None}
+use Rattle.like_requests.specs.Pages.{Page, marks_of}
+use Rattle.like_requests.specs.declared.setup.Setup.{Setup}
+use Rattle.like_core.specs.Post.{PostView, IsFresh}
+use Rattle.like_board.specs.declared.worker_seat.WorkerSeat.{WorkerSeat}
+use Rattle.like_board.specs.Seats.{BoardId, seat_board, seat_meaning}
+use Rattle.like_tables.specs.Share.{dealt, share_of}
+use Rattle.like_tables.specs.UserTable.{table_without_likes}
+use Rattle.like_roles.specs.worker.WorkerView.{WorkerView}
+
+-- the post is that worker's, at a board with these pages, and no call was made on it
+pub record IsPostOf (worker : ℕ) (pages : List Page) (post : PostView) : Type 0 where
+  pub is_his : post.worker ≡ worker
+  pub marks : post.marks ≡ marks_of pages
+  pub fresh : IsFresh post
+
+-- the seats of all workers at a board with these pages, in order; no call was made on them
+abbrev pub AreNewSeats : BoardId → List Page → List WorkerSeat → Type 0
+AreNewSeats board pages seats =
+    (worker : ℕ) (seat : WorkerSeat) → slice_get seats worker ≡ Some seat
+    → (seat_board seat ≡ board) × IsPostOf worker pages (seat_meaning seat)
+
+-- a worker that has done nothing yet, and notes its additions or does not
+pub record IsNew (s : Setup) (sizes : List ℕ) (worker : ℕ) (post : PostView) (notes : Bool)
+    (v : WorkerView) : Type 0 where
+  pub at_post : v.post ≡ post
+  pub held : v.held ≡ record { held = []; capacity = s.stash }
+  pub slice : v.slice ≡ replicate (length s.pages) 0
+  pub left : v.left ≡ dealt s.workers worker sizes
+  pub ended : v.ended ≡ replicate (length v.left) false
+  pub cursor : v.cursor ≡ 0
+  pub pending : v.pending ≡ None
+  pub last : v.last ≡ table_without_likes (share_of s.users (length sizes) s.workers worker)
+  pub taken : v.taken ≡ []
+  pub ran : v.ran ≡ []
+  pub notes_are : v.notes ≡ notes
+  pub adds : v.adds ≡ []

@@ -1,0 +1,95 @@
+-- What it does to a worker to run a request.
+use Rattle.std.specs.Prelude.{◌≡◌, ◌≢◌, ℕ, ◌+◌, ◌≤◌, Bool, if◌then◌else◌, List, [], ◌∷◌, ◌++◌, length, map, slice_index, slice_set}
+use Rattle.like_requests.specs.Verdict.{verdict_of}
+use Rattle.like_requests.specs.declared.request.Op.TheVariants.{Like, Look}
+use Rattle.like_requests.specs.declared.request.PageRef.TheVariants.{Known}
+use Rattle.like_requests.specs.declared.request.Request.{Request}
+use Rattle.like_requests.specs.declared.verdict.Verdict.{Verdict}
+use Rattle.like_requests.specs.declared.verdict.Verdict.TheVariants.{Accepted}
+use Rattle.like_core.specs.declared.view.Addition.{Addition}
+use Rattle.like_core.specs.Post.{added, has_read, additions_of, slices}
+use Rattle.like_tables.specs.UserTable.{last_of, with_last}
+use Rattle.like_tables.specs.declared.held.Held.{Held}
+use Rattle.like_roles.specs.declared.log.Added.{Added}
+use Rattle.like_roles.specs.declared.log.Ran.{Ran}
+use Rattle.like_roles.specs.declared.reply.Reply.{Reply}
+use Rattle.like_roles.specs.declared.reply.Reply.TheVariants.{Liked, Seen, Refused}
+use Rattle.like_roles.specs.worker.WorkerView.{WorkerView, phase_at}
+
+-- the verdict on a request of a submitter
+abbrev pub verdict_at : WorkerView → ℕ → Request → Verdict
+verdict_at v submitter r = verdict_of v.last.share.users v.last.share.submitters submitter r
+
+-- an addition as it is noted when so many entries had run
+abbrev pub noted_at : ℕ → Addition → Added
+noted_at at a = record { page = a.page; phase = a.phase; at = at; old = a.old; n = a.likes }
+
+-- what a worker notes of additions: each, at the place in the run list, where it notes them, and else none
+abbrev pub noted : WorkerView → List Addition → List Added
+noted v adds = if v.notes then map (noted_at (length v.ran)) adds else []
+
+-- n is added to a page's count on the board, which was this before, and noted
+abbrev pub with_addition : WorkerView → ℕ → ℕ → ℕ → WorkerView
+with_addition v page old n = record v {
+  post = added v.post page old n;
+  adds = v.adds ++ noted v (record {
+    phase = phase_at v;
+    page = page;
+    old = old;
+    likes = n;
+  } ∷ []);
+}
+
+-- one more like of a page: in the slice, where the page is sliced, else on the board, where its count was this
+abbrev pub counted : WorkerView → ℕ → ℕ → WorkerView
+counted v page old =
+    if slices v.post page
+    then record v { slice = slice_set v.slice page (slice_index v.slice page + 1) }
+    else with_addition v page old 1
+
+-- a user's accepted like of a page is counted, and is the user's last like
+abbrev pub liked : WorkerView → ℕ → ℕ → ℕ → WorkerView
+liked v user page old =
+    let w = counted v page old in record w { last = with_last v.last user page }
+
+-- one more like of a page is counted, whatever its count is
+abbrev pub CountsLike : WorkerView → ℕ → WorkerView → Type 0
+CountsLike v page after = (old : ℕ) × (after ≡ counted v page old)
+
+-- and is the user's last
+abbrev pub Likes : WorkerView → ℕ → ℕ → WorkerView → Type 0
+Likes v user page after = (old : ℕ) × (after ≡ liked v user page old)
+
+-- a page's count was read, and was this
+abbrev pub shown : WorkerView → ℕ → ℕ → WorkerView
+shown v page count = record v { post = has_read v.post page count }
+
+-- a request of a submitter is answered, and this is what becomes of the worker: its list of what it ran aside
+pub data GivesReply (v : WorkerView) (submitter : ℕ) (r : Request) (reply : Reply)
+    (after : WorkerView) : Type 0 where
+  refuses : verdict_at v submitter r ≢ Accepted
+      → reply ≡ Refused (verdict_at v submitter r) → after ≡ v
+      → GivesReply v submitter r reply after
+  likes : (page : ℕ) → verdict_at v submitter r ≡ Accepted → r.op ≡ Like → r.page ≡ Known page
+      → reply ≡ Liked → Likes v r.user page after → GivesReply v submitter r reply after
+  looks : (page count : ℕ) → verdict_at v submitter r ≡ Accepted → r.op ≡ Look → r.page ≡ Known page
+      → reply ≡ Seen (last_of v.last r.user) count → additions_of v.post page ≤ count
+      → after ≡ shown v page count
+      → GivesReply v submitter r reply after
+
+-- the entry of a request that runs now
+abbrev pub ran_now : WorkerView → Held → Bool → Reply → Ran
+ran_now v h stashed reply = record {
+  phase = phase_at v;
+  submitter = h.submitter;
+  number = h.ask.number;
+  stashed = stashed;
+  reply = reply;
+}
+
+-- a request runs: it is answered, and written to the list of what was run
+pub record Runs (v : WorkerView) (h : Held) (stashed : Bool) (after : WorkerView) : Type 0 where
+  pub reply : Reply
+  pub served : WorkerView
+  pub serves : GivesReply v h.submitter h.ask.request reply served
+  pub noted : after ≡ record served { ran = v.ran ++ ran_now v h stashed reply ∷ [] }

@@ -1,0 +1,204 @@
+-- The turns of a worker, case by case.
+use Rattle.std.specs.Prelude.{◌≡◌, ◌≢◌, ◌⊎◌, ℕ, ◌+◌, ◌-◌, ◌%◌, ◌<◌, ◌≤◌, ◌==◌, not, count_by, filter, ⊤, ◌&&◌, if◌then◌else◌, Bool, true, false, List, [], ◌∷◌, ◌++◌, length, map, replicate, slice_index, slice_index_or, slice_set, Some, None}
+use Rattle.std.specs.List.{range_with_len}
+use Rattle.like_requests.specs.declared.request.Numbered.{Numbered}
+use Rattle.like_requests.specs.declared.request.Taken.{Taken}
+use Rattle.like_requests.specs.declared.request.Taken.TheVariants as taken
+use Rattle.like_core.specs.declared.sight.Sight.{Sight}
+use Rattle.like_core.specs.declared.worker_state.WorkerState.TheVariants.{Gone}
+use Rattle.like_core.specs.WorkerState.{IsSightOf, RunsJoined, RunsSplit}
+use Rattle.like_core.specs.declared.view.Addition.{Addition}
+use Rattle.like_core.specs.declared.view.PhaseMask.{PhaseMask}
+use Rattle.like_core.specs.Additions.{addition}
+use Rattle.like_core.specs.PhaseMasks.{KeepsMasks}
+use Rattle.like_core.specs.Post.{looked_at, answered, retired, pages_of}
+use Rattle.like_tables.specs.declared.held.Held.{Held}
+use Rattle.like_roles.specs.declared.turn.Turn.{Turn}
+use Rattle.like_roles.specs.declared.turn.Turn.TheVariants as turn
+use Rattle.like_requests.specs.Setup.{IsThere}
+use Rattle.like_roles.specs.worker.WorkerView.{WorkerView, TookAllEnds, IsNextPlace, phase_at, submitter_at, has_to_wait}
+use Rattle.like_roles.specs.worker.Serve.{Runs, with_addition, noted}
+
+-- whether who goes from one phase to another enters a split phase
+abbrev pub enters_split : ℕ → ℕ → Bool
+enters_split from to = not (to == from) && (to % 2 == 1)
+
+-- the masks that were read by who went from one phase to another: in a split phase that it entered also that one's,
+-- which is this
+abbrev pub masks_in : List PhaseMask → ℕ → ℕ → ℕ → List PhaseMask
+masks_in masks from to mask =
+    if enters_split from to then record { phase = to; mask = mask } ∷ masks else masks
+
+-- the worker after a look: where it enters a split phase it has also read that phase's mask, which is this
+abbrev pub saw : WorkerView → Sight → ℕ → WorkerView
+saw v sight mask = record v {
+  post = record (looked_at v.post sight) {
+    masks = masks_in v.post.masks (phase_at v) sight.number mask;
+  };
+}
+
+-- without the first look that it held
+abbrev pub without_first : WorkerView → List Held → WorkerView
+without_first v rest = record v { held = record v.held { held = rest } }
+
+-- it tries the submitter at a place, and looks for the next one after it
+abbrev pub trying : WorkerView → ℕ → WorkerView
+trying v place = record v { pending = Some place; cursor = (place + 1) % length v.ended }
+
+-- a page's number in a slice, as an addition in a phase to a count of 0
+abbrev pub slice_addition : ℕ → List ℕ → ℕ → Addition
+slice_addition phase slice page = addition phase page 0 (slice_index slice page)
+
+-- the additions that merge the first pages of a slice, so many, as if to counts of 0: one for each whose number is not 0,
+-- in page order
+abbrev pub merging : ℕ → List ℕ → ℕ → List Addition
+merging phase slice pages =
+    filter (λ a. not (a.likes == 0)) (map (slice_addition phase slice) (range_with_len 0 pages))
+
+-- an addition, as if to a count of 0
+abbrev pub from_zero : Addition → Addition
+from_zero a = record a { old = 0 }
+
+-- additions merge the first pages of a slice, so many, whatever their counts are
+abbrev pub Merges : ℕ → List ℕ → ℕ → List Addition → Type 0
+Merges phase slice pages adds = map from_zero adds ≡ merging phase slice pages
+
+-- the slice is added to the board by these additions, which are noted, and emptied
+abbrev pub merged : WorkerView → List Addition → WorkerView
+merged v adds = record v {
+  post = record v.post { additions = v.post.additions ++ adds };
+  slice = replicate (pages_of v.post) 0;
+  adds = v.adds ++ noted v adds;
+}
+
+-- the slice is merged
+abbrev pub IsMerged : WorkerView → WorkerView → Type 0
+IsMerged v after =
+    (adds : List Addition)
+    × (Merges (phase_at v) v.slice (pages_of v.post) adds × (after ≡ merged v adds))
+
+-- a page's slice is, where the page's count was this
+abbrev pub merged_page : WorkerView → ℕ → ℕ → WorkerView
+merged_page v page old =
+    let w = with_addition v page old (slice_index v.slice page) in
+    record w { slice = slice_set v.slice page 0 }
+
+-- it cannot take a request in a split phase
+abbrev pub IsStuck : WorkerView → Type 0
+IsStuck v = TookAllEnds v ⊎ (length v.held.held ≡ v.held.capacity)
+
+-- what a worker does that has looked and runs a phase: the answer, and the worker after
+pub data Works (v : WorkerView) (ending : Bool) (answer : Turn) (after : WorkerView) : Type 0 where
+  runs_held : (first : Held) (rest : List Held)
+      → RunsJoined v.post.state → v.held.held ≡ first ∷ rest
+      → answer ≡ turn.Ran → Runs (without_first v rest) first true after
+      → Works v ending answer after
+  retires : RunsJoined v.post.state → v.held.held ≡ [] → TookAllEnds v
+      → answer ≡ turn.Retired → after ≡ record v { post = retired v.post }
+      → Works v ending answer after
+  acknowledges : RunsJoined v.post.state → v.held.held ≡ [] → ¬ TookAllEnds v → ending ≡ true
+      → answer ≡ turn.Acknowledged → after ≡ record v { post = answered v.post }
+      → Works v ending answer after
+  tries_joined : (place : ℕ) → RunsJoined v.post.state → v.held.held ≡ []
+      → IsNextPlace v.ended v.cursor place → ending ≡ false
+      → answer ≡ turn.Try (submitter_at v place) → after ≡ trying v place
+      → Works v ending answer after
+  reports : (now : WorkerView) → RunsSplit v.post.state → ending ≡ true
+      → answer ≡ turn.Reported → IsMerged v now → after ≡ record now { post = answered now.post }
+      → Works v ending answer after
+  idles : RunsSplit v.post.state → ending ≡ false → IsStuck v
+      → answer ≡ turn.Idle → after ≡ v → Works v ending answer after
+  tries_split : (place : ℕ) → RunsSplit v.post.state → ending ≡ false
+      → length v.held.held ≢ v.held.capacity → IsNextPlace v.ended v.cursor place
+      → answer ≡ turn.Try (submitter_at v place) → after ≡ trying v place
+      → Works v ending answer after
+
+-- turn case: what a turn does, its answer, and the worker after
+pub data Turns (v : WorkerView) (answer : Turn) (after : WorkerView) : Type 0 where
+  is_gone : v.post.state ≡ Gone → answer ≡ turn.Retired → after ≡ v → Turns v answer after
+  waits : (sight : Sight) → v.post.state ≢ Gone → IsSightOf v.post.state sight → sight.waits ≡ true
+      → answer ≡ turn.Waiting → after ≡ record v { post = looked_at v.post sight }
+      → Turns v answer after
+  works : (sight : Sight) (mask : ℕ) → v.post.state ≢ Gone → IsSightOf v.post.state sight
+      → sight.waits ≡ false → Works (saw v sight mask) sight.ending answer after
+      → Turns v answer after
+
+-- the request is the next one of the submitter at a place, which has one left, and its page is there, where it is known
+pub record IsNext (v : WorkerView) (place : ℕ) (ask : Numbered) : Type 0 where
+  pub number : ask.number ≡ count_by (λ t. t.submitter == submitter_at v place) v.taken + 1
+  pub some : 1 ≤ slice_index v.left place
+  pub there : IsThere (pages_of v.post) ask.request.page
+
+-- what may be taken from the submitter that is tried
+abbrev pub CanGive : WorkerView → Taken → Type 0
+CanGive v (taken.Ask ask) = (place : ℕ) → v.pending ≡ Some place → IsNext v place ask
+CanGive v taken.End = ⊤
+CanGive v taken.Nothing = ⊤
+
+-- nothing is tried any more
+abbrev pub settled : WorkerView → WorkerView
+settled v = record v { pending = None }
+
+-- the request is taken in the present phase from the submitter at a place
+abbrev pub with_taken : WorkerView → ℕ → Numbered → WorkerView
+with_taken v place ask = record v {
+  left = slice_set v.left place (slice_index v.left place - 1);
+  taken = v.taken
+      ++ record { phase = phase_at v; submitter = submitter_at v place; number = ask.number } ∷ [];
+}
+
+-- the request with the submitter at a place
+abbrev pub held_from : WorkerView → ℕ → Numbered → Held
+held_from v place ask = record { submitter = submitter_at v place; ask = ask }
+
+-- the look is put into the stash
+abbrev pub with_stashed : WorkerView → Held → WorkerView
+with_stashed v h = record v { held = record v.held { held = v.held.held ++ h ∷ [] } }
+
+-- what becomes of a request that is taken from the submitter at a place: the answer, and the worker after
+pub data TakesAsk (v : WorkerView) (place : ℕ) (ask : Numbered) (answer : Turn) (after : WorkerView)
+    : Type 0 where
+  stashes : has_to_wait v (submitter_at v place) ask.request ≡ true
+      → answer ≡ turn.Stashed
+      → after ≡ with_stashed (with_taken v place ask) (held_from v place ask)
+      → TakesAsk v place ask answer after
+  runs : has_to_wait v (submitter_at v place) ask.request ≡ false
+      → answer ≡ turn.Ran → Runs (with_taken v place ask) (held_from v place ask) false after
+      → TakesAsk v place ask answer after
+
+-- turn case, where something was taken from the submitter that is tried: what is done, the answer, and the worker after
+pub data Gives (v : WorkerView) (took : Taken) (answer : Turn) (after : WorkerView) : Type 0 where
+  nothing : took ≡ taken.Nothing → answer ≡ turn.Nothing → after ≡ settled v
+      → Gives v took answer after
+  ends : (place : ℕ) → v.pending ≡ Some place → took ≡ taken.End
+      → answer ≡ turn.TookEnd → after ≡ record (settled v) { ended = slice_set v.ended place true }
+      → Gives v took answer after
+  asks : (place : ℕ) (ask : Numbered) → v.pending ≡ Some place → took ≡ taken.Ask ask
+      → TakesAsk (settled v) place ask answer after → Gives v took answer after
+
+-- a submitter is tried exactly after the answer that says so
+abbrev pub Pends : Turn → WorkerView → Type 0
+Pends (turn.Try submitter) v =
+    (place : ℕ) × ((v.pending ≡ Some place) × (submitter_at v place ≡ submitter)
+    × (place < length v.ended) × (slice_index_or v.ended place true ≡ false))
+Pends answer v = v.pending ≡ None
+
+-- the run and the board are the same, and whether it notes its additions; the masks that were read stay, and what was
+-- taken from the submitters is the same
+pub record TakesNothing (old new : WorkerView) : Type 0 where
+  pub share : new.last.share ≡ old.last.share
+  pub marks : new.post.marks ≡ old.post.marks
+  pub notes : new.notes ≡ old.notes
+  pub taken : new.taken ≡ old.taken
+  pub left : new.left ≡ old.left
+  pub ended : new.ended ≡ old.ended
+  pub masks : KeepsMasks old.post.masks new.post.masks
+
+-- this alone was taken from the submitter that was tried
+abbrev pub HasTaken : WorkerView → Taken → WorkerView → Type 0
+HasTaken old (taken.Ask ask) new =
+    (place : ℕ) → old.pending ≡ Some place → TakesNothing (with_taken old place ask) new
+HasTaken old taken.End new =
+    (place : ℕ) → old.pending ≡ Some place
+    → TakesNothing (record old { ended = slice_set old.ended place true }) new
+HasTaken old taken.Nothing new = TakesNothing old new

@@ -1,0 +1,70 @@
+-- What a worker is, as contracts see it.
+use Rattle.std.specs.Prelude.{◌≡◌, ◌≢◌, ℕ, ◌+◌, ◌-◌, ◌<◌, nat_le, if◌then◌else◌, Bool, true, false, List, length, slice_index, slice_index_or, Option}
+use Rattle.like_requests.specs.declared.request.Request.{Request}
+use Rattle.like_core.specs.WorkerState.{RunsSplit, phase_of}
+use Rattle.like_core.specs.PhaseMasks.{HasMask}
+use Rattle.like_core.specs.Post.{PostView, slices}
+use Rattle.like_tables.specs.Share.{submitter_of}
+use Rattle.like_tables.specs.UserTable.{UserTable}
+use Rattle.like_tables.specs.Waiting.{Waiting}
+use Rattle.like_roles.specs.declared.log.Added.{Added}
+use Rattle.like_roles.specs.declared.log.Ran.{Ran}
+use Rattle.like_roles.specs.declared.log.Took.{Took}
+use Rattle.like_roles.specs.service.Order.{is_look_at_sliced}
+
+-- its post; the looks that it holds, which are its stash in a split phase and its backlog in a joined one; its slice, a
+-- number for each page; for each of its submitters by place, how many requests of it were not taken yet and whether its
+-- end mark was taken; the place at which it looks for a submitter next; the place of the submitter that it tries, if it
+-- tries one; the last likes of its users; what it took and what it ran; whether it notes its additions, and those that it
+-- noted
+pub record WorkerView : Type 0 where
+  pub post : PostView
+  pub held : Waiting
+  pub slice : List ℕ
+  pub left : List ℕ
+  pub ended : List Bool
+  pub cursor : ℕ
+  pub pending : Option ℕ
+  pub last : UserTable
+  pub taken : List Took
+  pub ran : List Ran
+  pub notes : Bool
+  pub adds : List Added
+
+-- the phase that it runs or has answered
+abbrev pub phase_at : WorkerView → ℕ
+phase_at v = phase_of v.post.state
+
+-- the submitter at a place: w, w + N, w + 2 N, .. for worker w of N
+abbrev pub submitter_at : WorkerView → ℕ → ℕ
+submitter_at v place = submitter_of v.last.share.workers v.last.share.worker place
+
+-- it took the end mark of each of its submitters
+abbrev pub TookAllEnds : WorkerView → Type 0
+TookAllEnds v = (place : ℕ) → place < length v.ended → slice_index_or v.ended place true ≡ true
+
+-- how many steps there are from one place to another of n, going up, and from the last place on to the first
+abbrev pub steps_between : ℕ → ℕ → ℕ → ℕ
+steps_between n from to = if nat_le from to then to - from else to + n - from
+
+-- the place is the first at or after the cursor, in cyclic order, whose submitter's end mark was not taken
+pub record IsNextPlace (ended : List Bool) (cursor place : ℕ) : Type 0 where
+  pub there : place < length ended
+  pub not_ended : slice_index_or ended place true ≡ false
+  pub first : (other : ℕ) → other < length ended
+      → steps_between (length ended) cursor other < steps_between (length ended) cursor place
+      → slice_index_or ended other true ≡ true
+
+-- whether a request of a submitter has to wait for the next joined phase
+abbrev pub has_to_wait : WorkerView → ℕ → Request → Bool
+has_to_wait v submitter r =
+    is_look_at_sliced v.last.share.users v.last.share.submitters (slices v.post) submitter r
+
+-- in a split phase the post has read the phase's mask
+abbrev pub HasPhaseMask : PostView → Type 0
+HasPhaseMask post = RunsSplit post.state → HasMask (phase_of post.state) post.masks
+
+-- a slice that is not empty belongs to a worker that runs a split phase, and has pages that are split in it alone
+abbrev pub IsSliceInSplit : PostView → List ℕ → Type 0
+IsSliceInSplit post slice =
+    (page : ℕ) → slice_index slice page ≢ 0 → RunsSplit post.state × (slices post page ≡ true)
