@@ -33,14 +33,14 @@ entry-added es new key listed name inserted keyed same other =
     inserted ∙ insert_entry-other es key listed (λ found. other (subst (λ ns. Contains ns name) keyed (subst (Contains (map (λ (e : NamedPage). e.0.items) es)) same found)))
 
 -- one page more is listed
-pub pages_of-push : (es : List NamedPage) (key : Vec ℕ Global) (listed : Listed) → listed_pages (es ++ (key, listed) ∷ []) ≡ listed_pages es ++ page_of_entry (key, listed) ∷ []
-pages_of-push es key listed = map-append page_of_entry es _
+pub listed_pages-push : (es : List NamedPage) (key : Vec ℕ Global) (listed : Listed) → listed_pages (es ++ (key, listed) ∷ []) ≡ listed_pages es ++ page_of_entry (key, listed) ∷ []
+listed_pages-push es key listed = map-append page_of_entry es _
 
 -- by its name
 pub keyed-push : (es : List NamedPage) (key : Vec ℕ Global) (listed : Listed) → AreKeyed es → key.items ≡ string_bytes listed.name → AreKeyed (es ++ (key, listed) ∷ [])
 keyed-push es key listed keyed same =
     map-append (λ (e : NamedPage). e.0.items) es _ ∙ (λ i. keyed i ++ same i ∷ [])
-    ∙ sym (ap names (pages_of-push es key listed) ∙ map-append (λ (p : Page). p.name) (listed_pages es) _)
+    ∙ sym (ap names (listed_pages-push es key listed) ∙ map-append (λ (p : Page). p.name) (listed_pages es) _)
 
 differs : (key : Vec ℕ Global) (es : List NamedPage) → AllByRecursion (λ y. key_eq key y ≡ false) (map (λ e. e.0) es)
     → AllByRecursion (λ y. bytes_eq key.items y ≡ false) (map (λ e. e.0.items) es)

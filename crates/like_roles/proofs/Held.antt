@@ -54,8 +54,8 @@ IsPlaced-held post d w p = record {
   started = p.started;
 }
 
-ArePlaces-held : (d : Desk) (w : Waiting) → HasSubmitters d → HasSubmitters (record d { held = w })
-ArePlaces-held d w a = record { sized = a.sized; submitters = a.submitters; cursor = a.cursor }
+HasSubmitters-held : (d : Desk) (w : Waiting) → HasSubmitters d → HasSubmitters (record d { held = w })
+HasSubmitters-held d w a = record { sized = a.sized; submitters = a.submitters; cursor = a.cursor }
 
 AreOwn-held : (d : Desk) (w : Waiting) (hs : List Held) → All (IsOwn d) hs → All (IsOwn (record d { held = w })) hs
 AreOwn-held d w hs own = λ i y k. let o = own i y k in record { served = o.served; there = o.there; judged = o.judged }
@@ -66,7 +66,7 @@ IsSound-pop post d popped s e n =
     let shorter : length (drop 1 d.held.held) ≤ length d.held.held = simp length-drop (omega arith) in
     subst (λ h. IsSound post (record d { held = h })) (sym e) (record {
       placed = IsPlaced-held post d (record d.held { held = drop 1 d.held.held }) s.placed;
-      places = ArePlaces-held d (record d.held { held = drop 1 d.held.held }) s.places;
+      places = HasSubmitters-held d (record d.held { held = drop 1 d.held.held }) s.places;
       room = record { taken = s.room.taken; ran = omega (arith, s.room.ran); few_ran = s.room.few_ran; adds = λ n. omega (arith, s.room.adds n); few = omega (arith, s.room.few) };
       slice = s.slice;
       held = AreOwn-held d (record d.held { held = drop 1 d.held.held }) (drop 1 d.held.held) (All-drop (IsOwn d) 1 d.held.held s.held);
@@ -81,7 +81,7 @@ IsSound-push post d h pushed s room fits own n e =
     let longer : length (d.held.held ++ h ∷ []) ≡ length d.held.held + 1 = length-append d.held.held (h ∷ []) in
     subst (λ w. IsSound post (record d { held = w })) (sym e) (record {
       placed = IsPlaced-held post d (record d.held { held = d.held.held ++ h ∷ [] }) s.placed;
-      places = ArePlaces-held d (record d.held { held = d.held.held ++ h ∷ [] }) s.places;
+      places = HasSubmitters-held d (record d.held { held = d.held.held ++ h ∷ [] }) s.places;
       room = record { taken = s.room.taken; ran = omega (arith, room.ran); few_ran = s.room.few_ran; adds = λ n. omega (arith, room.adds n); few = omega (arith, room.few) };
       slice = s.slice;
       held = AreOwn-held d (record d.held { held = d.held.held ++ h ∷ [] }) (d.held.held ++ h ∷ []) (All-append (IsOwn d) d.held.held (h ∷ []) s.held (All-cons (IsOwn d) h [] own (λ i y k. absurd (omega arith))));

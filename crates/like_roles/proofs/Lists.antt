@@ -17,8 +17,8 @@ slice_get-at_end [] x = refl
 slice_get-at_end (y ∷ xs) x = slice_get-at_end xs x
 
 -- an element that is put at the end is the last one
-pub last_of-push : {X : Type 0} (xs : List X) (x : X) → last_in (xs ++ x ∷ []) ≡ Some x
-last_of-push xs x =
+pub last_in-push : {X : Type 0} (xs : List X) (x : X) → last_in (xs ++ x ∷ []) ≡ Some x
+last_in-push xs x =
     let n : length (xs ++ x ∷ []) - 1 ≡ length xs = simp length-append (omega arith) in
     rw n (slice_get-at_end xs x)
 

@@ -34,7 +34,7 @@ use Rattle.like_roles.specs.worker.Serve.{GivesReply, refuses, likes, looks, wit
 use Rattle.like_roles.specs.service.Service.{Service, marks, request_of, submitters}
 use Rattle.like_requests.specs.Setup.{IsThere}
 use Rattle.like_roles.specs.worker.WorkerView.{WorkerView, phase_at}
-use Rattle.like_roles.proofs.Lists.{last_of-push, slice_get-at_end, slice_get-before}
+use Rattle.like_roles.proofs.Lists.{last_in-push, slice_get-at_end, slice_get-before}
 use Rattle.like_roles.proofs.Served.{counted_by}
 use Rattle.like_roles.proofs.counts.Shown.{after-more, cond_same, shown_by-more, shown_in-none, shown_in-push}
 
@@ -45,7 +45,7 @@ page_likes-push page given l = sum_by-append (λ x. cond (eqb x.page page) 1 0) 
 -- one more like is its user's last
 pub last_page-push_same : (user : ℕ) (given : List AcceptedLike) (l : AcceptedLike) → eqb l.user user ≡ true → last_page user (given ++ l ∷ []) ≡ Some l.page
 last_page-push_same user given l h =
-    simp (filter-append, h, map-append) (last_of-push (map (λ x. x.page) (filter (λ x. eqb x.user user) given)) l.page)
+    simp (filter-append, h, map-append) (last_in-push (map (λ x. x.page) (filter (λ x. eqb x.user user) given)) l.page)
 
 -- and no other user's
 pub last_page-push_other : (user : ℕ) (given : List AcceptedLike) (l : AcceptedLike) → eqb l.user user ≡ false → last_page user (given ++ l ∷ []) ≡ last_page user given

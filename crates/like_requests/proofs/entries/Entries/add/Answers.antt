@@ -1,6 +1,6 @@
 use Rattle.std.proofs.Common.{◌≡◌, ◌∷◌, [], ◌++◌, ◌∙◌, sym, refl, rules}
 use Rattle.like_requests.specs.Entries.{AreKeyed, listed_pages}
-use Rattle.like_requests.proofs.Added.{AreEntries-push, IsDistinct-names, entry-added, keyed-push, pages_of-push}
+use Rattle.like_requests.proofs.Added.{AreEntries-push, IsDistinct-names, entry-added, keyed-push, listed_pages-push}
 use Rattle.like_requests.proofs.entries.Entries.add.Goals as goal
 
 -- the map's entries after the insertion
@@ -18,7 +18,7 @@ keyed c =
 -- the pages after it
 listed : (c : goal.Joined-branch-4) → listed_pages c.insert.new.self.entries
     ≡ listed_pages c.self.inside.by_name.entries ++ (record { name = c.args.name.now; count = c.args.initial.count; split = c.args.initial.split }) ∷ []
-listed c = rw (added c, pages_of-push, c.in_ok-name.ensures.ok) refl
+listed c = rw (added c, listed_pages-push, c.in_ok-name.ensures.ok) refl
 
 pub invariant_of-self-2 : goal.invariant_of-self-2
 invariant_of-self-2 c = (
