@@ -125,10 +125,7 @@ IsCollectFault-empty sizes entries slots Memory held f = tt
 IsCollectFault-empty sizes entries slots (Stranger submitter number) held f = absurd f
 IsCollectFault-empty sizes entries slots (Double submitter number) held f = absurd f
 
--- there are as many rows as submitters, and a row is as long as its submitter has requests
-pub few_rows : (sizes : List ℕ) (slots : List (List (Option Answer))) → map length slots ≡ sizes → length sizes ≤ 64 → length slots ≤ 64
-few_rows sizes slots sized few = omega (arith, length-map slots length, ap length sized, few)
-
+-- a row is as long as its submitter has requests
 pub short_rows : (sizes : List ℕ) (slots : List (List (Option Answer))) → map length slots ≡ sizes → ((k : ℕ) → get_or sizes k 0 < 2 ^ 32) → All (λ (row : List (Option Answer)). length row < 2 ^ 32) slots
 short_rows sizes slots sized short k d there =
     let same : get_or (map length slots) k 0 ≡ length (get_or slots k d) = get_or-map length slots k d 0 there in
