@@ -55,7 +55,7 @@ pub struct CoordSeatView {
     pub made: u32,
     pub phase: u32,
     pub ending: bool,
-    /// The sight of its last look, where that was its last step.
+    /// The sight of its last look, where it announced and released nothing since.
     pub last: Option<CoordSight>,
     /// The phase word that it saw last.
     pub word: u64,

@@ -1,4 +1,3 @@
-pub mod Counted
 pub mod Homes
 pub mod Liked
 pub mod Limits
@@ -6,5 +5,6 @@ pub mod PageSet
 pub mod Places
 pub mod Ring
 pub mod Share
+pub mod Slice
 pub mod UserTable
 pub mod Waiting

@@ -19,7 +19,7 @@ pub struct Slice {
 
 impl Model for Slice {
     ghost use Rattle.std.specs.Prelude.{ℕ, List};
-    ghost use Rattle.like_tables.specs.Counted.{AreLikedPages};
+    ghost use Rattle.like_tables.specs.Slice.{AreLikedPages};
 
     ghost Value = { List ℕ };
 
