@@ -29,3 +29,14 @@ returns-clause-sizes c =
     let i = c.loop-submitter.invariant in
     own-dealt c.args.sizes.now c.loop-submitter.own.items c.args.workers c.args.worker c.requires.some i.each i.there
     (omega (arith, i.at, c.loop-submitter-test.false))
+
+pub returns-clause-few : goal.returns-clause-few
+returns-clause-few c =
+    let i = c.loop-submitter.invariant in
+    omega (arith, i.few, i.short, c.requires.few_submitters)
+
+pub returns-clause-there : goal.returns-clause-there
+returns-clause-there c = c.loop-submitter.invariant.there
+
+pub overflow_add-submitter : goal.overflow_add-submitter
+overflow_add-submitter c = omega (arith, c.loop-submitter-test.true, c.requires.few_workers, c.requires.few_submitters)
