@@ -37,7 +37,7 @@ use Rattle.like_roles.proofs.counts.RightCounts.{below-is, right-counts}
 use Rattle.like_roles.specs.coordinator.Choice.{AreTotals, likes_counted}
 use Rattle.like_roles.specs.service.HotPages.{chosen_below, hot_by, likes_lately}
 use Rattle.like_roles.specs.service.Service.{Service, submitters}
-use Rattle.like_replies.specs.Entries.{IsRequest, entries_in, entries_of}
+use Rattle.like_collection.specs.Entries.{IsRequest, entries_in, entries_of}
 use Rattle.like_crew.specs.declared.ended.Ended.{Ended}
 use Rattle.like_crew.specs.declared.site.Site.{Site}
 use Rattle.like_crew.specs.EndToEnd.{AreCounts, AreLastLikes, AreLogs, AreRightCounts, run_of, runs_of}

@@ -10,9 +10,9 @@ use Rattle.like_roles.specs.service.Likes.{initial_count, last_like, likes}
 use Rattle.like_roles.specs.service.Replies.{HasRightCounts}
 use Rattle.like_roles.specs.service.HotPages.{chosen_below}
 use Rattle.like_roles.specs.service.Service.{Service, submitters}
-use Rattle.like_replies.specs.declared.report.Report.{Report}
-use Rattle.like_replies.specs.Collected.{IsCollected, rows_of}
-use Rattle.like_replies.specs.Entries.{entries_in}
+use Rattle.like_collection.specs.declared.report.Report.{Report}
+use Rattle.like_collection.specs.Collected.{IsCollected, rows_of}
+use Rattle.like_collection.specs.Entries.{entries_in}
 use Rattle.like_requests.specs.declared.request.Request.{Request}
 use Rattle.like_requests.specs.declared.setup.Setup.{Setup}
 use Rattle.like_crew.specs.Asked.{asked}

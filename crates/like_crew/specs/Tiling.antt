@@ -11,8 +11,8 @@ use Rattle.like_roles.specs.service.Adds.{AreOfLikes, addition_of, adds_before_l
 use Rattle.like_roles.specs.service.Likes.{initial_count}
 use Rattle.like_roles.specs.service.Looks.{ShownCount, shown_in}
 use Rattle.like_roles.specs.service.Service.{Service}
-use Rattle.like_replies.specs.declared.report.Report.{Report}
-use Rattle.like_replies.specs.Places.{ArePlaces, lists_in}
+use Rattle.like_collection.specs.declared.report.Report.{Report}
+use Rattle.like_collection.specs.Places.{ArePlaces, lists_in}
 use Rattle.like_crew.specs.Asked.{asked}
 use Rattle.like_crew.specs.EndToEnd.{runs_of}
 

@@ -11,7 +11,7 @@ use crate::ended::Ended;
 use crate::report::gathered::{last_likes, places_of, replies_of};
 use crate::site::Site;
 use like_board::{Board, CoordSeat, WorkerSeat};
-use like_replies::Report;
+use like_collection::Report;
 use like_requests::{Request, Setup};
 use std::alloc::{AllocError, Global};
 use std::snapshot::Snapshot;

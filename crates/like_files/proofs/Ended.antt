@@ -3,8 +3,8 @@ use Rattle.std.proofs.Common.{◌≡◌, ◌∙◌, ℕ, Bool, false, true, List
 use Rattle.std.proofs.lemmas.List.{length-map}
 use Rattle.std.specs.Io.KnownBytes.{Appends}
 use Rattle.like_requests.specs.declared.setup.Setup.{Setup}
-use Rattle.like_replies.specs.declared.place.Place.{Place}
-use Rattle.like_replies.specs.declared.report.Report.{Report}
+use Rattle.like_collection.specs.declared.place.Place.{Place}
+use Rattle.like_collection.specs.declared.report.Report.{Report}
 use Rattle.like_crew.specs.EndToEnd.{IsRightReport}
 use Rattle.like_crew.specs.Tiling.{HasNoPlaces, HasRightPlaces}
 use Rattle.like_requests.specs.Pages.{Page}

@@ -22,10 +22,10 @@ use Rattle.like_roles.specs.declared.reply.Reply.TheVariants.{Liked, Seen, Refus
 use Rattle.like_roles.specs.service.Likes.{AcceptedLike, accepted_like, last_like, like_of, likes_ran}
 use Rattle.like_roles.specs.service.Replies.{Answers, HasRightAnswers, IsRightAnswer}
 use Rattle.like_roles.specs.service.Service.{Service, numbered_in, request_at, request_of, submitters}
-use Rattle.like_replies.specs.declared.answer.Answer.{Answer}
-use Rattle.like_replies.specs.declared.report.Report.{Report}
-use Rattle.like_replies.specs.Collected.{answer_at, rows_of}
-use Rattle.like_replies.specs.Entries.{answer_of, entries_in, entries_of, is_of}
+use Rattle.like_collection.specs.declared.answer.Answer.{Answer}
+use Rattle.like_collection.specs.declared.report.Report.{Report}
+use Rattle.like_collection.specs.Collected.{answer_at, rows_of}
+use Rattle.like_collection.specs.Entries.{answer_of, entries_in, entries_of, is_of}
 use Rattle.like_replies.specs.Reported.{reported}
 use Rattle.like_replies.specs.Rows.{IsShowable, IsWritable}
 use Rattle.like_tables.specs.Share.{worker_of}

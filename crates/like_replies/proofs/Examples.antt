@@ -2,10 +2,7 @@
 use Rattle.std.proofs.Common.{◌≡◌, ℕ, [], ◌∷◌, None, Some, false, refl}
 use Rattle.std.specs.Prelude.{codes, decimal}
 use Rattle.like_requests.specs.Pages.{Page}
-use Rattle.like_roles.specs.declared.log.Ran.{Ran}
 use Rattle.like_roles.specs.declared.reply.Reply.TheVariants.{Liked}
-use Rattle.like_replies.specs.Collected.{answer_at}
-use Rattle.like_replies.specs.Entries.{answer_of, entries_of}
 use Rattle.like_replies.specs.Rows.{report_rows}
 
 abbrev page_a : Page
@@ -19,18 +16,3 @@ plain_rows : report_rows (page_a ∷ []) (record { replies = (record { phase = 0
     ∷ (codes "hot" ∷ decimal 0 ∷ [] ∷ decimal 3 ∷ [] ∷ codes "a" ∷ [] ∷ [])
     ∷ []
 plain_rows = refl
-
--- a like by a submitter, as it ran
-abbrev ran : ℕ → ℕ → Ran
-ran submitter number = record { phase = 1; submitter = submitter; number = number; stashed = false; reply = Liked }
-
--- the entries of a request
-of_request : entries_of 1 2 (ran 0 2 ∷ ran 1 2 ∷ ran 1 1 ∷ ran 1 2 ∷ []) ≡ ran 1 2 ∷ ran 1 2 ∷ []
-of_request = refl
-
--- numbers count from 1
-of_number_1 : answer_at ((answer_of (ran 0 1) ∷ []) ∷ []) 0 1 ≡ Some (answer_of (ran 0 1))
-of_number_1 = refl
-
-of_number_0 : answer_at ((answer_of (ran 0 1) ∷ []) ∷ []) 0 0 ≡ None
-of_number_0 = refl

@@ -7,25 +7,3 @@ mod sections;
 mod sheet;
 mod sheets;
 pub(crate) mod text;
-
-use crate::place::Place;
-use crate::replies::Replies;
-use like_roles::{Chosen, WorkerLog};
-
-/// What a run reports.
-#[derive(Debug, Drop)]
-pub struct Report {
-    /// What each worker has done.
-    pub logs: Vec<WorkerLog>,
-    pub replies: Replies,
-    /// The final count of each page.
-    pub counts: Vec<u64>,
-    /// The page of each user's last like, if there is one.
-    pub last: Vec<Option<u32>>,
-    /// The phase in which the run ended.
-    pub phases: u32,
-    /// The phases with hot pages, rising, each with the mask of its own.
-    pub hot: Vec<Chosen>,
-    /// By page, where the additions to it stand, by rising counts before.
-    pub places: Vec<Vec<Place>>,
-}

@@ -10,9 +10,9 @@ ghost use Rattle.like_crew.specs.Ended.{HasEnded};
 ghost use Rattle.like_crew.specs.Tiling.{HasNoPlaces, HasRightPlaces};
 ghost use Rattle.like_run.specs.Rounds.{CanMake, CanReplayScript, IsReplayFaultUnderWay, IsReplayFault};
 
+use like_collection::Report;
 use like_crew::{Crew, Ended, Site, report_of};
 use like_queue::ListInbox;
-use like_replies::Report;
 use like_requests::{Request, Setup, check_setup};
 use like_script::{Turned, check_script};
 use std::alloc::Global;

@@ -13,17 +13,11 @@ use Rattle.csv.specs.Writing.{default_writer, row_text}
 use Rattle.like_requests.specs.Pages.{Page}
 use Rattle.like_core.specs.Phase.{is_hot}
 use Rattle.like_roles.specs.declared.chosen.Chosen.{Chosen}
-use Rattle.like_replies.specs.declared.answer.Answer.{Answer}
-use Rattle.like_replies.specs.declared.place.Place.{Place}
+use Rattle.like_collection.specs.declared.answer.Answer.{Answer}
+use Rattle.like_collection.specs.declared.place.Place.{Place}
+use Rattle.like_collection.proofs.Lists.{enumerate_from-append}
 use Rattle.like_replies.specs.PlaceRows.{page_place_rows, place_rows}
 use Rattle.like_replies.specs.Rows.{answer_rows, hot_row, hot_rows, hot_rows_below, liker_rows, page_row, page_rows, reply_row, reply_rows, rows_text, submitter_rows, user_row}
-
--- the elements of a second list have the places after those of the first
-pub enumerate_from-append : {X : Type 0} (n : ℕ) (xs ys : List X) → enumerate_from n (xs ++ ys) ≡ enumerate_from n xs ++ enumerate_from (n + length xs) ys
-enumerate_from-append n [] ys = let e : n ≡ n + 0 = omega arith in ap (λ k. enumerate_from k ys) e
-enumerate_from-append {X} n (x ∷ xs) ys =
-    let e : n + 1 + length xs ≡ n + suc (length xs) = omega arith in
-    ap (λ r. (let p : ℕ × X = (n, x) in p) ∷ r) (enumerate_from-append (n + 1) xs ys ∙ ap (λ k. enumerate_from (n + 1) xs ++ enumerate_from k ys) e)
 
 -- the text of one more row
 pub rows_text-push : (rows : List (List (List ℕ))) (row : List (List ℕ)) → rows_text (rows ++ row ∷ []) ≡ rows_text rows ++ row_text default_writer row

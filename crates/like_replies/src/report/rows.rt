@@ -6,12 +6,11 @@ ghost use Rattle.like_replies.specs.Rows.{IsAnswer, IsShowable, header_row, hot_
 ghost use Rattle.like_replies.specs.PlaceRows.{place_row};
 ghost use Rattle.like_replies.specs.RowParts.{phase_text, place_start, reply_start, shown_text};
 
-use crate::answer::Answer;
-use crate::place::Place;
 use crate::report::head::Head;
 use crate::report::names::Names;
 use crate::report::phase_texts::PhaseTexts;
 use crate::report::sheet::Sheet;
+use like_collection::{Answer, Place};
 use like_requests::Verdict;
 use like_roles::Reply;
 use std::alloc::{AllocError, Global};

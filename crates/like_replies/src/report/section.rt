@@ -4,8 +4,6 @@ ghost use Rattle.like_replies.specs.PlaceRows.{page_place_rows};
 ghost use Rattle.like_replies.specs.Rows.{IsShowable, answer_rows, hot_rows, hot_rows_below, liker_rows, page_rows, rows_text};
 ghost use Rattle.like_replies.specs.Sections.{HasRows, section_rows};
 
-use crate::answer::Answer;
-use crate::place::Place;
 use crate::report::head::Head;
 use crate::report::names::Names;
 use crate::report::phase_texts::PhaseTexts;
@@ -13,6 +11,7 @@ use crate::report::rows::{
     add_header, add_hot, add_page, add_place, add_reply, add_user, start_reply,
 };
 use crate::report::sheet::Sheet;
+use like_collection::{Answer, Place};
 use like_core::is_hot;
 use like_roles::Chosen;
 use std::alloc::{AllocError, Global};

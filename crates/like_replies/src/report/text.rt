@@ -1,15 +1,15 @@
 ghost use Rattle.std.specs.Prelude.{◌≡◌, true, OnOk, length};
 ghost use Rattle.std.specs.Io.KnownBytes.{Appends};
+ghost use Rattle.like_collection.specs.Places.{lists_in};
 ghost use Rattle.like_replies.specs.PlaceRows.{place_rows, text_of};
-ghost use Rattle.like_replies.specs.Places.{lists_in};
 ghost use Rattle.like_replies.specs.Reported.{reported};
 ghost use Rattle.like_replies.specs.Rows.{IsWritable, report_text, rows_text};
 
-use crate::report::Report;
 use crate::report::names::Names;
 use crate::report::sections::{place_sections, report_sections};
 use crate::report::sheets::{write_rows, write_rows_at_once};
 use crate::write_fault::WriteFault;
+use like_collection::Report;
 use like_requests::Pages;
 use std::alloc::Global;
 use std::io::Write;

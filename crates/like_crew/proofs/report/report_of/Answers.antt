@@ -5,9 +5,9 @@ use Rattle.like_requests.specs.Verdict.{home}
 use Rattle.like_requests.specs.declared.request.Request.{Request}
 use Rattle.like_requests.specs.declared.setup.Setup.{Setup}
 use Rattle.like_core.specs.declared.opening.Opening.{Opening}
-use Rattle.like_replies.specs.Collected.{IsCollected, rows_of}
-use Rattle.like_replies.specs.Entries.{entries_in}
-use Rattle.like_replies.specs.Places.{ArePlaces, lists_in}
+use Rattle.like_collection.specs.Collected.{IsCollected, rows_of}
+use Rattle.like_collection.specs.Entries.{entries_in}
+use Rattle.like_collection.specs.Places.{ArePlaces, lists_in}
 use Rattle.like_roles.specs.declared.log.Added.{Added}
 use Rattle.like_roles.specs.declared.log.WorkerLog.{WorkerLog}
 use Rattle.like_tables.specs.Share.{worker_of}

@@ -5,7 +5,7 @@ use Rattle.std.proofs.lemmas.Result.{err_from_is_err_and}
 use Rattle.like_requests.specs.RequestsFile.{IsRequestsFault, IsRequestsFile}
 use Rattle.like_records.specs.Rows.{Record}
 use Rattle.like_requests.specs.declared.request.Request.{Request}
-use Rattle.like_replies.proofs.Lists.{take-more_taken}
+use Rattle.like_collection.proofs.Lists.{take-more_taken}
 use Rattle.like_files.proofs.Planned.{GivesPlans-next, RefusesPlans-next, of_records}
 use Rattle.like_files.proofs.plans.read_plans.Goals as goal
 

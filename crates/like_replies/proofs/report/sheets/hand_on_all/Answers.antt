@@ -5,7 +5,7 @@ use Rattle.std.proofs.lemmas.Iterator.Adapters.{YieldsList-from_vec}
 use Rattle.std.proofs.lemmas.Iterator.Consumers.{YieldsList-turn}
 use Rattle.std.proofs.lemmas.List.{map-append}
 use Rattle.std.specs.List.{flat_map}
-use Rattle.like_replies.proofs.Lists.{take-more_taken}
+use Rattle.like_collection.proofs.Lists.{take-more_taken}
 use Rattle.like_replies.proofs.report.sheets.hand_on_all.Goals as goal
 
 pub loop-sheet-preserved : goal.loop-sheet-preserved

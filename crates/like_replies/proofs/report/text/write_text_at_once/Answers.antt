@@ -2,8 +2,8 @@ use Rattle.std.proofs.Common.{◌≡◌, false, true, sym, append-nil}
 use Rattle.std.proofs.KnownBytes.{Appends-trans}
 use Rattle.std.proofs.lemmas.Result.{on_ok_weaker}
 use Rattle.std.specs.Io.KnownBytes.{Appends}
+use Rattle.like_collection.specs.Places.{lists_in}
 use Rattle.like_replies.specs.PlaceRows.{place_rows}
-use Rattle.like_replies.specs.Places.{lists_in}
 use Rattle.like_replies.specs.Reported.{reported}
 use Rattle.like_replies.specs.Rows.{report_text, rows_text}
 use Rattle.like_replies.proofs.report.text.write_text_at_once.Goals as goal

@@ -1,0 +1,4 @@
+pub mod slots
+pub mod Examples
+pub mod Lists
+pub mod PlaceLists

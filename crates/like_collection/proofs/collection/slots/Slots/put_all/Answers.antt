@@ -1,0 +1,42 @@
+use Rattle.std.proofs.Common.{rules, ◌≡◌, ◌+◌, List, [], ◌∷◌, ◌++◌, false, get_or, take, drop, sym, ap, ◌∙◌, subst, append_assoc}
+use Rattle.std.proofs.lemmas.List.{take_all, take_more}
+use Rattle.like_roles.specs.declared.log.Ran.{Ran}
+use Rattle.like_roles.specs.declared.reply.Reply.TheVariants.{Liked}
+use Rattle.like_collection.specs.Collected.{IsEntryFault}
+use Rattle.like_collection.specs.Slots.{HoldsAll}
+use Rattle.like_collection.proofs.slots.Collecting.{IsEntryFault-refused}
+use Rattle.like_collection.proofs.slots.Holding.{HoldsAll-put}
+use Rattle.like_collection.proofs.Lists.{parts_at}
+use Rattle.like_collection.proofs.collection.slots.Slots.put_all.Goals as goal
+
+-- what stands past the end of the entries
+abbrev past : Ran
+past = record { phase = 0; submitter = 0; number = 0; stashed = false; reply = Liked }
+
+pub returns-in_err-put : goal.returns-in_err-put
+returns-in_err-put c = λ sizes before held.
+    let i = c.loop-entry.entry-index in
+    let ran = c.args.ran.now in
+    let e = get_or ran i past in
+    let parts : before ++ ran ≡ (before ++ take i ran) ++ e ∷ drop (i + 1) ran =
+    ap (λ (r : List Ran). before ++ r) (parts_at ran i past c.loop-entry-test.true) ∙ sym (append_assoc before (take i ran) (e ∷ drop (i + 1) ran))
+    in
+    let fault : IsEntryFault sizes (before ++ ran) c.in_err-put.field-0.0 =
+    IsEntryFault-refused sizes (before ++ take i ran) c.loop-entry.self e (drop (i + 1) ran) (before ++ ran) c.in_err-put.field-0.0 (c.loop-entry.invariant sizes before held) parts c.in_err-put.ensures
+    in search (rules, fault)
+
+pub loop-entry-preserved : goal.loop-entry-preserved
+loop-entry-preserved c = λ sizes before held.
+    let i = c.loop-entry.entry-index in
+    let ran = c.args.ran.now in
+    let e = get_or ran i past in
+    let more : before ++ take (i + 1) ran ≡ (before ++ take i ran) ++ e ∷ [] =
+    ap (λ (r : List Ran). before ++ r) (take_more ran i past c.loop-entry-test.true) ∙ sym (append_assoc before (take i ran) (e ∷ []))
+    in
+    let held_more = HoldsAll-put sizes (before ++ take i ran) c.loop-entry.self e c.put.new.self (c.loop-entry.invariant sizes before held) c.in_ok-put.ensures in
+    subst (λ (l : List Ran). HoldsAll sizes l c.put.new.self) (sym more) held_more
+
+pub returns : goal.returns
+returns c = λ sizes before held.
+    let whole = take_all c.loop-entry.entry-index c.args.ran.now c.loop-entry-test.false in
+    subst (λ (r : List Ran). HoldsAll sizes (before ++ r) c.loop-entry.self) whole (c.loop-entry.invariant sizes before held)

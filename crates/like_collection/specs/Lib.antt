@@ -1,0 +1,4 @@
+pub mod Collected
+pub mod Entries
+pub mod Places
+pub mod Slots

@@ -1,0 +1,30 @@
+ghost use Rattle.std.specs.Prelude.{◌≤◌, MatchResult, length};
+ghost use Rattle.like_requests.specs.Limits.{max_submitters};
+ghost use Rattle.like_collection.specs.Collected.{IsCollectFault, IsCollected, rows_of};
+ghost use Rattle.like_collection.specs.Entries.{entries_in};
+
+mod slot_row;
+mod slots;
+
+use self::slots::Slots;
+use crate::collect_fault::CollectFault;
+use crate::replies::Replies;
+use like_roles::WorkerLog;
+use std::alloc::Global;
+
+/// Collects the answer of each request from the workers' logs, where the submitters have so many requests each.
+///
+/// Entries are tested in the order of the logs and of their lists, each first for `Stranger` and then for `Double`;
+/// then the least request without an entry is `Missing`. It takes as many steps as there are entries and requests.
+pub fn collect(alloc: Global, sizes: &[u32], logs: &[WorkerLog]) -> Result<Replies, CollectFault>
+    requires { length sizes.now ≤ max_submitters }
+    ensures { MatchResult result
+        (λ replies. IsCollected sizes.now (entries_in logs.now) (rows_of replies))
+        (IsCollectFault sizes.now (entries_in logs.now)) }
+{
+    let mut slots = Slots::new(alloc, sizes)?;
+    for log in logs {
+        slots.put_all(&log.ran)?;
+    }
+    slots.into_replies(alloc)
+}

@@ -1,5 +1,0 @@
-use Rattle.std.proofs.Common.{◌≡◌, None, map, replicate, take}
-use Rattle.like_replies.proofs.collection.slots.Slots.new.Given as goal
-
-abbrev pub invariant-loop-size : goal.invariant-loop-size
-invariant-loop-size l = l.rows.items ≡ map (λ size. replicate size None) (take l.size-index l.sizes)

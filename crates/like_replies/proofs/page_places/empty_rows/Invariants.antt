@@ -1,6 +1,0 @@
-use Rattle.std.proofs.Common.{◌≡◌, [], replicate}
-use Rattle.like_replies.specs.Places.{lists_in}
-use Rattle.like_replies.proofs.page_places.empty_rows.Given as goal
-
-abbrev pub invariant-loop-page : goal.invariant-loop-page
-invariant-loop-page l = lists_in l.rows.items ≡ replicate l._page []
