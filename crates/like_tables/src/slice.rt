@@ -14,7 +14,6 @@ pub struct Slice {
     counts: Vec<u64>,
     // The pages whose number is not 0.
     liked: PageSet,
-    total: u64,
 }
 
 impl Model for Slice {
@@ -25,7 +24,7 @@ impl Model for Slice {
 
     ghost view = { λ s. s.counts.items };
 
-    ghost invariant = { λ s. AreLikedPages s.counts.items s.liked s.total };
+    ghost invariant = { λ s. AreLikedPages s.counts.items s.liked };
 }
 
 impl Slice {
@@ -36,7 +35,6 @@ impl Slice {
         Ok(Slice {
             counts: vec![in alloc; 0; pages as usize]?,
             liked: PageSet::new(alloc, pages)?,
-            total: 0,
         })
     }
 
@@ -47,9 +45,11 @@ impl Slice {
         ensures counted { self.new ≡ slice_set self.old page (slice_index self.old page + 1) }
         ensures total { sum self.new ≡ sum self.old + 1 }
     {
-        self.counts[page as usize] += 1;
-        self.liked.insert(page);
-        self.total += 1;
+        let likes = &mut self.counts[page as usize];
+        if *likes == 0 {
+            self.liked.insert(page);
+        }
+        *likes += 1;
     }
 
     /// Gives the page's number and sets it to 0.
@@ -62,7 +62,6 @@ impl Slice {
         let likes = self.counts[page as usize];
         self.counts[page as usize] = 0;
         self.liked.remove(page);
-        self.total -= likes;
         likes
     }
 
@@ -79,7 +78,11 @@ impl Slice {
     pub fn total(&self) -> u64
         ensures { result ≡ sum self.now }
     {
-        self.total
+        let mut total = 0;
+        for likes in &self.counts {
+            total += likes;
+        }
+        total
     }
 
     /// Whether it has no like of any page.
@@ -87,6 +90,6 @@ impl Slice {
         ensures total { IsTrue result ↔ (sum self.now ≡ 0) }
         ensures pages { IsTrue result ↔ All (λ likes. likes ≡ 0) self.now }
     {
-        self.total == 0
+        self.next(0).is_none()
     }
 }
