@@ -7,6 +7,7 @@ use Rattle.clap.specs.declared.builder.action.ArgAction.{ArgAction}
 use Rattle.clap.specs.declared.builder.arg.Arg.{Arg}
 use Rattle.clap.specs.declared.builder.command.Command.{Command}
 use Rattle.clap.specs.declared.builder.texts.Texts.{Texts}
+use Rattle.clap.specs.declared.builder.value_parser.ValueParser.{ValueParser}
 use Rattle.like_words.specs.Built.{IsArgument, IsCommand, IsSubcommand}
 
 -- each step of building an argument is one field of its rule
@@ -28,6 +29,13 @@ pub acting : (old new : Arg) (r : Rule) (action : Option ArgAction) → new ≡ 
     → IsArgument (record r { action = action }) new
 acting old new r action is was = record {
   rule_is = ap rule_of is ∙ ap (λ (x : Rule). record x { action = action }) was.rule_is;
+  local = ap (λ (a : Arg). a.global) is ∙ was.local;
+}
+
+pub parsing : (old new : Arg) (r : Rule) (parser : ValueParser) → new ≡ record old { value_parser = new.value_parser }
+    → new.value_parser ≡ Some parser → IsArgument r old → IsArgument (record r { parser = Some parser }) new
+parsing old new r parser is given was = record {
+  rule_is = ap rule_of is ∙ ap₂ (λ (x : Rule) (p : Option ValueParser). record x { parser = p }) was.rule_is given;
   local = ap (λ (a : Arg). a.global) is ∙ was.local;
 }
 
