@@ -1,11 +1,8 @@
-use Rattle.std.proofs.Common.{◌∙◌, ◌∷◌, [], ap}
-use Rattle.clap.specs.Words.{Rule, rule_of}
-use Rattle.clap.specs.declared.builder.arg.Arg.{Arg}
+use Rattle.like_words.specs.CommandLine.{bounded_rule}
+use Rattle.like_words.proofs.Commands.{defaulted}
 use Rattle.like_words.proofs.command.number_option.Goals as goal
 
--- a default is one more field of the rule
 pub returns : goal.returns
-returns c = record {
-  rule_is = ap rule_of c.default_value.ensures ∙ ap (λ (r : Rule). record r { defaults = c.args.default.now ∷ [] }) c.bounded_option.ensures.rule_is;
-  local = ap (λ (a : Arg). a.global) c.default_value.ensures ∙ c.bounded_option.ensures.local;
-}
+returns c =
+    defaulted c.bounded_option.result c.default_value.result (bounded_rule c.args.name.now c.args.least c.args.most) _ c.default_value.ensures
+    c.bounded_option.ensures

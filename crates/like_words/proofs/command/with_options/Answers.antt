@@ -1,13 +1,12 @@
-use Rattle.std.proofs.Common.{◌≡◌, ◌∙◌, Bool, ap, codes}
+use Rattle.std.proofs.Common.{◌∙◌, ap, codes}
 use Rattle.std.proofs.lemmas.Result.{IfOk-weaker}
 use Rattle.clap.specs.Simple.{app_of_fields}
-use Rattle.clap.specs.Words.{App, Rule, new_app, rule_of, with_rule}
-use Rattle.clap.specs.declared.builder.arg.Arg.{Arg}
+use Rattle.clap.specs.Words.{App, new_app, with_rule}
 use Rattle.clap.specs.declared.builder.command.Command.{Command}
 use Rattle.clap.specs.declared.builder.command.Command.TheOpen.{Command-F}
-use Rattle.like_words.specs.Built.{IsArgument, IsCommand}
+use Rattle.like_words.specs.Built.{IsCommand}
 use Rattle.like_words.specs.CommandLine.{bounded_rule, number_rule}
-use Rattle.like_words.proofs.Commands.{added}
+use Rattle.like_words.proofs.Commands.{added, helped}
 use Rattle.like_words.proofs.command.with_options.Goals as goal
 
 abbrev app1 : App → App
@@ -25,13 +24,6 @@ app4 a = with_rule (app3 a) (number_rule (codes "turns") (codes "1000") 0 100000
 abbrev app5 : App → App
 app5 a = with_rule (app4 a) (bounded_rule (codes "hot") 1 1000000)
 
--- what is said of an argument in its help changes nothing else of it
-helped : (a b : Arg) (r : Rule) → rule_of b ≡ rule_of a → b.global ≡ a.global → IsArgument r a → IsArgument r b
-helped a b r rule global is = record { rule_is = rule ∙ is.rule_is; local = global ∙ is.local }
-
-abbrev is_global : Arg → Bool
-is_global a = a.global
-
 pub returns : goal.returns
 returns c =
     let app0 : App = new_app c.args.name.now in
@@ -39,11 +31,11 @@ returns c =
       app_is = ap app_of_fields c.after_help.ensures ∙ (ap app_of_fields c.about.ensures ∙ c.new.ensures.app);
       local = ap (λ (f : Command-F Command). f.has_globals) c.after_help.ensures ∙ (ap (λ (f : Command-F Command). f.has_globals) c.about.ensures ∙ c.new.ensures.local);
     } in
-    let a1 = helped c.number_option.result c.help-workers.result _ (ap rule_of c.help-workers.ensures) (ap is_global c.help-workers.ensures) c.number_option.ensures in
-    let a2 = helped c.number_option-2.result c.help-users.result _ (ap rule_of c.help-users.ensures) (ap is_global c.help-users.ensures) c.number_option-2.ensures in
-    let a3 = helped c.number_option-3.result c.help-stash.result _ (ap rule_of c.help-stash.ensures) (ap is_global c.help-stash.ensures) c.number_option-3.ensures in
-    let a4 = helped c.number_option-4.result c.help-turns.result _ (ap rule_of c.help-turns.ensures) (ap is_global c.help-turns.ensures) c.number_option-4.ensures in
-    let a5 = helped c.bounded_option.result c.help-hot.result _ (ap rule_of c.help-hot.ensures) (ap is_global c.help-hot.ensures) c.bounded_option.ensures in
+    let a1 = helped c.number_option.result c.help-workers.result _ _ c.help-workers.ensures c.number_option.ensures in
+    let a2 = helped c.number_option-2.result c.help-users.result _ _ c.help-users.ensures c.number_option-2.ensures in
+    let a3 = helped c.number_option-3.result c.help-stash.result _ _ c.help-stash.ensures c.number_option-3.ensures in
+    let a4 = helped c.number_option-4.result c.help-turns.result _ _ c.help-turns.ensures c.number_option-4.ensures in
+    let a5 = helped c.bounded_option.result c.help-hot.result _ _ c.help-hot.ensures c.bounded_option.ensures in
     let s1 = added c.after_help.result c.in_ok-arg.field-0 c.help-workers.result _ app0 c.in_ok-arg.ensures a1 s0 in
     let s2 = added c.in_ok-arg.field-0 c.in_ok-arg-2.field-0 c.help-users.result _ (app1 app0) c.in_ok-arg-2.ensures a2 s1 in
     let s3 = added c.in_ok-arg-2.field-0 c.in_ok-arg-3.field-0 c.help-stash.result _ (app2 app0) c.in_ok-arg-3.ensures a3 s2 in
