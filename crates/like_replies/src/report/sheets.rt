@@ -45,7 +45,7 @@ pub fn write_rows_at_once<T: Threads + Sync, W: Write>(
     sections: &[Section],
     out: &mut W,
 ) -> Result<(), WriteFault>
-    requires { All (HasRows names.now) sections.now }
+    requires has { All (HasRows names.now) sections.now }
     ensures { OnOk result (Appends
         (W.contents out.old)
         (W.contents out.new)

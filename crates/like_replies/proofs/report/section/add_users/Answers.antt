@@ -5,6 +5,9 @@ use Rattle.like_replies.specs.Rows.{liker_rows}
 use Rattle.like_replies.proofs.rows.Texts.{AddsRows, liker_rows-append}
 use Rattle.like_replies.proofs.report.section.add_users.Goals as goal
 
+pub add_last-requires-clause-there : goal.add_last-requires-clause-there
+add_last-requires-clause-there c = c.requires.there c.loop-page.page-index None c.loop-page-test.true
+
 pub loop-page-preserved : goal.loop-page-preserved
 loop-page-preserved c =
     let pages = c.args.names.now in

@@ -13,7 +13,7 @@ write_group-requires-clause-has g c κs lives =
     let group : List Section = c.in-Some.group.now in
     let rest : List Section = chunks_rest c.next.new.self in
     let whole : c.args.sections.now ≡ done ++ (group ++ rest) = c.loop-group.invariant.3 ∙ ap (λ r. done ++ r) c.in-Some.ensures.steps.1.0 in
-    All-part (HasRows c.args.names.now) done group rest (rw (← whole) c.requires)
+    All-part (HasRows c.args.names.now) done group rest (rw (← whole) c.requires.has)
 
 pub loop-group-preserved : goal.loop-group-preserved
 loop-group-preserved g c =

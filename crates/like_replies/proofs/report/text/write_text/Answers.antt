@@ -10,6 +10,12 @@ use Rattle.like_replies.specs.Reported.{reported}
 use Rattle.like_replies.specs.Rows.{report_text, rows_text}
 use Rattle.like_replies.proofs.report.text.write_text.Goals as goal
 
+pub write_report_rows-requires : goal.write_report_rows-requires
+write_report_rows-requires g c = rw c.in_ok-names.ensures c.requires.writable
+
+pub write_asked_rows-requires : goal.write_asked_rows-requires
+write_asked_rows-requires g c = rw c.in_ok-names.ensures c.requires.placed
+
 pub returns : goal.returns
 returns g c =
     let report = c.args.report.now in
