@@ -3,9 +3,6 @@ use Rattle.std.proofs.Common.{◌≡◌, ℕ, zero, suc, ◌+◌, ◌<◌, List,
 use Rattle.std.proofs.lemmas.List.{length-append, length-map, map-append, take-map, take_more}
 use Rattle.std.proofs.lemmas.Option.{get_or_from_slice_get, slice_get-map, slice_get_read, slice_get_within}
 use Rattle.std.proofs.lemmas.Slice.Zip.{AllZip-long, AllZip-right}
-use denote.Param.Members.{Shared}
-use Rattle.std.specs.Fn.{FnReturns}
-use Rattle.std.specs.Fork.{GivesJobs}
 use Rattle.std.specs.List.{AllZip, slice_get, slice_index_or}
 use Rattle.std.specs.Prelude.{IsSomeAnd, MatchOption, ◌⊎◌}
 use Rattle.like_records.specs.Reading.{records_of}
@@ -90,16 +87,21 @@ RefusesPlans-next source_of pages readers done reader answer plans fault front t
 
 -- ---- files that are read at once
 
+-- a call's answer, of which the fact holds with the reader at this place
+pub record AnswersJob {J R : Type 0} (P : J → R → Type 0) (jobs : List J) (place : ℕ) (answer : R) : Type 0 where
+  pub job : J
+  pub is_job : (d : J) → slice_index_or jobs place d ≡ job
+  pub holds : P job answer
+
 -- what the readers' calls answer matches the readers
-pub AllZip-jobs : {F J R : Type 0} (g : Shared F (J × Unit {0}) R) (f : F) (P : J → R → Type 0) (jobs : List J) (answers : List R) → length answers ≡ length jobs → GivesJobs g f jobs answers
-    → ((job : J) (r : R) → FnReturns g f (job, tt) r → P job r) → AllZip P jobs answers
-AllZip-jobs {J = Job} {R = Reply} g f P jobs answers same gives each = AllZip-by_place P jobs answers same by_place where
+pub AllZip-jobs : {J R : Type 0} (P : J → R → Type 0) (jobs : List J) (answers : List R) → length answers ≡ length jobs
+    → ((i : ℕ) (d : R) → i < length jobs → AnswersJob P jobs i (slice_index_or answers i d)) → AllZip P jobs answers
+AllZip-jobs {J = Job} {R = Reply} P jobs answers same each = AllZip-by_place P jobs answers same by_place where
   by_place : (i : ℕ) (x : Job) (y : Reply) → slice_get jobs i ≡ Some x → slice_get answers i ≡ Some y → P x y
   by_place i x y at there =
-      let given = (gives i y (slice_get_within jobs i x at)).1 in
-      let source : given.job ≡ x = sym (given.job_is x) ∙ get_or_from_slice_get jobs i x x at in
-      let is : P given.job (slice_index_or answers i y) = each given.job (slice_index_or answers i y) given.call in
-      subst (λ r. P x r) (get_or_from_slice_get answers i y y there) (subst (λ j. P j (slice_index_or answers i y)) source is)
+      let given : AnswersJob P jobs i (slice_index_or answers i y) = each i y (slice_get_within jobs i x at) in
+      let source : given.job ≡ x = sym (given.is_job x) ∙ get_or_from_slice_get jobs i x x at in
+      subst (λ r. P x r) (get_or_from_slice_get answers i y y there) (subst (λ j. P j (slice_index_or answers i y)) source given.holds)
 
 -- all files gave their plans
 pub GivesPlans-at_once : {R : Type 0} (source_of : R → Option (List ℕ)) (pages : List Page) (readers : List R) (answers : List Answer) (plans : List (Vec Request Global))

@@ -3,9 +3,6 @@ use Rattle.std.proofs.Common.{◌≡◌, ℕ, ◌*◌, ◌<◌, List, [], ◌∷
 use Rattle.std.proofs.lemmas.Grind.{flat_map-append}
 use Rattle.std.proofs.lemmas.List.{drop_more, length-map}
 use Rattle.std.proofs.lemmas.Option.{get_or_from_slice_get, slice_get-map, slice_get_within}
-use denote.Param.Members.{Shared}
-use denote.Ref.{Bor}
-use Rattle.std.specs.Fork.{GivesChunks}
 use Rattle.std.specs.List.{AllZip, flat_map, slice_get, slice_index_or}
 use Rattle.csv.specs.Writing.{default_writer, row_text}
 use Rattle.like_requests.specs.Pages.{Page}
@@ -28,20 +25,24 @@ texts-of_each pages (s ∷ more) [] h = absurd h
 texts-of_each pages (s ∷ more) (t ∷ ts) h =
     ap (λ text. text ++ flat_map (λ u. u) ts) h.0 ∙ ap (λ text. rows_text (rows_in pages (s ∷ [])) ++ text) (texts-of_each pages more ts h.1) ∙ rows_in-cons pages s more
 
+-- a call's answer, which where it is a text is that of the section at this place
+pub record MakesText {E : Type 0} (pages : List Page) (sections : List Section) (place : ℕ) (sheet : Result (List ℕ) E) : Type 0 where
+  pub part : List Section
+  pub is_part : part ≡ take 1 (drop (place * 1) sections)
+  pub text : IfOk sheet (λ text. text ≡ rows_text (rows_in pages part))
+
 -- calls that each made the text of one section made the text of all
-pub texts-at_once : {F E : Type 0} (g : Shared F (ℕ × (Bor (List Section) × Unit {0})) (Result (List ℕ) E)) (f : F) (pages : List Page) (sections : List Section) (sheets : List (Result (List ℕ) E)) (texts : List (List ℕ))
-    → length sheets ≡ length sections → GivesChunks g f 1 sections sheets
-    → ((at : ℕ) (part : Bor (List Section)) (r : Result (List ℕ) E) → g.post f (at, (part, tt)) r → IfOk r (λ text. text ≡ rows_text (rows_in pages part.now)))
+pub texts-at_once : {E : Type 0} (pages : List Page) (sections : List Section) (sheets : List (Result (List ℕ) E)) (texts : List (List ℕ))
+    → length sheets ≡ length sections → ((i : ℕ) (d : Result (List ℕ) E) → i < length sheets → MakesText pages sections i (slice_index_or sheets i d))
     → sheets ≡ map Ok texts → flat_map (λ text. text) texts ≡ rows_text (rows_in pages sections)
-texts-at_once {E = Fault} g f pages sections sheets texts same gives each made =
+texts-at_once {E = Fault} pages sections sheets texts same makes made =
     texts-of_each pages sections texts (AllZip-by_place _ sections texts (sym (length-map texts Ok) ∙ ap length (sym made) ∙ same) by_place) where
       by_place : (i : ℕ) (s : Section) (t : List ℕ) → slice_get sections i ≡ Some s → slice_get texts i ≡ Some t → t ≡ rows_text (rows_in pages (s ∷ []))
       by_place i s t at there =
           let inside : i < length sections = slice_get_within sections i s at in
-          let given = (gives i (Ok t) (rw same inside)).1 in
+          let given : MakesText pages sections i (slice_index_or sheets i (Ok t)) = makes i (Ok t) (rw same inside) in
           let is : slice_index_or sheets i (Ok t) ≡ Ok t = rw made (get_or_from_slice_get (map Ok texts) i (Ok t) (Ok t) (slice_get-map Ok texts i ∙ ap (λ o. option_map Ok o) there)) in
           let place : i * 1 ≡ i = omega arith in
           let one : take 1 (drop (i * 1) sections) ≡ s ∷ [] = rw (place, drop_more sections i s inside, get_or_from_slice_get sections i s s at) refl in
-          let text : IfOk (slice_index_or sheets i (Ok t)) (λ text. text ≡ rows_text (rows_in pages given.argument.now)) = each (i * 1) given.argument (slice_index_or sheets i (Ok t)) given.call in
-          let ok : t ≡ rows_text (rows_in pages given.argument.now) = subst (λ r. IfOk r (λ text. text ≡ rows_text (rows_in pages given.argument.now))) is text in
-          ok ∙ ap (λ part. rows_text (rows_in pages part)) (given.argument_is.value ∙ one)
+          let ok : t ≡ rows_text (rows_in pages given.part) = subst (λ (r : Result (List ℕ) Fault). IfOk r (λ text. text ≡ rows_text (rows_in pages given.part))) is given.text in
+          ok ∙ ap (λ part. rows_text (rows_in pages part)) (given.is_part ∙ one)

@@ -1,6 +1,7 @@
-ghost use Rattle.std.specs.Prelude.{◌≡◌, ◌<◌, ◌+◌, ◌^◌, ◌++◌, All, OnOk, length};
+ghost use Rattle.std.specs.Prelude.{◌≡◌, ◌<◌, ◌+◌, ◌^◌, [], ◌∷◌, ◌++◌, All, IfOk, OnOk, codes, length};
 ghost use Rattle.std.specs.Option.{ForSome};
 ghost use Rattle.like_replies.specs.PlaceRows.{page_place_rows};
+ghost use Rattle.like_replies.specs.RowParts.{reply_start};
 ghost use Rattle.like_replies.specs.Rows.{IsShowable, answer_rows, hot_rows, hot_rows_below, liker_rows, page_rows, rows_text};
 ghost use Rattle.like_replies.specs.Sections.{HasRows, section_rows};
 
@@ -80,14 +81,27 @@ fn add_answers(
     ensures { OnOk result (sheet.new ≡ sheet.old
         ++ rows_text (answer_rows names.now submitter before answers.now)) }
 {
-    let start = start_reply(alloc, submitter)?;
-    let mut head = Head::new(alloc, start.text(), before + 1)?;
-    let mut phases = [PhaseTexts::new(alloc, 0)?, PhaseTexts::new(alloc, 1)?];
+    let mut head = reply_head(alloc, submitter, before)?;
+    let mut phases = first_phases(alloc)?;
     for answer in answers {
         add_reply(alloc, sheet, names, &head, &mut phases, answer)?;
         head.next();
     }
     Ok(())
+}
+
+// The head of the first of these rows, whose requests count from 1.
+fn reply_head(alloc: Global, submitter: u64, before: u64) -> Result<Head, AllocError>
+    requires { before + 1 < 2 ^ 64 }
+    ensures { IfOk result (λ head. head ≡ record { start = reply_start submitter; number = before + 1 }) }
+{
+    let start = start_reply(alloc, submitter)?;
+    Head::new(alloc, start.text(), before + 1)
+}
+
+// The texts of the first two phases.
+fn first_phases(alloc: Global) -> Result<[PhaseTexts; 2], AllocError> {
+    Ok([PhaseTexts::new(alloc, 0)?, PhaseTexts::new(alloc, 1)?])
 }
 
 // Adds the rows of the pages.
@@ -116,12 +130,28 @@ fn add_users(
 {
     let mut head = Head::new(alloc, b"user,", before)?;
     for page in last {
-        if let Some(page) = *page {
-            add_user(sheet, names, &head, page)?;
-        }
+        add_last(sheet, names, &head, *page)?;
         head.next();
     }
     Ok(())
+}
+
+// Adds the row of the head's user, if it has a last like.
+fn add_last(
+    sheet: &mut Sheet,
+    names: &Names,
+    head: &Head,
+    last: Option<u32>,
+) -> Result<(), AllocError>
+    requires start { head.now.start ≡ codes "user," }
+    requires there { ForSome last (λ page. page < length names.now) }
+    ensures { OnOk result (sheet.new ≡ sheet.old
+        ++ rows_text (liker_rows names.now head.now.number (last ∷ []))) }
+{
+    match last {
+        Some(page) => add_user(sheet, names, head, page),
+        None => Ok(()),
+    }
 }
 
 // Adds the rows of the hot pages, phase by phase.

@@ -45,20 +45,37 @@ pub fn write_rows_at_once<T: Threads + Sync, W: Write>(
     sections: &[Section],
     out: &mut W,
 ) -> Result<(), WriteFault>
-    requires { All (HasRows names.now) sections.now }
+    requires has { All (HasRows names.now) sections.now }
     ensures { OnOk result (Appends
         (W.contents out.old)
         (W.contents out.new)
         (rows_text (rows_in names.now sections.now))) }
 {
+    for group in sections.chunks(AT_ONCE) {
+        write_group(rt, alloc, names, group, out)?;
+    }
+    flush(out)
+}
+
+// Writes the rows of a few sections, which are made side by side.
+fn write_group<T: Threads + Sync, W: Write>(
+    rt: &T,
+    alloc: Global,
+    names: &Names,
+    group: &[Section],
+    out: &mut W,
+) -> Result<(), WriteFault>
+    requires has { All (HasRows names.now) group.now }
+    ensures { OnOk result (Appends
+        (W.contents out.old)
+        (W.contents out.new)
+        (rows_text (rows_in names.now group.now))) }
+{
     let made = |_at: usize, part: &[Section]| -> Result<Sheet, AllocError>
         requires { All (HasRows names.now) part.now }
         ensures { IfOk result (λ sheet. sheet ≡ rows_text (rows_in names.entry.now part.entry.now)) }
     { sheet_of(alloc, names, part) };
-    for group in sections.chunks(AT_ONCE) {
-        hand_on_all(out, thread::map_chunks(rt, alloc, group, 1, &made)?)?;
-    }
-    flush(out)
+    hand_on_all(out, thread::map_chunks(rt, alloc, group, 1, &made)?)
 }
 
 // The text of sections.

@@ -1,4 +1,4 @@
-ghost use Rattle.std.specs.Prelude.{◌≡◌, true, OnOk, length};
+ghost use Rattle.std.specs.Prelude.{◌≡◌, if◌then◌else◌, true, [], OnOk, length};
 ghost use Rattle.std.specs.Io.KnownBytes.{Appends};
 ghost use Rattle.like_collection.specs.Places.{lists_in};
 ghost use Rattle.like_replies.specs.PlaceRows.{place_rows, text_of};
@@ -100,8 +100,25 @@ pub fn write_text<W: Write>(
 {
     let names = Names::new(alloc, pages)?;
     write_report_rows(alloc, &names, report, out)?;
+    write_asked_rows(alloc, places, &names, report, out)
+}
+
+// Writes the rows of the places where they are asked for.
+fn write_asked_rows<W: Write>(
+    alloc: Global,
+    places: bool,
+    names: &Names,
+    report: &Report,
+    out: &mut W,
+) -> Result<(), WriteFault>
+    requires { places ≡ true → length report.now.places.items ≡ length names.now }
+    ensures { OnOk result (Appends
+        (W.contents out.old)
+        (W.contents out.new)
+        (if places then rows_text (place_rows names.now (lists_in report.now.places.items)) else [])) }
+{
     if places {
-        write_place_rows(alloc, &names, report, out)?;
+        return write_place_rows(alloc, names, report, out);
     }
     Ok(())
 }
@@ -124,10 +141,62 @@ pub fn write_text_at_once<T: Threads + Sync, W: Write>(
         (text_of places pages.now report.now)) }
 {
     let names = Names::new(alloc, pages)?;
-    write_rows_at_once(rt, alloc, &names, &report_sections(alloc, report)?, out)?;
+    write_report_rows_at_once(rt, alloc, &names, report, out)?;
+    write_asked_rows_at_once(rt, alloc, places, &names, report, out)
+}
+
+// Writes the rows of the report, some of them made side by side.
+fn write_report_rows_at_once<T: Threads + Sync, W: Write>(
+    rt: &T,
+    alloc: Global,
+    names: &Names,
+    report: &Report,
+    out: &mut W,
+) -> Result<(), WriteFault>
+    requires { IsWritable names.now (reported report.now) }
+    ensures { OnOk result (Appends
+        (W.contents out.old)
+        (W.contents out.new)
+        (report_text names.now (reported report.now))) }
+{
+    write_rows_at_once(rt, alloc, names, &report_sections(alloc, report)?, out)
+}
+
+// Writes the rows of the places where they are asked for, some of them made side by side.
+fn write_asked_rows_at_once<T: Threads + Sync, W: Write>(
+    rt: &T,
+    alloc: Global,
+    places: bool,
+    names: &Names,
+    report: &Report,
+    out: &mut W,
+) -> Result<(), WriteFault>
+    requires { places ≡ true → length report.now.places.items ≡ length names.now }
+    ensures { OnOk result (Appends
+        (W.contents out.old)
+        (W.contents out.new)
+        (if places then rows_text (place_rows names.now (lists_in report.now.places.items)) else [])) }
+{
     if !places {
         return Ok(());
     }
-    let sections = place_sections(alloc, pages.len(), &report.places)?;
-    write_rows_at_once(rt, alloc, &names, &sections, out)
+    write_place_rows_at_once(rt, alloc, names, report, out)
+}
+
+// Writes these rows.
+fn write_place_rows_at_once<T: Threads + Sync, W: Write>(
+    rt: &T,
+    alloc: Global,
+    names: &Names,
+    report: &Report,
+    out: &mut W,
+) -> Result<(), WriteFault>
+    requires { length report.now.places.items ≡ length names.now }
+    ensures { OnOk result (Appends
+        (W.contents out.old)
+        (W.contents out.new)
+        (rows_text (place_rows names.now (lists_in report.now.places.items)))) }
+{
+    let sections = place_sections(alloc, names.len(), &report.places)?;
+    write_rows_at_once(rt, alloc, names, &sections, out)
 }

@@ -5,7 +5,8 @@ use Rattle.like_files.proofs.plans.read_plans_at_once.Goals as goal
 pub returns-in-Ok : goal.returns-in-Ok
 returns-in-Ok g c =
     let same : length c.in-Ok.answers.items ≡ length c.args.requests.items = omega (arith, c.in-Ok.answers.ok.0, c.in-Ok.ensures.len, c.args.requests.ok.0) in
-    let reads = AllZip-jobs _ _ (Reads g.R.Read.remaining c.args.pages.now) c.args.requests.items c.in-Ok.answers.items same c.in-Ok.ensures.each (λ job answer call. call.met) in
+    let reads = AllZip-jobs (Reads g.R.Read.remaining c.args.pages.now) c.args.requests.items c.in-Ok.answers.items same
+    (λ i d there. let given = (c.in-Ok.ensures.each i d there).1 in record { job = given.job; is_job = given.job_is; holds = given.call.met }) in
     at_once g.R.Read.remaining c.args.pages.now c.args.requests.items c.in-Ok.answers.items c.gather.result reads c.gather.ensures
 
 pub returns-in-Err : goal.returns-in-Err
