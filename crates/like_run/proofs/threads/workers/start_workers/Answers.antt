@@ -1,6 +1,8 @@
-use Rattle.std.proofs.Common.{◌≡◌, ◌∙◌, ◌++◌, ◌∷◌, [], ℕ, List, length-append, map, subst, sym, ap, arith}
+use Rattle.std.proofs.Common.{◌≡◌, ◌∙◌, ◌++◌, ◌∷◌, [], ℕ, List, length, length-append, map, subst, sym, ap, arith}
 use Rattle.std.specs.List.{All}
-use Rattle.std.proofs.lemmas.List.{map_push}
+use Rattle.std.proofs.lemmas.Iterator.Adapters.{YieldsList-from_vec}
+use Rattle.std.proofs.lemmas.Iterator.Consumers.{YieldsList-end, YieldsList-turn}
+use Rattle.std.proofs.lemmas.List.{length-map, map-id, map_push}
 use Rattle.std.proofs.lemmas.List.Elements.{All-append}
 use Rattle.std.specs.declared.thread.PromisedHandle.{PromisedHandle}
 use Rattle.like_run.specs.declared.threads.worker.Owes.{Owes}
@@ -20,6 +22,26 @@ servers-more : (old new : List (PromisedHandle Served Owes)) (thread : PromisedH
     → first_of thread ≡ server → map first_of new ≡ servers ++ server ∷ []
 servers-more old new thread servers server pushed before first =
     ap (map first_of) pushed ∙ map_push first_of old thread ∙ ap (λ xs. xs ++ first_of thread ∷ []) before ∙ ap (λ s. servers ++ s ∷ []) first
+
+-- as many threads as servers
+as-many : (threads : List (PromisedHandle Served Owes)) (servers : List ServerView) → map first_of threads ≡ servers → length threads ≡ length servers
+as-many threads servers are = sym (length-map threads first_of) ∙ ap (λ (xs : List ServerView). length xs) are
+
+pub push_reserved-requires : goal.push_reserved-requires
+push_reserved-requires g c =
+    let l = c.loop-server in
+    let from = c.into_iter-server-iterator.ensures.into_iter_gives in
+    let all = YieldsList-from_vec {s = c.into_iter-server-iterator.result} c.args.servers.items from.0 (from.1 ∙ c.args.servers.ok.0) in
+    let turn = YieldsList-turn all l.yielded _ l.yielded_by _ c.next.new.self c.in-Some.server c.in-Some.is c.next.ensures.steps in
+    omega (arith, turn.0, as-many l.threads.items l.yielded l.invariant.servers, l.threads.ok.0, l.invariant.room, c.requires.room)
+
+pub returns-clause-servers : goal.returns-clause-servers
+returns-clause-servers g c = λ started.
+    let l = c.loop-server in
+    let from = c.into_iter-server-iterator.ensures.into_iter_gives in
+    let all = YieldsList-from_vec {s = c.into_iter-server-iterator.result} c.args.servers.items from.0 (from.1 ∙ c.args.servers.ok.0) in
+    let end = YieldsList-end all l.yielded _ l.yielded_by _ c.next.new.self c.in-None.is c.next.ensures.steps in
+    l.invariant.servers ∙ sym (map-id l.yielded) ∙ end.0
 
 pub loop-server-preserved : goal.loop-server-preserved
 loop-server-preserved g c =
