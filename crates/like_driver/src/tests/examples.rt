@@ -38,6 +38,18 @@ pub fn options(alloc: Global, users: u32, files: usize) -> Result<Options, Alloc
     })
 }
 
+/// The bytes of a text, so many times.
+pub fn copies<'a>(alloc: Global, text: &'a str, count: usize) -> Result<Vec<&'a [u8]>, AllocError>
+    ensures { IfOk result (λ copies. length copies.items ≡ count) }
+{
+    let mut copies = Vec::new(alloc);
+    for copy in 0..count {
+        let _ = copy;
+        copies.push(text.as_bytes())?;
+    }
+    Ok(copies)
+}
+
 // The first bytes of a text, up to so many.
 fn cut(text: &'static str, most: usize) -> &'static [u8] {
     let bytes = text.as_bytes();
