@@ -5,12 +5,12 @@ use like_files::DriverFault;
 use like_requests::{PagesFault, RequestsFault, SettingsFault};
 use like_run::ScriptFault;
 use like_words::Options;
-use std::alloc::Global;
+use std::alloc::{AllocError, Global};
 use std::process::Abort;
 use std::test::Fail;
 
 // What the lines say of a pages file.
-const OF_PAGES: [(PagesFault, &str); 9] = [
+const OF_PAGES: &[(PagesFault, &str)] = &[
     (PagesFault::Read, "read failed"),
     (PagesFault::Header, "the header is not name,count,split"),
     (PagesFault::Fields { row: 7 }, "row 7: not three fields"),
@@ -35,7 +35,7 @@ const OF_PAGES: [(PagesFault, &str); 9] = [
 ];
 
 // What they say of a request file.
-const OF_REQUESTS: [(RequestsFault, &str); 6] = [
+const OF_REQUESTS: &[(RequestsFault, &str)] = &[
     (RequestsFault::Read, "read failed"),
     (RequestsFault::Header, "the header is not op,user,page"),
     (RequestsFault::Fields { row: 7 }, "row 7: not three fields"),
@@ -51,7 +51,7 @@ const OF_REQUESTS: [(RequestsFault, &str); 6] = [
 ];
 
 // What they say of a script.
-const OF_SCRIPT: [(DriverFault, &str); 4] = [
+const OF_SCRIPT: &[(DriverFault, &str)] = &[
     (DriverFault::Script(ScriptFault::Read), "read failed"),
     (
         DriverFault::Script(ScriptFault::Line { row: 2 }),
@@ -67,6 +67,37 @@ const OF_SCRIPT: [(DriverFault, &str); 4] = [
     ),
 ];
 
+fn of_pages() -> &'static [(PagesFault, &'static str)] {
+    OF_PAGES
+}
+
+fn of_requests() -> &'static [(RequestsFault, &'static str)] {
+    OF_REQUESTS
+}
+
+fn of_script() -> &'static [(DriverFault, &'static str)] {
+    OF_SCRIPT
+}
+
+// Asserts what a fault's line is.
+fn assert_text(rt: &impl Abort, alloc: Global, options: &Options, fault: DriverFault, want: &str) {
+    let mut line = Vec::new(alloc);
+    assert!(rt; fault.line(options, &mut line));
+    assert_eq!(rt; line.as_slice(), want.as_bytes());
+}
+
+// Whether a fault's line is written where so many writes of one byte succeed.
+fn is_written(options: &Options, fault: DriverFault, writes: usize) -> bool {
+    fault.line(options, &mut Narrow::new(1, writes, true))
+}
+
+// Asserts that a line of so many bytes that can't be written is told.
+fn assert_written(rt: &impl Abort, options: &Options, fault: DriverFault, length: usize) {
+    for writes in 0..=length {
+        assert_eq!(rt; is_written(options, fault, writes), writes == length);
+    }
+}
+
 // Asserts what a fault's line says of the file of this name, and that a line that can't be written is told.
 fn assert_line(
     rt: &impl Abort,
@@ -76,33 +107,47 @@ fn assert_line(
     file: &str,
     text: &str,
 ) {
-    let mut line = Vec::new(alloc);
-    assert!(rt; fault.line(options, &mut line));
     let want = format!(in alloc; "likes: {file}: {text}\n").expect(rt, "memory");
-    assert_eq!(rt; line.as_slice(), want.as_bytes());
-    for writes in 0..want.len() {
-        let mut out = Narrow::new(1, writes, true);
-        assert!(rt; !fault.line(options, &mut out));
+    assert_text(rt, alloc, options, fault, want.as_str());
+    assert_written(rt, options, fault, want.len());
+}
+
+// Two request files and a script.
+fn scripted(alloc: Global) -> Result<Options, AllocError> {
+    let mut options = options(alloc, 2, 2)?;
+    options.script = Some(String::from_str(alloc, "s.csv")?);
+    Ok(options)
+}
+
+// Asserts what the lines say of the request file of a submitter.
+fn assert_requests(rt: &impl Abort, alloc: Global, options: &Options, submitter: u32, file: &str) {
+    for (fault, text) in of_requests() {
+        let fault = DriverFault::Requests {
+            submitter,
+            fault: *fault,
+        };
+        assert_line(rt, alloc, options, fault, file, text);
     }
-    assert!(rt; fault.line(options, &mut Narrow::new(1, want.len(), true)));
 }
 
 #[test]
 fn of_files(rt: HostRuntime) -> Result<(), Fail> {
-    let mut options = options(rt.alloc(), 2, 2)?;
-    options.script = Some(String::from_str(rt.alloc(), "s.csv")?);
-    for (fault, text) in OF_PAGES {
-        let fault = DriverFault::Pages(fault);
-        assert_line(&rt, rt.alloc(), &options, fault, "p.csv", text);
+    let options = scripted(rt.alloc())?;
+    for (fault, text) in of_pages() {
+        assert_line(
+            &rt,
+            rt.alloc(),
+            &options,
+            DriverFault::Pages(*fault),
+            "p.csv",
+            text,
+        );
     }
-    for (fault, text) in OF_REQUESTS {
-        for (submitter, file) in [(0, "r0.csv"), (1, "r1.csv"), (2, "")] {
-            let fault = DriverFault::Requests { submitter, fault };
-            assert_line(&rt, rt.alloc(), &options, fault, file, text);
-        }
+    for (submitter, file) in [(0, "r0.csv"), (1, "r1.csv"), (2, "")] {
+        assert_requests(&rt, rt.alloc(), &options, submitter, file);
     }
-    for (fault, text) in OF_SCRIPT {
-        assert_line(&rt, rt.alloc(), &options, fault, "s.csv", text);
+    for (fault, text) in of_script() {
+        assert_line(&rt, rt.alloc(), &options, *fault, "s.csv", text);
     }
     Ok(())
 }
@@ -112,9 +157,7 @@ fn of_no_file(rt: HostRuntime) -> Result<(), Fail> {
     let options = options(rt.alloc(), 2, 1)?;
     let fault = DriverFault::Script(ScriptFault::Read);
     assert_line(&rt, rt.alloc(), &options, fault, "", "read failed");
-    let mut line = Vec::new(rt.alloc());
-    assert!(rt; DriverFault::Unfinished.line(&options, &mut line));
     let want = "likes: not finished after 1000000 rounds\n";
-    assert_eq!(rt; line.as_slice(), want.as_bytes());
+    assert_text(&rt, rt.alloc(), &options, DriverFault::Unfinished, want);
     Ok(())
 }

@@ -1,18 +1,157 @@
 //! The program on files, by `serve_words`.
-use super::examples::LATE_WORKER;
+use super::examples::cases::LATE_WORKER;
 use crate::program::serve_words;
 use like_devices::Narrow;
 use std::alloc::{AllocError, Global};
 use std::fs;
 use std::fs::Files;
 use std::io::Read;
+use std::process::Abort;
 use std::sync::Wait;
 use std::test::Fail;
 use std::thread::Threads;
 
+// What the program writes to a stream: a text, or one that begins or ends with it.
+#[derive(Clone, Copy)]
+enum Written {
+    Whole(&'static str),
+    Begin(&'static str),
+    End(&'static str),
+}
+
+impl Written {
+    // Whether these bytes are such a text.
+    fn fits(self, bytes: &[u8]) -> bool {
+        match self {
+            Written::Whole(text) => bytes == text.as_bytes(),
+            Written::Begin(text) => bytes.starts_with(text.as_bytes()),
+            Written::End(text) => bytes.ends_with(text.as_bytes()),
+        }
+    }
+}
+
+// A start of the program: the files that are there, the words, and what they end in.
+#[derive(Clone, Copy)]
+struct Start {
+    test: &'static str,
+    files: &'static [(&'static str, &'static str)],
+    words: &'static str,
+    status: u8,
+    out: Written,
+    errors: Written,
+}
+
+// A start that writes nothing and ends with 0; what else a test wants stands in its start.
+const STILL: Start = Start {
+    test: "",
+    files: &[],
+    words: "",
+    status: 0,
+    out: Written::Whole(""),
+    errors: Written::Whole(""),
+};
+
 const PAGES: &str = "name,count,split\na,10,no\n";
 
 const REQUESTS: &str = "op,user,page\nlike,0,a\nlook,1,b\n";
+
+// Words that name a file that can't be opened or read.
+const NOT_THERE: Start = Start {
+    test: "opens_in_order",
+    files: &[("opens-bad.csv", "no,header\n")],
+    status: 3,
+    ..STILL
+};
+
+const STARTS: &[Start] = &[
+    Start {
+        test: "replays_files",
+        files: &[("replays-p.csv", PAGES), ("replays-r.csv", REQUESTS)],
+        words: "replay --workers 1 --users 2 replays-p.csv replays-r.csv",
+        out: Written::Whole(
+            "row,id,number,phase,answer,page,count\nreply,0,1,0,liked,,\n\
+            reply,0,2,0,unknown-page,,\npage,0,,,,a,11\nuser,0,,,,a,\n",
+        ),
+        ..STILL
+    },
+    Start {
+        test: "replays_by_the_options",
+        files: &[
+            ("late-p.csv", "name,count,split\na,0,yes\n"),
+            ("late-0.csv", "op,user,page\n"),
+            ("late-1.csv", "op,user,page\nlook,1,a\nlook,1,a\nlook,3,a\n"),
+            ("late-s.csv", LATE_WORKER),
+        ],
+        words: "replay --workers 2 --users 2 --turns 0 --script late-s.csv late-p.csv late-0.csv late-1.csv",
+        out: Written::Whole(
+            "row,id,number,phase,answer,page,count\nreply,1,1,2,seen,,0\nreply,1,2,2,seen,,0\n\
+            reply,1,3,3,unknown-user,,\npage,0,,,,a,0\n",
+        ),
+        ..STILL
+    },
+    Start {
+        test: "runs_files",
+        files: &[("runs-p.csv", PAGES), ("runs-r.csv", REQUESTS)],
+        words: "run --users 2 runs-p.csv runs-r.csv",
+        out: Written::End("page,0,,,,a,11\nuser,0,,,,a,\n"),
+        ..STILL
+    },
+    Start {
+        words: "replay none-p.csv none-r.csv",
+        errors: Written::Whole("likes: none-p.csv: read failed\n"),
+        ..NOT_THERE
+    },
+    Start {
+        words: "run opens-bad.csv none-r.csv",
+        errors: Written::Whole("likes: none-r.csv: read failed\n"),
+        ..NOT_THERE
+    },
+    Start {
+        words: "replay opens-bad.csv opens-bad.csv none-r.csv --script none-s.csv",
+        errors: Written::Whole("likes: none-r.csv: read failed\n"),
+        ..NOT_THERE
+    },
+    Start {
+        words: "replay opens-bad.csv opens-bad.csv --script none-s.csv",
+        errors: Written::Whole("likes: none-s.csv: read failed\n"),
+        ..NOT_THERE
+    },
+    Start {
+        words: "replay opens-bad.csv opens-bad.csv",
+        errors: Written::Whole("likes: opens-bad.csv: the header is not name,count,split\n"),
+        ..NOT_THERE
+    },
+    Start {
+        words: "replay . opens-bad.csv",
+        errors: Written::Whole("likes: .: read failed\n"),
+        ..NOT_THERE
+    },
+    Start {
+        test: "shows_help",
+        words: "replay --help",
+        out: Written::Begin("Runs the requests on one thread"),
+        ..STILL
+    },
+    Start {
+        test: "tells_wrong_words",
+        words: "walk p.csv r.csv",
+        status: 2,
+        errors: Written::Begin("error: unrecognized subcommand 'walk'"),
+        ..STILL
+    },
+    Start {
+        test: "tells_wrong_words",
+        words: "replay --places p.csv --places r.csv",
+        status: 2,
+        errors: Written::Begin("error: the argument '--places' cannot be used multiple times"),
+        ..STILL
+    },
+];
+
+// The starts of all tests. A test that takes them from here has none of their texts in its proof.
+fn starts() -> &'static [Start] {
+    STARTS
+}
 
 // The words of a text, each a text of its own.
 fn texts(alloc: Global, text: &str) -> Result<Vec<String>, AllocError> {
@@ -23,145 +162,111 @@ fn texts(alloc: Global, text: &str) -> Result<Vec<String>, AllocError> {
     Ok(texts)
 }
 
-// What the words of a text end in: the status, and what stands on the output and the errors.
+// What words end in: the status, and what stands on the output and the errors.
 fn served<R: Files + Threads + Wait + Sync>(
     rt: &R,
     alloc: Global,
-    text: &str,
-) -> Result<(u8, Vec<u8>, Vec<u8>), AllocError>
+    words: &[String],
+) -> (u8, Vec<u8>, Vec<u8>)
 where
     R::File: Read + Drop + Send,
 {
-    let words = texts(alloc, text)?;
     let (mut out, mut errors) = (Vec::new(alloc), Vec::new(alloc));
-    let status = serve_words(rt, alloc, words.as_slice(), &mut out, &mut errors);
-    Ok((status, out, errors))
+    let status = serve_words(rt, alloc, words, &mut out, &mut errors);
+    (status, out, errors)
+}
+
+// Writes the files of a start.
+fn write_files(files: &impl Files, start: &Start) -> Result<(), Fail> {
+    for (name, text) in start.files {
+        fs::write(files, *name, *text)?;
+    }
+    Ok(())
+}
+
+// Removes the files of a start.
+fn remove_files(files: &impl Files, start: &Start) -> Result<(), Fail> {
+    for (name, _) in start.files {
+        fs::remove_file(files, *name)?;
+    }
+    Ok(())
+}
+
+// Asserts what a start ends in.
+fn assert_end(rt: &impl Abort, start: &Start, status: u8, out: &[u8], errors: &[u8]) {
+    assert!(rt; start.errors.fits(errors), "{}: {errors:?}", start.words);
+    assert!(rt; start.out.fits(out), "{}: {out:?}", start.words);
+    assert_eq!(rt; status, start.status, "{}", start.words);
+}
+
+// Asserts what a start ends in with its files.
+fn assert_start<R: Files + Threads + Wait + Abort + Sync>(
+    rt: &R,
+    alloc: Global,
+    start: &Start,
+) -> Result<(), Fail>
+where
+    R::File: Read + Drop + Send,
+{
+    write_files(rt, start)?;
+    let words = texts(alloc, start.words)?;
+    let (status, out, errors) = served(rt, alloc, words.as_slice());
+    assert_end(rt, start, status, out.as_slice(), errors.as_slice());
+    remove_files(rt, start)
+}
+
+// Asserts what the starts of a test end in.
+fn assert_starts<R: Files + Threads + Wait + Abort + Sync>(
+    rt: &R,
+    alloc: Global,
+    test: &str,
+) -> Result<(), Fail>
+where
+    R::File: Read + Drop + Send,
+{
+    let mut is_known = false;
+    for start in starts() {
+        if start.test == test {
+            is_known = true;
+            assert_start(rt, alloc, start)?;
+        }
+    }
+    assert!(rt; is_known, "{test}");
+    Ok(())
 }
 
 #[test]
 fn replays_files(rt: HostRuntime) -> Result<(), Fail> {
-    fs::write(&rt, "replays-p.csv", PAGES)?;
-    fs::write(&rt, "replays-r.csv", REQUESTS)?;
-    let words = "replay --workers 1 --users 2 replays-p.csv replays-r.csv";
-    let (status, out, errors) = served(&rt, rt.alloc(), words)?;
-    fs::remove_file(&rt, "replays-p.csv")?;
-    fs::remove_file(&rt, "replays-r.csv")?;
-    let want =
-        "row,id,number,phase,answer,page,count\nreply,0,1,0,liked,,\nreply,0,2,0,unknown-page,,\n\
-        page,0,,,,a,11\nuser,0,,,,a,\n";
-    assert_eq!(rt; out.as_slice(), want.as_bytes());
-    assert_eq!(rt; errors.as_slice(), b"".as_slice());
-    assert_eq!(rt; status, 0);
-    Ok(())
+    assert_starts(&rt, rt.alloc(), "replays_files")
 }
 
 // The files of `late-worker` with a request of a user who is not there, by the options and the script that are named:
 // with other numbers, in another order or without the script, the requests would run in other phases.
 #[test]
 fn replays_by_the_options(rt: HostRuntime) -> Result<(), Fail> {
-    fs::write(&rt, "late-p.csv", "name,count,split\na,0,yes\n")?;
-    fs::write(&rt, "late-0.csv", "op,user,page\n")?;
-    fs::write(
-        &rt,
-        "late-1.csv",
-        "op,user,page\nlook,1,a\nlook,1,a\nlook,3,a\n",
-    )?;
-    fs::write(&rt, "late-s.csv", LATE_WORKER)?;
-    let words =
-        "replay --workers 2 --users 2 --turns 0 --script late-s.csv late-p.csv late-0.csv late-1.csv";
-    let (status, out, errors) = served(&rt, rt.alloc(), words)?;
-    for name in ["late-p.csv", "late-0.csv", "late-1.csv", "late-s.csv"] {
-        fs::remove_file(&rt, name)?;
-    }
-    let want = "row,id,number,phase,answer,page,count\nreply,1,1,2,seen,,0\nreply,1,2,2,seen,,0\n\
-        reply,1,3,3,unknown-user,,\npage,0,,,,a,0\n";
-    assert_eq!(rt; out.as_slice(), want.as_bytes());
-    assert_eq!(rt; errors.as_slice(), b"".as_slice());
-    assert_eq!(rt; status, 0);
-    Ok(())
+    assert_starts(&rt, rt.alloc(), "replays_by_the_options")
 }
 
 // The phases in which requests run may differ from run to run.
 #[test]
 fn runs_files(rt: HostRuntime) -> Result<(), Fail> {
-    fs::write(&rt, "runs-p.csv", PAGES)?;
-    fs::write(&rt, "runs-r.csv", REQUESTS)?;
-    let words = "run --users 2 runs-p.csv runs-r.csv";
-    let (status, out, errors) = served(&rt, rt.alloc(), words)?;
-    fs::remove_file(&rt, "runs-p.csv")?;
-    fs::remove_file(&rt, "runs-r.csv")?;
-    assert!(rt; out.ends_with(b"page,0,,,,a,11\nuser,0,,,,a,\n"));
-    assert_eq!(rt; errors.as_slice(), b"".as_slice());
-    assert_eq!(rt; status, 0);
-    Ok(())
+    assert_starts(&rt, rt.alloc(), "runs_files")
 }
-
-// Words that name a file that can't be opened or read, and the line of the first.
-const NOT_THERE: [(&str, &str); 6] = [
-    (
-        "replay none-p.csv none-r.csv",
-        "likes: none-p.csv: read failed\n",
-    ),
-    (
-        "run opens-bad.csv none-r.csv",
-        "likes: none-r.csv: read failed\n",
-    ),
-    (
-        "replay opens-bad.csv opens-bad.csv none-r.csv --script none-s.csv",
-        "likes: none-r.csv: read failed\n",
-    ),
-    (
-        "replay opens-bad.csv opens-bad.csv --script none-s.csv",
-        "likes: none-s.csv: read failed\n",
-    ),
-    (
-        "replay opens-bad.csv opens-bad.csv",
-        "likes: opens-bad.csv: the header is not name,count,split\n",
-    ),
-    ("replay . opens-bad.csv", "likes: .: read failed\n"),
-];
 
 // All files are opened before one is read, and the first that can't be opened is told.
 #[test]
 fn opens_in_order(rt: HostRuntime) -> Result<(), Fail> {
-    fs::write(&rt, "opens-bad.csv", "no,header\n")?;
-    for (words, line) in NOT_THERE {
-        let (status, out, errors) = served(&rt, rt.alloc(), words)?;
-        assert_eq!(rt; errors.as_slice(), line.as_bytes());
-        assert_eq!(rt; status, 3);
-        assert!(rt; out.is_empty());
-    }
-    fs::remove_file(&rt, "opens-bad.csv")?;
-    Ok(())
+    assert_starts(&rt, rt.alloc(), "opens_in_order")
 }
 
 #[test]
 fn shows_help(rt: HostRuntime) -> Result<(), Fail> {
-    let (status, out, errors) = served(&rt, rt.alloc(), "replay --help")?;
-    assert_eq!(rt; status, 0);
-    assert!(rt;
-        out.as_slice()
-            .starts_with(b"Runs the requests on one thread")
-    );
-    assert!(rt; errors.is_empty());
-    Ok(())
+    assert_starts(&rt, rt.alloc(), "shows_help")
 }
 
 #[test]
 fn tells_wrong_words(rt: HostRuntime) -> Result<(), Fail> {
-    for (words, line) in [
-        ("walk p.csv r.csv", "error: unrecognized subcommand 'walk'"),
-        (
-            "replay --places p.csv --places r.csv",
-            "error: the argument '--places' cannot be used multiple times",
-        ),
-    ] {
-        let (status, out, errors) = served(&rt, rt.alloc(), words)?;
-        assert_eq!(rt; status, 2);
-        assert!(rt; out.is_empty());
-        assert!(rt; errors.as_slice().starts_with(line.as_bytes()), "{words}");
-    }
-    Ok(())
+    assert_starts(&rt, rt.alloc(), "tells_wrong_words")
 }
 
 // What words end in on an output of one byte a write, of which so many succeed: the status and the line.
@@ -181,22 +286,32 @@ where
     (status, errors)
 }
 
-// An output that fails at any write, or where it is flushed: of the stored example, and of help.
+// Asserts that words tell of an output that fails at any write of so many, or where it is flushed.
+fn assert_output_fails<R: Files + Threads + Wait + Abort + Sync>(
+    rt: &R,
+    alloc: Global,
+    words: &[String],
+    length: usize,
+)
+where
+    R::File: Read + Drop + Send,
+{
+    let want = "likes: standard output: write failed\n";
+    for writes in 0..=length {
+        let (status, errors) = served_onto(rt, alloc, words, writes, writes < length);
+        assert_eq!(rt; errors.as_slice(), want.as_bytes());
+        assert_eq!(rt; status, 3, "after {writes} writes");
+    }
+}
+
+// Of the stored example, and of help.
 #[test]
 fn tells_that_its_output_failed(rt: HostRuntime) -> Result<(), Fail> {
     for text in ["", "--help"] {
-        let (_, out, _) = served(&rt, rt.alloc(), text)?;
         let words = texts(rt.alloc(), text)?;
-        for writes in 0..=out.len() {
-            let flushes = writes < out.len();
-            let (status, errors) = served_onto(&rt, rt.alloc(), &words, writes, flushes);
-            assert_eq!(rt;
-                errors.as_slice(),
-                b"likes: standard output: write failed\n".as_slice()
-            );
-            assert_eq!(rt; status, 3, "after {writes} writes");
-        }
-        let (status, errors) = served_onto(&rt, rt.alloc(), &words, out.len(), true);
+        let (_, out, _) = served(&rt, rt.alloc(), words.as_slice());
+        assert_output_fails(&rt, rt.alloc(), words.as_slice(), out.len());
+        let (status, errors) = served_onto(&rt, rt.alloc(), words.as_slice(), out.len(), true);
         assert!(rt; errors.is_empty());
         assert_eq!(rt; status, 0);
     }

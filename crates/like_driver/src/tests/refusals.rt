@@ -1,13 +1,14 @@
 //! What `replay_files` refuses, and that nothing is written then.
 ghost use Rattle.std.specs.Prelude.{◌≡◌, is_some, length};
 
-use super::examples::options;
+use super::examples::{copies, options};
 use like_devices::{Narrow, Trickle};
 use like_files::{DriverFault, replay_files};
 use like_requests::{PagesFault, RequestsFault, SettingsFault};
 use like_run::ScriptFault;
 use like_words::Options;
 use std::alloc::{AllocError, Global};
+use std::process::Abort;
 use std::test::Fail;
 
 const PAGES: &str = "name,count,split\na,10,no\n";
@@ -22,63 +23,79 @@ fn of_requests(fault: RequestsFault) -> DriverFault {
     }
 }
 
-// The plain example's files, which fail after so many reads.
-fn replay_slowly(alloc: Global, pages: usize, requests: usize) -> Result<Vec<u8>, DriverFault> {
-    let options = options(alloc, 2, 1).map_err(|_| DriverFault::Memory)?;
-    let pages = Trickle::new(PAGES.as_bytes(), pages);
+// The fault of the plain example's files, which fail after so many reads.
+fn slow_fault(
+    alloc: Global,
+    pages: usize,
+    requests: usize,
+) -> Result<Option<DriverFault>, AllocError> {
+    let options = options(alloc, 2, 1)?;
     let mut files = Vec::new(alloc);
-    if files
-        .push(Trickle::new(REQUESTS.as_bytes(), requests))
-        .is_err()
-    {
-        return Err(DriverFault::Memory);
-    }
+    files.push(Trickle::new(REQUESTS.as_bytes(), requests))?;
+    let pages = Trickle::new(PAGES.as_bytes(), pages);
     let mut out = Vec::new(alloc);
-    replay_files(alloc, &options, pages, files, None, &mut out)?;
-    Ok(out)
+    Ok(replay_files(alloc, &options, pages, files, None, &mut out).err())
 }
 
 #[test]
-fn failing_reads(rt: HostRuntime) {
+fn failing_reads(rt: HostRuntime) -> Result<(), Fail> {
     for reads in 0..PAGES.len() + 1 {
-        let fault = replay_slowly(rt.alloc(), reads, usize::MAX).err();
-        assert_eq!(rt;
-            fault,
-            Some(DriverFault::Pages(PagesFault::Read)),
-            "after {reads} reads"
-        );
+        let fault = slow_fault(rt.alloc(), reads, usize::MAX)?;
+        let want = DriverFault::Pages(PagesFault::Read);
+        assert_eq!(rt; fault, Some(want), "after {reads} reads");
     }
     for reads in 0..REQUESTS.len() + 1 {
-        let fault = replay_slowly(rt.alloc(), usize::MAX, reads).err();
+        let fault = slow_fault(rt.alloc(), usize::MAX, reads)?;
         let want = of_requests(RequestsFault::Read);
         assert_eq!(rt; fault, Some(want), "after {reads} reads");
     }
-    assert!(rt; replay_slowly(rt.alloc(), usize::MAX, usize::MAX).is_ok());
+    assert_eq!(rt; slow_fault(rt.alloc(), usize::MAX, usize::MAX)?, None);
+    Ok(())
 }
 
-// The plain example onto a writer of one byte a write, of which so many succeed.
-fn replay_onto(alloc: Global, writes: usize, flushes: bool) -> Result<(), DriverFault> {
-    let options = options(alloc, 2, 1).map_err(|_| DriverFault::Memory)?;
+// The fault of the plain example onto a writer of one byte a write, of which so many succeed.
+fn write_fault(
+    alloc: Global,
+    writes: usize,
+    flushes: bool,
+) -> Result<Option<DriverFault>, AllocError> {
+    let options = options(alloc, 2, 1)?;
     let mut files = Vec::new(alloc);
-    if files.push(REQUESTS.as_bytes()).is_err() {
-        return Err(DriverFault::Memory);
-    }
+    files.push(REQUESTS.as_bytes())?;
     let mut out = Narrow::new(1, writes, flushes);
-    replay_files(alloc, &options, PAGES.as_bytes(), files, None, &mut out)
+    Ok(replay_files(alloc, &options, PAGES.as_bytes(), files, None, &mut out).err())
 }
 
 // The report has 139 bytes. Then it is flushed.
 #[test]
-fn failing_writes(rt: HostRuntime) {
-    for writes in 0..139 {
-        let done = replay_onto(rt.alloc(), writes, true);
-        assert_eq!(rt; done, Err(DriverFault::Write), "after {writes} writes");
+fn failing_writes(rt: HostRuntime) -> Result<(), Fail> {
+    for writes in 0..=139 {
+        let fault = write_fault(rt.alloc(), writes, writes < 139)?;
+        assert_eq!(rt; fault, Some(DriverFault::Write), "after {writes} writes");
     }
-    assert_eq!(rt;
-        replay_onto(rt.alloc(), 139, false),
-        Err(DriverFault::Write)
-    );
-    assert_eq!(rt; replay_onto(rt.alloc(), 139, true), Ok(()));
+    assert_eq!(rt; write_fault(rt.alloc(), 139, true)?, None);
+    Ok(())
+}
+
+// The files of a replay, and its fault.
+#[derive(Clone, Copy)]
+struct Case {
+    pages: &'static str,
+    requests: &'static str,
+    script: &'static str,
+    fault: Option<DriverFault>,
+}
+
+// The plain example's files with an empty script.
+const PLAIN: Case = Case {
+    pages: PAGES,
+    requests: REQUESTS,
+    script: "",
+    fault: None,
+};
+
+fn plain() -> Case {
+    PLAIN
 }
 
 // The fault of a replay with these options, as many request files and a script where they name one, and whether nothing
@@ -86,120 +103,248 @@ fn failing_writes(rt: HostRuntime) {
 fn fault_of(
     alloc: Global,
     options: &Options,
-    pages: &str,
-    requests: &str,
-    script: &str,
+    case: &Case,
 ) -> Result<(Option<DriverFault>, bool), AllocError> {
-    let mut files = Vec::new(alloc);
-    for _ in &options.requests {
-        files.push(requests.as_bytes())?;
-    }
+    let files = copies(alloc, case.requests, options.requests.len())?;
     let script = match options.script {
-        Some(_) => Some(script.as_bytes()),
+        Some(_) => Some(case.script.as_bytes()),
         None => None,
     };
     let mut out = Vec::new(alloc);
-    let fault = replay_files(alloc, options, pages.as_bytes(), files, script, &mut out).err();
+    let pages = case.pages.as_bytes();
+    let fault = replay_files(alloc, options, pages, files, script, &mut out).err();
     Ok((fault, out.is_empty()))
+}
+
+// Asserts what a replay with these options ends in, and that nothing is written just where it has a fault.
+fn assert_fault(
+    rt: &impl Abort,
+    alloc: Global,
+    options: &Options,
+    case: &Case,
+) -> Result<(), Fail> {
+    let (fault, is_untouched) = fault_of(alloc, options, case)?;
+    assert_eq!(rt; fault, case.fault);
+    assert_eq!(rt; is_untouched, case.fault.is_some());
+    Ok(())
+}
+
+// Asserts what replays with these options end in.
+fn assert_faults(
+    rt: &impl Abort,
+    alloc: Global,
+    options: &Options,
+    cases: &[Case],
+) -> Result<(), Fail> {
+    for case in cases {
+        assert_fault(rt, alloc, options, case)?;
+    }
+    Ok(())
+}
+
+// The settings of a replay, how many request files it has, and its fault.
+#[derive(Clone, Copy)]
+struct Numbers {
+    workers: u32,
+    users: u32,
+    stash: u32,
+    turns: u32,
+    hot: Option<u32>,
+    files: usize,
+    fault: Option<SettingsFault>,
+}
+
+// Those of the plain example.
+const LONE: Numbers = Numbers {
+    workers: 1,
+    users: 2,
+    stash: 256,
+    turns: 1_000,
+    hot: None,
+    files: 1,
+    fault: None,
+};
+
+const SETTINGS: &[Numbers] = &[
+    Numbers { turns: 0, ..LONE },
+    Numbers {
+        workers: 16,
+        users: 1_000,
+        stash: 4_096,
+        files: 64,
+        ..LONE
+    },
+    Numbers {
+        workers: 0,
+        users: 0,
+        stash: 0,
+        turns: 0,
+        files: 0,
+        fault: Some(SettingsFault::Workers),
+        ..LONE
+    },
+    Numbers {
+        workers: 17,
+        fault: Some(SettingsFault::Workers),
+        ..LONE
+    },
+    Numbers {
+        users: 0,
+        stash: 0,
+        turns: 0,
+        files: 0,
+        fault: Some(SettingsFault::Submitters),
+        ..LONE
+    },
+    Numbers {
+        files: 65,
+        fault: Some(SettingsFault::Submitters),
+        ..LONE
+    },
+    Numbers {
+        users: 0,
+        stash: 0,
+        turns: 0,
+        fault: Some(SettingsFault::Users),
+        ..LONE
+    },
+    Numbers {
+        stash: 0,
+        turns: 1_000_001,
+        fault: Some(SettingsFault::Stash),
+        ..LONE
+    },
+    Numbers {
+        turns: 1_000_001,
+        fault: Some(SettingsFault::Turns),
+        ..LONE
+    },
+    Numbers {
+        hot: Some(0),
+        fault: Some(SettingsFault::Hot),
+        ..LONE
+    },
+];
+
+fn all_settings() -> &'static [Numbers] {
+    SETTINGS
+}
+
+// The options with these settings.
+fn options_with(alloc: Global, numbers: &Numbers) -> Result<Options, AllocError> {
+    let mut options = options(alloc, numbers.users, numbers.files)?;
+    options.workers = numbers.workers;
+    options.stash = numbers.stash;
+    options.turns = numbers.turns;
+    options.hot = numbers.hot;
+    Ok(options)
 }
 
 #[test]
 fn settings(rt: HostRuntime) -> Result<(), Fail> {
-    let cases = [
-        (1, 2, 256, 0, 1, None),
-        (16, 1_000, 4_096, 1_000, 64, None),
-        (0, 0, 0, 0, 0, Some(SettingsFault::Workers)),
-        (17, 2, 256, 1_000, 1, Some(SettingsFault::Workers)),
-        (1, 0, 0, 0, 0, Some(SettingsFault::Submitters)),
-        (1, 2, 256, 1_000, 65, Some(SettingsFault::Submitters)),
-        (1, 0, 0, 0, 1, Some(SettingsFault::Users)),
-        (1, 2, 0, 1_000_001, 1, Some(SettingsFault::Stash)),
-        (1, 2, 256, 1_000_001, 1, Some(SettingsFault::Turns)),
-    ];
-    for (workers, users, stash, turns, files, want) in cases {
-        let mut options = options(rt.alloc(), users, files)?;
-        options.workers = workers;
-        options.stash = stash;
-        options.turns = turns;
-        let (fault, is_untouched) = fault_of(rt.alloc(), &options, PAGES, REQUESTS, "")?;
-        assert_eq!(rt; fault, want.map(DriverFault::Settings));
-        assert_eq!(rt; is_untouched, want.is_some());
+    let mut case = plain();
+    for numbers in all_settings() {
+        let options = options_with(rt.alloc(), numbers)?;
+        case.fault = numbers.fault.map(DriverFault::Settings);
+        assert_fault(&rt, rt.alloc(), &options, &case)?;
     }
-    let mut options = options(rt.alloc(), 2, 1)?;
-    options.hot = Some(0);
-    let (fault, is_untouched) = fault_of(rt.alloc(), &options, PAGES, REQUESTS, "")?;
-    assert_eq!(rt; fault, Some(DriverFault::Settings(SettingsFault::Hot)));
-    assert!(rt; is_untouched);
     Ok(())
 }
 
+// Two request files, so many workers and a script.
+fn scripted(alloc: Global, workers: u32) -> Result<Options, AllocError> {
+    let mut options = options(alloc, 2, 2)?;
+    options.workers = workers;
+    options.script = Some(String::from_str(alloc, "s.csv")?);
+    Ok(options)
+}
+
 // Scripts that are refused: as files, and by the run.
+const SCRIPTS: &[Case] = &[
+    Case {
+        fault: Some(DriverFault::Script(ScriptFault::Line { row: 0 })),
+        ..PLAIN
+    },
+    Case {
+        script: "turn,index\nworker,0\nfly,1\n",
+        fault: Some(DriverFault::Script(ScriptFault::Line { row: 2 })),
+        ..PLAIN
+    },
+    Case {
+        script: "turn,index\nworker,0\nworker,5\n",
+        fault: Some(DriverFault::Settings(SettingsFault::Script { at: 1 })),
+        ..PLAIN
+    },
+    Case {
+        script: "turn,index\nopen,2\n",
+        fault: Some(DriverFault::Settings(SettingsFault::Script { at: 0 })),
+        ..PLAIN
+    },
+];
+
+fn wrong_scripts() -> &'static [Case] {
+    SCRIPTS
+}
+
 #[test]
 fn scripts(rt: HostRuntime) -> Result<(), Fail> {
-    let mut options = options(rt.alloc(), 2, 2)?;
-    options.workers = 2;
-    options.script = Some(String::from_str(rt.alloc(), "s.csv")?);
-    let cases = [
-        ("", DriverFault::Script(ScriptFault::Line { row: 0 })),
-        (
-            "turn,index\nworker,0\nfly,1\n",
-            DriverFault::Script(ScriptFault::Line { row: 2 }),
-        ),
-        (
-            "turn,index\nworker,0\nworker,5\n",
-            DriverFault::Settings(SettingsFault::Script { at: 1 }),
-        ),
-        (
-            "turn,index\nopen,2\n",
-            DriverFault::Settings(SettingsFault::Script { at: 0 }),
-        ),
-    ];
-    for (script, want) in cases {
-        let (fault, is_untouched) = fault_of(rt.alloc(), &options, PAGES, REQUESTS, script)?;
-        assert_eq!(rt; fault, Some(want));
-        assert_eq!(rt; want.status(), 3);
-        assert!(rt; is_untouched);
+    let options = scripted(rt.alloc(), 2)?;
+    assert_faults(&rt, rt.alloc(), &options, wrong_scripts())?;
+    for case in wrong_scripts() {
+        assert_eq!(rt; case.fault.map(|fault| fault.status()), Some(3));
     }
     Ok(())
 }
 
 // What stands where every file and the settings are at fault, and then as each fault in turn is mended.
+const ORDER: &[Case] = &[
+    Case {
+        pages: "",
+        requests: "",
+        script: "",
+        fault: Some(DriverFault::Pages(PagesFault::Header)),
+    },
+    Case {
+        pages: PAGES,
+        requests: "",
+        script: "",
+        fault: Some(DriverFault::Requests {
+            submitter: 0,
+            fault: RequestsFault::Header,
+        }),
+    },
+    Case {
+        fault: Some(DriverFault::Script(ScriptFault::Line { row: 0 })),
+        ..PLAIN
+    },
+    Case {
+        script: "turn,index\nworker,0\n",
+        fault: Some(DriverFault::Settings(SettingsFault::Workers)),
+        ..PLAIN
+    },
+];
+
+// The last of them, with settings that are right.
+const MENDED: Case = Case {
+    script: "turn,index\nworker,0\n",
+    ..PLAIN
+};
+
+fn wrong_in_turn() -> (&'static [Case], Case) {
+    (ORDER, MENDED)
+}
+
 #[test]
 fn faults_in_order(rt: HostRuntime) -> Result<(), Fail> {
-    let mut options = options(rt.alloc(), 2, 2)?;
-    options.workers = 0;
-    options.script = Some(String::from_str(rt.alloc(), "s.csv")?);
-    let script = "turn,index\nworker,0\n";
-    let cases = [
-        ("", "", "", DriverFault::Pages(PagesFault::Header)),
-        (PAGES, "", "", of_requests(RequestsFault::Header)),
-        (
-            PAGES,
-            REQUESTS,
-            "",
-            DriverFault::Script(ScriptFault::Line { row: 0 }),
-        ),
-        (
-            PAGES,
-            REQUESTS,
-            script,
-            DriverFault::Settings(SettingsFault::Workers),
-        ),
-    ];
-    for (pages, requests, script, want) in cases {
-        let (fault, is_untouched) = fault_of(rt.alloc(), &options, pages, requests, script)?;
-        assert_eq!(rt; fault, Some(want));
-        assert!(rt; is_untouched);
-    }
+    let (cases, mended) = wrong_in_turn();
+    let mut options = scripted(rt.alloc(), 0)?;
+    assert_faults(&rt, rt.alloc(), &options, cases)?;
     options.workers = 1;
-    let (fault, is_untouched) = fault_of(rt.alloc(), &options, PAGES, REQUESTS, script)?;
-    assert_eq!(rt; fault, None);
-    assert!(rt; !is_untouched);
-    Ok(())
+    assert_fault(&rt, rt.alloc(), &options, &mended)
 }
 
 // Pages files that are refused.
-const WRONG_PAGES: [(&str, PagesFault); 7] = [
+const WRONG_PAGES: &[(&str, PagesFault)] = &[
     (
         "name,count,split\na,1,no\na,2,no\n",
         PagesFault::Duplicate { row: 2 },
@@ -218,8 +363,12 @@ const WRONG_PAGES: [(&str, PagesFault); 7] = [
     ("", PagesFault::Header),
 ];
 
+fn wrong_pages() -> &'static [(&'static str, PagesFault)] {
+    WRONG_PAGES
+}
+
 // Request files that are refused.
-const WRONG_REQUESTS: [(&str, RequestsFault); 3] = [
+const WRONG_REQUESTS: &[(&str, RequestsFault)] = &[
     ("op,user,page\npush,0,a\n", RequestsFault::Op { row: 1 }),
     (
         "op,user,page\nlike,4294967296,a\n",
@@ -228,18 +377,24 @@ const WRONG_REQUESTS: [(&str, RequestsFault); 3] = [
     ("", RequestsFault::Header),
 ];
 
+fn wrong_requests() -> &'static [(&'static str, RequestsFault)] {
+    WRONG_REQUESTS
+}
+
 #[test]
 fn reader_faults(rt: HostRuntime) -> Result<(), Fail> {
     let options = options(rt.alloc(), 2, 1)?;
-    for (pages, fault) in WRONG_PAGES {
-        let (told, is_untouched) = fault_of(rt.alloc(), &options, pages, "", "")?;
-        assert_eq!(rt; told, Some(DriverFault::Pages(fault)));
-        assert!(rt; is_untouched);
+    let mut case = plain();
+    for (requests, fault) in wrong_requests() {
+        case.requests = requests;
+        case.fault = Some(of_requests(*fault));
+        assert_fault(&rt, rt.alloc(), &options, &case)?;
     }
-    for (requests, fault) in WRONG_REQUESTS {
-        let (told, is_untouched) = fault_of(rt.alloc(), &options, PAGES, requests, "")?;
-        assert_eq!(rt; told, Some(of_requests(fault)));
-        assert!(rt; is_untouched);
+    case.requests = "";
+    for (pages, fault) in wrong_pages() {
+        case.pages = pages;
+        case.fault = Some(DriverFault::Pages(*fault));
+        assert_fault(&rt, rt.alloc(), &options, &case)?;
     }
     Ok(())
 }

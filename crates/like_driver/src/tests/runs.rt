@@ -1,11 +1,10 @@
 //! Runs on threads, by `run_files`.
-ghost use Rattle.std.specs.Prelude.{◌≡◌, length};
-
-use super::examples::options;
+use super::examples::{copies, options};
 use like_devices::Narrow;
 use like_files::{DriverFault, run_files};
 use like_words::Options;
 use std::alloc::{AllocError, Global};
+use std::io::Write;
 use std::sync::Wait;
 use std::test::Fail;
 use std::thread::Threads;
@@ -21,6 +20,21 @@ fn likes(alloc: Global, count: u32) -> Result<String, AllocError> {
     Ok(text)
 }
 
+// Runs files onto a writer.
+fn run_onto<T: Threads + Wait + Sync, W: Write>(
+    rt: &T,
+    alloc: Global,
+    options: &Options,
+    pages: &str,
+    requests: &str,
+    out: &mut W,
+) -> Result<(), DriverFault> {
+    let Ok(files) = copies(alloc, requests, options.requests.len()) else {
+        return Err(DriverFault::Memory);
+    };
+    run_files(rt, alloc, options, pages.as_bytes(), files, out)
+}
+
 // What a run writes.
 fn ran<T: Threads + Wait + Sync>(
     rt: &T,
@@ -28,15 +42,9 @@ fn ran<T: Threads + Wait + Sync>(
     options: &Options,
     pages: &str,
     requests: &str,
-) -> Result<Vec<u8>, DriverFault>
-    requires { length options.now.requests.items ≡ 1 }
-{
-    let mut files = Vec::new(alloc);
-    if files.push(requests.as_bytes()).is_err() {
-        return Err(DriverFault::Memory);
-    }
+) -> Result<Vec<u8>, DriverFault> {
     let mut out = Vec::new(alloc);
-    run_files(rt, alloc, options, pages.as_bytes(), files, &mut out)?;
+    run_onto(rt, alloc, options, pages, requests, &mut out)?;
     Ok(out)
 }
 
@@ -45,10 +53,8 @@ fn ran<T: Threads + Wait + Sync>(
 fn tells_a_write_that_fails(rt: HostRuntime) -> Result<(), Fail> {
     let options = options(rt.alloc(), 1, 1)?;
     for writes in 0..=53 {
-        let mut files = Vec::new(rt.alloc());
-        files.push(b"op,user,page\n".as_slice())?;
         let mut out = Narrow::new(1, writes, writes < 53);
-        let done = run_files(&rt, rt.alloc(), &options, PAGES.as_bytes(), files, &mut out);
+        let done = run_onto(&rt, rt.alloc(), &options, PAGES, "op,user,page\n", &mut out);
         assert_eq!(rt; done, Err(DriverFault::Write), "after {writes} writes");
     }
     Ok(())
