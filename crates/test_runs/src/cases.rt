@@ -34,9 +34,8 @@ impl Case {
     pub fn plans(&self, rt: &impl Abort, alloc: Global, setup: &Setup) -> Vec<Vec<Request>> {
         let mut plans = Vec::new(alloc);
         for requests in self.requests {
-            let text = format!(in alloc; "op,user,page\n{requests}").expect(rt, "memory");
-            let plan = read_requests(alloc, text.as_bytes(), &setup.pages).expect(rt, "requests");
-            assert!(rt; plans.push(plan).is_ok());
+            let plan = plan_of(rt, alloc, requests, setup);
+            plans.push(plan).expect(rt, "memory");
         }
         plans
     }
@@ -48,6 +47,11 @@ impl Case {
         assert!(rt; script.len() <= MAX_ENTRIES as usize);
         replay(alloc, &setup, plans, &script)
     }
+}
+
+fn plan_of(rt: &impl Abort, alloc: Global, requests: &str, setup: &Setup) -> Vec<Request> {
+    let text = format!(in alloc; "op,user,page\n{requests}").expect(rt, "memory");
+    read_requests(alloc, text.as_bytes(), &setup.pages).expect(rt, "requests")
 }
 
 /// The entries of a script whose words are `o0` for an open, `w0` for a worker's turn, `c0` for the coordinator's.

@@ -1,7 +1,7 @@
 //! Where the additions of runs stand.
 use super::cases::{Case, PLAIN_LIKES, SPLIT_AND_STASH, TWO_SLICES};
 use super::watch::{Held, Watch};
-use like_replies::Report;
+use like_replies::{Place, Report};
 use like_run::{replay_noting, run, run_noting};
 use std::process::Abort;
 
@@ -23,17 +23,31 @@ const PLACES: [(Case, &[Placed]); 3] = [
     (MERGED, &[(0, 1, 10, 3)]),
 ];
 
+fn the_page<'a>(rt: &impl Abort, report: &'a Report) -> &'a [Place] {
+    assert_eq!(rt; report.places.len(), 1);
+    report.places.first().expect(rt, "a page")
+}
+
+fn assert_placed(rt: &impl Abort, page: &[Place], places: &[Placed]) {
+    assert_eq!(rt; page.len(), places.len());
+    for (place, wanted) in page.iter().zip(places) {
+        assert_eq!(rt; (place.worker, place.phase, place.old, place.n), *wanted);
+    }
+}
+
 #[test]
 fn places_of_scripts(rt: HostRuntime) {
     for (case, places) in PLACES {
         let report = case.replay(&rt, rt.alloc()).expect(&rt, "a report");
-        assert_eq!(rt; report.places.len(), 1);
-        for page in report.places.iter() {
-            assert_eq!(rt; page.len(), places.len());
-            for (place, wanted) in page.iter().zip(places) {
-                assert_eq!(rt; (place.worker, place.phase, place.old, place.n), *wanted);
-            }
-        }
+        assert_placed(&rt, the_page(&rt, &report), places);
+    }
+}
+
+// Asserts that worker 0 made three additions of one like each, from a count of 10 on.
+fn assert_placed_singly(rt: &impl Abort, page: &[Place]) {
+    assert_eq!(rt; page.len(), 3);
+    for (place, old) in page.iter().zip(10..) {
+        assert_eq!(rt; (place.worker, place.old, place.n), (0, old, 1));
     }
 }
 
@@ -44,13 +58,7 @@ fn places_on_threads(rt: HostRuntime) {
     let plans = PLAIN_LIKES.plans(&rt, rt.alloc(), &setup);
     let gate = Watch::new(Held::Nobody, 0);
     let report = run(&rt, rt.alloc(), &setup, plans, &gate).expect(&rt, "a report");
-    assert_eq!(rt; report.places.len(), 1);
-    for page in report.places.iter() {
-        assert_eq!(rt; page.len(), 3);
-        for (place, old) in page.iter().zip(10..) {
-            assert_eq!(rt; (place.worker, place.old, place.n), (0, old, 1));
-        }
-    }
+    assert_placed_singly(&rt, the_page(&rt, &report));
 }
 
 // Asserts that a report of plain likes has their count, and no places.

@@ -12,20 +12,19 @@ use std::collections::{BTreeMap, VecDeque};
 use std::mem::swap;
 use std::test::Fail;
 
-// A submitter's requests: how many items are open, of which the end mark is the last, and how many requests are taken.
-#[derive(Drop)]
-struct List<'a> {
-    plan: &'a [Request],
+// How many items of a submitter's list are open, of which the end mark is the last, and how many requests are taken.
+#[derive(Clone, Copy)]
+struct List {
     open: u32,
     taken: u32,
 }
 
-impl List<'_> {
-    fn take(&mut self) -> Taken {
+impl List {
+    fn take(&mut self, plan: &[Request]) -> Taken {
         if self.taken >= self.open {
             return Taken::Nothing;
         }
-        let Some(request) = self.plan.get(self.taken as usize) else {
+        let Some(request) = plan.get(self.taken as usize) else {
             return Taken::End;
         };
         self.taken += 1;
@@ -37,7 +36,8 @@ impl List<'_> {
 }
 
 // What a run has beside its workers: its settings, how many submitters there are, which pages are marked as split, the
-// core, the coordinator's turns left, the counts of its last choice and its choices, and the lists.
+// core, the coordinator's turns left, the counts of its last choice and its choices, and the submitters' requests and
+// lists.
 #[derive(Drop)]
 struct Shared<'a> {
     setup: &'a Setup,
@@ -47,7 +47,8 @@ struct Shared<'a> {
     turns_left: u32,
     counts: [u64; 4],
     chosen: Vec<Chosen>,
-    lists: Vec<List<'a>>,
+    plans: &'a [Vec<Request>],
+    lists: Vec<List>,
 }
 
 impl Shared<'_> {
@@ -106,17 +107,31 @@ impl Shared<'_> {
         hot || self.split.get(page as usize) == Some(&true)
     }
 
+    // What the submitter's list gives next.
+    fn take(&mut self, submitter: u32) -> Result<Taken, Fail> {
+        let plan = self.plans.get(submitter as usize).ok_or("no plan")?;
+        let list = self.lists.get_mut(submitter as usize).ok_or("no list")?;
+        Ok(list.take(plan))
+    }
+
+    fn is_home(&self, user: u32, submitter: u32) -> bool {
+        match user.checked_rem(self.submitters) {
+            Some(home) => home == submitter,
+            None => false,
+        }
+    }
+
     fn verdict(&self, held: &Held) -> Verdict {
         let request = held.ask.request;
-        let home = request.user.checked_rem(self.submitters);
         if request.user >= self.setup.users {
-            Verdict::UnknownUser
-        } else if home != Some(held.submitter) {
-            Verdict::OtherHome
-        } else if request.page == PageRef::Unknown {
-            Verdict::UnknownPage
-        } else {
-            Verdict::Accepted
+            return Verdict::UnknownUser;
+        }
+        if !self.is_home(request.user, held.submitter) {
+            return Verdict::OtherHome;
+        }
+        match request.page {
+            PageRef::Unknown => Verdict::UnknownPage,
+            PageRef::Known(_) => Verdict::Accepted,
         }
     }
 }
@@ -218,8 +233,7 @@ impl Player {
         let Some(submitter) = self.submitters.pop_front() else {
             return Ok(());
         };
-        let list = shared.lists.get_mut(submitter as usize);
-        let taken = list.ok_or("a submitter without a list")?.take();
+        let taken = shared.take(submitter)?;
         if taken != Taken::End {
             self.submitters.push_back(submitter)?;
         }
@@ -320,16 +334,9 @@ fn rounds(shared: &mut Shared<'_>, players: &mut Vec<Player>) -> Result<u32, Fai
     Err("not finished".into())
 }
 
-fn lists_of(alloc: Global, plans: &[Vec<Request>]) -> Result<Vec<List<'_>>, AllocError> {
-    let mut lists = Vec::new(alloc);
-    for plan in plans {
-        lists.push(List {
-            plan,
-            open: 0,
-            taken: 0,
-        })?;
-    }
-    Ok(lists)
+// Lists of which no item is open.
+fn closed_lists(alloc: Global, submitters: usize) -> Result<Vec<List>, AllocError> {
+    vec![in alloc; List { open: 0, taken: 0 }; submitters]
 }
 
 /// Plays a script, and then rounds, with four pages of 10, 20, 30 and 40 likes of which these are split. Gives the
@@ -353,7 +360,8 @@ pub fn play(
         turns_left: setup.turns,
         counts: [10, 20, 30, 40],
         chosen: Vec::new(alloc),
-        lists: lists_of(alloc, plans)?,
+        plans,
+        lists: closed_lists(alloc, plans.len())?,
     };
     let mut players = Vec::new(alloc);
     for worker in 0..setup.workers {

@@ -4,7 +4,7 @@ use super::cases::{
 };
 use like_replies::Report;
 use like_requests::SettingsFault;
-use like_roles::Chosen;
+use like_roles::{Chosen, WorkerLog};
 use like_run::{ReplayFault, replay};
 use std::alloc::Global;
 use std::process::Abort;
@@ -51,22 +51,28 @@ const LOGS: [(Case, usize, &[Taken], &[Entry]); 7] = [
     (TWO_SLICES, 1, &[(1, 1, 1)], &[(1, 1, 1, false)]),
 ];
 
+fn assert_taken(rt: &impl Abort, log: &WorkerLog, wanted: &[Taken]) {
+    assert_eq!(rt; log.taken.len(), wanted.len());
+    for (took, wanted) in log.taken.iter().zip(wanted) {
+        assert_eq!(rt; (took.phase, took.submitter, took.number), *wanted);
+    }
+}
+
+fn assert_ran(rt: &impl Abort, log: &WorkerLog, wanted: &[Entry]) {
+    assert_eq!(rt; log.ran.len(), wanted.len());
+    for (entry, wanted) in log.ran.iter().zip(wanted) {
+        let shown = (entry.phase, entry.submitter, entry.number, entry.stashed);
+        assert_eq!(rt; shown, *wanted);
+    }
+}
+
 #[test]
 fn logs_of_scripts(rt: HostRuntime) {
     for (case, worker, taken, ran) in LOGS {
         let report = case.replay(&rt, rt.alloc()).expect(&rt, "a report");
-        let Some(log) = report.logs.get(worker) else {
-            panic!(&rt; "no log");
-        };
-        assert_eq!(rt; log.taken.len(), taken.len());
-        for (took, wanted) in log.taken.iter().zip(taken) {
-            assert_eq!(rt; (took.phase, took.submitter, took.number), *wanted);
-        }
-        assert_eq!(rt; log.ran.len(), ran.len());
-        for (entry, wanted) in log.ran.iter().zip(ran) {
-            let shown = (entry.phase, entry.submitter, entry.number, entry.stashed);
-            assert_eq!(rt; shown, *wanted);
-        }
+        let log = report.logs.get(worker).expect(&rt, "a log");
+        assert_taken(&rt, log, taken);
+        assert_ran(&rt, log, ran);
     }
 }
 
@@ -93,6 +99,21 @@ fn chooses_hot_pages(rt: HostRuntime) {
     assert_eq!(rt; report.phases, 4);
 }
 
+// Asserts that entry n of a log ran in phase n, and is number n.
+fn assert_ran_by_phase(rt: &impl Abort, log: &WorkerLog) {
+    for (entry, phase) in log.ran.iter().zip(1..=2_060) {
+        assert_eq!(rt; (entry.phase, entry.number), (phase, phase));
+    }
+}
+
+// Asserts that page 0 alone was chosen for 1,024 phases, of which phase 3 is the first.
+fn assert_hot_in_odd_phases(rt: &impl Abort, hot: &[Chosen]) {
+    assert_eq!(rt; hot.len(), 1_024);
+    for (chosen, phase) in hot.iter().zip((3..=2_049).step_by(2)) {
+        assert_eq!(rt; *chosen, Chosen { phase, mask: 1 });
+    }
+}
+
 // Like n of 2,060 runs in phase n, so the page is hot in each odd phase from 3 on, until 1,024 had hot pages.
 #[test]
 fn chooses_in_1024_phases_at_most(rt: HostRuntime) {
@@ -103,17 +124,9 @@ fn chooses_in_1024_phases_at_most(rt: HostRuntime) {
     let setup = case.setup(&rt, rt.alloc());
     let plans = likes(&rt, rt.alloc(), 1, 2_060);
     let report = replay(rt.alloc(), &setup, plans, &[]).expect(&rt, "a report");
-    let Some(log) = report.logs.first() else {
-        panic!(rt; "no log");
-    };
-    for (entry, phase) in log.ran.iter().zip(1..=2_060) {
-        assert_eq!(rt; (entry.phase, entry.number), (phase, phase));
-    }
+    assert_ran_by_phase(&rt, report.logs.first().expect(&rt, "a log"));
     assert_eq!(rt; report.counts.as_slice(), [2_060].as_slice());
-    assert_eq!(rt; report.hot.len(), 1_024);
-    for (chosen, phase) in report.hot.iter().zip((3..=2_049).step_by(2)) {
-        assert_eq!(rt; *chosen, Chosen { phase, mask: 1 });
-    }
+    assert_hot_in_odd_phases(&rt, &report.hot);
 }
 
 #[test]

@@ -88,6 +88,13 @@ fn answers(
     Ok(answers_within(alloc, setup, plans, script)?)
 }
 
+fn word_of(alloc: Global, answer: &Answer) -> Result<String, AllocError> {
+    match answer {
+        Answer::Led(turn) => format!(in alloc; "{turn:?}"),
+        Answer::Did(turn) => format!(in alloc; "{turn:?}"),
+    }
+}
+
 // Asserts what the turns of a case's script answer: a word for each.
 fn assert_answers(rt: &impl Abort, alloc: Global, case: &Case, expected: &str) {
     let setup = case.setup(rt, alloc);
@@ -97,11 +104,8 @@ fn assert_answers(rt: &impl Abort, alloc: Global, case: &Case, expected: &str) {
     let answers = answers(alloc, &setup, plans, &script).expect(rt, "answers");
     assert_eq!(rt; answers.len(), expected.split(' ').count());
     for (answer, word) in answers.iter().zip(expected.split(' ')) {
-        let shown = match answer {
-            Answer::Led(turn) => format!(in alloc; "{turn:?}"),
-            Answer::Did(turn) => format!(in alloc; "{turn:?}"),
-        };
-        assert_eq!(rt; shown.expect(rt, "memory").as_str(), word);
+        let shown = word_of(alloc, answer).expect(rt, "memory");
+        assert_eq!(rt; shown.as_str(), word);
     }
 }
 

@@ -17,20 +17,47 @@ pub enum Held {
     SecondRequest,
 }
 
+// A number that threads count.
+#[derive(Drop)]
+struct Count {
+    number: AtomicU32,
+}
+
+impl Count {
+    fn none() -> Count {
+        Count {
+            number: AtomicU32::new(0),
+        }
+    }
+
+    fn get(&self) -> u32 {
+        self.number.load(Ordering::SeqCst)
+    }
+
+    fn add(&self, number: u32) {
+        self.number.fetch_add(number, Ordering::SeqCst);
+    }
+
+    fn raise(&self, number: u32) {
+        self.number.fetch_max(number, Ordering::SeqCst);
+    }
+}
+
 /// A gate at which calls wait, each for so many looks at most.
 #[derive(Drop)]
 pub struct Watch {
     held: Held,
     looks: u32,
     // The calls that are awaited, or waited for that.
-    made: AtomicU32,
-    given_up: AtomicU32,
-    pushed: AtomicU32,
+    made: Count,
+    given_up: Count,
+    pushed: Count,
     // The sums of the numbers that submitters 0 and 1 pushed.
-    sums: [AtomicU32; 2],
-    ran: AtomicU32,
+    sum_0: Count,
+    sum_1: Count,
+    ran: Count,
     // One more than the greatest phase that a worker entered.
-    entered: AtomicU32,
+    entered: Count,
 }
 
 impl Watch {
@@ -38,48 +65,43 @@ impl Watch {
         Watch {
             held,
             looks,
-            made: AtomicU32::new(0),
-            given_up: AtomicU32::new(0),
-            pushed: AtomicU32::new(0),
-            sums: [AtomicU32::new(0), AtomicU32::new(0)],
-            ran: AtomicU32::new(0),
-            entered: AtomicU32::new(0),
+            made: Count::none(),
+            given_up: Count::none(),
+            pushed: Count::none(),
+            sum_0: Count::none(),
+            sum_1: Count::none(),
+            ran: Count::none(),
+            entered: Count::none(),
         }
     }
 
     /// How many requests were pushed, and how many ran.
     pub fn calls(&self) -> (u32, u32) {
-        (
-            self.pushed.load(Ordering::SeqCst),
-            self.ran.load(Ordering::SeqCst),
-        )
+        (self.pushed.get(), self.ran.get())
     }
 
     /// The sums of the numbers of the requests that submitters 0 and 1 pushed.
     pub fn sums(&self) -> (u32, u32) {
-        (
-            self.sums[0].load(Ordering::SeqCst),
-            self.sums[1].load(Ordering::SeqCst),
-        )
+        (self.sum_0.get(), self.sum_1.get())
     }
 
     /// How many phases were entered, from phase 0 on.
     pub fn phases(&self) -> u32 {
-        self.entered.load(Ordering::SeqCst)
+        self.entered.get()
     }
 
     /// How many of the calls that wait, or are waited for, were made.
     pub fn made(&self) -> u32 {
-        self.made.load(Ordering::SeqCst)
+        self.made.get()
     }
 
     /// Whether a call waited in vain.
     pub fn gave_up(&self) -> bool {
-        self.given_up.load(Ordering::SeqCst) > 0
+        self.given_up.get() > 0
     }
 
     fn note(&self) {
-        self.made.fetch_add(1, Ordering::SeqCst);
+        self.made.add(1);
     }
 
     // Waits until so many calls were noted.
@@ -90,15 +112,17 @@ impl Watch {
             }
             yield_now();
         }
-        self.given_up.fetch_add(1, Ordering::SeqCst);
+        self.given_up.add(1);
     }
 }
 
 impl Gate for Watch {
     fn push(&self, s: u32, n: u32) {
-        self.pushed.fetch_add(1, Ordering::SeqCst);
-        if let Some(sum) = self.sums.get(s as usize) {
-            sum.fetch_add(n, Ordering::SeqCst);
+        self.pushed.add(1);
+        match s {
+            0 => self.sum_0.add(n),
+            1 => self.sum_1.add(n),
+            _ => {}
         }
         match (self.held, n) {
             (Held::Submitters, 1) => {
@@ -115,12 +139,11 @@ impl Gate for Watch {
     }
 
     fn run(&self, _w: u32, _s: u32, _n: u32) {
-        self.ran.fetch_add(1, Ordering::SeqCst);
+        self.ran.add(1);
     }
 
     fn phase(&self, _w: u32, k: u32) {
-        self.entered
-            .fetch_max(k.saturating_add(1), Ordering::SeqCst);
+        self.entered.raise(k.saturating_add(1));
         match (self.held, k) {
             (Held::Workers, 0) => {
                 self.note();
