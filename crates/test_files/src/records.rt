@@ -91,41 +91,38 @@ fn a_failed_read_stays_failed(rt: HostRuntime) {
     assert_eq!(rt; records.field_count(), 0);
 }
 
-// Texts and what each is read as, of up to so many digits and up to this number.
-fn numbers() -> [(&'static str, usize, u64, Option<u64>); 17] {
-    NUMBERS
-}
-
-const QUINTILLION: u64 = 1_000_000_000_000_000_000;
-
-const NUMBERS: [(&str, usize, u64, Option<u64>); 17] = [
-    ("0", 19, u64::MAX, Some(0)),
-    ("007", 19, u64::MAX, Some(7)),
-    ("007", 2, u64::MAX, None),
-    ("+1", 19, u64::MAX, None),
-    ("-1", 19, u64::MAX, None),
-    ("", 19, u64::MAX, None),
-    (" 1", 19, u64::MAX, None),
-    ("1 ", 19, u64::MAX, None),
-    ("1/", 19, u64::MAX, None),
-    ("1:", 19, u64::MAX, None),
-    ("18446744073709551615", 19, u64::MAX, None),
-    (
-        "9999999999999999999",
-        19,
-        u64::MAX,
-        Some(9_999_999_999_999_999_999),
-    ),
-    ("1000000000000000000", 19, QUINTILLION, Some(QUINTILLION)),
-    ("1000000000000000001", 19, QUINTILLION, None),
-    ("4294967295", 10, 4_294_967_295, Some(4_294_967_295)),
-    ("4294967296", 10, 4_294_967_295, None),
-    ("0", 0, 9, None),
-];
-
 #[test]
 fn reads_numbers(rt: HostRuntime) {
-    for (text, digits, limit, number) in numbers() {
+    let table = [
+        ("0", 19, u64::MAX, Some(0)),
+        ("007", 19, u64::MAX, Some(7)),
+        ("007", 2, u64::MAX, None),
+        ("+1", 19, u64::MAX, None),
+        ("-1", 19, u64::MAX, None),
+        ("", 19, u64::MAX, None),
+        (" 1", 19, u64::MAX, None),
+        ("1 ", 19, u64::MAX, None),
+        ("1/", 19, u64::MAX, None),
+        ("1:", 19, u64::MAX, None),
+        ("18446744073709551615", 19, u64::MAX, None),
+        (
+            "9999999999999999999",
+            19,
+            u64::MAX,
+            Some(9_999_999_999_999_999_999),
+        ),
+        (
+            "1000000000000000000",
+            19,
+            1_000_000_000_000_000_000,
+            Some(1_000_000_000_000_000_000),
+        ),
+        ("1000000000000000001", 19, 1_000_000_000_000_000_000, None),
+        ("4294967295", 10, 4_294_967_295, Some(4_294_967_295)),
+        ("4294967296", 10, 4_294_967_295, None),
+        ("0", 0, 9, None),
+    ];
+    for (text, digits, limit, number) in table {
         assert_eq!(rt;
             decimal(text.as_bytes(), digits, limit),
             number,
