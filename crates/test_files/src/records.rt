@@ -1,81 +1,77 @@
 use like_devices::{Trickle, csv_cases};
 use like_records::{Records, RecordsFault, decimal};
-use std::alloc::Global;
+use std::alloc::{AllocError, Global};
 use std::process::Abort;
-use std::test::Fail;
+
+// Adds the field to the text, with `|` behind it.
+fn push_field(out: &mut Vec<u8>, field: &[u8]) -> Result<(), AllocError> {
+    out.extend_from_slice(field)?;
+    out.push(b'|')?;
+    Ok(())
+}
 
 // Adds the record to the text: `|` ends a field and `;` the record.
-fn push_record(out: &mut Vec<u8>, records: &Records<&[u8]>) -> Result<(), Fail> {
+fn push_record(out: &mut Vec<u8>, records: &Records<&[u8]>) -> Result<(), AllocError> {
     for index in 0..records.field_count() {
-        out.extend_from_slice(records.field(index))?;
-        out.push(b'|')?;
+        push_field(out, records.field(index))?;
     }
     out.push(b';')?;
     Ok(())
 }
 
 // The records of a text, written so.
-fn written(alloc: Global, text: &[u8]) -> Result<Vec<u8>, Fail> {
+fn written(rt: &impl Abort, alloc: Global, text: &[u8]) -> Vec<u8> {
     let mut records = Records::new(alloc, text);
     let mut out = Vec::new(alloc);
     for _ in 0..text.len() {
-        if !records.read_next()? {
-            return Ok(out);
+        if !records.read_next().expect(rt, "a record") {
+            return out;
         }
-        push_record(&mut out, &records)?;
+        push_record(&mut out, &records).expect(rt, "memory");
     }
-    Ok(out)
+    out
 }
 
 #[test]
-fn reads_what_others_read(rt: HostRuntime) -> Result<(), Fail> {
+fn reads_what_others_read(rt: HostRuntime) {
     for (text, records) in csv_cases() {
         assert_eq!(rt;
-            written(rt.alloc(), text.as_bytes())?.as_slice(),
+            written(&rt, rt.alloc(), text.as_bytes()).as_slice(),
             records.as_bytes(),
             "at {text}"
         );
     }
-    Ok(())
 }
 
 // Stops the test unless the next record has these fields.
-fn assert_next(rt: &impl Abort, records: &mut Records<&[u8]>, row: &[&str]) -> Result<(), Fail> {
-    assert!(rt; records.read_next()?);
+fn assert_next(rt: &impl Abort, records: &mut Records<&[u8]>, row: &[&str]) {
+    assert_eq!(rt; records.read_next(), Ok(true));
     assert!(rt; records.fields_are(row));
     assert_eq!(rt; records.field_count(), row.len());
-    Ok(())
 }
 
 #[test]
-fn gives_each_record_in_order(rt: HostRuntime) -> Result<(), Fail> {
+fn gives_each_record_in_order(rt: HostRuntime) {
     let text = b"\xef\xbb\xbfname,\"co,unt\"\r\n\n\"say \"\"so\"\"\",,x\rlast".as_slice();
     let mut records = Records::new(rt.alloc(), text);
-    let rows = [
-        ["name", "co,unt"].as_slice(),
-        ["say \"so\"", "", "x"].as_slice(),
-        ["last"].as_slice(),
-    ];
-    for row in rows {
-        assert_next(&rt, &mut records, row)?;
-    }
+    assert_next(&rt, &mut records, &["name", "co,unt"]);
+    assert_next(&rt, &mut records, &["say \"so\"", "", "x"]);
+    assert_next(&rt, &mut records, &["last"]);
     assert_eq!(rt; records.read_next(), Ok(false));
     assert_eq!(rt; records.field_count(), 0);
     assert_eq!(rt; records.read_next(), Ok(false));
-    Ok(())
 }
 
 #[test]
-fn gives_each_field(rt: HostRuntime) -> Result<(), Fail> {
+fn gives_each_field(rt: HostRuntime) {
     let mut records = Records::new(rt.alloc(), b"like,\xff,7\n".as_slice());
-    assert!(rt; records.read_next()?);
+    assert_eq!(rt; records.read_next(), Ok(true));
     assert_eq!(rt; records.field_count(), 3);
     let mut out = Vec::new(rt.alloc());
-    push_record(&mut out, &records)?;
+    push_record(&mut out, &records).expect(&rt, "memory");
     assert_eq!(rt; out.as_slice(), b"like|\xff|7|;".as_slice());
     assert!(rt; !records.fields_are(&["like", "x", "7"]));
     assert!(rt; !records.fields_are(&["like", "x"]));
-    Ok(())
 }
 
 #[test]
@@ -85,15 +81,14 @@ fn an_empty_text_has_no_record(rt: HostRuntime) {
 }
 
 #[test]
-fn a_failed_read_stays_failed(rt: HostRuntime) -> Result<(), Fail> {
+fn a_failed_read_stays_failed(rt: HostRuntime) {
     let reader = Trickle::new(b"like,1\nlook,2\n", 11);
     let mut records = Records::new(rt.alloc(), reader);
-    assert!(rt; records.read_next()?);
+    assert_eq!(rt; records.read_next(), Ok(true));
     assert!(rt; records.fields_are(&["like", "1"]));
     assert_eq!(rt; records.read_next(), Err(RecordsFault::Read));
     assert_eq!(rt; records.read_next(), Err(RecordsFault::Read));
     assert_eq!(rt; records.field_count(), 0);
-    Ok(())
 }
 
 #[test]

@@ -9,7 +9,6 @@ use like_requests::{
 };
 use std::alloc::Global;
 use std::process::Abort;
-use std::test::Fail;
 
 fn request(op: Op, user: u32, page: PageRef) -> Request {
     Request { op, user, page }
@@ -19,79 +18,99 @@ fn one_page(rt: &impl Abort, alloc: Global) -> Pages {
     read_pages(alloc, b"name,count,split\na,10,no\n".as_slice()).expect(rt, "one page")
 }
 
-#[test]
-fn reads_pages(rt: HostRuntime) -> Result<(), Fail> {
-    let text = b"name,count,split\r\n\"x,\"\"y\"\"\",0,no\r\nb,0001000000000000000,yes";
-    let pages = read_pages(rt.alloc(), text.as_slice())?;
-    assert_eq!(rt; pages.len(), 2);
-    assert_eq!(rt; pages.name(0), "x,\"y\"");
-    assert_eq!(rt; (pages.count(0), pages.split(0)), (0, false));
-    assert_eq!(rt; pages.name(1), "b");
-    assert_eq!(rt;
-        (pages.count(1), pages.split(1)),
-        (1_000_000_000_000_000, true)
-    );
-    assert_eq!(rt; pages.find(b"b"), Some(1));
-    assert_eq!(rt; pages.find(b"B"), None);
-    assert_eq!(rt; pages.find(b"\xff"), None);
-    Ok(())
+// The name, the count and the mark of each page, each page on a line.
+fn shown(rt: &impl Abort, alloc: Global, pages: &Pages) -> String {
+    let mut text = String::new(alloc);
+    for index in 0..pages.len() {
+        let (name, count, split) = (pages.name(index), pages.count(index), pages.split(index));
+        let row = format!(in alloc; "{name} {count} {split}\n").expect(rt, "memory");
+        text.push_str(&row).expect(rt, "memory");
+    }
+    text
 }
+
+#[test]
+fn reads_pages(rt: HostRuntime) {
+    let text = b"name,count,split\r\n\"x,\"\"y\"\"\",0,no\r\nb,0001000000000000000,yes";
+    let pages = read_pages(rt.alloc(), text.as_slice()).expect(&rt, "pages");
+    let wanted = "x,\"y\" 0 false\nb 1000000000000000 true\n";
+    assert_eq!(rt; shown(&rt, rt.alloc(), &pages).as_str(), wanted);
+    assert_eq!(rt;
+        (pages.find(b"b"), pages.find(b"B"), pages.find(b"\xff")),
+        (Some(1), None, None)
+    );
+}
+
+// Pages files and their faults.
+fn pages_faults() -> [(&'static str, PagesFault); 8] {
+    PAGES_FAULTS
+}
+
+const PAGES_FAULTS: [(&str, PagesFault); 8] = [
+    ("", PagesFault::Header),
+    ("name,count\n", PagesFault::Header),
+    ("name,count,split\n", PagesFault::Empty),
+    (
+        "name,count,split\na,1,no\na,2,no\n",
+        PagesFault::Duplicate { row: 2 },
+    ),
+    ("name,count,split\na,+1,no\n", PagesFault::Count { row: 1 }),
+    ("name,count,split\na,1\n", PagesFault::Fields { row: 1 }),
+    (
+        "name,count,split\na,1,maybe\n",
+        PagesFault::Split { row: 1 },
+    ),
+    ("name,count,split\n,1,no\n", PagesFault::Name { row: 1 }),
+];
 
 #[test]
 fn names_the_fault_of_a_pages_file(rt: HostRuntime) {
-    for (text, fault) in [
-        (b"".as_slice(), PagesFault::Header),
-        (b"name,count\n", PagesFault::Header),
-        (b"name,count,split\n", PagesFault::Empty),
-        (
-            b"name,count,split\na,1,no\na,2,no\n",
-            PagesFault::Duplicate { row: 2 },
-        ),
-        (b"name,count,split\na,+1,no\n", PagesFault::Count { row: 1 }),
-        (b"name,count,split\na,1\n", PagesFault::Fields { row: 1 }),
-        (
-            b"name,count,split\na,1,maybe\n",
-            PagesFault::Split { row: 1 },
-        ),
-        (b"name,count,split\n,1,no\n", PagesFault::Name { row: 1 }),
-    ] {
-        assert_eq!(rt; read_pages(rt.alloc(), text).err(), Some(fault));
+    for (text, fault) in pages_faults() {
+        assert_eq!(rt; read_pages(rt.alloc(), text.as_bytes()).err(), Some(fault));
     }
 }
 
-#[test]
-fn reads_requests(rt: HostRuntime) -> Result<(), Fail> {
-    let pages = one_page(&rt, rt.alloc());
-    let text = b"op,user,page\nlike,0,a\n\"look\",0004294967,zz\n";
-    let requests = read_requests(rt.alloc(), text.as_slice(), &pages)?;
-    assert_eq!(rt;
-        requests.as_slice(),
-        [
-            request(Op::Like, 0, PageRef::Known(0)),
-            request(Op::Look, 4_294_967, PageRef::Unknown),
-        ]
-        .as_slice()
-    );
-    assert_eq!(rt;
-        read_requests(rt.alloc(), b"op,user,page\n".as_slice(), &pages)?.len(),
-        0
-    );
-    Ok(())
+// Stops the test unless a file is read as these requests.
+fn assert_requests(rt: &impl Abort, alloc: Global, pages: &Pages, text: &str, wanted: &[Request]) {
+    let requests = read_requests(alloc, text.as_bytes(), pages).expect(rt, "requests");
+    assert_eq!(rt; requests.as_slice(), wanted);
 }
+
+#[test]
+fn reads_requests(rt: HostRuntime) {
+    let pages = one_page(&rt, rt.alloc());
+    let text = "op,user,page\nlike,0,a\n\"look\",0004294967,zz\n";
+    let wanted = [
+        request(Op::Like, 0, PageRef::Known(0)),
+        request(Op::Look, 4_294_967, PageRef::Unknown),
+    ];
+    assert_requests(&rt, rt.alloc(), &pages, text, &wanted);
+    assert_requests(&rt, rt.alloc(), &pages, "op,user,page\n", &[]);
+}
+
+// Requests files and their faults.
+fn requests_faults() -> [(&'static str, RequestsFault); 4] {
+    REQUESTS_FAULTS
+}
+
+const REQUESTS_FAULTS: [(&str, RequestsFault); 4] = [
+    ("", RequestsFault::Header),
+    (
+        "op,user,page\nlike,0,a\nlike,0\n",
+        RequestsFault::Fields { row: 2 },
+    ),
+    ("op,user,page\npush,0,a\n", RequestsFault::Op { row: 1 }),
+    ("op,user,page\nlike,-1,a\n", RequestsFault::User { row: 1 }),
+];
 
 #[test]
 fn names_the_fault_of_a_requests_file(rt: HostRuntime) {
     let pages = one_page(&rt, rt.alloc());
-    for (text, fault) in [
-        (b"".as_slice(), RequestsFault::Header),
-        (
-            b"op,user,page\nlike,0,a\nlike,0\n",
-            RequestsFault::Fields { row: 2 },
-        ),
-        (b"op,user,page\npush,0,a\n", RequestsFault::Op { row: 1 }),
-        (b"op,user,page\nlike,-1,a\n", RequestsFault::User { row: 1 }),
-    ] {
-        assert_eq!(rt; read_requests(rt.alloc(), text, &pages).err(), Some(fault));
+    for (text, fault) in requests_faults() {
+        assert_eq!(rt;
+            read_requests(rt.alloc(), text.as_bytes(), &pages).err(),
+            Some(fault)
+        );
     }
 }
 
@@ -109,24 +128,33 @@ fn judges_in_order(rt: HostRuntime) {
     }
 }
 
-#[test]
-fn checks_the_settings(rt: HostRuntime) -> Result<(), Fail> {
-    let alloc = rt.alloc();
-    let mut plans = Vec::new(alloc);
-    plans.push(Vec::from_slice(alloc, &[request(Op::Like, 0, PageRef::Known(0))])?)?;
-    let setup = Setup {
+// The list of a submitter with one like of a page.
+fn plan(rt: &impl Abort, alloc: Global, page: u32) -> Vec<Request> {
+    Vec::from_slice(alloc, &[request(Op::Like, 0, PageRef::Known(page))]).expect(rt, "memory")
+}
+
+// Settings of one worker and two users.
+fn setup(rt: &impl Abort, alloc: Global) -> Setup {
+    Setup {
         workers: 1,
         users: 2,
         stash: 256,
         turns: 1_000,
         hot: None,
-        pages: one_page(&rt, alloc),
-    };
+        pages: one_page(rt, alloc),
+    }
+}
+
+#[test]
+fn checks_the_settings(rt: HostRuntime) {
+    let alloc = rt.alloc();
+    let setup = setup(&rt, alloc);
+    let mut plans = Vec::new(alloc);
+    plans.push(plan(&rt, alloc, 0)).expect(&rt, "memory");
     assert_eq!(rt; check_setup(&setup, &plans), Ok(()));
-    plans.push(Vec::from_slice(alloc, &[request(Op::Like, 0, PageRef::Known(1))])?)?;
+    plans.push(plan(&rt, alloc, 1)).expect(&rt, "memory");
     assert_eq!(rt;
         check_setup(&setup, &plans),
         Err(SettingsFault::Plan { submitter: 1 })
     );
-    Ok(())
 }

@@ -5,72 +5,76 @@ use like_requests::SettingsFault;
 use like_script::{ScriptFault, Turned, check_script, read_script};
 use std::alloc::{AllocError, Global};
 use std::process::Abort;
-use std::test::Fail;
 
-// Asserts that a script file is refused with this fault.
-fn assert_fault(rt: &impl Abort, alloc: Global, text: &str, fault: ScriptFault) {
-    match read_script(alloc, text.as_bytes()) {
-        Ok(_) => panic!(rt; "read: {text}"),
-        Err(met) => assert_eq!(rt; met, fault, "at {text}"),
-    }
+// Stops the test unless a script file is read as these entries.
+fn assert_entries(rt: &impl Abort, alloc: Global, text: &str, wanted: &[Turned]) {
+    let entries = read_script(alloc, text.as_bytes()).expect(rt, "a script");
+    assert_eq!(rt; entries.as_slice(), wanted);
 }
 
 #[test]
-fn reads_a_script(rt: HostRuntime) -> Result<(), Fail> {
+fn reads_a_script(rt: HostRuntime) {
     let text = "turn,index\r\nopen,0\r\nworker,0004294967\ncoordinator,0\n\nopen,4294967295";
-    let entries = read_script(rt.alloc(), text.as_bytes())?;
     let wanted = [
         Turned::OpenOne(0),
         Turned::Worker(4_294_967),
         Turned::Coordinator,
         Turned::OpenOne(4_294_967_295),
     ];
-    assert_eq!(rt; entries.as_slice(), wanted.as_slice());
-    Ok(())
+    assert_entries(&rt, rt.alloc(), text, &wanted);
+}
+
+// Whether want of memory was told; the entries stand otherwise.
+fn is_refused(rt: &impl Abort, alloc: Global) -> bool {
+    match read_script(alloc, b"turn,index\nworker,1\n".as_slice()) {
+        Ok(entries) => {
+            assert_eq!(rt; entries.as_slice(), [Turned::Worker(1)].as_slice());
+            false
+        }
+        Err(fault) => {
+            assert_eq!(rt; fault, ScriptFault::Memory);
+            true
+        }
+    }
 }
 
 // Want of memory is told, and the next call is right.
 #[test]
-fn a_refused_growth_is_told(rt: HostRuntime) -> Result<(), Fail> {
-    let mut refused = false;
-    for _ in 0..2 {
-        match read_script(rt.alloc(), b"turn,index\nworker,1\n".as_slice()) {
-            Ok(entries) => assert_eq!(rt; entries.as_slice(), [Turned::Worker(1)].as_slice()),
-            Err(fault) => {
-                assert_eq!(rt; fault, ScriptFault::Memory);
-                refused = true;
-            }
-        }
-    }
-    if refused {
-        return Err(Fail::new("out of memory, and then right"));
-    }
-    Ok(())
+fn a_refused_growth_is_told(rt: HostRuntime) {
+    let first = is_refused(&rt, rt.alloc());
+    let second = is_refused(&rt, rt.alloc());
+    assert!(rt; !first && !second, "out of memory, and then right");
 }
 
 #[test]
-fn a_script_may_have_no_entry(rt: HostRuntime) -> Result<(), Fail> {
-    assert!(rt; read_script(rt.alloc(), b"turn,index\n".as_slice())?.is_empty());
-    Ok(())
+fn a_script_may_have_no_entry(rt: HostRuntime) {
+    assert_entries(&rt, rt.alloc(), "turn,index\n", &[]);
 }
+
+// Script files, and the row that each is refused at.
+fn faults() -> [(&'static str, u32); 11] {
+    FAULTS
+}
+
+const FAULTS: [(&str, u32); 11] = [
+    ("", 0),
+    ("turn,place\nopen,0\n", 0),
+    ("turn\n", 0),
+    ("turn,index\nworker,0\nfly,1\n", 2),
+    ("turn,index\nopen\n", 1),
+    ("turn,index\nopen,0,0\n", 1),
+    ("turn,index\nopen,0\nworker,0\nworker,-1\n", 3),
+    ("turn,index\nopen,4294967296\n", 1),
+    ("turn,index\nopen,\n", 1),
+    ("turn,index\ncoordinator,1\n", 1),
+    ("turn,index\ncoordinator,00\n", 1),
+];
 
 #[test]
 fn names_the_fault_of_a_script_file(rt: HostRuntime) {
-    let rows = [
-        ("", 0),
-        ("turn,place\nopen,0\n", 0),
-        ("turn\n", 0),
-        ("turn,index\nworker,0\nfly,1\n", 2),
-        ("turn,index\nopen\n", 1),
-        ("turn,index\nopen,0,0\n", 1),
-        ("turn,index\nopen,0\nworker,0\nworker,-1\n", 3),
-        ("turn,index\nopen,4294967296\n", 1),
-        ("turn,index\nopen,\n", 1),
-        ("turn,index\ncoordinator,1\n", 1),
-        ("turn,index\ncoordinator,00\n", 1),
-    ];
-    for (text, row) in rows {
-        assert_fault(&rt, rt.alloc(), text, ScriptFault::Line { row });
+    for (text, row) in faults() {
+        let fault = read_script(rt.alloc(), text.as_bytes()).err();
+        assert_eq!(rt; fault, Some(ScriptFault::Line { row }), "at {text}");
     }
 }
 
@@ -84,16 +88,17 @@ fn turns(alloc: Global, count: u32) -> Result<String, AllocError> {
 }
 
 #[test]
-fn a_script_has_at_most_a_million_entries(rt: HostRuntime) -> Result<(), Fail> {
-    let text = turns(rt.alloc(), 1_000_000)?;
-    let entries = read_script(rt.alloc(), text.as_bytes())?;
+fn a_script_has_a_million_entries(rt: HostRuntime) {
+    let text = turns(rt.alloc(), 1_000_000).expect(&rt, "memory");
+    let entries = read_script(rt.alloc(), text.as_bytes()).expect(&rt, "a script");
     assert_eq!(rt; entries.len(), 1_000_000);
-    let text = turns(rt.alloc(), 1_000_001)?;
-    assert_eq!(rt;
-        read_script(rt.alloc(), text.as_bytes()).err(),
-        Some(ScriptFault::TooMany)
-    );
-    Ok(())
+}
+
+#[test]
+fn a_script_has_at_most_a_million_entries(rt: HostRuntime) {
+    let text = turns(rt.alloc(), 1_000_001).expect(&rt, "memory");
+    let fault = read_script(rt.alloc(), text.as_bytes()).err();
+    assert_eq!(rt; fault, Some(ScriptFault::TooMany));
 }
 
 #[test]

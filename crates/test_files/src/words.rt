@@ -1,9 +1,9 @@
 //! What words ask for, by `parse`.
 mod help;
 
-use like_words::{Asked, Options, ParseFault, parse};
-use std::alloc::{AllocError, Global};
-use std::test::Fail;
+use like_words::{Asked, ParseFault, parse};
+use std::alloc::Global;
+use std::process::Abort;
 
 // What the words of a text ask for.
 fn asked(alloc: Global, text: &str) -> Result<Asked, ParseFault> {
@@ -11,167 +11,152 @@ fn asked(alloc: Global, text: &str) -> Result<Asked, ParseFault> {
     parse(alloc, words.as_slice())
 }
 
-// The options of the replay that the words ask for.
-fn replay(alloc: Global, text: &str) -> Result<Options, Fail> {
-    match asked(alloc, text)? {
-        Asked::Replay(options) => Ok(options),
-        _ => Err(Fail::new("not a replay")),
-    }
+// The same as `Debug` shows it.
+fn shown(rt: &impl Abort, alloc: Global, words: &str) -> String {
+    let asked = asked(alloc, words);
+    format!(in alloc; "{asked:?}").expect(rt, "memory")
 }
 
-// The options of the run that the words ask for.
-fn run(alloc: Global, text: &str) -> Result<Options, Fail> {
-    match asked(alloc, text)? {
-        Asked::Run(options) => Ok(options),
-        _ => Err(Fail::new("not a run")),
-    }
+// Stops the test unless the words ask for this.
+fn assert_asks(rt: &impl Abort, alloc: Global, words: &str, wanted: &str) {
+    assert_eq!(rt; shown(rt, alloc, words).as_str(), wanted, "at {words}");
 }
 
-// The fault of wrong words.
-fn usage(alloc: Global, text: &str) -> Result<ParseFault, Fail> {
-    match asked(alloc, text) {
-        Ok(_) => Err(Fail::new("words that ask for something")),
-        Err(ParseFault::Memory) => Err(Fail::from(ParseFault::Memory)),
-        Err(fault) => Ok(fault),
-    }
-}
-
-// The names of all files, in their order.
-fn files(alloc: Global, options: &Options) -> Result<String, AllocError> {
-    let mut text = String::from_str(alloc, options.pages.as_str())?;
-    for name in &options.requests {
-        text.push_str(" ")?;
-        text.push_str(name)?;
-    }
-    if let Some(name) = &options.script {
-        text.push_str(", ")?;
-        text.push_str(name)?;
-    }
-    Ok(text)
+// Stops the test unless the words are wrong.
+fn assert_wrong(rt: &impl Abort, alloc: Global, words: &str) {
+    assert!(rt;
+        shown(rt, alloc, words).starts_with("Err(Usage("),
+        "at {words}"
+    );
 }
 
 #[test]
-fn defaults(rt: HostRuntime) -> Result<(), Fail> {
-    let options = replay(rt.alloc(), "replay p.csv r.csv")?;
-    assert_eq!(rt; options.workers, 4);
-    assert_eq!(rt; options.users, 1_000);
-    assert_eq!(rt; options.stash, 256);
-    assert_eq!(rt; options.turns, 1_000);
-    assert_eq!(rt; options.hot, None);
-    assert!(rt; !options.places);
-    assert_eq!(rt; files(rt.alloc(), &options)?.as_str(), "p.csv r.csv");
-    Ok(())
+fn defaults(rt: HostRuntime) {
+    assert_asks(
+        &rt,
+        rt.alloc(),
+        "replay p.csv r.csv",
+        "Ok(Replay(Options { workers: 4, users: 1000, stash: 256, turns: 1000, hot: None, places: false, \
+         pages: \"p.csv\", requests: [\"r.csv\"], script: None }))",
+    );
 }
 
 #[test]
-fn values(rt: HostRuntime) -> Result<(), Fail> {
-    let words = "replay --stash 7 --workers 2 p.csv a.csv b.csv";
-    let options = replay(rt.alloc(), words)?;
-    assert_eq!(rt; options.stash, 7);
-    assert_eq!(rt; options.workers, 2);
-    assert_eq!(rt; options.users, 1_000);
-    assert_eq!(rt; files(rt.alloc(), &options)?.as_str(), "p.csv a.csv b.csv");
-    let words = "replay p.csv --turns=0 a.csv --places --users=9 --script s.csv";
-    let options = replay(rt.alloc(), words)?;
-    assert!(rt; options.places);
-    assert_eq!(rt; options.turns, 0);
-    assert_eq!(rt; options.users, 9);
-    assert_eq!(rt; files(rt.alloc(), &options)?.as_str(), "p.csv a.csv, s.csv");
-    Ok(())
+fn values(rt: HostRuntime) {
+    assert_asks(
+        &rt,
+        rt.alloc(),
+        "replay --stash 7 --workers 2 p.csv a.csv b.csv",
+        "Ok(Replay(Options { workers: 2, users: 1000, stash: 7, turns: 1000, hot: None, places: false, \
+         pages: \"p.csv\", requests: [\"a.csv\", \"b.csv\"], script: None }))",
+    );
+    assert_asks(
+        &rt,
+        rt.alloc(),
+        "replay p.csv --turns=0 a.csv --places --users=9 --script s.csv",
+        "Ok(Replay(Options { workers: 4, users: 9, stash: 256, turns: 0, hot: None, places: true, \
+         pages: \"p.csv\", requests: [\"a.csv\"], script: Some(\"s.csv\") }))",
+    );
 }
 
 #[test]
-fn asks_for_runs(rt: HostRuntime) -> Result<(), Fail> {
-    let options = run(rt.alloc(), "run p.csv r.csv")?;
-    assert_eq!(rt; options.workers, 4);
-    assert_eq!(rt; options.users, 1_000);
-    assert_eq!(rt; options.stash, 256);
-    assert_eq!(rt; options.turns, 1_000);
-    assert!(rt; !options.places);
-    assert_eq!(rt; files(rt.alloc(), &options)?.as_str(), "p.csv r.csv");
-    let words = "run --workers=16 --places p.csv --turns 0 a.csv --hot 9 b.csv";
-    let options = run(rt.alloc(), words)?;
-    assert_eq!(rt; options.hot, Some(9));
-    assert!(rt; options.places);
-    assert_eq!(rt; options.workers, 16);
-    assert_eq!(rt; options.turns, 0);
-    assert_eq!(rt; files(rt.alloc(), &options)?.as_str(), "p.csv a.csv b.csv");
-    usage(rt.alloc(), "run --script s.csv p.csv r.csv")?;
-    Ok(())
+fn asks_for_runs(rt: HostRuntime) {
+    assert_asks(
+        &rt,
+        rt.alloc(),
+        "run p.csv r.csv",
+        "Ok(Run(Options { workers: 4, users: 1000, stash: 256, turns: 1000, hot: None, places: false, \
+         pages: \"p.csv\", requests: [\"r.csv\"], script: None }))",
+    );
+    assert_asks(
+        &rt,
+        rt.alloc(),
+        "run --workers=16 --places p.csv --turns 0 a.csv --hot 9 b.csv",
+        "Ok(Run(Options { workers: 16, users: 1000, stash: 256, turns: 0, hot: Some(9), places: true, \
+         pages: \"p.csv\", requests: [\"a.csv\", \"b.csv\"], script: None }))",
+    );
+    assert_wrong(&rt, rt.alloc(), "run --script s.csv p.csv r.csv");
+}
+
+// The least and the greatest value of each option, and one past each.
+const BOUNDS: &str =
+    "--workers=1 --workers=16 --users=1 --users=1000000 --stash=1 --stash=4096 --turns=0 \
+                      --turns=1000000 --hot=1 --hot=1000000";
+
+const PAST: &str =
+    "--workers=0 --workers=17 --users=0 --users=1000001 --stash=0 --stash=4097 --turns=-1 \
+                    --turns=1000001 --hot=0 --hot=1000001";
+
+// The words of a replay with an option.
+fn replay_with(rt: &impl Abort, alloc: Global, option: &str) -> String {
+    format!(in alloc; "replay {option} p.csv r.csv").expect(rt, "memory")
 }
 
 #[test]
-fn bounds(rt: HostRuntime) -> Result<(), Fail> {
-    for option in [
-        "--workers=1",
-        "--workers=16",
-        "--users=1",
-        "--users=1000000",
-        "--stash=1",
-        "--stash=4096",
-        "--turns=0",
-        "--turns=1000000",
-        "--hot=1",
-        "--hot=1000000",
-    ] {
-        let words = format!(in rt.alloc(); "replay {option} p.csv r.csv")?;
-        replay(rt.alloc(), &words)?;
+fn bounds(rt: HostRuntime) {
+    for option in BOUNDS.split(' ') {
+        let words = replay_with(&rt, rt.alloc(), option);
+        assert!(rt;
+            shown(&rt, rt.alloc(), &words).starts_with("Ok(Replay("),
+            "at {option}"
+        );
     }
-    for option in [
-        "--workers=0",
-        "--workers=17",
-        "--users=0",
-        "--users=1000001",
-        "--stash=0",
-        "--stash=4097",
-        "--turns=-1",
-        "--turns=1000001",
-        "--hot=0",
-        "--hot=1000001",
-    ] {
-        let words = format!(in rt.alloc(); "replay {option} p.csv r.csv")?;
-        usage(rt.alloc(), &words)?;
-    }
-    Ok(())
 }
 
 #[test]
-fn wrong_words(rt: HostRuntime) -> Result<(), Fail> {
-    for words in [
-        "",
-        "walk p.csv r.csv",
-        "run",
-        "run p.csv",
-        "help",
-        "p.csv r.csv",
-        "replay",
-        "replay p.csv",
-        "replay --workers two p.csv r.csv",
-        "replay --workers 1 --workers 2 p.csv r.csv",
-        "replay --hot 1 --hot 2 p.csv r.csv",
-        "replay --places --places p.csv r.csv",
-        "run --places p.csv r.csv --places",
-        "run --places=yes p.csv r.csv",
-        "replay --speed 9 p.csv r.csv",
-        "replay p.csv r.csv --script",
-    ] {
-        usage(rt.alloc(), words)?;
+fn past_the_bounds(rt: HostRuntime) {
+    for option in PAST.split(' ') {
+        let words = replay_with(&rt, rt.alloc(), option);
+        assert_wrong(&rt, rt.alloc(), &words);
     }
-    Ok(())
 }
 
+// Words that are wrong: of these lines, the first has none.
+const WRONG: &str = "
+walk p.csv r.csv
+run
+run p.csv
+help
+p.csv r.csv
+replay
+replay p.csv
+replay --workers two p.csv r.csv
+replay --workers 1 --workers 2 p.csv r.csv
+replay --hot 1 --hot 2 p.csv r.csv
+replay --places --places p.csv r.csv
+run --places p.csv r.csv --places
+run --places=yes p.csv r.csv
+replay --speed 9 p.csv r.csv
+replay p.csv r.csv --script";
+
 #[test]
-fn faults(rt: HostRuntime) -> Result<(), Fail> {
-    let fault = usage(rt.alloc(), "replay --workers 17 p.csv r.csv")?;
-    assert_eq!(rt; fault.status(), 2);
-    let mut text = Vec::with_capacity(rt.alloc(), 256)?;
+fn wrong_words(rt: HostRuntime) {
+    for words in WRONG.split('\n') {
+        assert_wrong(&rt, rt.alloc(), words);
+    }
+}
+
+// Stops the test unless a fault has this status and line.
+fn assert_told(rt: &impl Abort, alloc: Global, fault: &ParseFault, status: u8, line: &str) {
+    let mut text = Vec::with_capacity(alloc, 256).expect(rt, "memory");
     assert!(rt; fault.line(&mut text));
-    let want =
+    assert_eq!(rt;
+        (fault.status(), text.as_slice()),
+        (status, line.as_bytes())
+    );
+}
+
+#[test]
+fn faults(rt: HostRuntime) {
+    let fault = asked(rt.alloc(), "replay --workers 17 p.csv r.csv").expect_err(&rt, "asked");
+    let line =
         "error: invalid value '17' for '--workers <N>': 17 is not in 1..=16\n\nFor more information, try '--help'.\n";
-    assert_eq!(rt; text.as_slice(), want.as_bytes());
-    let mut text = Vec::with_capacity(rt.alloc(), 256)?;
-    assert_eq!(rt; ParseFault::Memory.status(), 4);
-    assert!(rt; ParseFault::Memory.line(&mut text));
-    assert_eq!(rt; text.as_slice(), b"likes: out of memory\n".as_slice());
-    Ok(())
+    assert_told(&rt, rt.alloc(), &fault, 2, line);
+    assert_told(
+        &rt,
+        rt.alloc(),
+        &ParseFault::Memory,
+        4,
+        "likes: out of memory\n",
+    );
 }

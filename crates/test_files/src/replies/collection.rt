@@ -5,7 +5,7 @@ use crate::replies::log_of;
 use like_replies::{Answer, CollectFault, Replies, collect};
 use like_roles::{Ran, Reply};
 use std::alloc::Global;
-use std::test::Fail;
+use std::process::Abort;
 
 // A like of this submitter and number, which ran in phase 1.
 fn like(submitter: u32, number: u32) -> Ran {
@@ -33,93 +33,132 @@ fn collected(
     collect(alloc, sizes, &logs)
 }
 
-#[test]
-fn one_entry_of_each(rt: HostRuntime) -> Result<(), Fail> {
-    let replies = collected(rt.alloc(), &[1], &[like(0, 1)], &[])?;
-    assert_eq!(rt; replies.rows.len(), 1);
-    let liked = Answer {
+// Stops the test unless a submitter has these answers.
+fn assert_row(rt: &impl Abort, replies: &Replies, submitter: usize, wanted: &[Answer]) {
+    let row = replies.rows.get(submitter).expect(rt, "a row");
+    assert_eq!(rt; row.as_slice(), wanted);
+}
+
+// The answer of such a like.
+fn liked() -> Answer {
+    Answer {
         phase: 1,
         stashed: false,
         reply: Reply::Liked,
-    };
-    assert_eq!(rt; replies.rows[0].as_slice(), [liked].as_slice());
-    Ok(())
+    }
 }
 
 #[test]
-fn entries_in_any_order(rt: HostRuntime) -> Result<(), Fail> {
-    let seen = Ran {
+fn one_entry_of_each(rt: HostRuntime) {
+    let replies = collected(rt.alloc(), &[1], &[like(0, 1)], &[]).expect(&rt, "replies");
+    assert_eq!(rt; replies.rows.len(), 1);
+    assert_row(&rt, &replies, 0, &[liked()]);
+}
+
+// What a look that waited for phase 2 saw.
+fn saw() -> Reply {
+    Reply::Seen {
+        last: None,
+        count: 7,
+    }
+}
+
+// The first entry of submitter 2, such a look.
+fn seen() -> Ran {
+    Ran {
         phase: 2,
         submitter: 2,
         number: 1,
         stashed: true,
-        reply: Reply::Seen {
-            last: None,
-            count: 7,
-        },
-    };
-    let ran = [like(2, 2), seen];
-    let replies = collected(rt.alloc(), &[1, 0, 2], &ran, &[like(0, 1)])?;
-    assert_eq!(rt; replies.rows.len(), 3);
-    let liked = Answer {
-        phase: 1,
-        stashed: false,
-        reply: Reply::Liked,
-    };
-    let looked = Answer {
+        reply: saw(),
+    }
+}
+
+// Its answer.
+fn looked() -> Answer {
+    Answer {
         phase: 2,
         stashed: true,
-        reply: Reply::Seen {
-            last: None,
-            count: 7,
-        },
-    };
-    assert_eq!(rt; replies.rows[0].as_slice(), [liked].as_slice());
-    assert!(rt; replies.rows[1].is_empty());
-    assert_eq!(rt; replies.rows[2].as_slice(), [looked, liked].as_slice());
-    Ok(())
+        reply: saw(),
+    }
 }
 
 #[test]
-fn as_many_submitters_as_there_may_be(rt: HostRuntime) -> Result<(), Fail> {
+fn entries_in_any_order(rt: HostRuntime) {
+    let ran = [like(2, 2), seen()];
+    let replies = collected(rt.alloc(), &[1, 0, 2], &ran, &[like(0, 1)]).expect(&rt, "replies");
+    assert_eq!(rt; replies.rows.len(), 3);
+    assert_row(&rt, &replies, 0, &[liked()]);
+    assert_row(&rt, &replies, 1, &[]);
+    assert_row(&rt, &replies, 2, &[looked(), liked()]);
+}
+
+#[test]
+fn as_many_submitters_as_there_may_be(rt: HostRuntime) {
     let mut ran = Vec::new(rt.alloc());
     for submitter in 0..64 {
-        ran.push(like(submitter, 1))?;
+        ran.push(like(submitter, 1)).expect(&rt, "memory");
     }
-    let replies = collected(rt.alloc(), &[1; 64], &ran, &[])?;
+    let replies = collected(rt.alloc(), &[1; 64], &ran, &[]).expect(&rt, "replies");
     assert_eq!(rt; replies.rows.len(), 64);
-    Ok(())
 }
 
 #[test]
-fn no_submitter(rt: HostRuntime) -> Result<(), Fail> {
-    let replies = collected(rt.alloc(), &[], &[], &[])?;
+fn no_submitter(rt: HostRuntime) {
+    let replies = collected(rt.alloc(), &[], &[], &[]).expect(&rt, "replies");
     assert!(rt; replies.rows.is_empty());
-    Ok(())
+}
+
+// Stops the test unless two logs can't be collected, with this fault.
+fn assert_fault(
+    rt: &impl Abort,
+    alloc: Global,
+    sizes: &[u32],
+    first: &[Ran],
+    second: &[Ran],
+    wanted: CollectFault,
+)
+    requires { length sizes.now ≤ 64 }
+{
+    let fault = collected(alloc, sizes, first, second).err();
+    assert_eq!(rt; fault, Some(wanted));
+}
+
+fn stranger(submitter: u32, number: u32) -> CollectFault {
+    CollectFault::Stranger { submitter, number }
+}
+
+fn double(submitter: u32, number: u32) -> CollectFault {
+    CollectFault::Double { submitter, number }
+}
+
+fn missing(submitter: u32, number: u32) -> CollectFault {
+    CollectFault::Missing { submitter, number }
+}
+
+#[test]
+fn strangers(rt: HostRuntime) {
+    let alloc = rt.alloc();
+    assert_fault(&rt, alloc, &[1], &[like(0, 2)], &[], stranger(0, 2));
+    assert_fault(&rt, alloc, &[1], &[like(0, 0)], &[], stranger(0, 0));
+    assert_fault(&rt, alloc, &[1], &[like(1, 1)], &[], stranger(1, 1));
+}
+
+#[test]
+fn entries_that_are_missing(rt: HostRuntime) {
+    let alloc = rt.alloc();
+    assert_fault(&rt, alloc, &[1], &[], &[], missing(0, 1));
+    let (first, second) = ([like(0, 1)], [like(1, 1)]);
+    assert_fault(&rt, alloc, &[1, 2], &first, &second, missing(1, 2));
+    assert_fault(&rt, alloc, &[2, 2], &second, &[], missing(0, 1));
 }
 
 #[test]
 fn faults(rt: HostRuntime) {
-    let stranger = |submitter, number| CollectFault::Stranger { submitter, number };
-    let double = |submitter, number| CollectFault::Double { submitter, number };
-    let missing = |submitter, number| CollectFault::Missing { submitter, number };
-    let fault = |sizes: &[u32], first: &[Ran], second: &[Ran]|
-        requires { length sizes.now ≤ 64 }
-    { collected(rt.alloc(), sizes, first, second).err() };
-    assert_eq!(rt; fault(&[1], &[like(0, 2)], &[]), Some(stranger(0, 2)));
-    assert_eq!(rt; fault(&[1], &[like(0, 0)], &[]), Some(stranger(0, 0)));
-    assert_eq!(rt; fault(&[1], &[like(1, 1)], &[]), Some(stranger(1, 1)));
-    assert_eq!(rt;
-        fault(&[1], &[like(0, 1)], &[like(0, 1)]),
-        Some(double(0, 1))
-    );
-    assert_eq!(rt; fault(&[1], &[], &[]), Some(missing(0, 1)));
-    assert_eq!(rt;
-        fault(&[1, 2], &[like(0, 1)], &[like(1, 1)]),
-        Some(missing(1, 2))
-    );
-    assert_eq!(rt; fault(&[2, 2], &[like(1, 1)], &[]), Some(missing(0, 1)));
+    let alloc = rt.alloc();
+    let once = [like(0, 1)];
+    assert_fault(&rt, alloc, &[1], &once, &once, double(0, 1));
     let both = [like(0, 1), like(0, 1)];
-    assert_eq!(rt; fault(&[2], &both, &[like(5, 5)]), Some(double(0, 1)));
-    assert_eq!(rt; fault(&[2], &[like(5, 5)], &both), Some(stranger(5, 5)));
+    assert_fault(&rt, alloc, &[2], &both, &[like(5, 5)], double(0, 1));
+    assert_fault(&rt, alloc, &[2], &[like(5, 5)], &both, stranger(5, 5));
 }

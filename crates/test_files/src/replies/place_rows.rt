@@ -1,17 +1,18 @@
 //! The rows of places, on a writer in memory and on one that fails.
-ghost use Rattle.std.specs.Prelude.{◌≡◌, IfOk, length};
+ghost use Rattle.std.specs.Prelude.{◌≡◌, length};
 
 use super::places::place;
 use super::texts::{assert_writes, one_page};
 use like_replies::{Place, Replies, Report, write_places};
-use std::alloc::{AllocError, Global};
-use std::test::Fail;
+use std::alloc::Global;
+use std::process::Abort;
 
 // A report on one page with these places.
-fn report_on(alloc: Global, places: Vec<Place>) -> Result<Report, AllocError>
-    ensures { IfOk result (λ r. length r.places.items ≡ 1) }
+fn report_on(rt: &impl Abort, alloc: Global, places: &[Place]) -> Report
+    ensures { length result.places.items ≡ 1 }
 {
-    Ok(Report {
+    let places = Vec::from_slice(alloc, places).expect(rt, "memory");
+    Report {
         logs: Vec::new(alloc),
         replies: Replies {
             rows: Vec::new(alloc),
@@ -20,46 +21,39 @@ fn report_on(alloc: Global, places: Vec<Place>) -> Result<Report, AllocError>
         last: Vec::new(alloc),
         phases: 2,
         hot: Vec::new(alloc),
-        places: vec![in alloc; places]?,
-    })
+        places: vec![in alloc; places].expect(rt, "memory"),
+    }
+}
+
+// Stops the test unless these places on the page of a file are written as these rows.
+fn assert_rows(rt: &impl Abort, alloc: Global, file: &str, places: &[Place], rows: &str) {
+    let pages = one_page(rt, alloc, file);
+    let report = report_on(rt, alloc, places);
+    assert_writes(rt, alloc, rows, |out| {
+        write_places(alloc, &report, &pages, out)
+    });
 }
 
 // Of two workers that merged a like each, of none, and of a page with a name in quotes.
 #[test]
-fn rows_of_places(rt: HostRuntime) -> Result<(), Fail> {
-    let cases = [
-        (
-            "name,count,split\na,100,yes\n",
-            vec![in rt.alloc(); place(0, 100, 1), place(1, 101, 1)]?,
-            "place,0,0,1,100,a,1\nplace,0,1,1,101,a,1\n",
-        ),
-        ("name,count,split\na,0,no\n", Vec::new(rt.alloc()), ""),
-        (
-            "name,count,split\n\"x,\"\"y\"\"\",0,yes\n",
-            vec![in rt.alloc(); place(3, 0, 64_000_000)]?,
-            "place,0,3,1,0,\"x,\"\"y\"\"\",64000000\n",
-        ),
-    ];
-    for (file, places, rows) in cases {
-        let pages = one_page(&rt, rt.alloc(), file);
-        let report = report_on(rt.alloc(), places)?;
-        assert_writes(&rt, rt.alloc(), rows, |out| {
-            write_places(rt.alloc(), &report, &pages, out)
-        })?;
-    }
-    Ok(())
+fn rows_of_places(rt: HostRuntime) {
+    let file = "name,count,split\na,100,yes\n";
+    let rows = "place,0,0,1,100,a,1\nplace,0,1,1,101,a,1\n";
+    let places = [place(0, 100, 1), place(1, 101, 1)];
+    assert_rows(&rt, rt.alloc(), file, &places, rows);
+    assert_rows(&rt, rt.alloc(), "name,count,split\na,0,no\n", &[], "");
+    let file = "name,count,split\n\"x,\"\"y\"\"\",0,yes\n";
+    let rows = "place,0,3,1,0,\"x,\"\"y\"\"\",64000000\n";
+    assert_rows(&rt, rt.alloc(), file, &[place(3, 0, 64_000_000)], rows);
 }
 
 // What was in the writer stays there.
 #[test]
-fn appends_places(rt: HostRuntime) -> Result<(), Fail> {
+fn appends_places(rt: HostRuntime) {
     let pages = one_page(&rt, rt.alloc(), "name,count,split\na,0,no\n");
-    let places = vec![in rt.alloc(); place(0, 0, 1)]?;
-    let report = report_on(rt.alloc(), places)?;
+    let report = report_on(&rt, rt.alloc(), &[place(0, 0, 1)]);
     let text = b"before\nplace,0,0,1,0,a,1\n";
-    let mut out = Vec::with_capacity(rt.alloc(), text.len())?;
-    out.extend_from_slice(b"before\n")?;
-    write_places(rt.alloc(), &report, &pages, &mut out)?;
+    let mut out = Vec::from_slice(rt.alloc(), b"before\n").expect(&rt, "memory");
+    write_places(rt.alloc(), &report, &pages, &mut out).expect(&rt, "written");
     assert_eq!(rt; out.as_slice(), text.as_slice());
-    Ok(())
 }

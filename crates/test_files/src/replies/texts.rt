@@ -1,5 +1,5 @@
 //! The text of a report, on a writer in memory and on one that fails.
-ghost use Rattle.std.specs.Prelude.{◌≡◌, List, ◌∷◌, [], IfOk, false, length, map};
+ghost use Rattle.std.specs.Prelude.{◌≡◌, List, false, length, map};
 ghost use Rattle.like_requests.specs.Pages.{Page};
 ghost use Rattle.like_roles.specs.declared.reply.Reply.TheVariants.{Refused};
 ghost use Rattle.like_replies.specs.Reported.{Reported, reported};
@@ -8,9 +8,8 @@ ghost use Rattle.like_replies.specs.Rows.{IsWritable};
 use like_replies::{Answer, Replies, Report, WriteFault, write_report};
 use like_requests::{Pages, Verdict, read_pages};
 use like_roles::{Chosen, Reply};
-use std::alloc::{AllocError, Global};
+use std::alloc::Global;
 use std::process::Abort;
-use std::test::Fail;
 
 /// The header row.
 pub const HEADER: &str = "row,id,number,phase,answer,page,count\n";
@@ -19,37 +18,34 @@ pub const HEADER: &str = "row,id,number,phase,answer,page,count\n";
 pub fn one_page(rt: &impl Abort, alloc: Global, text: &str) -> Pages
     ensures { length result ≡ 1 }
 {
-    let pages = match read_pages(alloc, text.as_bytes()) {
-        Ok(pages) => pages,
-        Err(fault) => panic!(rt; "no pages: {fault}"),
-    };
-    assert_eq!(rt; pages.len(), 1);
+    let pages = read_pages(alloc, text.as_bytes()).expect(rt, "pages");
+    assert!(rt; pages.len() == 1);
     pages
 }
 
-// A report on one page.
+// A report on one page of this count.
 fn report(
     alloc: Global,
     rows: Vec<Vec<Answer>>,
-    count: u64,
+    counts: Vec<u64>,
     last: Vec<Option<u32>>,
     phases: u32,
     hot: Vec<Chosen>,
-) -> Result<Report, AllocError>
+) -> Report
     ensures { let replies = map (λ row. row.items) rows.items in
         let shown : Reported =
-        record { replies = replies; counts = count ∷ []; last = last.items; hot = hot.items } in
-        IfOk result (λ r. reported r ≡ shown) }
+        record { replies = replies; counts = counts.items; last = last.items; hot = hot.items } in
+        reported result ≡ shown }
 {
-    Ok(Report {
+    Report {
         logs: Vec::new(alloc),
         replies: Replies { rows },
-        counts: vec![in alloc; count]?,
+        counts,
         last,
         phases,
         hot,
         places: Vec::new(alloc),
-    })
+    }
 }
 
 // The answer of a request that ran at once in this phase.
@@ -71,51 +67,47 @@ fn refused(verdict: Verdict) -> Answer
 }
 
 // The report on four requests that are refused.
-fn verdicts_report(alloc: Global) -> Result<Report, AllocError>
-    ensures { IfOk result
-        (λ r. (pages : List Page) → length pages ≡ 1 → IsWritable pages (reported r)) }
+fn verdicts_report(rt: &impl Abort, alloc: Global) -> Report
+    ensures { (pages : List Page) → length pages ≡ 1 → IsWritable pages (reported result) }
 {
     let first = vec![in alloc;
         refused(Verdict::UnknownUser),
         refused(Verdict::OtherHome),
         refused(Verdict::UnknownPage),
         refused(Verdict::UnknownUser),
-    ]?;
-    let rows = vec![in alloc; first, Vec::new(alloc)]?;
-    let last = vec![in alloc; None, None]?;
-    report(alloc, rows, 10, last, 0, Vec::new(alloc))
+    ]
+    .expect(rt, "memory");
+    let rows = vec![in alloc; first, Vec::new(alloc)].expect(rt, "memory");
+    let counts = vec![in alloc; 10].expect(rt, "memory");
+    let last = vec![in alloc; None, None].expect(rt, "memory");
+    report(alloc, rows, counts, last, 0, Vec::new(alloc))
 }
 
 // The report on a like in this phase, of so many phases, of which these had hot pages.
-fn like_report(
-    alloc: Global,
-    phase: u32,
-    phases: u32,
-    hot: Vec<Chosen>,
-) -> Result<Report, AllocError>
-    ensures { IfOk result
-        (λ r. (pages : List Page) → length pages ≡ 1 → IsWritable pages (reported r)) }
+fn like_report(rt: &impl Abort, alloc: Global, phase: u32, phases: u32, hot: Vec<Chosen>) -> Report
+    ensures { (pages : List Page) → length pages ≡ 1 → IsWritable pages (reported result) }
 {
-    let first = vec![in alloc; answer(phase, Reply::Liked)]?;
-    let rows = vec![in alloc; first]?;
-    let last = vec![in alloc; Some(0)]?;
-    report(alloc, rows, 1, last, phases, hot)
+    let first = vec![in alloc; answer(phase, Reply::Liked)].expect(rt, "memory");
+    let rows = vec![in alloc; first].expect(rt, "memory");
+    let counts = vec![in alloc; 1].expect(rt, "memory");
+    let last = vec![in alloc; Some(0)].expect(rt, "memory");
+    report(alloc, rows, counts, last, phases, hot)
 }
 
 // The report on a like in phase 1, and on a look that waited for phase 2.
-fn stashed_report(alloc: Global) -> Result<Report, AllocError>
-    ensures { IfOk result
-        (λ r. (pages : List Page) → length pages ≡ 1 → IsWritable pages (reported r)) }
+fn stashed_report(rt: &impl Abort, alloc: Global) -> Report
+    ensures { (pages : List Page) → length pages ≡ 1 → IsWritable pages (reported result) }
 {
     let last = Some(0);
     let seen = Answer {
         stashed: true,
         ..answer(2, Reply::Seen { last, count: 11 })
     };
-    let first = vec![in alloc; answer(1, Reply::Liked), seen]?;
-    let rows = vec![in alloc; first]?;
-    let last = vec![in alloc; Some(0), None]?;
-    report(alloc, rows, 11, last, 4, Vec::new(alloc))
+    let first = vec![in alloc; answer(1, Reply::Liked), seen].expect(rt, "memory");
+    let rows = vec![in alloc; first].expect(rt, "memory");
+    let counts = vec![in alloc; 11].expect(rt, "memory");
+    let last = vec![in alloc; Some(0), None].expect(rt, "memory");
+    report(alloc, rows, counts, last, 4, Vec::new(alloc))
 }
 
 // Asserts that a text is written where there is room for all of it, and that with any less the write fails.
@@ -124,11 +116,11 @@ pub fn assert_writes<F: Fn(&mut &mut [u8]) -> Result<(), WriteFault>>(
     alloc: Global,
     text: &str,
     write: F,
-) -> Result<(), Fail>
+)
     requires { F.IsAlwaysCallable write }
 {
     for bytes in 0..text.len() {
-        let mut room = vec![in alloc; 0; bytes]?;
+        let mut room = vec![in alloc; 0; bytes].expect(rt, "memory");
         let mut out = room.as_mut_slice();
         assert_eq!(rt;
             write(&mut out),
@@ -136,33 +128,26 @@ pub fn assert_writes<F: Fn(&mut &mut [u8]) -> Result<(), WriteFault>>(
             "where {bytes} bytes fit"
         );
     }
-    let mut room = vec![in alloc; 0; text.len()]?;
+    let mut room = vec![in alloc; 0; text.len()].expect(rt, "memory");
     let mut out = room.as_mut_slice();
     assert_eq!(rt; write(&mut out), Ok(()));
     assert_eq!(rt; room.as_slice(), text.as_bytes());
-    Ok(())
 }
 
 // Asserts that a report on the page of a file is written as the header row and these.
-fn assert_written(
-    rt: &impl Abort,
-    alloc: Global,
-    file: &str,
-    report: &Report,
-    rows: &str,
-) -> Result<(), Fail>
+fn assert_written(rt: &impl Abort, alloc: Global, file: &str, report: &Report, rows: &str)
     requires { (pages : List Page) → length pages ≡ 1 → IsWritable pages (reported report.now) }
 {
     let pages = one_page(rt, alloc, file);
-    let text = format!(in alloc; "{HEADER}{rows}")?;
+    let text = format!(in alloc; "{HEADER}{rows}").expect(rt, "memory");
     assert_writes(rt, alloc, &text, |out| {
         write_report(alloc, report, &pages, out)
-    })
+    });
 }
 
 #[test]
-fn verdicts(rt: HostRuntime) -> Result<(), Fail> {
-    let report = verdicts_report(rt.alloc())?;
+fn verdicts(rt: HostRuntime) {
+    let report = verdicts_report(&rt, rt.alloc());
     let rows = "reply,0,1,0,unknown-user,,\nreply,0,2,0,other-home,,\nreply,0,3,0,unknown-page,,\n\
          reply,0,4,0,unknown-user,,\npage,0,,,,a,10\n";
     assert_written(
@@ -171,20 +156,20 @@ fn verdicts(rt: HostRuntime) -> Result<(), Fail> {
         "name,count,split\na,10,no\n",
         &report,
         rows,
-    )
+    );
 }
 
 #[test]
-fn quoted_names(rt: HostRuntime) -> Result<(), Fail> {
+fn quoted_names(rt: HostRuntime) {
     let file = "name,count,split\r\n\"x,\"\"y\"\"\",0,no\r\n";
-    let report = like_report(rt.alloc(), 0, 0, Vec::new(rt.alloc()))?;
+    let report = like_report(&rt, rt.alloc(), 0, 0, Vec::new(rt.alloc()));
     let rows = "reply,0,1,0,liked,,\npage,0,,,,\"x,\"\"y\"\"\",1\nuser,0,,,,\"x,\"\"y\"\"\",\n";
-    assert_written(&rt, rt.alloc(), file, &report, rows)
+    assert_written(&rt, rt.alloc(), file, &report, rows);
 }
 
 #[test]
-fn split_and_stash(rt: HostRuntime) -> Result<(), Fail> {
-    let report = stashed_report(rt.alloc())?;
+fn split_and_stash(rt: HostRuntime) {
+    let report = stashed_report(&rt, rt.alloc());
     let rows = "reply,0,1,1,liked,,\nreply,0,2,2,seen,a,11\npage,0,,,,a,11\nuser,0,,,,a,\n";
     assert_written(
         &rt,
@@ -192,27 +177,28 @@ fn split_and_stash(rt: HostRuntime) -> Result<(), Fail> {
         "name,count,split\na,10,yes\n",
         &report,
         rows,
-    )
+    );
 }
 
 #[test]
-fn hot_pages(rt: HostRuntime) -> Result<(), Fail> {
-    let hot = vec![in rt.alloc(); Chosen { phase: 3, mask: 1 }, Chosen { phase: 5, mask: 1 }]?;
-    let report = like_report(rt.alloc(), 1, 6, hot)?;
+fn hot_pages(rt: HostRuntime) {
+    let hot = vec![in rt.alloc();
+        Chosen { phase: 3, mask: 1 },
+        Chosen { phase: 5, mask: 1 },
+    ].expect(&rt, "memory");
+    let report = like_report(&rt, rt.alloc(), 1, 6, hot);
     let rows = "reply,0,1,1,liked,,\npage,0,,,,a,1\nuser,0,,,,a,\nhot,0,,3,,a,\nhot,0,,5,,a,\n";
-    assert_written(&rt, rt.alloc(), "name,count,split\na,0,no\n", &report, rows)
+    assert_written(&rt, rt.alloc(), "name,count,split\na,0,no\n", &report, rows);
 }
 
 // What was in the writer stays there.
 #[test]
-fn appends(rt: HostRuntime) -> Result<(), Fail> {
+fn appends(rt: HostRuntime) {
     let pages = one_page(&rt, rt.alloc(), "name,count,split\na,10,no\n");
     let rows = "reply,0,1,0,liked,,\npage,0,,,,a,1\nuser,0,,,,a,\n";
-    let text = format!(in rt.alloc(); "before\n{HEADER}{rows}")?;
-    let mut out = Vec::with_capacity(rt.alloc(), text.len())?;
-    out.extend_from_slice(b"before\n")?;
-    let report = like_report(rt.alloc(), 0, 0, Vec::new(rt.alloc()))?;
-    write_report(rt.alloc(), &report, &pages, &mut out)?;
+    let text = format!(in rt.alloc(); "before\n{HEADER}{rows}").expect(&rt, "memory");
+    let mut out = Vec::from_slice(rt.alloc(), b"before\n").expect(&rt, "memory");
+    let report = like_report(&rt, rt.alloc(), 0, 0, Vec::new(rt.alloc()));
+    write_report(rt.alloc(), &report, &pages, &mut out).expect(&rt, "written");
     assert_eq!(rt; out.as_slice(), text.as_bytes());
-    Ok(())
 }

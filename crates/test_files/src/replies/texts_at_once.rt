@@ -1,5 +1,5 @@
 //! The text of a report whose sections threads make side by side.
-ghost use Rattle.std.specs.Prelude.{◌≡◌, IfOk, List, length};
+ghost use Rattle.std.specs.Prelude.{◌≡◌, List, length};
 ghost use Rattle.like_requests.specs.Pages.{Page};
 ghost use Rattle.like_replies.specs.Reported.{reported};
 ghost use Rattle.like_replies.specs.Rows.{IsWritable};
@@ -9,71 +9,90 @@ use super::texts::{HEADER, one_page};
 use like_replies::{Answer, Replies, Report, write_text_at_once};
 use like_roles::Reply;
 use std::alloc::{AllocError, Global};
-use std::test::Fail;
+use std::process::Abort;
 
 // The report on so many likes of one submitter, each of a user of its own, with a place for each.
-fn report_of_likes(alloc: Global, count: usize) -> Result<Report, AllocError>
-    ensures written { IfOk result
-        (λ r. (pages : List Page) → length pages ≡ 1 → IsWritable pages (reported r)) }
-    ensures placed { IfOk result (λ r. length r.places.items ≡ 1) }
+fn report_of_likes(rt: &impl Abort, alloc: Global, count: usize) -> Report
+    ensures written { (pages : List Page) → length pages ≡ 1 → IsWritable pages (reported result) }
+    ensures placed { length result.places.items ≡ 1 }
 {
     let answer = Answer {
         phase: 0,
         stashed: false,
         reply: Reply::Liked,
     };
-    Ok(Report {
+    let answers = vec![in alloc; answer; count].expect(rt, "memory");
+    let places = vec![in alloc; place(0, 7, 1); count].expect(rt, "memory");
+    Report {
         logs: Vec::new(alloc),
         replies: Replies {
-            rows: vec![in alloc; vec![in alloc; answer; count]?]?,
+            rows: vec![in alloc; answers].expect(rt, "memory"),
         },
-        counts: vec![in alloc; 7]?,
-        last: vec![in alloc; Some(0); count]?,
+        counts: vec![in alloc; 7].expect(rt, "memory"),
+        last: vec![in alloc; Some(0); count].expect(rt, "memory"),
         phases: 0,
         hot: Vec::new(alloc),
-        places: vec![in alloc; vec![in alloc; place(0, 7, 1); count]?]?,
-    })
+        places: vec![in alloc; places].expect(rt, "memory"),
+    }
 }
 
-// Its text, with its places.
-fn text_of_likes(alloc: Global, count: usize) -> Result<String, Fail> {
-    let mut text = String::from_str(alloc, HEADER)?;
+// The rows of so many requests.
+fn push_requests(alloc: Global, text: &mut String, count: usize) -> Result<(), AllocError> {
     for number in 1..=count {
-        write!(text, "reply,0,{number},0,liked,,\n")?;
+        let row = format!(in alloc; "reply,0,{number},0,liked,,\n")?;
+        text.push_str(&row)?;
     }
-    text.push_str("page,0,,,,a,7\n")?;
+    Ok(())
+}
+
+// The rows of so many users.
+fn push_users(alloc: Global, text: &mut String, count: usize) -> Result<(), AllocError> {
     for user in 0..count {
-        write!(text, "user,{user},,,,a,\n")?;
+        let row = format!(in alloc; "user,{user},,,,a,\n")?;
+        text.push_str(&row)?;
     }
+    Ok(())
+}
+
+// The rows of so many places.
+fn push_places(text: &mut String, count: usize) -> Result<(), AllocError> {
     for _ in 0..count {
         text.push_str("place,0,0,1,7,a,1\n")?;
     }
+    Ok(())
+}
+
+// Its text, with its places.
+fn text_of_likes(alloc: Global, count: usize) -> Result<String, AllocError> {
+    let mut text = String::from_str(alloc, HEADER)?;
+    push_requests(alloc, &mut text, count)?;
+    text.push_str("page,0,,,,a,7\n")?;
+    push_users(alloc, &mut text, count)?;
+    push_places(&mut text, count)?;
     Ok(text)
 }
 
 // 40,000 requests, users and places have three sections each, the last of them shorter than the others: more than are
 // made side by side.
 #[test]
-fn all_sections_in_order(rt: HostRuntime) -> Result<(), Fail> {
+fn all_sections_in_order(rt: HostRuntime) {
     let pages = one_page(&rt, rt.alloc(), "name,count,split\na,0,no\n");
     for count in [0, 1, 16_384, 40_000] {
-        let report = report_of_likes(rt.alloc(), count)?;
-        let text = text_of_likes(rt.alloc(), count)?;
-        let mut out = Vec::with_capacity(rt.alloc(), text.len())?;
-        write_text_at_once(&rt, rt.alloc(), true, &report, &pages, &mut out)?;
+        let report = report_of_likes(&rt, rt.alloc(), count);
+        let text = text_of_likes(rt.alloc(), count).expect(&rt, "memory");
+        let mut out = Vec::with_capacity(rt.alloc(), text.len()).expect(&rt, "memory");
+        write_text_at_once(&rt, rt.alloc(), true, &report, &pages, &mut out).expect(&rt, "written");
         assert!(rt; out.as_slice() == text.as_bytes(), "of {count} likes");
     }
-    Ok(())
 }
 
 #[test]
-fn no_places_unasked(rt: HostRuntime) -> Result<(), Fail> {
+fn no_places_unasked(rt: HostRuntime) {
     let pages = one_page(&rt, rt.alloc(), "name,count,split\na,0,no\n");
-    let report = report_of_likes(rt.alloc(), 1)?;
+    let report = report_of_likes(&rt, rt.alloc(), 1);
     let rows = "reply,0,1,0,liked,,\npage,0,,,,a,7\nuser,0,,,,a,\n";
-    let text = format!(in rt.alloc(); "{HEADER}{rows}")?;
-    let mut out = Vec::with_capacity(rt.alloc(), text.len())?;
-    write_text_at_once(&rt, rt.alloc(), false, &report, &pages, &mut out)?;
+    let text = format!(in rt.alloc(); "{HEADER}{rows}").expect(&rt, "memory");
+    let mut out = Vec::with_capacity(rt.alloc(), text.len()).expect(&rt, "memory");
+    write_text_at_once(&rt, rt.alloc(), false, &report, &pages, &mut out).expect(&rt, "written");
     assert!(rt; out.as_slice() == text.as_bytes());
-    Ok(())
 }

@@ -1,7 +1,9 @@
 //! Files that are cut short, fail in mid-stream, have a byte changed, or are texts of CSV of another kind.
 use super::{one_page, request};
 use like_devices::{Trickle, csv_cases};
-use like_requests::{Op, PageRef, PagesFault, RequestsFault, read_pages, read_requests};
+use like_requests::{Op, PageRef, Pages, PagesFault, RequestsFault, read_pages, read_requests};
+use std::alloc::Global;
+use std::process::Abort;
 
 // A good pages file and a good requests file, with quoted names and CRLF.
 const PAGES: &[u8] = b"name,count,split\r\n\"x,\"\"y\"\"\",0,no\r\n";
@@ -55,33 +57,56 @@ fn a_prefix_of_a_requests_file(rt: HostRuntime) {
 
 #[test]
 fn a_read_that_fails(rt: HostRuntime) {
-    let alloc = rt.alloc();
     for reads in 0..PAGES.len() + 1 {
-        let fault = read_pages(alloc, Trickle::new(PAGES, reads)).err();
+        let fault = read_pages(rt.alloc(), Trickle::new(PAGES, reads)).err();
         assert_eq!(rt; fault, Some(PagesFault::Read), "at {reads}");
     }
-    let pages = one_page(&rt, alloc);
+    let fault = read_pages(rt.alloc(), Trickle::new(PAGES, 1_000)).err();
+    assert_eq!(rt; fault, None);
+}
+
+#[test]
+fn a_read_of_requests_that_fails(rt: HostRuntime) {
+    let pages = one_page(&rt, rt.alloc());
     for reads in 0..REQUESTS.len() + 1 {
-        let fault = read_requests(alloc, Trickle::new(REQUESTS, reads), &pages).err();
+        let fault = read_requests(rt.alloc(), Trickle::new(REQUESTS, reads), &pages).err();
         assert_eq!(rt; fault, Some(RequestsFault::Read), "at {reads}");
     }
-    assert!(rt; read_pages(alloc, Trickle::new(PAGES, 1_000)).is_ok());
-    assert!(rt; read_requests(alloc, Trickle::new(REQUESTS, 1_000), &pages).is_ok());
+    let fault = read_requests(rt.alloc(), Trickle::new(REQUESTS, 1_000), &pages).err();
+    assert_eq!(rt; fault, None);
+}
+
+// Stops the test unless a pages file is read the same at once and byte by byte, and tells its fault.
+fn assert_same_pages(rt: &impl Abort, alloc: Global, text: &[u8]) -> Option<PagesFault> {
+    let whole = read_pages(alloc, text).err();
+    let bytewise = read_pages(alloc, Trickle::new(text, 1_000)).err();
+    assert_eq!(rt; bytewise, whole);
+    whole
+}
+
+// The same of a requests file.
+fn assert_same_requests(
+    rt: &impl Abort,
+    alloc: Global,
+    pages: &Pages,
+    text: &[u8],
+) -> Option<RequestsFault> {
+    let whole = read_requests(alloc, text, pages).err();
+    let bytewise = read_requests(alloc, Trickle::new(text, 1_000), pages).err();
+    assert_eq!(rt; bytewise, whole);
+    whole
 }
 
 // However a file is handed out, it is read the same: here with each byte replaced by each other one in turn.
 #[test]
 fn a_byte_that_is_changed(rt: HostRuntime) {
-    let alloc = rt.alloc();
     let mut text = *b"name,count,split\n\"a\",10,yes\n";
     for place in 0..text.len() {
         let good = text[place];
         for byte in 0..=255 {
             text[place] = byte;
-            let whole = read_pages(alloc, text.as_slice()).err();
-            let bytewise = read_pages(alloc, Trickle::new(text.as_slice(), 1_000)).err();
-            assert_eq!(rt; bytewise, whole, "at {place}: {byte}");
-            assert!(rt; byte != good || whole.is_none());
+            let fault = assert_same_pages(&rt, rt.alloc(), &text);
+            assert!(rt; byte != good || fault.is_none(), "at {place}");
         }
         text[place] = good;
     }
@@ -89,18 +114,14 @@ fn a_byte_that_is_changed(rt: HostRuntime) {
 
 #[test]
 fn a_byte_that_is_changed_in_requests(rt: HostRuntime) {
-    let alloc = rt.alloc();
-    let pages = one_page(&rt, alloc);
+    let pages = one_page(&rt, rt.alloc());
     let mut text = *b"op,user,page\nlike,0,\"a\"\n";
     for place in 0..text.len() {
         let good = text[place];
         for byte in 0..=255 {
             text[place] = byte;
-            let whole = read_requests(alloc, text.as_slice(), &pages).err();
-            let slow = Trickle::new(text.as_slice(), 1_000);
-            let bytewise = read_requests(alloc, slow, &pages).err();
-            assert_eq!(rt; bytewise, whole, "at {place}: {byte}");
-            assert!(rt; byte != good || whole.is_none());
+            let fault = assert_same_requests(&rt, rt.alloc(), &pages, &text);
+            assert!(rt; byte != good || fault.is_none(), "at {place}");
         }
         text[place] = good;
     }
@@ -122,17 +143,17 @@ fn a_file_of_another_kind(rt: HostRuntime) {
 
 #[test]
 fn a_name_that_is_no_text(rt: HostRuntime) {
-    let pages = one_page(&rt, rt.alloc());
     let text = b"name,count,split\n\xff,1,no\n".as_slice();
     let fault = read_pages(rt.alloc(), text).err();
     assert_eq!(rt; fault, Some(PagesFault::Name { row: 1 }));
+}
+
+// A page that is not there is no fault.
+#[test]
+fn a_page_that_is_no_text(rt: HostRuntime) {
+    let pages = one_page(&rt, rt.alloc());
     let text = b"op,user,page\nlike,0,\xff\n".as_slice();
-    let requests = read_requests(rt.alloc(), text, &pages).expect(
-        &rt,
-        "a page that is not there is no fault",
-    );
-    assert_eq!(rt;
-        requests.as_slice(),
-        [request(Op::Like, 0, PageRef::Unknown)].as_slice()
-    );
+    let requests = read_requests(rt.alloc(), text, &pages).expect(&rt, "requests");
+    let wanted = [request(Op::Like, 0, PageRef::Unknown)];
+    assert_eq!(rt; requests.as_slice(), wanted.as_slice());
 }

@@ -1,6 +1,8 @@
 //! Scripts that are cut short, fail in mid-stream, have a byte changed, or are texts of CSV of another kind.
 use like_devices::{Trickle, csv_cases};
 use like_script::{ScriptFault, read_script};
+use std::alloc::Global;
+use std::process::Abort;
 
 const SCRIPT: &[u8] = b"turn,index\nworker,0\nfly,1\n";
 
@@ -35,19 +37,24 @@ fn a_read_that_fails(rt: HostRuntime) {
     assert_eq!(rt; fault, Some(ScriptFault::Line { row: 2 }));
 }
 
+// Stops the test unless a script file is read the same at once and byte by byte, and tells its fault.
+fn assert_same(rt: &impl Abort, alloc: Global, text: &[u8]) -> Option<ScriptFault> {
+    let whole = read_script(alloc, text).err();
+    let bytewise = read_script(alloc, Trickle::new(text, 1_000)).err();
+    assert_eq!(rt; bytewise, whole);
+    whole
+}
+
 // However a file is handed out, it is read the same: here with each byte replaced by each other one in turn.
 #[test]
 fn a_byte_that_is_changed(rt: HostRuntime) {
-    let alloc = rt.alloc();
     let mut text = *b"turn,index\nworker,0\nopen,1\n";
     for place in 0..text.len() {
         let good = text[place];
         for byte in 0..=255 {
             text[place] = byte;
-            let whole = read_script(alloc, text.as_slice()).err();
-            let bytewise = read_script(alloc, Trickle::new(text.as_slice(), 1_000)).err();
-            assert_eq!(rt; bytewise, whole, "at {place}: {byte}");
-            assert!(rt; byte != good || whole.is_none());
+            let fault = assert_same(&rt, rt.alloc(), &text);
+            assert!(rt; byte != good || fault.is_none(), "at {place}");
         }
         text[place] = good;
     }
