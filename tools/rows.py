@@ -21,6 +21,9 @@ QUOTES = {
     f"field larger than field limit ({LONGEST})": f"more than {LONGEST} characters in a field: is a quote not closed?",
 }
 
+# What a field has in it that has to be in quotes.
+MARKS = re.compile('[",\r\n]')
+
 
 class Fault(Exception):
     """What is wrong with a file, in a line."""
@@ -59,7 +62,7 @@ def rows_of(name, header):
 
 def field(text):
     """A field of a CSV file, in quotes where it has to be."""
-    return '"' + text.replace('"', '""') + '"' if re.search('[",\r\n]', text) else text
+    return '"' + text.replace('"', '""') + '"' if MARKS.search(text) else text
 
 
 def options(text):
