@@ -1,0 +1,37 @@
+"""The blocks of shell commands that pages show, run in a folder in which the repository stands."""
+
+import os
+import re
+
+import runs
+
+# A block, its language, and the text in front of it.
+BLOCK = re.compile(r"(.*?)^```(\w*)\n(.*?)^```$", re.M | re.S)
+
+
+def text_of(page):
+    with open(f"{runs.ROOT}/{page}", encoding="utf-8") as file:
+        return file.read()
+
+
+def make_repository(folder):
+    """Lets the repository stand in a folder of this time."""
+    for name in os.listdir(runs.ROOT):
+        if not name.startswith("."):
+            os.symlink(f"{runs.ROOT}/{name}", f"{folder}/{name}")
+    os.mkdir(f"{folder}/bin")
+    os.symlink(f"{runs.ROOT}/likes", f"{folder}/bin/likes")
+
+
+def shell(command, folder):
+    """A shell's commands in such a folder, with `likes` on the path and a home of their own."""
+    where = {"HOME": folder, "PATH": f"{folder}/bin:{os.environ['PATH']}", "MANWIDTH": "100", "LC_ALL": "C"}
+    return runs.run(["sh", "-e", "-c", f"exec 2>&1\n{command}"], folder, seconds=600, env={**os.environ, **where})
+
+
+def blocks_of(text):
+    """The blocks of shell commands, each with what it prints or with nothing where the page doesn't say."""
+    found = BLOCK.findall(text)
+    for (_, language, commands), (between, after, output) in zip(found, [*found[1:], ("", "", "")]):
+        if language == "sh":
+            yield commands, output if not after and between.strip().startswith("prints") else None
