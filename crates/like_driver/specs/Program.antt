@@ -9,6 +9,7 @@ use Rattle.like_files.specs.Run.{HasRunSome}
 use Rattle.like_words.specs.declared.asked.Asked.{Asked}
 use Rattle.like_words.specs.declared.asked.Asked.TheVariants.{Run, Replay, Help}
 use Rattle.like_words.specs.declared.options.Options.{Options}
+use Rattle.like_replies.specs.declared.summary.Summary.{Summary}
 use Rattle.like_driver.specs.declared.program.fault.ProgramFault.{ProgramFault}
 use Rattle.like_driver.specs.declared.program.fault.ProgramFault.TheVariants as program
 
@@ -19,7 +20,7 @@ example_pages = codes "name,count,split\na,10,no\n"
 abbrev pub example_requests : List ℕ
 example_requests = codes "op,user,page\nlike,0,a\nlike,1,a\nlike,0,a\n"
 
--- options have the numbers of the example, and ask for no places
+-- options have the numbers of the example, and ask for no places and no summary
 pub record IsExample (o : Options) : Type 0 where
   pub workers : o.workers ≡ 1
   pub users : o.users ≡ 2
@@ -27,9 +28,10 @@ pub record IsExample (o : Options) : Type 0 where
   pub turns : o.turns ≡ 1000
   pub hot : o.hot ≡ None
   pub places : o.places ≡ false
+  pub summary : o.summary ≡ false
 
--- the example was replayed
-pub record HasReplayedExample (old new : Option (List ℕ)) : Type 0 where
+-- the example was replayed, with this summary
+pub record HasReplayedExample (old new : Option (List ℕ)) (summary : Option Summary) : Type 0 where
   pub options : Options
   pub numbers : IsExample options
   pub replayed :
@@ -37,18 +39,19 @@ pub record HasReplayedExample (old new : Option (List ℕ)) : Type 0 where
         pages = Some example_pages;
         requests = Some example_requests ∷ [];
         script = None;
-      }) old new
+      }) old new summary
 
--- what was asked for was done
-abbrev pub HasDone : Asked → Option (List ℕ) → Option (List ℕ) → Type 0
-HasDone (Run options) old new = HasRunSome options old new
-HasDone (Replay options) old new = HasReplayedSome options old new
-HasDone (Help text) old new = Appends old new (string_bytes text)
+-- what was asked for was done, and this is the report's summary, where one was asked for
+abbrev pub HasDone : Asked → Option (List ℕ) → Option (List ℕ) → Option Summary → Type 0
+HasDone (Run options) old new summary = HasRunSome options old new summary
+HasDone (Replay options) old new summary = HasReplayedSome options old new summary
+HasDone (Help text) old new summary = Appends old new (string_bytes text) × (summary ≡ None)
 
--- the program has done what its words ask for: without any word it has replayed its example
-abbrev pub HasServed : Words → Option (List ℕ) → Option (List ℕ) → Type 0
-HasServed [] old new = HasReplayedExample old new
-HasServed (word ∷ words) old new = (asked : Asked) × Asks (word ∷ words) asked × HasDone asked old new
+-- the program has done what its words ask for, with this summary: without any word it has replayed its example
+abbrev pub HasServed : Words → Option (List ℕ) → Option (List ℕ) → Option Summary → Type 0
+HasServed [] old new summary = HasReplayedExample old new summary
+HasServed (word ∷ words) old new summary =
+    (asked : Asked) × Asks (word ∷ words) asked × HasDone asked old new summary
 
 -- why the example was not replayed
 abbrev pub IsExampleFault : Option (List ℕ) → Option (List ℕ) → ProgramFault → Type 0
@@ -71,5 +74,5 @@ IsServeFault (word ∷ words) old new fault = IsWordsFault (word ∷ words) old 
 
 -- the program ends with 0 where it has done what its words ask for, or else with the status of a fault
 abbrev pub Ends : Words → Option (List ℕ) → Option (List ℕ) → ℕ → Type 0
-Ends words old new status = ((status ≡ 0) × HasServed words old new)
+Ends words old new status = ((status ≡ 0) × (summary : Option Summary) × HasServed words old new summary)
     ⊎ ((fault : ProgramFault) × (status ≡ program_status fault) × IsServeFault words old new fault)

@@ -1,8 +1,9 @@
-ghost use Rattle.std.specs.Prelude.{◌≡◌, ◌∷◌, [], IfErr, IfOk, None, OnOk, Some, length, map};
+ghost use Rattle.std.specs.Prelude.{◌≡◌, ◌∷◌, [], IfErr, IfOk, None, Some, length, map};
 ghost use Rattle.like_driver.specs.Program.{HasReplayedExample, IsExample, IsExampleFault, example_requests};
 
 use crate::program::fault::{ProgramFault, with_options};
-use like_files::replay_files;
+use like_files::{NoProgress, replay_files_summed};
+use like_replies::Summary;
 use like_words::Options;
 use std::alloc::{AllocError, Global};
 use std::io::Write;
@@ -14,13 +15,18 @@ const PAGES: &str = "name,count,split\na,10,no\n";
 const REQUESTS: &str = "op,user,page\nlike,0,a\nlike,1,a\nlike,0,a\n";
 
 /// Replays the example that the program holds onto `out`.
-pub fn replay_example<W: Write>(alloc: Global, out: &mut W) -> Result<(), ProgramFault>
-    ensures replayed { OnOk result (HasReplayedExample (W.contents out.old) (W.contents out.new)) }
+pub fn replay_example<W: Write>(
+    alloc: Global,
+    out: &mut W,
+) -> Result<Option<Summary>, ProgramFault>
+    ensures replayed { IfOk result (HasReplayedExample (W.contents out.old) (W.contents out.new)) }
     ensures fault { IfErr result (IsExampleFault (W.contents out.old) (W.contents out.new)) }
 {
     let options = example_options(alloc)?;
     let requests = request_files(alloc)?;
-    let done = replay_files(alloc, &options, PAGES.as_bytes(), requests, None, out);
+    let pages = PAGES.as_bytes();
+    let done =
+        replay_files_summed(alloc, &options, pages, requests, None, out, &mut NoProgress);
     with_options(done, options)
 }
 
@@ -39,6 +45,7 @@ fn example_options(alloc: Global) -> Result<Options, AllocError>
         turns: 1_000,
         hot: None,
         places: false,
+        summary: false,
         pages: String::from_str(alloc, "pages.csv")?,
         requests,
         script: None,

@@ -7,7 +7,7 @@ pub mod program;
 mod tests;
 
 use crate::program::fault::ProgramFault;
-use crate::program::{serve_words, told};
+use crate::program::{serve_words, tell};
 use like_words::ParseFault;
 use std::alloc::Global;
 use std::env;
@@ -31,7 +31,7 @@ fn main(rt: HostRuntime) -> ExitCode {
     let (mut out, mut errors) = (rt.stdout(), rt.stderr());
     let status = match words(&rt, alloc) {
         Ok(words) => serve_words(&rt, alloc, words.as_slice(), &mut out, &mut errors),
-        Err(fault) => told(Err(ProgramFault::Words(fault)), &mut errors),
+        Err(fault) => tell(&ProgramFault::Words(fault), &mut errors),
     };
     ExitCode::from(status)
 }

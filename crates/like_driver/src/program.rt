@@ -1,29 +1,33 @@
-ghost use Rattle.std.specs.Prelude.{◌≡◌, IfErr, OnOk, map, string_bytes};
+ghost use Rattle.std.specs.Prelude.{◌≡◌, IfErr, IfOk, OnOk, map, string_bytes};
 ghost use Rattle.std.specs.Io.KnownBytes.{Appends};
 ghost use Rattle.like_files.specs.Faults.{IsBeforeOutput};
-ghost use Rattle.like_driver.specs.Fault.{status_after};
+ghost use Rattle.like_driver.specs.Fault.{program_status};
 ghost use Rattle.like_driver.specs.Program.{Ends, HasServed, IsServeFault};
 ghost use Rattle.like_files.specs.Replay.{HasReplayedSome};
 ghost use Rattle.like_files.specs.Run.{HasRunSome};
 ghost use Rattle.like_driver.specs.declared.program.fault.ProgramFault.TheVariants as program;
 
 pub mod fault;
+pub mod stopwatch;
 
 use crate::example::replay_example;
 use crate::program::fault::{ProgramFault, with_options};
-use like_files::{DriverFault, Opened, open_files, replay_files, run_files};
+use crate::program::stopwatch::Stopwatch;
+use like_files::{DriverFault, Opened, Progress, open_files, replay_files_summed, run_files_summed};
+use like_replies::Summary;
 use like_words::{Asked, Options, parse};
 use std::alloc::Global;
 use std::fs::Files;
 use std::io::{Read, Write};
+use std::rt::Clock;
 use std::sync::Wait;
 use std::thread::Threads;
 
 /// Does what the words after the program's name ask for: runs or replays the files that they name or prints help, onto
 /// `out`.
-/// Without any word it replays the example that the program holds. A fault is told on `errors`.
+/// Without any word it replays the example that the program holds. A fault or a summary is told on `errors`.
 /// Answers the status with which the program ends.
-pub fn serve_words<R: Files + Threads + Wait + Sync, W: Write, E: Write>(
+pub fn serve_words<R: Files + Threads + Wait + Clock + Sync, W: Write, E: Write>(
     rt: &R,
     alloc: Global,
     words: &[String],
@@ -34,34 +38,37 @@ where
     R::File: Read + Drop + Send,
     ensures { Ends (map string_bytes words.now) (W.contents out.old) (W.contents out.new) result }
 {
-    let done = serve(rt, alloc, words, out);
-    told(done, errors)
-}
-
-/// Tells a fault, and answers the status with which the program ends.
-pub fn told<E: Write>(done: Result<(), ProgramFault>, errors: &mut E) -> u8
-    ensures { result ≡ status_after done }
-{
-    match done {
-        Ok(()) => 0,
-        Err(fault) => {
-            // Where this can't be written either, the status alone tells of the fault.
-            let _ = fault.line(errors);
-            fault.status()
+    let mut watch = Stopwatch::new(rt);
+    match serve(rt, alloc, words, out, &mut watch) {
+        Ok(summary) => {
+            // Where this can't be written, the report stands without it.
+            let _ = summary.is_none_or(|summary| summary.write(errors) && watch.write(errors));
+            0
         }
+        Err(fault) => tell(&fault, errors),
     }
 }
 
-// Does what the words ask for.
-fn serve<R: Files + Threads + Wait + Sync, W: Write>(
+/// Tells a fault, and answers the status with which the program ends.
+pub fn tell<E: Write>(fault: &ProgramFault, errors: &mut E) -> u8
+    ensures { result ≡ program_status fault.now }
+{
+    // Where this can't be written either, the status alone tells of the fault.
+    let _ = fault.line(errors);
+    fault.status()
+}
+
+// Does what the words ask for, and gives the report's summary where they ask for one.
+fn serve<R: Files + Threads + Wait + Sync, W: Write, P: Progress>(
     rt: &R,
     alloc: Global,
     words: &[String],
     out: &mut W,
-) -> Result<(), ProgramFault>
+    progress: &mut P,
+) -> Result<Option<Summary>, ProgramFault>
 where
     R::File: Read + Drop + Send,
-    ensures served { OnOk result (HasServed (map string_bytes words.now) (W.contents out.old) (W.contents out.new)) }
+    ensures served { IfOk result (HasServed (map string_bytes words.now) (W.contents out.old) (W.contents out.new)) }
     ensures fault { IfErr result
         (IsServeFault (map string_bytes words.now) (W.contents out.old) (W.contents out.new)) }
 {
@@ -70,14 +77,17 @@ where
     }
     match parse(alloc, words)? {
         Asked::Run(options) => {
-            let done = run_named(rt, alloc, &options, out);
+            let done = run_named(rt, alloc, &options, out, progress);
             with_options(done, options)
         }
         Asked::Replay(options) => {
-            let done = replay_named(rt, alloc, &options, out);
+            let done = replay_named(rt, alloc, &options, out, progress);
             with_options(done, options)
         }
-        Asked::Help(text) => show(&text, out),
+        Asked::Help(text) => {
+            show(&text, out)?;
+            Ok(None)
+        }
     }
 }
 
@@ -92,17 +102,18 @@ fn show<W: Write>(text: &str, out: &mut W) -> Result<(), ProgramFault>
     Err(ProgramFault::Output)
 }
 
-/// Opens the files that the options name, and makes the run that they ask for, on threads, onto `out`.
-/// After `Write` and `Memory` nothing is said of how much was written.
-pub fn run_named<R: Files + Threads + Wait + Sync, W: Write>(
+/// Opens the files that the options name, and makes the run that they ask for, on threads, onto `out`. Gives the report's
+/// summary where the options ask for one. After `Write` and `Memory` nothing is said of how much was written.
+pub fn run_named<R: Files + Threads + Wait + Sync, W: Write, P: Progress>(
     rt: &R,
     alloc: Global,
     options: &Options,
     out: &mut W,
-) -> Result<(), DriverFault>
+    progress: &mut P,
+) -> Result<Option<Summary>, DriverFault>
 where
     R::File: Read + Drop + Send,
-    ensures run { OnOk result (HasRunSome options.now (W.contents out.old) (W.contents out.new)) }
+    ensures run { IfOk result (HasRunSome options.now (W.contents out.old) (W.contents out.new)) }
     ensures untouched { IfErr result (λ fault. IsBeforeOutput fault → out.new ≡ out.old) }
 {
     let Opened {
@@ -110,20 +121,21 @@ where
         requests,
         ..
     } = open_files(rt, alloc, options)?;
-    run_files(rt, alloc, options, pages, requests, out)
+    run_files_summed(rt, alloc, options, pages, requests, out, progress)
 }
 
-/// Opens the files that the options name, and replays them onto `out`.
-/// After `Write` and `Memory` nothing is said of how much was written.
-pub fn replay_named<F: Files, W: Write>(
+/// Opens the files that the options name, and replays them onto `out`. Gives the report's summary where the options ask
+/// for one. After `Write` and `Memory` nothing is said of how much was written.
+pub fn replay_named<F: Files, W: Write, P: Progress>(
     files: &F,
     alloc: Global,
     options: &Options,
     out: &mut W,
-) -> Result<(), DriverFault>
+    progress: &mut P,
+) -> Result<Option<Summary>, DriverFault>
 where
     F::File: Read + Drop,
-    ensures replayed { OnOk result (HasReplayedSome options.now (W.contents out.old) (W.contents out.new)) }
+    ensures replayed { IfOk result (HasReplayedSome options.now (W.contents out.old) (W.contents out.new)) }
     ensures untouched { IfErr result (λ fault. IsBeforeOutput fault → out.new ≡ out.old) }
 {
     let Opened {
@@ -131,5 +143,5 @@ where
         requests,
         script,
     } = open_files(files, alloc, options)?;
-    replay_files(alloc, options, pages, requests, script, out)
+    replay_files_summed(alloc, options, pages, requests, script, out, progress)
 }

@@ -8,6 +8,7 @@ use Rattle.like_run.specs.declared.rounds.fault.ReplayFault.TheVariants as why
 use Rattle.like_script.specs.declared.file.ScriptFault.{ScriptFault}
 use Rattle.like_script.specs.declared.turned.Turned.{Turned}
 use Rattle.like_files.specs.Inputs.{GivesLists, GivesScript, Inputs, RefusesLists, RefusesScript, WritesReport, setup_of}
+use Rattle.like_replies.specs.declared.summary.Summary.{Summary}
 use Rattle.like_words.specs.declared.options.Options.{Options}
 use Rattle.like_files.specs.declared.fault.DriverFault.{DriverFault}
 use Rattle.like_files.specs.declared.fault.DriverFault.TheVariants.{Pages, Requests, Script, Settings, Start, Unfinished, Write, Memory}
@@ -18,21 +19,22 @@ pub record GivesAll (inputs : Inputs) (pages : List Page) (plans : List (List Re
   pub lists : GivesLists inputs.pages inputs.requests pages plans
   pub script_given : GivesScript inputs.script script
 
--- the values of the files were replayed, and the report was written
-pub record HasReplayed (options : Options) (inputs : Inputs) (old new : Option (List ℕ)) : Type 0 where
+-- the values of the files were replayed, and the report was written, which has this summary
+pub record HasReplayed (options : Options) (inputs : Inputs) (old new : Option (List ℕ))
+    (summary : Option Summary) : Type 0 where
   pub pages : List Page
   pub plans : List (List Request)
   pub script : List Turned
   pub given : GivesAll inputs pages plans script
   pub fits : replay.CanReplayScript (setup_of options pages) plans script
-  pub reported : WritesReport options.places (setup_of options pages) plans old new
+  pub reported : WritesReport options (setup_of options pages) plans old new summary
 
 -- some files were replayed, as many request files as the options name, and with a script just where they name one
-pub record HasReplayedSome (options : Options) (old new : Option (List ℕ)) : Type 0 where
+pub record HasReplayedSome (options : Options) (old new : Option (List ℕ)) (summary : Option Summary) : Type 0 where
   pub inputs : Inputs
   pub all_requests : length inputs.requests ≡ length options.requests.items
   pub scripted : is_some inputs.script ≡ is_some options.script
-  pub replayed : HasReplayed options inputs old new
+  pub replayed : HasReplayed options inputs old new summary
 
 -- the script file was refused, where the other files give these values
 pub record ScriptRefused (inputs : Inputs) (fault : ScriptFault) : Type 0 where

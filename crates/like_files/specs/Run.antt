@@ -7,23 +7,25 @@ use Rattle.like_run.specs.Threads as run
 use Rattle.like_run.specs.declared.threads.fault.RunFault.{RunFault}
 use Rattle.like_run.specs.declared.threads.fault.RunFault.TheVariants as why
 use Rattle.like_files.specs.Inputs.{GivesLists, Inputs, RefusesLists, WritesReport, setup_of}
+use Rattle.like_replies.specs.declared.summary.Summary.{Summary}
 use Rattle.like_words.specs.declared.options.Options.{Options}
 use Rattle.like_files.specs.declared.fault.DriverFault.{DriverFault}
 use Rattle.like_files.specs.declared.fault.DriverFault.TheVariants.{Pages, Requests, Script, Settings, Start, Unfinished, Write, Memory}
 
--- the run that the files ask for was made, and its report was written
-pub record HasRun (options : Options) (inputs : Inputs) (old new : Option (List ℕ)) : Type 0 where
+-- the run that the files ask for was made, and its report was written, which has this summary
+pub record HasRun (options : Options) (inputs : Inputs) (old new : Option (List ℕ))
+    (summary : Option Summary) : Type 0 where
   pub pages : List Page
   pub plans : List (List Request)
   pub given : GivesLists inputs.pages inputs.requests pages plans
   pub within : IsWithinLimits (setup_of options pages) plans
-  pub reported : WritesReport options.places (setup_of options pages) plans old new
+  pub reported : WritesReport options (setup_of options pages) plans old new summary
 
 -- some files were run, as many request files as the options name
-pub record HasRunSome (options : Options) (old new : Option (List ℕ)) : Type 0 where
+pub record HasRunSome (options : Options) (old new : Option (List ℕ)) (summary : Option Summary) : Type 0 where
   pub inputs : Inputs
   pub all_requests : length inputs.requests ≡ length options.requests.items
-  pub run : HasRun options inputs old new
+  pub run : HasRun options inputs old new summary
 
 -- the files give values of which a run was refused with this fault
 pub record RunRefused (options : Options) (inputs : Inputs) (fault : RunFault) : Type 0 where

@@ -5,12 +5,15 @@ mod fault;
 mod line;
 mod opened;
 mod plans;
+mod progress;
 mod replay;
 mod run;
 mod setup;
+mod summed;
 
 pub use fault::DriverFault;
 pub use line::WRITE_FAILED;
 pub use opened::{Opened, open_files};
-pub use replay::replay_files;
-pub use run::run_files;
+pub use progress::{NoProgress, Part, Progress};
+pub use replay::{replay_files, replay_files_summed};
+pub use run::{run_files, run_files_summed};

@@ -1,13 +1,16 @@
-ghost use Rattle.std.specs.Prelude.{◌≡◌, ◌≤◌, false, true, IfErr, IfOk, MatchResult, OnOk, is_some, length, option_map};
+ghost use Rattle.std.specs.Prelude.{◌≡◌, ◌≤◌, false, true, IfErr, IfOk, MatchResult, OnOk, Option, is_some, length, option_map};
 ghost use Rattle.like_script.specs.Limits.{max_entries};
 ghost use Rattle.like_files.specs.Faults.{IsBeforeOutput};
 ghost use Rattle.like_files.specs.Inputs.{GivesScript, RefusesScript, inputs_of};
 ghost use Rattle.like_files.specs.Replay.{HasReplayed, IsReplayFilesFault};
+ghost use Rattle.like_replies.specs.declared.summary.Summary.{Summary};
 
 use crate::fault::DriverFault;
 use crate::plans::read_plans;
+use crate::progress::{NoProgress, Part, Progress};
 use crate::setup::with_pages;
-use like_replies::write_text;
+use crate::summed::asked_summary;
+use like_replies::{Summary, write_text};
 use like_requests::read_pages;
 use like_run::{ScriptFault, Turned, read_script, replay_noting};
 use like_words::Options;
@@ -28,7 +31,30 @@ pub fn replay_files<R: Read + Drop, W: Write>(
     requires request_names { length requests.items ≡ length options.now.requests.items }
     requires script_name { is_some script ≡ is_some options.now.script }
     ensures replayed { let inputs = inputs_of R.remaining pages requests.items script in
-        OnOk result (HasReplayed options.now inputs (W.contents out.old) (W.contents out.new)) }
+        OnOk result ((summary : Option Summary)
+        × HasReplayed options.now inputs (W.contents out.old) (W.contents out.new) summary) }
+    ensures fault { let inputs = inputs_of R.remaining pages requests.items script in
+        IfErr result (IsReplayFilesFault options.now inputs) }
+    ensures untouched { IfErr result (λ fault. IsBeforeOutput fault → out.new ≡ out.old) }
+{
+    replay_files_summed(alloc, options, pages, requests, script, out, &mut NoProgress)?;
+    Ok(())
+}
+
+/// The same, with the report's summary where the options ask for one, while `progress` hears of each part.
+pub fn replay_files_summed<R: Read + Drop, W: Write, P: Progress>(
+    alloc: Global,
+    options: &Options,
+    pages: R,
+    requests: Vec<R>,
+    script: Option<R>,
+    out: &mut W,
+    progress: &mut P,
+) -> Result<Option<Summary>, DriverFault>
+    requires request_names { length requests.items ≡ length options.now.requests.items }
+    requires script_name { is_some script ≡ is_some options.now.script }
+    ensures replayed { let inputs = inputs_of R.remaining pages requests.items script in
+        IfOk result (HasReplayed options.now inputs (W.contents out.old) (W.contents out.new)) }
     ensures fault { let inputs = inputs_of R.remaining pages requests.items script in
         IfErr result (IsReplayFilesFault options.now inputs) }
     ensures untouched { IfErr result (λ fault. IsBeforeOutput fault → out.new ≡ out.old) }
@@ -36,10 +62,13 @@ pub fn replay_files<R: Read + Drop, W: Write>(
     let pages = read_pages(alloc, pages)?;
     let plans = read_plans(alloc, &pages, requests)?;
     let script = read_turns(alloc, script)?;
+    progress.done(Part::Reading);
     let setup = with_pages(options, pages);
     let report = replay_noting(alloc, &setup, plans, &script, options.places)?;
+    progress.done(Part::Running);
     write_text(alloc, options.places, &report, &setup.pages, out)?;
-    Ok(())
+    progress.done(Part::Writing);
+    Ok(asked_summary(options, &report))
 }
 
 // The entries of the script, and none where there is no script.

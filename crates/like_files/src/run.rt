@@ -1,12 +1,15 @@
-ghost use Rattle.std.specs.Prelude.{◌≡◌, IfErr, None, OnOk, length};
+ghost use Rattle.std.specs.Prelude.{◌≡◌, IfErr, IfOk, None, OnOk, Option, length};
 ghost use Rattle.like_files.specs.Faults.{IsBeforeOutput};
 ghost use Rattle.like_files.specs.Inputs.{inputs_of};
 ghost use Rattle.like_files.specs.Run.{HasRun, IsRunFilesFault};
+ghost use Rattle.like_replies.specs.declared.summary.Summary.{Summary};
 
 use crate::fault::DriverFault;
 use crate::plans::read_plans_at_once;
+use crate::progress::{NoProgress, Part, Progress};
 use crate::setup::with_pages;
-use like_replies::write_text_at_once;
+use crate::summed::asked_summary;
+use like_replies::{Summary, write_text_at_once};
 use like_requests::read_pages;
 use like_roles::NoGate;
 use like_run::run_noting;
@@ -29,15 +32,45 @@ pub fn run_files<T: Threads + Wait + Sync, R: Read + Drop + Send, W: Write>(
 ) -> Result<(), DriverFault>
     requires { length requests.items ≡ length options.now.requests.items }
     ensures run { let inputs = inputs_of R.remaining pages requests.items None in
-        OnOk result (HasRun options.now inputs (W.contents out.old) (W.contents out.new)) }
+        OnOk result ((summary : Option Summary)
+        × HasRun options.now inputs (W.contents out.old) (W.contents out.new) summary) }
+    ensures fault { let inputs = inputs_of R.remaining pages requests.items None in
+        IfErr result (IsRunFilesFault options.now inputs) }
+    ensures untouched { IfErr result (λ fault. IsBeforeOutput fault → out.new ≡ out.old) }
+{
+    run_files_summed(rt, alloc, options, pages, requests, out, &mut NoProgress)?;
+    Ok(())
+}
+
+/// The same, with the report's summary where the options ask for one, while `progress` hears of each part.
+pub fn run_files_summed<
+    T: Threads + Wait + Sync,
+    R: Read + Drop + Send,
+    W: Write,
+    P: Progress,
+>(
+    rt: &T,
+    alloc: Global,
+    options: &Options,
+    pages: R,
+    requests: Vec<R>,
+    out: &mut W,
+    progress: &mut P,
+) -> Result<Option<Summary>, DriverFault>
+    requires { length requests.items ≡ length options.now.requests.items }
+    ensures run { let inputs = inputs_of R.remaining pages requests.items None in
+        IfOk result (HasRun options.now inputs (W.contents out.old) (W.contents out.new)) }
     ensures fault { let inputs = inputs_of R.remaining pages requests.items None in
         IfErr result (IsRunFilesFault options.now inputs) }
     ensures untouched { IfErr result (λ fault. IsBeforeOutput fault → out.new ≡ out.old) }
 {
     let pages = read_pages(alloc, pages)?;
     let plans = read_plans_at_once(rt, alloc, &pages, requests)?;
+    progress.done(Part::Reading);
     let setup = with_pages(options, pages);
     let report = run_noting(rt, alloc, &setup, plans, &NoGate, options.places)?;
+    progress.done(Part::Running);
     write_text_at_once(rt, alloc, options.places, &report, &setup.pages, out)?;
-    Ok(())
+    progress.done(Part::Writing);
+    Ok(asked_summary(options, &report))
 }

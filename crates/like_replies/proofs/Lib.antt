@@ -3,3 +3,4 @@ pub mod Examples
 pub mod rows
 pub mod Lists
 pub mod Sections
+pub mod Summed

@@ -3,3 +3,4 @@ pub mod Reported
 pub mod RowParts
 pub mod Rows
 pub mod Sections
+pub mod Summary

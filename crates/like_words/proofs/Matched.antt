@@ -202,7 +202,7 @@ abbrev run_rule_at : ℕ → Rule
 run_rule_at i = slice_index_or run_rules i (new_rule [])
 
 run_rules_fit : AllFit run_rules run_rules
-run_rules_fit = (record { own = refl; some = refl }, (record { own = refl; some = refl }, (record { own = refl; some = refl }, (record { own = refl; some = refl }, (record { own = refl; some = refl }, (record { own = refl; some = tt }, (record { own = refl; some = refl }, (record { own = refl; some = refl }, (record { own = refl; some = tt }, tt)))))))))
+run_rules_fit = (record { own = refl; some = refl }, (record { own = refl; some = refl }, (record { own = refl; some = refl }, (record { own = refl; some = refl }, (record { own = refl; some = refl }, (record { own = refl; some = tt }, (record { own = refl; some = tt }, (record { own = refl; some = refl }, (record { own = refl; some = refl }, (record { own = refl; some = tt }, tt))))))))))
 
 abbrev replay_built : Shape
 replay_built = built_sub replay_command
@@ -214,7 +214,7 @@ abbrev replay_rule_at : ℕ → Rule
 replay_rule_at i = slice_index_or replay_rules i (new_rule [])
 
 replay_rules_fit : AllFit replay_rules replay_rules
-replay_rules_fit = (record { own = refl; some = refl }, (record { own = refl; some = refl }, (record { own = refl; some = refl }, (record { own = refl; some = refl }, (record { own = refl; some = refl }, (record { own = refl; some = tt }, (record { own = refl; some = refl }, (record { own = refl; some = refl }, (record { own = refl; some = refl }, (record { own = refl; some = tt }, tt))))))))))
+replay_rules_fit = (record { own = refl; some = refl }, (record { own = refl; some = refl }, (record { own = refl; some = refl }, (record { own = refl; some = refl }, (record { own = refl; some = refl }, (record { own = refl; some = tt }, (record { own = refl; some = tt }, (record { own = refl; some = refl }, (record { own = refl; some = refl }, (record { own = refl; some = refl }, (record { own = refl; some = tt }, tt)))))))))))
 
 -- a test of two that must both fail
 both_given : (a b : Bool) → cond (not a || (not b || false)) (MissingRequiredArgument ∷ []) [] ≡ []
@@ -235,8 +235,8 @@ run_found words none =
     let good = good_defaults run_rules run_rules start run_rules_fit settled_good c.0 in
     let rows = rows_after run_rules [] words in
     let given = both_given (is_given (codes "pages") rows) (is_given (codes "requests") rows) c.1 in
-    let pages = text_found run_rules (run_rule_at 6) rows good refl (given_row _ rows given.0) in
-    let requests = text_found run_rules (run_rule_at 7) rows good refl (given_row _ rows given.1) in
+    let pages = text_found run_rules (run_rule_at 7) rows good refl (given_row _ rows given.0) in
+    let requests = text_found run_rules (run_rule_at 8) rows good refl (given_row _ rows given.1) in
     record {
       workers = number_found run_rules (run_rule_at 0) 1 16 rows good refl (has_default [] (run_rule_at 0) (drop 1 run_rules) (codes "4") start refl) refl;
       users = number_found run_rules (run_rule_at 1) 1 1000000 rows good refl (has_default (take 1 run_rules) (run_rule_at 1) (drop 2 run_rules) (codes "1000") start refl) refl;
@@ -244,6 +244,7 @@ run_found words none =
       turns = number_found run_rules (run_rule_at 3) 0 1000000 rows good refl (has_default (take 3 run_rules) (run_rule_at 3) (drop 4 run_rules) (codes "1000") start refl) refl;
       hot = may_be_found run_rules (run_rule_at 4) 1 1000000 rows good refl refl;
       places = flag_found run_rules (run_rule_at 5) rows good refl (has_default (take 5 run_rules) (run_rule_at 5) (drop 6 run_rules) (codes "false") start refl) refl;
+      summary = flag_found run_rules (run_rule_at 6) rows good refl (has_default (take 6 run_rules) (run_rule_at 6) (drop 7 run_rules) (codes "false") start refl) refl;
       pages = (pages.0, pages.3);
       requests = (requests.0 ∷ requests.1, requests.2, omega arith);
     }
@@ -260,8 +261,8 @@ replay_found words none =
     let good = good_defaults replay_rules replay_rules start replay_rules_fit settled_good c.0 in
     let rows = rows_after replay_rules [] words in
     let given = both_given (is_given (codes "pages") rows) (is_given (codes "requests") rows) c.1 in
-    let pages = text_found replay_rules (replay_rule_at 7) rows good refl (given_row _ rows given.0) in
-    let requests = text_found replay_rules (replay_rule_at 8) rows good refl (given_row _ rows given.1) in
+    let pages = text_found replay_rules (replay_rule_at 8) rows good refl (given_row _ rows given.0) in
+    let requests = text_found replay_rules (replay_rule_at 9) rows good refl (given_row _ rows given.1) in
     record {
       workers = number_found replay_rules (replay_rule_at 0) 1 16 rows good refl (has_default [] (replay_rule_at 0) (drop 1 replay_rules) (codes "4") start refl) refl;
       users = number_found replay_rules (replay_rule_at 1) 1 1000000 rows good refl (has_default (take 1 replay_rules) (replay_rule_at 1) (drop 2 replay_rules) (codes "1000") start refl) refl;
@@ -269,6 +270,7 @@ replay_found words none =
       turns = number_found replay_rules (replay_rule_at 3) 0 1000000 rows good refl (has_default (take 3 replay_rules) (replay_rule_at 3) (drop 4 replay_rules) (codes "1000") start refl) refl;
       hot = may_be_found replay_rules (replay_rule_at 4) 1 1000000 rows good refl refl;
       places = flag_found replay_rules (replay_rule_at 5) rows good refl (has_default (take 5 replay_rules) (replay_rule_at 5) (drop 6 replay_rules) (codes "false") start refl) refl;
+      summary = flag_found replay_rules (replay_rule_at 6) rows good refl (has_default (take 6 replay_rules) (replay_rule_at 6) (drop 7 replay_rules) (codes "false") start refl) refl;
       pages = (pages.0, pages.3);
       requests = (requests.0 ∷ requests.1, requests.2, omega arith);
     }

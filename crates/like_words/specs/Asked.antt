@@ -52,6 +52,7 @@ pub record HasAll (rows : List Row) : Type 0 where
   pub turns : HasNumber rows (codes "turns") 0 max_turns
   pub hot : MayHaveNumber rows (codes "hot") 1 max_hot
   pub places : HasFlag rows (codes "places")
+  pub summary : HasFlag rows (codes "summary")
   pub pages : (name : Text) × (first_of (codes "pages") rows ≡ Some name)
   pub requests : (names : List Text) × (all_of (codes "requests") rows ≡ Some names) × (0 < length names)
 
@@ -63,6 +64,7 @@ pub record HasValues (rows : List Row) (o : Options) : Type 0 where
   pub turns : IsNumber rows (codes "turns") 0 max_turns o.turns
   pub hot : MayBeNumber rows (codes "hot") 1 max_hot o.hot
   pub places : IsFlag rows (codes "places") o.places
+  pub summary : IsFlag rows (codes "summary") o.summary
   pub pages : first_of (codes "pages") rows ≡ Some (string_bytes o.pages)
   pub requests : all_of (codes "requests") rows ≡ Some (map string_bytes o.requests.items)
   pub some_requests : 0 < length o.requests.items

@@ -49,6 +49,7 @@ option_rules = number_rule (codes "workers") (codes "4") 1 max_workers
     ∷ number_rule (codes "turns") (codes "1000") 0 max_turns
     ∷ bounded_rule (codes "hot") 1 max_hot
     ∷ flag_rule (codes "places")
+    ∷ flag_rule (codes "summary")
     ∷ []
 
 -- the names of the files of a run

@@ -39,14 +39,11 @@ fn number_option<'a>(
     bounded_option(alloc, name, value_name, least, most).default_value(default)
 }
 
-// The flag that asks for places.
-fn places_flag<'a>(alloc: Global) -> Arg<'a>
-    ensures { IsArgument (flag_rule (codes "places")) result }
+// An option without a value.
+fn flag<'a>(alloc: Global, name: &'a str) -> Arg<'a>
+    ensures { IsArgument (flag_rule name.entry.now) result }
 {
-    Arg::new(alloc, "places")
-        .long("places")
-        .action(ArgAction::SetTrue)
-        .help(help::PLACES)
+    Arg::new(alloc, name).long(name).action(ArgAction::SetTrue)
 }
 
 // The option for the script file.
@@ -92,6 +89,8 @@ fn with_options<'a>(alloc: Global, name: &'a str, about: &'a str) -> Result<Comm
     let stash = number_option(alloc, "stash", "C", "256", 1, 4_096).help(help::STASH);
     let turns = number_option(alloc, "turns", "T", "1000", 0, 1_000_000).help(help::TURNS);
     let hot = bounded_option(alloc, "hot", "H", 1, 1_000_000).help(help::HOT);
+    let places = flag(alloc, "places").help(help::PLACES);
+    let summary = flag(alloc, "summary").help(help::SUMMARY);
     Command::new(alloc, name)
         .about(about)
         .after_help(help::REPORT)
@@ -100,7 +99,8 @@ fn with_options<'a>(alloc: Global, name: &'a str, about: &'a str) -> Result<Comm
         .arg(stash)?
         .arg(turns)?
         .arg(hot)?
-        .arg(places_flag(alloc))
+        .arg(places)?
+        .arg(summary)
 }
 
 // The subcommand `run`.

@@ -40,6 +40,7 @@ fn options(
     let turns = number(matches, "turns");
     let hot = optional_number(matches, "hot");
     let places = flag(matches, "places");
+    let summary = flag(matches, "summary");
     let pages = pages_file(alloc, matches)?;
     let requests = request_files(alloc, matches)?;
     Ok(Options {
@@ -49,6 +50,7 @@ fn options(
         turns,
         hot,
         places,
+        summary,
         pages,
         requests,
         script,

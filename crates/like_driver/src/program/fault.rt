@@ -45,11 +45,14 @@ impl From<ParseFault> for ProgramFault {
 }
 
 /// The fault of a run or a replay, with its options.
-pub fn with_options(done: Result<(), DriverFault>, options: Options) -> Result<(), ProgramFault>
+pub fn with_options<A: Drop>(
+    done: Result<A, DriverFault>,
+    options: Options,
+) -> Result<A, ProgramFault>
     ensures { result ≡ of_files options done }
 {
     match done {
-        Ok(()) => Ok(()),
+        Ok(value) => Ok(value),
         Err(fault) => Err(ProgramFault::Files { options, fault }),
     }
 }

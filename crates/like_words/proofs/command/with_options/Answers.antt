@@ -5,7 +5,7 @@ use Rattle.clap.specs.Words.{App, new_app, with_rule}
 use Rattle.clap.specs.declared.builder.command.Command.{Command}
 use Rattle.clap.specs.declared.builder.command.Command.TheOpen.{Command-F}
 use Rattle.like_words.specs.Built.{IsCommand}
-use Rattle.like_words.specs.CommandLine.{bounded_rule, number_rule}
+use Rattle.like_words.specs.CommandLine.{bounded_rule, flag_rule, number_rule}
 use Rattle.like_words.proofs.Commands.{added, helped}
 use Rattle.like_words.proofs.command.with_options.Goals as goal
 
@@ -24,6 +24,9 @@ app4 a = with_rule (app3 a) (number_rule (codes "turns") (codes "1000") 0 100000
 abbrev app5 : App → App
 app5 a = with_rule (app4 a) (bounded_rule (codes "hot") 1 1000000)
 
+abbrev app6 : App → App
+app6 a = with_rule (app5 a) (flag_rule (codes "places"))
+
 pub returns : goal.returns
 returns c =
     let app0 : App = new_app c.args.name.now in
@@ -36,11 +39,12 @@ returns c =
     let a3 = helped c.number_option-3.result c.help-stash.result _ _ c.help-stash.ensures c.number_option-3.ensures in
     let a4 = helped c.number_option-4.result c.help-turns.result _ _ c.help-turns.ensures c.number_option-4.ensures in
     let a5 = helped c.bounded_option.result c.help-hot.result _ _ c.help-hot.ensures c.bounded_option.ensures in
+    let a6 = helped c.flag.result c.help-places.result _ _ c.help-places.ensures c.flag.ensures in
+    let a7 = helped c.flag-2.result c.help-summary.result _ _ c.help-summary.ensures c.flag-2.ensures in
     let s1 = added c.after_help.result c.in_ok-arg.field-0 c.help-workers.result _ app0 c.in_ok-arg.ensures a1 s0 in
     let s2 = added c.in_ok-arg.field-0 c.in_ok-arg-2.field-0 c.help-users.result _ (app1 app0) c.in_ok-arg-2.ensures a2 s1 in
     let s3 = added c.in_ok-arg-2.field-0 c.in_ok-arg-3.field-0 c.help-stash.result _ (app2 app0) c.in_ok-arg-3.ensures a3 s2 in
     let s4 = added c.in_ok-arg-3.field-0 c.in_ok-arg-4.field-0 c.help-turns.result _ (app3 app0) c.in_ok-arg-4.ensures a4 s3 in
     let s5 = added c.in_ok-arg-4.field-0 c.in_ok-arg-5.field-0 c.help-hot.result _ (app4 app0) c.in_ok-arg-5.ensures a5 s4 in
-    IfOk-weaker c.arg-6.result _ _
-    (λ x h. added c.in_ok-arg-5.field-0 x c.places_flag.result _ (app5 app0) h c.places_flag.ensures s5)
-    c.arg-6.ensures
+    let s6 = added c.in_ok-arg-5.field-0 c.in_ok-arg-6.field-0 c.help-places.result _ (app5 app0) c.in_ok-arg-6.ensures a6 s5 in
+    IfOk-weaker c.arg-7.result _ _ (λ x h. added c.in_ok-arg-6.field-0 x c.help-summary.result _ (app6 app0) h a7 s6) c.arg-7.ensures

@@ -16,6 +16,7 @@ returns-clause-values c =
       turns = c.number-turns.ensures 0 1000000 (omega arith) c.requires.turns;
       hot = c.optional_number-hot.ensures 1 1000000 (omega arith) c.requires.hot;
       places = c.flag-places.ensures;
+      summary = c.flag-summary.ensures;
       pages = c.in_ok-pages.ensures;
       requests = c.in_ok-requests.ensures;
       some_requests = omega (arith, size, c.requires.requests.2);

@@ -1,0 +1,19 @@
+/// The parts of a run or a replay of files, in their order.
+#[derive(Clone, Copy, Debug, PartialEq, Eq)]
+pub enum Part {
+    Reading,
+    Running,
+    Writing,
+}
+
+/// Hears of each part as soon as it is done.
+pub trait Progress {
+    fn done(&mut self, part: Part);
+}
+
+/// Hears, and does nothing.
+pub struct NoProgress;
+
+impl Progress for NoProgress {
+    fn done(&mut self, _part: Part) {}
+}
