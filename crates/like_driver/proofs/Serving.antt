@@ -1,27 +1,23 @@
 -- What the program has done for its words, by what its parts answered.
-use Rattle.std.proofs.Common.{◌≡◌, ◌==◌, ℕ, List, [], ◌∷◌, Option, Result, Ok, Err, IfErr, ap, false, inl, inr, length, map, refl, subst, sym, true≢false}
-use Rattle.std.specs.Prelude.{◌⊎◌, OnOk}
+use Rattle.std.proofs.Common.{◌≡◌, ◌==◌, ℕ, List, [], ◌∷◌, Option, Result, Ok, Err, IfErr, IfOk, ap, false, inl, inr, length, map, refl, subst, sym, true≢false}
+use Rattle.std.specs.Prelude.{◌⊎◌}
 use Rattle.like_words.specs.Asked.{Asks, AsksForHelp, Words}
 use Rattle.like_files.specs.Faults.{IsBeforeOutput}
-use Rattle.like_driver.specs.Fault.{of_files, status_after}
-use Rattle.like_driver.specs.Program.{Ends, HasDone, HasServed, IsServeFault, IsWordsFault}
+use Rattle.like_driver.specs.Fault.{of_files}
+use Rattle.like_driver.specs.Program.{HasDone, HasServed, IsServeFault, IsWordsFault}
 use Rattle.like_words.specs.declared.asked.Asked.{Asked}
 use Rattle.like_words.specs.declared.asked.Asked.TheVariants.{Run, Replay}
 use Rattle.like_words.specs.declared.options.Options.{Options}
+use Rattle.like_replies.specs.declared.summary.Summary.{Summary}
 use Rattle.like_files.specs.declared.fault.DriverFault.{DriverFault}
 use Rattle.like_driver.specs.declared.program.fault.ProgramFault.{ProgramFault}
 use Rattle.like_driver.specs.declared.program.fault.ProgramFault.TheVariants.{Files, Output}
 
--- the program ends as what it served
-pub ends : {A : Type 0} (words : Words) (old new : Option (List ℕ)) (done : Result A ProgramFault) (status : ℕ) → OnOk done (HasServed words old new)
-    → IfErr done (IsServeFault words old new) → status ≡ status_after done → Ends words old new status
-ends words old new (Ok x) status served fault e = inl (e, served)
-ends words old new (Err why) status served fault e = inr (why, e, fault)
-
 -- what is asked for by some words was done
-pub served : (words : Words) (old new : Option (List ℕ)) (asked : Asked) → ¬ (words ≡ []) → Asks words asked → HasDone asked old new → HasServed words old new
-served [] old new asked some asks done = absurd (some refl)
-served (w ∷ words) old new asked some asks done = (asked, asks, done)
+pub served : (words : Words) (old new : Option (List ℕ)) (asked : Asked) (summary : Option Summary) → ¬ (words ≡ []) → Asks words asked → HasDone asked old new summary
+    → HasServed words old new summary
+served [] old new asked summary some asks done = absurd (some refl)
+served (w ∷ words) old new asked summary some asks done = (asked, asks, done)
 
 -- why it was not
 pub not_served : (words : Words) (old new : Option (List ℕ)) (fault : ProgramFault) → ¬ (words ≡ []) → IsWordsFault words old new fault → IsServeFault words old new fault
@@ -34,14 +30,14 @@ some-words text [] h e = true≢false h
 some-words text (w ∷ words) h e = let no : text w ∷ map text words ≡ [] = e in cc no
 
 -- what holds of a run or a replay that was done holds of the program's end
-pub of_files-ok : {A : Type 0} (P : Type 0) (options : Options) (done : Result A DriverFault) → OnOk done P → OnOk (of_files options done) P
+pub of_files-ok : {A : Type 0} (P : A → Type 0) (options : Options) (done : Result A DriverFault) → IfOk done P → IfOk (of_files options done) P
 of_files-ok P options (Ok x) h = h
 of_files-ok P options (Err fault) h = tt
 
 -- a run or a replay was done that the words ask for
-pub files-served : {A : Type 0} (words : Words) (old new : Option (List ℕ)) (options : Options) (asked : Asked) (done : Result A DriverFault) → ¬ (words ≡ []) → Asks words asked
-    → OnOk done (HasDone asked old new) → OnOk (of_files options done) (HasServed words old new)
-files-served words old new options asked (Ok x) some asks h = served words old new asked some asks h
+pub files-served : (words : Words) (old new : Option (List ℕ)) (options : Options) (asked : Asked) (done : Result (Option Summary) DriverFault) → ¬ (words ≡ []) → Asks words asked
+    → IfOk done (HasDone asked old new) → IfOk (of_files options done) (HasServed words old new)
+files-served words old new options asked (Ok x) some asks h = served words old new asked x some asks h
 files-served words old new options asked (Err fault) some asks h = tt
 
 -- why it was not

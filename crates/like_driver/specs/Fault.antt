@@ -16,11 +16,6 @@ program_status (program.Files options fault) = status_of fault
 program_status program.Output = 3
 program_status program.Memory = 4
 
--- the status with which the program ends
-abbrev pub status_after : {A : Type 0} → Result A ProgramFault → ℕ
-status_after (Ok done) = 0
-status_after (Err fault) = program_status fault
-
 -- what a run or a replay with these options ends in, as the program's end
 abbrev pub of_files : {A : Type 0} → Options → Result A DriverFault → Result A ProgramFault
 of_files options (Ok done) = Ok done

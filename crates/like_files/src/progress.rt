@@ -12,6 +12,7 @@ pub trait Progress {
 }
 
 /// Hears, and does nothing.
+#[derive(Drop)]
 pub struct NoProgress;
 
 impl Progress for NoProgress {

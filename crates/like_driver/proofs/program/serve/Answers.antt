@@ -1,5 +1,5 @@
-use Rattle.std.proofs.Common.{inl, inr, map, refl, string_bytes, ◌∙◌, sym}
-use Rattle.std.proofs.lemmas.Result.{err_from_is_err_and, on_ok_weaker}
+use Rattle.std.proofs.Common.{None, inl, inr, map, refl, string_bytes, ◌∙◌, sym}
+use Rattle.std.proofs.lemmas.Result.{err_from_is_err_and}
 use Rattle.like_words.specs.Asked.{Words}
 use Rattle.like_words.specs.declared.asked.Asked.TheVariants.{Run, Replay, Help}
 use Rattle.like_driver.specs.declared.program.fault.ProgramFault.TheVariants as program
@@ -46,7 +46,7 @@ returns-in-Help-clause-served g c =
     let words : Words = map string_bytes c.args.words.now in
     let some = some-words string_bytes c.args.words.now (sym c.is_empty.ensures ∙ c.if-is_empty.false) in
     let asks = rw c.in-Help.is at c.in_ok-options.ensures.asked in
-    on_ok_weaker c.show.result (λ shown. served words _ _ (Help c.in-Help.text) some asks (rw c.deref.ensures at shown)) c.show.ensures.shown
+    served words _ _ (Help c.in-Help.text) None some asks (rw c.deref.ensures at c.in_ok-show.ensures, refl)
 
 pub returns-in-Help-clause-fault : goal.returns-in-Help-clause-fault
 returns-in-Help-clause-fault g c =

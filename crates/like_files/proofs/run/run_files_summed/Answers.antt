@@ -4,10 +4,10 @@ use Rattle.like_requests.proofs.Planned.{plans-within}
 use Rattle.like_crew.specs.Asked.{asked}
 use Rattle.like_crew.specs.EndToEnd.{runs_of}
 use Rattle.like_files.specs.Inputs.{inputs_of}
-use Rattle.like_files.proofs.Ended.{one_list_a_page, run-refused, run-unwritten, writes}
+use Rattle.like_files.proofs.Ended.{few_requests, one_list_a_page, run-refused, run-unwritten, writes}
 use Rattle.like_files.proofs.Planned.{requests_of}
 use Rattle.like_files.proofs.Writable.{IsWritable-end_to_end}
-use Rattle.like_files.proofs.run.run_files.Goals as goal
+use Rattle.like_files.proofs.run.run_files_summed.Goals as goal
 
 pub write_text_at_once-requires-clause-writable : goal.write_text_at_once-requires-clause-writable
 write_text_at_once-requires-clause-writable g c κs lives =
@@ -36,5 +36,8 @@ returns-clause-run g c = record {
   plans = map requests_of c.in_ok-plans.plans.items;
   given = record { pages_given = c.in_ok-pages.ensures; plans_given = c.in_ok-plans.ensures };
   within = rw c.with_pages-setup.ensures at c.in_ok-report.ensures.within;
-  reported = writes c.args.options.now.places c.with_pages-setup.result _ (map requests_of c.in_ok-plans.plans.items) c.in_ok-report.report _ _ c.with_pages-setup.ensures c.in_ok-report.ensures.report c.in_ok-report.ensures.places c.in_ok-report.ensures.none c.in_ok-write_text_at_once.ensures;
+  reported = writes c.args.options.now c.with_pages-setup.result _ (map requests_of c.in_ok-plans.plans.items) c.in_ok-report.report _ _ c.with_pages-setup.ensures c.in_ok-report.ensures.report c.in_ok-report.ensures.places c.in_ok-report.ensures.none c.in_ok-write_text_at_once.ensures c.asked_summary.ensures;
 }
+
+pub asked_summary-requires : goal.asked_summary-requires
+asked_summary-requires g c = few_requests c.with_pages-setup.result (map requests_of c.in_ok-plans.plans.items) c.in_ok-report.report c.in_ok-report.ensures.within c.in_ok-report.ensures.report

@@ -5,10 +5,10 @@ use Rattle.like_crew.specs.Asked.{asked}
 use Rattle.like_crew.specs.EndToEnd.{runs_of}
 use Rattle.like_files.specs.Inputs.{Inputs, inputs_of}
 use Rattle.like_files.specs.Replay.{GivesAll}
-use Rattle.like_files.proofs.Ended.{one_list_a_page, replay-refused, replay-unwritten, writes}
+use Rattle.like_files.proofs.Ended.{few_requests, one_list_a_page, replay-refused, replay-unwritten, writes}
 use Rattle.like_files.proofs.Planned.{requests_of}
 use Rattle.like_files.proofs.Writable.{IsWritable-end_to_end}
-use Rattle.like_files.proofs.replay.replay_files.Goals as goal
+use Rattle.like_files.proofs.replay.replay_files_summed.Goals as goal
 
 pub write_text-requires-clause-writable : goal.write_text-requires-clause-writable
 write_text-requires-clause-writable g c =
@@ -42,5 +42,8 @@ returns-clause-replayed g c = record {
   script = c.in_ok-script.script.items;
   given = record { lists = record { pages_given = c.in_ok-pages.ensures; plans_given = c.in_ok-plans.ensures }; script_given = c.in_ok-script.ensures.given };
   fits = rw (c.with_pages-setup.ensures, c.deref.ensures.value) at c.in_ok-report.ensures.fits;
-  reported = writes c.args.options.now.places c.with_pages-setup.result _ (map requests_of c.in_ok-plans.plans.items) c.in_ok-report.report _ _ c.with_pages-setup.ensures c.in_ok-report.ensures.report c.in_ok-report.ensures.places c.in_ok-report.ensures.none c.in_ok-write_text.ensures;
+  reported = writes c.args.options.now c.with_pages-setup.result _ (map requests_of c.in_ok-plans.plans.items) c.in_ok-report.report _ _ c.with_pages-setup.ensures c.in_ok-report.ensures.report c.in_ok-report.ensures.places c.in_ok-report.ensures.none c.in_ok-write_text.ensures c.asked_summary.ensures;
 }
+
+pub asked_summary-requires : goal.asked_summary-requires
+asked_summary-requires g c = few_requests c.with_pages-setup.result (map requests_of c.in_ok-plans.plans.items) c.in_ok-report.report c.in_ok-report.ensures.fits.within c.in_ok-report.ensures.report
