@@ -111,7 +111,8 @@ def run(words, folder, limits=(), user=None, out=None, errors=None, seconds=60, 
 
 
 def agreed(report):
-    """What two runs on threads agree on: all rows, in replies without phases and what looks show."""
+    """What two runs on threads agree on: no hot and place rows, and in replies no phases and nothing that looks show."""
+    report = re.sub(rb"(?m)^(hot|place),.*\n", b"", report)
     return re.sub(rb"(?m)^(reply,\d+,\d+),\d+,([a-z-]+),.*$", rb"\1,\2", report)
 
 
