@@ -32,6 +32,7 @@ pub fn options(alloc: Global, users: u32, files: usize) -> Result<Options, Alloc
         turns: 1_000,
         hot: None,
         places: false,
+        summary: false,
         pages: String::from_str(alloc, "p.csv")?,
         requests: names(alloc, files)?,
         script: None,
