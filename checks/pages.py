@@ -29,6 +29,18 @@ def shell(command, folder):
     return runs.run(["sh", "-e", "-c", f"exec 2>&1\n{command}"], folder, seconds=600, env={**os.environ, **where})
 
 
+def agreed(text, commands):
+    """What is the same each time: no phases of a run, and no number that was measured."""
+    if "likes run" in commands:
+        text = re.sub(r"^(reply,\d+,\d+),\d+,", r"\1,*,", text, flags=re.M)
+    if "--summary" in commands:
+        text = re.sub(r"^(phases|phases with hot pages|hot pages): \d+$", r"\1: *", text, flags=re.M)
+        text = re.sub(r"^(reading|running|writing): \d+\.\d{3} seconds$", r"\1: * seconds", text, flags=re.M)
+    if "bench/machine" in commands:
+        text = re.sub(r" +", " ", re.sub(r"[\d.]+", "0", text))
+    return text
+
+
 def blocks_of(text):
     """The blocks of shell commands, each with what it prints or with nothing where the page doesn't say."""
     found = BLOCK.findall(text)
