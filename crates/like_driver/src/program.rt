@@ -18,6 +18,7 @@ use like_replies::Summary;
 use like_words::{Asked, Options, parse};
 use std::alloc::Global;
 use std::fs::Files;
+use std::io;
 use std::io::{Read, Write};
 use std::rt::Clock;
 use std::sync::Wait;
@@ -40,13 +41,24 @@ where
 {
     let mut watch = Stopwatch::new(rt);
     match serve(rt, alloc, words, out, &mut watch) {
-        Ok(summary) => {
+        Ok(None) => 0,
+        Ok(Some(summary)) => {
             // Where this can't be written, the report stands without it.
-            let _ = summary.is_none_or(|summary| summary.write(errors) && watch.write(errors));
+            let _ = summarize(&summary, &watch, errors);
             0
         }
         Err(fault) => tell(&fault, errors),
     }
+}
+
+// Writes a summary, and behind it how long each part took.
+fn summarize<C: Clock, E: Write>(
+    summary: &Summary,
+    watch: &Stopwatch<'_, C>,
+    errors: &mut E,
+) -> io::Result<()> {
+    summary.write(errors)?;
+    watch.write(errors)
 }
 
 /// Tells a fault, and answers the status with which the program ends.

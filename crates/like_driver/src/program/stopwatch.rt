@@ -1,11 +1,13 @@
 //! How long the parts of a run or a replay took.
 
 use like_files::{Part, Progress};
+use std::io;
 use std::io::Write;
 use std::rt::Clock;
 use std::time::{Duration, Instant};
 
 /// How long each part took, by a clock. It tells nothing where the clock can't be read.
+#[derive(Drop)]
 pub struct Stopwatch<'a, C: Clock> {
     clock: &'a C,
     // When the last part ended, or the first began, as long as the clock can be read.
@@ -39,12 +41,14 @@ impl<'a, C: Clock> Stopwatch<'a, C> {
         }
     }
 
-    /// Writes the seconds of each part, with a line for each. `false` says that a write failed.
-    pub fn write<W: Write>(&self, out: &mut W) -> bool {
-        self.last.is_none()
-            || (line(out, "reading", self.reading)
-                && line(out, "running", self.running)
-                && line(out, "writing", self.writing))
+    /// Writes the seconds of each part, with a line for each, where the clock could be read.
+    pub fn write<W: Write>(&self, out: &mut W) -> io::Result<()> {
+        if self.last.is_none() {
+            return Ok(());
+        }
+        write_line(out, "reading", self.reading)?;
+        write_line(out, "running", self.running)?;
+        write_line(out, "writing", self.writing)
     }
 }
 
@@ -60,7 +64,7 @@ impl<'a, C: Clock> Progress for Stopwatch<'a, C> {
 }
 
 // Writes the line of a part.
-fn line<W: Write>(out: &mut W, part: &str, took: Duration) -> bool {
+fn write_line<W: Write>(out: &mut W, part: &str, took: Duration) -> io::Result<()> {
     let (seconds, millis) = (took.as_secs(), took.subsec_millis());
-    writeln!(out, "{part}: {seconds}.{millis:03} seconds").is_ok()
+    writeln!(out, "{part}: {seconds}.{millis:03} seconds")
 }
