@@ -7,6 +7,7 @@ use std::fs;
 use std::fs::Files;
 use std::io::Read;
 use std::process::Abort;
+use std::rt::Clock;
 use std::sync::Wait;
 use std::test::Fail;
 use std::thread::Threads;
@@ -97,6 +98,21 @@ const STARTS: &[Start] = &[
         ..STILL
     },
     Start {
+        test: "writes_a_summary",
+        files: &[
+            ("summary-p.csv", PAGES),
+            ("summary-0.csv", "op,user,page\nlike,0,a\nlook,0,a\nlike,0,a\nlook,1,a\n"),
+            ("summary-1.csv", "op,user,page\nlook,3,a\nlike,9,a\nlike,9,a\nlook,1,b\n"),
+        ],
+        words: "replay --summary --users 3 summary-p.csv summary-0.csv summary-1.csv",
+        out: Written::End("page,0,,,,a,12\nuser,0,,,,a,\n"),
+        errors: Written::Begin(
+            "requests: 8\nliked: 2\nseen: 1\nunknown-user: 3\nother-home: 1\nunknown-page: 1\n\
+            phases: 1\nphases with hot pages: 0\nhot pages: 0\nreading: 0.",
+        ),
+        ..STILL
+    },
+    Start {
         words: "replay none-p.csv none-r.csv",
         errors: Written::Whole("likes: none-p.csv: read failed\n"),
         ..NOT_THERE
@@ -163,7 +179,7 @@ fn texts(alloc: Global, text: &str) -> Result<Vec<String>, AllocError> {
 }
 
 // What words end in: the status, and what stands on the output and the errors.
-fn served<R: Files + Threads + Wait + Sync>(
+fn served<R: Files + Threads + Wait + Clock + Sync>(
     rt: &R,
     alloc: Global,
     words: &[String],
@@ -200,7 +216,7 @@ fn assert_end(rt: &impl Abort, start: &Start, status: u8, out: &[u8], errors: &[
 }
 
 // Asserts what a start ends in with its files.
-fn assert_start<R: Files + Threads + Wait + Abort + Sync>(
+fn assert_start<R: Files + Threads + Wait + Abort + Clock + Sync>(
     rt: &R,
     alloc: Global,
     start: &Start,
@@ -216,7 +232,7 @@ where
 }
 
 // Asserts what the starts of a test end in.
-fn assert_starts<R: Files + Threads + Wait + Abort + Sync>(
+fn assert_starts<R: Files + Threads + Wait + Abort + Clock + Sync>(
     rt: &R,
     alloc: Global,
     test: &str,
@@ -253,6 +269,12 @@ fn runs_files(rt: HostRuntime) -> Result<(), Fail> {
     assert_starts(&rt, rt.alloc(), "runs_files")
 }
 
+// Each number but the seconds.
+#[test]
+fn writes_a_summary(rt: HostRuntime) -> Result<(), Fail> {
+    assert_starts(&rt, rt.alloc(), "writes_a_summary")
+}
+
 // All files are opened before one is read, and the first that can't be opened is told.
 #[test]
 fn opens_in_order(rt: HostRuntime) -> Result<(), Fail> {
@@ -270,7 +292,7 @@ fn tells_wrong_words(rt: HostRuntime) -> Result<(), Fail> {
 }
 
 // What words end in on an output of one byte a write, of which so many succeed: the status and the line.
-fn served_onto<R: Files + Threads + Wait + Sync>(
+fn served_onto<R: Files + Threads + Wait + Clock + Sync>(
     rt: &R,
     alloc: Global,
     words: &[String],
@@ -287,7 +309,7 @@ where
 }
 
 // Asserts that words tell of an output that fails at any write of so many, or where it is flushed.
-fn assert_output_fails<R: Files + Threads + Wait + Abort + Sync>(
+fn assert_output_fails<R: Files + Threads + Wait + Abort + Clock + Sync>(
     rt: &R,
     alloc: Global,
     words: &[String],
