@@ -2,12 +2,12 @@
 #![tactic(auto)]
 
 #[cfg(test)]
+mod files;
+#[cfg(test)]
 mod records;
 #[cfg(test)]
 mod replies;
 #[cfg(test)]
-mod requests;
-#[cfg(test)]
-mod script;
+mod settings;
 #[cfg(test)]
 mod words;

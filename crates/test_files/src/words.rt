@@ -11,108 +11,48 @@ fn asked(alloc: Global, text: &str) -> Result<Asked, ParseFault> {
     parse(alloc, words.as_slice())
 }
 
-// The same as `Debug` shows it.
-fn shown(rt: &impl Abort, alloc: Global, words: &str) -> String {
-    let asked = asked(alloc, words);
-    format!(in alloc; "{asked:?}").expect(rt, "memory")
-}
+// Words and what they ask for, as `Debug` shows it: all of it where a point ends it, and otherwise how it begins.
+const ASKED: &str = "\
+replay p.csv r.csv => Ok(Replay(Options { workers: 4, users: 1000, stash: 256, turns: 1000, hot: None, places: false, \
+pages: \"p.csv\", requests: [\"r.csv\"], script: None })).
+replay --stash 7 --workers 2 p.csv a.csv b.csv => \
+Ok(Replay(Options { workers: 2, users: 1000, stash: 7, turns: 1000, hot: None, places: false, \
+pages: \"p.csv\", requests: [\"a.csv\", \"b.csv\"], script: None })).
+replay p.csv --turns=0 a.csv --places --users=9 --script s.csv => \
+Ok(Replay(Options { workers: 4, users: 9, stash: 256, turns: 0, hot: None, places: true, \
+pages: \"p.csv\", requests: [\"a.csv\"], script: Some(\"s.csv\") })).
+run p.csv r.csv => \
+Ok(Run(Options { workers: 4, users: 1000, stash: 256, turns: 1000, hot: None, places: false, \
+pages: \"p.csv\", requests: [\"r.csv\"], script: None })).
+run --workers=16 --places p.csv --turns 0 a.csv --hot 9 b.csv => \
+Ok(Run(Options { workers: 16, users: 1000, stash: 256, turns: 0, hot: Some(9), places: true, \
+pages: \"p.csv\", requests: [\"a.csv\", \"b.csv\"], script: None })).";
 
-// Stops the test unless the words ask for this.
-fn assert_asks(rt: &impl Abort, alloc: Global, words: &str, wanted: &str) {
-    assert_eq!(rt; shown(rt, alloc, words).as_str(), wanted, "at {words}");
-}
+// The least and the greatest value of each option.
+const BOUNDS: &str = "\
+replay --workers=1 p.csv r.csv => Ok(Replay(
+replay --workers=16 p.csv r.csv => Ok(Replay(
+replay --users=1 p.csv r.csv => Ok(Replay(
+replay --users=1000000 p.csv r.csv => Ok(Replay(
+replay --stash=1 p.csv r.csv => Ok(Replay(
+replay --stash=4096 p.csv r.csv => Ok(Replay(
+replay --turns=0 p.csv r.csv => Ok(Replay(
+replay --turns=1000000 p.csv r.csv => Ok(Replay(
+replay --hot=1 p.csv r.csv => Ok(Replay(
+replay --hot=1000000 p.csv r.csv => Ok(Replay(";
 
-// Stops the test unless the words are wrong.
-fn assert_wrong(rt: &impl Abort, alloc: Global, words: &str) {
-    assert!(rt;
-        shown(rt, alloc, words).starts_with("Err(Usage("),
-        "at {words}"
-    );
-}
-
-#[test]
-fn defaults(rt: HostRuntime) {
-    assert_asks(
-        &rt,
-        rt.alloc(),
-        "replay p.csv r.csv",
-        "Ok(Replay(Options { workers: 4, users: 1000, stash: 256, turns: 1000, hot: None, places: false, \
-         pages: \"p.csv\", requests: [\"r.csv\"], script: None }))",
-    );
-}
-
-#[test]
-fn values(rt: HostRuntime) {
-    assert_asks(
-        &rt,
-        rt.alloc(),
-        "replay --stash 7 --workers 2 p.csv a.csv b.csv",
-        "Ok(Replay(Options { workers: 2, users: 1000, stash: 7, turns: 1000, hot: None, places: false, \
-         pages: \"p.csv\", requests: [\"a.csv\", \"b.csv\"], script: None }))",
-    );
-    assert_asks(
-        &rt,
-        rt.alloc(),
-        "replay p.csv --turns=0 a.csv --places --users=9 --script s.csv",
-        "Ok(Replay(Options { workers: 4, users: 9, stash: 256, turns: 0, hot: None, places: true, \
-         pages: \"p.csv\", requests: [\"a.csv\"], script: Some(\"s.csv\") }))",
-    );
-}
-
-#[test]
-fn asks_for_runs(rt: HostRuntime) {
-    assert_asks(
-        &rt,
-        rt.alloc(),
-        "run p.csv r.csv",
-        "Ok(Run(Options { workers: 4, users: 1000, stash: 256, turns: 1000, hot: None, places: false, \
-         pages: \"p.csv\", requests: [\"r.csv\"], script: None }))",
-    );
-    assert_asks(
-        &rt,
-        rt.alloc(),
-        "run --workers=16 --places p.csv --turns 0 a.csv --hot 9 b.csv",
-        "Ok(Run(Options { workers: 16, users: 1000, stash: 256, turns: 0, hot: Some(9), places: true, \
-         pages: \"p.csv\", requests: [\"a.csv\", \"b.csv\"], script: None }))",
-    );
-    assert_wrong(&rt, rt.alloc(), "run --script s.csv p.csv r.csv");
-}
-
-// The least and the greatest value of each option, and one past each.
-const BOUNDS: &str =
-    "--workers=1 --workers=16 --users=1 --users=1000000 --stash=1 --stash=4096 --turns=0 \
-                      --turns=1000000 --hot=1 --hot=1000000";
-
-const PAST: &str =
-    "--workers=0 --workers=17 --users=0 --users=1000001 --stash=0 --stash=4097 --turns=-1 \
-                    --turns=1000001 --hot=0 --hot=1000001";
-
-// The words of a replay with an option.
-fn replay_with(rt: &impl Abort, alloc: Global, option: &str) -> String {
-    format!(in alloc; "replay {option} p.csv r.csv").expect(rt, "memory")
-}
-
-#[test]
-fn bounds(rt: HostRuntime) {
-    for option in BOUNDS.split(' ') {
-        let words = replay_with(&rt, rt.alloc(), option);
-        assert!(rt;
-            shown(&rt, rt.alloc(), &words).starts_with("Ok(Replay("),
-            "at {option}"
-        );
-    }
-}
-
-#[test]
-fn past_the_bounds(rt: HostRuntime) {
-    for option in PAST.split(' ') {
-        let words = replay_with(&rt, rt.alloc(), option);
-        assert_wrong(&rt, rt.alloc(), &words);
-    }
-}
-
-// Words that are wrong: of these lines, the first has none.
+// One past each, and other words that are wrong: of these lines, the first has none.
 const WRONG: &str = "
+replay --workers=0 p.csv r.csv
+replay --workers=17 p.csv r.csv
+replay --users=0 p.csv r.csv
+replay --users=1000001 p.csv r.csv
+replay --stash=0 p.csv r.csv
+replay --stash=4097 p.csv r.csv
+replay --turns=-1 p.csv r.csv
+replay --turns=1000001 p.csv r.csv
+replay --hot=0 p.csv r.csv
+replay --hot=1000001 p.csv r.csv
 walk p.csv r.csv
 run
 run p.csv
@@ -120,6 +60,7 @@ help
 p.csv r.csv
 replay
 replay p.csv
+run --script s.csv p.csv r.csv
 replay --workers two p.csv r.csv
 replay --workers 1 --workers 2 p.csv r.csv
 replay --hot 1 --hot 2 p.csv r.csv
@@ -129,12 +70,33 @@ run --places=yes p.csv r.csv
 replay --speed 9 p.csv r.csv
 replay p.csv r.csv --script";
 
+// Stops the test unless the words ask for what begins so.
+fn assert_asks(rt: &impl Abort, alloc: Global, words: &str, wanted: &str) {
+    let asked = asked(alloc, words);
+    let shown = format!(in alloc; "{asked:?}.").expect(rt, "memory");
+    assert!(rt; shown.starts_with(wanted), "{words}: {shown}");
+}
+
+#[test]
+fn right_words(rt: HostRuntime) {
+    for cases in [ASKED, BOUNDS] {
+        for case in cases.lines() {
+            let (words, wanted) = case.split_once(" => ").expect(&rt, "a case");
+            assert_asks(&rt, rt.alloc(), words, wanted);
+        }
+    }
+}
+
 #[test]
 fn wrong_words(rt: HostRuntime) {
     for words in WRONG.split('\n') {
-        assert_wrong(&rt, rt.alloc(), words);
+        assert_asks(&rt, rt.alloc(), words, "Err(Usage(");
     }
 }
+
+const PAST_THE_BOUNDS: &str =
+    "error: invalid value '17' for '--workers <N>': 17 is not in 1..=16\n\n\
+                               For more information, try '--help'.\n";
 
 // Stops the test unless a fault has this status and line.
 fn assert_told(rt: &impl Abort, alloc: Global, fault: &ParseFault, status: u8, line: &str) {
@@ -148,15 +110,8 @@ fn assert_told(rt: &impl Abort, alloc: Global, fault: &ParseFault, status: u8, l
 
 #[test]
 fn faults(rt: HostRuntime) {
-    let fault = asked(rt.alloc(), "replay --workers 17 p.csv r.csv").expect_err(&rt, "asked");
-    let line =
-        "error: invalid value '17' for '--workers <N>': 17 is not in 1..=16\n\nFor more information, try '--help'.\n";
-    assert_told(&rt, rt.alloc(), &fault, 2, line);
-    assert_told(
-        &rt,
-        rt.alloc(),
-        &ParseFault::Memory,
-        4,
-        "likes: out of memory\n",
-    );
+    let alloc = rt.alloc();
+    let fault = asked(alloc, "replay --workers 17 p.csv r.csv").expect_err(&rt, "asked");
+    assert_told(&rt, alloc, &fault, 2, PAST_THE_BOUNDS);
+    assert_told(&rt, alloc, &ParseFault::Memory, 4, "likes: out of memory\n");
 }

@@ -1,164 +1,124 @@
 //! What logs are collected to.
-ghost use Rattle.std.specs.Prelude.{◌≤◌, length};
-
+use crate::files::{cells, shown};
 use crate::replies::log_of;
-use like_replies::{Answer, CollectFault, Replies, collect};
-use like_roles::{Ran, Reply};
-use std::alloc::Global;
+use like_replies::{CollectFault, Replies, collect};
+use like_roles::{Ran, Reply, WorkerLog};
+use std::alloc::{AllocError, Global};
 use std::process::Abort;
 
-// A like of this submitter and number, which ran in phase 1.
-fn like(submitter: u32, number: u32) -> Ran {
+fn number(rt: &impl Abort, word: &str) -> u32 {
+    word.parse().expect(rt, "a number")
+}
+
+// An entry of a log: `2.1` is the first request of submitter 2, a like that ran in phase 1, and `2.1+` a look that
+// waited for phase 2, where it saw 7.
+fn entry(rt: &impl Abort, word: &str) -> Ran {
+    let stashed = word.ends_with('+');
+    let (submitter, request) = word
+        .trim_end_matches('+')
+        .split_once('.')
+        .expect(rt, "an entry");
+    let (phase, reply) = match stashed {
+        true => (
+            2,
+            Reply::Seen {
+                last: None,
+                count: 7,
+            },
+        ),
+        false => (1, Reply::Liked),
+    };
     Ran {
-        phase: 1,
-        submitter,
-        number,
-        stashed: false,
-        reply: Reply::Liked,
+        phase,
+        submitter: number(rt, submitter),
+        number: number(rt, request),
+        stashed,
+        reply,
     }
 }
 
-// What two logs are collected to.
+// The log of a worker with these entries.
+fn log(rt: &impl Abort, alloc: Global, words: &str) -> WorkerLog {
+    let mut ran = Vec::new(alloc);
+    for word in words.split_whitespace() {
+        ran.push(entry(rt, word)).expect(rt, "memory");
+    }
+    log_of(alloc, &ran, &[]).expect(rt, "memory")
+}
+
+// Logs of workers, with a comma between them.
+fn logs(rt: &impl Abort, alloc: Global, text: &str) -> Vec<WorkerLog> {
+    let mut logs = Vec::new(alloc);
+    for words in text.split(',') {
+        logs.push(log(rt, alloc, words)).expect(rt, "memory");
+    }
+    logs
+}
+
+// How many requests each submitter has.
+fn sizes(rt: &impl Abort, alloc: Global, text: &str) -> Vec<u32> {
+    let mut sizes = Vec::new(alloc);
+    for word in text.split_whitespace() {
+        sizes.push(number(rt, word)).expect(rt, "memory");
+    }
+    sizes
+}
+
+// What logs are collected to, where the submitters have so many requests each.
 fn collected(
+    rt: &impl Abort,
     alloc: Global,
-    sizes: &[u32],
-    first: &[Ran],
-    second: &[Ran],
-) -> Result<Replies, CollectFault>
-    requires { length sizes.now ≤ 64 }
-{
-    let mut logs = Vec::with_capacity(alloc, 2)?;
-    logs.push(log_of(alloc, first, &[])?)?;
-    logs.push(log_of(alloc, second, &[])?)?;
-    collect(alloc, sizes, &logs)
+    sizes_text: &str,
+    logs_text: &str,
+) -> Result<Replies, CollectFault> {
+    let sizes = sizes(rt, alloc, sizes_text);
+    assert!(rt; sizes.len() <= 64);
+    collect(alloc, &sizes, &logs(rt, alloc, logs_text))
 }
 
-// Stops the test unless a submitter has these answers.
-fn assert_row(rt: &impl Abort, replies: &Replies, submitter: usize, wanted: &[Answer]) {
-    let row = replies.rows.get(submitter).expect(rt, "a row");
-    assert_eq!(rt; row.as_slice(), wanted);
-}
-
-// The answer of such a like.
-fn liked() -> Answer {
-    Answer {
-        phase: 1,
-        stashed: false,
-        reply: Reply::Liked,
-    }
-}
+// How many requests each submitter has; the logs of two workers; what they are collected to.
+const LOGS: &str = "\
+1|0.1,|Ok(Replies { rows: [[Answer { phase: 1, stashed: false, reply: Liked }]] })
+1 0 2|2.2 2.1+,0.1|Ok(Replies { rows: [[Answer { phase: 1, stashed: false, reply: Liked }], [], \
+[Answer { phase: 2, stashed: true, reply: Seen { last: None, count: 7 } }, \
+Answer { phase: 1, stashed: false, reply: Liked }]] })
+|,|Ok(Replies { rows: [] })
+1|0.2,|Err(Stranger { submitter: 0, number: 2 })
+1|0.0,|Err(Stranger { submitter: 0, number: 0 })
+1|1.1,|Err(Stranger { submitter: 1, number: 1 })
+1|,|Err(Missing { submitter: 0, number: 1 })
+1 2|0.1,1.1|Err(Missing { submitter: 1, number: 2 })
+2 2|1.1,|Err(Missing { submitter: 0, number: 1 })
+1|0.1,0.1|Err(Double { submitter: 0, number: 1 })
+2|0.1 0.1,5.5|Err(Double { submitter: 0, number: 1 })
+2|5.5,0.1 0.1|Err(Stranger { submitter: 5, number: 5 })";
 
 #[test]
-fn one_entry_of_each(rt: HostRuntime) {
-    let replies = collected(rt.alloc(), &[1], &[like(0, 1)], &[]).expect(&rt, "replies");
-    assert_eq!(rt; replies.rows.len(), 1);
-    assert_row(&rt, &replies, 0, &[liked()]);
-}
-
-// What a look that waited for phase 2 saw.
-fn saw() -> Reply {
-    Reply::Seen {
-        last: None,
-        count: 7,
+fn entries_and_faults(rt: HostRuntime) {
+    for case in LOGS.lines() {
+        let (sizes, logs, wanted) = cells(&rt, case);
+        let replies = collected(&rt, rt.alloc(), sizes, logs);
+        let answer = shown(&rt, rt.alloc(), &replies);
+        assert_eq!(rt; answer.as_str(), wanted, "at {case}");
     }
 }
 
-// The first entry of submitter 2, such a look.
-fn seen() -> Ran {
-    Ran {
-        phase: 2,
-        submitter: 2,
-        number: 1,
-        stashed: true,
-        reply: saw(),
+// A request of each of so many submitters: the sizes and the words of a log.
+fn one_each(alloc: Global, submitters: u32) -> Result<(String, String), AllocError> {
+    let mut sizes = String::new(alloc);
+    let mut words = String::new(alloc);
+    for submitter in 0..submitters {
+        sizes.push_str("1 ")?;
+        let word = format!(in alloc; "{submitter}.1 ")?;
+        words.push_str(&word)?;
     }
-}
-
-// Its answer.
-fn looked() -> Answer {
-    Answer {
-        phase: 2,
-        stashed: true,
-        reply: saw(),
-    }
-}
-
-#[test]
-fn entries_in_any_order(rt: HostRuntime) {
-    let ran = [like(2, 2), seen()];
-    let replies = collected(rt.alloc(), &[1, 0, 2], &ran, &[like(0, 1)]).expect(&rt, "replies");
-    assert_eq!(rt; replies.rows.len(), 3);
-    assert_row(&rt, &replies, 0, &[liked()]);
-    assert_row(&rt, &replies, 1, &[]);
-    assert_row(&rt, &replies, 2, &[looked(), liked()]);
+    words.push(',')?;
+    Ok((sizes, words))
 }
 
 #[test]
 fn as_many_submitters_as_there_may_be(rt: HostRuntime) {
-    let mut ran = Vec::new(rt.alloc());
-    for submitter in 0..64 {
-        ran.push(like(submitter, 1)).expect(&rt, "memory");
-    }
-    let replies = collected(rt.alloc(), &[1; 64], &ran, &[]).expect(&rt, "replies");
+    let (sizes, words) = one_each(rt.alloc(), 64).expect(&rt, "memory");
+    let replies = collected(&rt, rt.alloc(), &sizes, &words).expect(&rt, "replies");
     assert_eq!(rt; replies.rows.len(), 64);
-}
-
-#[test]
-fn no_submitter(rt: HostRuntime) {
-    let replies = collected(rt.alloc(), &[], &[], &[]).expect(&rt, "replies");
-    assert!(rt; replies.rows.is_empty());
-}
-
-// Stops the test unless two logs can't be collected, with this fault.
-fn assert_fault(
-    rt: &impl Abort,
-    alloc: Global,
-    sizes: &[u32],
-    first: &[Ran],
-    second: &[Ran],
-    wanted: CollectFault,
-)
-    requires { length sizes.now ≤ 64 }
-{
-    let fault = collected(alloc, sizes, first, second).err();
-    assert_eq!(rt; fault, Some(wanted));
-}
-
-fn stranger(submitter: u32, number: u32) -> CollectFault {
-    CollectFault::Stranger { submitter, number }
-}
-
-fn double(submitter: u32, number: u32) -> CollectFault {
-    CollectFault::Double { submitter, number }
-}
-
-fn missing(submitter: u32, number: u32) -> CollectFault {
-    CollectFault::Missing { submitter, number }
-}
-
-#[test]
-fn strangers(rt: HostRuntime) {
-    let alloc = rt.alloc();
-    assert_fault(&rt, alloc, &[1], &[like(0, 2)], &[], stranger(0, 2));
-    assert_fault(&rt, alloc, &[1], &[like(0, 0)], &[], stranger(0, 0));
-    assert_fault(&rt, alloc, &[1], &[like(1, 1)], &[], stranger(1, 1));
-}
-
-#[test]
-fn entries_that_are_missing(rt: HostRuntime) {
-    let alloc = rt.alloc();
-    assert_fault(&rt, alloc, &[1], &[], &[], missing(0, 1));
-    let (first, second) = ([like(0, 1)], [like(1, 1)]);
-    assert_fault(&rt, alloc, &[1, 2], &first, &second, missing(1, 2));
-    assert_fault(&rt, alloc, &[2, 2], &second, &[], missing(0, 1));
-}
-
-#[test]
-fn faults(rt: HostRuntime) {
-    let alloc = rt.alloc();
-    let once = [like(0, 1)];
-    assert_fault(&rt, alloc, &[1], &once, &once, double(0, 1));
-    let both = [like(0, 1), like(0, 1)];
-    assert_fault(&rt, alloc, &[2], &both, &[like(5, 5)], double(0, 1));
-    assert_fault(&rt, alloc, &[2], &[like(5, 5)], &both, stranger(5, 5));
 }

@@ -1,10 +1,11 @@
 //! Where the additions of logs stand.
-ghost use Rattle.std.specs.Prelude.{◌≡◌, ◌<◌, All, IfOk, length};
+ghost use Rattle.std.specs.Prelude.{◌≡◌, ◌<◌, All};
 
+use crate::files::shown;
 use crate::replies::log_of;
 use like_replies::{Place, places};
 use like_roles::Added;
-use std::alloc::{AllocError, Global};
+use std::alloc::Global;
 use std::process::Abort;
 
 // An addition in phase 1 of so many likes to a page whose count was this.
@@ -31,46 +32,32 @@ pub fn place(worker: u32, old: u64, n: u64) -> Place {
 }
 
 // The places on so many pages of what two workers added.
-fn placed(
-    alloc: Global,
-    pages: u32,
-    first: &[Added],
-    second: &[Added],
-) -> Result<Vec<Vec<Place>>, AllocError>
+fn placed(rt: &impl Abort, alloc: Global, pages: u32, first: &[Added], second: &[Added]) -> String
     requires first { All (λ a. a.page < pages) first.now }
     requires second { All (λ a. a.page < pages) second.now }
-    ensures { IfOk result (λ rows. length rows.items ≡ pages) }
 {
-    let logs = vec![in alloc; log_of(alloc, &[], first)?, log_of(alloc, &[], second)?]?;
-    places(alloc, pages, &logs)
+    let first = log_of(alloc, &[], first).expect(rt, "memory");
+    let second = log_of(alloc, &[], second).expect(rt, "memory");
+    let logs = vec![in alloc; first, second].expect(rt, "memory");
+    shown(rt, alloc, &places(alloc, pages, &logs))
 }
 
-// Stops the test unless a page has these places.
-fn assert_row(rt: &impl Abort, rows: &[Vec<Place>], page: usize, wanted: &[Place]) {
-    let row = rows.get(page).expect(rt, "a row");
-    assert_eq!(rt; row.as_slice(), wanted);
-}
+const PLACES: &str = "\
+Ok([[Place { worker: 0, phase: 1, old: 10, n: 1 }, Place { worker: 1, phase: 1, old: 11, n: 1 }, \
+Place { worker: 0, phase: 1, old: 12, n: 1 }, Place { worker: 1, phase: 1, old: 12, n: 3 }], \
+[Place { worker: 0, phase: 1, old: 5, n: 2 }], []])";
 
 #[test]
 fn places_by_page_and_count(rt: HostRuntime) {
     let first = [added(0, 12, 1), added(1, 5, 2), added(0, 10, 1)];
     let second = [added(0, 11, 1), added(0, 12, 3)];
-    let rows = placed(rt.alloc(), 3, &first, &second).expect(&rt, "memory");
-    let zero = [
-        place(0, 10, 1),
-        place(1, 11, 1),
-        place(0, 12, 1),
-        place(1, 12, 3),
-    ];
-    assert_eq!(rt; rows.len(), 3);
-    assert_row(&rt, &rows, 0, &zero);
-    assert_row(&rt, &rows, 1, &[place(0, 5, 2)]);
-    assert_row(&rt, &rows, 2, &[]);
+    assert_eq!(rt;
+        placed(&rt, rt.alloc(), 3, &first, &second).as_str(),
+        PLACES
+    );
 }
 
 #[test]
 fn no_additions(rt: HostRuntime) {
-    let rows = placed(rt.alloc(), 1, &[], &[]).expect(&rt, "memory");
-    assert_eq!(rt; rows.len(), 1);
-    assert_row(&rt, &rows, 0, &[]);
+    assert_eq!(rt; placed(&rt, rt.alloc(), 1, &[], &[]).as_str(), "Ok([[]])");
 }

@@ -10,6 +10,7 @@ use like_replies::{Answer, Replies, Report, write_text_at_once};
 use like_roles::Reply;
 use std::alloc::{AllocError, Global};
 use std::process::Abort;
+use std::thread::Threads;
 
 // The report on so many likes of one submitter, each of a user of its own, with a place for each.
 fn report_of_likes(rt: &impl Abort, alloc: Global, count: usize) -> Report
@@ -62,37 +63,43 @@ fn push_places(text: &mut String, count: usize) -> Result<(), AllocError> {
     Ok(())
 }
 
-// Its text, with its places.
-fn text_of_likes(alloc: Global, count: usize) -> Result<String, AllocError> {
+// Its text, with so many places.
+fn text_of_likes(alloc: Global, count: usize, places: usize) -> Result<String, AllocError> {
     let mut text = String::from_str(alloc, HEADER)?;
     push_requests(alloc, &mut text, count)?;
     text.push_str("page,0,,,,a,7\n")?;
     push_users(alloc, &mut text, count)?;
-    push_places(&mut text, count)?;
+    push_places(&mut text, places)?;
     Ok(text)
+}
+
+// Stops the test unless this is written of so many likes, with their places where they are asked for.
+fn assert_written(
+    rt: &(impl Abort + Threads + Sync),
+    alloc: Global,
+    count: usize,
+    places: bool,
+    text: &str,
+) {
+    let pages = one_page(rt, alloc, "name,count,split\na,0,no\n");
+    let report = report_of_likes(rt, alloc, count);
+    let mut out = Vec::with_capacity(alloc, text.len()).expect(rt, "memory");
+    write_text_at_once(rt, alloc, places, &report, &pages, &mut out).expect(rt, "written");
+    assert!(rt; out.as_slice() == text.as_bytes(), "of {count} likes");
 }
 
 // 40,000 requests, users and places have three sections each, the last of them shorter than the others: more than are
 // made side by side.
 #[test]
 fn all_sections_in_order(rt: HostRuntime) {
-    let pages = one_page(&rt, rt.alloc(), "name,count,split\na,0,no\n");
     for count in [0, 1, 16_384, 40_000] {
-        let report = report_of_likes(&rt, rt.alloc(), count);
-        let text = text_of_likes(rt.alloc(), count).expect(&rt, "memory");
-        let mut out = Vec::with_capacity(rt.alloc(), text.len()).expect(&rt, "memory");
-        write_text_at_once(&rt, rt.alloc(), true, &report, &pages, &mut out).expect(&rt, "written");
-        assert!(rt; out.as_slice() == text.as_bytes(), "of {count} likes");
+        let text = text_of_likes(rt.alloc(), count, count).expect(&rt, "memory");
+        assert_written(&rt, rt.alloc(), count, true, &text);
     }
 }
 
 #[test]
 fn no_places_unasked(rt: HostRuntime) {
-    let pages = one_page(&rt, rt.alloc(), "name,count,split\na,0,no\n");
-    let report = report_of_likes(&rt, rt.alloc(), 1);
-    let rows = "reply,0,1,0,liked,,\npage,0,,,,a,7\nuser,0,,,,a,\n";
-    let text = format!(in rt.alloc(); "{HEADER}{rows}").expect(&rt, "memory");
-    let mut out = Vec::with_capacity(rt.alloc(), text.len()).expect(&rt, "memory");
-    write_text_at_once(&rt, rt.alloc(), false, &report, &pages, &mut out).expect(&rt, "written");
-    assert!(rt; out.as_slice() == text.as_bytes());
+    let text = text_of_likes(rt.alloc(), 1, 0).expect(&rt, "memory");
+    assert_written(&rt, rt.alloc(), 1, false, &text);
 }

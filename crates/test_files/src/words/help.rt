@@ -14,28 +14,50 @@ fn help(rt: &impl Abort, alloc: Global, words: &str) -> String {
 
 // Whether a line of a text says what this is: it stands first, and two spaces or more behind it.
 fn explains(text: &str, what: &str) -> bool {
-    text.lines().any(
-        |line| matches!(line.trim_start().split_once("  "), Some((first, _)) if first == what),
-    )
+    for line in text.lines() {
+        if let Some((first, _)) = line.trim_start().split_once("  ") {
+            if first == what {
+                return true;
+            }
+        }
+    }
+    false
 }
 
 // The columns of the files and the report, the answers and the options.
-const EXPLAINED: &str = "name,count,split,op,user,page,row,id,number,phase,answer,\
-                         liked,seen,unknown-user,other-home,unknown-page,\
-                         --workers <N>,--users <U>,--stash <C>,--turns <T>,--hot <H>,--places";
+const COLUMNS: &str = "name,count,split,op,user,page,row,id,number,phase,answer,\
+                       liked,seen,unknown-user,other-home,unknown-page,\
+                       --workers <N>,--users <U>,--stash <C>,--turns <T>,--hot <H>,--places";
 
-#[test]
-fn says_what_goes_in_and_comes_out(rt: HostRuntime) {
-    for words in ["run --help", "replay -h", "replay p.csv --help"] {
-        let text = help(&rt, rt.alloc(), words);
-        for what in EXPLAINED.split(',') {
-            assert!(rt; explains(text.as_str(), what), "{words}: {what}");
-        }
-    }
-}
+// What a script is, of a replay alone.
+const SCRIPT: &str = "--script <FILE>;open,S;worker,W;coordinator,0";
+
+// The words and statuses.
+const WORDS: &str = "run,replay,0,2,3,4,5";
 
 const HEADERS_AND_DEFAULTS: &str =
     "name,count,split;op,user,page;row,id,number,phase,answer,page,count;[default: 4];[default: 1000];[default: 256]";
+
+#[test]
+fn explains_each_word(rt: HostRuntime) {
+    for (words, list, separator, is_explained) in [
+        ("run --help", COLUMNS, ',', true),
+        ("replay -h", COLUMNS, ',', true),
+        ("replay p.csv --help", COLUMNS, ',', true),
+        ("replay --help", SCRIPT, ';', true),
+        ("run --help", SCRIPT, ';', false),
+        ("--help", WORDS, ',', true),
+    ] {
+        let text = help(&rt, rt.alloc(), words);
+        for what in list.split(separator) {
+            assert_eq!(rt;
+                explains(text.as_str(), what),
+                is_explained,
+                "{words}: {what}"
+            );
+        }
+    }
+}
 
 #[test]
 fn says_the_headers_and_the_defaults(rt: HostRuntime) {
@@ -44,24 +66,6 @@ fn says_the_headers_and_the_defaults(rt: HostRuntime) {
         for part in HEADERS_AND_DEFAULTS.split(';') {
             assert!(rt; text.as_str().contains(part), "{words}: {part}");
         }
-    }
-}
-
-#[test]
-fn says_what_a_script_is_of_a_replay_alone(rt: HostRuntime) {
-    let run = help(&rt, rt.alloc(), "run --help");
-    let replay = help(&rt, rt.alloc(), "replay --help");
-    for what in "--script <FILE>;open,S;worker,W;coordinator,0".split(';') {
-        assert!(rt; explains(replay.as_str(), what), "{what}");
-        assert!(rt; !explains(run.as_str(), what), "{what}");
-    }
-}
-
-#[test]
-fn says_which_words_and_statuses_there_are(rt: HostRuntime) {
-    let text = help(&rt, rt.alloc(), "--help");
-    for what in "run,replay,0,2,3,4,5".split(',') {
-        assert!(rt; explains(text.as_str(), what), "{what}");
     }
 }
 
