@@ -1,67 +1,82 @@
-use like_requests::{Numbered, Op, PageRef, Request, Verdict};
-use like_tables::{Held, Slice, Stash, Users};
+ghost use Rattle.std.specs.Prelude.{◌≡◌, length};
+
+mod calls;
+
+use calls::{OnSlice, OnStash, held_of, slices, stashes};
+use like_requests::{Op, PageRef, Request, Verdict};
+use like_tables::{Slice, Stash, Users};
 use std::alloc::{AllocError, Global};
+use std::process::Abort;
 use std::test::Fail;
 
-// A submitter's first look, of user 0.
-fn held_of(submitter: u32) -> Held {
-    Held {
-        submitter,
-        ask: Numbered {
-            number: 1,
-            request: Request {
-                op: Op::Look,
-                user: 0,
-                page: PageRef::Known(0),
-            },
-        },
+// Makes a call of a slice of so many pages, and asserts its answer.
+fn call_slice(rt: &impl Abort, slice: &mut Slice, pages: u32, call: OnSlice)
+    requires { length slice.old ≡ pages }
+    ensures { length slice.new ≡ pages }
+{
+    match call {
+        OnSlice::Add(page) => {
+            assert!(rt; page < pages && slice.total() < 64);
+            slice.add(page);
+        }
+        OnSlice::Take(page, want) => {
+            assert!(rt; page < pages);
+            assert_eq!(rt; slice.take(page), want, "of {page}");
+        }
+        OnSlice::Next(from, want) => {
+            assert!(rt; from <= pages);
+            assert_eq!(rt; slice.next(from), want, "from {from}");
+        }
+        OnSlice::Total(want) => assert_eq!(rt; slice.total(), want),
+        OnSlice::IsEmpty(want) => assert_eq!(rt; slice.is_empty(), want),
     }
-}
-
-fn held() -> Held {
-    held_of(0)
 }
 
 #[test]
 fn a_slice_gives_what_was_added(rt: HostRuntime) -> Result<(), Fail> {
-    let mut slice = Slice::new(rt.alloc(), 2)?;
-    assert!(rt; slice.is_empty());
-    slice.add(1);
-    slice.add(1);
-    slice.add(1);
-    assert_eq!(rt; slice.total(), 3);
-    assert_eq!(rt; slice.take(1), 3);
-    assert_eq!(rt; slice.take(1), 0);
-    assert!(rt; slice.is_empty());
+    for (pages, calls) in slices() {
+        let mut slice = Slice::new(rt.alloc(), *pages)?;
+        for call in *calls {
+            call_slice(&rt, &mut slice, *pages, *call);
+        }
+    }
     Ok(())
 }
 
-#[test]
-fn a_slice_is_walked_by_words(rt: HostRuntime) -> Result<(), Fail> {
-    let mut slice = Slice::new(rt.alloc(), 130)?;
-    assert_eq!(rt; slice.next(0), None);
-    slice.add(0);
-    slice.add(64);
-    slice.add(129);
-    slice.add(64);
-    assert_eq!(rt; slice.next(0), Some(0));
-    assert_eq!(rt; slice.next(1), Some(64));
-    assert_eq!(rt; slice.next(65), Some(129));
-    assert_eq!(rt; slice.take(64), 2);
-    assert_eq!(rt; slice.next(1), Some(129));
-    assert_eq!(rt; slice.next(130), None);
-    Ok(())
+// Makes a call of a stash, and asserts its answer.
+fn call_stash(rt: &impl Abort, stash: &mut Stash, call: OnStash) {
+    match call {
+        OnStash::Push(submitter) => {
+            assert!(rt; !stash.is_full());
+            stash.push(held_of(submitter));
+        }
+        OnStash::Pop(want) => assert_eq!(rt; stash.pop_front(), want),
+        OnStash::IsFull(want) => assert_eq!(rt; stash.is_full(), want),
+        OnStash::Len(want) => assert_eq!(rt; stash.len(), want),
+    }
 }
 
 #[test]
 fn a_stash_gives_what_was_pushed(rt: HostRuntime) -> Result<(), Fail> {
-    let mut stash = Stash::new(rt.alloc(), 1)?;
-    assert!(rt; !stash.is_full());
-    stash.push(held());
-    assert!(rt; stash.is_full());
-    assert_eq!(rt; stash.len(), 1);
-    assert_eq!(rt; stash.pop_front(), Some(held()));
-    assert_eq!(rt; stash.pop_front(), None);
+    for (capacity, calls) in stashes() {
+        assert!(rt; *capacity >= 1 && *capacity <= 4_096);
+        let mut stash = Stash::new(rt.alloc(), *capacity)?;
+        for call in *calls {
+            call_stash(&rt, &mut stash, *call);
+        }
+    }
+    Ok(())
+}
+
+// A stash of the most looks.
+#[test]
+fn a_stash_holds_the_most(rt: HostRuntime) -> Result<(), Fail> {
+    let mut stash = Stash::new(rt.alloc(), 4_096)?;
+    for _ in 0..4_096 {
+        call_stash(&rt, &mut stash, OnStash::Push(0));
+    }
+    call_stash(&rt, &mut stash, OnStash::IsFull(true));
+    call_stash(&rt, &mut stash, OnStash::Len(4_096));
     Ok(())
 }
 
@@ -89,37 +104,14 @@ fn users_are_those_of_the_worker(rt: HostRuntime) -> Result<(), Fail> {
     Ok(())
 }
 
-#[test]
-fn a_stash_goes_round(rt: HostRuntime) -> Result<(), Fail> {
-    let mut stash = Stash::new(rt.alloc(), 2)?;
-    stash.push(held_of(0));
-    stash.push(held_of(1));
-    assert_eq!(rt; stash.pop_front(), Some(held_of(0)));
-    stash.push(held_of(2));
-    assert_eq!(rt; stash.pop_front(), Some(held_of(1)));
-    assert_eq!(rt; stash.pop_front(), Some(held_of(2)));
-    assert_eq!(rt; stash.pop_front(), None);
-    Ok(())
-}
-
 // The table of the only worker.
 fn all_users(alloc: Global, users: u32) -> Result<Users, AllocError> {
     Users::new(alloc, users, 1, 1, 0)
 }
 
+// The most users, of the only worker.
 #[test]
-fn there_is_room_at_the_limits(rt: HostRuntime) -> Result<(), Fail> {
-    let mut slice = Slice::new(rt.alloc(), 1_024)?;
-    assert!(rt; slice.is_empty());
-    slice.add(1_023);
-    assert_eq!(rt; slice.take(1_023), 1);
-    let mut stash = Stash::new(rt.alloc(), 4_096)?;
-    for _ in 0..4_096 {
-        assert!(rt; !stash.is_full());
-        stash.push(held());
-    }
-    assert!(rt; stash.is_full());
-    assert_eq!(rt; stash.len(), 4_096);
+fn users_are_a_million(rt: HostRuntime) -> Result<(), Fail> {
     let mut users = all_users(rt.alloc(), 1_000_000)?;
     assert!(rt; users.owns(999_999));
     users.set(999_999, 1_023);

@@ -1,6 +1,5 @@
 //! Each call of `Post`, by functions that know the trait alone.
 ghost use Rattle.std.specs.Prelude.{◌≡◌, ◌+◌, ◌<◌, ◌≤◌, true, []};
-ghost use Rattle.std.specs.Bool.{OnTrue, OnFalse};
 ghost use Rattle.like_core.specs.declared.worker_state.WorkerState.TheVariants.{Runs, Answered, Gone};
 ghost use Rattle.like_core.specs.Limits.{max_likes};
 ghost use Rattle.like_core.specs.Phase.{IsJoined, IsSplit, is_marked, last_phase};
@@ -14,84 +13,102 @@ use like_core::Post;
 use std::process::Abort;
 use std::test::Fail;
 
-// Answers the phase that a post runs, where its end was announced, and says whether it did.
-fn answer<P: Post>(post: &mut P, phase: u32) -> bool
+// A post runs a phase, whose end was not announced.
+fn runs<P: Post>(rt: &impl Abort, post: &mut P, phase: u32)
     requires { (P.view post.old).state ≡ Runs phase }
-    ensures yes { OnTrue result ((P.view post.new).state ≡ Answered phase) }
-    ensures no { OnFalse result ((P.view post.new).state ≡ Runs phase) }
+    ensures state { (P.view post.new).state ≡ Runs phase }
     ensures board { KeepsBoard (P.view post.old) (P.view post.new) }
 {
     let sight = post.look();
-    if sight.ending && phase % 2 == 0 {
+    assert!(rt; !sight.ending);
+}
+
+// Answers the phase that a post runs, whose end was announced.
+fn answers<P: Post>(rt: &impl Abort, post: &mut P, phase: u32)
+    requires { (P.view post.old).state ≡ Runs phase }
+    ensures state { (P.view post.new).state ≡ Answered phase }
+    ensures board { KeepsBoard (P.view post.old) (P.view post.new) }
+{
+    let sight = post.look();
+    assert!(rt; sight.ending);
+    if phase % 2 == 0 {
         post.acknowledge();
-    } else if sight.ending {
+    } else {
         post.report();
     }
-    sight.ending
 }
 
-// Enters the next phase, where it was released, and says whether it was.
-fn enter<P: Post>(post: &mut P, phase: u32) -> bool
+// A post that has answered waits for the next phase.
+fn waits<P: Post>(rt: &impl Abort, post: &mut P, phase: u32)
     requires { (P.view post.old).state ≡ Answered phase }
-    ensures yes { OnTrue result ((P.view post.new).state ≡ Runs (phase + 1)) }
-    ensures no { OnFalse result ((P.view post.new).state ≡ Answered phase) }
+    ensures state { (P.view post.new).state ≡ Answered phase }
     ensures board { KeepsBoard (P.view post.old) (P.view post.new) }
 {
     let sight = post.look();
-    !sight.waits
+    assert!(rt; sight.waits);
 }
 
-// Merges the first slice of a post in phase 1, where its end was announced. Returns the count before.
-fn merge<P: Post>(post: &mut P, likes: u64) -> Option<u64>
-    requires runs { (P.view post.old).state ≡ Runs 1 }
+// Enters the next phase, which was released.
+fn enters<P: Post>(rt: &impl Abort, post: &mut P, phase: u32)
+    requires { (P.view post.old).state ≡ Answered phase }
+    ensures state { (P.view post.new).state ≡ Runs (phase + 1) }
+    ensures board { KeepsBoard (P.view post.old) (P.view post.new) }
+{
+    let sight = post.look();
+    assert!(rt; !sight.waits);
+}
+
+// Merges the first slice of a post in phase 1, whose end was announced. The count before is this.
+fn merges<P: Post>(rt: &impl Abort, post: &mut P, likes: u64, old: u64)
+    requires state { (P.view post.old).state ≡ Runs 1 }
     requires page { 0 < pages_of (P.view post.old) }
     requires split { is_marked (P.view post.old).marks 0 ≡ true }
     requires added_nothing { (P.view post.old).additions ≡ [] }
     requires some { 1 ≤ likes }
     requires few { likes ≤ max_likes }
-    ensures runs { (P.view post.new).state ≡ Runs 1 }
+    ensures state { (P.view post.new).state ≡ Runs 1 }
     ensures pages { pages_of (P.view post.new) ≡ pages_of (P.view post.old) }
 {
     let sight = post.look();
     if !sight.ending {
-        return None;
+        panic!(rt; "the end of the phase is not announced");
     }
-    Some(post.add(0, likes))
+    assert_eq!(rt; post.add(0, likes), old);
 }
 
-// Runs the first like of a post. Returns the count before.
-fn like<P: Post>(post: &mut P, page: u32) -> u64
+// Runs the first like of a post. The count before is this.
+fn likes<P: Post>(rt: &impl Abort, post: &mut P, page: u32, old: u64)
     requires fresh { IsFresh (P.view post.old) }
     requires page { page < pages_of (P.view post.old) }
-    ensures runs { (P.view post.new).state ≡ Runs 0 }
+    ensures state { (P.view post.new).state ≡ Runs 0 }
     ensures pages { pages_of (P.view post.new) ≡ pages_of (P.view post.old) }
 {
-    post.add(page, 1)
+    assert_eq!(rt; post.add(page, 1), old);
 }
 
-// Reads a page in a joined phase.
-fn read<P: Post>(post: &mut P, phase: u32, page: u32) -> u64
-    requires runs { (P.view post.old).state ≡ Runs phase }
+// Reads a page in a joined phase. Its count is this.
+fn reads<P: Post>(rt: &impl Abort, post: &mut P, phase: u32, page: u32, count: u64)
+    requires state { (P.view post.old).state ≡ Runs phase }
     requires joined { IsJoined phase }
     requires page { page < pages_of (P.view post.old) }
-    ensures runs { (P.view post.new).state ≡ Runs phase }
+    ensures { (P.view post.new).state ≡ Runs phase }
 {
-    post.read(page)
+    assert_eq!(rt; post.read(page), count);
 }
 
-// Reads the mask of a split phase.
-fn learn<P: Post>(post: &mut P, phase: u32) -> u64
-    requires runs { (P.view post.old).state ≡ Runs phase }
+// Reads the mask of a split phase, in which no page is hot.
+fn learns<P: Post>(rt: &impl Abort, post: &mut P, phase: u32)
+    requires state { (P.view post.old).state ≡ Runs phase }
     requires split { IsSplit phase }
-    ensures runs { (P.view post.new).state ≡ Runs phase }
+    ensures state { (P.view post.new).state ≡ Runs phase }
     ensures board { KeepsBoard (P.view post.old) (P.view post.new) }
 {
-    post.hot()
+    assert_eq!(rt; post.hot(), 0);
 }
 
 // Retires from a joined phase.
-fn leave<P: Post>(post: &mut P, phase: u32)
-    requires runs { (P.view post.old).state ≡ Runs phase }
+fn leaves<P: Post>(post: &mut P, phase: u32)
+    requires state { (P.view post.old).state ≡ Runs phase }
     requires joined { IsJoined phase }
     ensures { (P.view post.new).state ≡ Gone }
 {
@@ -99,7 +116,7 @@ fn leave<P: Post>(post: &mut P, phase: u32)
 }
 
 // The coordinator sees a phase that runs, and announces its end.
-fn announce(rt: &impl Abort, coord: &mut CoordSeat, board: &Board, phase: u32)
+fn announces(rt: &impl Abort, coord: &mut CoordSeat, board: &Board, phase: u32)
     requires here { coord_board coord.old ≡ board_id board.now }
     requires not_last { phase < last_phase }
     ensures { coord_board coord.new ≡ coord_board coord.old }
@@ -109,7 +126,7 @@ fn announce(rt: &impl Abort, coord: &mut CoordSeat, board: &Board, phase: u32)
 }
 
 // The coordinator sees all workers in, and releases the next phase.
-fn release(rt: &impl Abort, coord: &mut CoordSeat, board: &Board, phase: u32)
+fn releases(rt: &impl Abort, coord: &mut CoordSeat, board: &Board, phase: u32)
     requires { coord_board coord.old ≡ board_id board.now }
     ensures { coord_board coord.new ≡ coord_board coord.old }
 {
@@ -120,28 +137,67 @@ fn release(rt: &impl Abort, coord: &mut CoordSeat, board: &Board, phase: u32)
     coord.release(board);
 }
 
+// Two posts go through phase 0.
+fn go_through_joined_phase<P: Post>(
+    rt: &impl Abort,
+    coord: &mut CoordSeat,
+    board: &Board,
+    first: &mut P,
+    second: &mut P,
+)
+    requires here { coord_board coord.old ≡ board_id board.now }
+    requires first { (P.view first.old).state ≡ Runs 0 }
+    requires second { (P.view second.old).state ≡ Runs 0 }
+    ensures here { coord_board coord.new ≡ coord_board coord.old }
+    ensures first { (P.view first.new).state ≡ Runs 1 }
+    ensures first_board { KeepsBoard (P.view first.old) (P.view first.new) }
+    ensures second { (P.view second.new).state ≡ Runs 1 }
+{
+    runs(rt, first, 0);
+    announces(rt, coord, board, 0);
+    answers(rt, first, 0);
+    waits(rt, first, 0);
+    answers(rt, second, 0);
+    releases(rt, coord, board, 0);
+    enters(rt, first, 0);
+    enters(rt, second, 0);
+}
+
+// They go through phase 1, at the end of which the first merges three likes of a page that has 10.
+fn go_through_split_phase<P: Post>(
+    rt: &impl Abort,
+    coord: &mut CoordSeat,
+    board: &Board,
+    first: &mut P,
+    second: &mut P,
+)
+    requires here { coord_board coord.old ≡ board_id board.now }
+    requires first { (P.view first.old).state ≡ Runs 1 }
+    requires page { 0 < pages_of (P.view first.old) }
+    requires split { is_marked (P.view first.old).marks 0 ≡ true }
+    requires added_nothing { (P.view first.old).additions ≡ [] }
+    requires second { (P.view second.old).state ≡ Runs 1 }
+    ensures first { (P.view first.new).state ≡ Runs 2 }
+    ensures pages { pages_of (P.view first.new) ≡ pages_of (P.view first.old) }
+{
+    learns(rt, first, 1);
+    announces(rt, coord, board, 1);
+    merges(rt, first, 3, 10);
+    answers(rt, first, 1);
+    answers(rt, second, 1);
+    releases(rt, coord, board, 1);
+    enters(rt, first, 1);
+}
+
 #[test]
 fn leads_posts_through_phases(rt: HostRuntime) -> Result<(), Fail> {
     let (board, mut coord, mut seats) = Board::new(rt.alloc(), 2, &[10], &[true])?;
     let mut second = last_post(&rt, &mut seats, &board, 1);
     let mut first = last_post(&rt, &mut seats, &board, 0);
-    assert!(rt; !answer(&mut first, 0));
-    announce(&rt, &mut coord, &board, 0);
-    assert!(rt; answer(&mut first, 0));
-    assert!(rt; !enter(&mut first, 0));
-    assert!(rt; answer(&mut second, 0));
-    release(&rt, &mut coord, &board, 0);
-    assert!(rt; enter(&mut first, 0));
-    assert!(rt; enter(&mut second, 0));
-    assert_eq!(rt; learn(&mut first, 1), 0);
-    announce(&rt, &mut coord, &board, 1);
-    assert_eq!(rt; merge(&mut first, 3), Some(10));
-    assert!(rt; answer(&mut first, 1));
-    assert!(rt; answer(&mut second, 1));
-    release(&rt, &mut coord, &board, 1);
-    assert!(rt; enter(&mut first, 1));
-    assert_eq!(rt; read(&mut first, 2, 0), 13);
-    leave(&mut first, 2);
+    go_through_joined_phase(&rt, &mut coord, &board, &mut first, &mut second);
+    go_through_split_phase(&rt, &mut coord, &board, &mut first, &mut second);
+    reads(&rt, &mut first, 2, 0, 13);
+    leaves(&mut first, 2);
     Ok(())
 }
 
@@ -150,9 +206,9 @@ fn likes_by_posts(rt: HostRuntime) -> Result<(), Fail> {
     let (board, _coord, mut seats) = Board::new(rt.alloc(), 2, &[10], &[true])?;
     let mut second = last_post(&rt, &mut seats, &board, 1);
     let mut first = last_post(&rt, &mut seats, &board, 0);
-    assert_eq!(rt; like(&mut first, 0), 10);
-    assert_eq!(rt; like(&mut second, 0), 11);
-    assert_eq!(rt; read(&mut first, 0, 0), 12);
+    likes(&rt, &mut first, 0, 10);
+    likes(&rt, &mut second, 0, 11);
+    reads(&rt, &mut first, 0, 0, 12);
     Ok(())
 }
 
@@ -163,7 +219,7 @@ fn holds_the_most(rt: HostRuntime) -> Result<(), Fail> {
     let (board, _coord, mut seats) = Board::new(rt.alloc(), 16, &counts, &[true; 1_024])?;
     assert_eq!(rt; seats.len(), 16);
     let mut last = seats.pop().expect(&rt, "a seat is there").at(&board);
-    assert_eq!(rt; like(&mut last, 1_023), 1_000_000_000_000_000_000);
-    assert_eq!(rt; read(&mut last, 0, 1_023), 1_000_000_000_000_000_001);
+    likes(&rt, &mut last, 1_023, 1_000_000_000_000_000_000);
+    reads(&rt, &mut last, 0, 1_023, 1_000_000_000_000_000_001);
     Ok(())
 }

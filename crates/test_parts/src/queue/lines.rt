@@ -2,40 +2,47 @@ ghost use Rattle.std.specs.Prelude.{◌≡◌, ◌≤◌, IfOk, length};
 ghost use Rattle.like_requests.specs.Limits.{max_requests};
 
 use super::LIKE;
-use like_queue::{EndRefused, Line, ListInbox, PushRefused, SendEnd, SendPass, TakePass, TakeWith};
+use like_queue::{
+    EndRefused, Line, ListInbox, PushRefused, SendEnd, SendPass, TakeEnd, TakePass, TakeWith,
+};
 use like_requests::{Numbered, Request, Taken};
 use std::alloc::{AllocError, Global};
+use std::process::Abort;
 use std::sync::Wait;
 use std::test::Fail;
 use std::thread;
 use std::thread::Threads;
 
-// Pushes the next request, where one is left.
-fn push_next<R: Wait>(rt: &R, end: &mut SendEnd<'_>) -> Option<Result<u32, PushRefused>> {
-    let request = end.next()?;
-    Some(end.push(rt, request))
+// Asserts what a push of the next request answers, of which one is left.
+fn assert_push<R: Wait + Abort>(rt: &R, end: &mut SendEnd<'_>, want: Result<u32, PushRefused>) {
+    let request = end.next().expect(rt, "a request is left");
+    assert_eq!(rt; end.push(rt, request), want);
 }
 
-// Pushes the end mark, where no request is left.
-fn push_end<R: Wait>(rt: &R, end: &mut SendEnd<'_>) -> Option<Result<(), EndRefused>> {
-    match end.next() {
-        Some(_) => None,
-        None => Some(end.end(rt)),
-    }
+// Asserts what a push of the end mark answers, where no request is left.
+fn assert_end<R: Wait + Abort>(rt: &R, end: &mut SendEnd<'_>, want: Result<(), EndRefused>) {
+    assert!(rt; end.next().is_none());
+    assert_eq!(rt; end.end(rt), want);
 }
 
-// What a push of the end mark answers, where no request is left and the line is not full, and then a push.
-fn push_past<R: Wait>(
-    rt: &R,
-    end: &mut SendEnd<'_>,
-    request: Request,
-) -> Option<(Result<(), EndRefused>, Result<u32, PushRefused>)> {
-    if end.next().is_some() {
-        return None;
-    }
+// Asserts that the end mark is pushed, where no request is left and the line is not full, and that no request is after
+// it.
+fn assert_end_is_last<R: Wait + Abort>(rt: &R, end: &mut SendEnd<'_>) {
+    assert!(rt; end.next().is_none());
     match end.end(rt) {
-        Err(EndRefused::Full) => None,
-        ended => Some((ended, end.push(rt, request))),
+        Ok(()) => assert_eq!(rt; end.push(rt, LIKE), Err(PushRefused::Ended(LIKE))),
+        Err(refused) => panic!(rt; "{refused:?}"),
+    }
+}
+
+// Asserts that the requests of these numbers are taken.
+fn assert_taken<R: Wait + Abort>(rt: &R, end: &mut TakeEnd<'_>, first: u32, last: u32) {
+    for number in first..=last {
+        let ask = Numbered {
+            number,
+            request: LIKE,
+        };
+        assert_eq!(rt; end.take(rt), Taken::Ask(ask));
     }
 }
 
@@ -109,30 +116,22 @@ fn through<R: Threads + Wait + Sync>(rt: &R, alloc: Global, plan: Vec<Request>) 
 fn holds_sixty_four(rt: HostRuntime) -> Result<(), Fail> {
     let (line, send, take) = Line::new(rt.alloc(), Vec::from_elem(rt.alloc(), LIKE, 66)?)?;
     let (mut send, mut take) = (send.at(&line), take.at(&line));
-    let ask = |number| Taken::Ask(Numbered {
-        number,
-        request: LIKE,
-    });
-    let full = Some(Err(PushRefused::Full(LIKE)));
     for number in 1..=64 {
-        assert_eq!(rt; push_next(&rt, &mut send), Some(Ok(number)));
+        assert_push(&rt, &mut send, Ok(number));
     }
-    assert_eq!(rt; push_next(&rt, &mut send), full);
-    assert_eq!(rt; take.take(&rt), ask(1));
-    assert_eq!(rt; push_next(&rt, &mut send), Some(Ok(65)));
-    assert_eq!(rt; push_next(&rt, &mut send), full);
-    assert_eq!(rt; take.take(&rt), ask(2));
-    assert_eq!(rt; push_next(&rt, &mut send), Some(Ok(66)));
-    assert_eq!(rt; push_end(&rt, &mut send), Some(Err(EndRefused::Full)));
-    assert_eq!(rt; take.take(&rt), ask(3));
-    let past = Err(PushRefused::Ended(LIKE));
-    assert_eq!(rt; push_past(&rt, &mut send, LIKE), Some((Ok(()), past)));
-    assert_eq!(rt; push_end(&rt, &mut send), Some(Err(EndRefused::Ended)));
-    for number in 4..=66 {
-        assert_eq!(rt; take.take(&rt), ask(number));
+    for taken in 1..=2 {
+        assert_push(&rt, &mut send, Err(PushRefused::Full(LIKE)));
+        assert_taken(&rt, &mut take, taken, taken);
+        assert_push(&rt, &mut send, Ok(64 + taken));
     }
-    assert_eq!(rt; take.take(&rt), Taken::End);
-    assert_eq!(rt; take.take(&rt), Taken::End);
+    assert_end(&rt, &mut send, Err(EndRefused::Full));
+    assert_taken(&rt, &mut take, 3, 3);
+    assert_end_is_last(&rt, &mut send);
+    assert_end(&rt, &mut send, Err(EndRefused::Ended));
+    assert_taken(&rt, &mut take, 4, 66);
+    for _ in 0..2 {
+        assert_eq!(rt; take.take(&rt), Taken::End);
+    }
     Ok(())
 }
 
@@ -150,8 +149,8 @@ fn a_refused_growth_is_told(rt: HostRuntime) -> Result<(), Fail> {
     for _ in 0..2 {
         match line_of_one(rt.alloc()) {
             Ok((line, send, take)) => {
-                assert_eq!(rt; push_next(&rt, &mut send.at(&line)), Some(Ok(1)));
-                assert!(rt; matches!(take.at(&line).take(&rt), Taken::Ask(_)));
+                assert_push(&rt, &mut send.at(&line), Ok(1));
+                assert_taken(&rt, &mut take.at(&line), 1, 1);
             }
             Err(AllocError) => refused = true,
         }

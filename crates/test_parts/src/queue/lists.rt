@@ -1,32 +1,66 @@
 use super::LIKE;
 use like_queue::ListInbox;
-use like_requests::{Numbered, Taken};
+use like_requests::{Numbered, Request, Taken};
+use std::process::Abort;
 use std::test::Fail;
 
-#[test]
-fn hands_over_one_request_and_the_end(rt: HostRuntime) -> Result<(), Fail> {
-    let mut inbox = ListInbox::new(Vec::from_slice(rt.alloc(), &[LIKE])?);
-    assert_eq!(rt; inbox.take(), Taken::Nothing);
-    assert!(rt; inbox.open_one());
-    assert_eq!(rt;
-        inbox.take(),
-        Taken::Ask(Numbered {
-            number: 1,
-            request: LIKE
-        })
-    );
-    assert_eq!(rt; inbox.take(), Taken::Nothing);
-    assert!(rt; inbox.open_one());
-    assert_eq!(rt; inbox.take(), Taken::End);
-    assert_eq!(rt; inbox.take(), Taken::End);
-    assert!(rt; !inbox.open_one());
-    Ok(())
+// A call of a list's inbox, with its answer.
+#[derive(Clone, Copy)]
+enum Call {
+    Take(Taken),
+    OpenOne(bool),
+    OpenAll,
+}
+
+// The first request of a list.
+const FIRST: Taken = Taken::Ask(Numbered {
+    number: 1,
+    request: LIKE,
+});
+
+// Lists: the requests of each, and the calls.
+const LISTS: &[(&[Request], &[Call])] = &[
+    (
+        &[LIKE],
+        &[
+            Call::Take(Taken::Nothing),
+            Call::OpenOne(true),
+            Call::Take(FIRST),
+            Call::Take(Taken::Nothing),
+            Call::OpenOne(true),
+            Call::Take(Taken::End),
+            Call::Take(Taken::End),
+            Call::OpenOne(false),
+        ],
+    ),
+    (
+        &[],
+        &[Call::OpenAll, Call::OpenOne(false), Call::Take(Taken::End)],
+    ),
+];
+
+fn lists() -> &'static [(&'static [Request], &'static [Call])] {
+    LISTS
+}
+
+// Makes a call, and asserts its answer.
+fn make(rt: &impl Abort, inbox: &mut ListInbox, call: Call) {
+    match call {
+        Call::Take(want) => assert_eq!(rt; inbox.take(), want),
+        Call::OpenOne(want) => assert_eq!(rt; inbox.open_one(), want),
+        Call::OpenAll => inbox.open_all(),
+    }
 }
 
 #[test]
-fn opens_all_at_once(rt: HostRuntime) {
-    let mut inbox = ListInbox::new(Vec::new(rt.alloc()));
-    inbox.open_all();
-    assert!(rt; !inbox.open_one());
-    assert_eq!(rt; inbox.take(), Taken::End);
+fn hands_over_requests_and_the_end(rt: HostRuntime) -> Result<(), Fail> {
+    for (plan, calls) in lists() {
+        let plan = Vec::from_slice(rt.alloc(), plan)?;
+        assert!(rt; plan.len() <= 1);
+        let mut inbox = ListInbox::new(plan);
+        for call in *calls {
+            make(&rt, &mut inbox, *call);
+        }
+    }
+    Ok(())
 }

@@ -15,7 +15,7 @@ use std::process::Abort;
 use std::test::Fail;
 
 /// A step of a script, with its answer.
-#[derive(Clone, Copy, Debug)]
+#[derive(Clone, Copy)]
 pub enum Step {
     /// A turn of the coordinator.
     Coord(CoordTurn),
@@ -49,8 +49,8 @@ pub fn board_of(
     Board::new(alloc, setup.workers, counts.as_slice(), marks.as_slice())
 }
 
-/// The workers of a run with one submitter, in order, which note their additions or do not.
-pub fn players_of<'a>(
+// The workers of a run with one submitter, in order, which note their additions or do not.
+fn players_of<'a>(
     alloc: Global,
     setup: &Setup,
     plan: &'a [Request],
@@ -72,7 +72,7 @@ pub fn players_of<'a>(
 }
 
 impl<'a> Play<'a> {
-    /// The start of a run with one submitter.
+    /// The start of a run with one submitter, whose workers note their additions or do not.
     pub fn new(
         alloc: Global,
         setup: &Setup,
@@ -80,6 +80,7 @@ impl<'a> Play<'a> {
         board: &'a Board,
         coord: CoordSeat,
         seats: Vec<WorkerSeat>,
+        notes: bool,
     ) -> Result<Play<'a>, Fail>
         requires within { IsWithinLimits setup.now (plan.now ∷ []) }
         requires coord { coord_board coord ≡ board_id board.now }
@@ -94,7 +95,7 @@ impl<'a> Play<'a> {
         Ok(Play {
             board,
             coordinator,
-            players: players_of(alloc, setup, plan, board, seats, true)?,
+            players: players_of(alloc, setup, plan, board, seats, notes)?,
         })
     }
 

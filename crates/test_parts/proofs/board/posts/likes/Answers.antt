@@ -1,5 +1,5 @@
 use Rattle.test_parts.proofs.FirstAdds.{may_like}
-use Rattle.test_parts.proofs.board.posts.like.Goals as goal
+use Rattle.test_parts.proofs.board.posts.likes.Goals as goal
 
 pub add-requires : goal.add-requires
 add-requires g c =

@@ -1,0 +1,391 @@
+//! The turns of the worked examples as data.
+use super::gates::Call;
+use super::gates::Call::{Phase, Run};
+use super::play::Step;
+use super::play::Step::{Coord, Worker};
+use like_requests::{Op, PageRef, Request};
+use like_roles::{Added, CoordTurn, Ran, Reply, Took, Turn};
+
+/// A run with two users and one submitter, turn by turn, and what its first worker has done at the end.
+#[derive(Clone, Copy)]
+pub struct Scene {
+    pub name: &'static str,
+    pub workers: u32,
+    pub stash: u32,
+    pub turns: u32,
+    pub pages: &'static str,
+    /// Whether the workers note their additions.
+    pub notes: bool,
+    pub plan: &'static [Request],
+    /// The parts of the run's steps, with the answer of each.
+    pub parts: &'static [&'static [Step]],
+    /// The calls of the gate.
+    pub calls: &'static [Call],
+    /// The last phase that the coordinator saw.
+    pub phase: u32,
+    pub taken: &'static [Took],
+    pub ran: &'static [Ran],
+    pub adds: &'static [Added],
+    /// Users of the first worker, with the page that each liked last.
+    pub last: &'static [(u32, Option<u32>)],
+}
+
+/// The scenes. A function that takes them from here has none of them in its proof.
+pub fn scenes() -> &'static [Scene] {
+    SCENES
+}
+
+// A request of user 0.
+macro_rules! ask {
+    ($op:ident, $page:literal) => {
+        Request {
+            op: Op::$op,
+            user: 0,
+            page: PageRef::Known($page),
+        }
+    };
+}
+
+// Submitter 0's request of this number, taken in a phase.
+macro_rules! took {
+    ($phase:literal, $number:literal) => {
+        Took {
+            phase: $phase,
+            submitter: 0,
+            number: $number,
+        }
+    };
+}
+
+// The same, run in a phase: a like, and a look at this last like and count, which came out of the stash or did not.
+macro_rules! liked {
+    ($phase:literal, $number:literal) => {
+        Ran {
+            phase: $phase,
+            submitter: 0,
+            number: $number,
+            stashed: false,
+            reply: Reply::Liked,
+        }
+    };
+}
+
+macro_rules! seen {
+    ($phase:literal, $number:literal, $stashed:literal, $last:expr, $count:literal) => {
+        Ran {
+            phase: $phase,
+            submitter: 0,
+            number: $number,
+            stashed: $stashed,
+            reply: Reply::Seen {
+                last: $last,
+                count: $count,
+            },
+        }
+    };
+}
+
+// An addition of likes to a page in a phase, when so many requests had run and its count was this.
+macro_rules! added {
+    ($page:literal, $phase:literal, $at:literal, $old:literal, $likes:literal) => {
+        Added {
+            page: $page,
+            phase: $phase,
+            at: $at,
+            old: $old,
+            n: $likes,
+        }
+    };
+}
+
+// The end of a joined phase, where worker 0 is the only one.
+const TO_SPLIT: &[Step] = &[
+    Coord(CoordTurn::Announced),
+    Worker(0, Turn::Acknowledged),
+    Coord(CoordTurn::Released),
+];
+
+// The end of a split phase, where worker 0 is the only one.
+const TO_JOINED: &[Step] = &[
+    Coord(CoordTurn::Announced),
+    Worker(0, Turn::Reported),
+    Coord(CoordTurn::Released),
+];
+
+// The steps from the end of phase 2 on, in which everything was run.
+const ROUNDS: &[Step] = &[
+    Coord(CoordTurn::Announced),
+    Worker(0, Turn::Acknowledged),
+    Coord(CoordTurn::Released),
+    Worker(0, Turn::TookEnd),
+    Coord(CoordTurn::Announced),
+    Worker(0, Turn::Reported),
+    Coord(CoordTurn::Released),
+    Worker(0, Turn::Retired),
+    Coord(CoordTurn::Ended),
+];
+
+// A joined phase in which worker 0 comes to the end mark, and the run ends.
+const LAST_PHASE: &[Step] = &[
+    Worker(0, Turn::TookEnd),
+    Coord(CoordTurn::Announced),
+    Worker(0, Turn::Retired),
+    Coord(CoordTurn::Ended),
+];
+
+// A worker with a stash for 256 looks, which likes page 0 last; what else a scene names stands in it.
+const LONE: Scene = Scene {
+    name: "",
+    workers: 1,
+    stash: 256,
+    turns: 0,
+    pages: "",
+    notes: true,
+    plan: &[],
+    parts: &[],
+    calls: &[],
+    phase: 0,
+    taken: &[],
+    ran: &[],
+    adds: &[],
+    last: &[(0, Some(0))],
+};
+
+const SCENES: &[Scene] = &[
+    Scene {
+        name: "splits_and_stashes",
+        pages: "name,count,split\na,10,yes\n",
+        plan: &[ask!(Like, 0), ask!(Look, 0)],
+        parts: &[
+            TO_SPLIT,
+            &[Worker(0, Turn::Ran), Worker(0, Turn::Stashed)],
+            TO_JOINED,
+            &[Worker(0, Turn::Ran)],
+            ROUNDS,
+        ],
+        calls: &[
+            Phase(0, 0),
+            Phase(0, 1),
+            Run(0, 0, 1),
+            Phase(0, 2),
+            Run(0, 0, 2),
+            Phase(0, 3),
+            Phase(0, 4),
+        ],
+        phase: 4,
+        taken: &[took!(1, 1), took!(1, 2)],
+        ran: &[liked!(1, 1), seen!(2, 2, true, Some(0), 11)],
+        adds: &[added!(0, 1, 1, 10, 1)],
+        last: &[(0, Some(0)), (1, None)],
+        ..LONE
+    },
+    Scene {
+        name: "stashes_and_then_likes",
+        pages: "name,count,split\na,5,yes\nb,0,no\n",
+        plan: &[ask!(Look, 0), ask!(Like, 1)],
+        parts: &[
+            TO_SPLIT,
+            &[Worker(0, Turn::Stashed), Worker(0, Turn::Ran)],
+            TO_JOINED,
+            &[Worker(0, Turn::Ran)],
+            ROUNDS,
+        ],
+        calls: &[
+            Phase(0, 0),
+            Phase(0, 1),
+            Run(0, 0, 2),
+            Phase(0, 2),
+            Run(0, 0, 1),
+            Phase(0, 3),
+            Phase(0, 4),
+        ],
+        phase: 4,
+        taken: &[took!(1, 1), took!(1, 2)],
+        ran: &[liked!(1, 2), seen!(2, 1, true, Some(1), 5)],
+        adds: &[added!(1, 1, 0, 0, 1)],
+        last: &[(0, Some(1))],
+        ..LONE
+    },
+    Scene {
+        name: "idles_with_a_full_stash",
+        stash: 1,
+        pages: "name,count,split\na,0,yes\n",
+        plan: &[ask!(Look, 0), ask!(Look, 0)],
+        parts: &[
+            TO_SPLIT,
+            &[Worker(0, Turn::Stashed), Worker(0, Turn::Idle)],
+            TO_JOINED,
+            &[Worker(0, Turn::Ran), Worker(0, Turn::Ran)],
+            ROUNDS,
+        ],
+        calls: &[
+            Phase(0, 0),
+            Phase(0, 1),
+            Phase(0, 2),
+            Run(0, 0, 1),
+            Run(0, 0, 2),
+            Phase(0, 3),
+            Phase(0, 4),
+        ],
+        phase: 4,
+        taken: &[took!(1, 1), took!(2, 2)],
+        ran: &[seen!(2, 1, true, None, 0), seen!(2, 2, false, None, 0)],
+        last: &[(0, None)],
+        ..LONE
+    },
+    Scene {
+        name: "runs_unsplit_pages_in_a_split_phase",
+        pages: "name,count,split\na,7,no\n",
+        plan: &[ask!(Like, 0), ask!(Look, 0)],
+        parts: &[
+            TO_SPLIT,
+            &[Worker(0, Turn::Ran), Worker(0, Turn::Ran)],
+            TO_JOINED,
+            LAST_PHASE,
+        ],
+        calls: &[
+            Phase(0, 0),
+            Phase(0, 1),
+            Run(0, 0, 1),
+            Run(0, 0, 2),
+            Phase(0, 2),
+        ],
+        phase: 2,
+        taken: &[took!(1, 1), took!(1, 2)],
+        ran: &[liked!(1, 1), seen!(1, 2, false, Some(0), 8)],
+        adds: &[added!(0, 1, 0, 7, 1)],
+        ..LONE
+    },
+    Scene {
+        name: "runs_beside_idle_workers",
+        workers: 4,
+        pages: "name,count,split\na,0,yes\n",
+        plan: &[ask!(Like, 0)],
+        parts: &[
+            &[
+                Coord(CoordTurn::Announced),
+                Worker(0, Turn::Acknowledged),
+                Worker(1, Turn::Retired),
+                Worker(2, Turn::Retired),
+                Worker(3, Turn::Retired),
+                Coord(CoordTurn::Released),
+                Worker(0, Turn::Ran),
+                Worker(1, Turn::Retired),
+            ],
+            TO_JOINED,
+            LAST_PHASE,
+        ],
+        calls: &[
+            Phase(0, 0),
+            Phase(1, 0),
+            Phase(2, 0),
+            Phase(3, 0),
+            Phase(0, 1),
+            Run(0, 0, 1),
+            Phase(0, 2),
+        ],
+        phase: 2,
+        taken: &[took!(1, 1)],
+        ran: &[liked!(1, 1)],
+        adds: &[added!(0, 1, 1, 0, 1)],
+        ..LONE
+    },
+    // One turn is counted in each phase.
+    Scene {
+        name: "counts_turns_in_each_phase",
+        turns: 1,
+        pages: "name,count,split\na,0,yes\n",
+        plan: &[ask!(Like, 0)],
+        parts: &[&[
+            Coord(CoordTurn::Counted),
+            Coord(CoordTurn::Announced),
+            Coord(CoordTurn::Waiting),
+            Worker(0, Turn::Acknowledged),
+            Worker(0, Turn::Waiting),
+            Coord(CoordTurn::Released),
+            Worker(0, Turn::Ran),
+            Coord(CoordTurn::Counted),
+            Coord(CoordTurn::Announced),
+            Worker(0, Turn::Reported),
+            Coord(CoordTurn::Released),
+            Worker(0, Turn::TookEnd),
+            Worker(0, Turn::Retired),
+            Coord(CoordTurn::Ended),
+        ]],
+        calls: &[Phase(0, 0), Phase(0, 1), Run(0, 0, 1), Phase(0, 2)],
+        phase: 2,
+        taken: &[took!(1, 1)],
+        ran: &[liked!(1, 1)],
+        adds: &[added!(0, 1, 1, 0, 1)],
+        ..LONE
+    },
+    Scene {
+        name: "adds_at_each_like_of_an_unsplit_page",
+        pages: "name,count,split\na,10,no\n",
+        plan: &[ask!(Like, 0), ask!(Like, 0), ask!(Like, 0)],
+        parts: &[&[
+            Worker(0, Turn::Ran),
+            Worker(0, Turn::Ran),
+            Worker(0, Turn::Ran),
+            Worker(0, Turn::TookEnd),
+            Worker(0, Turn::Retired),
+            Coord(CoordTurn::Ended),
+        ]],
+        calls: &[Phase(0, 0), Run(0, 0, 1), Run(0, 0, 2), Run(0, 0, 3)],
+        taken: &[took!(0, 1), took!(0, 2), took!(0, 3)],
+        ran: &[liked!(0, 1), liked!(0, 2), liked!(0, 3)],
+        adds: &[
+            added!(0, 0, 0, 10, 1),
+            added!(0, 0, 1, 11, 1),
+            added!(0, 0, 2, 12, 1),
+        ],
+        ..LONE
+    },
+    Scene {
+        name: "adds_all_likes_of_a_split_page_at_once",
+        pages: "name,count,split\na,10,yes\n",
+        plan: &[ask!(Like, 0), ask!(Like, 0), ask!(Like, 0)],
+        parts: &[
+            TO_SPLIT,
+            &[
+                Worker(0, Turn::Ran),
+                Worker(0, Turn::Ran),
+                Worker(0, Turn::Ran),
+            ],
+            TO_JOINED,
+            ROUNDS,
+        ],
+        calls: &[
+            Phase(0, 0),
+            Phase(0, 1),
+            Run(0, 0, 1),
+            Run(0, 0, 2),
+            Run(0, 0, 3),
+            Phase(0, 2),
+            Phase(0, 3),
+            Phase(0, 4),
+        ],
+        phase: 4,
+        taken: &[took!(1, 1), took!(1, 2), took!(1, 3)],
+        ran: &[liked!(1, 1), liked!(1, 2), liked!(1, 3)],
+        adds: &[added!(0, 1, 3, 10, 3)],
+        ..LONE
+    },
+    // The worker runs its requests as ever, and there was no room for additions.
+    Scene {
+        name: "notes_no_additions_unasked",
+        pages: "name,count,split\na,10,no\n",
+        notes: false,
+        plan: &[ask!(Like, 0), ask!(Like, 0)],
+        parts: &[&[
+            Worker(0, Turn::Ran),
+            Worker(0, Turn::Ran),
+            Worker(0, Turn::TookEnd),
+            Worker(0, Turn::Retired),
+        ]],
+        calls: &[Phase(0, 0), Run(0, 0, 1), Run(0, 0, 2)],
+        taken: &[took!(0, 1), took!(0, 2)],
+        ran: &[liked!(0, 1), liked!(0, 2)],
+        ..LONE
+    },
+];

@@ -1,0 +1,130 @@
+//! The calls of slices and stashes as data, each with its answer.
+use like_requests::{Numbered, Op, PageRef, Request};
+use like_tables::Held;
+
+#[derive(Clone, Copy)]
+pub enum OnSlice {
+    /// A like of this page.
+    Add(u32),
+    /// The likes of this page.
+    Take(u32, u64),
+    /// The next page that is liked, from this one on.
+    Next(u32, Option<u32>),
+    Total(u64),
+    IsEmpty(bool),
+}
+
+#[derive(Clone, Copy)]
+pub enum OnStash {
+    /// A look of this submitter.
+    Push(u32),
+    Pop(Option<Held>),
+    IsFull(bool),
+    Len(u32),
+}
+
+/// Slices: how many pages each has, and its calls.
+pub fn slices() -> &'static [(u32, &'static [OnSlice])] {
+    SLICES
+}
+
+/// Stashes: how many looks each has room for, and its calls.
+pub fn stashes() -> &'static [(u32, &'static [OnStash])] {
+    STASHES
+}
+
+/// A submitter's first look, of user 0.
+pub fn held_of(submitter: u32) -> Held {
+    Held { submitter, ..HELD }
+}
+
+const HELD: Held = Held {
+    submitter: 0,
+    ask: Numbered {
+        number: 1,
+        request: Request {
+            op: Op::Look,
+            user: 0,
+            page: PageRef::Known(0),
+        },
+    },
+};
+
+// The pop of a submitter's first look.
+macro_rules! pop {
+    ($submitter:literal) => {
+        OnStash::Pop(Some(Held {
+            submitter: $submitter,
+            ..HELD
+        }))
+    };
+}
+
+const SLICES: &[(u32, &[OnSlice])] = &[
+    (
+        2,
+        &[
+            OnSlice::IsEmpty(true),
+            OnSlice::Add(1),
+            OnSlice::Add(1),
+            OnSlice::Add(1),
+            OnSlice::Total(3),
+            OnSlice::Take(1, 3),
+            OnSlice::Take(1, 0),
+            OnSlice::IsEmpty(true),
+        ],
+    ),
+    // A slice is walked by words of 64 pages.
+    (
+        130,
+        &[
+            OnSlice::Next(0, None),
+            OnSlice::Add(0),
+            OnSlice::Add(64),
+            OnSlice::Add(129),
+            OnSlice::Add(64),
+            OnSlice::Next(0, Some(0)),
+            OnSlice::Next(1, Some(64)),
+            OnSlice::Next(65, Some(129)),
+            OnSlice::Take(64, 2),
+            OnSlice::Next(1, Some(129)),
+            OnSlice::Next(130, None),
+        ],
+    ),
+    // The most pages.
+    (
+        1_024,
+        &[
+            OnSlice::IsEmpty(true),
+            OnSlice::Add(1_023),
+            OnSlice::Take(1_023, 1),
+        ],
+    ),
+];
+
+const STASHES: &[(u32, &[OnStash])] = &[
+    (
+        1,
+        &[
+            OnStash::IsFull(false),
+            OnStash::Push(0),
+            OnStash::IsFull(true),
+            OnStash::Len(1),
+            pop!(0),
+            OnStash::Pop(None),
+        ],
+    ),
+    // A stash goes round.
+    (
+        2,
+        &[
+            OnStash::Push(0),
+            OnStash::Push(1),
+            pop!(0),
+            OnStash::Push(2),
+            pop!(1),
+            pop!(2),
+            OnStash::Pop(None),
+        ],
+    ),
+];
