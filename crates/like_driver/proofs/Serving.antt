@@ -1,5 +1,5 @@
 -- What the program has done for its words, by what its parts answered.
-use Rattle.std.proofs.Common.{◌≡◌, ◌==◌, ℕ, List, [], ◌∷◌, Option, Result, Ok, Err, IfErr, IfOk, ap, false, inl, inr, length, map, refl, subst, sym, true≢false}
+use Rattle.std.proofs.Common.{◌≡◌, ◌==◌, ℕ, List, [], ◌∷◌, Option, Result, Ok, Err, IfErr, IfOk, ap, false, length, map, refl, subst, sym, true≢false}
 use Rattle.std.specs.Prelude.{◌⊎◌}
 use Rattle.like_words.specs.Asked.{Asks, AsksForHelp, Words}
 use Rattle.like_files.specs.Faults.{IsBeforeOutput}

@@ -13,7 +13,9 @@ pub mod stopwatch;
 use crate::example::replay_example;
 use crate::program::fault::{ProgramFault, with_options};
 use crate::program::stopwatch::Stopwatch;
-use like_files::{DriverFault, Opened, Progress, open_files, replay_files_summed, run_files_summed};
+use like_files::{
+    DriverFault, Opened, Progress, open_files, replay_files_summed, run_files_summed,
+};
 use like_replies::Summary;
 use like_words::{Asked, Options, parse};
 use std::alloc::Global;

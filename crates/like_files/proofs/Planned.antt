@@ -1,6 +1,6 @@
 -- The plans that the request files give, one file after the other.
-use Rattle.std.proofs.Common.{◌≡◌, ℕ, zero, suc, ◌+◌, ◌<◌, List, [], ◌∷◌, ◌++◌, length, map, get_or, take, min, Option, None, Some, Result, Ok, Err, MatchResult, Vec, Global, refl, sym, ap, ◌∙◌, subst, inl, inr, arith, option_map}
-use Rattle.std.proofs.lemmas.List.{length-append, length-map, map-append, take-map, take_more}
+use Rattle.std.proofs.Common.{◌≡◌, ℕ, zero, suc, ◌<◌, List, [], ◌∷◌, ◌++◌, length, map, get_or, take, min, Option, None, Some, Result, Ok, Err, MatchResult, Vec, Global, refl, sym, ap, ◌∙◌, subst, inl, inr, arith, option_map}
+use Rattle.std.proofs.lemmas.List.{length-map, map-append, take-map}
 use Rattle.std.proofs.lemmas.Option.{get_or_from_slice_get, slice_get-map, slice_get_read, slice_get_within}
 use Rattle.std.proofs.lemmas.Slice.Zip.{AllZip-long, AllZip-right}
 use Rattle.std.specs.List.{AllZip, slice_get, slice_index_or}

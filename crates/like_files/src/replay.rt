@@ -37,7 +37,15 @@ pub fn replay_files<R: Read + Drop, W: Write>(
         IfErr result (IsReplayFilesFault options.now inputs) }
     ensures untouched { IfErr result (λ fault. IsBeforeOutput fault → out.new ≡ out.old) }
 {
-    replay_files_summed(alloc, options, pages, requests, script, out, &mut NoProgress)?;
+    replay_files_summed(
+        alloc,
+        options,
+        pages,
+        requests,
+        script,
+        out,
+        &mut NoProgress,
+    )?;
     Ok(())
 }
 

@@ -43,12 +43,7 @@ pub fn run_files<T: Threads + Wait + Sync, R: Read + Drop + Send, W: Write>(
 }
 
 /// The same, with the report's summary where the options ask for one, while `progress` hears of each part.
-pub fn run_files_summed<
-    T: Threads + Wait + Sync,
-    R: Read + Drop + Send,
-    W: Write,
-    P: Progress,
->(
+pub fn run_files_summed<T: Threads + Wait + Sync, R: Read + Drop + Send, W: Write, P: Progress>(
     rt: &T,
     alloc: Global,
     options: &Options,

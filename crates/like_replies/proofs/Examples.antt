@@ -1,5 +1,5 @@
 -- The rows of a worked example: three likes by two users of whom one has a last like, and a hot page.
-use Rattle.std.proofs.Common.{◌≡◌, ℕ, [], ◌∷◌, None, Some, false, refl}
+use Rattle.std.proofs.Common.{◌≡◌, [], ◌∷◌, None, Some, false, refl}
 use Rattle.std.specs.Prelude.{codes, decimal}
 use Rattle.like_requests.specs.Pages.{Page}
 use Rattle.like_roles.specs.declared.reply.Reply.TheVariants.{Liked}

@@ -1,6 +1,5 @@
 -- How many replies a report has of one answer: no more than there are.
 use Rattle.std.proofs.Common.{ℕ, ◌+◌, ◌<◌, ◌≤◌, ◌^◌, Bool, true, false, cond, List, [], ◌∷◌, length, arith}
-use Rattle.std.specs.Prelude.{count_by}
 use Rattle.std.specs.List.{fold}
 use Rattle.std.specs.Str.{bytes_eq}
 use Rattle.like_collection.specs.declared.answer.Answer.{Answer}

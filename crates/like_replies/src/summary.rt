@@ -81,14 +81,20 @@ fn answered(replies: &Replies, word: &str) -> u64
     requires { answered word.now replies.now < 2 ^ 64 }
     ensures { result ≡ answered word.now replies.now }
 {
-    replies.rows.iter().map(|row| answered_in(row, word) as u64).sum()
+    replies
+        .rows
+        .iter()
+        .map(|row| answered_in(row, word) as u64)
+        .sum()
 }
 
 // How many of a submitter's replies have this word as their answer.
 fn answered_in(row: &[Answer], word: &str) -> usize
     ensures { result ≡ answered_in word.now row.now }
 {
-    row.iter().filter(|answer| word_of(answer.reply) == word).count()
+    row.iter()
+        .filter(|answer| word_of(answer.reply) == word)
+        .count()
 }
 
 // The word of an answer. No accepted request is refused.

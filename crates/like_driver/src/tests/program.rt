@@ -101,8 +101,14 @@ const STARTS: &[Start] = &[
         test: "writes_a_summary",
         files: &[
             ("summary-p.csv", PAGES),
-            ("summary-0.csv", "op,user,page\nlike,0,a\nlook,0,a\nlike,0,a\nlook,1,a\n"),
-            ("summary-1.csv", "op,user,page\nlook,3,a\nlike,9,a\nlike,9,a\nlook,1,b\n"),
+            (
+                "summary-0.csv",
+                "op,user,page\nlike,0,a\nlook,0,a\nlike,0,a\nlook,1,a\n",
+            ),
+            (
+                "summary-1.csv",
+                "op,user,page\nlook,3,a\nlike,9,a\nlike,9,a\nlook,1,b\n",
+            ),
         ],
         words: "replay --summary --users 3 summary-p.csv summary-0.csv summary-1.csv",
         out: Written::End("page,0,,,,a,12\nuser,0,,,,a,\n"),

@@ -1,5 +1,5 @@
 -- How the text of rows grows, and what was written of it.
-use Rattle.std.proofs.Common.{◌≡◌, ℕ, suc, ◌+◌, cond, refl, List, [], ◌∷◌, ◌++◌, length, map, Option, sym, ap, ◌∙◌, arith, append_assoc, append-nil, zero-add, get_or, subst, ◌<◌, All}
+use Rattle.std.proofs.Common.{◌≡◌, ℕ, ◌+◌, cond, refl, List, [], ◌∷◌, ◌++◌, length, map, Option, sym, ap, ◌∙◌, arith, append_assoc, append-nil, zero-add, get_or, subst, ◌<◌, All}
 use Rattle.std.proofs.KnownBytes.{Appends-trans}
 use Rattle.std.proofs.lemmas.Grind.{flat_map-append}
 use Rattle.std.proofs.lemmas.List.{length-map, map-append, map-id}

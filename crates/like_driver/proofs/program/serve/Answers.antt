@@ -3,7 +3,7 @@ use Rattle.std.proofs.lemmas.Result.{err_from_is_err_and}
 use Rattle.like_words.specs.Asked.{Words}
 use Rattle.like_words.specs.declared.asked.Asked.TheVariants.{Run, Replay, Help}
 use Rattle.like_driver.specs.declared.program.fault.ProgramFault.TheVariants as program
-use Rattle.like_driver.proofs.Serving.{files-fault, files-served, help-fault, not_served, served, some-words}
+use Rattle.like_driver.proofs.Serving.{files-fault, files-served, not_served, served, some-words}
 use Rattle.like_driver.proofs.program.serve.Goals as goal
 
 pub returns-in_err-options-clause-fault : goal.returns-in_err-options-clause-fault
@@ -41,16 +41,9 @@ returns-in-Replay-clause-fault g c =
     let asks = rw c.in-Replay.is at c.in_ok-options.ensures.asked in
     rw c.with_options-in-Replay.ensures (files-fault g.W.Write.contents words c.in-Replay.options c.replay_named-done.result c.args.out.now c.replay_named-done.new.out some (inr asks) c.replay_named-done.ensures.untouched)
 
-pub returns-in-Help-clause-served : goal.returns-in-Help-clause-served
-returns-in-Help-clause-served g c =
+pub returns-in_ok-show-in-Help-clause-served : goal.returns-in_ok-show-in-Help-clause-served
+returns-in_ok-show-in-Help-clause-served g c =
     let words : Words = map string_bytes c.args.words.now in
     let some = some-words string_bytes c.args.words.now (sym c.is_empty.ensures ∙ c.if-is_empty.false) in
     let asks = rw c.in-Help.is at c.in_ok-options.ensures.asked in
-    served words _ _ (Help c.in-Help.text) None some asks (rw c.deref.ensures at c.in_ok-show.ensures, refl)
-
-pub returns-in-Help-clause-fault : goal.returns-in-Help-clause-fault
-returns-in-Help-clause-fault g c =
-    let words : Words = map string_bytes c.args.words.now in
-    let some = some-words string_bytes c.args.words.now (sym c.is_empty.ensures ∙ c.if-is_empty.false) in
-    let asks = rw c.in-Help.is at c.in_ok-options.ensures.asked in
-    help-fault words _ _ c.show.result some asks c.show.ensures.fault
+    served words _ _ (Help c.in-Help.text) None some asks (rw c.deref.ensures at c.in_ok-show-in-Help.ensures.shown, refl)
