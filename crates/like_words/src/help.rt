@@ -14,10 +14,10 @@ Runs the requests on one thread, in rounds, and prints the same report
 every time: for tests and for comparing.";
 
 pub const WORKERS: &str = "\
-Number of workers, 1 to 16. File s goes to worker s mod N.
-Workers beyond the number of files stay idle. If N is too
-small, each worker has more to do, and a replay may run
-out of rounds";
+Number of workers, 1 to 16. File s goes to worker s mod
+N. Workers beyond the number of files stay idle. If N is
+too small, each worker has more to do, and a replay may
+run out of rounds";
 
 pub const USERS: &str = "\
 Number of users, 1 to 1000000, numbered from 0. Requests
@@ -25,17 +25,17 @@ of users from U on are answered unknown-user and are not
 counted";
 
 pub const STASH: &str = "\
-How many looks may wait with a worker, 1 to 4096. A worker
-with a full stash takes no request until the phase ends:
-that costs time, but no answer is lost";
+How many looks may wait with a worker, 1 to 4096. A
+worker with a full stash takes no request until the phase
+ends: that costs time, but no answer is lost";
 
 pub const TURNS: &str = "\
-How many of its turns the coordinator counts in a phase, 0
-to 1000000; a replay has one in each round. If T is small,
-changes of phase take more of the time. If it is large,
-looks wait longer, and files that are done within T turns
-are done in phase 0, where no page is split and no look
-waits";
+How many of its turns the coordinator counts in a phase,
+0 to 1000000; a replay has one in each round. If T is
+small, changes of phase take more of the time. If it is
+large, looks wait longer, and files that are done within
+T turns are done in phase 0, where no page is split and
+no look waits";
 
 pub const HOT: &str = "\
 How many likes make a page hot, 1 to 1000000. Before each
@@ -43,8 +43,8 @@ split phase, those of the first 64 pages that got H likes
 or more in the last two phases become hot, and are split
 as if PAGES said so. After 1024 phases with hot pages, no
 page is hot any more. If H is small, looks at many pages
-wait. Without this option, only PAGES says which pages are
-split";
+wait. Without this option, only PAGES says which pages
+are split";
 
 pub const PLACES: &str = "\
 Appends a row to the report for each addition to a page's
