@@ -26,8 +26,9 @@ counted";
 
 pub const STASH: &str = "\
 How many looks may wait with a worker, 1 to 4096. A
-worker with a full stash takes no request until the phase
-ends: that costs time, but no answer is lost";
+worker with a full stash takes no request until the
+phase ends: that costs time, but no answer is
+lost";
 
 pub const TURNS: &str = "\
 How many of its turns the coordinator counts in a phase,
