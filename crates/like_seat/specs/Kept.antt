@@ -1,0 +1,31 @@
+-- How a seat is kept.
+use Rattle.std.specs.Prelude.{◌≡◌, ℕ, ◌≤◌, Bool, vec_len}
+use Rattle.like_core.specs.Limits.{max_pages}
+use Rattle.like_core.specs.Phase.{is_marked, split}
+use Rattle.like_core.specs.PhaseMasks.{mask_of, HasMask}
+use Rattle.like_core.specs.Post.{PostView}
+use Rattle.like_core.specs.WorkerState.{RunsSplit, phase_of}
+use Rattle.like_seat.specs.SeatView.{IsSeat, SeatView}
+use Rattle.like_seat.specs.declared.tables.Tables.{Tables}
+
+-- the seat of a post and what is kept beside it
+abbrev pub view_of : {W : Type 0} → PostView → Tables W → SeatView W
+view_of post t = record { post = post; held = t.held; slice = t.slice; last = t.last }
+
+-- whether the page is split in the phase that the worker runs, as its tables have it
+abbrev pub is_split_by : {W : Type 0} → Tables W → ℕ → Bool
+is_split_by t page = split (is_marked t.marks.items) (λ _. t.hot) (phase_of t.state) page
+
+-- in a split phase its post has read the phase's mask, which is this
+abbrev pub KnowsHot : PostView → ℕ → Type 0
+KnowsHot post hot =
+    RunsSplit post.state
+    → HasMask (phase_of post.state) post.masks × (hot ≡ mask_of post.masks (phase_of post.state))
+
+-- the tables are those of this post
+pub record IsKept {W : Type 0} (post : PostView) (t : Tables W) : Type 0 where
+  pub marks : post.marks ≡ t.marks.items
+  pub few_pages : vec_len t.marks ≤ max_pages
+  pub state : post.state ≡ t.state
+  pub hot : KnowsHot post t.hot
+  pub seat : IsSeat (view_of post t)

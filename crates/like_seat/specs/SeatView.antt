@@ -1,0 +1,39 @@
+-- What a worker's seat is, as contracts see it.
+use Rattle.std.specs.Prelude.{◌≡◌, ◌≢◌, ℕ, ◌+◌, ◌≤◌, true, List, length, slice_index, sum}
+use Rattle.like_core.specs.Additions.{all_added}
+use Rattle.like_core.specs.Limits.{max_likes}
+use Rattle.like_core.specs.PhaseMasks.{HasMask}
+use Rattle.like_core.specs.Post.{PostView, pages_of, slices}
+use Rattle.like_core.specs.WorkerState.{RunsSplit, phase_of}
+use Rattle.like_tables.specs.UserTable.{UserTable}
+use Rattle.like_tables.specs.Waiting.{IsWaiting, Waiting}
+
+-- its post; what it holds, which is its stash in a split phase and its backlog in a joined one; its slice, a number for
+-- each page; and the last likes of its users
+pub record SeatView (W : Type 0) : Type 0 where
+  pub post : PostView
+  pub held : Waiting W
+  pub slice : List ℕ
+  pub last : UserTable
+
+-- the phase that it runs or has answered
+abbrev pub phase_at : {W : Type 0} → SeatView W → ℕ
+phase_at s = phase_of s.post.state
+
+-- in a split phase the post has read the phase's mask
+abbrev pub HasPhaseMask : PostView → Type 0
+HasPhaseMask post = RunsSplit post.state → HasMask (phase_of post.state) post.masks
+
+-- a slice that is not empty belongs to a worker that runs a split phase, and has pages that are split in it alone
+abbrev pub IsSliceInSplit : PostView → List ℕ → Type 0
+IsSliceInSplit post slice =
+    (page : ℕ) → slice_index slice page ≢ 0 → RunsSplit post.state × (slices post page ≡ true)
+
+-- what is true of every seat: its slice has a number for each page; what it has added and its slice together are no more
+-- likes than a worker may add; and it holds no more than it has room for
+pub record IsSeat {W : Type 0} (s : SeatView W) : Type 0 where
+  pub sized : length s.slice ≡ pages_of s.post
+  pub masked : HasPhaseMask s.post
+  pub split : IsSliceInSplit s.post s.slice
+  pub few : all_added s.post.additions + sum s.slice ≤ max_likes
+  pub waiting : IsWaiting s.held

@@ -1,0 +1,99 @@
+-- What each step of a seat does to it.
+use Rattle.std.specs.Prelude.{◌≡◌, ℕ, ◌%◌, ◌≤◌, ◌==◌, ◌&&◌, not, if◌then◌else◌, Bool, true, false, List, [], ◌∷◌, ◌++◌, drop, length, replicate, slice_index, slice_set, Option, MatchOption}
+use Rattle.like_core.specs.declared.sight.Sight.{Sight}
+use Rattle.like_core.specs.declared.view.PhaseMask.{PhaseMask}
+use Rattle.like_core.specs.Post.{PostView, IsFresh, added, additions_of, answered, has_read, looked_at, slices}
+use Rattle.like_core.specs.WorkerState.{phase_of, seen}
+use Rattle.like_tables.specs.Liked.{AreUnliked, IsNextLiked}
+use Rattle.like_tables.specs.UserTable.{UserTable, last_of, with_last}
+use Rattle.like_seat.specs.declared.merged.Merged.{Merged}
+use Rattle.like_seat.specs.declared.seen.Seen.{Seen}
+use Rattle.like_seat.specs.SeatView.{SeatView, phase_at}
+
+-- a seat that has done nothing yet: it holds nothing, and its slice is empty
+pub record IsNewSeat {W : Type 0} (post : PostView) (room : ℕ) (last : UserTable) (s : SeatView W)
+    : Type 0 where
+  pub at_post : s.post ≡ post
+  pub held : s.held ≡ record { held = []; capacity = room }
+  pub slice : s.slice ≡ replicate (length post.marks) 0
+  pub last : s.last ≡ last
+
+-- whether who goes from one phase to another enters a split phase
+abbrev pub enters_split : ℕ → ℕ → Bool
+enters_split from to = not (to == from) && (to % 2 == 1)
+
+-- the masks that were read by who went from one phase to another: in a split phase that it entered also that one's,
+-- which is this
+abbrev pub masks_in : List PhaseMask → ℕ → ℕ → ℕ → List PhaseMask
+masks_in masks from to mask =
+    if enters_split from to then record { phase = to; mask = mask } ∷ masks else masks
+
+-- the post after a look: where it enters a split phase it has also read that phase's mask, which is this
+abbrev pub saw_at : PostView → Sight → ℕ → PostView
+saw_at post sight mask = record (looked_at post sight) {
+  masks = masks_in post.masks (phase_of post.state) (phase_of (seen post.state sight)) mask;
+}
+
+-- the seat after a look
+abbrev pub saw : {W : Type 0} → SeatView W → Sight → ℕ → SeatView W
+saw s sight mask = record s { post = saw_at s.post sight mask }
+
+-- it looks, and sees this
+abbrev pub Looks : {W : Type 0} → SeatView W → Sight → SeatView W → Type 0
+Looks s sight after = (mask : ℕ) × (after ≡ saw s sight mask)
+
+-- one more like of a page in the slice
+abbrev pub sliced : {W : Type 0} → SeatView W → ℕ → SeatView W
+sliced s page = record s { slice = slice_set s.slice page (slice_index s.slice page + 1) }
+
+-- n is added to a page's count on the board, which was this before
+abbrev pub with_addition : {W : Type 0} → SeatView W → ℕ → ℕ → ℕ → SeatView W
+with_addition s page old n = record s { post = added s.post page old n }
+
+-- the user's last like is of this page
+abbrev pub liked_last : {W : Type 0} → SeatView W → ℕ → ℕ → SeatView W
+liked_last s user page = record s { last = with_last s.last user page }
+
+-- a user's like of a page is counted, and is the user's last: in the slice, where the page is sliced, else on the board,
+-- where the page's count was the one that is returned
+abbrev pub CountsLike : {W : Type 0} → SeatView W → ℕ → ℕ → Option ℕ → SeatView W → Type 0
+CountsLike s user page old after =
+    MatchOption old
+    ((slices s.post page ≡ true) × (after ≡ liked_last (sliced s page) user page))
+    (λ count. (slices s.post page ≡ false)
+    × (after ≡ liked_last (with_addition s page count 1) user page))
+
+-- a page is read for a user's look: the user's last like is shown, and the page's count
+pub record Reads {W : Type 0} (s : SeatView W) (user page : ℕ) (shown : Seen) (after : SeatView W)
+    : Type 0 where
+  pub last : shown.last ≡ last_of s.last user
+  pub own : additions_of s.post page ≤ shown.count
+  pub read : after ≡ record s { post = has_read s.post page shown.count }
+
+-- one more waits, behind all others
+abbrev pub holding : {W : Type 0} → SeatView W → W → SeatView W
+holding s w = record s { held = record s.held { held = s.held.held ++ w ∷ [] } }
+
+-- without the first that it held
+abbrev pub without_first : {W : Type 0} → SeatView W → SeatView W
+without_first s = record s { held = record s.held { held = drop 1 s.held.held } }
+
+-- a page's likes are added to its count, which was this, and its slice is emptied
+abbrev pub merged_page : {W : Type 0} → SeatView W → ℕ → ℕ → SeatView W
+merged_page s page old =
+    let t = with_addition s page old (slice_index s.slice page) in
+    record t { slice = slice_set s.slice page 0 }
+
+-- a page's likes were merged, all of them
+pub record MergesPage {W : Type 0} (s : SeatView W) (from : ℕ) (m : Merged) (after : SeatView W)
+    : Type 0 where
+  pub next : IsNextLiked s.slice from m.page
+  pub likes : m.likes ≡ slice_index s.slice m.page
+  pub merged : after ≡ merged_page s m.page m.old
+
+-- the next page from one on that has a like is merged, if there is one
+abbrev pub MergesNext : {W : Type 0} → SeatView W → ℕ → Option Merged → SeatView W → Type 0
+MergesNext s from merged after =
+    MatchOption merged
+    (AreUnliked s.slice from (length s.slice) × (after ≡ s))
+    (λ m. MergesPage s from m after)

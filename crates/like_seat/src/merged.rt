@@ -1,0 +1,8 @@
+/// The likes of a page that a seat added to the page's count from its slice.
+#[derive(Clone, Copy, Debug, PartialEq, Eq)]
+pub struct Merged {
+    pub page: u32,
+    /// The page's count before.
+    pub old: u64,
+    pub likes: u64,
+}

@@ -1,0 +1,104 @@
+ghost use Rattle.std.specs.Prelude.{◌≡◌, ◌≤◌, IfErr, IfOk};
+ghost use Rattle.like_core.specs.Limits.{max_pages};
+ghost use Rattle.like_core.specs.Post.{IsFresh, pages_of};
+ghost use Rattle.like_requests.specs.Limits.{max_stash};
+ghost use Rattle.like_seat.specs.SeatView.{IsSeat, phase_at};
+ghost use Rattle.like_seat.specs.Steps.{IsNewSeat};
+
+mod answers;
+mod looks;
+mod merges;
+mod waits;
+
+use crate::tables::Tables;
+use like_core::Post;
+use like_tables::Users;
+use std::alloc::Global;
+use std::marker::Model;
+
+/// A worker's seat: its post at a board, and what it keeps beside it.
+///
+/// `W` is what waits for the next joined phase.
+#[derive(Drop)]
+pub struct Seat<P: Post, W> {
+    post: P,
+    tables: Tables<W>,
+}
+
+impl<P: Post, W> Model for Seat<P, W> {
+    ghost use Rattle.like_seat.specs.SeatView.{SeatView};
+
+    ghost Value = { SeatView W };
+
+    ghost use Rattle.like_seat.specs.Kept.{view_of, IsKept};
+
+    ghost view = { λ s. view_of (P.view s.post) s.tables };
+
+    ghost invariant = { λ s. IsKept (P.view s.post) s.tables };
+}
+
+/// There is no memory for a seat. The post that was passed comes back.
+#[derive(Drop)]
+pub struct NoSeat<P: Post> {
+    pub post: P,
+}
+
+impl<P: Post, W: Copy> Seat<P, W> {
+    /// A seat that has done nothing yet, with these marks of split pages, with room for so many that wait, and with these
+    /// last likes. All its room is made here: its steps take no memory.
+    pub fn new(
+        alloc: Global,
+        post: P,
+        marks: Vec<bool>,
+        room: u32,
+        last: Users,
+    ) -> Result<Seat<P, W>, NoSeat<P>>
+        requires fresh { IsFresh (P.view post) }
+        requires marks { marks.items ≡ (P.view post).marks }
+        requires few_pages { pages_of (P.view post) ≤ max_pages }
+        requires some { 1 ≤ room }
+        requires few { room ≤ max_stash }
+        ensures new { IfOk result (IsNewSeat (P.view post) room last) }
+        ensures seat { IfOk result (λ seat. IsSeat seat) }
+        ensures post { IfErr result (λ refused. refused.post ≡ post) }
+    {
+        match Tables::new(alloc, marks, room, last) {
+            Ok(tables) => Ok(Seat { post, tables }),
+            Err(_) => Err(NoSeat { post }),
+        }
+    }
+
+    /// The phase that it runs or has answered, and 0 once it is gone.
+    pub fn phase(&self) -> u32
+        ensures phase { result ≡ phase_at self.now }
+        ensures seat { IsSeat self.now }
+    {
+        self.tables.phase()
+    }
+
+    /// Its users, with their last likes.
+    pub fn users(&self) -> &Users
+        ensures { result.now ≡ self.now.last }
+    {
+        &self.tables.last
+    }
+
+    /// Leaves the post, whatever is left to do.
+    pub fn leave(self) -> P
+        ensures { P.view result ≡ self.post }
+    {
+        let Seat { post, .. } = self;
+        post
+    }
+
+    /// Takes it apart: its post, and its users' last likes.
+    pub fn finish(self) -> (P, Users)
+        ensures post { P.view result.0 ≡ self.post }
+        ensures last { result.1 ≡ self.last }
+        ensures seat { IsSeat self }
+    {
+        let Seat { post, tables } = self;
+        let Tables { last, .. } = tables;
+        (post, last)
+    }
+}

@@ -1,0 +1,56 @@
+ghost use Rattle.std.specs.Prelude.{◌≡◌, ◌+◌, ◌<◌, false, IsTrue, sum};
+ghost use Rattle.like_core.specs.Additions.{all_added};
+ghost use Rattle.like_core.specs.Limits.{max_likes};
+ghost use Rattle.like_core.specs.Post.{pages_of, slices};
+ghost use Rattle.like_core.specs.WorkerState.{IsRunning};
+ghost use Rattle.like_tables.specs.Share.{owns};
+ghost use Rattle.like_seat.specs.SeatView.{IsSeat};
+ghost use Rattle.like_seat.specs.Steps.{CountsLike, Reads};
+
+use crate::seat::Seat;
+use crate::seen::Seen;
+use like_core::Post;
+
+impl<P: Post, W: Copy> Seat<P, W> {
+    /// Whether a page is split in the phase that it runs.
+    pub fn is_sliced(&self, page: u32) -> bool
+        requires running { IsRunning self.now.post.state }
+        requires there { page < pages_of self.now.post }
+        ensures { result ≡ slices self.now.post page }
+    {
+        self.tables.is_sliced(page)
+    }
+
+    /// Counts a user's like of a page, and remembers it as the user's last. Of a sliced page it goes into the slice. Else
+    /// it is added to the page's count, and the count before comes back.
+    pub fn count_like(&mut self, user: u32, page: u32) -> Option<u64>
+        requires running { IsRunning self.old.post.state }
+        requires there { page < pages_of self.old.post }
+        requires owned { IsTrue (owns self.old.last.share user) }
+        requires room { all_added self.old.post.additions + sum self.old.slice < max_likes }
+        ensures counts { CountsLike self.old user page result self.new }
+        ensures seat { IsSeat self.new }
+    {
+        self.tables.last.set(user, page);
+        if self.tables.is_sliced(page) {
+            self.tables.slice.add(page);
+            return None;
+        }
+        Some(self.post.add(page, 1))
+    }
+
+    /// Reads a page's count for a user's look.
+    pub fn read_for(&mut self, user: u32, page: u32) -> Seen
+        requires running { IsRunning self.old.post.state }
+        requires there { page < pages_of self.old.post }
+        requires plain { slices self.old.post page ≡ false }
+        requires owned { IsTrue (owns self.old.last.share user) }
+        ensures reads { Reads self.old user page result self.new }
+        ensures seat { IsSeat self.new }
+    {
+        Seen {
+            last: self.tables.last.last(user),
+            count: self.post.read(page),
+        }
+    }
+}

@@ -1,0 +1,56 @@
+ghost use Rattle.std.specs.Prelude.{◌≡◌, ◌≢◌};
+ghost use Rattle.like_core.specs.declared.worker_state.WorkerState.TheVariants.{Gone};
+ghost use Rattle.like_core.specs.Post.{answered, retired};
+ghost use Rattle.like_core.specs.WorkerState.{IsSightOf, RunsJoined, SawEnding};
+ghost use Rattle.like_seat.specs.SeatView.{IsSeat};
+ghost use Rattle.like_seat.specs.Steps.{Looks};
+
+use crate::seat::Seat;
+use like_core::{Post, Sight, WorkerState};
+
+impl<P: Post, W: Copy> Seat<P, W> {
+    /// Looks at the phase word, and enters the next phase where it was released; of a split one it then reads the mask.
+    pub fn look(&mut self) -> Sight
+        requires { self.old.post.state ≢ Gone }
+        ensures sight { IsSightOf self.old.post.state result }
+        ensures looks { Looks self.old result self.new }
+        ensures seat { IsSeat self.new }
+    {
+        let sight = self.post.look();
+        if let WorkerState::Answered(phase) = self.tables.state {
+            if !sight.waits {
+                self.enter(phase + 1);
+            }
+        }
+        sight
+    }
+
+    // Runs the phase that was released; of a split one it reads the mask.
+    fn enter(&mut self, phase: u32) {
+        self.tables.state = WorkerState::Runs(phase);
+        if phase % 2 == 1 {
+            self.tables.hot = self.post.hot();
+        }
+    }
+
+    /// Stops at the end of a joined phase, and waits for the release of the next.
+    pub fn acknowledge(&mut self)
+        requires runs { RunsJoined self.old.post.state }
+        requires ending { SawEnding self.old.post.last }
+        ensures stops { self.new ≡ record self.old { post = answered self.old.post } }
+        ensures seat { IsSeat self.new }
+    {
+        self.tables.state = WorkerState::Answered(self.tables.phase());
+        self.post.acknowledge();
+    }
+
+    /// Ends the worker's part, in a joined phase. No step may follow.
+    pub fn retire(&mut self)
+        requires { RunsJoined self.old.post.state }
+        ensures ends { self.new ≡ record self.old { post = retired self.old.post } }
+        ensures seat { IsSeat self.new }
+    {
+        self.tables.state = WorkerState::Gone;
+        self.post.retire();
+    }
+}

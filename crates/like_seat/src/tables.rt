@@ -1,0 +1,75 @@
+ghost use Rattle.std.specs.Prelude.{◌≡◌, ◌<◌, ◌≤◌, [], IfOk, length, replicate};
+ghost use Rattle.like_core.specs.Limits.{max_pages};
+ghost use Rattle.like_core.specs.WorkerState.{phase_of};
+ghost use Rattle.like_core.specs.declared.worker_state.WorkerState.TheVariants.{Runs};
+ghost use Rattle.like_requests.specs.Limits.{max_stash};
+ghost use Rattle.like_seat.specs.Kept.{is_split_by};
+
+use like_core::{WorkerState, is_hot};
+use like_tables::{Slice, Stash, Users};
+use std::alloc::{AllocError, Global};
+
+/// What a seat keeps beside its post.
+#[derive(Drop)]
+pub(crate) struct Tables<W> {
+    /// Whether each page is marked as split.
+    pub marks: Vec<bool>,
+    /// The state of its post.
+    pub state: WorkerState,
+    /// The mask of the hot pages of the split phase that it runs.
+    pub hot: u64,
+    /// What waits for the next joined phase, and in that phase what is left of it.
+    pub held: Stash<W>,
+    pub slice: Slice,
+    /// The last likes of its users.
+    pub last: Users,
+}
+
+impl<W: Copy> Tables<W> {
+    // Those of a seat that has done nothing yet. All room is made here.
+    pub fn new(
+        alloc: Global,
+        marks: Vec<bool>,
+        room: u32,
+        last: Users,
+    ) -> Result<Tables<W>, AllocError>
+        requires few_pages { length marks.items ≤ max_pages }
+        requires some { 1 ≤ room }
+        requires few { room ≤ max_stash }
+        ensures marks { IfOk result (λ tables. tables.marks ≡ marks) }
+        ensures state { IfOk result (λ tables. tables.state ≡ Runs 0) }
+        ensures held { IfOk result (λ tables. tables.held ≡ record { held = []; capacity = room }) }
+        ensures slice { IfOk result (λ tables. tables.slice ≡ replicate (length marks.items) 0) }
+        ensures last { IfOk result (λ tables. tables.last ≡ last) }
+    {
+        let pages = marks.len() as u32;
+        Ok(Tables {
+            marks,
+            state: WorkerState::Runs(0),
+            hot: 0,
+            held: Stash::new(alloc, room)?,
+            slice: Slice::new(alloc, pages)?,
+            last,
+        })
+    }
+}
+
+impl<W> Tables<W> {
+    // The phase that the worker runs or has answered.
+    pub fn phase(&self) -> u32
+        ensures { result ≡ phase_of self.now.state }
+    {
+        match self.state {
+            WorkerState::Runs(phase) | WorkerState::Answered(phase) => phase,
+            WorkerState::Gone => 0,
+        }
+    }
+
+    // Whether the page is split in that phase.
+    pub fn is_sliced(&self, page: u32) -> bool
+        requires { page < length self.now.marks.items }
+        ensures { result ≡ is_split_by self.now page }
+    {
+        self.phase() % 2 == 1 && (self.marks[page as usize] || is_hot(self.hot, page))
+    }
+}
