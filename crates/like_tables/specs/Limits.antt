@@ -1,4 +1,4 @@
--- The limit of a slice, as a number.
+-- The limit of a worker, as a number.
 use Rattle.std.specs.Prelude.{ℕ}
 
 -- the most likes that a worker adds: 1,000,000 of each of 64 submitters

@@ -1,8 +1,7 @@
--- How a stash is kept: in a ring with a place for each request that may wait.
+-- How a stash is kept: in a ring with a place for each that may wait.
 use Rattle.circular_buffer.specs.Buffer.{Buffer}
 use Rattle.like_tables.specs.Waiting.{Waiting}
-use Rattle.like_tables.specs.declared.held.Held.{Held}
 
--- the requests in a ring, and its places
-abbrev pub waiting_in : Buffer Held → Waiting
+-- what is in a ring, and its places
+abbrev pub waiting_in : {W : Type 0} → Buffer W → Waiting W
 waiting_in ring = record { held = ring.items; capacity = ring.capacity }

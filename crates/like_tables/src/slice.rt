@@ -1,6 +1,5 @@
-ghost use Rattle.std.specs.Prelude.{◌≡◌, ◌+◌, ◌<◌, ◌≤◌, ◌↔◌, ℕ, List, All, IfNone, IfOk, IfSome, IsTrue, length, replicate, slice_index, slice_set, sum};
+ghost use Rattle.std.specs.Prelude.{◌≡◌, ◌+◌, ◌^◌, ◌<◌, ◌≤◌, ◌↔◌, ℕ, List, All, IfNone, IfOk, IfSome, IsTrue, length, replicate, slice_index, slice_set, sum};
 ghost use Rattle.like_tables.specs.Liked.{AreUnliked, IsNextLiked};
-ghost use Rattle.like_tables.specs.Limits.{max_likes};
 
 use crate::page_set::PageSet;
 use std::alloc::{AllocError, Global};
@@ -41,7 +40,7 @@ impl Slice {
     /// Counts a like of the page.
     pub fn add(&mut self, page: u32)
         requires there { page < length self.old }
-        requires below { sum self.old < max_likes }
+        requires below { sum self.old + 1 < 2 ^ 63 }
         ensures counted { self.new ≡ slice_set self.old page (slice_index self.old page + 1) }
         ensures total { sum self.new ≡ sum self.old + 1 }
     {

@@ -2,30 +2,29 @@ ghost use Rattle.std.specs.Prelude.{◌≡◌, ◌<◌, ◌≤◌, ◌↔◌, []
 ghost use Rattle.like_requests.specs.Limits.{max_stash};
 ghost use Rattle.like_tables.specs.Waiting.{IsWaiting};
 
-use crate::held::Held;
 use circular_buffer::HeapCircularBuffer;
 use std::alloc::{AllocError, Global};
 use std::marker::Model;
 
-/// A worker's stash: the requests of a split phase that wait for the next joined one, first in, first out.
+/// A worker's stash: what waits in a split phase for the next joined one, first in, first out.
 #[derive(Debug, Drop)]
-pub struct Stash {
-    ring: HeapCircularBuffer<Held>,
+pub struct Stash<W: Copy> {
+    ring: HeapCircularBuffer<W>,
 }
 
-impl Model for Stash {
+impl<W: Copy> Model for Stash<W> {
     ghost use Rattle.like_tables.specs.Ring.{waiting_in};
     ghost use Rattle.like_tables.specs.Waiting.{IsWaiting, Waiting};
 
-    ghost Value = { Waiting };
+    ghost Value = { Waiting W };
 
     ghost view = { λ s. waiting_in s.ring };
 
     ghost invariant = { λ s. IsWaiting (waiting_in s.ring) };
 }
 
-impl Stash {
-    /// A stash that holds nothing. Its room, for `capacity` requests, is made here.
+impl<W: Copy> Stash<W> {
+    /// A stash that holds nothing. Its room, for `capacity` of them, is made here.
     pub fn new(alloc: Global, capacity: u32) -> Result<Self, AllocError>
         requires some { 1 ≤ capacity }
         requires few { capacity ≤ max_stash }
@@ -36,23 +35,23 @@ impl Stash {
         })
     }
 
-    /// Puts a request behind all others.
-    pub fn push(&mut self, held: Held)
+    /// Puts one more behind all others.
+    pub fn push(&mut self, held: W)
         requires { length self.old.held < self.old.capacity }
         ensures { self.new ≡ record self.old { held = self.old.held ++ held ∷ [] } }
     {
         self.ring.push_back(held);
     }
 
-    /// Gives and takes out the first request, if it holds one.
-    pub fn pop_front(&mut self) -> Option<Held>
+    /// Gives and takes out the first, if it holds one.
+    pub fn pop_front(&mut self) -> Option<W>
         ensures first { result ≡ slice_get self.old.held 0 }
         ensures rest { self.new ≡ record self.old { held = drop 1 self.old.held } }
     {
         self.ring.pop_front()
     }
 
-    /// Whether it holds as many requests as it has room for.
+    /// Whether it holds as many as it has room for.
     pub fn is_full(&self) -> bool
         ensures full { IsTrue result ↔ (length self.now.held ≡ self.now.capacity) }
         ensures within { IsWaiting self.now }
@@ -60,7 +59,7 @@ impl Stash {
         self.ring.is_full()
     }
 
-    /// How many requests it holds.
+    /// How many it holds.
     pub fn len(&self) -> u32
         ensures len { result ≡ length self.now.held }
         ensures within { IsWaiting self.now }
