@@ -29,15 +29,16 @@ use Rattle.like_roles.specs.service.Replies.{page_looked_at}
 use Rattle.like_roles.specs.worker.Serve.{Runs, ran_now, verdict_at}
 use Rattle.like_roles.specs.service.Service.{Service, is_split_in, marks, request_at, submitters}
 use Rattle.like_roles.specs.worker.Turns as turns
-use Rattle.like_roles.specs.worker.Turns.{CanGive, Gives, TakesAsk, Turns, Works, held_from, masks_in, merged, merging, saw, settled, trying, with_stashed, with_taken, without_first, Merges, from_zero}
+use Rattle.like_roles.specs.worker.Turns.{CanGive, Gives, TakesAsk, Turns, Works, held_from, merged, merging, saw, settled, trying, with_stashed, with_taken, without_first, Merges, from_zero}
 use Rattle.like_requests.specs.Setup.{IsThere}
-use Rattle.like_roles.specs.worker.WorkerView.{WorkerView, HasPhaseMask, IsSliceInSplit, has_to_wait, phase_at, submitter_at}
+use Rattle.like_roles.specs.worker.WorkerView.{WorkerView, has_to_wait, phase_at, submitter_at}
+use Rattle.like_seat.specs.SeatView.{HasPhaseMask, IsSliceInSplit}
 use Rattle.like_roles.proofs.order.Blocks.{block-after_joined, block-later, order_below-more, block-next-prompt, block-next-waits, order_below-prompt, order_below-waits, waits-joined}
 use Rattle.like_roles.proofs.Effects.{HasRunOne, Runs-effects}
 use Rattle.like_roles.proofs.order.InBlocks.{before-next, blocks-of_running, order-of_blocks, parity, running-of_blocks, runs-phase, runs-weaker}
 use Rattle.like_roles.proofs.Lists.{same_everywhere}
 use Rattle.like_roles.proofs.Keeps.{runs-keeps, works-keeps}
-use Rattle.like_roles.proofs.Looking.{saw-has, saw-splits}
+use Rattle.like_seat.proofs.Looking.{has-after, splits-after}
 use Rattle.like_roles.proofs.Merging.{merging-all}
 use Rattle.like_roles.proofs.notes.NotedMerge.{merge-noted}
 use Rattle.like_roles.proofs.notes.Noting.{GivesReply-noted, running-unmerged, unmerged-running, unmerged-seen}
@@ -331,8 +332,8 @@ follows-turn service v answer after none kept has right (turns.is_gone gone a x)
 follows-turn service v answer after none kept has right (turns.waits sight here i w a x) f =
     subst (Follows service) (sym x) (follows-saw service v sight v.post.masks f.served.hot_alike f kept here none)
 follows-turn service v answer after none kept has right (turns.works sight mask here i w x) f =
-    let all = masks-before service.hot (masks_in v.post.masks (phase_at v) sight.number mask) after.post.masks (works-keeps (saw v sight mask) sight.ending answer after x).masks right in
-    follows-works service (saw v sight mask) sight.ending answer after none (follows-saw service v sight (masks_in v.post.masks (phase_at v) sight.number mask) all f kept here none) (saw-splits v sight mask i kept) (saw-has v sight mask i w has) x
+    let all = masks-before service.hot (saw v sight mask).post.masks after.post.masks (works-keeps (saw v sight mask) sight.ending answer after x).masks right in
+    follows-works service (saw v sight mask) sight.ending answer after none (follows-saw service v sight (saw v sight mask).post.masks all f kept here none) (splits-after v.post v.slice sight mask kept) (has-after v.post sight mask has) x
 
 -- what is tried is no part of what a state says
 settled-stands : (service : Service) (v : WorkerView) (s : WorkerState) → Stands service v s → Stands service (settled v) s

@@ -1,6 +1,6 @@
 -- What a worker holds, and that it stays sound.
 use Rattle.std.proofs.Common.{◌≡◌, ℕ, ◌+◌, ◌-◌, ◌*◌, ◌%◌, ◌<◌, ◌≤◌, Bool, true, false, List, [], ◌∷◌, ◌++◌, length, drop, get_or, set, sum, Option, Some, None, refl, ap, sym, ◌∙◌, arith, subst, vec_len, vec_capacity}
-use Rattle.std.proofs.lemmas.List.{length-append, length-drop, length-set}
+use Rattle.std.proofs.lemmas.List.{length-append, length-set}
 use Rattle.std.proofs.lemmas.List.Sums.{sum_by-set}
 use Rattle.std.proofs.lemmas.Bool.{and_parts}
 use Rattle.std.proofs.Math.Nat.{add-mul-mod_self_left, mod-eq_of_lt}
@@ -8,29 +8,25 @@ use Rattle.std.proofs.lemmas.List.Elements.{All-drop, All-append, All-cons}
 use Rattle.std.specs.List.{All, slice_get}
 use Rattle.std.specs.Option.{option_map_or}
 use Rattle.like_requests.specs.Verdict.{is_accepted}
-use Rattle.like_roles.specs.service.Replies.{page_looked_at}
 use Rattle.like_requests.specs.declared.request.Numbered.{Numbered}
-use Rattle.like_requests.specs.declared.request.PageRef.{PageRef}
 use Rattle.like_requests.specs.declared.request.Request.{Request}
 use Rattle.like_requests.specs.declared.verdict.Verdict.{Verdict}
 use Rattle.like_requests.specs.declared.verdict.Verdict.TheVariants.{Accepted}
-use Rattle.like_tables.specs.Share.{submitter_of}
-use Rattle.like_tables.specs.UserTable.{UserTable}
-use Rattle.like_core.specs.Phase.{is_marked, split}
-use Rattle.like_core.specs.WorkerState.{IsRunning, phase_of}
-use Rattle.like_core.specs.PhaseMasks.{mask_of}
-use Rattle.like_core.specs.Post.{PostView, slices}
-use Rattle.like_core.proofs.core.InPhase.{split-IsSplit}
-use Rattle.like_core.proofs.PhaseMasks.{split-by}
-use Rattle.like_tables.specs.Waiting.{Waiting}
-use Rattle.like_tables.specs.declared.held.Held.{Held}
-use Rattle.like_roles.specs.declared.worker.desk.Desk.{Desk}
-use Rattle.like_roles.specs.worker.Desk.{HasSubmitters, CanServe, IsJudged, IsPlaced, IsOwn, IsSound, HasRoomForOne, view_of}
-use Rattle.like_roles.specs.service.Order.{is_look_at_sliced}
 use Rattle.like_requests.specs.Setup.{IsThere}
+use Rattle.like_core.specs.Phase.{IsSplit, is_marked}
+use Rattle.like_core.specs.PhaseMasks.{mask_of}
+use Rattle.like_core.specs.Post.{PostView, pages_of, slices}
+use Rattle.like_core.specs.WorkerState.{IsRunning, phase_of}
+use Rattle.like_core.proofs.core.InPhase.{split-IsSplit}
+use Rattle.like_tables.specs.Share.{submitter_of}
+use Rattle.like_tables.specs.declared.held.Held.{Held}
+use Rattle.like_seat.specs.SeatView.{IsSeat, SeatView}
+use Rattle.like_seat.specs.Steps.{holding, without_first}
+use Rattle.like_roles.specs.declared.worker.desk.Desk.{Desk}
+use Rattle.like_roles.specs.service.Order.{is_look_at_sliced}
+use Rattle.like_roles.specs.service.Replies.{page_looked_at}
+use Rattle.like_roles.specs.worker.Desk.{CanServe, HasRoom, HasRoomForOne, HasSubmitters, IsJudged, IsOwn, IsSettled, IsSound, view_of}
 use Rattle.like_roles.specs.worker.Turns.{trying}
-use Rattle.like_roles.specs.worker.WorkerView.{has_to_wait}
-use Rattle.like_roles.proofs.Served.{running_phase, runs-split}
 
 -- a list whose first element is known
 pub first_of : {X : Type 0} (xs : List X) (x : X) → slice_get xs 0 ≡ Some x → xs ≡ x ∷ drop 1 xs
@@ -42,168 +38,142 @@ pub none_first : {X : Type 0} (xs : List X) → slice_get xs 0 ≡ None → xs �
 none_first [] h = refl
 none_first (y ∷ ys) h = cc
 
--- what is held is no part of the numbers
-IsPlaced-held : (post : PostView) (d : Desk) (w : Waiting) → IsPlaced post d → IsPlaced post (record d { held = w })
-IsPlaced-held post d w p = record {
-  is_worker = p.is_worker;
-  marks = p.marks;
-  few_pages = p.few_pages;
-  slice = p.slice;
-  standing = p.standing;
-  hot = p.hot;
-  started = p.started;
+-- what may be held stays so in the same share, at a board with the same marks
+pub AreOwn-moved : (s t : SeatView Held) (hs : List Held) → t.last.share ≡ s.last.share → t.post.marks ≡ s.post.marks → All (IsOwn s) hs → All (IsOwn t) hs
+AreOwn-moved s t hs share marks own = λ i y k. let o = own i y k in record {
+  served = rw share o.served;
+  there = rw marks o.there;
+  judged = rw share o.judged;
 }
 
-HasSubmitters-held : (d : Desk) (w : Waiting) → HasSubmitters d → HasSubmitters (record d { held = w })
-HasSubmitters-held d w a = record { sized = a.sized; submitters = a.submitters; cursor = a.cursor }
+-- a worker stays settled where its seat made a step in the same share and at the same board, it holds only what it may,
+-- and there is room
+pub settled-after : (s t : SeatView Held) (d e : Desk) → IsSettled s d → IsSeat t → t.last.share ≡ s.last.share → All (IsOwn t) t.held.held → HasRoom t e
+    → e ≡ record d { adds = e.adds } → IsSettled t e
+settled-after s t d e is seat share own room rest =
+    let places : HasSubmitters t.last.share d = subst (λ x. HasSubmitters x d) (sym share) is.sound.places in
+    record {
+      sound = record {
+        seat = seat;
+        places = subst (HasSubmitters t.last.share) (sym rest) (record { is_worker = places.is_worker; sized = places.sized; submitters = places.submitters; cursor = places.cursor });
+        room = room;
+        held = own;
+        tried = λ place p. absurd (cc (p, ap (λ (x : Desk). x.pending) rest, is.untried));
+      };
+      untried = ap (λ (x : Desk). x.pending) rest ∙ is.untried;
+    }
 
-AreOwn-held : (d : Desk) (w : Waiting) (hs : List Held) → All (IsOwn d) hs → All (IsOwn (record d { held = w })) hs
-AreOwn-held d w hs own = λ i y k. let o = own i y k in record { served = o.served; there = o.there; judged = o.judged }
-
--- the first request that is held is taken out
-pub IsSound-pop : (post : PostView) (d : Desk) (popped : Waiting) → IsSound post d → popped ≡ record d.held { held = drop 1 d.held.held } → d.pending ≡ None → IsSound post (record d { held = popped })
-IsSound-pop post d popped s e n =
-    let shorter : length (drop 1 d.held.held) ≤ length d.held.held = simp length-drop (omega arith) in
-    subst (λ h. IsSound post (record d { held = h })) (sym e) (record {
-      placed = IsPlaced-held post d (record d.held { held = drop 1 d.held.held }) s.placed;
-      places = HasSubmitters-held d (record d.held { held = drop 1 d.held.held }) s.places;
-      room = record { taken = s.room.taken; ran = omega (arith, s.room.ran); few_ran = s.room.few_ran; adds = λ n. omega (arith, s.room.adds n); few = omega (arith, s.room.few) };
-      slice = s.slice;
-      held = AreOwn-held d (record d.held { held = drop 1 d.held.held }) (drop 1 d.held.held) (All-drop (IsOwn d) 1 d.held.held s.held);
-      waiting = record { some = s.waiting.some; few = s.waiting.few; within = omega (arith, s.waiting.within) };
-      tried = λ place t. cc (n, t);
-    })
+-- the first request that is held is taken out, which leaves room to run it
+pub settled-pop : (s t : SeatView Held) (d : Desk) (first : Held) → IsSettled s d → IsSeat t → t ≡ without_first s → slice_get s.held.held 0 ≡ Some first → IsSettled t d × HasRoomForOne t d × IsOwn t first
+settled-pop s t d first is seat e some =
+    let list = first_of s.held.held first some in
+    let longer : length s.held.held ≡ length (drop 1 s.held.held) + 1 = ap length list ∙ omega arith in
+    let held : t.held.held ≡ drop 1 s.held.held = ap (λ (x : SeatView Held). x.held.held) e in
+    let share = ap (λ (x : SeatView Held). x.last.share) e in
+    let marks = ap (λ (x : SeatView Held). x.post.marks) e in
+    let added = ap (λ (x : SeatView Held). x.post) e in
+    let slice = ap (λ (x : SeatView Held). x.slice) e in
+    let room = is.sound.room in
+    let own = AreOwn-moved s t s.held.held share marks is.sound.held in
+    let first_own = subst (λ xs. All (IsOwn t) xs) list own in (
+      settled-after s t d d is seat share (subst (λ xs. All (IsOwn t) xs) (sym held) (All-drop (IsOwn t) 1 s.held.held own)) (rw (held, added, slice) (record {
+        taken = room.taken;
+        ran = omega (arith, room.ran, longer);
+        few_ran = room.few_ran;
+        adds = λ n. omega (arith, room.adds n, longer);
+        few = omega (arith, room.few, longer);
+      })) refl,
+      rw (held, added, slice) (record { ran = omega (arith, room.ran, longer); adds = λ n. omega (arith, room.adds n, longer); few = omega (arith, room.few, longer) }),
+      first_own 0 first (omega arith),
+    )
 
 -- a request is put behind those that are held
-pub IsSound-push : (post : PostView) (d : Desk) (h : Held) (pushed : Waiting) → IsSound post d → HasRoomForOne post d → length d.held.held < d.held.capacity → IsOwn d h → d.pending ≡ None
-    → pushed ≡ record d.held { held = d.held.held ++ h ∷ [] } → IsSound post (record d { held = pushed })
-IsSound-push post d h pushed s room fits own n e =
-    let longer : length (d.held.held ++ h ∷ []) ≡ length d.held.held + 1 = length-append d.held.held (h ∷ []) in
-    subst (λ w. IsSound post (record d { held = w })) (sym e) (record {
-      placed = IsPlaced-held post d (record d.held { held = d.held.held ++ h ∷ [] }) s.placed;
-      places = HasSubmitters-held d (record d.held { held = d.held.held ++ h ∷ [] }) s.places;
-      room = record { taken = s.room.taken; ran = omega (arith, room.ran); few_ran = s.room.few_ran; adds = λ n. omega (arith, room.adds n); few = omega (arith, room.few) };
-      slice = s.slice;
-      held = AreOwn-held d (record d.held { held = d.held.held ++ h ∷ [] }) (d.held.held ++ h ∷ []) (All-append (IsOwn d) d.held.held (h ∷ []) s.held (All-cons (IsOwn d) h [] own (λ i y k. absurd (omega arith))));
-      waiting = record { some = s.waiting.some; few = s.waiting.few; within = omega arith };
-      tried = λ place t. cc (n, t);
-    })
-
--- the desk's numbers say which pages are sliced
-pub slices-by_desk : (post : PostView) (d : Desk) (page : ℕ) → IsPlaced post d → IsRunning post.state → slices post page ≡ split (λ p. get_or d.marks.items p false) (λ _. d.hot) d.phase page
-slices-by_desk post d page p run =
-    let phase = running_phase (λ _. Unit {0}) post.state d.phase d.gone p.standing run in
-    split-by (is_marked post.marks) (mask_of post.masks) (λ _. d.hot) (phase_of post.state) page (λ odd. sym (p.hot (runs-split post.state run odd)).1)
-    ∙ (λ m. split (λ q. get_or (p.marks m) q false) (λ _. d.hot) (phase m) page)
-
--- and whether a request has to wait
-pub has_to_wait-is : (post : PostView) (d : Desk) (submitter : ℕ) (r : Request) → IsPlaced post d → IsRunning post.state
-    → has_to_wait (view_of post d) submitter r
-    ≡ is_look_at_sliced d.last.share.users d.last.share.submitters (λ page. split (λ p. get_or d.marks.items p false) (λ _. d.hot) d.phase page) submitter r
-has_to_wait-is post d submitter r p run =
-    λ m. is_look_at_sliced d.last.share.users d.last.share.submitters (λ page. slices-by_desk post d page p run m) submitter r
+pub settled-push : (s t : SeatView Held) (d : Desk) (h : Held) → IsSettled s d → HasRoomForOne s d → IsOwn s h → IsSeat t → t ≡ holding s h → IsSettled t d
+settled-push s t d h is room own seat e =
+    let held : t.held.held ≡ s.held.held ++ h ∷ [] = ap (λ (x : SeatView Held). x.held.held) e in
+    let longer : length (s.held.held ++ h ∷ []) ≡ length s.held.held + 1 = length-append s.held.held (h ∷ []) in
+    let share = ap (λ (x : SeatView Held). x.last.share) e in
+    let marks = ap (λ (x : SeatView Held). x.post.marks) e in
+    let added = ap (λ (x : SeatView Held). x.post) e in
+    let slice = ap (λ (x : SeatView Held). x.slice) e in
+    let all = All-append (IsOwn s) s.held.held (h ∷ []) is.sound.held (All-cons (IsOwn s) h [] own (λ i y k. absurd (omega arith))) in
+    settled-after s t d d is seat share (subst (λ xs. All (IsOwn t) xs) (sym held) (AreOwn-moved s t (s.held.held ++ h ∷ []) share marks all)) (rw (held, added, slice) (record {
+      taken = is.sound.room.taken;
+      ran = omega (arith, room.ran, longer);
+      few_ran = is.sound.room.few_ran;
+      adds = λ n. omega (arith, room.adds n, longer);
+      few = omega (arith, room.few, longer);
+    })) refl
 
 -- one request less is left
 sum-less : (xs : List ℕ) (i : ℕ) → i < length xs → 1 ≤ get_or xs i 0 → sum (set xs i (get_or xs i 0 - 1)) + 1 ≡ sum xs
 sum-less xs i h some = omega (arith, sum_by-set (λ x. x) xs i (get_or xs i 0 - 1) 0 h)
 
 -- a request was taken from the submitter at a place
-pub IsSound-taken : (post : PostView) (d n : Desk) (place : ℕ) → IsSound post d → d.pending ≡ None → place < length d.left.items → 1 ≤ get_or d.left.items place 0
+pub settled-taken : (s : SeatView Held) (d n : Desk) (place : ℕ) → IsSound s d → d.pending ≡ None → place < length d.left.items → 1 ≤ get_or d.left.items place 0
     → n.left.items ≡ set d.left.items place (get_or d.left.items place 0 - 1) → vec_len n.taken ≡ vec_len d.taken + 1 → vec_capacity n.taken ≡ vec_capacity d.taken
-    → n ≡ record d { left = n.left; taken = n.taken } → IsSound post n × HasRoomForOne post n
-IsSound-taken post d n place s none there some left taken capacity rest =
+    → n ≡ record d { left = n.left; taken = n.taken } → IsSettled s n × HasRoomForOne s n
+settled-taken s d n place is none there some left taken capacity rest =
     let m : Desk = record d { left = n.left; taken = n.taken } in
     let less : sum n.left.items + 1 ≡ sum d.left.items = rw left (sum-less d.left.items place there some) in
     let sized : length n.left.items ≡ length d.left.items = ap length left ∙ length-set d.left.items place (get_or d.left.items place 0 - 1) in
-    subst (λ x. IsSound post x × HasRoomForOne post x) (sym rest) (
+    subst (λ x. IsSettled s x × HasRoomForOne s x) (sym rest) (
       record {
-        placed = let p = s.placed in record {
-          is_worker = p.is_worker;
-          marks = p.marks;
-          few_pages = p.few_pages;
-          slice = p.slice;
-          standing = p.standing;
-          hot = p.hot;
-          started = p.started;
+        sound = record {
+          seat = is.seat;
+          places = record { is_worker = is.places.is_worker; sized = omega (arith, n.left.ok.0, d.left.ok.0, is.places.sized); submitters = is.places.submitters; cursor = is.places.cursor };
+          room = record { taken = omega (arith, is.room.taken); ran = omega (arith, is.room.ran); few_ran = is.room.few_ran; adds = λ n. omega (arith, is.room.adds n); few = omega (arith, is.room.few) };
+          held = is.held;
+          tried = λ p t. cc (none, t);
         };
-        places = record { sized = omega (arith, n.left.ok.0, d.left.ok.0, s.places.sized); submitters = s.places.submitters; cursor = s.places.cursor };
-        room = record { taken = omega (arith, s.room.taken); ran = omega (arith, s.room.ran); few_ran = s.room.few_ran; adds = λ n. omega (arith, s.room.adds n); few = omega (arith, s.room.few) };
-        slice = s.slice;
-        held = λ i y k. let o = s.held i y k in record { served = o.served; there = o.there; judged = o.judged };
-        waiting = s.waiting;
-        tried = λ p t. cc (none, t);
+        untried = none;
       },
-      record { ran = omega (arith, s.room.ran); adds = λ n. omega (arith, s.room.adds n); few = omega (arith, s.room.few) },
+      record { ran = omega (arith, is.room.ran); adds = λ n. omega (arith, is.room.adds n); few = omega (arith, is.room.few) },
     )
 
 -- a request that waits was taken in a split phase
-pub waits-split : (users submitters submitter phase : ℕ) (marked : ℕ → Bool) (hot : ℕ → ℕ) (r : Request) (waits : Bool)
-    → waits ≡ is_look_at_sliced users submitters (λ page. split marked hot phase page) submitter r → waits ≡ true → phase % 2 ≡ 1
-waits-split users submitters submitter phase marked hot r waits is h =
+pub waits-split : (post : PostView) (users submitters submitter : ℕ) (r : Request) (waits : Bool)
+    → waits ≡ is_look_at_sliced users submitters (slices post) submitter r → waits ≡ true → IsSplit (phase_of post.state)
+waits-split post users submitters submitter r waits is h =
     of_page (page_looked_at r.op r.page) (and_parts (is_accepted users submitters submitter r) _ (sym is ∙ h)).1 where
-      of_page : (o : Option ℕ) → option_map_or (λ page. split marked hot phase page) o false ≡ true → phase % 2 ≡ 1
+      of_page : (o : Option ℕ) → option_map_or (slices post) o false ≡ true → IsSplit (phase_of post.state)
       of_page None e = cc
-      of_page (Some page) e = split-IsSplit marked hot phase page e
+      of_page (Some page) e = split-IsSplit (is_marked post.marks) (mask_of post.masks) (phase_of post.state) page e
 
 -- the submitter at a place is one of the worker's
 pub place-served : (worker workers place : ℕ) → worker < workers → (worker + workers * place) % workers ≡ worker
 place-served worker workers place h = add-mul-mod_self_left worker workers place ∙ mod-eq_of_lt h
 
--- the page of a request is there by the desk's marks
-pub there-by_marks : (post : PostView) (d : Desk) (page : PageRef) → IsPlaced post d → IsThere (length post.marks) page → IsThere (vec_len d.marks) page
-there-by_marks post d page p h = let P : ℕ → Type 0 = λ n. IsThere n page in subst P (ap length p.marks ∙ sym d.marks.ok.0) h
-
 -- what was taken from the submitter at a place is the worker's
-pub IsOwn-taken : (post : PostView) (d n : Desk) (place submitter : ℕ) (ask : Numbered) → IsPlaced post d → n ≡ record d { left = n.left; taken = n.taken }
-    → submitter ≡ submitter_of d.last.share.workers d.last.share.worker place → IsThere (length post.marks) ask.request.page
-    → IsJudged d.last.share (record { submitter = submitter; ask = ask }) Accepted → IsOwn n (record { submitter = submitter; ask = ask })
-IsOwn-taken post d n place submitter ask p rest s there judged =
-    let t = d.last.share in
-    subst (λ x. IsOwn x (record { submitter = submitter; ask = ask })) (sym rest) (record {
-      served = ap (λ y. y % t.workers) s ∙ place-served t.worker t.workers place p.is_worker;
-      there = there-by_marks post d ask.request.page p there;
+pub IsOwn-taken : (s : SeatView Held) (place submitter : ℕ) (ask : Numbered) → s.last.share.worker < s.last.share.workers
+    → submitter ≡ submitter_of s.last.share.workers s.last.share.worker place → IsThere (pages_of s.post) ask.request.page
+    → IsJudged s.last.share (record { submitter = submitter; ask = ask }) Accepted → IsOwn s (record { submitter = submitter; ask = ask })
+IsOwn-taken s place submitter ask is_worker at there judged =
+    let t = s.last.share in
+    record {
+      served = ap (λ y. y % t.workers) at ∙ place-served t.worker t.workers place is_worker;
+      there = there;
       judged = judged;
-    })
+    }
 
 -- and may be answered now, where it need not wait
-pub CanServe-taken : (post : PostView) (d n : Desk) (place : ℕ) (h : Held) (verdict : Verdict) (waits : Bool) → IsPlaced post d → n ≡ record d { left = n.left; taken = n.taken }
-    → h.submitter ≡ submitter_of d.last.share.workers d.last.share.worker place → IsThere (length post.marks) h.ask.request.page
-    → IsJudged d.last.share h verdict → IsRunning post.state
-    → waits ≡ is_look_at_sliced d.last.share.users d.last.share.submitters (λ page. split (λ p. get_or d.marks.items p false) (λ _. d.hot) d.phase page) h.submitter h.ask.request
+pub CanServe-taken : (s : SeatView Held) (d : Desk) (place : ℕ) (h : Held) (verdict : Verdict) (waits : Bool) → s.last.share.worker < s.last.share.workers
+    → h.submitter ≡ submitter_of s.last.share.workers s.last.share.worker place → IsThere (pages_of s.post) h.ask.request.page
+    → IsJudged s.last.share h verdict → IsRunning s.post.state
+    → waits ≡ is_look_at_sliced s.last.share.users s.last.share.submitters (slices s.post) h.submitter h.ask.request
     → waits ≡ false
-    → CanServe post n h verdict
-CanServe-taken post d n place h verdict waits p rest s there judged run is prompt =
-    let t = d.last.share in
-    subst (λ x. CanServe post x h verdict) (sym rest)
-    (record {
+    → CanServe s d h verdict
+CanServe-taken s d place h verdict waits is_worker at there judged run is prompt =
+    let t = s.last.share in
+    record {
       running = run;
-      served = ap (λ y. y % t.workers) s ∙ place-served t.worker t.workers place p.is_worker;
-      there = there-by_marks post d h.ask.request.page p there;
+      served = ap (λ y. y % t.workers) at ∙ place-served t.worker t.workers place is_worker;
+      there = there;
       judged = judged;
-      prompt = has_to_wait-is post d h.submitter h.ask.request p run ∙ (sym is ∙ prompt);
-    })
-
--- a user's last like is noted, in the same share
-pub IsSound-last : (post : PostView) (d : Desk) (t : UserTable) → IsSound post d → t.share ≡ d.last.share → IsSound post (record d { last = t })
-IsSound-last post d t s same = record {
-  placed = let p = s.placed in record {
-    is_worker = rw same p.is_worker;
-    marks = p.marks;
-    few_pages = p.few_pages;
-    slice = p.slice;
-    standing = p.standing;
-    hot = p.hot;
-    started = p.started;
-  };
-  places = record { sized = s.places.sized; submitters = λ place h. rw same (s.places.submitters place h); cursor = s.places.cursor };
-  room = record { taken = s.room.taken; ran = s.room.ran; few_ran = s.room.few_ran; adds = s.room.adds; few = s.room.few };
-  slice = s.slice;
-  held = λ i y k. let o = s.held i y k in record { served = rw same o.served; there = o.there; judged = rw same o.judged };
-  waiting = s.waiting;
-  tried = λ place is. let o = s.tried place is in record { there = o.there; running = o.running; joined = o.joined; split = o.split };
-}
+      prompt = sym is ∙ prompt;
+    }
 
 -- a desk that tries the submitter at a place, after a look for held requests that found none
-pub view_of-tried : (post : PostView) (d e : Desk) (popped : Waiting) (place : ℕ) → e ≡ record d { held = popped; pending = Some place; cursor = (place + 1) % length d.ended.items } → popped ≡ d.held
-    → view_of post e ≡ trying (view_of post d) place
-view_of-tried post d e popped place is same = ap (view_of post) is ∙ ap (λ (w : Waiting). record (trying (view_of post d) place) { held = w }) same
+pub view_of-tried : (s t : SeatView Held) (d e : Desk) (place : ℕ) → e ≡ record d { pending = Some place; cursor = (place + 1) % length d.ended.items } → t ≡ s
+    → view_of t e ≡ trying (view_of s d) place
+view_of-tried s t d e place is same = (λ m. view_of (same m) (is m))

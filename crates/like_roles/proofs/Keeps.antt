@@ -1,10 +1,11 @@
 -- What a turn takes from the submitters, and what it leaves as it is.
-use Rattle.std.proofs.Common.{◌≡◌, ℕ, Bool, true, false, cond, [], ◌∷◌, refl, ap, sym, ◌∙◌, set, subst}
+use Rattle.std.proofs.Common.{◌≡◌, ℕ, ◌%◌, ◌==◌, Bool, true, false, cond, [], ◌∷◌, refl, ap, sym, ◌∙◌, set, subst}
 use Rattle.like_requests.specs.declared.request.Numbered.{Numbered}
 use Rattle.like_requests.specs.declared.request.Request.{Request}
 use Rattle.like_requests.specs.declared.request.Taken.{Taken}
 use Rattle.like_core.specs.PhaseMasks.{KeepsMasks}
 use Rattle.like_core.specs.Post.{answered}
+use Rattle.like_core.specs.WorkerState.{phase_of, seen}
 use Rattle.like_core.proofs.PhaseMasks.{masks-both}
 use Rattle.like_tables.specs.declared.held.Held.{Held}
 use Rattle.like_roles.specs.declared.reply.Reply.{Reply}
@@ -58,12 +59,16 @@ pub turns-keeps : (v : WorkerView) (answer : Turn) (after : WorkerView) → Turn
 turns-keeps v answer after (turns.is_gone gone a x) = subst (TakesNothing v) (sym x) (same v)
 turns-keeps v answer after (turns.waits sight here i w a x) = subst (TakesNothing v) (sym x) (record { share = refl; marks = refl; notes = refl; taken = refl; left = refl; ended = refl; masks = ([], refl) })
 turns-keeps v answer after (turns.works sight mask here i w x) =
-    both v (turns.saw v sight mask) after (record { share = refl; marks = refl; notes = refl; taken = refl; left = refl; ended = refl; masks = saw-masks (turns.enters_split (phase_at v) sight.number) })
+    both v (turns.saw v sight mask) after (record { share = refl; marks = refl; notes = refl; taken = refl; left = refl; ended = refl; masks = saw-masks (phase_of (seen v.post.state sight) == phase_at v) (phase_of (seen v.post.state sight) % 2 == 1) })
     (works-keeps (turns.saw v sight mask) sight.ending answer after x)
   where
-    saw-masks : (b : Bool) → KeepsMasks v.post.masks (cond b (record { phase = sight.number; mask = mask } ∷ v.post.masks) v.post.masks)
-    saw-masks true = (record { phase = sight.number; mask = mask } ∷ [], refl)
-    saw-masks false = ([], refl)
+    to : ℕ
+    to = phase_of (seen v.post.state sight)
+
+    saw-masks : (same odd : Bool) → KeepsMasks v.post.masks (cond same v.post.masks (cond odd (record { phase = to; mask = mask } ∷ v.post.masks) v.post.masks))
+    saw-masks true odd = ([], refl)
+    saw-masks false true = (record { phase = to; mask = mask } ∷ [], refl)
+    saw-masks false false = ([], refl)
 
 takes-keeps : (v : WorkerView) (place : ℕ) (ask : Numbered) (answer : Turn) (after : WorkerView) → TakesAsk v place ask answer after → TakesNothing (turns.with_taken v place ask) after
 takes-keeps v place ask answer after (turns.stashes w a x) = subst (TakesNothing (turns.with_taken v place ask)) (sym x) (record { share = refl; marks = refl; notes = refl; taken = refl; left = refl; ended = refl; masks = ([], refl) })

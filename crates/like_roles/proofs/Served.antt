@@ -1,29 +1,28 @@
 -- What running a request leaves as it is.
-use Rattle.std.proofs.Common.{◌≡◌, ◌≢◌, ℕ, ◌+◌, Bool, true, false, cond, List, [], ◌∷◌, ◌++◌, refl, ap, ◌∙◌, slice_index, slice_set}
+use Rattle.std.proofs.Common.{◌≡◌, ℕ, ◌+◌, Bool, true, false, cond, List, [], ◌∷◌, ◌++◌, refl, ap, ◌∙◌, slice_index, slice_set}
 use Rattle.like_requests.specs.declared.request.Request.{Request}
 use Rattle.like_core.specs.declared.worker_state.WorkerState.{WorkerState}
 use Rattle.like_core.specs.declared.worker_state.WorkerState.TheVariants as state
-use Rattle.like_core.specs.Phase.{IsSplit}
-use Rattle.like_core.specs.WorkerState.{RunsSome, RunsSplit, phase_of}
+use Rattle.like_core.specs.Phase.{IsJoined, IsSplit}
+use Rattle.like_core.specs.WorkerState.{RunsJoined, RunsSome, RunsSplit, phase_of}
 use Rattle.like_core.specs.Post.{slices}
 use Rattle.like_tables.specs.declared.held.Held.{Held}
 use Rattle.like_roles.specs.declared.log.Ran.{Ran}
 use Rattle.like_roles.specs.declared.reply.Reply.{Reply}
-use Rattle.like_roles.specs.worker.Desk.{IsStanding}
 use Rattle.like_roles.specs.worker.Serve.{GivesReply, refuses, likes, looks, with_addition, counted, liked, shown, ran_now, Runs}
 use Rattle.like_roles.specs.worker.WorkerView.{WorkerView, phase_at}
-
--- a worker that runs a phase has its number
-pub running_phase : (P : ℕ → Type 0) (s : WorkerState) (phase : ℕ) (gone : Bool) → IsStanding s phase gone → RunsSome P s → phase_of s ≡ phase
-running_phase P (state.Runs j) phase gone s r = s.0
-running_phase P (state.Answered j) phase gone s r = absurd r
-running_phase P state.Gone phase gone s r = absurd r
 
 -- a worker that runs a phase that is split runs a split phase
 pub runs-split : (s : WorkerState) → RunsSome (λ _. Unit {0}) s → IsSplit (phase_of s) → RunsSplit s
 runs-split (state.Runs k) r odd = odd
 runs-split (state.Answered k) r odd = absurd r
 runs-split state.Gone r odd = absurd r
+
+-- and one that runs a phase that is joined runs a joined phase
+pub runs-joined : (s : WorkerState) → RunsSome (λ _. Unit {0}) s → IsJoined (phase_of s) → RunsJoined s
+runs-joined (state.Runs k) r even = even
+runs-joined (state.Answered k) r even = absurd r
+runs-joined state.Gone r even = absurd r
 
 -- what holds with one more like in the slice, and with one more on the board, holds once a like is counted
 pub counted_by : (P : WorkerView → Type 0) (v : WorkerView) (page old : ℕ) → P (record v { slice = slice_set v.slice page (slice_index v.slice page + 1) })
@@ -46,12 +45,6 @@ GivesReply-state v submitter r reply w s = GivesReply-keeps (λ x. x.post.state)
 
 pub GivesReply-ran : (v : WorkerView) (submitter : ℕ) (r : Request) (reply : Reply) (w : WorkerView) → GivesReply v submitter r reply w → w.ran ≡ v.ran
 GivesReply-ran v submitter r reply w s = GivesReply-keeps (λ x. x.ran) v submitter r reply w (λ user page old. counted_by (λ x. x.ran ≡ v.ran) v page old refl refl) (λ page count. refl) s
-
--- a worker that is not gone has a state of its own
-pub not_gone : (s : WorkerState) (phase : ℕ) (gone : Bool) → IsStanding s phase gone → gone ≡ false → s ≢ state.Gone
-not_gone (state.Runs j) phase gone s e n = cc n
-not_gone (state.Answered j) phase gone s e n = cc n
-not_gone state.Gone phase gone s e n = absurd (cc (s, e))
 
 -- a request is answered, and its entry is put at the end of what was run
 pub Runs-noted : (v w : WorkerView) (h : Held) (stashed : Bool) (reply : Reply) (phase : ℕ) (ran : List Ran)

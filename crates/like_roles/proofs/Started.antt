@@ -22,7 +22,8 @@ use Rattle.like_roles.specs.service.Service.{Service, marks}
 use Rattle.like_roles.specs.worker.Turns as turns
 use Rattle.like_roles.specs.worker.Turns.{Pends, Turns, Works}
 use Rattle.like_roles.specs.service.Looks.{shown_by, shown_in}
-use Rattle.like_roles.specs.worker.WorkerView.{WorkerView, IsSliceInSplit, phase_at, submitter_at}
+use Rattle.like_roles.specs.worker.WorkerView.{WorkerView, phase_at, submitter_at}
+use Rattle.like_seat.specs.SeatView.{IsSliceInSplit}
 use Rattle.like_roles.proofs.Effects.{Runs-effects}
 use Rattle.like_roles.proofs.Lists.{same_everywhere}
 use Rattle.like_roles.proofs.notes.NotedMerge.{noted-nothing, one-of_likes}

@@ -1,12 +1,16 @@
-ghost use Rattle.std.specs.Prelude.{◌≡◌, ◌<◌, true, IfOk, IfErr, IsSome, None};
+ghost use Rattle.std.specs.Prelude.{◌≡◌, ◌<◌, true, IfOk, IfErr, IsSome, None, length};
 ghost use Rattle.like_core.specs.declared.worker_state.WorkerState.TheVariants.{Gone};
 ghost use Rattle.like_core.specs.PhaseMasks.{AreMasksOf};
+ghost use Rattle.like_requests.specs.Pages.{ArePages, marks_of};
 ghost use Rattle.like_requests.specs.Setup.{IsWithin};
+ghost use Rattle.like_tables.specs.Share.{share_of};
+ghost use Rattle.like_tables.specs.UserTable.{table_without_likes};
+ghost use Rattle.like_roles.specs.worker.Desk.{IsNewDesk};
 ghost use Rattle.like_roles.specs.worker.New.{IsNew, IsPostOf};
 ghost use Rattle.like_roles.specs.worker.Follows.{Follows, IsAskedBy, IsDone, IsServiceOf};
 ghost use Rattle.like_roles.specs.service.Service.{Service};
 ghost use Rattle.like_roles.specs.worker.Turns.{CanGive, Gives, HasTaken, Pends, TakesNothing, Turns};
-ghost use Rattle.like_roles.specs.worker.WorkerView.{IsSliceInSplit};
+ghost use Rattle.like_seat.specs.SeatView.{IsSliceInSplit};
 
 mod desk;
 mod places;
@@ -17,7 +21,9 @@ use crate::log::WorkerLog;
 use crate::turn::Turn;
 use like_core::Post;
 use like_requests::{Setup, Taken};
-use std::alloc::Global;
+use like_seat::Seat;
+use like_tables::{Held, Users};
+use std::alloc::{AllocError, Global};
 use std::marker::Model;
 
 /// A worker: it takes the requests of its submitters and runs them at its post, phase by phase.
@@ -25,7 +31,7 @@ use std::marker::Model;
 /// Its submitters are `w`, `w + N`, `w + 2 N`, .. for worker `w` of `N`; place `j` is that of submitter `w + j N`.
 #[derive(Drop)]
 pub struct Worker<P: Post> {
-    post: P,
+    seat: Seat<P, Held>,
     desk: Desk,
 }
 
@@ -36,15 +42,53 @@ impl<P: Post> Model for Worker<P> {
 
     ghost use Rattle.like_roles.specs.worker.Desk.{view_of, IsSound};
 
-    ghost view = { λ w. view_of (P.view w.post) w.desk };
+    ghost view = { λ w. view_of w.seat w.desk };
 
-    ghost invariant = { λ w. IsSound (P.view w.post) w.desk };
+    ghost invariant = { λ w. IsSound w.seat w.desk };
 }
 
 /// There is no memory for a worker. The post that was passed comes back.
 #[derive(Drop)]
 pub struct NoWorker<P: Post> {
     pub post: P,
+}
+
+// What a worker is made of, its post aside.
+#[derive(Drop)]
+struct Parts {
+    marks: Vec<bool>,
+    last: Users,
+    desk: Desk,
+}
+
+impl Parts {
+    fn new(
+        alloc: Global,
+        setup: &Setup,
+        sizes: &[u32],
+        worker: u32,
+        notes: bool,
+    ) -> Result<Parts, AllocError>
+        requires within { IsWithin setup.now sizes.now }
+        requires is_worker { worker < setup.now.workers }
+        ensures marks { IfOk result (λ parts. parts.marks.items ≡ marks_of setup.now.pages) }
+        ensures pages { IfOk result (λ parts. ArePages setup.now.pages) }
+        ensures last { IfOk result (λ parts. parts.last
+            ≡ table_without_likes (share_of setup.now.users (length sizes.now) setup.now.workers worker)) }
+        ensures desk { IfOk result (λ parts. IsNewDesk setup.now sizes.now worker notes parts.desk) }
+    {
+        Ok(Parts {
+            marks: setup.pages.marks(alloc)?,
+            last: Users::new(
+                alloc,
+                setup.users,
+                sizes.len() as u32,
+                setup.workers,
+                worker,
+            )?,
+            desk: Desk::new(alloc, setup, sizes, worker, notes)?,
+        })
+    }
 }
 
 impl<P: Post> Worker<P> {
@@ -89,9 +133,13 @@ impl<P: Post> Worker<P> {
             → Follows service worker) }
         ensures post { IfErr result (λ refused. refused.post ≡ post) }
     {
-        match Desk::new(alloc, setup, sizes, worker, notes) {
-            Ok(desk) => Ok(Worker { post, desk }),
-            Err(_) => Err(NoWorker { post }),
+        let Ok(parts) = Parts::new(alloc, setup, sizes, worker, notes) else {
+            return Err(NoWorker { post });
+        };
+        let Parts { marks, last, desk } = parts;
+        match Seat::new(alloc, post, marks, setup.stash, last) {
+            Ok(seat) => Ok(Worker { seat, desk }),
+            Err(refused) => Err(NoWorker { post: refused.post }),
         }
     }
 
@@ -106,7 +154,7 @@ impl<P: Post> Worker<P> {
         ensures retired { result ≡ Turn.Retired → self.new.post.state ≡ Gone }
         ensures slice { IsSliceInSplit self.new.post self.new.slice }
     {
-        self.desk.turn(&mut self.post, gate)
+        self.desk.turn(&mut self.seat, gate)
     }
 
     /// Completes a turn that answered `Try`, by what was taken from that submitter.
@@ -120,15 +168,14 @@ impl<P: Post> Worker<P> {
         ensures settled { self.new.pending ≡ None }
         ensures slice { IsSliceInSplit self.new.post self.new.slice }
     {
-        self.desk.give(&mut self.post, gate, taken)
+        self.desk.give(&mut self.seat, gate, taken)
     }
 
     /// Leaves the post, whatever is left to do.
     pub fn leave(self) -> P
         ensures { P.view result ≡ self.post }
     {
-        let Worker { post, .. } = self;
-        post
+        self.seat.leave()
     }
 
     /// Takes a worker that is gone apart: what it has done, and its post.
@@ -141,13 +188,10 @@ impl<P: Post> Worker<P> {
         ensures post { P.view result.1 ≡ self.post }
         ensures done { (service : Service) → Follows service self → IsDone service self }
     {
-        let Worker { post, desk } = self;
+        let Worker { seat, desk } = self;
+        let (post, last) = seat.finish();
         let Desk {
-            last,
-            taken,
-            ran,
-            adds,
-            ..
+            taken, ran, adds, ..
         } = desk;
         let log = WorkerLog {
             taken,

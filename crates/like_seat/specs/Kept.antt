@@ -1,6 +1,5 @@
 -- How a seat is kept.
-use Rattle.std.specs.Prelude.{◌≡◌, ℕ, ◌≤◌, Bool, vec_len}
-use Rattle.like_core.specs.Limits.{max_pages}
+use Rattle.std.specs.Prelude.{◌≡◌, ℕ, Bool}
 use Rattle.like_core.specs.Phase.{is_marked, split}
 use Rattle.like_core.specs.PhaseMasks.{mask_of, HasMask}
 use Rattle.like_core.specs.Post.{PostView}
@@ -25,7 +24,6 @@ KnowsHot post hot =
 -- the tables are those of this post
 pub record IsKept {W : Type 0} (post : PostView) (t : Tables W) : Type 0 where
   pub marks : post.marks ≡ t.marks.items
-  pub few_pages : vec_len t.marks ≤ max_pages
   pub state : post.state ≡ t.state
   pub hot : KnowsHot post t.hot
   pub seat : IsSeat (view_of post t)

@@ -1,7 +1,7 @@
 -- What a worker's seat is, as contracts see it.
 use Rattle.std.specs.Prelude.{◌≡◌, ◌≢◌, ℕ, ◌+◌, ◌≤◌, true, List, length, slice_index, sum}
 use Rattle.like_core.specs.Additions.{all_added}
-use Rattle.like_core.specs.Limits.{max_likes}
+use Rattle.like_core.specs.Limits.{max_likes, max_pages}
 use Rattle.like_core.specs.PhaseMasks.{HasMask}
 use Rattle.like_core.specs.Post.{PostView, pages_of, slices}
 use Rattle.like_core.specs.WorkerState.{RunsSplit, phase_of}
@@ -29,9 +29,10 @@ abbrev pub IsSliceInSplit : PostView → List ℕ → Type 0
 IsSliceInSplit post slice =
     (page : ℕ) → slice_index slice page ≢ 0 → RunsSplit post.state × (slices post page ≡ true)
 
--- what is true of every seat: its slice has a number for each page; what it has added and its slice together are no more
+-- what is true of every seat: there are at most 1,024 pages; its slice has a number for each; what it has added and its slice together are no more
 -- likes than a worker may add; and it holds no more than it has room for
 pub record IsSeat {W : Type 0} (s : SeatView W) : Type 0 where
+  pub few_pages : pages_of s.post ≤ max_pages
   pub sized : length s.slice ≡ pages_of s.post
   pub masked : HasPhaseMask s.post
   pub split : IsSliceInSplit s.post s.slice

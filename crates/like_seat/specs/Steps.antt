@@ -1,32 +1,31 @@
 -- What each step of a seat does to it.
-use Rattle.std.specs.Prelude.{◌≡◌, ℕ, ◌%◌, ◌≤◌, ◌==◌, ◌&&◌, not, if◌then◌else◌, Bool, true, false, List, [], ◌∷◌, ◌++◌, drop, length, replicate, slice_index, slice_set, Option, MatchOption}
+use Rattle.std.specs.Prelude.{◌≡◌, ℕ, ◌+◌, ◌%◌, ◌≤◌, ◌==◌, if◌then◌else◌, true, false, List, [], ◌∷◌, ◌++◌, drop, length, replicate, slice_index, slice_set, Option, MatchOption}
 use Rattle.like_core.specs.declared.sight.Sight.{Sight}
 use Rattle.like_core.specs.declared.view.PhaseMask.{PhaseMask}
-use Rattle.like_core.specs.Post.{PostView, IsFresh, added, additions_of, answered, has_read, looked_at, slices}
+use Rattle.like_core.specs.Post.{PostView, added, additions_of, has_read, looked_at, slices}
 use Rattle.like_core.specs.WorkerState.{phase_of, seen}
 use Rattle.like_tables.specs.Liked.{AreUnliked, IsNextLiked}
 use Rattle.like_tables.specs.UserTable.{UserTable, last_of, with_last}
 use Rattle.like_seat.specs.declared.merged.Merged.{Merged}
 use Rattle.like_seat.specs.declared.seen.Seen.{Seen}
-use Rattle.like_seat.specs.SeatView.{SeatView, phase_at}
+use Rattle.like_seat.specs.SeatView.{SeatView}
 
 -- a seat that has done nothing yet: it holds nothing, and its slice is empty
-pub record IsNewSeat {W : Type 0} (post : PostView) (room : ℕ) (last : UserTable) (s : SeatView W)
+pub record IsNewSeat {W : Type 0} (post : PostView) (room : ℕ) (users : UserTable) (s : SeatView W)
     : Type 0 where
   pub at_post : s.post ≡ post
   pub held : s.held ≡ record { held = []; capacity = room }
   pub slice : s.slice ≡ replicate (length post.marks) 0
-  pub last : s.last ≡ last
+  pub last : s.last ≡ users
 
--- whether who goes from one phase to another enters a split phase
-abbrev pub enters_split : ℕ → ℕ → Bool
-enters_split from to = not (to == from) && (to % 2 == 1)
+-- the masks that were read by who enters a phase: in a split one also that one's, which is this
+abbrev pub masks_entered : List PhaseMask → ℕ → ℕ → List PhaseMask
+masks_entered masks phase mask =
+    if phase % 2 == 1 then record { phase = phase; mask = mask } ∷ masks else masks
 
--- the masks that were read by who went from one phase to another: in a split phase that it entered also that one's,
--- which is this
+-- the masks that were read by who goes from one phase to another, or stays
 abbrev pub masks_in : List PhaseMask → ℕ → ℕ → ℕ → List PhaseMask
-masks_in masks from to mask =
-    if enters_split from to then record { phase = to; mask = mask } ∷ masks else masks
+masks_in masks from to mask = if to == from then masks else masks_entered masks to mask
 
 -- the post after a look: where it enters a split phase it has also read that phase's mask, which is this
 abbrev pub saw_at : PostView → Sight → ℕ → PostView

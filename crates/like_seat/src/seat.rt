@@ -1,4 +1,5 @@
-ghost use Rattle.std.specs.Prelude.{◌≡◌, ◌≤◌, IfErr, IfOk};
+ghost use Rattle.std.specs.Prelude.{◌≡◌, ◌≤◌, ◌↔◌, IfErr, IfOk, IsTrue};
+ghost use Rattle.like_core.specs.declared.worker_state.WorkerState.TheVariants.{Gone};
 ghost use Rattle.like_core.specs.Limits.{max_pages};
 ghost use Rattle.like_core.specs.Post.{IsFresh, pages_of};
 ghost use Rattle.like_requests.specs.Limits.{max_stash};
@@ -11,7 +12,7 @@ mod merges;
 mod waits;
 
 use crate::tables::Tables;
-use like_core::Post;
+use like_core::{Post, WorkerState};
 use like_tables::Users;
 use std::alloc::Global;
 use std::marker::Model;
@@ -20,12 +21,12 @@ use std::marker::Model;
 ///
 /// `W` is what waits for the next joined phase.
 #[derive(Drop)]
-pub struct Seat<P: Post, W> {
+pub struct Seat<P: Post, W: Copy> {
     post: P,
     tables: Tables<W>,
 }
 
-impl<P: Post, W> Model for Seat<P, W> {
+impl<P: Post, W: Copy> Model for Seat<P, W> {
     ghost use Rattle.like_seat.specs.SeatView.{SeatView};
 
     ghost Value = { SeatView W };
@@ -74,6 +75,13 @@ impl<P: Post, W: Copy> Seat<P, W> {
         ensures seat { IsSeat self.now }
     {
         self.tables.phase()
+    }
+
+    /// Whether it is gone.
+    pub fn is_gone(&self) -> bool
+        ensures { IsTrue result ↔ (self.now.post.state ≡ Gone) }
+    {
+        matches!(self.tables.state, WorkerState::Gone)
     }
 
     /// Its users, with their last likes.

@@ -4,14 +4,15 @@ ghost use Rattle.like_core.specs.WorkerState.{phase_of};
 ghost use Rattle.like_core.specs.declared.worker_state.WorkerState.TheVariants.{Runs};
 ghost use Rattle.like_requests.specs.Limits.{max_stash};
 ghost use Rattle.like_seat.specs.Kept.{is_split_by};
+ghost use Rattle.like_seat.specs.Steps.{masks_entered};
 
-use like_core::{WorkerState, is_hot};
+use like_core::{Post, WorkerState, is_hot};
 use like_tables::{Slice, Stash, Users};
 use std::alloc::{AllocError, Global};
 
 /// What a seat keeps beside its post.
 #[derive(Drop)]
-pub(crate) struct Tables<W> {
+pub(crate) struct Tables<W: Copy> {
     /// Whether each page is marked as split.
     pub marks: Vec<bool>,
     /// The state of its post.
@@ -54,7 +55,21 @@ impl<W: Copy> Tables<W> {
     }
 }
 
-impl<W> Tables<W> {
+impl<W: Copy> Tables<W> {
+    // Runs the phase that was released; of a split one its post reads the mask.
+    pub fn enter<P: Post>(&mut self, post: &mut P, phase: u32)
+        requires { (P.view post.old).state ≡ Runs phase }
+        ensures post { P.view post.new ≡ record (P.view post.old) {
+          masks = masks_entered (P.view post.old).masks phase self.new.hot;
+        } }
+        ensures rest { self.new ≡ record self.old { state = Runs phase; hot = self.new.hot } }
+    {
+        self.state = WorkerState::Runs(phase);
+        if phase % 2 == 1 {
+            self.hot = post.hot();
+        }
+    }
+
     // The phase that the worker runs or has answered.
     pub fn phase(&self) -> u32
         ensures { result ≡ phase_of self.now.state }

@@ -1,5 +1,5 @@
 -- What it does to a worker to run a request.
-use Rattle.std.specs.Prelude.{◌≡◌, ◌≢◌, ℕ, ◌+◌, ◌≤◌, Bool, if◌then◌else◌, List, [], ◌∷◌, ◌++◌, length, map, slice_index, slice_set}
+use Rattle.std.specs.Prelude.{◌≡◌, ◌≢◌, ℕ, ◌≤◌, Bool, if◌then◌else◌, List, [], ◌∷◌, ◌++◌, length, map}
 use Rattle.like_requests.specs.Verdict.{verdict_of}
 use Rattle.like_requests.specs.declared.request.Op.TheVariants.{Like, Look}
 use Rattle.like_requests.specs.declared.request.PageRef.TheVariants.{Known}
@@ -7,14 +7,15 @@ use Rattle.like_requests.specs.declared.request.Request.{Request}
 use Rattle.like_requests.specs.declared.verdict.Verdict.{Verdict}
 use Rattle.like_requests.specs.declared.verdict.Verdict.TheVariants.{Accepted}
 use Rattle.like_core.specs.declared.view.Addition.{Addition}
-use Rattle.like_core.specs.Post.{added, has_read, additions_of, slices}
+use Rattle.like_core.specs.Post.{has_read, additions_of, slices}
 use Rattle.like_tables.specs.UserTable.{last_of, with_last}
 use Rattle.like_tables.specs.declared.held.Held.{Held}
+use Rattle.like_seat.specs.Steps as steps
 use Rattle.like_roles.specs.declared.log.Added.{Added}
 use Rattle.like_roles.specs.declared.log.Ran.{Ran}
 use Rattle.like_roles.specs.declared.reply.Reply.{Reply}
 use Rattle.like_roles.specs.declared.reply.Reply.TheVariants.{Liked, Seen, Refused}
-use Rattle.like_roles.specs.worker.WorkerView.{WorkerView, phase_at}
+use Rattle.like_roles.specs.worker.WorkerView.{WorkerView, phase_at, seat_of, with_seat}
 
 -- the verdict on a request of a submitter
 abbrev pub verdict_at : WorkerView → ℕ → Request → Verdict
@@ -24,14 +25,17 @@ verdict_at v submitter r = verdict_of v.last.share.users v.last.share.submitters
 abbrev pub noted_at : ℕ → Addition → Added
 noted_at at a = record { page = a.page; phase = a.phase; at = at; old = a.old; n = a.likes }
 
+-- what is noted of additions, where they are noted: each, when so many entries had run
+abbrev pub noted_if : Bool → ℕ → List Addition → List Added
+noted_if notes at adds = if notes then map (noted_at at) adds else []
+
 -- what a worker notes of additions: each, at the place in the run list, where it notes them, and else none
 abbrev pub noted : WorkerView → List Addition → List Added
-noted v adds = if v.notes then map (noted_at (length v.ran)) adds else []
+noted v adds = noted_if v.notes (length v.ran) adds
 
--- n is added to a page's count on the board, which was this before, and noted
-abbrev pub with_addition : WorkerView → ℕ → ℕ → ℕ → WorkerView
-with_addition v page old n = record v {
-  post = added v.post page old n;
+-- an addition of n to a page's count, which was this before, is noted
+abbrev pub noting : WorkerView → ℕ → ℕ → ℕ → WorkerView
+noting v page old n = record v {
   adds = v.adds ++ noted v (record {
     phase = phase_at v;
     page = page;
@@ -40,11 +44,16 @@ with_addition v page old n = record v {
   } ∷ []);
 }
 
+-- n is added to a page's count on the board, which was this before, and noted
+abbrev pub with_addition : WorkerView → ℕ → ℕ → ℕ → WorkerView
+with_addition v page old n =
+    noting (with_seat v (steps.with_addition (seat_of v) page old n)) page old n
+
 -- one more like of a page: in the slice, where the page is sliced, else on the board, where its count was this
 abbrev pub counted : WorkerView → ℕ → ℕ → WorkerView
 counted v page old =
     if slices v.post page
-    then record v { slice = slice_set v.slice page (slice_index v.slice page + 1) }
+    then with_seat v (steps.sliced (seat_of v) page)
     else with_addition v page old 1
 
 -- a user's accepted like of a page is counted, and is the user's last like
@@ -52,11 +61,7 @@ abbrev pub liked : WorkerView → ℕ → ℕ → ℕ → WorkerView
 liked v user page old =
     let w = counted v page old in record w { last = with_last v.last user page }
 
--- one more like of a page is counted, whatever its count is
-abbrev pub CountsLike : WorkerView → ℕ → WorkerView → Type 0
-CountsLike v page after = (old : ℕ) × (after ≡ counted v page old)
-
--- and is the user's last
+-- one more like of a page is counted, whatever its count is, and is the user's last
 abbrev pub Likes : WorkerView → ℕ → ℕ → WorkerView → Type 0
 Likes v user page after = (old : ℕ) × (after ≡ liked v user page old)
 

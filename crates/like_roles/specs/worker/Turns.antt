@@ -1,5 +1,5 @@
 -- The turns of a worker, case by case.
-use Rattle.std.specs.Prelude.{◌≡◌, ◌≢◌, ◌⊎◌, ℕ, ◌+◌, ◌-◌, ◌%◌, ◌<◌, ◌≤◌, ◌==◌, not, count_by, filter, ⊤, ◌&&◌, if◌then◌else◌, Bool, true, false, List, [], ◌∷◌, ◌++◌, length, map, replicate, slice_index, slice_index_or, slice_set, Some, None}
+use Rattle.std.specs.Prelude.{◌≡◌, ◌≢◌, ◌⊎◌, ℕ, ◌+◌, ◌-◌, ◌%◌, ◌<◌, ◌≤◌, ◌==◌, not, count_by, filter, ⊤, Bool, true, false, List, [], ◌∷◌, ◌++◌, length, map, replicate, slice_index, slice_index_or, slice_set, Some, None}
 use Rattle.std.specs.List.{range_with_len}
 use Rattle.like_requests.specs.declared.request.Numbered.{Numbered}
 use Rattle.like_requests.specs.declared.request.Taken.{Taken}
@@ -8,7 +8,6 @@ use Rattle.like_core.specs.declared.sight.Sight.{Sight}
 use Rattle.like_core.specs.declared.worker_state.WorkerState.TheVariants.{Gone}
 use Rattle.like_core.specs.WorkerState.{IsSightOf, RunsJoined, RunsSplit}
 use Rattle.like_core.specs.declared.view.Addition.{Addition}
-use Rattle.like_core.specs.declared.view.PhaseMask.{PhaseMask}
 use Rattle.like_core.specs.Additions.{addition}
 use Rattle.like_core.specs.PhaseMasks.{KeepsMasks}
 use Rattle.like_core.specs.Post.{looked_at, answered, retired, pages_of}
@@ -16,26 +15,13 @@ use Rattle.like_tables.specs.declared.held.Held.{Held}
 use Rattle.like_roles.specs.declared.turn.Turn.{Turn}
 use Rattle.like_roles.specs.declared.turn.Turn.TheVariants as turn
 use Rattle.like_requests.specs.Setup.{IsThere}
-use Rattle.like_roles.specs.worker.WorkerView.{WorkerView, TookAllEnds, IsNextPlace, phase_at, submitter_at, has_to_wait}
-use Rattle.like_roles.specs.worker.Serve.{Runs, with_addition, noted}
-
--- whether who goes from one phase to another enters a split phase
-abbrev pub enters_split : ℕ → ℕ → Bool
-enters_split from to = not (to == from) && (to % 2 == 1)
-
--- the masks that were read by who went from one phase to another: in a split phase that it entered also that one's,
--- which is this
-abbrev pub masks_in : List PhaseMask → ℕ → ℕ → ℕ → List PhaseMask
-masks_in masks from to mask =
-    if enters_split from to then record { phase = to; mask = mask } ∷ masks else masks
+use Rattle.like_seat.specs.Steps as steps
+use Rattle.like_roles.specs.worker.WorkerView.{WorkerView, TookAllEnds, IsNextPlace, has_to_wait, phase_at, seat_of, submitter_at, with_seat}
+use Rattle.like_roles.specs.worker.Serve.{Runs, noted, noting}
 
 -- the worker after a look: where it enters a split phase it has also read that phase's mask, which is this
 abbrev pub saw : WorkerView → Sight → ℕ → WorkerView
-saw v sight mask = record v {
-  post = record (looked_at v.post sight) {
-    masks = masks_in v.post.masks (phase_at v) sight.number mask;
-  };
-}
+saw v sight mask = with_seat v (steps.saw (seat_of v) sight mask)
 
 -- without the first look that it held
 abbrev pub without_first : WorkerView → List Held → WorkerView
@@ -80,8 +66,8 @@ IsMerged v after =
 -- a page's slice is, where the page's count was this
 abbrev pub merged_page : WorkerView → ℕ → ℕ → WorkerView
 merged_page v page old =
-    let w = with_addition v page old (slice_index v.slice page) in
-    record w { slice = slice_set v.slice page 0 }
+    noting (with_seat v (steps.merged_page (seat_of v) page old)) page old
+    (slice_index v.slice page)
 
 -- it cannot take a request in a split phase
 abbrev pub IsStuck : WorkerView → Type 0
@@ -153,7 +139,7 @@ held_from v place ask = record { submitter = submitter_at v place; ask = ask }
 
 -- the look is put into the stash
 abbrev pub with_stashed : WorkerView → Held → WorkerView
-with_stashed v h = record v { held = record v.held { held = v.held.held ++ h ∷ [] } }
+with_stashed v h = with_seat v (steps.holding (seat_of v) h)
 
 -- what becomes of a request that is taken from the submitter at a place: the answer, and the worker after
 pub data TakesAsk (v : WorkerView) (place : ℕ) (ask : Numbered) (answer : Turn) (after : WorkerView)

@@ -1,12 +1,13 @@
 -- What a worker is, as contracts see it.
-use Rattle.std.specs.Prelude.{◌≡◌, ◌≢◌, ℕ, ◌+◌, ◌-◌, ◌<◌, nat_le, if◌then◌else◌, Bool, true, false, List, length, slice_index, slice_index_or, Option}
+use Rattle.std.specs.Prelude.{◌≡◌, ℕ, ◌+◌, ◌-◌, ◌<◌, nat_le, if◌then◌else◌, Bool, true, false, List, length, slice_index_or, Option}
 use Rattle.like_requests.specs.declared.request.Request.{Request}
-use Rattle.like_core.specs.WorkerState.{RunsSplit, phase_of}
-use Rattle.like_core.specs.PhaseMasks.{HasMask}
+use Rattle.like_core.specs.WorkerState.{phase_of}
 use Rattle.like_core.specs.Post.{PostView, slices}
+use Rattle.like_seat.specs.SeatView.{SeatView}
 use Rattle.like_tables.specs.Share.{submitter_of}
 use Rattle.like_tables.specs.UserTable.{UserTable}
 use Rattle.like_tables.specs.Waiting.{Waiting}
+use Rattle.like_tables.specs.declared.held.Held.{Held}
 use Rattle.like_roles.specs.declared.log.Added.{Added}
 use Rattle.like_roles.specs.declared.log.Ran.{Ran}
 use Rattle.like_roles.specs.declared.log.Took.{Took}
@@ -19,7 +20,7 @@ use Rattle.like_roles.specs.service.Order.{is_look_at_sliced}
 -- noted
 pub record WorkerView : Type 0 where
   pub post : PostView
-  pub held : Waiting
+  pub held : Waiting Held
   pub slice : List ℕ
   pub left : List ℕ
   pub ended : List Bool
@@ -30,6 +31,14 @@ pub record WorkerView : Type 0 where
   pub ran : List Ran
   pub notes : Bool
   pub adds : List Added
+
+-- its seat
+abbrev pub seat_of : WorkerView → SeatView Held
+seat_of v = record { post = v.post; held = v.held; slice = v.slice; last = v.last }
+
+-- with its seat like this, and all else the same
+abbrev pub with_seat : WorkerView → SeatView Held → WorkerView
+with_seat v s = record v { post = s.post; held = s.held; slice = s.slice; last = s.last }
 
 -- the phase that it runs or has answered
 abbrev pub phase_at : WorkerView → ℕ
@@ -59,12 +68,3 @@ pub record IsNextPlace (ended : List Bool) (cursor place : ℕ) : Type 0 where
 abbrev pub has_to_wait : WorkerView → ℕ → Request → Bool
 has_to_wait v submitter r =
     is_look_at_sliced v.last.share.users v.last.share.submitters (slices v.post) submitter r
-
--- in a split phase the post has read the phase's mask
-abbrev pub HasPhaseMask : PostView → Type 0
-HasPhaseMask post = RunsSplit post.state → HasMask (phase_of post.state) post.masks
-
--- a slice that is not empty belongs to a worker that runs a split phase, and has pages that are split in it alone
-abbrev pub IsSliceInSplit : PostView → List ℕ → Type 0
-IsSliceInSplit post slice =
-    (page : ℕ) → slice_index slice page ≢ 0 → RunsSplit post.state × (slices post page ≡ true)

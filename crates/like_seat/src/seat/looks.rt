@@ -1,7 +1,7 @@
-ghost use Rattle.std.specs.Prelude.{◌≡◌, ◌≢◌};
+ghost use Rattle.std.specs.Prelude.{◌≡◌, ◌≢◌, false};
 ghost use Rattle.like_core.specs.declared.worker_state.WorkerState.TheVariants.{Gone};
 ghost use Rattle.like_core.specs.Post.{answered, retired};
-ghost use Rattle.like_core.specs.WorkerState.{IsSightOf, RunsJoined, SawEnding};
+ghost use Rattle.like_core.specs.WorkerState.{IsRunning, IsSightOf, RunsJoined, SawEnding};
 ghost use Rattle.like_seat.specs.SeatView.{IsSeat};
 ghost use Rattle.like_seat.specs.Steps.{Looks};
 
@@ -14,23 +14,16 @@ impl<P: Post, W: Copy> Seat<P, W> {
         requires { self.old.post.state ≢ Gone }
         ensures sight { IsSightOf self.old.post.state result }
         ensures looks { Looks self.old result self.new }
+        ensures runs { result.waits ≡ false → IsRunning self.new.post.state }
         ensures seat { IsSeat self.new }
     {
         let sight = self.post.look();
         if let WorkerState::Answered(phase) = self.tables.state {
             if !sight.waits {
-                self.enter(phase + 1);
+                self.tables.enter(&mut self.post, phase + 1);
             }
         }
         sight
-    }
-
-    // Runs the phase that was released; of a split one it reads the mask.
-    fn enter(&mut self, phase: u32) {
-        self.tables.state = WorkerState::Runs(phase);
-        if phase % 2 == 1 {
-            self.tables.hot = self.post.hot();
-        }
     }
 
     /// Stops at the end of a joined phase, and waits for the release of the next.

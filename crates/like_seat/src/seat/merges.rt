@@ -7,7 +7,7 @@ ghost use Rattle.like_seat.specs.Steps.{MergesNext};
 
 use crate::merged::Merged;
 use crate::seat::Seat;
-use like_core::Post;
+use like_core::{Post, WorkerState};
 
 impl<P: Post, W: Copy> Seat<P, W> {
     /// Adds the slice of the next page from `from` on that has a like to the page's count, and empties it.
@@ -32,7 +32,7 @@ impl<P: Post, W: Copy> Seat<P, W> {
         ensures stops { self.new ≡ record self.old { post = answered self.old.post } }
         ensures seat { IsSeat self.new }
     {
-        self.tables.state = like_core::WorkerState::Answered(self.tables.phase());
+        self.tables.state = WorkerState::Answered(self.tables.phase());
         self.post.report();
     }
 }

@@ -1,33 +1,33 @@
-ghost use Rattle.std.specs.Prelude.{◌≡◌};
-ghost use Rattle.like_core.specs.Post.{MayAdd};
-ghost use Rattle.like_roles.specs.worker.Desk.{view_of, HasRoomToAdd, IsSound};
-ghost use Rattle.like_roles.specs.worker.Serve.{with_addition};
+ghost use Rattle.std.specs.Prelude.{◌≡◌, ◌<◌, ◌+◌, ◌^◌, [], ◌∷◌, ◌++◌, true, length, vec_len, vec_capacity};
+ghost use Rattle.like_roles.specs.worker.Serve.{noted_if};
 
 use crate::log::Added;
 use crate::worker::desk::Desk;
-use like_core::Post;
 
 impl Desk {
-    // Adds to a page's count on the board, and notes it where additions are noted. Returns the count before.
-    pub fn add<P: Post>(&mut self, post: &mut P, page: u32, n: u64) -> u64
-        requires sound { IsSound (P.view post.old) self.old }
-        requires may { MayAdd (P.view post.old) page n }
-        requires room { HasRoomToAdd (P.view post.old) self.old n }
-        ensures sound { IsSound (P.view post.new) self.new }
-        ensures adding { view_of (P.view post.new) self.new
-            ≡ with_addition (view_of (P.view post.old) self.old) page result n }
+    // Notes an addition of n to a page's count, which was this before, where additions are noted.
+    pub fn note_addition(&mut self, phase: u32, page: u32, old: u64, n: u64)
+        requires few { vec_len self.old.ran < 2 ^ 32 }
+        requires room { self.old.notes ≡ true → vec_len self.old.adds < vec_capacity self.old.adds }
+        ensures noted { self.new.adds.items ≡ self.old.adds.items
+            ++ noted_if self.old.notes (length self.old.ran.items) (record {
+              phase = phase;
+              page = page;
+              old = old;
+              likes = n;
+            } ∷ []) }
+        ensures len { self.old.notes ≡ true → vec_len self.new.adds ≡ vec_len self.old.adds + 1 }
+        ensures capacity { vec_capacity self.new.adds ≡ vec_capacity self.old.adds }
         ensures rest { self.new ≡ record self.old { adds = self.new.adds } }
     {
-        let old = post.add(page, n);
         if self.notes {
             self.adds.push_reserved(Added {
                 page,
-                phase: self.phase,
+                phase,
                 at: self.ran.len() as u32,
                 old,
                 n,
             });
         }
-        old
     }
 }

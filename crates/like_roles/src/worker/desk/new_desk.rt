@@ -7,7 +7,6 @@ ghost use Rattle.like_roles.specs.worker.Desk.{IsNewDesk};
 
 use crate::worker::desk::Desk;
 use like_requests::Setup;
-use like_tables::{Slice, Stash, Users};
 use std::alloc::{AllocError, Global};
 
 impl Desk {
@@ -26,24 +25,11 @@ impl Desk {
         let left = own_sizes(alloc, sizes, setup.workers, worker)?;
         let room = left.iter().sum::<u32>() as usize;
         Ok(Desk {
-            marks: setup.pages.marks(alloc)?,
-            phase: 0,
-            hot: 0,
             started: false,
-            gone: false,
-            held: Stash::new(alloc, setup.stash)?,
-            slice: Slice::new(alloc, setup.pages.len())?,
             ended: vec![in alloc; false; left.len()]?,
             left,
             cursor: 0,
             pending: None,
-            last: Users::new(
-                alloc,
-                setup.users,
-                sizes.len() as u32,
-                setup.workers,
-                worker,
-            )?,
             taken: Vec::with_capacity(alloc, room)?,
             ran: Vec::with_capacity(alloc, room)?,
             notes,

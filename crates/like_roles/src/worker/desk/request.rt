@@ -1,10 +1,11 @@
-ghost use Rattle.std.specs.Prelude.{◌≡◌, ◌<◌, true, false, IsTrue, length};
+ghost use Rattle.std.specs.Prelude.{◌≡◌, ◌<◌, true, IsTrue};
+ghost use Rattle.like_core.specs.Post.{pages_of, slices};
 ghost use Rattle.like_core.specs.WorkerState.{IsRunning};
 ghost use Rattle.like_requests.specs.Setup.{IsThere};
 ghost use Rattle.like_tables.specs.Share.{owns};
-ghost use Rattle.like_roles.specs.worker.Desk.{view_of, is_split_at, CanServe, HasRoomForOne, HasRoomToNote, IsJudged, IsSound};
+ghost use Rattle.like_roles.specs.worker.Desk.{view_of, CanServe, HasRoomForOne, HasRoomToNote, IsJudged, IsSettled};
 ghost use Rattle.like_roles.specs.service.Order.{is_look_at_sliced};
-ghost use Rattle.like_roles.specs.worker.Serve.{CountsLike, Likes, Runs, GivesReply};
+ghost use Rattle.like_roles.specs.worker.Serve.{Likes, Runs, GivesReply};
 
 use crate::gate::Gate;
 use crate::log::Ran;
@@ -12,70 +13,56 @@ use crate::reply::Reply;
 use crate::worker::desk::Desk;
 use like_core::Post;
 use like_requests::{Op, PageRef, Verdict};
+use like_seat::Seat;
 use like_tables::Held;
 
+// Whether a request with this verdict has to wait for the next joined phase: an accepted look at a page that is split in
+// the phase that the worker runs.
+pub(crate) fn waits<P: Post>(seat: &Seat<P, Held>, held: &Held, verdict: Verdict) -> bool
+    requires running { IsRunning seat.now.post.state }
+    requires judged { IsJudged seat.now.last.share held.now verdict }
+    requires there { IsThere (pages_of seat.now.post) held.now.ask.request.page }
+    ensures waits { let share = seat.now.last.share in
+        result ≡ is_look_at_sliced share.users share.submitters (slices seat.now.post)
+        held.now.submitter held.now.ask.request }
+    ensures accepted { result ≡ true → verdict ≡ Verdict.Accepted }
+{
+    if verdict != Verdict::Accepted {
+        return false;
+    }
+    match (held.ask.request.op, held.ask.request.page) {
+        (Op::Look, PageRef::Known(page)) => seat.is_sliced(page),
+        _ => false,
+    }
+}
+
 impl Desk {
-    // Whether a request with this verdict has to wait for the next joined phase: an accepted look at a page that is
-    // split in the phase that the worker runs.
-    pub fn waits(&self, held: &Held, verdict: Verdict) -> bool
-        requires judged { IsJudged self.now.last.share held.now verdict }
-        requires there { IsThere (length self.now.marks.items) held.now.ask.request.page }
-        ensures waits { let share = self.now.last.share in
-            result ≡ is_look_at_sliced share.users share.submitters (is_split_at self.now)
-            held.now.submitter held.now.ask.request }
-        ensures accepted { result ≡ true → verdict ≡ Verdict.Accepted }
+    // Counts an accepted like of a page, which is then the user's last, and notes its addition, if it is one.
+    fn like<P: Post>(&mut self, seat: &mut Seat<P, Held>, user: u32, page: u32)
+        requires settled { IsSettled seat.old self.old }
+        requires room { HasRoomForOne seat.old self.old }
+        requires running { IsRunning seat.old.post.state }
+        requires there { page < pages_of seat.old.post }
+        requires owned { IsTrue (owns seat.old.last.share user) }
+        ensures settled { IsSettled seat.new self.new }
+        ensures room { HasRoomToNote seat.new self.new }
+        ensures liked { Likes (view_of seat.old self.old) user page (view_of seat.new self.new) }
     {
-        if verdict != Verdict::Accepted {
-            return false;
+        let phase = seat.phase();
+        if let Some(old) = seat.count_like(user, page) {
+            self.note_addition(phase, page, old, 1);
         }
-        match (held.ask.request.op, held.ask.request.page) {
-            (Op::Look, PageRef::Known(page)) => self.is_sliced(page),
-            _ => false,
-        }
-    }
-
-    // Counts a like of a page: in the slice, where the page is sliced, else on the board.
-    fn count<P: Post>(&mut self, post: &mut P, page: u32)
-        requires sound { IsSound (P.view post.old) self.old }
-        requires room { HasRoomForOne (P.view post.old) self.old }
-        requires running { IsRunning (P.view post.old).state }
-        requires there { page < length self.old.marks.items }
-        ensures sound { IsSound (P.view post.new) self.new }
-        ensures room { HasRoomToNote self.new }
-        ensures counted { CountsLike (view_of (P.view post.old) self.old) page (view_of (P.view post.new) self.new) }
-        ensures last { self.new.last ≡ self.old.last }
-    {
-        if self.is_sliced(page) {
-            self.slice.add(page);
-            return;
-        }
-        self.add(post, page, 1);
-    }
-
-    // Counts an accepted like of a page, and remembers it as the user's last.
-    fn like<P: Post>(&mut self, post: &mut P, user: u32, page: u32)
-        requires sound { IsSound (P.view post.old) self.old }
-        requires room { HasRoomForOne (P.view post.old) self.old }
-        requires running { IsRunning (P.view post.old).state }
-        requires there { page < length self.old.marks.items }
-        requires owned { IsTrue (owns self.old.last.share user) }
-        ensures sound { IsSound (P.view post.new) self.new }
-        ensures room { HasRoomToNote self.new }
-        ensures liked { Likes (view_of (P.view post.old) self.old) user page (view_of (P.view post.new) self.new) }
-    {
-        self.count(post, page);
-        self.last.set(user, page);
     }
 
     // Answers a request with this verdict.
-    fn serve<P: Post>(&mut self, post: &mut P, held: &Held, verdict: Verdict) -> Reply
-        requires sound { IsSound (P.view post.old) self.old }
-        requires room { HasRoomForOne (P.view post.old) self.old }
-        requires can { CanServe (P.view post.old) self.old held.now verdict }
-        ensures sound { IsSound (P.view post.new) self.new }
-        ensures room { HasRoomToNote self.new }
-        ensures serves { let v = view_of (P.view post.old) self.old in let h = held.now in
-            GivesReply v h.submitter h.ask.request result (view_of (P.view post.new) self.new) }
+    fn serve<P: Post>(&mut self, seat: &mut Seat<P, Held>, held: &Held, verdict: Verdict) -> Reply
+        requires settled { IsSettled seat.old self.old }
+        requires room { HasRoomForOne seat.old self.old }
+        requires can { CanServe seat.old self.old held.now verdict }
+        ensures settled { IsSettled seat.new self.new }
+        ensures room { HasRoomToNote seat.new self.new }
+        ensures serves { let v = view_of seat.old self.old in let h = held.now in
+            GivesReply v h.submitter h.ask.request result (view_of seat.new self.new) }
     {
         match verdict {
             Verdict::Accepted => {}
@@ -87,36 +74,39 @@ impl Desk {
         };
         match request.op {
             Op::Like => {
-                self.like(post, request.user, page);
+                self.like(seat, request.user, page);
                 Reply::Liked
             }
-            Op::Look => Reply::Seen {
-                last: self.last.last(request.user),
-                count: post.read(page),
-            },
+            Op::Look => {
+                let seen = seat.read_for(request.user, page);
+                Reply::Seen {
+                    last: seen.last,
+                    count: seen.count,
+                }
+            }
         }
     }
 
     // Runs a request with this verdict, and notes it.
     pub fn run<P: Post, G: Gate>(
         &mut self,
-        post: &mut P,
+        seat: &mut Seat<P, Held>,
         gate: &G,
         held: Held,
         verdict: Verdict,
         stashed: bool,
     )
-        requires sound { IsSound (P.view post.old) self.old }
-        requires room { HasRoomForOne (P.view post.old) self.old }
-        requires can { CanServe (P.view post.old) self.old held verdict }
-        ensures sound { IsSound (P.view post.new) self.new }
-        ensures ran { let v = view_of (P.view post.old) self.old in
-            Runs v held stashed (view_of (P.view post.new) self.new) }
+        requires settled { IsSettled seat.old self.old }
+        requires room { HasRoomForOne seat.old self.old }
+        requires can { CanServe seat.old self.old held verdict }
+        ensures settled { IsSettled seat.new self.new }
+        ensures ran { let v = view_of seat.old self.old in
+            Runs v held stashed (view_of seat.new self.new) }
     {
-        gate.run(self.last.worker(), held.submitter, held.ask.number);
-        let reply = self.serve(post, &held, verdict);
+        gate.run(seat.users().worker(), held.submitter, held.ask.number);
+        let reply = self.serve(seat, &held, verdict);
         self.ran.push_reserved(Ran {
-            phase: self.phase,
+            phase: seat.phase(),
             submitter: held.submitter,
             number: held.ask.number,
             stashed,

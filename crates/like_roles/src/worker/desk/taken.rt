@@ -6,20 +6,22 @@ use crate::gate::Gate;
 use crate::log::Took;
 use crate::turn::Turn;
 use crate::worker::desk::Desk;
+use crate::worker::desk::request::waits;
 use like_core::Post;
 use like_requests::{Numbered, Taken};
+use like_seat::Seat;
 use like_tables::Held;
 
 impl Desk {
     /// Completes a turn by what was taken from the submitter that was tried.
-    pub fn give<P: Post, G: Gate>(&mut self, post: &mut P, gate: &G, taken: Taken) -> Turn
-        requires sound { IsSound (P.view post.old) self.old }
+    pub fn give<P: Post, G: Gate>(&mut self, seat: &mut Seat<P, Held>, gate: &G, taken: Taken) -> Turn
+        requires sound { IsSound seat.old self.old }
         requires tried { IsSome self.old.pending }
-        requires given { CanGive (view_of (P.view post.old) self.old) taken }
-        ensures sound { IsSound (P.view post.new) self.new }
+        requires given { CanGive (view_of seat.old self.old) taken }
+        ensures sound { IsSound seat.new self.new }
         ensures settled { self.new.pending ≡ None }
-        ensures case { let v = view_of (P.view post.old) self.old in
-            Gives v taken result (view_of (P.view post.new) self.new) }
+        ensures case { let v = view_of seat.old self.old in
+            Gives v taken result (view_of seat.new self.new) }
     {
         let Some(place) = self.pending else {
             unreachable!();
@@ -31,43 +33,43 @@ impl Desk {
                 self.ended[place] = true;
                 Turn::TookEnd
             }
-            Taken::Ask(ask) => self.take(post, gate, place, ask),
+            Taken::Ask(ask) => self.take(seat, gate, place, ask),
         }
     }
 
     // Takes a request, and runs it or puts it into the stash.
     fn take<P: Post, G: Gate>(
         &mut self,
-        post: &mut P,
+        seat: &mut Seat<P, Held>,
         gate: &G,
         place: usize,
         ask: Numbered,
     ) -> Turn
-        requires sound { IsSound (P.view post.old) self.old }
+        requires sound { IsSound seat.old self.old }
         requires settled { self.old.pending ≡ None }
-        requires tried { IsTried (P.view post.old) self.old place }
-        requires given { IsNext (view_of (P.view post.old) self.old) place ask }
-        ensures sound { IsSound (P.view post.new) self.new }
-        ensures case { let v = view_of (P.view post.old) self.old in
-            TakesAsk v place ask result (view_of (P.view post.new) self.new) }
+        requires tried { IsTried seat.old self.old place }
+        requires given { IsNext (view_of seat.old self.old) place ask }
+        ensures sound { IsSound seat.new self.new }
+        ensures case { let v = view_of seat.old self.old in
+            TakesAsk v place ask result (view_of seat.new self.new) }
     {
         let held = Held {
-            submitter: self.last.submitter_at(place),
+            submitter: seat.users().submitter_at(place),
             ask,
         };
-        let verdict = self.last.judge(held.submitter, &ask.request);
-        let waits = self.waits(&held, verdict);
-        self.note_taken(place, held);
+        let verdict = seat.users().judge(held.submitter, &ask.request);
+        let waits = waits(seat, &held, verdict);
+        self.note_taken(seat.phase(), place, held);
         if waits {
-            self.held.push(held);
+            seat.put_by(held);
             return Turn::Stashed;
         }
-        self.run(post, gate, held, verdict, false);
+        self.run(seat, gate, held, verdict, false);
         Turn::Ran
     }
 
-    // Notes that a request was taken from the submitter at a place.
-    fn note_taken(&mut self, place: usize, held: Held)
+    // Notes that a request was taken in a phase from the submitter at a place.
+    fn note_taken(&mut self, phase: u32, place: usize, held: Held)
         requires there { place < length self.old.left.items }
         requires some { 1 ≤ slice_index self.old.left.items place }
         requires room { vec_len self.old.taken < vec_capacity self.old.taken }
@@ -75,7 +77,7 @@ impl Desk {
             ≡ slice_set self.old.left.items place (slice_index self.old.left.items place - 1) }
         ensures taken { self.new.taken.items ≡ self.old.taken.items
             ++ (record {
-              phase = self.old.phase;
+              phase = phase;
               submitter = held.submitter;
               number = held.ask.number;
             }) ∷ [] }
@@ -85,7 +87,7 @@ impl Desk {
     {
         self.left[place] -= 1;
         self.taken.push_reserved(Took {
-            phase: self.phase,
+            phase,
             submitter: held.submitter,
             number: held.ask.number,
         });

@@ -1,9 +1,10 @@
 ghost use Rattle.std.specs.Prelude.{◌≡◌, ◌≢◌, ◌<◌, ◌+◌, ◌*◌, ◌%◌, true, false, length, Some};
 ghost use Rattle.like_core.specs.declared.worker_state.WorkerState.TheVariants.{Gone};
-ghost use Rattle.like_core.specs.WorkerState.{IsSightOf, RunsJoined, RunsSplit, SawEnding, phase_of};
-ghost use Rattle.like_tables.specs.Share.{submitter_of};
+ghost use Rattle.like_core.specs.WorkerState.{IsSightOf, RunsJoined, RunsSplit, SawEnding};
+ghost use Rattle.like_seat.specs.Steps.{Looks};
+ghost use Rattle.like_tables.specs.Share.{Share, submitter_of};
 ghost use Rattle.like_roles.specs.worker.Desk.{view_of, HasSubmitters, IsSettled, IsSound, WorksAt};
-ghost use Rattle.like_roles.specs.worker.Turns.{Turns, enters_split, masks_in, saw};
+ghost use Rattle.like_roles.specs.worker.Turns.{Turns};
 
 use crate::gate::Gate;
 use crate::turn::Turn;
@@ -11,125 +12,114 @@ use crate::worker::desk::Desk;
 use crate::worker::places::next_place;
 use like_core::{Post, Sight};
 use like_requests::Verdict;
+use like_seat::Seat;
+use like_tables::Held;
 
 impl Desk {
     /// Makes the next turn, or the part of it up to the take.
-    pub fn turn<P: Post, G: Gate>(&mut self, post: &mut P, gate: &G) -> Turn
-        requires { IsSettled (P.view post.old) self.old }
-        ensures sound { IsSound (P.view post.new) self.new }
-        ensures case { let v = view_of (P.view post.old) self.old in
-            Turns v result (view_of (P.view post.new) self.new) }
+    pub fn turn<P: Post, G: Gate>(&mut self, seat: &mut Seat<P, Held>, gate: &G) -> Turn
+        requires { IsSettled seat.old self.old }
+        ensures sound { IsSound seat.new self.new }
+        ensures case { let v = view_of seat.old self.old in
+            Turns v result (view_of seat.new self.new) }
     {
-        if self.gone {
+        if seat.is_gone() {
             return Turn::Retired;
         }
-        let sight = self.look(post, gate);
+        let sight = self.look(seat, gate);
         if sight.waits {
             return Turn::Waiting;
         }
-        if sight.number % 2 == 0 {
-            self.joined_turn(post, gate, sight.ending)
+        if seat.phase() % 2 == 0 {
+            self.joined_turn(seat, gate, sight.ending)
         } else {
-            self.split_turn(post, sight.ending)
+            self.split_turn(seat, sight.ending)
         }
     }
 
-    // Looks at the phase word, and enters the next phase where it was released; of a split one it then reads the mask.
-    fn look<P: Post, G: Gate>(&mut self, post: &mut P, gate: &G) -> Sight
-        requires settled { IsSettled (P.view post.old) self.old }
-        requires there { (P.view post.old).state ≢ Gone }
-        ensures sound { IsSound (P.view post.new) self.new }
-        ensures sight { IsSightOf (P.view post.old).state result }
-        ensures saw { view_of (P.view post.new) self.new
-            ≡ saw (view_of (P.view post.old) self.old) result self.new.hot }
+    // Looks at the phase word, and tells the gate of a phase that it enters.
+    fn look<P: Post, G: Gate>(&mut self, seat: &mut Seat<P, Held>, gate: &G) -> Sight
+        requires settled { IsSettled seat.old self.old }
+        requires there { seat.old.post.state ≢ Gone }
+        ensures settled { IsSettled seat.new self.new }
+        ensures sight { IsSightOf seat.old.post.state result }
+        ensures looks { Looks seat.old result seat.new }
+        ensures rest { self.new ≡ record self.old { started = true } }
     {
-        let sight = post.look();
-        if self.started && sight.number == self.phase {
-            return sight;
+        let before = seat.phase();
+        let sight = seat.look();
+        if !self.started || seat.phase() != before {
+            gate.phase(seat.users().worker(), seat.phase());
         }
-        self.hot = self.hot_in(post, sight.number);
-        self.phase = sight.number;
         self.started = true;
-        gate.phase(self.last.worker(), sight.number);
         sight
     }
 
-    // The mask of a phase that the worker enters or runs: of a split phase that it enters, its post reads it.
-    fn hot_in<P: Post>(&self, post: &mut P, phase: u32) -> u64
-        requires { let state = (P.view post.old).state in
-            enters_split self.now.phase phase ≡ true → RunsSplit state × (phase_of state ≡ phase) }
-        ensures post { P.view post.new ≡ record (P.view post.old) {
-          masks = masks_in (P.view post.old).masks self.now.phase phase result;
-        } }
-        ensures stays { enters_split self.now.phase phase ≡ false → result ≡ self.now.hot }
-    {
-        if phase == self.phase || phase % 2 == 0 {
-            return self.hot;
-        }
-        post.hot()
-    }
-
     // The turn of a worker that runs a joined phase.
-    fn joined_turn<P: Post, G: Gate>(&mut self, post: &mut P, gate: &G, ending: bool) -> Turn
-        requires settled { IsSettled (P.view post.old) self.old }
-        requires joined { RunsJoined (P.view post.old).state }
-        requires ending { ending ≡ true → SawEnding (P.view post.old).last }
-        ensures sound { IsSound (P.view post.new) self.new }
-        ensures works { WorksAt (P.view post.old) self.old ending result (P.view post.new) self.new }
+    fn joined_turn<P: Post, G: Gate>(
+        &mut self,
+        seat: &mut Seat<P, Held>,
+        gate: &G,
+        ending: bool,
+    ) -> Turn
+        requires settled { IsSettled seat.old self.old }
+        requires joined { RunsJoined seat.old.post.state }
+        requires ending { ending ≡ true → SawEnding seat.old.post.last }
+        ensures sound { IsSound seat.new self.new }
+        ensures works { WorksAt seat.old self.old ending result seat.new self.new }
     {
-        if let Some(first) = self.held.pop_front() {
-            self.run(post, gate, first, Verdict::Accepted, true);
+        if let Some(first) = seat.next_held() {
+            self.run(seat, gate, first, Verdict::Accepted, true);
             return Turn::Ran;
         }
         let Some(place) = next_place(&self.ended, self.cursor) else {
-            post.retire();
-            self.gone = true;
+            seat.retire();
             return Turn::Retired;
         };
         if ending {
-            post.acknowledge();
+            seat.acknowledge();
             return Turn::Acknowledged;
         }
-        self.try_next(place)
+        self.try_next(seat, place)
     }
 
     // The turn of a worker that runs a split phase.
-    fn split_turn<P: Post>(&mut self, post: &mut P, ending: bool) -> Turn
-        requires settled { IsSettled (P.view post.old) self.old }
-        requires split { RunsSplit (P.view post.old).state }
-        requires ending { ending ≡ true → SawEnding (P.view post.old).last }
-        ensures sound { IsSound (P.view post.new) self.new }
-        ensures works { WorksAt (P.view post.old) self.old ending result (P.view post.new) self.new }
+    fn split_turn<P: Post>(&mut self, seat: &mut Seat<P, Held>, ending: bool) -> Turn
+        requires settled { IsSettled seat.old self.old }
+        requires split { RunsSplit seat.old.post.state }
+        requires ending { ending ≡ true → SawEnding seat.old.post.last }
+        ensures sound { IsSound seat.new self.new }
+        ensures works { WorksAt seat.old self.old ending result seat.new self.new }
     {
         if ending {
-            self.merge(post);
-            post.report();
+            self.merge(seat);
+            seat.report();
             return Turn::Reported;
         }
-        if self.held.is_full() {
+        if seat.is_full() {
             return Turn::Idle;
         }
         match next_place(&self.ended, self.cursor) {
-            Some(place) => self.try_next(place),
+            Some(place) => self.try_next(seat, place),
             None => Turn::Idle,
         }
     }
 
     // Tries the submitter at a place. The next one is looked for after it.
-    fn try_next(&mut self, place: usize) -> Turn
-        requires places { HasSubmitters self.old }
+    fn try_next<P: Post>(&mut self, seat: &Seat<P, Held>, place: usize) -> Turn
+        requires places { HasSubmitters seat.now.last.share self.old }
         requires there { place < length self.old.ended.items }
         ensures tried { self.new ≡ record self.old {
           pending = Some place;
           cursor = (place + 1) % length self.old.ended.items;
         } }
-        ensures answer { result
-            ≡ Turn.Try (submitter_of self.old.last.share.workers self.old.last.share.worker place) }
+        ensures answer { let share = seat.now.last.share in
+            result ≡ Turn.Try (submitter_of share.workers share.worker place) }
     {
         self.pending = Some(place);
         self.cursor = (place + 1) % self.ended.len();
         Turn::Try {
-            submitter: self.last.submitter_at(place),
+            submitter: seat.users().submitter_at(place),
         }
     }
 }

@@ -1,9 +1,10 @@
 use Rattle.std.proofs.Common.{subst}
-use Rattle.like_roles.specs.worker.WorkerView.{WorkerView, IsSliceInSplit}
+use Rattle.like_roles.specs.worker.WorkerView.{WorkerView}
+use Rattle.like_seat.specs.SeatView.{IsSliceInSplit}
 use Rattle.like_roles.proofs.Started.{follows-done}
 use Rattle.like_roles.proofs.worker.Worker.finish.Goals as goal
 
 pub returns-clause-done : goal.returns-clause-done
 returns-clause-done g c = λ service f.
-    let kept = subst (λ (v : WorkerView). IsSliceInSplit v.post v.slice) c.self.view_is c.self.invariant.slice in
+    let kept = subst (λ (v : WorkerView). IsSliceInSplit v.post v.slice) c.self.view_is c.self.invariant.seat.split in
     follows-done service c.args.self f c.requires kept

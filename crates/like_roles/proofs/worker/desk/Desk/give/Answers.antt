@@ -5,7 +5,7 @@ use Rattle.like_roles.proofs.worker.desk.Desk.give.Goals as goal
 
 pub take-requires-clause-given : goal.take-requires-clause-given
 take-requires-clause-given g c κs within =
-    let v = view_of (g.P.Post.view c.args.post.now) c.args.self.now in
+    let v = view_of c.args.seat.now c.args.self.now in
     let next = (subst (λ t. CanGive v t) c.in-Ask.is c.requires.given) c.in-Some.place c.in-Some.is in
     record { number = next.number; some = next.some; there = next.there }
 

@@ -1,21 +1,18 @@
-use Rattle.std.proofs.Common.{ap, ◌∙◌}
-use Rattle.like_tables.specs.UserTable.{UserTable, with_last}
-use Rattle.like_roles.specs.worker.Desk.{view_of}
-use Rattle.like_roles.specs.worker.Serve.{counted}
-use Rattle.like_roles.specs.worker.WorkerView.{WorkerView}
-use Rattle.like_roles.proofs.Held.{IsSound-last}
+use Rattle.std.proofs.Common.{subst}
+use Rattle.like_seat.specs.Steps.{CountsLike}
+use Rattle.like_roles.proofs.Counting.{liked-board, liked-slice}
 use Rattle.like_roles.proofs.worker.desk.Desk.like.Goals as goal
 
-pub returns-clause-sound : goal.returns-clause-sound
-returns-clause-sound g c =
-    IsSound-last (g.P.Post.view c.count.new.post) c.count.new.self c.set.new.self c.count.ensures.sound (ap (λ t. t.share) c.set.ensures.table)
+pub returns-in-Some : goal.returns-in-Some
+returns-in-Some g c =
+    let counts = subst (λ r. CountsLike c.args.seat.now c.args.user c.args.page r c.count_like.new.self) c.in-Some.is c.count_like.ensures.counts in
+    let n = c.note_addition.ensures in
+    let all = liked-board c.args.seat.now c.count_like.new.self c.args.self.now c.note_addition.new.self c.args.user c.args.page c.phase-phase.result c.in-Some.old c.requires.settled c.requires.room c.count_like.ensures.seat counts c.phase-phase.ensures.phase
+    (record { noted = n.noted; len = n.len; capacity = n.capacity; rest = n.rest }) in
+    record { settled = all.0; room = all.1; liked = all.2 }
 
-pub returns-clause-liked : goal.returns-clause-liked
-returns-clause-liked g c =
-    let v = view_of (g.P.Post.view c.args.post.now) c.args.self.now in
-    let table = c.set.ensures.table ∙ ap (λ t. with_last t c.args.user c.args.page) c.count.ensures.last in
-    let old = c.count.ensures.counted.0 in (
-      old,
-      ap (λ (w : WorkerView). record w { last = c.set.new.self }) c.count.ensures.counted.1
-          ∙ ap (λ (t : UserTable). record (counted v c.args.page old) { last = t }) table,
-    )
+pub returns-in_default : goal.returns-in_default
+returns-in_default g c =
+    let counts = subst (λ r. CountsLike c.args.seat.now c.args.user c.args.page r c.count_like.new.self) c.in_default.is c.count_like.ensures.counts in
+    let all = liked-slice c.args.seat.now c.count_like.new.self c.args.self.now c.args.user c.args.page c.requires.settled c.requires.room c.count_like.ensures.seat c.requires.there counts in
+    record { settled = all.0; room = all.1; liked = all.2 }

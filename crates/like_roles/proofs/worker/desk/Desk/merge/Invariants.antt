@@ -1,15 +1,15 @@
 use Rattle.std.proofs.Common.{◌-◌, ◌≤◌, length}
 use Rattle.like_core.specs.Post.{pages_of}
-use Rattle.like_roles.specs.worker.Desk.{view_of, IsSound}
+use Rattle.like_roles.specs.worker.Desk.{view_of, IsSettled}
 use Rattle.like_roles.proofs.Merging.{Merging}
 use Rattle.like_roles.proofs.worker.desk.Desk.merge.Given as goal
 
-abbrev pub invariant-loop-page : goal.invariant-loop-page
-invariant-loop-page g l = record {
-  sound : IsSound (g.P.Post.view l.post) l.self;
-  within : l.from ≤ length l.self.slice;
-  merging : Merging (view_of (g.P.Post.view l.initial.post) l.initial.self) (view_of (g.P.Post.view l.post) l.self) l.from;
+abbrev pub invariant-loop-merged : goal.invariant-loop-merged
+invariant-loop-merged g l = record {
+  settled : IsSettled l.seat l.self;
+  within : l.from ≤ length l.seat.slice;
+  merging : Merging (view_of l.initial.seat l.initial.self) (view_of l.seat l.self) l.from;
 }
 
-abbrev pub decreases-loop-page : goal.decreases-loop-page
-decreases-loop-page g l = pages_of (g.P.Post.view l.initial.post) - l.from
+abbrev pub decreases-loop-merged : goal.decreases-loop-merged
+decreases-loop-merged g l = pages_of l.initial.seat.post - l.from

@@ -1,21 +1,33 @@
-use Rattle.std.proofs.Common.{refl, subst, ◌∙◌}
+use Rattle.std.proofs.Common.{◌≡◌, refl, subst, ap, ◌∙◌}
+use Rattle.like_core.specs.Post.{PostView}
+use Rattle.like_seat.proofs.Looking.{saw-waiting}
 use Rattle.like_roles.specs.worker.Desk.{view_of}
-use Rattle.like_roles.specs.worker.Turns.{Works, waits, works}
-use Rattle.like_roles.proofs.Looking.{waits-masks}
-use Rattle.like_roles.proofs.Served.{not_gone}
+use Rattle.like_roles.specs.worker.Turns.{Works, saw, waits, works}
 use Rattle.like_roles.proofs.worker.desk.Desk.turn.Goals as goal
 
 pub returns-then-sight-clause-case : goal.returns-then-sight-clause-case
 returns-then-sight-clause-case g c =
-    waits c.look-sight.result (not_gone _ _ _ c.requires.sound.placed.standing c.if-self.false) c.look-sight.ensures.sight c.if-sight.true refl
-    (c.look-sight.ensures.saw ∙ waits-masks (view_of (g.P.Post.view c.args.post.now) c.args.self.now) c.look-sight.result c.look-sight.new.self.hot c.look-sight.ensures.sight c.if-sight.true)
+    let looks = c.look-sight.ensures.looks in
+    let v = view_of c.args.seat.now c.args.self.now in
+    let sight = c.look-sight.result in
+    let saw_is : view_of c.look-sight.new.seat c.look-sight.new.self ≡ saw v sight looks.0 = λ m. view_of (looks.1 m) (c.look-sight.ensures.rest m) in
+    waits sight (λ gone. absurd (cc (c.is_gone.ensures.1 gone, c.if-is_gone.false))) c.look-sight.ensures.sight c.if-sight.true refl
+    (saw_is ∙ ap (λ (p : PostView). record v { post = p }) (saw-waiting v.post sight looks.0 c.if-sight.true))
 
-pub returns-then-sight-eq0-clause-case : goal.returns-then-sight-eq0-clause-case
-returns-then-sight-eq0-clause-case g c =
-    works c.look-sight.result c.look-sight.new.self.hot (not_gone _ _ _ c.requires.sound.placed.standing c.if-self.false) c.look-sight.ensures.sight c.if-sight.false
-    (subst (λ m. Works m c.look-sight.result.ending c.joined_turn.result (view_of (g.P.Post.view c.joined_turn.new.post) c.joined_turn.new.self)) c.look-sight.ensures.saw c.joined_turn.ensures.works)
+pub returns-then-phase-eq0-clause-case : goal.returns-then-phase-eq0-clause-case
+returns-then-phase-eq0-clause-case g c =
+    let looks = c.look-sight.ensures.looks in
+    let v = view_of c.args.seat.now c.args.self.now in
+    let sight = c.look-sight.result in
+    let saw_is : view_of c.look-sight.new.seat c.look-sight.new.self ≡ saw v sight looks.0 = λ m. view_of (looks.1 m) (c.look-sight.ensures.rest m) in
+    works sight looks.0 (λ gone. absurd (cc (c.is_gone.ensures.1 gone, c.if-is_gone.false))) c.look-sight.ensures.sight c.if-sight.false
+    (subst (λ m. Works m sight.ending c.joined_turn.result (view_of c.joined_turn.new.seat c.joined_turn.new.self)) saw_is c.joined_turn.ensures.works)
 
-pub returns-else-sight-eq0-clause-case : goal.returns-else-sight-eq0-clause-case
-returns-else-sight-eq0-clause-case g c =
-    works c.look-sight.result c.look-sight.new.self.hot (not_gone _ _ _ c.requires.sound.placed.standing c.if-self.false) c.look-sight.ensures.sight c.if-sight.false
-    (subst (λ m. Works m c.look-sight.result.ending c.split_turn.result (view_of (g.P.Post.view c.split_turn.new.post) c.split_turn.new.self)) c.look-sight.ensures.saw c.split_turn.ensures.works)
+pub returns-else-phase-eq0-clause-case : goal.returns-else-phase-eq0-clause-case
+returns-else-phase-eq0-clause-case g c =
+    let looks = c.look-sight.ensures.looks in
+    let v = view_of c.args.seat.now c.args.self.now in
+    let sight = c.look-sight.result in
+    let saw_is : view_of c.look-sight.new.seat c.look-sight.new.self ≡ saw v sight looks.0 = λ m. view_of (looks.1 m) (c.look-sight.ensures.rest m) in
+    works sight looks.0 (λ gone. absurd (cc (c.is_gone.ensures.1 gone, c.if-is_gone.false))) c.look-sight.ensures.sight c.if-sight.false
+    (subst (λ m. Works m sight.ending c.split_turn.result (view_of c.split_turn.new.seat c.split_turn.new.self)) saw_is c.split_turn.ensures.works)

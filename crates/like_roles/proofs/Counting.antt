@@ -1,0 +1,116 @@
+-- A like that a worker counts, and an addition that it notes.
+use Rattle.std.proofs.Common.{◌≡◌, ℕ, ◌+◌, ◌<◌, ◌≤◌, Bool, true, cond, List, [], ◌∷◌, ◌++◌, length, get_or, sum, Some, None, refl, ap, sym, ◌∙◌, arith, subst, vec_len, vec_capacity}
+use Rattle.std.specs.List.{All}
+use Rattle.std.proofs.lemmas.List.Sums.{sum_by-append, sum_by-set}
+use Rattle.like_core.specs.Additions.{all_added}
+use Rattle.like_core.specs.Post.{has_read, pages_of}
+use Rattle.like_core.specs.declared.view.Addition.{Addition}
+use Rattle.like_tables.specs.UserTable.{with_last}
+use Rattle.like_tables.specs.declared.held.Held.{Held}
+use Rattle.like_seat.specs.SeatView.{IsSeat, SeatView, phase_at}
+use Rattle.like_seat.specs.declared.merged.Merged.{Merged}
+use Rattle.like_seat.specs.Steps as steps
+use Rattle.like_seat.specs.Steps.{CountsLike, MergesPage, liked_last, sliced, with_addition}
+use Rattle.like_roles.specs.declared.worker.desk.Desk.{Desk}
+use Rattle.like_roles.specs.worker.Desk.{HasRoom, HasRoomForOne, HasRoomToNote, IsOwn, IsSettled, view_of}
+use Rattle.like_roles.specs.worker.Serve as serve
+use Rattle.like_roles.specs.worker.Serve.{Likes, noted_if}
+use Rattle.like_roles.specs.worker.Turns.{merged_page}
+use Rattle.like_roles.proofs.Held.{AreOwn-moved, settled-after}
+
+-- one addition more
+pub all_added-push : (xs : List Addition) (a : Addition) → all_added (xs ++ a ∷ []) ≡ all_added xs + a.likes
+all_added-push xs a = sum_by-append (λ (b : Addition). b.likes) xs (a ∷ []) ∙ omega arith
+
+-- an addition in a phase was noted, where additions are
+pub record HasNoted (d e : Desk) (phase page old n : ℕ) : Type 0 where
+  pub noted : e.adds.items ≡ d.adds.items ++ noted_if d.notes (length d.ran.items) (record { phase = phase; page = page; old = old; likes = n } ∷ [])
+  pub len : d.notes ≡ true → vec_len e.adds ≡ vec_len d.adds + 1
+  pub capacity : vec_capacity e.adds ≡ vec_capacity d.adds
+  pub rest : e ≡ record d { adds = e.adds }
+
+-- so it was by the worker
+pub noting-view : (t : SeatView Held) (d e : Desk) (phase page old n : ℕ) → HasNoted d e phase page old n → phase ≡ phase_at t → view_of t e ≡ serve.noting (view_of t d) page old n
+noting-view t d e phase page old n h is =
+    ap (view_of t) h.rest
+    ∙ (λ m. record (view_of t d) { adds = h.noted m })
+    ∙ (λ m. record (view_of t d) { adds = d.adds.items ++ noted_if d.notes (length d.ran.items) (record { phase = is m; page = page; old = old; likes = n } ∷ []) })
+
+-- a like in the slice
+pub liked-slice : (s t : SeatView Held) (d : Desk) (user page : ℕ) → IsSettled s d → HasRoomForOne s d → IsSeat t → page < pages_of s.post → CountsLike s user page None t
+    → IsSettled t d × HasRoomToNote t d × Likes (view_of s d) user page (view_of t d)
+liked-slice s t d user page is room seat there c =
+    let now = liked_last (sliced s page) user page in
+    let v = view_of s d in
+    let inside : page < length s.slice = omega (arith, is.sound.seat.sized) in
+    let more : sum now.slice ≡ sum s.slice + 1 = omega (arith, sum_by-set (λ x. x) s.slice page (get_or s.slice page 0 + 1) 0 inside) in
+    let before = is.sound.room in (
+      settled-after s t d d is seat (ap (λ (x : SeatView Held). x.last.share) c.1)
+      (subst (λ xs. All (IsOwn t) xs) (sym (ap (λ (x : SeatView Held). x.held.held) c.1)) (AreOwn-moved s t s.held.held (ap (λ (x : SeatView Held). x.last.share) c.1) (ap (λ (x : SeatView Held). x.post.marks) c.1) is.sound.held))
+      (subst (λ x. HasRoom x d) (sym c.1) (record { taken = before.taken; ran = before.ran; few_ran = before.few_ran; adds = λ n. omega (arith, room.adds n, more); few = omega (arith, room.few, more) }))
+      refl,
+      subst (λ x. HasRoomToNote x d) (sym c.1) (record { ran = room.ran }),
+      (0, ap (λ x. view_of x d) c.1 ∙ sym (ap (λ (b : Bool). record (cond b (view_of (sliced s page) d) (serve.with_addition v page 0 1)) { last = with_last s.last user page }) c.0)),
+    )
+
+-- a like on the board, which was noted
+pub liked-board : (s t : SeatView Held) (d e : Desk) (user page phase count : ℕ) → IsSettled s d → HasRoomForOne s d → IsSeat t → CountsLike s user page (Some count) t
+    → phase ≡ phase_at s → HasNoted d e phase page count 1 → IsSettled t e × HasRoomToNote t e × Likes (view_of s d) user page (view_of t e)
+liked-board s t d e user page phase count is room seat c phase_is h =
+    let now = liked_last (with_addition s page count 1) user page in
+    let v = view_of s d in
+    let more : all_added now.post.additions ≡ all_added s.post.additions + 1 = all_added-push s.post.additions (record { phase = phase_at s; page = page; old = count; likes = 1 }) in
+    let before = is.sound.room in
+    let noted : view_of now e ≡ serve.noting (view_of now d) page count 1 = noting-view now d e phase page count 1 h phase_is in
+    let all : IsSettled now e → IsSettled t e = subst (λ x. IsSettled x e) (sym c.1) in (
+      settled-after s t d e is seat (ap (λ (x : SeatView Held). x.last.share) c.1)
+      (subst (λ xs. All (IsOwn t) xs) (sym (ap (λ (x : SeatView Held). x.held.held) c.1)) (AreOwn-moved s t s.held.held (ap (λ (x : SeatView Held). x.last.share) c.1) (ap (λ (x : SeatView Held). x.post.marks) c.1) is.sound.held))
+      (subst (λ x. HasRoom x e) (sym c.1) (subst (λ x. HasRoom now x) (sym h.rest) (record {
+        taken = before.taken;
+        ran = before.ran;
+        few_ran = before.few_ran;
+        adds = λ n. omega (arith, room.adds n, h.len n, h.capacity);
+        few = omega (arith, room.few, more);
+      })))
+      h.rest,
+      subst (λ x. HasRoomToNote x e) (sym c.1) (subst (λ x. HasRoomToNote now x) (sym h.rest) (record { ran = room.ran })),
+      (count, ap (λ x. view_of x e) c.1 ∙ (noted ∙ sym (ap (λ (b : Bool). record (cond b (view_of (sliced s page) d) (serve.with_addition v page count 1)) { last = with_last s.last user page }) c.0))),
+    )
+
+-- a read leaves all else as it is
+pub read-settled : (s t : SeatView Held) (d : Desk) (page count : ℕ) → IsSettled s d → IsSeat t → t ≡ record s { post = has_read s.post page count } → IsSettled t d
+read-settled s t d page count is seat e =
+    let before = is.sound.room in
+    settled-after s t d d is seat (ap (λ (x : SeatView Held). x.last.share) e)
+    (subst (λ xs. All (IsOwn t) xs) (sym (ap (λ (x : SeatView Held). x.held.held) e)) (AreOwn-moved s t s.held.held (ap (λ (x : SeatView Held). x.last.share) e) (ap (λ (x : SeatView Held). x.post.marks) e) is.sound.held))
+    (subst (λ x. HasRoom x d) (sym e) (record { taken = before.taken; ran = before.ran; few_ran = before.few_ran; adds = before.adds; few = before.few }))
+    refl
+
+-- a page that was merged, and noted
+pub noting-merged : (s t : SeatView Held) (d e : Desk) (from phase : ℕ) (m : Merged) → MergesPage s from m t → HasNoted d e phase m.page m.old m.likes → phase ≡ phase_at s
+    → view_of t e ≡ merged_page (view_of s d) m.page m.old
+noting-merged s t d e from phase m merges noted is =
+    noting-view t d e phase m.page m.old m.likes noted (is ∙ sym (ap (λ (x : SeatView Held). phase_at x) merges.merged))
+    ∙ (λ k. serve.noting (view_of (merges.merged k) d) m.page m.old (merges.likes k))
+
+-- leaves room
+pub merged-settled : (s t : SeatView Held) (d e : Desk) (from phase : ℕ) (m : Merged) → IsSettled s d → IsSeat t → MergesPage s from m t → HasNoted d e phase m.page m.old m.likes → IsSettled t e
+merged-settled s t d e from phase m is seat merges h =
+    let now = steps.merged_page s m.page m.old in
+    let page = m.page in
+    let likes : ℕ = get_or s.slice page 0 in
+    let liked = merges.next.liked in
+    let some : 1 ≤ likes = omega (arith, liked) in
+    let less : sum now.slice + likes ≡ sum s.slice = omega (arith, sum_by-set (λ x. x) s.slice page 0 0 merges.next.there) in
+    let more : all_added now.post.additions ≡ all_added s.post.additions + likes = all_added-push s.post.additions (record { phase = phase_at s; page = page; old = m.old; likes = likes }) in
+    let before = is.sound.room in
+    settled-after s t d e is seat (ap (λ (x : SeatView Held). x.last.share) merges.merged)
+    (subst (λ xs. All (IsOwn t) xs) (sym (ap (λ (x : SeatView Held). x.held.held) merges.merged)) (AreOwn-moved s t s.held.held (ap (λ (x : SeatView Held). x.last.share) merges.merged) (ap (λ (x : SeatView Held). x.post.marks) merges.merged) is.sound.held))
+    (subst (λ x. HasRoom x e) (sym merges.merged) (subst (λ x. HasRoom now x) (sym h.rest) (record {
+      taken = before.taken;
+      ran = before.ran;
+      few_ran = before.few_ran;
+      adds = λ n. omega (arith, before.adds n, h.len n, h.capacity, less, some);
+      few = omega (arith, before.few, more, less);
+    })))
+    h.rest

@@ -1,0 +1,2 @@
+pub mod Looking
+pub mod Merging
