@@ -1,5 +1,5 @@
 -- Each step is allowed by the rule, and tells what it is said to tell.
-use Rattle.std.proofs.Common.{◌≡◌, ◌≢◌, ℕ, ◌+◌, ◌%◌, ◌^◌, ◌<◌, bit_or, List, [], ◌∷◌, ◌++◌, length, get_or, slice_set, subst, ap, sym, ◌∙◌, refl, arith}
+use Rattle.std.proofs.Common.{◌≡◌, ◌≢◌, ℕ, ◌+◌, ◌%◌, ◌^◌, ◌<◌, bit_or, List, [], ◌∷◌, ◌++◌, get_or, slice_set, subst, ap, sym, ◌∙◌, refl, arith}
 use mathlib.Core.Option.{some}
 use lib.ListN.{get_elem?}
 use Rattle.atomic_table.specs.Table.{Me, keeps, Allows, Splits, Joins}
@@ -17,7 +17,9 @@ use Rattle.like_core.specs.Post.{IsFresh, MayAdd, MayRead}
 use Rattle.like_core.specs.WorkerState.{RunsJoined, RunsSplit, SawEnding}
 use Rattle.like_core.specs.views.Views.{MayAnnounce, MayCount, MayPublish, MayRelease, fresh, looked_view, answered_view, retired_view, added_view, read_view, masked_view, post_of, likes_merged, adding, looked_coord, announced_coord, counted_coord, published_coord, mask_released, released_coord, made_coord, gathered_coord}
 use Rattle.like_core.specs.views.Actions.{Acknowledges, Reports, Retires, Announces, Releases}
+use Rattle.like_core.specs.views.Layout.{mask_place, word_of}
 use Rattle.like_core.specs.views.Shows.{ShowsSome, FitsWorker, FitsCoord, IsStep, IsSteps}
+use Rattle.like_core.proofs.views.Apart.{word_of-injective}
 use Rattle.like_core.proofs.views.Posts.{post_fresh}
 use Rattle.like_board.specs.declared.key.Key.{Key}
 use Rattle.like_board.specs.Known.{worker_view_of, coord_view_of}
@@ -173,11 +175,11 @@ releasing {S} key slots id me seen new new_is lawful seen_is is may = λ st show
       ),
     )
 
-pub counting : {S : Type 0} (key : Key) (slots id : ℕ) (me : Me S View) (page : ℕ) → me ≡ (Coord (coord_view_of me.0), []) → MayCount (coord_view_of me.0) page → Allows (IsShowing key) slots id me (page + 1) (λ n. n) (λ found after. TellsCountAt (page + 1) me.0 found after.0 × (after.1 ≡ []))
-counting {S} key slots id me page is may = λ st shows _ at _.
+counting_page : {S : Type 0} (key : Key) (slots id : ℕ) (me : Me S View) (page : ℕ) → me ≡ (Coord (coord_view_of me.0), []) → MayCount (coord_view_of me.0) page → Allows (IsShowing key) slots id me (word_of page) (λ n. n) (λ found after. TellsCountAt (word_of page) me.0 found after.0 × (after.1 ≡ []))
+counting_page {S} key slots id me page is may = λ st shows _ at _.
     let z = opening_of key in
     let c : CoordSeatView = coord_view_of me.0 in
-    let found : ℕ = get_or st.words (page + 1) 0 in
+    let found : ℕ = get_or st.words (word_of page) 0 in
     let d : CoordSeatView = counted_coord c page found in
     let here : get_elem? st.views id ≡ some (Coord c) = at ∙ ap (λ (m : Me S View). some m.0) is in
     let same = coord_opening z st.words st.views id c shows here in
@@ -190,24 +192,26 @@ counting {S} key slots id me page is may = λ st shows _ at _.
       tt,
       r.1,
       (
-        λ q on. subst (λ (p : ℕ). TellsCount p me.0 found (Coord d)) (let e : page ≡ q = omega arith in e) told,
+        λ q on. subst (λ (p : ℕ). TellsCount p me.0 found (Coord d)) (word_of-injective page q on) told,
         ap (λ (m : Me S View). m.1) is,
       ),
     )
 
-pub publishing : {S : Type 0} (key : Key) (slots id : ℕ) (me : Me S View) (word mask : ℕ) → word ≡ length (coord_view_of me.0).opening.counts + 1 → me ≡ (Coord (coord_view_of me.0), []) → MayPublish (coord_view_of me.0) mask → Allows (IsShowing key) slots id me word (λ _. mask) (λ found after. (after.0 ≡ Coord (published_coord (coord_view_of me.0) mask)) × (after.1 ≡ []))
-publishing {S} key slots id me word mask word_is is may = λ st shows _ at _.
+pub counting : {S : Type 0} (key : Key) (slots id : ℕ) (me : Me S View) (page word : ℕ) → word ≡ word_of page → me ≡ (Coord (coord_view_of me.0), []) → MayCount (coord_view_of me.0) page → Allows (IsShowing key) slots id me word (λ n. n) (λ found after. TellsCountAt word me.0 found after.0 × (after.1 ≡ []))
+counting {S} key slots id me page word word_is is may =
+    subst (λ (i : ℕ). Allows (IsShowing key) slots id me i (λ n. n) (λ found after. TellsCountAt i me.0 found after.0 × (after.1 ≡ []))) (sym word_is)
+    (counting_page key slots id me page is may)
+
+pub publishing : {S : Type 0} (key : Key) (slots id : ℕ) (me : Me S View) (mask : ℕ) → me ≡ (Coord (coord_view_of me.0), []) → MayPublish (coord_view_of me.0) mask → Allows (IsShowing key) slots id me mask_place (λ _. mask) (λ found after. (after.0 ≡ Coord (published_coord (coord_view_of me.0) mask)) × (after.1 ≡ []))
+publishing {S} key slots id me mask is may = λ st shows _ at _.
     let z = opening_of key in
     let c : CoordSeatView = coord_view_of me.0 in
     let d : CoordSeatView = published_coord c mask in
-    let here : get_elem? st.views id ≡ some (Coord c) = at ∙ ap (λ (m : Me S View). some m.0) is in
-    let last : word ≡ length z.counts + 1 =
-    word_is ∙ ap (λ (y : Opening). length y.counts + 1) (coord_opening z st.words st.views id c shows here)
-    in (
+    let here : get_elem? st.views id ≡ some (Coord c) = at ∙ ap (λ (m : Me S View). some m.0) is in (
       Coord d,
       keeps,
       tt,
-      subst (λ (i : ℕ). ShowsSome z (slice_set st.words i mask) (slice_set st.views id (Coord d))) (sym last) (publishes z st.words st.views id c mask shows here may),
+      publishes z st.words st.views id c mask shows here may,
       (refl, ap (λ (m : Me S View). m.1) is),
     )
 
@@ -229,11 +233,11 @@ making {S} key id v is room = λ st shows at.
       places = places_made z st.views id c here shows.places;
     })
 
-pub adding_to : {S : Type 0} (key : Key) (slots id : ℕ) (me : Me S View) (page n : ℕ) → me ≡ (Worker (worker_view_of me.0), []) → MayAdd (post_of (worker_view_of me.0)) page n → Allows (IsShowing key) slots id me (page + 1) (λ k. (k + n) % 2 ^ 64) (λ found after. TellsAddAt (page + 1) n me.0 found after.0 × (after.1 ≡ []))
-adding_to {S} key slots id me page n is may = λ st shows _ at _.
+adding_page : {S : Type 0} (key : Key) (slots id : ℕ) (me : Me S View) (page n : ℕ) → me ≡ (Worker (worker_view_of me.0), []) → MayAdd (post_of (worker_view_of me.0)) page n → Allows (IsShowing key) slots id me (word_of page) (λ k. (k + n) % 2 ^ 64) (λ found after. TellsAddAt (word_of page) n me.0 found after.0 × (after.1 ≡ []))
+adding_page {S} key slots id me page n is may = λ st shows _ at _.
     let z = opening_of key in
     let v : WorkerSeatView = worker_view_of me.0 in
-    let found : ℕ = get_or st.words (page + 1) 0 in
+    let found : ℕ = get_or st.words (word_of page) 0 in
     let w : WorkerSeatView = added_view v page found n in
     let here : get_elem? st.views id ≡ some (Worker v) = at ∙ ap (λ (m : Me S View). some m.0) is in
     let same = worker_opening z st.words st.views id v shows here in
@@ -250,16 +254,21 @@ adding_to {S} key slots id me page n is may = λ st shows _ at _.
       tt,
       r.1,
       (
-        λ q on. subst (λ (p : ℕ). TellsAdd p n me.0 found (Worker w)) (let e : page ≡ q = omega arith in e) told,
+        λ q on. subst (λ (p : ℕ). TellsAdd p n me.0 found (Worker w)) (word_of-injective page q on) told,
         ap (λ (m : Me S View). m.1) is,
       ),
     )
 
-pub reading : {S : Type 0} (key : Key) (slots id : ℕ) (me : Me S View) (page : ℕ) → me ≡ (Worker (worker_view_of me.0), []) → MayRead (post_of (worker_view_of me.0)) page → Allows (IsShowing key) slots id me (page + 1) (λ k. k) (λ found after. TellsReadAt (page + 1) me.0 found after.0 × (after.1 ≡ []))
-reading {S} key slots id me page is may = λ st shows _ at _.
+pub adding_to : {S : Type 0} (key : Key) (slots id : ℕ) (me : Me S View) (page word n : ℕ) → word ≡ word_of page → me ≡ (Worker (worker_view_of me.0), []) → MayAdd (post_of (worker_view_of me.0)) page n → Allows (IsShowing key) slots id me word (λ k. (k + n) % 2 ^ 64) (λ found after. TellsAddAt word n me.0 found after.0 × (after.1 ≡ []))
+adding_to {S} key slots id me page word n word_is is may =
+    subst (λ (i : ℕ). Allows (IsShowing key) slots id me i (λ k. (k + n) % 2 ^ 64) (λ found after. TellsAddAt i n me.0 found after.0 × (after.1 ≡ []))) (sym word_is)
+    (adding_page key slots id me page n is may)
+
+reading_page : {S : Type 0} (key : Key) (slots id : ℕ) (me : Me S View) (page : ℕ) → me ≡ (Worker (worker_view_of me.0), []) → MayRead (post_of (worker_view_of me.0)) page → Allows (IsShowing key) slots id me (word_of page) (λ k. k) (λ found after. TellsReadAt (word_of page) me.0 found after.0 × (after.1 ≡ []))
+reading_page {S} key slots id me page is may = λ st shows _ at _.
     let z = opening_of key in
     let v : WorkerSeatView = worker_view_of me.0 in
-    let found : ℕ = get_or st.words (page + 1) 0 in
+    let found : ℕ = get_or st.words (word_of page) 0 in
     let w : WorkerSeatView = read_view v page found in
     let here : get_elem? st.views id ≡ some (Worker v) = at ∙ ap (λ (m : Me S View). some m.0) is in
     let same = worker_opening z st.words st.views id v shows here in
@@ -276,27 +285,24 @@ reading {S} key slots id me page is may = λ st shows _ at _.
       tt,
       r.1,
       (
-        λ q on. subst (λ (p : ℕ). TellsRead p me.0 found (Worker w)) (let e : page ≡ q = omega arith in e) told,
+        λ q on. subst (λ (p : ℕ). TellsRead p me.0 found (Worker w)) (word_of-injective page q on) told,
         ap (λ (m : Me S View). m.1) is,
       ),
     )
 
-pub reading_mask : {S : Type 0} (key : Key) (slots id : ℕ) (me : Me S View) (word : ℕ) → word ≡ length (worker_view_of me.0).opening.marks + 1 → me ≡ (Worker (worker_view_of me.0), []) → RunsSplit (worker_view_of me.0).state → Allows (IsShowing key) slots id me word (λ k. k) (λ found after. TellsMask me.0 found after.0 × (after.1 ≡ []))
-reading_mask {S} key slots id me word word_is is split = λ st shows _ at _.
+pub reading : {S : Type 0} (key : Key) (slots id : ℕ) (me : Me S View) (page word : ℕ) → word ≡ word_of page → me ≡ (Worker (worker_view_of me.0), []) → MayRead (post_of (worker_view_of me.0)) page → Allows (IsShowing key) slots id me word (λ k. k) (λ found after. TellsReadAt word me.0 found after.0 × (after.1 ≡ []))
+reading {S} key slots id me page word word_is is may =
+    subst (λ (i : ℕ). Allows (IsShowing key) slots id me i (λ k. k) (λ found after. TellsReadAt i me.0 found after.0 × (after.1 ≡ []))) (sym word_is)
+    (reading_page key slots id me page is may)
+
+pub reading_mask : {S : Type 0} (key : Key) (slots id : ℕ) (me : Me S View) → me ≡ (Worker (worker_view_of me.0), []) → RunsSplit (worker_view_of me.0).state → Allows (IsShowing key) slots id me mask_place (λ k. k) (λ found after. TellsMask me.0 found after.0 × (after.1 ≡ []))
+reading_mask {S} key slots id me is split = λ st shows _ at _.
     let z = opening_of key in
     let v : WorkerSeatView = worker_view_of me.0 in
     let here : get_elem? st.views id ≡ some (Worker v) = at ∙ ap (λ (m : Me S View). some m.0) is in
     let same = worker_opening z st.words st.views id v shows here in
-    let last : length z.counts + 1 ≡ word =
-    sym (word_is ∙ ap (λ (y : Opening). length y.marks + 1) same ∙ ap (λ (n : ℕ). n + 1) shows.shows.opening.marks)
-    in
-    let P : ℕ → Type 0 =
-    λ i.
-    IsStep z (Hot v.worker) (HotShown (get_or st.words i 0)) (Worker v) (Worker (masked_view v (get_or st.words i 0)))
-    × ShowsSome z (slice_set st.words i (get_or st.words i 0)) (slice_set st.views id (Worker (masked_view v (get_or st.words i 0))))
-    in
-    let r = subst P last (reads_mask z st.words st.views id v shows here split) in
-    let found : ℕ = get_or st.words word 0 in
+    let r = reads_mask z st.words st.views id v shows here split in
+    let found : ℕ = get_or st.words mask_place 0 in
     let w : WorkerSeatView = masked_view v found in (
       Worker w,
       keeps,

@@ -18,6 +18,7 @@ use Rattle.like_core.specs.views.Views.{gathered_coord, seats_of}
 use Rattle.like_core.specs.views.Reads.{before_in, all_before, AreBetween, IsCounted}
 use Rattle.like_core.specs.views.Places.{Counting, AreTiles, ArePlaced, passing, all_passing, count_after}
 use Rattle.like_core.specs.views.Tallies.{paged, left_to, room}
+use Rattle.like_core.specs.views.Layout.{word_of}
 use Rattle.like_core.specs.views.Shows.{Shows, ShowsSome, Fits, FitsWorker, FitsCoord}
 use Rattle.like_core.proofs.views.ViewLists.{within, sum_two, sum_lone, sum_gathered}
 use Rattle.like_core.proofs.views.KeptPlaces.{join_keeps_places, placed_on, tiles_on}
@@ -151,7 +152,7 @@ sum_coord f z s words views place c none sh at all =
     sum_lone f views place (Coord c) at (λ j u other found. ap f (others_spent z s words views place c sh at all j u other found) ∙ none)
 
 -- where all workers' seats were given back, each page's word is its count at the start and all their additions
-pub last_word : (z : Opening) (words : List ℕ) (views : List View) (place : ℕ) (c : CoordSeatView) → ShowsSome z words views → get_elem? views place ≡ some (Coord c) → ((i : ℕ) → i < c.made → seats_of i (Coord c) ≡ 1) → (page : ℕ) → page < length z.counts → get_or words (page + 1) 0 ≡ get_or z.counts page 0 + sum_by (λ w. added_to page w.additions) c.joined
+pub last_word : (z : Opening) (words : List ℕ) (views : List View) (place : ℕ) (c : CoordSeatView) → ShowsSome z words views → get_elem? views place ≡ some (Coord c) → ((i : ℕ) → i < c.made → seats_of i (Coord c) ≡ 1) → (page : ℕ) → page < length z.counts → get_or words (word_of page) 0 ≡ get_or z.counts page 0 + sum_by (λ w. added_to page w.additions) c.joined
 last_word z words views place c some_state at all page on =
     let s = some_state.state in
     let sh = some_state.shows in

@@ -13,6 +13,7 @@ use Rattle.like_core.specs.declared.view.WorkerSeatView.{WorkerSeatView}
 use Rattle.like_core.specs.declared.view.CoordSeatView.{CoordSeatView}
 use Rattle.like_core.specs.declared.view.View.{View}
 use Rattle.like_core.specs.declared.view.View.TheVariants.{Coord}
+use Rattle.like_core.specs.Limits.{max_pages}
 use Rattle.like_core.specs.Post.{additions_of}
 use Rattle.like_core.specs.Additions.{added_to, added_before}
 use Rattle.like_core.specs.views.Views.{post_of, seats_of}
@@ -20,6 +21,7 @@ use Rattle.like_core.specs.views.Reads.{before_in, AreBetween, IsCounted}
 use Rattle.like_core.specs.PhaseMasks.{mask_of, AreMasksOf}
 use Rattle.like_core.specs.views.Places.{Counting, AreTiles, ArePlaced, passing}
 use Rattle.like_core.specs.views.Tallies.{paged}
+use Rattle.like_core.specs.views.Layout.{word_of}
 use Rattle.like_core.specs.views.Shows.{ShowsSome, FitsWorker, FitsCoord}
 use Rattle.like_core.proofs.views.KeptReads.{between_on, counted_on}
 use Rattle.like_board.specs.declared.key.Key.{Key}
@@ -51,7 +53,7 @@ module _ {A B : Type 0} (g : A → B) where
   at_mapped (x ∷ xs) (suc k) d below = at_mapped xs k d (omega arith)
 
 -- where all seats were given back, a page's word is its count at the start and what they mean to have added
-closed_word : (z : Opening) (words : List ℕ) (views : List View) (place : ℕ) (c : CoordSeatView) → ShowsSome z words views → get_elem? views place ≡ some (Coord c) → c.made ≡ c.opening.workers → ((i : ℕ) → i < c.opening.workers → seats_of i (Coord c) ≡ 1) → (page : ℕ) → page < length c.opening.counts → get_or words (page + 1) 0 ≡ get_or c.opening.counts page 0 + sum_by (λ w. additions_of (post_of w) page) c.joined
+closed_word : (z : Opening) (words : List ℕ) (views : List View) (place : ℕ) (c : CoordSeatView) → ShowsSome z words views → get_elem? views place ≡ some (Coord c) → c.made ≡ c.opening.workers → ((i : ℕ) → i < c.opening.workers → seats_of i (Coord c) ≡ 1) → (page : ℕ) → page < length c.opening.counts → get_or words (word_of page) 0 ≡ get_or c.opening.counts page 0 + sum_by (λ w. additions_of (post_of w) page) c.joined
 closed_word z words views place c some_state at made all page on =
     let old : FitsCoord z some_state.state c = some_state.shows.each place (Coord c) at in
     let same : c.opening ≡ z = old.opening in
@@ -114,9 +116,10 @@ closed_places z words views place c last counting some_state at made all last_is
     (λ page. ap (λ (y : Opening). slice_index y.counts page + paged page (Coord c)) (sym old.opening) ∙ last_is page)
     same)
 
--- what a board is that ended: its last words and phases, what its seats read, and where they added
+-- what a board is that ended: how many pages it has, its last words and phases, what its seats read, and where they added
 pub record IsClosed (words : List ℕ) (c : CoordSeatView) (seats : List WorkerSeat) : Type 0 where
-  pub counts : (page : ℕ) → page < length c.opening.counts → get_or words (page + 1) 0 ≡ last_count c.opening seats page
+  pub few_pages : length c.opening.counts ≤ max_pages
+  pub counts : (page : ℕ) → page < length c.opening.counts → get_or words (word_of page) 0 ≡ last_count c.opening seats page
   pub phases : All (λ seat. IfSome (seat_meaning seat).last (λ sight. sight.number ≤ c.phase)) seats
   pub reads : HaveReadBetween c.opening c.phase seats
   pub counted : AreCounted c seats
@@ -146,7 +149,9 @@ closes key id me words slots c seats final me_is none made all =
     (λ page. ap (λ (k : ℕ). slice_index c.opening.counts page + k) (sum_by-map seat_view (λ (w : WorkerSeatView). added_to page w.additions) seats))
     (λ test. sum_by-map seat_view (λ (w : WorkerSeatView). count_by test w.additions) seats)
     in
+    let old : FitsCoord z shows.state d = shows.shows.each id (Coord d) at in
     record {
+      few_pages = subst (λ (y : Opening). length y.counts ≤ max_pages) (sym old.opening) shows.shows.opening.few_pages;
       counts = λ page on.
           closed_word z words views id d shows at made each page on ∙
           ap (λ (k : ℕ). get_or c.opening.counts page 0 + k) (sum_by-map seat_view (λ (w : WorkerSeatView). additions_of (post_of w) page) seats);

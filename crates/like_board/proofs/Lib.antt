@@ -5,5 +5,6 @@ pub mod Gathering
 pub mod LastCounts
 pub mod InOrder
 pub mod Meanings
+pub mod Written
 pub mod Opens
 pub mod Allowed

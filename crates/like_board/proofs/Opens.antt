@@ -1,8 +1,6 @@
 -- What a new board shows.
-use Rattle.std.proofs.Common.{◌≡◌, ℕ, zero, suc, ◌<◌, ◌≤◌, nat_lt, Bool, false, List, [], ◌∷◌, ◌++◌, All, length, get_or, subst, ap, sym, ◌∙◌, refl, arith, add-one, add-zero}
+use Rattle.std.proofs.Common.{◌≡◌, ℕ, zero, suc, ◌<◌, ◌≤◌, nat_lt, Bool, false, List, [], ◌∷◌, All, length, get_or, subst, ap, sym, ◌∙◌, refl, arith, add-zero}
 use Rattle.std.proofs.lemmas.Bool.{cond-true, lt-ltb, le-ltb}
-use Rattle.std.proofs.Math.ListN.{get_or-append}
-use Rattle.std.proofs.lemmas.List.{length-append}
 use Rattle.std.proofs.lemmas.List.Elements.{All-nil}
 use mathlib.Core.Option.{some, some-injective, some-ne-none}
 use lib.ListN.{get_elem?}
@@ -22,6 +20,7 @@ use Rattle.like_core.specs.word.ShownWord.{mask, has_answered, is_gone, shown_fi
 use Rattle.like_core.specs.views.Sights.{first_fields}
 use Rattle.like_core.specs.views.Views.{fresh_coord}
 use Rattle.like_core.specs.views.Reads.{all_before, IsCounted, HasReads, ReadsFit}
+use Rattle.like_core.specs.views.Layout.{word_of}
 use Rattle.like_core.specs.views.Shows.{IsOpening, ShowsSome, Fits, FitsCoord}
 use Rattle.like_core.proofs.views.KeptPlaces.{places_open}
 use Rattle.like_core.proofs.core.Reached.{start_reached}
@@ -45,8 +44,8 @@ start_fields z =
     λ m. record { kind = 0; workers = z.workers; answered = answered m; retired = retired m; number = 0 }
 
 -- a new board shows the core's start
-pub opens : (z : Opening) → IsOpening z → ShowsSome z (packed (first_fields z.workers) ∷ z.counts ++ 0 ∷ []) (Coord (fresh_coord z (packed (first_fields z.workers))) ∷ [])
-opens z opening =
+pub opens : (z : Opening) (words : List ℕ) → IsOpening z → length words ≡ word_of (length z.counts) → get_or words 0 0 ≡ packed (first_fields z.workers) → ((page : ℕ) → page < length z.counts → get_or words (word_of page) 0 ≡ get_or z.counts page 0) → ShowsSome z words (Coord (fresh_coord z (packed (first_fields z.workers))) ∷ [])
+opens z words opening width word pages =
     let c : CoordSeatView = fresh_coord z (packed (first_fields z.workers)) in
     let fits : FitsCoord z (start z) c =
     record {
@@ -71,9 +70,9 @@ opens z opening =
       reachable = start_reached z;
       shows = record {
         opening = opening;
-        width = (let long = length-append z.counts (0 ∷ []) in omega arith);
-        word = ap packed (sym (start_fields z));
-        pages = λ page below. rw add-one (get_or-append z.counts (0 ∷ []) 0 page below ∙ sym (add-zero (get_or z.counts page 0)));
+        width = width;
+        word = word ∙ ap packed (sym (start_fields z));
+        pages = λ page below. pages page below ∙ sym (add-zero (get_or z.counts page 0));
         mask = λ odd. absurd (omega arith);
         merged = λ i. refl;
         coord = c;
@@ -105,9 +104,16 @@ opens z opening =
         subst (HasReads z.counts (all_before (Coord c ∷ [])) 0) (some-injective (Coord c) v at) has
     no_reads z c none (suc place) v at = absurd (some-ne-none v (sym at))
 
+-- the words of a new board: the phase word and the counts at their places
+abbrev pub AreFirst : List ℕ → ℕ → List ℕ → Type 0
+AreFirst words word counts =
+    (length words ≡ word_of (length counts))
+    × (get_or words 0 0 ≡ word)
+    × ((page : ℕ) → page < length counts → get_or words (word_of page) 0 ≡ get_or counts page 0)
+
 -- a table that is made with these words starts by the rule
-pub opens_key : (key : Key) (counts : List ℕ) (marks : List Bool) (word : ℕ) (words : List ℕ) → key.counts.items ≡ counts → key.marks.items ≡ marks → word ≡ packed (first_fields key.workers) → words ≡ word ∷ counts ++ 0 ∷ [] → 1 ≤ key.workers → key.workers ≤ max_workers → length marks ≡ length counts → length counts ≤ max_pages → All (λ n. n ≤ max_count) counts → ShowsSome (opening_of key) words (first_view key ∷ [])
-opens_key key counts marks word words counts_are marks_are word_is words_are some_worker few_workers same_pages few_pages low =
+pub opens_key : (key : Key) (counts : List ℕ) (marks : List Bool) (word : ℕ) (items words : List ℕ) → key.counts.items ≡ counts → key.marks.items ≡ marks → word ≡ packed (first_fields key.workers) → words ≡ items → AreFirst items word counts → 1 ≤ key.workers → key.workers ≤ max_workers → length marks ≡ length counts → length counts ≤ max_pages → All (λ n. n ≤ max_count) counts → ShowsSome (opening_of key) words (first_view key ∷ [])
+opens_key key counts marks word items words counts_are marks_are word_is words_are first some_worker few_workers same_pages few_pages low =
     let z : Opening = opening_of key in
     let sized : length key.counts.items ≡ length counts = ap length counts_are in
     let opening : IsOpening z =
@@ -119,5 +125,6 @@ opens_key key counts marks word words counts_are marks_are word_is words_are som
       counts = subst (All (λ (n : ℕ). n ≤ max_count)) (sym counts_are) low;
     }
     in
-    let same : words ≡ packed (first_fields key.workers) ∷ key.counts.items ++ 0 ∷ [] = words_are ∙ (λ m. word_is m ∷ sym counts_are m ++ 0 ∷ []) in
-    subst (λ (ws : List ℕ). ShowsSome z ws (first_view key ∷ [])) (sym same) (opens z opening)
+    let here : AreFirst items word key.counts.items = subst (AreFirst items word) (sym counts_are) first in
+    subst (λ (ws : List ℕ). ShowsSome z ws (first_view key ∷ [])) (sym words_are)
+    (opens z items opening here.0 (here.1 ∙ word_is) here.2)

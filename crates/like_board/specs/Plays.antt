@@ -1,4 +1,4 @@
-use Rattle.std.specs.Prelude.{◌≡◌, ℕ, ◌+◌, ◌≤◌, true}
+use Rattle.std.specs.Prelude.{◌≡◌, ℕ, ◌≤◌, true}
 use Rattle.like_core.specs.declared.event.Event.TheVariants.{Look, CoordLook}
 use Rattle.like_core.specs.declared.shown.Shown.TheVariants.{Seen, Coord as CoordShown}
 use Rattle.like_core.specs.declared.opening.Opening.{Opening}
@@ -12,6 +12,7 @@ use Rattle.like_core.specs.views.Sights.{sight_of, coord_sight_of}
 use Rattle.like_core.specs.WorkerState.{IsSightOf, SeesEndingStill}
 use Rattle.like_core.specs.Additions.{added_to}
 use Rattle.like_core.specs.views.Views.{looked_view, added_view, read_view, masked_view, looked_coord, counted_coord}
+use Rattle.like_core.specs.views.Layout.{word_of}
 use Rattle.like_core.specs.views.Shows.{IsStep}
 use Rattle.like_core.specs.views.Actions.{Adds, Reads, ReadsMask, Counts}
 use Rattle.like_board.specs.Known.{worker_view_of, coord_view_of}
@@ -76,9 +77,9 @@ pub record TellsAdd (page n : ℕ) (v : View) (found : ℕ) (w : View) : Type 0 
   pub own : added_to page (worker_view_of v).additions ≤ found
   pub step : let me = worker_view_of v in Adds me page n found (added_view me page found n)
 
--- the same of a word: the word after the phase word is page 0's
+-- the same of a word, where it is a page's
 abbrev pub TellsAddAt : ℕ → ℕ → View → ℕ → View → Type 0
-TellsAddAt word n v found w = (page : ℕ) → word ≡ page + 1 → TellsAdd page n v found w
+TellsAddAt word n v found w = (page : ℕ) → word ≡ word_of page → TellsAdd page n v found w
 
 -- what a read of a page tells: the view after has it, with the count that it found; the worker's own additions are in
 -- that; and it is the action
@@ -89,7 +90,7 @@ pub record TellsRead (page : ℕ) (v : View) (found : ℕ) (w : View) : Type 0 w
 
 -- the same of a word
 abbrev pub TellsReadAt : ℕ → View → ℕ → View → Type 0
-TellsReadAt word v found w = (page : ℕ) → word ≡ page + 1 → TellsRead page v found w
+TellsReadAt word v found w = (page : ℕ) → word ≡ word_of page → TellsRead page v found w
 
 -- what a read of the mask word tells: the view after has the mask that it found, and it is the action
 pub record TellsMask (v : View) (found : ℕ) (w : View) : Type 0 where
@@ -103,4 +104,4 @@ pub record TellsCount (page : ℕ) (v : View) (found : ℕ) (w : View) : Type 0 
 
 -- the same of a word
 abbrev pub TellsCountAt : ℕ → View → ℕ → View → Type 0
-TellsCountAt word v found w = (page : ℕ) → word ≡ page + 1 → TellsCount page v found w
+TellsCountAt word v found w = (page : ℕ) → word ≡ word_of page → TellsCount page v found w

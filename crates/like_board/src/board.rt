@@ -1,8 +1,9 @@
-ghost use Rattle.std.specs.Prelude.{◌≡◌, ◌+◌, ◌^◌, ◌<◌, ◌≤◌, All, length, IfOk};
+ghost use Rattle.std.specs.Prelude.{◌≡◌, ◌<◌, ◌≤◌, All, length, IfOk};
 ghost use Rattle.like_core.specs.Limits.{max_workers, max_pages, max_count};
 
 use crate::coord_seat::CoordSeat;
 use crate::key::Key;
+use crate::layout::first_words;
 use crate::new_seats::make_seats;
 use crate::rule::BoardRule;
 use crate::worker_seat::WorkerSeat;
@@ -10,7 +11,7 @@ use atomic_table::Table;
 use like_core::{PhaseWord, View};
 use std::alloc::{AllocError, Global};
 
-/// The phase word, then one word per page, and last the mask word, which threads share.
+/// The phase word, the mask word and one word per page, which threads share.
 #[derive(Drop)]
 pub struct Board {
     pub(crate) table: Table<(), View, Key, BoardRule, Global>,
@@ -45,10 +46,7 @@ impl Board {
             AreFresh (board_id r.0) (opening workers counts.now split.now) r.2.items) }
     {
         let first = PhaseWord::first(workers);
-        let mut words = Vec::with_capacity(alloc, counts.len() + 2)?;
-        words.push_reserved(first.pack());
-        words.extend_from_slice(counts)?;
-        words.push(0)?;
+        let words = first_words(alloc, first.pack(), counts)?;
         let key = Key {
             workers,
             counts: Vec::from_slice(alloc, counts)?,
@@ -58,12 +56,5 @@ impl Board {
         let board = Board { table };
         let seats = make_seats(alloc, &board, &mut seat, workers)?;
         Ok((board, CoordSeat { seat, seen: first }, seats))
-    }
-
-    /// The place of the mask word, which is the last.
-    pub(crate) fn mask_word(&self) -> usize
-        ensures { result + 1 ≡ (board_id self.now).words }
-    {
-        self.table.word_count() - 1
     }
 }

@@ -1,17 +1,20 @@
 //! How a board ends: all seats are given back, and the words are the last counts.
-ghost use Rattle.std.specs.Prelude.{◌≡◌, ℕ, ◌+◌, ◌<◌, [], All, length, map, slice_index};
+ghost use Rattle.std.specs.Prelude.{◌≡◌, ℕ, ◌<◌, ◌≤◌, [], All, length, map, slice_index};
 ghost use Rattle.std.specs.Slots.{IsFull, slots_items, slots_len};
 ghost use mathlib.Core.Option.{some};
 ghost use lib.ListN.{get_elem?};
 ghost use Rattle.like_core.specs.declared.view.View.TheVariants.{Coord};
 ghost use Rattle.like_core.specs.declared.worker_state.WorkerState.TheVariants.{Gone};
+ghost use Rattle.like_core.specs.Limits.{max_pages};
 ghost use Rattle.like_core.specs.WorkerState.{SawNoLater};
+ghost use Rattle.like_core.specs.views.Layout.{word_of};
 ghost use Rattle.like_core.specs.views.Views.{gathered_all};
 ghost use Rattle.like_board.specs.Known.{coord_view_of};
 ghost use Rattle.like_board.specs.Seats.{board_id, coord_board, coord_view, seat_board, seat_view, seat_meaning, AreAll, last_count, HaveReadBetween, HaveReadMasks, HavePlaces, AreCounted};
 
 use crate::board::Board;
 use crate::coord_seat::CoordSeat;
+use crate::layout::word_of;
 use crate::plays::Gathers;
 use crate::worker_seat::WorkerSeat;
 use atomic_table::{Closed, Seat};
@@ -36,13 +39,14 @@ fn gather(board: &Board, coord: &mut Seat<(), View>, mut seats: Vec<WorkerSeat>)
 /// Writes each page's word.
 fn write_counts(closed: &Closed<(), Global>, counts: &mut [u64])
     requires full { IsFull closed.now.words }
-    requires sized { slots_len closed.now.words ≡ length counts.old + 2 }
+    requires sized { slots_len closed.now.words ≡ word_of (length counts.old) }
+    requires few_pages { length counts.old ≤ max_pages }
     ensures len { length counts.new ≡ length counts.old }
     ensures words { (page : ℕ) → page < length counts.old →
-        get_elem? (slots_items closed.now.words) (page + 1) ≡ some (slice_index counts.new page) }
+        get_elem? (slots_items closed.now.words) (word_of page) ≡ some (slice_index counts.new page) }
 {
     for (page, count) in counts.iter_mut().enumerate() {
-        *count = closed.word(page + 1);
+        *count = closed.word(word_of(page as u32));
     }
 }
 

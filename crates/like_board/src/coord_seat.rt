@@ -1,12 +1,14 @@
-ghost use Rattle.std.specs.Prelude.{◌≡◌, ◌+◌, true, [], length};
+ghost use Rattle.std.specs.Prelude.{◌≡◌, true, [], length};
 ghost use Rattle.std.specs.Option.{option_map};
 ghost use Rattle.like_core.specs.declared.view.View.TheVariants.{Coord};
 ghost use Rattle.like_core.specs.word.Word.{packed};
 ghost use Rattle.like_core.specs.word.PhaseWord.{fields_of};
+ghost use Rattle.like_core.specs.views.Layout.{word_of};
 ghost use Rattle.like_core.specs.views.Sights.{coord_sight_of};
 ghost use Rattle.like_board.specs.Known.{coord_view_of};
 
 use crate::board::Board;
+use crate::layout::{MASK_WORD, PHASE_WORD, word_of};
 use crate::plays::{Announcing, Counting, Publishing, Releasing, Surveying};
 use atomic_table::Seat;
 use like_core::{CoordSight, PhaseWord, View};
@@ -19,7 +21,7 @@ pub struct CoordSeat {
     pub(crate) seen: PhaseWord,
     ghost is_coord: { seat.me ≡ (Coord (coord_view_of seat.me.0), []) },
     ghost saw: { packed (fields_of seen) ≡ (coord_view_of seat.me.0).word },
-    ghost sized: { seat.table_id.words ≡ length (coord_view_of seat.me.0).opening.counts + 2 },
+    ghost sized: { seat.table_id.words ≡ word_of (length (coord_view_of seat.me.0).opening.counts) },
     ghost made_all: { (coord_view_of seat.me.0).made ≡ (coord_view_of seat.me.0).opening.workers },
     ghost none_back: { (coord_view_of seat.me.0).joined ≡ [] },
     ghost showed: { let last = (coord_view_of seat.me.0).last in
@@ -43,7 +45,10 @@ impl CoordSeat {
         ensures all_gone { let c = coord_view self.old in IsSplit c.phase → result.all_gone ≡ true → c.gone ≡ true }
         ensures event { Surveys (coord_view self.old) result (coord_view self.new) }
     {
-        let word = board.table.shared.load::<Surveying>(&mut self.seat, 0);
+        let word = board
+            .table
+            .shared
+            .load::<Surveying>(&mut self.seat, PHASE_WORD);
         self.seen = PhaseWord::of_packed(word);
         self.seen.coord_sight()
     }
@@ -59,7 +64,7 @@ impl CoordSeat {
         board
             .table
             .shared
-            .fetch_add::<Announcing>(&mut self.seat, 0, 1);
+            .fetch_add::<Announcing>(&mut self.seat, PHASE_WORD, 1);
     }
 
     /// A page's count at the end of a joined phase: its count at the start and all that was added up to that phase.
@@ -70,7 +75,7 @@ impl CoordSeat {
         ensures view { coord_view self.new ≡ counted_coord (coord_view self.old) page result }
         ensures event { Counts (coord_view self.old) page result (coord_view self.new) }
     {
-        let word = page as usize + 1;
+        let word = word_of(page);
         board.table.shared.load::<Counting>(&mut self.seat, word)
     }
 
@@ -82,11 +87,10 @@ impl CoordSeat {
         ensures board { coord_board self.new ≡ coord_board self.old }
         ensures view { coord_view self.new ≡ published_coord (coord_view self.old) mask }
     {
-        let word = board.mask_word();
         board
             .table
             .shared
-            .store::<Publishing>(&mut self.seat, word, mask);
+            .store::<Publishing>(&mut self.seat, MASK_WORD, mask);
     }
 
     /// Releases the next phase, a split one with the mask that was published last.
@@ -101,6 +105,6 @@ impl CoordSeat {
         board
             .table
             .shared
-            .store::<Releasing>(&mut self.seat, 0, next.pack());
+            .store::<Releasing>(&mut self.seat, PHASE_WORD, next.pack());
     }
 }

@@ -7,6 +7,7 @@ mod board_post;
 mod closed_board;
 mod coord_seat;
 mod key;
+mod layout;
 mod new_seats;
 mod plays;
 mod rule;

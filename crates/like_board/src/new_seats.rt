@@ -1,8 +1,9 @@
 //! How the seats of a board's workers are made.
-ghost use Rattle.std.specs.Prelude.{◌≡◌, ◌+◌, ◌<◌, ◌≤◌, [], length, IfOk, OnOk};
+ghost use Rattle.std.specs.Prelude.{◌≡◌, ◌<◌, ◌≤◌, [], length, IfOk, OnOk};
 ghost use Rattle.like_core.specs.declared.view.View.TheVariants.{Coord};
 ghost use Rattle.like_core.specs.Limits.{max_workers};
 ghost use Rattle.like_core.specs.Post.{IsFresh};
+ghost use Rattle.like_core.specs.views.Layout.{word_of};
 ghost use Rattle.like_core.specs.views.Views.{fresh, made_coord};
 ghost use Rattle.like_board.specs.Known.{coord_view_of};
 ghost use Rattle.like_board.specs.Seats.{board_id, seat_board, seat_view, seat_meaning, AreFresh};
@@ -18,7 +19,7 @@ use std::alloc::{AllocError, Global};
 fn make_seat(board: &Board, coord: &mut Seat<(), View>, number: u32) -> WorkerSeat
     requires here { coord.old.table_id ≡ board_id board.now }
     requires coord { coord.old.me ≡ (Coord (coord_view_of coord.old.me.0), []) }
-    requires sized { coord.old.table_id.words ≡ length (coord_view_of coord.old.me.0).opening.marks + 2 }
+    requires sized { coord.old.table_id.words ≡ word_of (length (coord_view_of coord.old.me.0).opening.marks) }
     requires next { number ≡ (coord_view_of coord.old.me.0).made }
     requires room { number < (coord_view_of coord.old.me.0).opening.workers }
     requires few { number < max_workers }
@@ -41,7 +42,7 @@ pub(crate) fn make_seats(
 ) -> Result<Vec<WorkerSeat>, AllocError>
     requires here { coord.old.table_id ≡ board_id board.now }
     requires coord { coord.old.me ≡ (Coord (coord_view_of coord.old.me.0), []) }
-    requires sized { coord.old.table_id.words ≡ length (coord_view_of coord.old.me.0).opening.marks + 2 }
+    requires sized { coord.old.table_id.words ≡ word_of (length (coord_view_of coord.old.me.0).opening.marks) }
     requires none { (coord_view_of coord.old.me.0).made ≡ 0 }
     requires all { workers ≡ (coord_view_of coord.old.me.0).opening.workers }
     requires few { workers ≤ max_workers }

@@ -1,10 +1,12 @@
-ghost use Rattle.std.specs.Prelude.{◌≡◌, ◌≢◌, ◌+◌, ◌<◌, ◌≤◌, [], length};
+ghost use Rattle.std.specs.Prelude.{◌≡◌, ◌≢◌, ◌<◌, ◌≤◌, [], length};
 ghost use Rattle.like_core.specs.declared.view.View.TheVariants.{Worker};
 ghost use Rattle.like_core.specs.Limits.{max_workers};
+ghost use Rattle.like_core.specs.views.Layout.{word_of};
 ghost use Rattle.like_board.specs.Known.{worker_view_of};
 
 use crate::board::Board;
 use crate::board_post::BoardPost;
+use crate::layout::{MASK_WORD, PHASE_WORD, word_of};
 use crate::plays::{Acknowledging, Adding, Looking, Reading, ReadingMask, Reporting, Retiring};
 use atomic_table::Seat;
 use like_core::{PhaseWord, Sight, View};
@@ -17,7 +19,7 @@ pub struct WorkerSeat {
     ghost is_worker: { seat.me ≡ (Worker (worker_view_of seat.me.0), []) },
     ghost numbered: { number ≡ (worker_view_of seat.me.0).worker },
     ghost few: { number < max_workers },
-    ghost sized: { seat.table_id.words ≡ length (worker_view_of seat.me.0).opening.marks + 2 },
+    ghost sized: { seat.table_id.words ≡ word_of (length (worker_view_of seat.me.0).opening.marks) },
 }
 
 impl WorkerSeat {
@@ -48,7 +50,10 @@ impl WorkerSeat {
         ensures ending { SeesEndingStill (seat_view self.old).state (seat_view self.old).last result }
         ensures event { Looks (seat_view self.old) result (seat_view self.new) }
     {
-        let word = board.table.shared.load::<Looking>(&mut self.seat, 0);
+        let word = board
+            .table
+            .shared
+            .load::<Looking>(&mut self.seat, PHASE_WORD);
         PhaseWord::of_packed(word).sight(self.number)
     }
 
@@ -64,7 +69,7 @@ impl WorkerSeat {
         board
             .table
             .shared
-            .fetch_or::<Acknowledging>(&mut self.seat, 0, bit);
+            .fetch_or::<Acknowledging>(&mut self.seat, PHASE_WORD, bit);
     }
 
     pub(crate) fn report(&mut self, board: &Board)
@@ -79,7 +84,7 @@ impl WorkerSeat {
         board
             .table
             .shared
-            .fetch_or::<Reporting>(&mut self.seat, 0, bit);
+            .fetch_or::<Reporting>(&mut self.seat, PHASE_WORD, bit);
     }
 
     pub(crate) fn retire(&mut self, board: &Board)
@@ -93,7 +98,7 @@ impl WorkerSeat {
         board
             .table
             .shared
-            .fetch_or::<Retiring>(&mut self.seat, 0, bit);
+            .fetch_or::<Retiring>(&mut self.seat, PHASE_WORD, bit);
     }
 
     pub(crate) fn add(&mut self, board: &Board, page: u32, n: u64) -> u64
@@ -104,7 +109,7 @@ impl WorkerSeat {
         ensures own { added_to page (seat_view self.old).additions ≤ result }
         ensures event { Adds (seat_view self.old) page n result (seat_view self.new) }
     {
-        let word = page as usize + 1;
+        let word = word_of(page);
         board
             .table
             .shared
@@ -119,7 +124,7 @@ impl WorkerSeat {
         ensures own { added_to page (seat_view self.old).additions ≤ result }
         ensures event { Reads (seat_view self.old) page result (seat_view self.new) }
     {
-        let word = page as usize + 1;
+        let word = word_of(page);
         board.table.shared.load::<Reading>(&mut self.seat, word)
     }
 
@@ -130,7 +135,9 @@ impl WorkerSeat {
         ensures view { seat_view self.new ≡ masked_view (seat_view self.old) result }
         ensures event { ReadsMask (seat_view self.old) result (seat_view self.new) }
     {
-        let word = board.mask_word();
-        board.table.shared.load::<ReadingMask>(&mut self.seat, word)
+        board
+            .table
+            .shared
+            .load::<ReadingMask>(&mut self.seat, MASK_WORD)
     }
 }

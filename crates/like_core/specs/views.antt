@@ -4,5 +4,6 @@ pub mod Views
 pub mod Reads
 pub mod Tallies
 pub mod Places
+pub mod Layout
 pub mod Shows
 pub mod Actions

@@ -1,6 +1,8 @@
-//! Laws of the core's states and of the views of seats. Each is the contract of a function that does nothing.
+//! Laws of the core's states, of the views of seats and of the places of a board's words. Each is the contract of a
+//! function that does nothing.
 ghost use Rattle.like_core.specs.core.Exclusive.{ReachableIsExclusive};
 ghost use Rattle.like_core.specs.core.Likes.{LikesStayReachable};
+ghost use Rattle.like_core.specs.views.Layout.{WordsStandApart};
 ghost use Rattle.like_core.specs.views.Places.{AdditionKeepsPlaces, ReadKeepsPlaces, JoinKeepsPlaces};
 ghost use Rattle.like_core.specs.views.Reads.{AdditionKeepsReads, ReadKeepsReads, JoinKeepsReads};
 
@@ -45,4 +47,10 @@ pub fn read_keeps_places()
 /// A worker's seat that is given back does: its stretches and reads go on to stand in the coordinator's view.
 pub fn join_keeps_places()
     ensures { JoinKeepsPlaces }
+{}
+
+/// No two pages have the same word on a board, and none has the phase word or the mask word. These two and the words of
+/// the first 64 pages have 128 bytes each to themselves, so no two of them share a cache line of 64 or 128 bytes.
+pub fn words_stand_apart()
+    ensures { WordsStandApart }
 {}

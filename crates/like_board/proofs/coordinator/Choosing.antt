@@ -17,7 +17,9 @@ use Rattle.like_core.specs.core.Table.{Permits}
 use Rattle.like_core.specs.core.State.{numbers}
 use Rattle.like_core.specs.views.Views.{counted_coord, published_coord, MayCount, MayPublish}
 use Rattle.like_core.specs.views.Reads.{all_before, IsCounted}
+use Rattle.like_core.specs.views.Layout.{mask_place, word_of}
 use Rattle.like_core.specs.views.Shows.{Shows, ShowsSome, FitsCoord, IsStep}
+use Rattle.like_core.proofs.views.Apart.{word_of-past}
 use Rattle.like_core.proofs.views.KeptPlaces.{places_same}
 use Rattle.like_board.proofs.worker.Moves.{if_some}
 use Rattle.like_board.proofs.Tallying.{tallied_on}
@@ -25,11 +27,11 @@ use Rattle.like_board.proofs.coordinator.Leads.{of_coord, leads}
 use Rattle.like_board.proofs.coordinator.CoordSteps.{AllAreIn, saw_all_in}
 
 -- a read of a page's count is the event
-pub counts : (z : Opening) (words : List ℕ) (views : List View) (place : ℕ) (c : CoordSeatView) (page : ℕ) → ShowsSome z words views → get_elem? views place ≡ some (Coord c) → MayCount c page → IsStep z (CoordRead page) (Count (get_or words (page + 1) 0)) (Coord c) (Coord (counted_coord c page (get_or words (page + 1) 0))) × ShowsSome z (set words (page + 1) (get_or words (page + 1) 0)) (set views place (Coord (counted_coord c page (get_or words (page + 1) 0))))
+pub counts : (z : Opening) (words : List ℕ) (views : List View) (place : ℕ) (c : CoordSeatView) (page : ℕ) → ShowsSome z words views → get_elem? views place ≡ some (Coord c) → MayCount c page → IsStep z (CoordRead page) (Count (get_or words (word_of page) 0)) (Coord c) (Coord (counted_coord c page (get_or words (word_of page) 0))) × ShowsSome z (set words (word_of page) (get_or words (word_of page) 0)) (set views place (Coord (counted_coord c page (get_or words (word_of page) 0))))
 counts z words views place c page some_state at may =
     let s = some_state.state in
     let sh = some_state.shows in
-    let found : ℕ = get_or words (page + 1) 0 in
+    let found : ℕ = get_or words (word_of page) 0 in
     let d : CoordSeatView = counted_coord c page found in
     let r : PageCount = record { phase = c.phase; page = page; count = found } in
     let old : FitsCoord z s c = sh.each place (Coord c) at in
@@ -62,16 +64,16 @@ counts z words views place c page some_state at may =
       joined = old.joined;
     }
     in
-    let same : (i : ℕ) → get_or (set words (page + 1) found) i 0 ≡ get_or words i 0 =
-    λ i. ap (λ (l : List ℕ). get_or l i 0) (set-get_or words (page + 1) 0)
+    let same : (i : ℕ) → get_or (set words (word_of page) found) i 0 ≡ get_or words i 0 =
+    λ i. ap (λ (l : List ℕ). get_or l i 0) (set-get_or words (word_of page) 0)
     in
-    let last : ℕ = length z.counts + 1 in
-    let after_it : Shows z s (set words (page + 1) found) (set views place (Coord d)) =
-    leads z s words views place c d s.phase s.ending s.hot (page + 1) found sh at refl refl (omega arith)
+    let last : ℕ = mask_place in
+    let after_it : Shows z s (set words (word_of page) found) (set views place (Coord d)) =
+    leads z s words views place c d s.phase s.ending s.hot (word_of page) found sh at refl refl (omega arith)
     (same 0 ∙ sh.word)
-    (λ q _. same (q + 1))
+    (λ q _. same (word_of q))
     (λ odd. same last ∙ sh.mask odd)
-    (if_some c.published (λ mask. get_or words last 0 ≡ mask) (λ mask. get_or (set words (page + 1) found) last 0 ≡ mask) (λ mask is. same last ∙ is) known.0)
+    (if_some c.published (λ mask. get_or words last 0 ≡ mask) (λ mask. get_or (set words (word_of page) found) last 0 ≡ mask) (λ mask is. same last ∙ is) known.0)
     (All-cons (IsCounted z.counts (all_before views)) r c.counted counted known.1)
     fits
     (λ v f. f)
@@ -88,7 +90,7 @@ counts z words views place c page some_state at may =
         before = tt;
         permits = permits;
         tells = ap Count found_is;
-        changed = page + 1;
+        changed = word_of page;
         word = found;
         shows_after = after_it;
       },
@@ -102,7 +104,7 @@ counts z words views place c page some_state at may =
     )
 
 -- a mask that is published changes nothing of the state: its phase is joined
-pub publishes : (z : Opening) (words : List ℕ) (views : List View) (place : ℕ) (c : CoordSeatView) (mask : ℕ) → ShowsSome z words views → get_elem? views place ≡ some (Coord c) → MayPublish c mask → ShowsSome z (set words (length z.counts + 1) mask) (set views place (Coord (published_coord c mask)))
+pub publishes : (z : Opening) (words : List ℕ) (views : List View) (place : ℕ) (c : CoordSeatView) (mask : ℕ) → ShowsSome z words views → get_elem? views place ≡ some (Coord c) → MayPublish c mask → ShowsSome z (set words mask_place mask) (set views place (Coord (published_coord c mask)))
 publishes z words views place c mask some_state at may =
     let s = some_state.state in
     let sh = some_state.shows in
@@ -110,8 +112,9 @@ publishes z words views place c mask some_state at may =
     let old : FitsCoord z s c = sh.each place (Coord c) at in
     let even : IsJoined s.phase = subst IsJoined old.phase may.1 in
     let known = of_coord z s words views place c sh at in
-    let last : ℕ = length z.counts + 1 in
+    let last : ℕ = mask_place in
     let wide = sh.width in
+    let past = word_of-past (length z.counts) in
     let fits : FitsCoord z s d =
     record {
       opening = old.opening;
@@ -136,7 +139,7 @@ publishes z words views place c mask some_state at may =
       shows =
           leads z s words views place c d s.phase s.ending s.hot last mask sh at refl refl (omega arith)
           (get_or-set_other words last 0 mask 0 (λ eq. absurd (omega arith)) ∙ sh.word)
-          (λ page below. get_or-set_other words last (page + 1) mask 0 (λ eq. absurd (omega arith)))
+          (λ page below. get_or-set_other words last (word_of page) mask 0 (λ eq. let far = word_of-past page in absurd (omega arith)))
           (λ odd. absurd (omega arith))
           (get_or-set_same words last mask 0 (omega arith))
           known.1

@@ -25,6 +25,7 @@ use Rattle.like_core.specs.core.State.{CoreState, numbers}
 use Rattle.like_core.specs.views.Sights.{coord_sight_of}
 use Rattle.like_core.specs.word.ShownWord.{shown_fields, shown_word}
 use Rattle.like_core.specs.views.Views.{looked_coord, announced_coord, released_coord, mask_released, saw_all_gone, SawAllIn, MayAnnounce, MayRelease}
+use Rattle.like_core.specs.views.Layout.{mask_place}
 use Rattle.like_core.specs.views.Shows.{Shows, ShowsSome, FitsWorker, FitsCoord, IsStep}
 use Rattle.like_core.proofs.Updates.{update-same, update-other}
 use Rattle.like_core.proofs.core.Reached.{goes_on_by}
@@ -255,7 +256,7 @@ releases z words views place c seen some_state at may seen_lawful seen_is =
     let now : AllAreIn z s c = saw_all_in z s c old may.0 in
     let mask : ℕ = mask_released c in
     let published = of_coord z s words views place c sh at in
-    let is : IsReleased z c (get_or words (length z.counts + 1) 0) = is_released z c _ may.1 old.published published.0 in
+    let is : IsReleased z c (get_or words mask_place 0) = is_released z c _ may.1 old.published published.0 in
     let permits : Permits (numbers z s) (Release mask) =
     record {
       there = is.there;

@@ -22,7 +22,9 @@ use Rattle.like_core.specs.word.ShownWord.{shown_word}
 use Rattle.like_core.specs.Additions.{added_before}
 use Rattle.like_core.specs.views.Views.{fresh, made_coord, seats_of}
 use Rattle.like_core.specs.views.Reads.{before_in, all_before, IsBetween, AreBetween, IsCounted}
+use Rattle.like_core.specs.views.Layout.{mask_place, word_of}
 use Rattle.like_core.specs.views.Shows.{Shows, Fits, FitsWorker, FitsCoord}
+use Rattle.like_core.proofs.views.Apart.{word_of-past}
 use Rattle.like_core.proofs.views.ViewLists.{within, sum_set}
 use Rattle.like_core.proofs.views.KeptReads.{reads_same, reads_push, counted_on, counted_same}
 use Rattle.like_board.proofs.worker.Moves.{if_some, same_coord, counts_none, counts_one}
@@ -37,16 +39,16 @@ abbrev pub phased : CoreState → ℕ → Bool → (ℕ → ℕ) → CoreState
 phased s phase ending hot = record s { phase = phase; ending = ending; hot = hot }
 
 -- what the words and the views show of what the coordinator published and counted
-pub of_coord : (z : Opening) (s : CoreState) (words : List ℕ) (views : List View) (place : ℕ) (c : CoordSeatView) → Shows z s words views → get_elem? views place ≡ some (Coord c) → IfSome c.published (λ mask. get_or words (length z.counts + 1) 0 ≡ mask) × All (IsCounted z.counts (all_before views)) c.counted
+pub of_coord : (z : Opening) (s : CoreState) (words : List ℕ) (views : List View) (place : ℕ) (c : CoordSeatView) → Shows z s words views → get_elem? views place ≡ some (Coord c) → IfSome c.published (λ mask. get_or words mask_place 0 ≡ mask) × All (IsCounted z.counts (all_before views)) c.counted
 of_coord z s words views place c sh at =
     let is = same_coord z s words views place c sh at in (
-      subst (λ (e : CoordSeatView). IfSome e.published (λ mask. get_or words (length z.counts + 1) 0 ≡ mask)) is.1 sh.published,
+      subst (λ (e : CoordSeatView). IfSome e.published (λ mask. get_or words mask_place 0 ≡ mask)) is.1 sh.published,
       subst (λ (e : CoordSeatView). All (IsCounted z.counts (all_before views)) e.counted) is.1 sh.counted,
     )
 
 -- after the coordinator led to this phase, with a new view of its own that fits, the words, of which one was written, and
 -- the views show the state after, where the words do and all workers' views fit that too
-pub leads : (z : Opening) (s : CoreState) (words : List ℕ) (views : List View) (place : ℕ) (c d : CoordSeatView) (phase : ℕ) (ending : Bool) (hot : ℕ → ℕ) (changed word : ℕ) → Shows z s words views → get_elem? views place ≡ some (Coord c) → d.made ≡ c.made → d.joined ≡ c.joined → s.phase ≤ phase → get_or (set words changed word) 0 0 ≡ shown_word z (phased s phase ending hot) → ((page : ℕ) → page < length z.counts → get_or (set words changed word) (page + 1) 0 ≡ get_or words (page + 1) 0) → (IsSplit phase → get_or (set words changed word) (length z.counts + 1) 0 ≡ hot phase) → IfSome d.published (λ mask. get_or (set words changed word) (length z.counts + 1) 0 ≡ mask) → All (IsCounted z.counts (all_before views)) d.counted → FitsCoord z (phased s phase ending hot) d → ((v : WorkerSeatView) → FitsWorker z s v → FitsWorker z (phased s phase ending hot) v) → Shows z (phased s phase ending hot) (set words changed word) (set views place (Coord d))
+pub leads : (z : Opening) (s : CoreState) (words : List ℕ) (views : List View) (place : ℕ) (c d : CoordSeatView) (phase : ℕ) (ending : Bool) (hot : ℕ → ℕ) (changed word : ℕ) → Shows z s words views → get_elem? views place ≡ some (Coord c) → d.made ≡ c.made → d.joined ≡ c.joined → s.phase ≤ phase → get_or (set words changed word) 0 0 ≡ shown_word z (phased s phase ending hot) → ((page : ℕ) → page < length z.counts → get_or (set words changed word) (word_of page) 0 ≡ get_or words (word_of page) 0) → (IsSplit phase → get_or (set words changed word) mask_place 0 ≡ hot phase) → IfSome d.published (λ mask. get_or (set words changed word) mask_place 0 ≡ mask) → All (IsCounted z.counts (all_before views)) d.counted → FitsCoord z (phased s phase ending hot) d → ((v : WorkerSeatView) → FitsWorker z s v → FitsWorker z (phased s phase ending hot) v) → Shows z (phased s phase ending hot) (set words changed word) (set views place (Coord d))
 leads z s words views place c d phase ending hot changed word sh at made joined on word_is pages_are mask_is published_is counted_are fits workers =
     let t : CoreState = phased s phase ending hot in
     let is = same_coord z s words views place c sh at in
@@ -93,14 +95,15 @@ leads z s words views place c d phase ending hot changed word sh at made joined 
     }
 
 -- the same of a step on the phase word
-pub leads_word : (z : Opening) (s : CoreState) (words : List ℕ) (views : List View) (place : ℕ) (c d : CoordSeatView) (phase : ℕ) (ending : Bool) (hot : ℕ → ℕ) (word : ℕ) → Shows z s words views → get_elem? views place ≡ some (Coord c) → d.made ≡ c.made → d.joined ≡ c.joined → d.counted ≡ c.counted → s.phase ≤ phase → word ≡ shown_word z (phased s phase ending hot) → (IsSplit phase → get_or words (length z.counts + 1) 0 ≡ hot phase) → IfSome d.published (λ mask. get_or words (length z.counts + 1) 0 ≡ mask) → FitsCoord z (phased s phase ending hot) d → ((v : WorkerSeatView) → FitsWorker z s v → FitsWorker z (phased s phase ending hot) v) → Shows z (phased s phase ending hot) (set words 0 word) (set views place (Coord d))
+pub leads_word : (z : Opening) (s : CoreState) (words : List ℕ) (views : List View) (place : ℕ) (c d : CoordSeatView) (phase : ℕ) (ending : Bool) (hot : ℕ → ℕ) (word : ℕ) → Shows z s words views → get_elem? views place ≡ some (Coord c) → d.made ≡ c.made → d.joined ≡ c.joined → d.counted ≡ c.counted → s.phase ≤ phase → word ≡ shown_word z (phased s phase ending hot) → (IsSplit phase → get_or words mask_place 0 ≡ hot phase) → IfSome d.published (λ mask. get_or words mask_place 0 ≡ mask) → FitsCoord z (phased s phase ending hot) d → ((v : WorkerSeatView) → FitsWorker z s v → FitsWorker z (phased s phase ending hot) v) → Shows z (phased s phase ending hot) (set words 0 word) (set views place (Coord d))
 leads_word z s words views place c d phase ending hot word sh at made joined counted on word_is mask_is published_is fits workers =
     let wide = sh.width in
-    let last : ℕ = length z.counts + 1 in
+    let past = word_of-past (length z.counts) in
+    let last : ℕ = mask_place in
     let same : get_or (set words 0 word) last 0 ≡ get_or words last 0 = get_or-set_other words 0 last word 0 (λ eq. absurd (omega arith)) in
     leads z s words views place c d phase ending hot 0 word sh at made joined on
     (get_or-set_same words 0 word 0 (omega arith) ∙ word_is)
-    (λ page below. get_or-set_other words 0 (page + 1) word 0 (λ eq. absurd (omega arith)))
+    (λ page below. get_or-set_other words 0 (word_of page) word 0 (λ eq. let far = word_of-past page in absurd (omega arith)))
     (λ odd. same ∙ mask_is odd)
     (if_some d.published (λ mask. get_or words last 0 ≡ mask) (λ mask. get_or (set words 0 word) last 0 ≡ mask) (λ mask is. same ∙ is) published_is)
     (subst (All (IsCounted z.counts (all_before views))) (sym counted) (of_coord z s words views place c sh at).1)

@@ -25,6 +25,7 @@ use Rattle.like_core.specs.Additions.{added_to, added_in}
 use Rattle.like_core.specs.views.Views.{added_view, post_of, likes_merged, adding}
 use Rattle.like_core.specs.views.Reads.{before_in, all_before, IsCounted, ReadsFit}
 use Rattle.like_core.specs.views.Tallies.{Tallied, paged, room}
+use Rattle.like_core.specs.views.Layout.{word_of}
 use Rattle.like_core.specs.views.Shows.{Shows, ShowsSome, FitsWorker, FitsCoord, IsSteps}
 use Rattle.like_core.proofs.Updates.{update-same, update-other, update_cases}
 use Rattle.like_core.proofs.core.Reached.{goes_on, goes_on_by}
@@ -173,7 +174,7 @@ some_likes v page n may = by_test (slices v page) refl
     by_test false plain = let one = may.like plain in omega arith
 
 -- an addition is its events
-pub adds : (z : Opening) (words : List ℕ) (views : List View) (place : ℕ) (v : WorkerSeatView) (page n : ℕ) → ShowsSome z words views → get_elem? views place ≡ some (Worker v) → MayAdd (post_of v) page n → IsSteps z (likes_merged v page n) (adding v page) (Old (get_or words (page + 1) 0)) (Worker v) (Worker (added_view v page (get_or words (page + 1) 0) n)) × ShowsSome z (set words (page + 1) ((get_or words (page + 1) 0 + n) % 2 ^ 64)) (set views place (Worker (added_view v page (get_or words (page + 1) 0) n))) × (added_to page v.additions ≤ get_or words (page + 1) 0)
+pub adds : (z : Opening) (words : List ℕ) (views : List View) (place : ℕ) (v : WorkerSeatView) (page n : ℕ) → ShowsSome z words views → get_elem? views place ≡ some (Worker v) → MayAdd (post_of v) page n → IsSteps z (likes_merged v page n) (adding v page) (Old (get_or words (word_of page) 0)) (Worker v) (Worker (added_view v page (get_or words (word_of page) 0) n)) × ShowsSome z (set words (word_of page) ((get_or words (word_of page) 0 + n) % 2 ^ 64)) (set views place (Worker (added_view v page (get_or words (word_of page) 0) n))) × (added_to page v.additions ≤ get_or words (word_of page) 0)
 adds z words views place v page n some_state at may =
     let s = some_state.state in
     let sh = some_state.shows in
@@ -195,7 +196,7 @@ adds z words views place v page n some_state at may =
     let full = some_state.tallied.rooms page in
     let sums = some_state.tallied.sums page in
     let part = sum_part (paged page) views place (Worker v) at in
-    let found : get_or words (page + 1) 0 ≡ get_or z.counts page 0 + length (s.applied page) = sh.pages page on in
+    let found : get_or words (word_of page) 0 ≡ get_or z.counts page 0 + length (s.applied page) = sh.pages page on in
     let same : split (is_marked z.marks) s.hot s.phase page ≡ slices (post_of v) page = slices_are z s v page old present may.known in
     let a : Adding z s i page n (likes_merged v page n) (adding v page) =
     adds_either z s i page n (slices (post_of v) page) same may.like
@@ -203,12 +204,12 @@ adds z words views place v page n some_state at may =
     sh.merged old.there on (here ∙ ap Runs now) (omega arith)
     in
     let t : CoreState = with_applied s a.rest page (replicate n (label i s.phase)) in
-    let word : ℕ = (get_or words (page + 1) 0 + n) % 2 ^ 64 in
-    let count : ℕ = get_or words (page + 1) 0 in
+    let word : ℕ = (get_or words (word_of page) 0 + n) % 2 ^ 64 in
+    let count : ℕ = get_or words (word_of page) 0 in
     let w : WorkerSeatView = added_view v page count n in
     let long = applied_here s i page n in
     let word_is : word ≡ get_or z.counts page 0 + length (applied_by s i page n page) = omega arith in
-    let shows : Shows z t (set words (page + 1) word) (set views place (Worker w)) =
+    let shows : Shows z t (set words (word_of page) word) (set views place (Worker w)) =
     page_steps z s a.rest (applied_by s i page n) words views place v w page word sh at refl on word_is
     (λ q other. applied_else s i page n q other)
     a.merged
@@ -235,9 +236,9 @@ adds z words views place v page n some_state at may =
         before = a.before;
         permits = a.permits;
         tells = subst (λ (k : ℕ). IsShown (numbers z (after_all z s (likes_merged v page n))) (adding v page) (Old k)) (sym found) a.tells;
-        changed = page + 1;
+        changed = word_of page;
         word = word;
-        shows_after = subst (λ (u : CoreState). Shows z u (set words (page + 1) word) (set views place (Worker w))) (sym a.leads) shows;
+        shows_after = subst (λ (u : CoreState). Shows z u (set words (word_of page) word) (set views place (Worker w))) (sym a.leads) shows;
       },
       record {
         state = t;

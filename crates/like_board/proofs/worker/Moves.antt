@@ -23,10 +23,12 @@ use Rattle.like_core.specs.word.ShownWord.{shown_word}
 use Rattle.like_core.specs.Additions.{added_before}
 use Rattle.like_core.specs.views.Views.{seats_of}
 use Rattle.like_core.specs.views.Reads.{all_before, AreBetween, IsCounted, ReadsFit}
+use Rattle.like_core.specs.views.Layout.{mask_place, word_of}
 use Rattle.like_core.specs.views.Shows.{Shows, Fits, FitsWorker, FitsCoord}
 use Rattle.like_core.proofs.Updates.{update-same, update-other, update_cases}
 use Rattle.like_core.proofs.word.ShownEvents.{moved}
 use Rattle.like_core.proofs.views.KeptReads.{reads_same, counted_same}
+use Rattle.like_core.proofs.views.Apart.{word_of-past}
 use Rattle.like_core.proofs.views.ViewLists.{sum_part, sum_two, sum_set}
 
 -- what holds of the value of an option may be exchanged for what follows from it
@@ -157,7 +159,7 @@ same_coord z s words views place c sh at =
 
 -- after a worker's step, with a new view of its own that fits, the words and the views show the state after, where the
 -- words do and each view fits it that is no seat of the worker's
-pub worker_steps : (z : Opening) (s t : CoreState) (words later : List ℕ) (views : List View) (place : ℕ) (v w : WorkerSeatView) → (sh : Shows z s words views) → get_elem? views place ≡ some (Worker v) → w.worker ≡ v.worker → length later ≡ length words → get_or later 0 0 ≡ shown_word z t → ((page : ℕ) → page < length z.counts → get_or later (page + 1) 0 ≡ get_or z.counts page 0 + length (t.applied page)) → get_or later (length z.counts + 1) 0 ≡ get_or words (length z.counts + 1) 0 → (IsSplit t.phase → get_or words (length z.counts + 1) 0 ≡ t.hot t.phase) → ((i : ℕ) → t.unmerged i ≡ []) → FitsWorker z t w → ((u : View) → seats_of v.worker u ≡ 0 → ((c : CoordSeatView) → u ≡ Coord c → v.worker < c.made) → Fits z s u → Fits z t u) → ReadsFit z.counts t.phase (set views place (Worker w)) → All (IsCounted z.counts (all_before (set views place (Worker w)))) sh.coord.counted → Shows z t later (set views place (Worker w))
+pub worker_steps : (z : Opening) (s t : CoreState) (words later : List ℕ) (views : List View) (place : ℕ) (v w : WorkerSeatView) → (sh : Shows z s words views) → get_elem? views place ≡ some (Worker v) → w.worker ≡ v.worker → length later ≡ length words → get_or later 0 0 ≡ shown_word z t → ((page : ℕ) → page < length z.counts → get_or later (word_of page) 0 ≡ get_or z.counts page 0 + length (t.applied page)) → get_or later mask_place 0 ≡ get_or words mask_place 0 → (IsSplit t.phase → get_or words mask_place 0 ≡ t.hot t.phase) → ((i : ℕ) → t.unmerged i ≡ []) → FitsWorker z t w → ((u : View) → seats_of v.worker u ≡ 0 → ((c : CoordSeatView) → u ≡ Coord c → v.worker < c.made) → Fits z s u → Fits z t u) → ReadsFit z.counts t.phase (set views place (Worker w)) → All (IsCounted z.counts (all_before (set views place (Worker w)))) sh.coord.counted → Shows z t later (set views place (Worker w))
 worker_steps z s t words later views place v w sh at number width word pages same_mask mask merged fits others reads counted =
     let seated = has_seat z s words views place v sh at in
     let not_first : place ≢ 0 = λ zeroth.
@@ -193,8 +195,8 @@ worker_steps z s t words later views place v w sh at number width word pages sam
       once = λ i.
           sum_set (seats_of i) views place (Worker v) (Worker w) at (ap (λ k. cond (k == i) 1 0) number) ∙ sh.once i;
       published = if_some sh.coord.published
-          (λ mask. get_or words (length z.counts + 1) 0 ≡ mask)
-          (λ mask. get_or later (length z.counts + 1) 0 ≡ mask)
+          (λ mask. get_or words mask_place 0 ≡ mask)
+          (λ mask. get_or later mask_place 0 ≡ mask)
           (λ mask is. same_mask ∙ is)
           sh.published;
       reads = reads;
@@ -206,12 +208,13 @@ worker_steps z s t words later views place v w sh at number width word pages sam
 pub worker_moves : (z : Opening) (s : CoreState) (words : List ℕ) (views : List View) (place : ℕ) (v w : WorkerSeatView) (state : WorkerState) (word : ℕ) → Shows z s words views → get_elem? views place ≡ some (Worker v) → w ≡ record v { state = w.state; last = w.last } → word ≡ shown_word z (moved s v.worker state) → FitsWorker z (moved s v.worker state) w → (IsIn s.phase (s.state v.worker) → state ≡ s.state v.worker) → (IsSplit s.phase → state ≡ Gone → s.state v.worker ≡ Gone) → Shows z (moved s v.worker state) (set words 0 word) (set views place (Worker w))
 worker_moves z s words views place v w state word sh at rest word_is fits stays gone =
     let wide = sh.width in
+    let past = word_of-past (length z.counts) in
     let old : FitsWorker z s v = sh.each place (Worker v) at in
     worker_steps z s (moved s v.worker state) words (set words 0 word) views place v w sh at (ap (λ (x : WorkerSeatView). x.worker) rest)
     (length-set words 0 word)
     (get_or-set_same words 0 word 0 (omega arith) ∙ word_is)
-    (λ page below. get_or-set_other words 0 (page + 1) word 0 (λ eq. absurd (omega arith)) ∙ sh.pages page below)
-    (get_or-set_other words 0 (length z.counts + 1) word 0 (λ eq. absurd (omega arith)))
+    (λ page below. get_or-set_other words 0 (word_of page) word 0 (λ eq. let far = word_of-past page in absurd (omega arith)) ∙ sh.pages page below)
+    (get_or-set_other words 0 mask_place word 0 (λ eq. absurd (omega arith)))
     sh.mask
     sh.merged
     fits

@@ -19,8 +19,10 @@ use Rattle.like_core.specs.core.State.{CoreState, Label, labelled, numbers}
 use Rattle.like_core.specs.word.ShownWord.{shown_word}
 use Rattle.like_core.specs.views.Views.{post_of, seats_of}
 use Rattle.like_core.specs.views.Reads.{all_before, IsCounted, ReadsFit}
+use Rattle.like_core.specs.views.Layout.{mask_place, word_of}
 use Rattle.like_core.specs.views.Shows.{Shows, Fits, FitsWorker}
 use Rattle.like_core.proofs.PhaseMasks.{split-known}
+use Rattle.like_core.proofs.views.Apart.{word_of-past, word_of-order, word_of-injective}
 use Rattle.like_board.proofs.worker.Moves.{if_some, joined_other, worker_other, worker_steps}
 
 -- what the post knows of slices is what is split in the state
@@ -85,25 +87,27 @@ fits_else z s unmerged applied i keeps (Worker v) none has_seat f =
 fits_else z s unmerged applied i keeps Spent none has_seat f = tt
 
 -- after a step on a page's word, with a new view of its own that fits, the words and the views show the state after
-pub page_steps : (z : Opening) (s : CoreState) (unmerged : ℕ → List ℕ) (applied : ℕ → List Label) (words : List ℕ) (views : List View) (place : ℕ) (v w : WorkerSeatView) (page word : ℕ) → (sh : Shows z s words views) → get_elem? views place ≡ some (Worker v) → w.worker ≡ v.worker → page < length z.counts → word ≡ get_or z.counts page 0 + length (applied page) → ((q : ℕ) → q ≢ page → length (applied q) ≡ length (s.applied q)) → ((j : ℕ) → unmerged j ≡ []) → KeepsOthers s applied v.worker → FitsWorker z (with_likes s unmerged applied) w → ReadsFit z.counts s.phase (set views place (Worker w)) → All (IsCounted z.counts (all_before (set views place (Worker w)))) sh.coord.counted → Shows z (with_likes s unmerged applied) (set words (page + 1) word) (set views place (Worker w))
+pub page_steps : (z : Opening) (s : CoreState) (unmerged : ℕ → List ℕ) (applied : ℕ → List Label) (words : List ℕ) (views : List View) (place : ℕ) (v w : WorkerSeatView) (page word : ℕ) → (sh : Shows z s words views) → get_elem? views place ≡ some (Worker v) → w.worker ≡ v.worker → page < length z.counts → word ≡ get_or z.counts page 0 + length (applied page) → ((q : ℕ) → q ≢ page → length (applied q) ≡ length (s.applied q)) → ((j : ℕ) → unmerged j ≡ []) → KeepsOthers s applied v.worker → FitsWorker z (with_likes s unmerged applied) w → ReadsFit z.counts s.phase (set views place (Worker w)) → All (IsCounted z.counts (all_before (set views place (Worker w)))) sh.coord.counted → Shows z (with_likes s unmerged applied) (set words (word_of page) word) (set views place (Worker w))
 page_steps z s unmerged applied words views place v w page word sh at number on word_is others merged keeps fits reads counted =
     let wide = sh.width in
+    let past = word_of-past page in
+    let inside = word_of-order page (length z.counts) on in
     let t : CoreState = with_likes s unmerged applied in
-    let later : List ℕ = set words (page + 1) word in
-    let pages : (q : ℕ) → q < length z.counts → get_or later (q + 1) 0 ≡ get_or z.counts q 0 + length (applied q) =
+    let later : List ℕ = set words (word_of page) word in
+    let pages : (q : ℕ) → q < length z.counts → get_or later (word_of q) 0 ≡ get_or z.counts q 0 + length (applied q) =
     λ q below.
     elim (cases_eq q page) [
-      | inl same ↦ rw same (get_or-set_same words (page + 1) word 0 (omega arith) ∙ word_is)
+      | inl same ↦ rw same (get_or-set_same words (word_of page) word 0 (omega arith) ∙ word_is)
       | inr other ↦
-          get_or-set_other words (page + 1) (q + 1) word 0 (λ eq. other (omega arith)) ∙
+          get_or-set_other words (word_of page) (word_of q) word 0 (λ eq. other (word_of-injective q page eq)) ∙
           (sh.pages q below ∙ ap (λ (n : ℕ). get_or z.counts q 0 + n) (sym (others q other)))
     ]
     in
     worker_steps z s t words later views place v w sh at number
-    (length-set words (page + 1) word)
-    (get_or-set_other words (page + 1) 0 word 0 (λ eq. absurd (omega arith)) ∙ sh.word)
+    (length-set words (word_of page) word)
+    (get_or-set_other words (word_of page) 0 word 0 (λ eq. absurd (omega arith)) ∙ sh.word)
     pages
-    (get_or-set_other words (page + 1) (length z.counts + 1) word 0 (λ eq. absurd (omega arith)))
+    (get_or-set_other words (word_of page) mask_place word 0 (λ eq. absurd (omega arith)))
     sh.mask
     merged
     fits

@@ -22,8 +22,10 @@ use Rattle.like_core.specs.Additions.{added_to}
 use Rattle.like_core.specs.views.Views.{read_view, masked_view, post_of}
 use Rattle.like_core.specs.views.Reads.{all_before, ReadsFit}
 use Rattle.like_core.specs.views.Tallies.{paged}
+use Rattle.like_core.specs.views.Layout.{mask_place, word_of}
 use Rattle.like_core.specs.views.Shows.{Shows, ShowsSome, FitsWorker, IsStep}
 use Rattle.like_core.proofs.core.InPhase.{reached_in_phase}
+use Rattle.like_core.proofs.views.Apart.{word_of-past}
 use Rattle.like_core.proofs.views.KeptPlaces.{read_keeps_places, places_same}
 use Rattle.like_core.proofs.views.KeptReads.{read_keeps_reads, reads_same, counted_same}
 use Rattle.like_core.proofs.views.ViewLists.{sum_part}
@@ -33,7 +35,7 @@ use Rattle.like_board.proofs.worker.Pages.{slices_are, page_steps}
 use Rattle.like_board.proofs.Tallying.{tallied_on}
 
 -- a read is the event
-pub reads : (z : Opening) (words : List ℕ) (views : List View) (place : ℕ) (v : WorkerSeatView) (page : ℕ) → ShowsSome z words views → get_elem? views place ≡ some (Worker v) → MayRead (post_of v) page → IsStep z (Read v.worker page) (Count (get_or words (page + 1) 0)) (Worker v) (Worker (read_view v page (get_or words (page + 1) 0))) × ShowsSome z (set words (page + 1) (get_or words (page + 1) 0)) (set views place (Worker (read_view v page (get_or words (page + 1) 0)))) × (added_to page v.additions ≤ get_or words (page + 1) 0)
+pub reads : (z : Opening) (words : List ℕ) (views : List View) (place : ℕ) (v : WorkerSeatView) (page : ℕ) → ShowsSome z words views → get_elem? views place ≡ some (Worker v) → MayRead (post_of v) page → IsStep z (Read v.worker page) (Count (get_or words (word_of page) 0)) (Worker v) (Worker (read_view v page (get_or words (word_of page) 0))) × ShowsSome z (set words (word_of page) (get_or words (word_of page) 0)) (set views place (Worker (read_view v page (get_or words (word_of page) 0)))) × (added_to page v.additions ≤ get_or words (word_of page) 0)
 reads z words views place v page some_state at may =
     let s = some_state.state in
     let sh = some_state.shows in
@@ -51,14 +53,14 @@ reads z words views place v page some_state at may =
     let same : split (is_marked z.marks) s.hot s.phase page ≡ slices (post_of v) page = slices_are z s v page old present may.known in
     let sums = some_state.tallied.sums page in
     let part = sum_part (paged page) views place (Worker v) at in
-    let found : get_or words (page + 1) 0 ≡ get_or z.counts page 0 + length (s.applied page) = sh.pages page on in
-    let w : WorkerSeatView = read_view v page (get_or words (page + 1) 0) in
+    let found : get_or words (word_of page) 0 ≡ get_or z.counts page 0 + length (s.applied page) = sh.pages page on in
+    let w : WorkerSeatView = read_view v page (get_or words (word_of page) 0) in
     let past = some_state.tallied.past (s.phase + 1) page (omega arith) in
-    let P : ℕ → Type 0 = λ now. get_or words (page + 1) 0 ≡ get_or z.counts page 0 + all_before views (now + 1) page in
+    let P : ℕ → Type 0 = λ now. get_or words (word_of page) 0 ≡ get_or z.counts page 0 + all_before views (now + 1) page in
     let Q : ℕ → List View → Type 0 = λ now later. ReadsFit z.counts now later in
     let all_found : P s.phase = omega arith in
     let kept : ReadsFit z.counts (phase_of v.state) (set views place (Worker w)) =
-    read_keeps_reads z.counts views place v page (get_or words (page + 1) 0) at (subst P (sym present) all_found)
+    read_keeps_reads z.counts views place v page (get_or words (word_of page) 0) at (subst P (sym present) all_found)
     (subst (λ (now : ℕ). Q now views) (sym present) sh.reads)
     in
     let fits : FitsWorker z s w =
@@ -75,8 +77,8 @@ reads z words views place v page some_state at may =
     let permits : Permits (numbers z s) (Read i page) =
     record { there = (old.there, on); suits = (here ∙ ap Runs now, same ∙ may.plain); leaves_last = tt; room = tt }
     in
-    let shows : Shows z s (set words (page + 1) (get_or words (page + 1) 0)) (set views place (Worker w)) =
-    page_steps z s s.unmerged s.applied words views place v w page (get_or words (page + 1) 0) sh at refl on found
+    let shows : Shows z s (set words (word_of page) (get_or words (word_of page) 0)) (set views place (Worker w)) =
+    page_steps z s s.unmerged s.applied words views place v w page (get_or words (word_of page) 0) sh at refl on found
     (λ q other. refl)
     sh.merged
     (λ j phase q other. refl)
@@ -95,8 +97,8 @@ reads z words views place v page some_state at may =
         before = tt;
         permits = permits;
         tells = ap Count found;
-        changed = page + 1;
-        word = get_or words (page + 1) 0;
+        changed = word_of page;
+        word = get_or words (word_of page) 0;
         shows_after = shows;
       },
       record {
@@ -104,18 +106,18 @@ reads z words views place v page some_state at may =
         reachable = some_state.reachable;
         shows = shows;
         tallied = tallied_on s s views place (Worker v) (Worker w) (omega arith) (λ _. refl) at (λ _. refl) (λ _. refl) (λ _ _. refl) some_state.tallied;
-        places = read_keeps_places z.counts views place v page (get_or words (page + 1) 0) at (omega arith) some_state.places;
+        places = read_keeps_places z.counts views place v page (get_or words (word_of page) 0) at (omega arith) some_state.places;
       },
       omega arith,
     )
 
 -- a read of the mask word is the event
-pub reads_mask : (z : Opening) (words : List ℕ) (views : List View) (place : ℕ) (v : WorkerSeatView) → ShowsSome z words views → get_elem? views place ≡ some (Worker v) → RunsSplit v.state → IsStep z (Hot v.worker) (HotShown (get_or words (length z.counts + 1) 0)) (Worker v) (Worker (masked_view v (get_or words (length z.counts + 1) 0))) × ShowsSome z (set words (length z.counts + 1) (get_or words (length z.counts + 1) 0)) (set views place (Worker (masked_view v (get_or words (length z.counts + 1) 0))))
+pub reads_mask : (z : Opening) (words : List ℕ) (views : List View) (place : ℕ) (v : WorkerSeatView) → ShowsSome z words views → get_elem? views place ≡ some (Worker v) → RunsSplit v.state → IsStep z (Hot v.worker) (HotShown (get_or words mask_place 0)) (Worker v) (Worker (masked_view v (get_or words mask_place 0))) × ShowsSome z (set words mask_place (get_or words mask_place 0)) (set views place (Worker (masked_view v (get_or words mask_place 0))))
 reads_mask z words views place v some_state at split_phase =
     let s = some_state.state in
     let sh = some_state.shows in
     let i = v.worker in
-    let last : ℕ = length z.counts + 1 in
+    let last : ℕ = mask_place in
     let found : ℕ = get_or words last 0 in
     let later : List ℕ = set words last found in
     let w : WorkerSeatView = masked_view v found in
@@ -127,6 +129,7 @@ reads_mask z words views place v some_state at split_phase =
     let odd : IsSplit s.phase = subst IsSplit now runs.2 in
     let found_is : found ≡ s.hot s.phase = sh.mask odd in
     let wide = sh.width in
+    let past = word_of-past (length z.counts) in
     let P : PhaseMask → Type 0 = λ m. (m.phase ≤ s.phase) × (m.mask ≡ s.hot m.phase) in
     let fits : FitsWorker z s w =
     record {
@@ -146,7 +149,7 @@ reads_mask z words views place v some_state at split_phase =
     worker_steps z s s words later views place v w sh at refl
     (length-set words last found)
     (get_or-set_other words last 0 found 0 (λ eq. absurd (omega arith)) ∙ sh.word)
-    (λ page below. get_or-set_other words last (page + 1) found 0 (λ eq. absurd (omega arith)) ∙ sh.pages page below)
+    (λ page below. get_or-set_other words last (word_of page) found 0 (λ eq. let far = word_of-past page in absurd (omega arith)) ∙ sh.pages page below)
     (get_or-set_same words last found 0 (omega arith))
     sh.mask
     sh.merged

@@ -24,6 +24,7 @@ use Rattle.like_core.specs.views.Views.{seats_of}
 use Rattle.like_core.specs.views.Reads.{all_before, IsCounted, ReadsFit}
 use Rattle.like_core.specs.views.Tallies.{Tallied}
 use Rattle.like_core.specs.views.Places.{PlacesTile}
+use Rattle.like_core.specs.views.Layout.{phase_place, mask_place, word_of}
 
 -- an opening that a board may have: there are 1 to 16 workers and at most 1,024 pages, each with a mark and a count of
 -- at most 10 ^ 18
@@ -77,25 +78,25 @@ Fits z s (Coord c) = FitsCoord z s c
 Fits z s (Worker v) = FitsWorker z s v
 Fits z s Spent = Unit {0}
 
--- the words and the views of all seats show the state: word 0 is its phase word, then stands each page's count, and last
--- the mask word, which is the mask of a split phase, and the one that the coordinator published since its last look; no
--- likes are unmerged; the first seat is the coordinator's, and no other is; each worker that has a seat has one; each
--- count that a worker read lies between what the views have added; and each that the coordinator read is what they had
--- added up to its phase
+-- the words and the views of all seats show the state: the phase word is the state's, each page's word is its count,
+-- and the mask word is the mask of a split phase, and the one that the coordinator published since its last look; any
+-- other word may be anything; no likes are unmerged; the first seat is the coordinator's, and no other is; each worker
+-- that has a seat has one; each count that a worker read lies between what the views have added; and each that the
+-- coordinator read is what they had added up to its phase
 pub record Shows (z : Opening) (s : CoreState) (words : List ℕ) (views : List View) : Type 0 where
   pub opening : IsOpening z
-  pub width : length words ≡ length z.counts + 2
-  pub word : slice_index words 0 ≡ shown_word z s
+  pub width : length words ≡ word_of (length z.counts)
+  pub word : slice_index words phase_place ≡ shown_word z s
   pub pages : (page : ℕ) → page < length z.counts
-      → slice_index words (page + 1) ≡ slice_index z.counts page + length (s.applied page)
-  pub mask : IsSplit s.phase → slice_index words (length z.counts + 1) ≡ s.hot s.phase
+      → slice_index words (word_of page) ≡ slice_index z.counts page + length (s.applied page)
+  pub mask : IsSplit s.phase → slice_index words mask_place ≡ s.hot s.phase
   pub merged : (i : ℕ) → s.unmerged i ≡ []
   pub coord : CoordSeatView
   pub first : get_elem? views 0 ≡ some (Coord coord)
   pub only : (place : ℕ) (c : CoordSeatView) → get_elem? views place ≡ some (Coord c) → place ≡ 0
   pub each : (place : ℕ) (v : View) → get_elem? views place ≡ some v → Fits z s v
   pub once : (i : ℕ) → sum_by (seats_of i) views ≡ (if nat_lt i coord.made then 1 else 0)
-  pub published : IfSome coord.published (λ mask. slice_index words (length z.counts + 1) ≡ mask)
+  pub published : IfSome coord.published (λ mask. slice_index words mask_place ≡ mask)
   pub reads : ReadsFit z.counts s.phase views
   pub counted : All (IsCounted z.counts (all_before views)) coord.counted
 

@@ -159,6 +159,12 @@ release-is c d v w (releases_split joined ready (chooses_none none published sam
 release-is c d v w (releases_split joined ready (chooses_risen least counts some many m limit published same) is) =
     ((counted_from c 0 counts).counted, Some m, is ∙ ap released_coord published ∙ ap (λ (x : CoordSeatView). released_coord (published_coord x m)) (counted-is c 0 counts))
 
+-- a release keeps as many counts for the next choice
+pub release-sized : (c d : CoordSeatView) (v w : ChoiceView) → ReleasesNext c v d w → length w.before ≡ length v.before
+release-sized c d v w (releases_joined split is same) = ap (λ (x : ChoiceView). length x.before) same
+release-sized c d v w (releases_split joined ready (chooses_none none published same) is) = ap (λ (x : ChoiceView). length x.before) same
+release-sized c d v w (releases_split joined ready (chooses_risen least counts some many m limit published same) is) = ap (λ (x : ChoiceView). length x.before) same ∙ many
+
 -- after a release a split phase has all gone only where the last sight had it
 pub release-gone : (c d : CoordSeatView) (v w : ChoiceView) → ReleasesNext c v d w → d.gone ≡ saw_all_gone c.last
 release-gone c d v w r = ap (λ (x : CoordSeatView). x.gone) (release-is c d v w r).2

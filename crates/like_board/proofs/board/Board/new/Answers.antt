@@ -1,4 +1,4 @@
-use Rattle.std.proofs.Common.{ℕ, List, [], ◌∷◌, ◌++◌, ap, ◌∙◌}
+use Rattle.std.proofs.Common.{ap, ◌∙◌}
 use Rattle.like_core.specs.word.Word.{packed}
 use Rattle.like_board.proofs.Opens.{opens_key}
 use Rattle.like_board.proofs.board.Board.new.Goals as goal
@@ -15,16 +15,13 @@ of_words-requires c =
     c.args.counts.now
     c.args.split.now
     word
+    c.in_ok-words.words.items
     c.as_slice.result.now
     c.in_ok-from_slice.ensures.items
     c.in_ok-from_slice-2.ensures.items
     (c.pack.ensures ∙ ap packed c.first-first.ensures)
-    (c.as_slice.ensures.value ∙
-    (c.in_ok-push.ensures.items ∙
-    ap (λ (xs : List ℕ). xs ++ 0 ∷ [])
-    (c.in_ok-extend_from_slice.ensures.items ∙
-    ap (λ (xs : List ℕ). xs ++ c.args.counts.now)
-    (c.push_reserved.ensures.items ∙ ap (λ (xs : List ℕ). xs ++ word ∷ []) c.in_ok-words.ensures.items))))
+    c.as_slice.ensures.value
+    (c.in_ok-words.ensures.len, c.in_ok-words.ensures.phase_word, c.in_ok-words.ensures.counts)
     c.requires.some_worker
     c.requires.few_workers
     c.requires.same_pages

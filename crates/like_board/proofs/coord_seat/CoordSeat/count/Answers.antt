@@ -1,5 +1,6 @@
-use Rattle.std.proofs.Common.{ap, refl, rules, arith}
+use Rattle.std.proofs.Common.{ap, rules, arith}
 use Rattle.atomic_table.specs.Seated.{TableId}
+use Rattle.like_core.proofs.views.Apart.{word_of-order}
 use Rattle.like_board.proofs.Allowed.{counting}
 use Rattle.like_board.proofs.coord_seat.CoordSeat.count.Goals as goal
 
@@ -8,17 +9,18 @@ load-requires c =
     let seat = c.args.self.now in
     let words = ap (λ (t : TableId). t.words) c.requires.here in
     let sized = seat.sized in
-    let there = c.requires.may.2 in (
+    let word = c.word_of-word.ensures in
+    let there = word_of-order c.args.page _ c.requires.may.2 in (
       c.requires.here,
       omega arith,
-      counting c.args.board.now.table.shared.key _ _ _ c.args.page seat.is_coord c.requires.may,
+      counting c.args.board.now.table.shared.key _ _ _ c.args.page _ word seat.is_coord c.requires.may,
     )
 
 pub invariant_of-self : goal.invariant_of-self
-invariant_of-self c = let told = c.load.ensures.2.0 c.args.page refl in search (rules, told)
+invariant_of-self c = let told = c.load.ensures.2.0 c.args.page c.word_of-word.ensures in search (rules, told)
 
 pub returns-clause-event : goal.returns-clause-event
-returns-clause-event c = let told = c.load.ensures.2.0 c.args.page refl in search (rules, told)
+returns-clause-event c = let told = c.load.ensures.2.0 c.args.page c.word_of-word.ensures in search (rules, told)
 
 pub returns-clause-view : goal.returns-clause-view
-returns-clause-view c = let told = c.load.ensures.2.0 c.args.page refl in search (rules, told)
+returns-clause-view c = let told = c.load.ensures.2.0 c.args.page c.word_of-word.ensures in search (rules, told)

@@ -1,5 +1,7 @@
-use Rattle.std.proofs.Common.{ap, arith}
+use Rattle.std.proofs.Common.{length, ap, arith}
 use Rattle.atomic_table.specs.Seated.{TableId}
+use Rattle.like_core.proofs.views.Apart.{word_of-past}
+use Rattle.like_board.specs.Seats.{coord_view}
 use Rattle.like_board.proofs.Allowed.{publishing}
 use Rattle.like_board.proofs.coord_seat.CoordSeat.publish.Goals as goal
 
@@ -8,8 +10,8 @@ store-requires c =
     let seat = c.args.self.now in
     let words = ap (λ (t : TableId). t.words) c.requires.here in
     let sized = seat.sized in
-    let last = c.mask_word-word.ensures in (
+    let past = word_of-past (length (coord_view c.args.self.now).opening.counts) in (
       c.requires.here,
       omega arith,
-      publishing c.args.board.now.table.shared.key _ _ _ _ c.args.mask (omega arith) seat.is_coord c.requires.may,
+      publishing c.args.board.now.table.shared.key _ _ _ c.args.mask seat.is_coord c.requires.may,
     )

@@ -1,5 +1,6 @@
 use Rattle.std.proofs.Common.{ap, arith}
 use Rattle.atomic_table.specs.Seated.{TableId}
+use Rattle.like_core.proofs.views.Apart.{word_of-order}
 use Rattle.like_board.proofs.Allowed.{adding_to}
 use Rattle.like_board.proofs.Meanings.{may_add}
 use Rattle.like_board.proofs.worker_seat.WorkerSeat.add.Goals as goal
@@ -10,8 +11,9 @@ fetch_add-requires c =
     let board = c.args.board.now in
     let words = ap (λ (t : TableId). t.words) c.requires.here in
     let sized = seat.sized in
-    let there = c.requires.may.there in (
+    let word = c.word_of-word.ensures in
+    let there = word_of-order c.args.page _ c.requires.may.there in (
       c.requires.here,
       omega arith,
-      adding_to board.table.shared.key _ _ _ c.args.page c.args.n seat.is_worker (may_add _ _ c.args.page c.args.n c.requires.may),
+      adding_to board.table.shared.key _ _ _ c.args.page _ c.args.n word seat.is_worker (may_add _ _ c.args.page c.args.n c.requires.may),
     )

@@ -1,11 +1,22 @@
-use Rattle.std.proofs.Common.{◌≡◌, ◌-◌, ◌<◌, true, false, subst, sym, ◌∙◌, refl, arith}
+use Rattle.std.proofs.Common.{◌≡◌, ◌-◌, ◌<◌, true, false, length, min, subst, ap, sym, ◌∙◌, refl, arith}
+use Rattle.like_core.specs.declared.opening.Opening.{Opening}
+use Rattle.like_core.specs.declared.view.CoordSeatView.{CoordSeatView}
+use Rattle.like_core.specs.Limits.{hot_pages}
 use Rattle.like_core.specs.Phase.{last_phase}
 use Rattle.like_board.specs.Seats.{coord_board, coord_view}
 use Rattle.like_roles.specs.declared.coord_turn.CoordTurn.TheVariants as turn
 use Rattle.like_roles.specs.coordinator.CoordTurns.{CoordinatorView, CoordTurns, ends, counts, stays, announces, releases, waits}
+use Rattle.like_roles.proofs.choice.Choosing.{release-opening, release-sized}
 use Rattle.like_roles.proofs.choice.Coordinating.{Looked, by_case, phase_within}
 use Rattle.like_roles.proofs.coordinator.Coordinator.act.Goals as goal
 use Rattle.like_roles.proofs.coordinator.Coordinator.act.Goals.{else-sight-2-via-then-sight-2+else-sight-3, else-sight-2-via-else-sight-2}
+
+pub invariant_of-self-then-sight-3 : goal.invariant_of-self-then-sight-3
+invariant_of-self-then-sight-3 c =
+    let releases = c.release.ensures.releases in
+    let opening = ap (λ (y : Opening). length y.counts) (release-opening _ _ _ _ releases) in
+    let looked = ap (λ (x : CoordSeatView). length x.opening.counts) c.look-sight.ensures.view in
+    release-sized _ _ _ _ releases ∙ c.self.invariant ∙ ap (min hot_pages) (sym (opening ∙ looked))
 
 pub returns-then-sight : goal.returns-then-sight
 returns-then-sight c =

@@ -1,0 +1,49 @@
+//! Where the words of a board stand in its table.
+ghost use Rattle.std.specs.Prelude.{◌≡◌, ℕ, ◌<◌, ◌≤◌, length, slice_index, IfOk};
+ghost use Rattle.like_core.specs.Limits.{max_pages};
+ghost use Rattle.like_core.specs.views.Layout.{phase_place, word_of};
+
+use std::alloc::{AllocError, Global};
+
+/// The place of the phase word.
+pub(crate) const PHASE_WORD: usize = 0;
+
+/// The place of the mask word.
+pub(crate) const MASK_WORD: usize = 16;
+
+/// How many places a word has to itself, where it stands apart: 128 bytes.
+const STRIDE: usize = 16;
+
+/// How many pages' words stand apart: the first ones.
+const APART: u32 = 64;
+
+/// The place of a page's word.
+pub(crate) fn word_of(page: u32) -> usize
+    ensures { result ≡ word_of page }
+{
+    if page < APART {
+        STRIDE * (page as usize + 2)
+    } else {
+        STRIDE * (APART as usize + 2) + (page - APART) as usize
+    }
+}
+
+/// The words of a new board: the phase word and the pages' counts at their places, and 0 at all others.
+pub(crate) fn first_words(
+    alloc: Global,
+    phase_word: u64,
+    counts: &[u64],
+) -> Result<Vec<u64>, AllocError>
+    requires few_pages { length counts.now ≤ max_pages }
+    ensures len { IfOk result (λ words. length words.items ≡ word_of (length counts.now)) }
+    ensures phase_word { IfOk result (λ words. slice_index words.items phase_place ≡ phase_word) }
+    ensures counts { IfOk result (λ words. (page : ℕ) → page < length counts.now →
+        slice_index words.items (word_of page) ≡ slice_index counts.now page) }
+{
+    let mut words = vec![in alloc; 0; word_of(counts.len() as u32)]?;
+    words[PHASE_WORD] = phase_word;
+    for (page, count) in counts.iter().enumerate() {
+        words[word_of(page as u32)] = *count;
+    }
+    Ok(words)
+}
