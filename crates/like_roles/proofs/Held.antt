@@ -43,7 +43,7 @@ none_first [] h = refl
 none_first (y ∷ ys) h = cc
 
 -- what is held is no part of the numbers
-IsPlaced-held : (post : PostView) (d : Desk) (w : Waiting) → IsPlaced post d → IsPlaced post (record d { held = w })
+IsPlaced-held : (post : PostView) (d : Desk) (w : Waiting Held) → IsPlaced post d → IsPlaced post (record d { held = w })
 IsPlaced-held post d w p = record {
   is_worker = p.is_worker;
   marks = p.marks;
@@ -54,14 +54,14 @@ IsPlaced-held post d w p = record {
   started = p.started;
 }
 
-HasSubmitters-held : (d : Desk) (w : Waiting) → HasSubmitters d → HasSubmitters (record d { held = w })
+HasSubmitters-held : (d : Desk) (w : Waiting Held) → HasSubmitters d → HasSubmitters (record d { held = w })
 HasSubmitters-held d w a = record { sized = a.sized; submitters = a.submitters; cursor = a.cursor }
 
-AreOwn-held : (d : Desk) (w : Waiting) (hs : List Held) → All (IsOwn d) hs → All (IsOwn (record d { held = w })) hs
+AreOwn-held : (d : Desk) (w : Waiting Held) (hs : List Held) → All (IsOwn d) hs → All (IsOwn (record d { held = w })) hs
 AreOwn-held d w hs own = λ i y k. let o = own i y k in record { served = o.served; there = o.there; judged = o.judged }
 
 -- the first request that is held is taken out
-pub IsSound-pop : (post : PostView) (d : Desk) (popped : Waiting) → IsSound post d → popped ≡ record d.held { held = drop 1 d.held.held } → d.pending ≡ None → IsSound post (record d { held = popped })
+pub IsSound-pop : (post : PostView) (d : Desk) (popped : Waiting Held) → IsSound post d → popped ≡ record d.held { held = drop 1 d.held.held } → d.pending ≡ None → IsSound post (record d { held = popped })
 IsSound-pop post d popped s e n =
     let shorter : length (drop 1 d.held.held) ≤ length d.held.held = simp length-drop (omega arith) in
     subst (λ h. IsSound post (record d { held = h })) (sym e) (record {
@@ -75,7 +75,7 @@ IsSound-pop post d popped s e n =
     })
 
 -- a request is put behind those that are held
-pub IsSound-push : (post : PostView) (d : Desk) (h : Held) (pushed : Waiting) → IsSound post d → HasRoomForOne post d → length d.held.held < d.held.capacity → IsOwn d h → d.pending ≡ None
+pub IsSound-push : (post : PostView) (d : Desk) (h : Held) (pushed : Waiting Held) → IsSound post d → HasRoomForOne post d → length d.held.held < d.held.capacity → IsOwn d h → d.pending ≡ None
     → pushed ≡ record d.held { held = d.held.held ++ h ∷ [] } → IsSound post (record d { held = pushed })
 IsSound-push post d h pushed s room fits own n e =
     let longer : length (d.held.held ++ h ∷ []) ≡ length d.held.held + 1 = length-append d.held.held (h ∷ []) in
@@ -204,6 +204,6 @@ IsSound-last post d t s same = record {
 }
 
 -- a desk that tries the submitter at a place, after a look for held requests that found none
-pub view_of-tried : (post : PostView) (d e : Desk) (popped : Waiting) (place : ℕ) → e ≡ record d { held = popped; pending = Some place; cursor = (place + 1) % length d.ended.items } → popped ≡ d.held
+pub view_of-tried : (post : PostView) (d e : Desk) (popped : Waiting Held) (place : ℕ) → e ≡ record d { held = popped; pending = Some place; cursor = (place + 1) % length d.ended.items } → popped ≡ d.held
     → view_of post e ≡ trying (view_of post d) place
-view_of-tried post d e popped place is same = ap (view_of post) is ∙ ap (λ (w : Waiting). record (trying (view_of post d) place) { held = w }) same
+view_of-tried post d e popped place is same = ap (view_of post) is ∙ ap (λ (w : Waiting Held). record (trying (view_of post d) place) { held = w }) same

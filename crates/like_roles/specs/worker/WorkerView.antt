@@ -5,6 +5,7 @@ use Rattle.like_core.specs.WorkerState.{RunsSplit, phase_of}
 use Rattle.like_core.specs.PhaseMasks.{HasMask}
 use Rattle.like_core.specs.Post.{PostView, slices}
 use Rattle.like_tables.specs.Share.{submitter_of}
+use Rattle.like_tables.specs.declared.held.Held.{Held}
 use Rattle.like_tables.specs.UserTable.{UserTable}
 use Rattle.like_tables.specs.Waiting.{Waiting}
 use Rattle.like_roles.specs.declared.log.Added.{Added}
@@ -19,7 +20,7 @@ use Rattle.like_roles.specs.service.Order.{is_look_at_sliced}
 -- noted
 pub record WorkerView : Type 0 where
   pub post : PostView
-  pub held : Waiting
+  pub held : Waiting Held
   pub slice : List ℕ
   pub left : List ℕ
   pub ended : List Bool

@@ -10,7 +10,7 @@ mod turns;
 
 use crate::log::{Added, Ran, Took};
 use like_core::is_hot;
-use like_tables::{Slice, Stash, Users};
+use like_tables::{Held, Slice, Stash, Users};
 
 /// What a worker keeps, beside its post.
 #[derive(Drop)]
@@ -25,7 +25,7 @@ pub(crate) struct Desk {
     pub started: bool,
     pub gone: bool,
     /// The stash in a split phase, the backlog in a joined one.
-    pub held: Stash,
+    pub held: Stash<Held>,
     pub slice: Slice,
     /// By place: how many requests of each submitter were not taken yet.
     pub left: Vec<u32>,
