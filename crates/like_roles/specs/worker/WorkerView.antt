@@ -5,6 +5,7 @@ use Rattle.like_core.specs.WorkerState.{phase_of}
 use Rattle.like_core.specs.Post.{PostView, slices}
 use Rattle.like_seat.specs.SeatView.{SeatView}
 use Rattle.like_tables.specs.Share.{submitter_of}
+use Rattle.like_tables.specs.declared.held.Held.{Held}
 use Rattle.like_tables.specs.UserTable.{UserTable}
 use Rattle.like_tables.specs.Waiting.{Waiting}
 use Rattle.like_tables.specs.declared.held.Held.{Held}
