@@ -3,3 +3,4 @@ pub mod Posts
 pub mod ViewLists
 pub mod KeptReads
 pub mod KeptPlaces
+pub mod Sights
