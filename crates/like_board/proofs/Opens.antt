@@ -2,6 +2,7 @@
 use Rattle.std.proofs.Common.{◌≡◌, ℕ, zero, suc, ◌<◌, ◌≤◌, nat_lt, Bool, false, List, [], ◌∷◌, ◌++◌, All, length, get_or, subst, ap, sym, ◌∙◌, refl, arith, add-one, add-zero}
 use Rattle.std.proofs.lemmas.Bool.{cond-true, lt-ltb, le-ltb}
 use Rattle.std.proofs.Math.ListN.{get_or-append}
+use Rattle.std.proofs.Math.Nat.{zero-mod}
 use Rattle.std.proofs.lemmas.List.{length-append}
 use Rattle.std.proofs.lemmas.List.Elements.{All-nil}
 use mathlib.Core.Option.{some, some-injective, some-ne-none}
@@ -15,6 +16,7 @@ use Rattle.like_core.specs.declared.view.CoordSeatView.{CoordSeatView}
 use Rattle.like_core.specs.declared.view.View.{View}
 use Rattle.like_core.specs.declared.view.View.TheVariants.{Coord}
 use Rattle.like_core.specs.Limits.{max_workers, max_pages, max_count}
+use Rattle.like_core.specs.OpeningLimits.{AreLimits}
 use Rattle.like_core.specs.core.Numbers.{AllIn}
 use Rattle.like_core.specs.word.Word.{packed}
 use Rattle.like_core.specs.core.State.{start, numbers}
@@ -42,7 +44,7 @@ start_fields z =
     let retired : mask (λ i. is_gone ((start z).state i)) z.workers ≡ 0 =
     mask_none (λ i. is_gone ((start z).state i)) z.workers (λ i below. ap is_gone (runs i below))
     in
-    λ m. record { kind = 0; workers = z.workers; answered = answered m; retired = retired m; number = 0 }
+    λ m. record { kind = 0; workers = z.workers; answered = answered m; retired = retired m; number = zero-mod z.limits.modulus m }
 
 -- a new board shows the core's start
 pub opens : (z : Opening) → IsOpening z → ShowsSome z (packed (first_fields z.workers) ∷ z.counts ++ 0 ∷ []) (Coord (fresh_coord z (packed (first_fields z.workers))) ∷ [])
@@ -106,8 +108,8 @@ opens z opening =
     no_reads z c none (suc place) v at = absurd (some-ne-none v (sym at))
 
 -- a table that is made with these words starts by the rule
-pub opens_key : (key : Key) (counts : List ℕ) (marks : List Bool) (word : ℕ) (words : List ℕ) → key.counts.items ≡ counts → key.marks.items ≡ marks → word ≡ packed (first_fields key.workers) → words ≡ word ∷ counts ++ 0 ∷ [] → 1 ≤ key.workers → key.workers ≤ max_workers → length marks ≡ length counts → length counts ≤ max_pages → All (λ n. n ≤ max_count) counts → ShowsSome (opening_of key) words (first_view key ∷ [])
-opens_key key counts marks word words counts_are marks_are word_is words_are some_worker few_workers same_pages few_pages low =
+pub opens_key : (key : Key) (counts : List ℕ) (marks : List Bool) (word : ℕ) (words : List ℕ) → key.counts.items ≡ counts → key.marks.items ≡ marks → word ≡ packed (first_fields key.workers) → words ≡ word ∷ counts ++ 0 ∷ [] → 1 ≤ key.workers → key.workers ≤ max_workers → length marks ≡ length counts → length counts ≤ max_pages → All (λ n. n ≤ max_count) counts → AreLimits key.limits → ShowsSome (opening_of key) words (first_view key ∷ [])
+opens_key key counts marks word words counts_are marks_are word_is words_are some_worker few_workers same_pages few_pages low lawful =
     let z : Opening = opening_of key in
     let sized : length key.counts.items ≡ length counts = ap length counts_are in
     let opening : IsOpening z =
@@ -117,6 +119,7 @@ opens_key key counts marks word words counts_are marks_are word_is words_are som
       few_pages = subst (λ (n : ℕ). n ≤ max_pages) (sym sized) few_pages;
       marks = ap length marks_are ∙ (same_pages ∙ sym sized);
       counts = subst (All (λ (n : ℕ). n ≤ max_count)) (sym counts_are) low;
+      limits = lawful;
     }
     in
     let same : words ≡ packed (first_fields key.workers) ∷ key.counts.items ++ 0 ∷ [] = words_are ∙ (λ m. word_is m ∷ sym counts_are m ++ 0 ∷ []) in
