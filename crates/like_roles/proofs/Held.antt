@@ -47,6 +47,7 @@ IsPlaced-held : (post : PostView) (d : Desk) (w : Waiting) â†’ IsPlaced post d â
 IsPlaced-held post d w p = record {
   is_worker = p.is_worker;
   marks = p.marks;
+  limits = p.limits;
   few_pages = p.few_pages;
   slice = p.slice;
   standing = p.standing;
@@ -120,6 +121,7 @@ IsSound-taken post d n place s none there some left taken capacity rest =
         placed = let p = s.placed in record {
           is_worker = p.is_worker;
           marks = p.marks;
+          limits = p.limits;
           few_pages = p.few_pages;
           slice = p.slice;
           standing = p.standing;
@@ -189,6 +191,7 @@ IsSound-last post d t s same = record {
   placed = let p = s.placed in record {
     is_worker = rw same p.is_worker;
     marks = p.marks;
+    limits = p.limits;
     few_pages = p.few_pages;
     slice = p.slice;
     standing = p.standing;

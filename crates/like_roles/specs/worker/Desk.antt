@@ -11,6 +11,7 @@ use Rattle.like_core.specs.Additions.{all_added}
 use Rattle.like_core.specs.Phase.{IsJoined, IsSplit, is_marked, split}
 use Rattle.like_core.specs.PhaseMasks.{mask_of, HasMask}
 use Rattle.like_core.specs.WorkerState.{IsRunning, RunsSplit, phase_of}
+use Rattle.like_core.specs.OpeningLimits.{run_limits}
 use Rattle.like_core.specs.Post.{PostView}
 use Rattle.like_tables.specs.Waiting.{IsWaiting}
 use Rattle.like_tables.specs.declared.held.Held.{Held}
@@ -76,10 +77,11 @@ KnowsHot post hot =
     RunsSplit post.state
     → HasMask (phase_of post.state) post.masks × (hot ≡ mask_of post.masks (phase_of post.state))
 
--- the numbers of the run and of the worker's post; it has started once the post looked
+-- the numbers and limits of the run and of the worker's post; it has started once the post looked
 pub record IsPlaced (post : PostView) (d : Desk) : Type 0 where
   pub is_worker : d.last.share.worker < d.last.share.workers
   pub marks : post.marks ≡ d.marks.items
+  pub limits : post.limits ≡ run_limits
   pub few_pages : vec_len d.marks ≤ max_pages
   pub slice : length d.slice ≡ vec_len d.marks
   pub standing : IsStanding post.state d.phase d.gone

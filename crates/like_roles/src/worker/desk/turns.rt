@@ -1,6 +1,8 @@
 ghost use Rattle.std.specs.Prelude.{◌≡◌, ◌≢◌, ◌<◌, ◌+◌, ◌*◌, ◌%◌, true, false, length, Some};
 ghost use Rattle.like_core.specs.declared.worker_state.WorkerState.TheVariants.{Gone};
-ghost use Rattle.like_core.specs.WorkerState.{IsSightOf, RunsJoined, RunsSplit, SawEnding, phase_of};
+ghost use Rattle.like_core.specs.OpeningLimits.{run_limits};
+ghost use Rattle.like_core.specs.Post.{looked_at};
+ghost use Rattle.like_core.specs.WorkerState.{IsSightOf, RunsJoined, RunsSplit, SawEnding, SeesEndingStill, phase_of};
 ghost use Rattle.like_tables.specs.Share.{submitter_of};
 ghost use Rattle.like_roles.specs.worker.Desk.{view_of, HasSubmitters, IsSettled, IsSound, WorksAt};
 ghost use Rattle.like_roles.specs.worker.Turns.{Turns, enters_split, masks_in, saw};
@@ -11,6 +13,17 @@ use crate::worker::desk::Desk;
 use crate::worker::places::next_place;
 use like_core::{Post, Sight};
 use like_requests::Verdict;
+
+// Looks at the phase word of a run, whose number is the phase.
+fn look_at_run<P: Post>(post: &mut P) -> Sight
+    requires run { (P.view post.old).limits ≡ run_limits }
+    requires there { (P.view post.old).state ≢ Gone }
+    ensures sight { IsSightOf (P.view post.old).state result }
+    ensures view { P.view post.new ≡ looked_at (P.view post.old) result }
+    ensures ending { SeesEndingStill (P.view post.old).state (P.view post.old).last result }
+{
+    post.look()
+}
 
 impl Desk {
     /// Makes the next turn, or the part of it up to the take.
@@ -43,7 +56,7 @@ impl Desk {
         ensures saw { view_of (P.view post.new) self.new
             ≡ saw (view_of (P.view post.old) self.old) result self.new.hot }
     {
-        let sight = post.look();
+        let sight = look_at_run(post);
         if self.started && sight.number == self.phase {
             return sight;
         }
