@@ -11,7 +11,7 @@ use Rattle.like_core.specs.declared.view.WorkerSeatView.{WorkerSeatView}
 use Rattle.like_core.specs.declared.view.CoordSeatView.{CoordSeatView}
 use Rattle.like_core.specs.declared.view.View.{View}
 use Rattle.like_core.specs.declared.view.View.TheVariants.{Coord, Worker, Spent}
-use Rattle.like_core.specs.word.Word.{Fields, packed, IsLawful, released, answer_bit, retirement_bit}
+use Rattle.like_core.specs.word.Word.{Fields, packed, IsLawful, released_modulo, answer_bit, retirement_bit}
 use Rattle.like_core.specs.views.Sights.{sight_of, coord_sight_of}
 use Rattle.like_core.specs.Post.{IsFresh, MayAdd, MayRead}
 use Rattle.like_core.specs.WorkerState.{RunsJoined, RunsSplit, SawEnding}
@@ -158,13 +158,13 @@ announcing {S} key slots id me is may = λ st shows _ at _.
       ),
     )
 
-pub releasing : {S : Type 0} (key : Key) (slots id : ℕ) (me : Me S View) (seen : Fields) (new : ℕ) → new ≡ packed (released seen) → IsLawful seen → packed seen ≡ (coord_view_of me.0).word → me ≡ (Coord (coord_view_of me.0), []) → MayRelease (coord_view_of me.0) → Allows (IsShowing key) slots id me 0 (λ _. new) (λ found after. TellsCoord Releases released_coord me.0 after.0 × (after.1 ≡ []))
-releasing {S} key slots id me seen new new_is lawful seen_is is may = λ st shows _ at _.
+pub releasing : {S : Type 0} (key : Key) (slots id : ℕ) (me : Me S View) (modulus : ℕ) (seen : Fields) (new : ℕ) → modulus ≡ (coord_view_of me.0).opening.limits.modulus → new ≡ packed (released_modulo modulus seen) → IsLawful seen → packed seen ≡ (coord_view_of me.0).word → me ≡ (Coord (coord_view_of me.0), []) → MayRelease (coord_view_of me.0) → Allows (IsShowing key) slots id me 0 (λ _. new) (λ found after. TellsCoord Releases released_coord me.0 after.0 × (after.1 ≡ []))
+releasing {S} key slots id me modulus seen new modulus_is new_is lawful seen_is is may = λ st shows _ at _.
     let z = opening_of key in
     let c : CoordSeatView = coord_view_of me.0 in
     let here : get_elem? st.views id ≡ some (Coord c) = at ∙ ap (λ (m : Me S View). some m.0) is in
     let same = coord_opening z st.words st.views id c shows here in
-    let r = releases z st.words st.views id c seen shows here may lawful seen_is in (
+    let r = releases z st.words st.views id c modulus seen (modulus_is ∙ ap (λ (y : Opening). y.limits.modulus) same) shows here may lawful seen_is in (
       Coord (released_coord c),
       keeps,
       tt,

@@ -1,6 +1,7 @@
 -- What a new board shows.
 use Rattle.std.proofs.Common.{◌≡◌, ℕ, zero, suc, ◌<◌, ◌≤◌, nat_lt, Bool, false, List, [], ◌∷◌, All, length, get_or, subst, ap, sym, ◌∙◌, refl, arith, add-zero}
 use Rattle.std.proofs.lemmas.Bool.{cond-true, lt-ltb, le-ltb}
+use Rattle.std.proofs.Math.Nat.{zero-mod}
 use Rattle.std.proofs.lemmas.List.Elements.{All-nil}
 use mathlib.Core.Option.{some, some-injective, some-ne-none}
 use lib.ListN.{get_elem?}
@@ -13,6 +14,7 @@ use Rattle.like_core.specs.declared.view.CoordSeatView.{CoordSeatView}
 use Rattle.like_core.specs.declared.view.View.{View}
 use Rattle.like_core.specs.declared.view.View.TheVariants.{Coord}
 use Rattle.like_core.specs.Limits.{max_workers, max_pages, max_count}
+use Rattle.like_core.specs.OpeningLimits.{AreLimits}
 use Rattle.like_core.specs.core.Numbers.{AllIn}
 use Rattle.like_core.specs.word.Word.{packed}
 use Rattle.like_core.specs.core.State.{start, numbers}
@@ -41,7 +43,7 @@ start_fields z =
     let retired : mask (λ i. is_gone ((start z).state i)) z.workers ≡ 0 =
     mask_none (λ i. is_gone ((start z).state i)) z.workers (λ i below. ap is_gone (runs i below))
     in
-    λ m. record { kind = 0; workers = z.workers; answered = answered m; retired = retired m; number = 0 }
+    λ m. record { kind = 0; workers = z.workers; answered = answered m; retired = retired m; number = zero-mod z.limits.modulus m }
 
 -- a new board shows the core's start
 pub opens : (z : Opening) (words : List ℕ) → IsOpening z → length words ≡ word_of (length z.counts) → get_or words 0 0 ≡ packed (first_fields z.workers) → ((page : ℕ) → page < length z.counts → get_or words (word_of page) 0 ≡ get_or z.counts page 0) → ShowsSome z words (Coord (fresh_coord z (packed (first_fields z.workers))) ∷ [])
@@ -112,8 +114,8 @@ AreFirst words word counts =
     × ((page : ℕ) → page < length counts → get_or words (word_of page) 0 ≡ get_or counts page 0)
 
 -- a table that is made with these words starts by the rule
-pub opens_key : (key : Key) (counts : List ℕ) (marks : List Bool) (word : ℕ) (items words : List ℕ) → key.counts.items ≡ counts → key.marks.items ≡ marks → word ≡ packed (first_fields key.workers) → words ≡ items → AreFirst items word counts → 1 ≤ key.workers → key.workers ≤ max_workers → length marks ≡ length counts → length counts ≤ max_pages → All (λ n. n ≤ max_count) counts → ShowsSome (opening_of key) words (first_view key ∷ [])
-opens_key key counts marks word items words counts_are marks_are word_is words_are first some_worker few_workers same_pages few_pages low =
+pub opens_key : (key : Key) (counts : List ℕ) (marks : List Bool) (word : ℕ) (items words : List ℕ) → key.counts.items ≡ counts → key.marks.items ≡ marks → word ≡ packed (first_fields key.workers) → words ≡ items → AreFirst items word counts → 1 ≤ key.workers → key.workers ≤ max_workers → length marks ≡ length counts → length counts ≤ max_pages → All (λ n. n ≤ max_count) counts → AreLimits key.limits → ShowsSome (opening_of key) words (first_view key ∷ [])
+opens_key key counts marks word items words counts_are marks_are word_is words_are first some_worker few_workers same_pages few_pages low lawful =
     let z : Opening = opening_of key in
     let sized : length key.counts.items ≡ length counts = ap length counts_are in
     let opening : IsOpening z =
@@ -123,6 +125,7 @@ opens_key key counts marks word items words counts_are marks_are word_is words_a
       few_pages = subst (λ (n : ℕ). n ≤ max_pages) (sym sized) few_pages;
       marks = ap length marks_are ∙ (same_pages ∙ sym sized);
       counts = subst (All (λ (n : ℕ). n ≤ max_count)) (sym counts_are) low;
+      limits = lawful;
     }
     in
     let here : AreFirst items word key.counts.items = subst (AreFirst items word) (sym counts_are) first in

@@ -7,9 +7,10 @@ use Rattle.like_core.specs.declared.view.CoordSeatView.{CoordSeatView}
 use Rattle.like_core.specs.declared.view.View.{View}
 use Rattle.like_core.specs.declared.view.View.TheVariants.{Coord, Worker}
 use Rattle.like_core.specs.Phase.{IsSplit}
+use Rattle.like_core.specs.OpeningLimits.{number_of}
 use Rattle.like_core.specs.word.Word.{Fields, packed, IsLawful}
 use Rattle.like_core.specs.views.Sights.{sight_of, coord_sight_of}
-use Rattle.like_core.specs.WorkerState.{IsSightOf, SeesEndingStill}
+use Rattle.like_core.specs.WorkerState.{IsSightWithin, SeesEndingStill, phase_of, seen}
 use Rattle.like_core.specs.Additions.{added_to}
 use Rattle.like_core.specs.views.Views.{looked_view, added_view, read_view, masked_view, looked_coord, counted_coord}
 use Rattle.like_core.specs.views.Layout.{word_of}
@@ -22,7 +23,8 @@ pub record Looked (z : Opening) (found : ℕ) (v : WorkerSeatView) : Type 0 wher
   pub fields : Fields
   pub lawful : IsLawful fields
   pub found_is : found ≡ packed fields
-  pub can : IsSightOf v.state (sight_of fields v.worker)
+  pub can : IsSightWithin z.limits v.state (sight_of fields v.worker)
+  pub within : phase_of (seen v.state (sight_of fields v.worker)) ≤ z.limits.last_phase
   pub ending : SeesEndingStill v.state v.last (sight_of fields v.worker)
   pub step : let sight = sight_of fields v.worker in
       IsStep z (Look v.worker) (Seen sight) (Worker v) (Worker (looked_view v sight))
@@ -32,7 +34,8 @@ pub record Surveyed (z : Opening) (found : ℕ) (c : CoordSeatView) : Type 0 whe
   pub fields : Fields
   pub lawful : IsLawful fields
   pub found_is : found ≡ packed fields
-  pub number : (coord_sight_of fields).number ≡ c.phase
+  pub number : (coord_sight_of fields).number ≡ number_of z.limits c.phase
+  pub within : c.phase ≤ z.limits.last_phase
   pub ending : (coord_sight_of fields).ending ≡ c.ending
   pub all_in : c.all_in ≡ true → (coord_sight_of fields).all_in ≡ true
   pub gone : IsSplit c.phase → (coord_sight_of fields).all_gone ≡ true → c.gone ≡ true

@@ -13,7 +13,7 @@ use Rattle.like_board.specs.declared.key.Key.{Key}
 -- the opening that a key stands for
 abbrev pub opening_of : Key → Opening
 opening_of key =
-    record { workers = key.workers; counts = key.counts.items; marks = key.marks.items }
+    record { workers = key.workers; counts = key.counts.items; marks = key.marks.items; limits = key.limits }
 
 -- the rule of a board: between any two atomic steps, its words and the views of all seats show some state of the core
 -- that can be reached

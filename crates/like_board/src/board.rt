@@ -1,5 +1,6 @@
 ghost use Rattle.std.specs.Prelude.{◌≡◌, ◌<◌, ◌≤◌, All, length, IfOk};
 ghost use Rattle.like_core.specs.Limits.{max_workers, max_pages, max_count};
+ghost use Rattle.like_core.specs.OpeningLimits.{AreLimits};
 
 use crate::coord_seat::CoordSeat;
 use crate::key::Key;
@@ -8,7 +9,7 @@ use crate::new_seats::make_seats;
 use crate::rule::BoardRule;
 use crate::worker_seat::WorkerSeat;
 use atomic_table::Table;
-use like_core::{PhaseWord, View};
+use like_core::{Limits, PhaseWord, View};
 use std::alloc::{AllocError, Global};
 
 /// The phase word, the mask word and one word per page, which threads share.
@@ -20,13 +21,13 @@ pub struct Board {
 }
 
 impl Board {
-    ghost use Rattle.like_core.specs.core.State.{opening};
+    ghost use Rattle.like_core.specs.core.State.{opening, opening_with};
     ghost use Rattle.like_board.specs.Rule.{opened_coord};
     ghost use Rattle.like_board.specs.Seats.{board_id, coord_board, coord_view, AreFresh};
 
-    /// A board in phase 0, running, with these counts by page, the coordinator's seat and each worker's seat in order.
-    /// Pages that are marked in `split` are split in each odd phase, others of the first 64 in those that are released
-    /// with a mask that has their bit.
+    /// A board in phase 0, running, with these counts by page and the limits of a run, the coordinator's seat and each
+    /// worker's seat in order. Pages that are marked in `split` are split in each odd phase, others of the first 64 in
+    /// those that are released with a mask that has their bit.
     pub fn new(
         alloc: Global,
         workers: u32,
@@ -45,16 +46,46 @@ impl Board {
         ensures views { IfOk result (λ r.
             AreFresh (board_id r.0) (opening workers counts.now split.now) r.2.items) }
     {
+        Board::with_limits(alloc, workers, counts, split, Limits::of_run())
+    }
+
+    /// The same within other limits.
+    pub fn with_limits(
+        alloc: Global,
+        workers: u32,
+        counts: &[u64],
+        split: &[bool],
+        limits: Limits,
+    ) -> Result<(Board, CoordSeat, Vec<WorkerSeat>), AllocError>
+        requires some_worker { 1 ≤ workers }
+        requires few_workers { workers ≤ max_workers }
+        requires same_pages { length split.now ≡ length counts.now }
+        requires few_pages { length counts.now ≤ max_pages }
+        requires counts { All (λ count. count ≤ max_count) counts.now }
+        requires limits { AreLimits limits }
+        ensures coord_here { IfOk result (λ r. coord_board r.1 ≡ board_id r.0) }
+        ensures coord { IfOk result (λ r.
+            coord_view r.1 ≡ opened_coord (opening_with limits workers counts.now split.now)) }
+        ensures seats { IfOk result (λ r. length r.2.items ≡ workers) }
+        ensures views { IfOk result (λ r.
+            AreFresh (board_id r.0) (opening_with limits workers counts.now split.now) r.2.items) }
+    {
         let first = PhaseWord::first(workers);
         let words = first_words(alloc, first.pack(), counts)?;
         let key = Key {
             workers,
             counts: Vec::from_slice(alloc, counts)?,
             marks: Vec::from_slice(alloc, split)?,
+            limits,
         };
         let (table, mut seat) = Table::of_words(alloc, words.as_slice(), &key)?;
         let board = Board { table };
         let seats = make_seats(alloc, &board, &mut seat, workers)?;
-        Ok((board, CoordSeat { seat, seen: first }, seats))
+        let coord = CoordSeat {
+            seat,
+            seen: first,
+            limits,
+        };
+        Ok((board, coord, seats))
     }
 }

@@ -28,7 +28,7 @@ impl BoardPost<'_> {
 
 impl Post for BoardPost<'_> {
     ghost use Rattle.like_core.specs.declared.worker_state.WorkerState.TheVariants.{Gone};
-    ghost use Rattle.like_core.specs.WorkerState.{RunsJoined, RunsSplit, SawEnding, IsSightOf, SeesEndingStill};
+    ghost use Rattle.like_core.specs.WorkerState.{RunsJoined, RunsSplit, SawEnding, IsSightWithin, SeesEndingStill, phase_of, seen};
     ghost use Rattle.like_core.specs.Post.{looked_at, answered, retired, added, has_read, with_mask, additions_of, MayAdd, MayRead};
     ghost use Rattle.like_core.specs.views.Views.{looked_view, answered_view, retired_view, added_view, read_view, masked_view};
     ghost use Rattle.like_core.specs.views.Actions.{Looks, Acknowledges, Reports, Retires, Adds, Reads, ReadsMask};
@@ -38,7 +38,8 @@ impl Post for BoardPost<'_> {
 
     fn look(&mut self) -> Sight
         requires { (post_meaning self.old).state ≢ Gone }
-        ensures sight { IsSightOf (post_meaning self.old).state result }
+        ensures sight { let v = post_meaning self.old in IsSightWithin v.limits v.state result }
+        ensures within { let v = post_meaning self.old in phase_of (seen v.state result) ≤ v.limits.last_phase }
         ensures view { post_meaning self.new ≡ looked_at (post_meaning self.old) result }
         ensures ending { SeesEndingStill (post_meaning self.old).state (post_meaning self.old).last result }
         ensures board { post_board self.new ≡ post_board self.old }

@@ -52,12 +52,12 @@ fn write_counts(closed: &Closed<(), Global>, counts: &mut [u64])
 
 impl Board {
     /// Ends the board, where each worker's seat is given back and all are gone, and writes each page's last count: its
-    /// count at the start and all that was added to it. No worker saw a later phase than the coordinator's. Each count
-    /// that a worker read has all additions of earlier phases and its own before in that phase, and none of a later phase
-    /// nor of its own later ones; each that the coordinator read has all additions up to its phase. Each mask that a
-    /// worker read is the one with which the coordinator released its phase. The stretches of all additions to a page
-    /// tile its counts from the first to the last; each count that a worker read is the first one or the end of a stretch;
-    /// and each worker's additions and reads of a page are in the order of these counts.
+    /// count at the start and all that was added to it. No worker saw a greater number than the coordinator's phase.
+    /// Each count that a worker read has all additions of earlier phases and its own before in that phase, and none of
+    /// a later phase nor of its own later ones; each that the coordinator read has all additions up to its phase. Each
+    /// mask that a worker read is the one with which the coordinator released its phase. The stretches of all additions
+    /// to a page tile its counts from the first to the last; each count that a worker read is the first one or the end
+    /// of a stretch; and each worker's additions and reads of a page are in the order of these counts.
     pub fn close(self, coord: CoordSeat, seats: Vec<WorkerSeat>, counts: &mut [u64])
         requires coord_here { coord_board coord ≡ board_id self }
         requires seats_here { All (λ seat. seat_board seat ≡ board_id self) seats.items }
@@ -76,6 +76,7 @@ impl Board {
         let CoordSeat {
             seat: mut coord,
             seen: _,
+            limits: _,
         } = coord;
         gather(&self, &mut coord, seats);
         let Board { table } = self;

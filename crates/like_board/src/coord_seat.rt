@@ -1,6 +1,7 @@
-ghost use Rattle.std.specs.Prelude.{◌≡◌, true, [], length};
+ghost use Rattle.std.specs.Prelude.{◌≡◌, ◌≤◌, true, [], length};
 ghost use Rattle.std.specs.Option.{option_map};
 ghost use Rattle.like_core.specs.declared.view.View.TheVariants.{Coord};
+ghost use Rattle.like_core.specs.OpeningLimits.{AreLimits, number_of};
 ghost use Rattle.like_core.specs.word.Word.{packed};
 ghost use Rattle.like_core.specs.word.PhaseWord.{fields_of};
 ghost use Rattle.like_core.specs.views.Layout.{word_of};
@@ -11,7 +12,7 @@ use crate::board::Board;
 use crate::layout::{MASK_WORD, PHASE_WORD, word_of};
 use crate::plays::{Announcing, Counting, Publishing, Releasing, Surveying};
 use atomic_table::Seat;
-use like_core::{CoordSight, PhaseWord, View};
+use like_core::{CoordSight, Limits, PhaseWord, View};
 
 /// The coordinator's right to step on a board.
 #[derive(Drop)]
@@ -19,11 +20,15 @@ pub struct CoordSeat {
     pub(crate) seat: Seat<(), View>,
     /// The phase word that it saw last.
     pub(crate) seen: PhaseWord,
+    /// The limits of its board.
+    pub(crate) limits: Limits,
     ghost is_coord: { seat.me ≡ (Coord (coord_view_of seat.me.0), []) },
     ghost saw: { packed (fields_of seen) ≡ (coord_view_of seat.me.0).word },
     ghost sized: { seat.table_id.words ≡ word_of (length (coord_view_of seat.me.0).opening.counts) },
     ghost made_all: { (coord_view_of seat.me.0).made ≡ (coord_view_of seat.me.0).opening.workers },
     ghost none_back: { (coord_view_of seat.me.0).joined ≡ [] },
+    ghost limited: { limits ≡ (coord_view_of seat.me.0).opening.limits },
+    ghost lawful: { AreLimits limits },
     ghost showed: { let last = (coord_view_of seat.me.0).last in
         option_map (λ _. coord_sight_of (fields_of seen)) last ≡ last },
 }
@@ -39,7 +44,8 @@ impl CoordSeat {
         requires { coord_board self.old ≡ board_id board.now }
         ensures board { coord_board self.new ≡ coord_board self.old }
         ensures view { coord_view self.new ≡ looked_coord (coord_view self.old) (coord_view self.new).word result }
-        ensures number { result.number ≡ (coord_view self.old).phase }
+        ensures number { let c = coord_view self.old in result.number ≡ number_of c.opening.limits c.phase }
+        ensures within { let c = coord_view self.old in c.phase ≤ c.opening.limits.last_phase }
         ensures ending { result.ending ≡ (coord_view self.old).ending }
         ensures all_in { (coord_view self.old).all_in ≡ true → result.all_in ≡ true }
         ensures all_gone { let c = coord_view self.old in IsSplit c.phase → result.all_gone ≡ true → c.gone ≡ true }
@@ -101,7 +107,7 @@ impl CoordSeat {
         ensures view { coord_view self.new ≡ released_coord (coord_view self.old) }
         ensures event { Releases (coord_view self.old) (coord_view self.new) }
     {
-        let next = self.seen.released();
+        let next = self.seen.released_modulo(self.limits.modulus);
         board
             .table
             .shared

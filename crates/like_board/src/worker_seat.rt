@@ -24,7 +24,7 @@ pub struct WorkerSeat {
 
 impl WorkerSeat {
     ghost use Rattle.like_core.specs.declared.worker_state.WorkerState.TheVariants.{Gone};
-    ghost use Rattle.like_core.specs.WorkerState.{IsSightOf, RunsJoined, RunsSplit, SawEnding, SeesEndingStill};
+    ghost use Rattle.like_core.specs.WorkerState.{IsSightWithin, RunsJoined, RunsSplit, SawEnding, SeesEndingStill, phase_of, seen};
     ghost use Rattle.like_core.specs.Post.{MayAdd, MayRead};
     ghost use Rattle.like_core.specs.Additions.{added_to};
     ghost use Rattle.like_core.specs.views.Views.{looked_view, answered_view, retired_view, added_view, read_view, masked_view};
@@ -46,7 +46,8 @@ impl WorkerSeat {
         requires there { (seat_view self.old).state ≢ Gone }
         ensures board { seat_board self.new ≡ seat_board self.old }
         ensures view { seat_view self.new ≡ looked_view (seat_view self.old) result }
-        ensures sight { IsSightOf (seat_view self.old).state result }
+        ensures sight { let v = seat_view self.old in IsSightWithin v.opening.limits v.state result }
+        ensures within { let v = seat_view self.old in phase_of (seen v.state result) ≤ v.opening.limits.last_phase }
         ensures ending { SeesEndingStill (seat_view self.old).state (seat_view self.old).last result }
         ensures event { Looks (seat_view self.old) result (seat_view self.new) }
     {

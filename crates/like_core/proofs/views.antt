@@ -4,3 +4,4 @@ pub mod ViewLists
 pub mod KeptReads
 pub mod KeptPlaces
 pub mod Apart
+pub mod Sights

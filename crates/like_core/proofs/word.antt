@@ -3,4 +3,6 @@ pub mod WordParts
 pub mod WordSteps
 pub mod FromFields
 pub mod Masks
+pub mod Numbering
 pub mod ShownEvents
+pub mod KindTells

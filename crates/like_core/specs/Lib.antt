@@ -2,6 +2,7 @@ pub mod Limits
 pub mod Additions
 pub mod word
 pub mod Phase
+pub mod OpeningLimits
 pub mod Functions
 pub mod WorkerState
 pub mod PhaseMasks

@@ -13,7 +13,7 @@ max_pages = 1024
 abbrev pub max_count : ℕ
 max_count = 10 ^ 18
 
--- the most likes that a worker adds to a board
+-- the most likes that a worker adds to the board of a run
 abbrev pub max_likes : ℕ
 max_likes = 64000000
 

@@ -2,7 +2,7 @@ use Rattle.std.specs.Prelude.{◌≡◌, ℕ, ◌%◌, ◌==◌, nat_lt, Bool, f
 use Rattle.like_core.specs.Limits.{hot_pages}
 use Rattle.like_core.specs.Functions.{has_bit}
 
--- the number of the last phase
+-- the greatest number in a phase word; in a run it is the last phase
 abbrev pub last_phase : ℕ
 last_phase = 16777214
 

@@ -2,22 +2,24 @@ use Rattle.std.specs.Prelude.{◌≡◌, ℕ, ◌+◌, ◌<◌, ◌≤◌, Bool,
 use Rattle.like_core.specs.declared.worker_state.WorkerState.{WorkerState}
 use Rattle.like_core.specs.declared.worker_state.WorkerState.TheVariants.{Runs, Answered, Gone}
 use Rattle.like_core.specs.declared.sight.Sight.{Sight}
+use Rattle.like_core.specs.declared.limits.Limits.{Limits}
 use Rattle.like_core.specs.declared.view.Addition.{Addition}
 use Rattle.like_core.specs.declared.view.PageRead.{PageRead}
 use Rattle.like_core.specs.declared.view.PhaseMask.{PhaseMask}
-use Rattle.like_core.specs.Limits.{max_likes, hot_pages}
+use Rattle.like_core.specs.Limits.{hot_pages}
 use Rattle.like_core.specs.Additions.{addition, all_added, added_to, added_in, page_read}
 use Rattle.like_core.specs.Phase.{IsSplit, is_marked, split}
 use Rattle.like_core.specs.PhaseMasks.{mask_of, HasMask}
 use Rattle.like_core.specs.WorkerState.{IsRunning, SawEnding, phase_of, seen}
 
 -- what a post means: at which board it stands, as numbers that tell boards apart; whose it is; for each page of its board,
--- whether it is marked as split; the worker's state and its last sight, if it looked; what it has added to pages and
--- read of them, in order; and the masks of hot pages that it read, the latest first
+-- whether it is marked as split; the limits of its board; the worker's state and its last sight, if it looked; what it has
+-- added to pages and read of them, in order; and the masks of hot pages that it read, the latest first
 pub record PostView : Type 0 where
   pub board : List ℕ
   pub worker : ℕ
   pub marks : List Bool
+  pub limits : Limits
   pub state : WorkerState
   pub last : Option Sight
   pub additions : List Addition
@@ -82,14 +84,14 @@ abbrev pub with_mask : PostView → ℕ → PostView
 with_mask v mask = record v { masks = record { phase = phase_of v.state; mask = mask } ∷ v.masks }
 
 -- n may be added to the page: 1 at a like of a page that is not sliced; a slice that is merged in the ending phase; and
--- all additions of a post together stay within its worker's requests
+-- all additions of a post together stay within the likes of a worker
 pub record MayAdd (v : PostView) (page n : ℕ) : Type 0 where
   pub runs : IsRunning v.state
   pub there : page < pages_of v
   pub known : KnowsSlices v page
   pub like : slices v page ≡ false → n ≡ 1
   pub merge : slices v page ≡ true → (1 ≤ n) × SawEnding v.last
-  pub few : all_added v.additions + n ≤ max_likes
+  pub few : all_added v.additions + n ≤ v.limits.likes
 
 -- the page may be read
 pub record MayRead (v : PostView) (page : ℕ) : Type 0 where

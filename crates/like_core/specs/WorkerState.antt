@@ -2,7 +2,9 @@ use Rattle.std.specs.Prelude.{◌≡◌, ℕ, ◌+◌, ◌≤◌, nat_lt, true, 
 use Rattle.like_core.specs.declared.worker_state.WorkerState.{WorkerState}
 use Rattle.like_core.specs.declared.worker_state.WorkerState.TheVariants.{Runs, Answered, Gone}
 use Rattle.like_core.specs.declared.sight.Sight.{Sight}
+use Rattle.like_core.specs.declared.limits.Limits.{Limits}
 use Rattle.like_core.specs.Phase.{IsJoined, IsSplit}
+use Rattle.like_core.specs.OpeningLimits.{number_of}
 
 -- the worker has answered this phase, or is gone
 abbrev pub IsIn : ℕ → WorkerState → Type 0
@@ -40,13 +42,20 @@ phase_of (Runs phase) = phase
 phase_of (Answered phase) = phase
 phase_of Gone = 0
 
--- what a worker in this state can see: one that runs a phase sees that phase; one that has answered a phase sees that
--- phase and waits, or the next, and runs it
+-- what a worker in this state can see where numbers are phases, as in a run: one that runs a phase sees that phase; one
+-- that has answered a phase sees that phase and waits, or the next, and runs it
 abbrev pub IsSightOf : WorkerState → Sight → Type 0
 IsSightOf (Runs phase) sight = (sight.number ≡ phase) × (sight.waits ≡ false)
 IsSightOf (Answered phase) sight =
     MatchBool sight.waits (sight.number ≡ phase) (sight.number ≡ phase + 1)
 IsSightOf Gone sight = ⊥
+
+-- the same within these limits, where a number stands for each phase
+abbrev pub IsSightWithin : Limits → WorkerState → Sight → Type 0
+IsSightWithin l (Runs phase) sight = (sight.number ≡ number_of l phase) × (sight.waits ≡ false)
+IsSightWithin l (Answered phase) sight =
+    MatchBool sight.waits (sight.number ≡ number_of l phase) (sight.number ≡ number_of l (phase + 1))
+IsSightWithin l Gone sight = ⊥
 
 -- the worker's state after a sight
 abbrev pub seen : WorkerState → Sight → WorkerState
@@ -54,7 +63,7 @@ seen (Runs phase) sight = Runs phase
 seen (Answered phase) sight = (if sight.waits then Answered phase else Runs (phase + 1))
 seen Gone sight = Gone
 
--- no look showed a later phase than this
+-- no look showed a greater number than this phase
 abbrev pub SawNoLater : ℕ → Option Sight → Type 0
 SawNoLater phase last = IfSome last (λ sight. sight.number ≤ phase)
 

@@ -3,3 +3,4 @@ pub mod Kind
 pub mod Word
 pub mod PhaseWord
 pub mod ShownWord
+pub mod KindTells

@@ -3,6 +3,7 @@
 ghost use Rattle.like_core.specs.core.Exclusive.{ReachableIsExclusive};
 ghost use Rattle.like_core.specs.core.Likes.{LikesStayReachable};
 ghost use Rattle.like_core.specs.views.Layout.{WordsStandApart};
+ghost use Rattle.like_core.specs.word.KindTells.{KindTellsPhase};
 ghost use Rattle.like_core.specs.views.Places.{AdditionKeepsPlaces, ReadKeepsPlaces, JoinKeepsPlaces};
 ghost use Rattle.like_core.specs.views.Reads.{AdditionKeepsReads, ReadKeepsReads, JoinKeepsReads};
 
@@ -15,6 +16,12 @@ pub fn reachable_is_exclusive()
 /// state that can be reached holds of the board's state and all slices together.
 pub fn likes_stay_reachable()
     ensures { LikesStayReachable }
+{}
+
+/// A worker that has answered phase j tells j from j + 1 by the kind of the phase word. It is in no other phase, so it
+/// takes none for a later one whose word has the same number.
+pub fn kind_tells_phase()
+    ensures { KindTellsPhase }
 {}
 
 /// An addition of the present phase leaves each count that was read between what the views have added: it is of no

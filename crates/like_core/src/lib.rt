@@ -8,6 +8,7 @@
 mod event;
 mod hot;
 pub mod laws;
+mod limits;
 mod opening;
 mod phase_word;
 mod post;
@@ -19,6 +20,7 @@ mod worker_state;
 
 pub use event::Event;
 pub use hot::{HOT_PAGES, is_hot};
+pub use limits::Limits;
 pub use opening::Opening;
 pub use phase_word::{Kind, LAST_PHASE, PhaseWord};
 pub use post::Post;

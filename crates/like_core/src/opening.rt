@@ -1,3 +1,4 @@
+use crate::limits::Limits;
 use std::collections::LinkedList;
 
 /// What a core or a board was made with, as contracts see it: no value of it is made.
@@ -7,4 +8,5 @@ pub struct Opening {
     pub counts: LinkedList<u64>,
     /// Whether each page is marked as split.
     pub marks: LinkedList<bool>,
+    pub limits: Limits,
 }

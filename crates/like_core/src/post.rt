@@ -1,6 +1,6 @@
 ghost use Rattle.std.specs.Prelude.{◌≡◌, ◌≢◌, ◌≤◌, true};
 ghost use Rattle.like_core.specs.declared.worker_state.WorkerState.TheVariants.{Gone};
-ghost use Rattle.like_core.specs.WorkerState.{RunsJoined, RunsSplit, SawEnding, IsSightOf, SeesEndingStill};
+ghost use Rattle.like_core.specs.WorkerState.{RunsJoined, RunsSplit, SawEnding, IsSightWithin, SeesEndingStill, phase_of, seen};
 ghost use Rattle.like_core.specs.Post.{PostView, looked_at, answered, retired, added, has_read, with_mask, additions_of, MayAdd, MayRead};
 
 use crate::sight::Sight;
@@ -16,7 +16,8 @@ pub trait Post {
     /// ending phase that a worker runs stays so until the worker answers or retires.
     fn look(&mut self) -> Sight
         requires { (view self.old).state ≢ Gone }
-        ensures sight { IsSightOf (view self.old).state result }
+        ensures sight { IsSightWithin (view self.old).limits (view self.old).state result }
+        ensures within { phase_of (seen (view self.old).state result) ≤ (view self.old).limits.last_phase }
         ensures view { view self.new ≡ looked_at (view self.old) result }
         ensures ending { SeesEndingStill (view self.old).state (view self.old).last result };
 

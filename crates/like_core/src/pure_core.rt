@@ -1,10 +1,11 @@
 ghost use Rattle.std.specs.Prelude.{◌≡◌, ℕ, ◌^◌, ◌<◌, ◌≤◌, ◌↔◌, true, [], length, replicate, slice_index_or, All, IsOk, IfOk, OnOk, IfErr, OnErr};
-ghost use Rattle.like_core.specs.Phase.{last_phase};
 ghost use Rattle.like_core.specs.Limits.{max_workers, max_pages, total_bound};
+ghost use Rattle.like_core.specs.OpeningLimits.{AreLimits};
 ghost use Rattle.like_core.specs.core.Numbers.{AreBounded};
 ghost use Rattle.like_core.specs.core.Kept.{kept, AreRowsOf};
 
 use crate::event::Event;
+use crate::limits::Limits;
 use crate::shown::Shown;
 use crate::worker_state::WorkerState;
 use std::alloc::{AllocError, Global};
@@ -23,7 +24,8 @@ pub use sequence::check_events;
 /// many likes of each page each worker has not merged, and each page's count.
 #[derive(Debug, Drop)]
 pub struct Core {
-    phase: u32,
+    limits: Limits,
+    phase: u64,
     ending: bool,
     /// The mask of the present phase's hot pages.
     hot: u64,
@@ -36,9 +38,10 @@ pub struct Core {
     ghost states_sized: { length states.items ≡ length unmerged.items },
     ghost marks_sized: { length marks.items ≡ length counts },
     ghost rows_sized: { AreRowsOf (length counts) unmerged.items },
-    ghost bounded: { AreBounded (kept phase ending hot states.items unmerged.items counts marks.items) },
-    ghost within: { phase ≤ last_phase },
-    ghost last: { ending ≡ true → phase < last_phase },
+    ghost bounded: { AreBounded (kept limits phase ending hot states.items unmerged.items counts marks.items) },
+    ghost lawful: { AreLimits limits },
+    ghost within: { phase ≤ limits.last_phase },
+    ghost last: { ending ≡ true → phase < limits.last_phase },
 }
 
 /// So many workers with nothing unmerged.
@@ -54,11 +57,12 @@ fn empty_rows(alloc: Global, workers: u32, pages: usize) -> Result<Vec<PageNumbe
 
 impl Core {
     ghost use Rattle.like_core.specs.core.Table.{Permits, IsShown, next, Refuses};
-    ghost use Rattle.like_core.specs.core.State.{opening};
+    ghost use Rattle.like_core.specs.core.State.{opening, opening_with};
     ghost use Rattle.like_core.specs.core.Core.{numbers_of, StandsForStart, TakesStates, IsReachable, KeepsReachable, IsCoreExclusive};
 
-    /// The core at the start of phase 0, running, with these counts and marks by page. Pages that are marked in `split`
-    /// are split in each odd phase, and others of the first 64 in those that are released with their bit.
+    /// The core at the start of phase 0, running, with these counts and marks by page and the limits of a run. Pages
+    /// that are marked in `split` are split in each odd phase, and others of the first 64 in those that are released
+    /// with their bit.
     pub fn new(
         alloc: Global,
         workers: u32,
@@ -74,7 +78,31 @@ impl Core {
         ensures reachable { IfOk result (λ core. IsReachable core (opening workers counts.now split.now)) }
         ensures exclusive { IfOk result IsCoreExclusive }
     {
+        Core::with_limits(alloc, workers, counts, split, Limits::of_run())
+    }
+
+    /// The same within other limits.
+    pub fn with_limits(
+        alloc: Global,
+        workers: u32,
+        counts: &[u64],
+        split: &[bool],
+        limits: Limits,
+    ) -> Result<Core, AllocError>
+        requires some_worker { 1 ≤ workers }
+        requires few_workers { workers ≤ max_workers }
+        requires same_pages { length split.now ≡ length counts.now }
+        requires few_pages { length counts.now ≤ max_pages }
+        requires counts { All (λ count. count < total_bound) counts.now }
+        requires limits { AreLimits limits }
+        ensures start { IfOk result (λ core.
+            StandsForStart core (opening_with limits workers counts.now split.now)) }
+        ensures reachable { IfOk result (λ core.
+            IsReachable core (opening_with limits workers counts.now split.now)) }
+        ensures exclusive { IfOk result IsCoreExclusive }
+    {
         Ok(Core {
+            limits,
             phase: 0,
             ending: false,
             hot: 0,

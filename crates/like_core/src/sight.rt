@@ -1,7 +1,7 @@
 /// What a worker sees by a look at the phase word.
 #[derive(Clone, Copy, Debug, PartialEq, Eq)]
 pub struct Sight {
-    /// The present phase.
+    /// The number in the phase word: in a run the present phase, else that phase modulo the modulus of its limits.
     pub number: u32,
     /// Whether its end was announced.
     pub ending: bool,
@@ -12,7 +12,7 @@ pub struct Sight {
 /// What the coordinator sees by a look at the phase word.
 #[derive(Clone, Copy, Debug, PartialEq, Eq)]
 pub struct CoordSight {
-    /// The present phase.
+    /// The number in the phase word, as in a worker's sight.
     pub number: u32,
     /// Whether its end was announced.
     pub ending: bool,

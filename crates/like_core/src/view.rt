@@ -6,7 +6,7 @@ use std::collections::LinkedList;
 
 /// Likes that a worker added to a page's count, in one step.
 pub struct Addition {
-    pub phase: u32,
+    pub phase: u64,
     pub page: u32,
     /// The page's count before.
     pub old: u64,
@@ -15,7 +15,7 @@ pub struct Addition {
 
 /// A count that a worker read.
 pub struct PageRead {
-    pub phase: u32,
+    pub phase: u64,
     pub page: u32,
     pub count: u64,
     /// How many additions the worker had made before.
@@ -24,13 +24,13 @@ pub struct PageRead {
 
 /// The mask of a phase's hot pages: bit `p` is that of page `p`.
 pub struct PhaseMask {
-    pub phase: u32,
+    pub phase: u64,
     pub mask: u64,
 }
 
 /// A count that the coordinator read.
 pub struct PageCount {
-    pub phase: u32,
+    pub phase: u64,
     pub page: u32,
     pub count: u64,
 }
@@ -53,7 +53,7 @@ pub struct CoordSeatView {
     pub opening: Opening,
     /// How many workers' seats were made.
     pub made: u32,
-    pub phase: u32,
+    pub phase: u64,
     pub ending: bool,
     /// The sight of its last look, where it announced and released nothing since.
     pub last: Option<CoordSight>,

@@ -5,14 +5,14 @@ ghost use Rattle.like_core.specs.WorkerState.{IsIn, looked};
 /// is gone for good.
 #[derive(Clone, Copy, Debug, PartialEq, Eq)]
 pub enum WorkerState {
-    Runs(u32),
-    Answered(u32),
+    Runs(u64),
+    Answered(u64),
     Gone,
 }
 
 impl WorkerState {
     /// Whether the worker is in: it answered this phase or is gone.
-    pub fn is_in(self, phase: u32) -> bool
+    pub fn is_in(self, phase: u64) -> bool
         ensures { IsTrue result ↔ IsIn phase self }
     {
         match self {
@@ -23,7 +23,7 @@ impl WorkerState {
     }
 
     /// The worker's state after a look at this phase.
-    pub fn looked(self, phase: u32) -> WorkerState
+    pub fn looked(self, phase: u64) -> WorkerState
         ensures { result ≡ looked phase self }
     {
         match self {

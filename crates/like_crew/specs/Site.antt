@@ -4,6 +4,7 @@ use Rattle.like_requests.specs.Pages.{counts_of, marks_of}
 use Rattle.like_requests.specs.declared.request.Request.{Request}
 use Rattle.like_requests.specs.declared.setup.Setup.{Setup}
 use Rattle.like_core.specs.declared.opening.Opening.{Opening}
+use Rattle.like_core.specs.core.State.{opening}
 use Rattle.like_board.specs.Seats.{board_id, coord_board, coord_view}
 use Rattle.like_roles.specs.worker.New.{AreNewSeats}
 use Rattle.like_crew.specs.declared.site.Seats.{Seats}
@@ -11,7 +12,7 @@ use Rattle.like_crew.specs.declared.site.Site.{Site}
 
 -- the opening of the board of a run
 abbrev pub opening_of : Setup → Opening
-opening_of setup = record { workers = setup.workers; counts = counts_of setup.pages; marks = marks_of setup.pages }
+opening_of setup = opening setup.workers (counts_of setup.pages) (marks_of setup.pages)
 
 -- the numbers that a run of these plans goes by
 pub record IsSite (setup : Setup) (plans : List (List Request)) (site : Site) : Type 0 where

@@ -3,18 +3,20 @@ use Rattle.std.proofs.Common.{◌≡◌, List, ap, ◌∙◌}
 use Rattle.like_requests.specs.Pages.{Page, marks_of}
 use Rattle.like_core.specs.declared.opening.Opening.{Opening}
 use Rattle.like_core.specs.declared.view.WorkerSeatView.{WorkerSeatView}
+use Rattle.like_core.specs.OpeningLimits.{run_limits}
 use Rattle.like_board.specs.declared.worker_seat.WorkerSeat.{WorkerSeat}
 use Rattle.like_board.specs.Seats.{AreFresh, BoardId}
 use Rattle.like_roles.specs.worker.New.{AreNewSeats}
 
 -- fresh seats are new ones, of posts at a board with these pages
-pub new_seats : (board : BoardId) (z : Opening) (pages : List Page) (seats : List WorkerSeat) → z.marks ≡ marks_of pages → AreFresh board z seats → AreNewSeats board pages seats
-new_seats board z pages seats marks fresh worker seat at =
+pub new_seats : (board : BoardId) (z : Opening) (pages : List Page) (seats : List WorkerSeat) → z.marks ≡ marks_of pages → z.limits ≡ run_limits → AreFresh board z seats → AreNewSeats board pages seats
+new_seats board z pages seats marks limits fresh worker seat at =
     let f = fresh worker seat at in (
       f.0,
       record {
         is_his = ap (λ (v : WorkerSeatView). v.worker) f.1;
         marks = ap (λ (v : WorkerSeatView). v.opening.marks) f.1 ∙ marks;
+        limits = ap (λ (v : WorkerSeatView). v.opening.limits) f.1 ∙ limits;
         fresh = f.2;
       },
     )

@@ -1,9 +1,11 @@
 ghost use Rattle.std.specs.Prelude.{◌≡◌, ◌≤◌, [], IfErr, IfOk, length};
 ghost use Rattle.like_board.specs.Seats.{board_id, coord_board, coord_view};
 ghost use Rattle.like_core.specs.Phase.{last_phase};
-ghost use Rattle.like_core.specs.views.Views.{SawAllIn};
+ghost use Rattle.like_core.specs.OpeningLimits.{run_limits};
+ghost use Rattle.like_core.specs.views.Actions.{Surveys};
+ghost use Rattle.like_core.specs.views.Views.{SawAllIn, looked_coord};
 ghost use Rattle.like_roles.specs.coordinator.Choice.{first_choice, ReleasesNext};
-ghost use Rattle.like_roles.specs.coordinator.CoordTurns.{ChoseByCounts, CoordTurns, HasEndedJoined, IsBeforeEnd};
+ghost use Rattle.like_roles.specs.coordinator.CoordTurns.{ChoseByCounts, CoordTurns, HasEndedJoined, IsBeforeEnd, IsCoordSight};
 
 mod choice;
 
@@ -11,7 +13,7 @@ use self::choice::Choice;
 use crate::chosen::Chosen;
 use crate::coord_turn::CoordTurn;
 use like_board::{Board, CoordSeat};
-use like_core::LAST_PHASE;
+use like_core::{CoordSight, LAST_PHASE};
 use std::alloc::Global;
 use std::marker::Model;
 
@@ -30,6 +32,7 @@ pub struct Coordinator {
 
 impl Model for Coordinator {
     ghost use Rattle.std.specs.Prelude.{◌≡◌, length, min};
+    ghost use Rattle.like_core.specs.OpeningLimits.{run_limits};
     ghost use Rattle.like_board.specs.Seats.{coord_board, coord_view};
     ghost use Rattle.like_core.specs.Limits.{hot_pages};
     ghost use Rattle.like_roles.specs.coordinator.CoordTurns.{CoordinatorView};
@@ -45,13 +48,27 @@ impl Model for Coordinator {
       choice = c.choice;
     } };
 
-    ghost invariant = { λ c. length c.choice.before ≡ min hot_pages (length (coord_view c.seat).opening.counts) };
+    ghost invariant = { λ c. (length c.choice.before ≡ min hot_pages (length (coord_view c.seat).opening.counts))
+        × ((coord_view c.seat).opening.limits ≡ run_limits) };
 }
 
 /// There is no memory for a coordinator. The seat that was passed comes back.
 #[derive(Drop)]
 pub struct NoCoordinator {
     pub seat: CoordSeat,
+}
+
+// Looks at the phase word of a run, whose number is the phase.
+fn look_at_run(seat: &mut CoordSeat, board: &Board) -> CoordSight
+    requires here { coord_board seat.old ≡ board_id board.now }
+    requires run { (coord_view seat.old).opening.limits ≡ run_limits }
+    ensures board { coord_board seat.new ≡ coord_board seat.old }
+    ensures view { coord_view seat.new ≡ looked_coord (coord_view seat.old) (coord_view seat.new).word result }
+    ensures shows { IsCoordSight (coord_view seat.old) result }
+    ensures within { (coord_view seat.old).phase ≤ last_phase }
+    ensures event { Surveys (coord_view seat.old) result (coord_view seat.new) }
+{
+    seat.look(board)
 }
 
 // Releases the phase that follows this one; before a split one it chooses that phase's hot pages.
@@ -81,7 +98,8 @@ impl Coordinator {
         hot: Option<u32>,
         counts: &[u64],
     ) -> Result<Coordinator, NoCoordinator>
-        requires { counts.now ≡ (coord_view seat).opening.counts }
+        requires counts { counts.now ≡ (coord_view seat).opening.counts }
+        requires limits { (coord_view seat).opening.limits ≡ run_limits }
         ensures new { IfOk result (λ coordinator. coordinator ≡ record {
           board = coord_board seat;
           seat = coord_view seat;
@@ -139,7 +157,7 @@ impl Coordinator {
         requires { self.old.board ≡ board_id board.now }
         ensures { CoordTurns self.old result self.new }
     {
-        let sight = self.seat.look(board);
+        let sight = look_at_run(&mut self.seat, board);
         self.phase = sight.number;
         if sight.all_gone {
             return CoordTurn::Ended;

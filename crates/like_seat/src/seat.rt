@@ -1,6 +1,7 @@
 ghost use Rattle.std.specs.Prelude.{◌≡◌, ◌≤◌, ◌↔◌, IfErr, IfOk, IsTrue};
 ghost use Rattle.like_core.specs.declared.worker_state.WorkerState.TheVariants.{Gone};
 ghost use Rattle.like_core.specs.Limits.{max_pages};
+ghost use Rattle.like_core.specs.OpeningLimits.{AreLimits};
 ghost use Rattle.like_core.specs.Post.{IsFresh, pages_of};
 ghost use Rattle.like_requests.specs.Limits.{max_stash};
 ghost use Rattle.like_seat.specs.SeatView.{IsSeat, phase_at};
@@ -55,6 +56,7 @@ impl<P: Post, W: Copy> Seat<P, W> {
         last: Users,
     ) -> Result<Seat<P, W>, NoSeat<P>>
         requires fresh { IsFresh (P.view post) }
+        requires limits { AreLimits (P.view post).limits }
         requires marks { marks.items ≡ (P.view post).marks }
         requires few_pages { pages_of (P.view post) ≤ max_pages }
         requires some { 1 ≤ room }
@@ -70,7 +72,7 @@ impl<P: Post, W: Copy> Seat<P, W> {
     }
 
     /// The phase that it runs or has answered, and 0 once it is gone.
-    pub fn phase(&self) -> u32
+    pub fn phase(&self) -> u64
         ensures phase { result ≡ phase_at self.now }
         ensures seat { IsSeat self.now }
     {

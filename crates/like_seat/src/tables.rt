@@ -57,7 +57,7 @@ impl<W: Copy> Tables<W> {
 
 impl<W: Copy> Tables<W> {
     // Runs the phase that was released; of a split one its post reads the mask.
-    pub fn enter<P: Post>(&mut self, post: &mut P, phase: u32)
+    pub fn enter<P: Post>(&mut self, post: &mut P, phase: u64)
         requires { (P.view post.old).state ≡ Runs phase }
         ensures post { P.view post.new ≡ record (P.view post.old) {
           masks = masks_entered (P.view post.old).masks phase self.new.hot;
@@ -71,7 +71,7 @@ impl<W: Copy> Tables<W> {
     }
 
     // The phase that the worker runs or has answered.
-    pub fn phase(&self) -> u32
+    pub fn phase(&self) -> u64
         ensures { result ≡ phase_of self.now.state }
     {
         match self.state {

@@ -15,10 +15,11 @@ use Rattle.like_core.specs.declared.view.WorkerSeatView.{WorkerSeatView}
 use Rattle.like_core.specs.declared.view.CoordSeatView.{CoordSeatView}
 use Rattle.like_core.specs.declared.view.View.{View}
 use Rattle.like_core.specs.declared.view.View.TheVariants.{Coord}
-use Rattle.like_core.specs.Phase.{last_phase, IsJoined, IsSplit}
+use Rattle.like_core.specs.Phase.{IsJoined, IsSplit}
+use Rattle.like_core.specs.OpeningLimits.{number_of}
 use Rattle.like_core.specs.Functions.{update}
 use Rattle.like_core.specs.WorkerState.{IsIn}
-use Rattle.like_core.specs.word.Word.{Fields, packed, IsLawful, released}
+use Rattle.like_core.specs.word.Word.{Fields, packed, IsLawful, released_modulo}
 use Rattle.like_core.specs.core.Numbers.{AllIn, AllGone, CoordSees}
 use Rattle.like_core.specs.core.Table.{Permits}
 use Rattle.like_core.specs.core.State.{CoreState, numbers}
@@ -78,7 +79,8 @@ surveys z words views place c some_state at =
         fields = f;
         lawful = lawful;
         found_is = sh.word;
-        number = sees.number ∙ sym old.phase;
+        number = sees.number ∙ sym (ap (number_of z.limits) old.phase);
+        within = subst (λ n. n ≤ z.limits.last_phase) (sym old.phase) p.within;
         ending = sees.ending ∙ sym old.ending;
         all_in = λ is. sees.all_in.1 (old.all_in is);
         gone = λ split all. old.gone (subst IsSplit old.phase split) (sees.all_gone.0 all);
@@ -102,7 +104,7 @@ surveys z words views place c some_state at =
         state = s;
         reachable = some_state.reachable;
         shows = after_it;
-        tallied = tallied_on s s views place (Coord c) (Coord d) (omega arith) (λ _. refl) at (λ _. refl) (λ _. refl) (λ _ _. refl) some_state.tallied;
+        tallied = tallied_on z.limits.likes s s views place (Coord c) (Coord d) (omega arith) (λ _. refl) at (λ _. refl) (λ _. refl) (λ _ _. refl) some_state.tallied;
         places = places_same z.counts views place (Coord c) (Coord d) at (λ _. refl) (λ _. refl) (λ _ _ has. has) some_state.places;
       },
     )
@@ -119,13 +121,16 @@ announces z words views place c some_state at may =
     let sh = some_state.shows in
     let old : FitsCoord z s c = sh.each place (Coord c) at in
     let last = some_and c.last
-    (λ (sight : CoordSight). (sight.ending ≡ false) × (sight.number < last_phase))
-    (λ (sight : CoordSight). (sight.number ≡ s.phase) × (sight.ending ≡ s.ending))
+    (λ (sight : CoordSight). sight.ending ≡ false)
+    (λ (sight : CoordSight). (sight.number ≡ number_of z.limits s.phase) × (sight.ending ≡ s.ending))
     (λ (sight : CoordSight). sight.all_in ≡ true → CoordSees (numbers z s) sight × (c.word ≡ shown_word z s))
-    may old.last old.stays
+    may.0 old.last old.stays
     in
-    let running : s.ending ≡ false = sym last.3.1 ∙ last.2.0 in
-    let below : s.phase < last_phase = subst (λ n. n < last_phase) last.3.0 last.2.1 in
+    let running : s.ending ≡ false = sym last.3.1 ∙ last.2 in
+    let last_is = ap (λ (y : Opening). y.limits.last_phase) old.opening in
+    let not_last = may.1 in
+    let phase = old.phase in
+    let below : s.phase < z.limits.last_phase = omega arith in
     let permits : Permits (numbers z s) Announce = record { there = tt; suits = running; leaves_last = below; room = tt } in
     let t : CoreState = phased s s.phase true s.hot in
     let reachable = goes_on_by z s Announce some_state.reachable permits in
@@ -188,7 +193,7 @@ announces z words views place c some_state at may =
         state = t;
         reachable = reachable;
         shows = after_it;
-        tallied = tallied_on s t views place (Coord c) (Coord d) (omega arith) (λ _. refl) at (λ _. refl) (λ _. refl) (λ _ _. refl) some_state.tallied;
+        tallied = tallied_on z.limits.likes s t views place (Coord c) (Coord d) (omega arith) (λ _. refl) at (λ _. refl) (λ _. refl) (λ _ _. refl) some_state.tallied;
         places = places_same z.counts views place (Coord c) (Coord d) at (λ _. refl) (λ _. refl) (λ _ _ has. has) some_state.places;
       },
     )
@@ -205,7 +210,7 @@ pub saw_all_in : (z : Opening) (s : CoreState) (c : CoordSeatView) → FitsCoord
 saw_all_in z s c f saw =
     let last = some_and c.last
     (λ (sight : CoordSight). (sight.ending ≡ true) × (sight.all_in ≡ true))
-    (λ (sight : CoordSight). (sight.number ≡ s.phase) × (sight.ending ≡ s.ending))
+    (λ (sight : CoordSight). (sight.number ≡ number_of z.limits s.phase) × (sight.ending ≡ s.ending))
     (λ (sight : CoordSight). sight.all_in ≡ true → CoordSees (numbers z s) sight × (c.word ≡ shown_word z s))
     saw f.last f.stays
     in
@@ -248,8 +253,8 @@ is_released z c word some_mask below is = elim (cases_eq (c.phase % 2) 0) [
     published_mask (Some mask) there low same = (low, same)
 
 -- a release is the event, where what is stored is made of the word that the last look saw
-pub releases : (z : Opening) (words : List ℕ) (views : List View) (place : ℕ) (c : CoordSeatView) (seen : Fields) → ShowsSome z words views → get_elem? views place ≡ some (Coord c) → MayRelease c → IsLawful seen → packed seen ≡ c.word → IsStep z (Release (mask_released c)) Done (Coord c) (Coord (released_coord c)) × ShowsSome z (set words 0 (packed (released seen))) (set views place (Coord (released_coord c)))
-releases z words views place c seen some_state at may seen_lawful seen_is =
+pub releases : (z : Opening) (words : List ℕ) (views : List View) (place : ℕ) (c : CoordSeatView) (modulus : ℕ) (seen : Fields) → modulus ≡ z.limits.modulus → ShowsSome z words views → get_elem? views place ≡ some (Coord c) → MayRelease c → IsLawful seen → packed seen ≡ c.word → IsStep z (Release (mask_released c)) Done (Coord c) (Coord (released_coord c)) × ShowsSome z (set words 0 (packed (released_modulo modulus seen))) (set views place (Coord (released_coord c)))
+releases z words views place c modulus seen modulus_is some_state at may seen_lawful seen_is =
     let s = some_state.state in
     let sh = some_state.shows in
     let old : FitsCoord z s c = sh.each place (Coord c) at in
@@ -308,9 +313,9 @@ releases z words views place c seen some_state at may seen_lawful seen_is =
       joined = λ at_place v found. workers v (old.joined at_place v found);
     }
     in
-    let after_it : Shows z t (set words 0 (packed (released seen))) (set views place (Coord d)) =
-    leads_word z s words views place c d (s.phase + 1) false hot (packed (released seen)) sh at refl refl refl (omega arith)
-    (ap (λ f. packed (released f)) same ∙ ap packed (sym (fields_released z s now.ending now.all_in)))
+    let after_it : Shows z t (set words 0 (packed (released_modulo modulus seen))) (set views place (Coord d)) =
+    leads_word z s words views place c d (s.phase + 1) false hot (packed (released_modulo modulus seen)) sh at refl refl refl (omega arith)
+    ((λ m. packed (released_modulo (modulus_is m) (same m))) ∙ ap packed (sym (fields_released z s now.ending now.all_in)))
     (λ odd.
     let phase = old.phase in
     let even : IsJoined c.phase = omega arith in
@@ -331,14 +336,14 @@ releases z words views place c seen some_state at may seen_lawful seen_is =
         permits = permits;
         tells = refl;
         changed = 0;
-        word = packed (released seen);
+        word = packed (released_modulo modulus seen);
         shows_after = after_it;
       },
       record {
         state = t;
         reachable = goes_on_by z s (Release mask) some_state.reachable permits;
         shows = after_it;
-        tallied = tallied_on s t views place (Coord c) (Coord d) (omega arith) (λ _. refl) at (λ _. refl) (λ _. refl) (λ _ _. refl) some_state.tallied;
+        tallied = tallied_on z.limits.likes s t views place (Coord c) (Coord d) (omega arith) (λ _. refl) at (λ _. refl) (λ _. refl) (λ _ _. refl) some_state.tallied;
         places = places_same z.counts views place (Coord c) (Coord d) at (λ _. refl) (λ _. refl) (λ _ _ has. has) some_state.places;
       },
     )

@@ -13,7 +13,7 @@ use Rattle.like_core.specs.declared.view.PageCount.{PageCount}
 use Rattle.like_core.specs.declared.view.WorkerSeatView.{WorkerSeatView}
 use Rattle.like_core.specs.declared.view.View.{View}
 use Rattle.like_core.specs.declared.view.View.TheVariants.{Coord, Worker}
-use Rattle.like_core.specs.Limits.{max_workers, max_count, max_likes}
+use Rattle.like_core.specs.Limits.{max_workers, max_count}
 use Rattle.like_core.specs.Functions.{update}
 use Rattle.like_core.specs.Phase.{is_marked, split}
 use Rattle.like_core.specs.core.Table.{IsShown}
@@ -91,8 +91,8 @@ applied_else s i page n q other =
     ap (λ (l : List Label). length l) (update-other s.applied page (s.applied page ++ replicate n (label i s.phase)) q other)
 
 -- what the views have added and may still add, after an addition
-tallied_added : (s : CoreState) (views : List View) (place : ℕ) (v : WorkerSeatView) (page count n : ℕ) (rest : ℕ → List ℕ) → get_elem? views place ≡ some (Worker v) → phase_of v.state ≡ s.phase → added_to page v.additions + n ≤ max_likes → Tallied s views → Tallied (record s { unmerged = rest; applied = applied_by s v.worker page n }) (set views place (Worker (added_view v page count n)))
-tallied_added s views place v page count n rest at present few old =
+tallied_added : (likes : ℕ) (s : CoreState) (views : List View) (place : ℕ) (v : WorkerSeatView) (page count n : ℕ) (rest : ℕ → List ℕ) → get_elem? views place ≡ some (Worker v) → phase_of v.state ≡ s.phase → added_to page v.additions + n ≤ likes → Tallied likes s views → Tallied likes (record s { unmerged = rest; applied = applied_by s v.worker page n }) (set views place (Worker (added_view v page count n)))
+tallied_added likes s views place v page count n rest at present few old =
     let w : WorkerSeatView = added_view v page count n in
     let sums_now : (q : ℕ) → length (applied_by s v.worker page n q) ≡ sum_by (paged q) (set views place (Worker w)) =
     λ q.
@@ -110,13 +110,13 @@ tallied_added s views place v page count n rest at present few old =
           sym (sum_set (paged q) views place (Worker v) (Worker w) at (added_to_else v.additions (phase_of v.state) page count n q other)))
     ]
     in
-    let rooms_now : (q : ℕ) → length (applied_by s v.worker page n q) + sum_by (room q) (set views place (Worker w)) ≤ max_likes * max_workers =
+    let rooms_now : (q : ℕ) → length (applied_by s v.worker page n q) + sum_by (room likes q) (set views place (Worker w)) ≤ likes * max_workers =
     λ q.
     elim (cases_eq q page) [
       | inl same ↦
           rw same
           (let before = old.rooms page in
-          let swap = sum_swap (room page) views place (Worker v) (Worker w) at in
+          let swap = sum_swap (room likes page) views place (Worker v) (Worker w) at in
           let more = added_to_here v.additions (phase_of v.state) page count n in
           let long = applied_here s v.worker page n in
           omega arith)
@@ -124,8 +124,8 @@ tallied_added s views place v page count n rest at present few old =
           let before = old.rooms q in
           let long = applied_else s v.worker page n q other in
           let same =
-          sum_set (room q) views place (Worker v) (Worker w) at
-          (ap (λ (k : ℕ). max_likes - k) (added_to_else v.additions (phase_of v.state) page count n q other))
+          sum_set (room likes q) views place (Worker v) (Worker w) at
+          (ap (λ (k : ℕ). likes - k) (added_to_else v.additions (phase_of v.state) page count n q other))
           in
           omega arith
     ]
@@ -189,9 +189,14 @@ adds z words views place v page n some_state at may =
     in
     let may_there = may.there in
     let on : page < length z.counts = omega arith in
-    let few : added_to page v.additions + n ≤ max_likes =
-    (let part = added_to-le v.additions page in let all = may.few in omega arith)
+    let few : added_to page v.additions + n ≤ z.limits.likes =
+    (let part = added_to-le v.additions page in
+    let all = may.few in
+    let same = ap (λ (y : Opening). y.limits.likes) old.opening in
+    omega arith)
     in
+    let own_room = sum_part (room z.limits.likes page) views place (Worker v) at in
+    let bound = sh.opening.limits.likes in
     let low = count_low z.counts page on sh.opening.counts in
     let full = some_state.tallied.rooms page in
     let sums = some_state.tallied.sums page in
@@ -244,7 +249,7 @@ adds z words views place v page n some_state at may =
         state = t;
         reachable = subst (Reachable z) a.leads reached;
         shows = shows;
-        tallied = tallied_added s views place v page count n a.rest at present few some_state.tallied;
+        tallied = tallied_added z.limits.likes s views place v page count n a.rest at present few some_state.tallied;
         places = addition_keeps_places z.counts views place v page count n at (omega arith) (some_likes (post_of v) page n may) some_state.places;
       },
       omega arith,

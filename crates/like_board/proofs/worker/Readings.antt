@@ -105,7 +105,7 @@ reads z words views place v page some_state at may =
         state = s;
         reachable = some_state.reachable;
         shows = shows;
-        tallied = tallied_on s s views place (Worker v) (Worker w) (omega arith) (λ _. refl) at (λ _. refl) (λ _. refl) (λ _ _. refl) some_state.tallied;
+        tallied = tallied_on z.limits.likes s s views place (Worker v) (Worker w) (omega arith) (λ _. refl) at (λ _. refl) (λ _. refl) (λ _ _. refl) some_state.tallied;
         places = read_keeps_places z.counts views place v page (get_or words (word_of page) 0) at (omega arith) some_state.places;
       },
       omega arith,
@@ -177,7 +177,7 @@ reads_mask z words views place v some_state at split_phase =
         state = s;
         reachable = some_state.reachable;
         shows = shows;
-        tallied = tallied_on s s views place (Worker v) (Worker w) (omega arith) (λ _. refl) at (λ _. refl) (λ _. refl) (λ _ _. refl) some_state.tallied;
+        tallied = tallied_on z.limits.likes s s views place (Worker v) (Worker w) (omega arith) (λ _. refl) at (λ _. refl) (λ _. refl) (λ _ _. refl) some_state.tallied;
         places = places_same z.counts views place (Worker v) (Worker w) at (λ _. refl) (λ _. refl) (λ _ _ has. has) some_state.places;
       },
     )

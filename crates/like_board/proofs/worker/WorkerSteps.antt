@@ -1,5 +1,5 @@
 -- Each step of a worker is the event, and keeps what the board shows.
-use Rattle.std.proofs.Common.{◌≡◌, ◌≢◌, ℕ, ◌+◌, nat_lt, bit_or, Bool, true, false, cond, ◌⊎◌, inl, inr, IsTrue, ◌↔◌, MatchBool, List, get_or, set, subst, ap, sym, ◌∙◌, refl, arith}
+use Rattle.std.proofs.Common.{◌≡◌, ◌≢◌, ℕ, ◌+◌, ◌≤◌, nat_lt, bit_or, Bool, true, false, cond, ◌⊎◌, inl, inr, IsTrue, ◌↔◌, MatchBool, List, get_or, set, subst, ap, sym, ◌∙◌, refl, arith}
 use Rattle.std.proofs.lemmas.Bool.{cond-true, cond-false, lt-ltb, le-ltb}
 use mathlib.Core.Option.{some}
 use lib.ListN.{get_elem?}
@@ -9,12 +9,14 @@ use Rattle.like_core.specs.declared.sight.Sight.{Sight}
 use Rattle.like_core.specs.declared.event.Event.TheVariants.{Look, Acknowledge, Report, Retire}
 use Rattle.like_core.specs.declared.shown.Shown.TheVariants.{Done}
 use Rattle.like_core.specs.declared.opening.Opening.{Opening}
+use Rattle.like_core.specs.declared.limits.Limits.{Limits}
 use Rattle.like_core.specs.declared.view.WorkerSeatView.{WorkerSeatView}
 use Rattle.like_core.specs.declared.view.View.{View}
 use Rattle.like_core.specs.declared.view.View.TheVariants.{Worker}
 use Rattle.like_core.specs.Functions.{times}
 use Rattle.like_core.specs.Phase.{IsJoined, IsSplit}
-use Rattle.like_core.specs.WorkerState.{IsIn, looked, RunsSome, IsSightOf, seen, phase_of, IsRunning, RunsJoined, RunsSplit, SawEnding}
+use Rattle.like_core.specs.OpeningLimits.{number_of}
+use Rattle.like_core.specs.WorkerState.{IsIn, looked, RunsSome, IsSightWithin, seen, phase_of, IsRunning, RunsJoined, RunsSplit, SawEnding}
 use Rattle.like_core.specs.word.Word.{Fields, packed, answer_bit, retirement_bit}
 use Rattle.like_core.specs.core.Numbers.{Sees}
 use Rattle.like_core.specs.core.Table.{Permits}
@@ -28,6 +30,7 @@ use Rattle.like_core.proofs.Updates.{update-same}
 use Rattle.like_core.proofs.core.Reached.{goes_on_by}
 use Rattle.like_core.proofs.core.InPhase.{reached_in_phase}
 use Rattle.like_core.proofs.core.Unanswered.{reached_unanswered}
+use Rattle.like_core.proofs.word.Numbering.{number-le}
 use Rattle.like_core.proofs.word.ShownEvents.{moved, shown_lawful, fields_looked, word_answered, word_retired, worker_sees}
 use Rattle.like_core.proofs.views.KeptPlaces.{places_same}
 use Rattle.like_board.specs.Plays.{Looked}
@@ -49,21 +52,24 @@ not_true true no_ = absurd (no_ refl)
 not_true false no_ = refl
 
 -- what a look shows to a worker in this state, and where it takes the worker
-pub record LooksAt (phase : ℕ) (state : WorkerState) (sight : Sight) : Type 0 where
-  pub can : IsSightOf state sight
+pub record LooksAt (l : Limits) (phase : ℕ) (state : WorkerState) (sight : Sight) : Type 0 where
+  pub can : IsSightWithin l state sight
+  pub within : phase_of (seen state sight) ≤ l.last_phase
   pub goes : seen state sight ≡ looked phase state
 
 -- whoever is not gone looks so
-looks_at : (phase : ℕ) (state : WorkerState) (sight : Sight) → ((j : ℕ) → state ≡ Runs j → j ≡ phase) → ((j : ℕ) → state ≡ Answered j → (j ≡ phase) ⊎ (j + 1 ≡ phase)) → state ≢ Gone → sight.number ≡ phase → (IsTrue sight.waits ↔ (state ≡ Answered phase)) → LooksAt phase state sight
-looks_at phase (Runs j) sight runs answered there number waits = record {
-  can = (number ∙ sym (runs j refl), not_true sight.waits (λ is. let e = waits.0 is in cc));
+looks_at : (l : Limits) (phase : ℕ) (state : WorkerState) (sight : Sight) → ((j : ℕ) → state ≡ Runs j → j ≡ phase) → ((j : ℕ) → state ≡ Answered j → (j ≡ phase) ⊎ (j + 1 ≡ phase)) → state ≢ Gone → phase ≤ l.last_phase → sight.number ≡ number_of l phase → (IsTrue sight.waits ↔ (state ≡ Answered phase)) → LooksAt l phase state sight
+looks_at l phase (Runs j) sight runs answered there within number waits = record {
+  can = (number ∙ sym (ap (number_of l) (runs j refl)), not_true sight.waits (λ is. let e = waits.0 is in cc));
+  within = (let same = runs j refl in omega arith);
   goes = refl;
 }
-looks_at phase (Answered j) sight runs answered there number waits = elim (answered j refl) [
+looks_at l phase (Answered j) sight runs answered there within number waits = elim (answered j refl) [
   | inl now ↦
       let is : sight.waits ≡ true = waits.1 (ap Answered now) in
       record {
-        can = subst (λ (b : Bool). MatchBool b (sight.number ≡ j) (sight.number ≡ j + 1)) (sym is) (number ∙ sym now);
+        can = subst (λ (b : Bool). MatchBool b (sight.number ≡ number_of l j) (sight.number ≡ number_of l (j + 1))) (sym is) (number ∙ sym (ap (number_of l) now));
+        within = subst (λ (st : WorkerState). phase_of st ≤ l.last_phase) (sym (cond-true sight.waits (Answered j) (Runs (j + 1)) is)) (omega arith);
         goes =
             cond-true sight.waits (Answered j) (Runs (j + 1)) is ∙
             sym (cond-false (nat_lt j phase) (Runs phase) (Answered j) (le-ltb j phase (omega arith)));
@@ -71,13 +77,14 @@ looks_at phase (Answered j) sight runs answered there number waits = elim (answe
   | inr before ↦
       let not : sight.waits ≡ false = not_true sight.waits (λ is. let e = waits.0 is in let same : j ≡ phase = cc in omega arith) in
       record {
-        can = subst (λ (b : Bool). MatchBool b (sight.number ≡ j) (sight.number ≡ j + 1)) (sym not) (number ∙ sym before);
+        can = subst (λ (b : Bool). MatchBool b (sight.number ≡ number_of l j) (sight.number ≡ number_of l (j + 1))) (sym not) (number ∙ sym (ap (number_of l) before));
+        within = subst (λ (st : WorkerState). phase_of st ≤ l.last_phase) (sym (cond-false sight.waits (Answered j) (Runs (j + 1)) not)) (omega arith);
         goes =
             cond-false sight.waits (Answered j) (Runs (j + 1)) not ∙
             (ap Runs before ∙ sym (cond-true (nat_lt j phase) (Runs phase) (Answered j) (lt-ltb j phase (omega arith))));
       }
 ]
-looks_at phase Gone sight runs answered there number waits = absurd (there refl)
+looks_at l phase Gone sight runs answered there within number waits = absurd (there refl)
 
 -- a look of one who is in changes nothing
 looked_in : (phase : ℕ) (state : WorkerState) → IsIn phase state → looked phase state ≡ state
@@ -107,7 +114,8 @@ looks z words views place v some_state at there =
     let sight : Sight = sight_of f i in
     let sees : Sees (numbers z s) i sight = worker_sees z s i old.there in
     let not_gone : s.state i ≢ Gone = λ gone. there (sym old.state ∙ gone) in
-    let la : LooksAt s.phase (s.state i) sight = looks_at s.phase (s.state i) sight (p.runs i) (p.answered i) not_gone sees.number sees.waits in
+    let la : LooksAt z.limits s.phase (s.state i) sight =
+    looks_at z.limits s.phase (s.state i) sight (p.runs i) (p.answered i) not_gone p.within sees.number sees.waits in
     let state : WorkerState = looked s.phase (s.state i) in
     let t : CoreState = moved s i state in
     let w : WorkerSeatView = looked_view v sight in
@@ -117,7 +125,7 @@ looks z words views place v some_state at there =
       opening = old.opening;
       there = old.there;
       state = update-same s.state i state ∙ (sym la.goes ∙ ap (λ st. seen st sight) old.state);
-      number = (let e : sight.number ≡ s.phase = sees.number in omega arith);
+      number = (let e = sees.number in let low = number-le z.limits s.phase in omega arith);
       ending = λ _ saw. sym sees.ending ∙ saw;
       labels = old.labels;
       masks = old.masks;
@@ -137,7 +145,8 @@ looks z words views place v some_state at there =
         fields = f;
         lawful = lawful;
         found_is = sh.word;
-        can = subst (λ (st : WorkerState). IsSightOf st sight) old.state la.can;
+        can = subst (λ (st : WorkerState). IsSightWithin z.limits st sight) old.state la.can;
+        within = subst (λ (st : WorkerState). phase_of (seen st sight) ≤ z.limits.last_phase) old.state la.within;
         ending = λ runs saw. sees.ending ∙ old.ending runs saw;
         step = record {
           words = words;
@@ -159,7 +168,7 @@ looks z words views place v some_state at there =
         state = t;
         reachable = goes_on_by z s (Look i) some_state.reachable permits;
         shows = shows_after;
-        tallied = tallied_on s t views place (Worker v) (Worker w) (omega arith) (λ _. refl) at (λ _. refl) (λ _. refl) (λ _ _. refl) some_state.tallied;
+        tallied = tallied_on z.limits.likes s t views place (Worker v) (Worker w) (omega arith) (λ _. refl) at (λ _. refl) (λ _. refl) (λ _ _. refl) some_state.tallied;
         places = places_same z.counts views place (Worker v) (Worker w) at (λ _. refl) (λ _. refl) (λ _ _ has. has) some_state.places;
       },
     )
@@ -229,7 +238,7 @@ acknowledges z words views place v some_state at joined saw =
         reachable = goes_on_by z s (Acknowledge v.worker) some_state.reachable permits;
         shows = after_it;
         tallied =
-            tallied_on s (moved s v.worker (Answered s.phase)) views place (Worker v) (Worker (answered_view v))
+            tallied_on z.limits.likes s (moved s v.worker (Answered s.phase)) views place (Worker v) (Worker (answered_view v))
             (omega arith) (λ _. refl) at (λ _. refl) (λ _. refl) (λ _ _. refl) some_state.tallied;
         places = places_same z.counts views place (Worker v) (Worker (answered_view v)) at (λ _. refl) (λ _. refl) (λ _ _ has. has) some_state.places;
       },
@@ -274,7 +283,7 @@ reports z words views place v some_state at split saw =
         reachable = goes_on_by z s (Report v.worker) some_state.reachable permits;
         shows = after_it;
         tallied =
-            tallied_on s (moved s v.worker (Answered s.phase)) views place (Worker v) (Worker (answered_view v))
+            tallied_on z.limits.likes s (moved s v.worker (Answered s.phase)) views place (Worker v) (Worker (answered_view v))
             (omega arith) (λ _. refl) at (λ _. refl) (λ _. refl) (λ _ _. refl) some_state.tallied;
         places = places_same z.counts views place (Worker v) (Worker (answered_view v)) at (λ _. refl) (λ _. refl) (λ _ _ has. has) some_state.places;
       },
@@ -334,7 +343,7 @@ retires z words views place v some_state at joined =
         reachable = goes_on_by z s (Retire i) some_state.reachable permits;
         shows = after_it;
         tallied =
-            tallied_on s (moved s i Gone) views place (Worker v) (Worker (retired_view v)) (omega arith) (λ _. refl) at (λ _. refl)
+            tallied_on z.limits.likes s (moved s i Gone) views place (Worker v) (Worker (retired_view v)) (omega arith) (λ _. refl) at (λ _. refl)
             (λ _. refl) (λ _ _. refl) some_state.tallied;
         places = places_same z.counts views place (Worker v) (Worker (retired_view v)) at (λ _. refl) (λ _. refl) (λ _ _ has. has) some_state.places;
       },

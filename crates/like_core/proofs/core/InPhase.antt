@@ -6,7 +6,7 @@ use Rattle.like_core.specs.declared.event.Event.{Event}
 use Rattle.like_core.specs.declared.event.Event.TheVariants.{Look, Acknowledge, Report, Retire, Like, Read, Merge, Hot, CoordLook, CoordRead, Announce, Release}
 use Rattle.like_core.specs.declared.opening.Opening.{Opening}
 use Rattle.like_core.specs.Functions.{update, times}
-use Rattle.like_core.specs.Phase.{IsJoined, IsSplit, is_hot, is_marked, last_phase, split}
+use Rattle.like_core.specs.Phase.{IsJoined, IsSplit, is_hot, is_marked, split}
 use Rattle.like_core.specs.WorkerState.{IsIn, looked}
 use Rattle.like_core.specs.core.Numbers.{Numbers}
 use Rattle.like_core.specs.core.Table.{Permits}
@@ -48,7 +48,7 @@ fits_each : (z : Opening) (s : CoreState) → IsInPhase z s → (i : ℕ) → Fi
 fits_each z s p i = record { runs = p.runs i; answered = p.answered i; unmerged = p.unmerged i }
 
 -- where it holds of each worker, and the rest stands, the state is in phase
-in_phase : (z : Opening) (s : CoreState) → ((i : ℕ) → Fits s.phase (s.state i) (s.unmerged i)) → ((i : ℕ) → z.workers ≤ i → s.state i ≡ Gone) → s.phase ≤ last_phase → (s.ending ≡ true → s.phase < last_phase) → IsInPhase z s
+in_phase : (z : Opening) (s : CoreState) → ((i : ℕ) → Fits s.phase (s.state i) (s.unmerged i)) → ((i : ℕ) → z.workers ≤ i → s.state i ≡ Gone) → s.phase ≤ z.limits.last_phase → (s.ending ≡ true → s.phase < z.limits.last_phase) → IsInPhase z s
 in_phase z s fits outside within last = record {
   runs = λ i. (fits i).runs;
   answered = λ i. (fits i).answered;
@@ -220,8 +220,8 @@ record AreInPhase (n : Numbers) : Type 0 where
   pub answered : (i phase : ℕ) → n.state i ≡ Answered phase → (phase ≡ n.phase) ⊎ (phase + 1 ≡ n.phase)
   pub unmerged : (i : ℕ) → ((page : ℕ) → n.unmerged i page ≡ 0) ⊎ ((n.state i ≡ Runs n.phase) × IsSplit n.phase)
   pub outside : (i : ℕ) → n.workers ≤ i → n.state i ≡ Gone
-  pub within : n.phase ≤ last_phase
-  pub last : n.ending ≡ true → n.phase < last_phase
+  pub within : n.phase ≤ n.limits.last_phase
+  pub last : n.ending ≡ true → n.phase < n.limits.last_phase
 
 -- states with equal numbers are in phase together
 pub in_phase_alike : (z : Opening) (s t : CoreState) → numbers z s ≡ numbers z t → IsInPhase z s → IsInPhase z t

@@ -2,6 +2,7 @@ use Rattle.std.proofs.Common.{◌≡◌, ℕ, ◌+◌, ◌<◌, ◌≤◌, inl, 
 use Rattle.std.proofs.Math.ListN.{length-set}
 use Rattle.std.proofs.lemmas.Bool.{cases_eq}
 use Rattle.like_core.specs.declared.worker_state.WorkerState.{WorkerState}
+use Rattle.like_core.specs.declared.limits.Limits.{Limits}
 use Rattle.like_core.specs.Limits.{total_bound}
 use Rattle.like_core.specs.Functions.{update}
 use Rattle.like_core.specs.core.Numbers.{Numbers, with_unmerged, total}
@@ -10,9 +11,9 @@ use Rattle.like_core.proofs.Updates.{get_or-set, update-apply, update-same, upda
 use Rattle.like_core.proofs.Sums.{sum_below-same, sum_below-update}
 
 -- a worker's row after a write in it is an updated row
-pub kept-set_row : (phase : ℕ) (ending : Bool) (hot : ℕ) (states : List WorkerState) (rows : List (List ℕ)) (counts : List ℕ) (marks : List Bool) (i page likes : ℕ) (row : List ℕ) → i < length rows → page < length (get_or rows i []) → row ≡ set (get_or rows i []) page likes → kept phase ending hot states (set rows i row) counts marks ≡ with_unmerged (kept phase ending hot states rows counts marks) i page likes
-kept-set_row phase ending hot states rows counts marks i page likes row within there is =
-    let n = kept phase ending hot states rows counts marks in
+pub kept-set_row : (limits : Limits) (phase : ℕ) (ending : Bool) (hot : ℕ) (states : List WorkerState) (rows : List (List ℕ)) (counts : List ℕ) (marks : List Bool) (i page likes : ℕ) (row : List ℕ) → i < length rows → page < length (get_or rows i []) → row ≡ set (get_or rows i []) page likes → kept limits phase ending hot states (set rows i row) counts marks ≡ with_unmerged (kept limits phase ending hot states rows counts marks) i page likes
+kept-set_row limits phase ending hot states rows counts marks i page likes row within there is =
+    let n = kept limits phase ending hot states rows counts marks in
     let new_row : (p : ℕ) → slice_index row p ≡ update (n.unmerged i) page likes p =
     λ p. ap (λ (r : List ℕ). slice_index r p) is ∙ get_or-set (get_or rows i []) page likes 0 there p in
     let new_rows : (j p : ℕ) → slice_index (get_or (set rows i row) j []) p ≡ update n.unmerged i (update (n.unmerged i) page likes) j p =
@@ -29,6 +30,7 @@ kept-set_row phase ending hot states rows counts marks i page likes row within t
       workers = length-set rows i row m;
       pages = length counts;
       marked = n.marked;
+      limits = limits;
       phase = phase;
       ending = ending;
       hot = hot;

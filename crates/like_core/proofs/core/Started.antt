@@ -4,6 +4,7 @@ use Rattle.std.proofs.lemmas.List.{get_or-replicate, get_or_past, length-replica
 use Rattle.like_core.specs.declared.worker_state.WorkerState.{WorkerState}
 use Rattle.like_core.specs.declared.worker_state.WorkerState.TheVariants.{Runs, Gone}
 use Rattle.like_core.specs.declared.opening.Opening.{Opening}
+use Rattle.like_core.specs.declared.limits.Limits.{Limits}
 use Rattle.like_core.specs.Limits.{total_bound}
 use Rattle.like_core.specs.Functions.{sum_below}
 use Rattle.like_core.specs.core.Numbers.{total}
@@ -44,8 +45,8 @@ start_sizes rows workers pages is i within =
     ap length row ∙ length-replicate pages 0
 
 -- at the start a page's total is its count
-pub start_bounds : (states : List WorkerState) (rows : List (List ℕ)) (counts given : List ℕ) (marks : List Bool) (workers pages : ℕ) → rows ≡ replicate workers (replicate pages 0) → counts ≡ given → All (λ count. count < total_bound) given → (page : ℕ) → page < length counts → total (kept 0 false 0 states rows counts marks) page < total_bound
-start_bounds states rows counts given marks workers pages rows_are counts_are small page within =
+pub start_bounds : (limits : Limits) (states : List WorkerState) (rows : List (List ℕ)) (counts given : List ℕ) (marks : List Bool) (workers pages : ℕ) → rows ≡ replicate workers (replicate pages 0) → counts ≡ given → All (λ count. count < total_bound) given → (page : ℕ) → page < length counts → total (kept limits 0 false 0 states rows counts marks) page < total_bound
+start_bounds limits states rows counts given marks workers pages rows_are counts_are small page within =
     let zeros : (i : ℕ) → slice_index (get_or rows i []) page ≡ 0 =
     λ i. ap (λ (rs : List (List ℕ)). slice_index (get_or rs i []) page) rows_are ∙ empty_rows-get workers pages i page
     in
@@ -56,7 +57,7 @@ start_bounds states rows counts given marks workers pages rows_are counts_are sm
     omega arith
 
 -- a core that was just made stands for the start
-pub start_stands : (states : List WorkerState) (rows : List (List ℕ)) (counts : List ℕ) (marks : List Bool) (z : Opening) → states ≡ replicate z.workers (Runs 0) → rows ≡ replicate z.workers (replicate (length z.counts) 0) → counts ≡ z.counts → marks ≡ z.marks → kept 0 false 0 states rows counts marks ≡ numbers z (start z)
+pub start_stands : (states : List WorkerState) (rows : List (List ℕ)) (counts : List ℕ) (marks : List Bool) (z : Opening) → states ≡ replicate z.workers (Runs 0) → rows ≡ replicate z.workers (replicate (length z.counts) 0) → counts ≡ z.counts → marks ≡ z.marks → kept z.limits 0 false 0 states rows counts marks ≡ numbers z (start z)
 start_stands states rows counts marks z states_are rows_are counts_are marks_are =
     let workers : length rows ≡ z.workers =
     ap length rows_are ∙ length-replicate z.workers (replicate (length z.counts) 0)
@@ -85,6 +86,7 @@ start_stands states rows counts marks z states_are rows_are counts_are marks_are
       workers = workers m;
       pages = length (counts_are m);
       marked = λ page. get_or (marks_are m) page false;
+      limits = z.limits;
       phase = 0;
       ending = false;
       hot = 0;

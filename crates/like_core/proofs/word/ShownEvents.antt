@@ -5,16 +5,16 @@ use Rattle.like_core.specs.declared.worker_state.WorkerState.{WorkerState}
 use Rattle.like_core.specs.declared.worker_state.WorkerState.TheVariants.{Runs, Answered, Gone}
 use Rattle.like_core.specs.declared.opening.Opening.{Opening}
 use Rattle.like_core.specs.Functions.{update, has_bit}
-use Rattle.like_core.specs.Phase.{last_phase}
 use Rattle.like_core.specs.WorkerState.{IsIn, looked}
 use Rattle.like_core.specs.core.Numbers.{AllIn, Sees, CoordSees}
-use Rattle.like_core.specs.word.Word.{Fields, packed, IsLawful, announced, answered_by, retired_by, released, answer_bit, retirement_bit}
+use Rattle.like_core.specs.word.Word.{Fields, packed, IsLawful, announced, answered_by, retired_by, released_modulo, answer_bit, retirement_bit}
 use Rattle.like_core.specs.core.State.{CoreState, numbers}
 use Rattle.like_core.specs.core.Exclusive.{IsInPhase}
 use Rattle.like_core.specs.views.Sights.{sight_of, coord_sight_of}
 use Rattle.like_core.specs.word.ShownWord.{weight, mask, has_answered, is_gone, shown_fields, shown_word}
 use Rattle.like_core.specs.views.Shows.{IsOpening}
 use Rattle.like_core.proofs.Updates.{update-same, update-other}
+use Rattle.like_core.proofs.word.Numbering.{number-parity, number-next, number-within, number-last}
 use Rattle.like_core.proofs.word.WordParts.{narrow, unpacked, unpacked-packed}
 use Rattle.like_core.proofs.word.WordSteps.{packed-answered_by, packed-retired_by}
 use Rattle.like_core.proofs.word.Masks.{mask-lt, mask_same, mask_none, mask_bit, mask-has_bit, mask_more, mask_apart}
@@ -40,7 +40,7 @@ even_weight : (b : Bool) (n : ℕ) → (2 * n + weight b) % 2 ≡ 0 → b ≡ fa
 even_weight true n even = absurd (omega arith)
 even_weight false n even = refl
 
-weight-lt : (b : Bool) → weight b < 2
+pub weight-lt : (b : Bool) → weight b < 2
 weight-lt true = omega arith
 weight-lt false = omega arith
 
@@ -57,6 +57,7 @@ not_both phase Gone is = cc
 pub shown_lawful : (z : Opening) (s : CoreState) → IsOpening z → IsInPhase z s → NoneAnswered s → IsLawful (shown_fields z s)
 shown_lawful z s opening p none =
     let below = weight-lt s.ending in
+    let parity = number-parity z.limits s.phase opening.limits in
     record {
       some_worker = opening.some_worker;
       few_workers = opening.few_workers;
@@ -66,9 +67,11 @@ shown_lawful z s opening p none =
       kind = omega arith;
       joined = (λ low. omega arith, λ even. omega arith);
       running = λ even. mask_none (λ i. has_answered s.phase (s.state i)) z.workers (λ i _. none (even_weight s.ending (s.phase % 2) even) i);
-      number = p.within;
+      number = number-within z.limits s.phase opening.limits p.within;
       last = λ is.
-          let P : Bool → Type 0 = λ b. (b ≡ true → s.phase < last_phase) → 2 * (s.phase % 2) + weight b ≡ 0 in
+          let at_last : s.phase ≡ z.limits.last_phase = number-last z.limits s.phase opening.limits p.within is in
+          let joined = opening.limits.joined in
+          let P : Bool → Type 0 = λ b. (b ≡ true → s.phase < z.limits.last_phase) → 2 * (s.phase % 2) + weight b ≡ 0 in
           let Q : P s.ending =
           elim s.ending as P [
             | true ↦ λ less. let strict = less refl in absurd (omega arith)
@@ -159,7 +162,7 @@ in_not_next phase (Answered j) is = ne_eqb j (phase + 1) (λ next. absurd (omega
 in_not_next phase Gone is = refl
 
 -- a release makes the released fields
-pub fields_released : (z : Opening) (s : CoreState) → s.ending ≡ true → AllIn (numbers z s) → shown_fields z (record s { phase = s.phase + 1; ending = false }) ≡ released (shown_fields z s)
+pub fields_released : (z : Opening) (s : CoreState) → s.ending ≡ true → AllIn (numbers z s) → shown_fields z (record s { phase = s.phase + 1; ending = false }) ≡ released_modulo z.limits.modulus (shown_fields z s)
 fields_released z s ending all_in =
     let next : CoreState = record s { phase = s.phase + 1; ending = false } in
     let one : weight s.ending ≡ 1 = ap weight ending in
@@ -174,10 +177,10 @@ fields_released z s ending all_in =
           none ∙ sym (cond-false (now == 1) 2 0 (ne_eqb now 1 split))
     ]
     in
-    fields_by (shown_fields z next) (released (shown_fields z s)) kind refl
+    fields_by (shown_fields z next) (released_modulo z.limits.modulus (shown_fields z s)) kind refl
     (mask_none (λ i. has_answered (s.phase + 1) (s.state i)) z.workers (λ i there. in_not_next s.phase (s.state i) (all_in i there)))
     refl
-    refl
+    (number-next z.limits s.phase)
 
 -- the word after an acknowledgement or a report
 pub word_answered : (z : Opening) (s : CoreState) (i phase : ℕ) → IsLawful (shown_fields z s) → i < z.workers → s.state i ≡ Runs phase → bit_or (shown_word z s) (answer_bit i) ≡ shown_word z (moved s i (Answered s.phase))

@@ -11,7 +11,8 @@ use Rattle.like_core.specs.core.Exclusive.{IsExclusive, IsInPhase}
 -- the numbers that a core keeps
 abbrev pub numbers_of : Core → Numbers
 numbers_of core =
-    kept core.phase core.ending core.hot core.states.items core.unmerged.items core.counts core.marks.items
+    kept core.limits core.phase core.ending core.hot core.states.items core.unmerged.items core.counts
+    core.marks.items
 
 -- the core stands for each state that has its numbers
 abbrev pub StandsFor : Core → Opening → CoreState → Type 0

@@ -1,7 +1,7 @@
 use Rattle.std.specs.Prelude.{◌≡◌, ℕ, ◌+◌, ◌<◌, ◌≤◌, ◌⊎◌, true, []}
 use Rattle.like_core.specs.declared.worker_state.WorkerState.TheVariants.{Runs, Answered, Gone}
 use Rattle.like_core.specs.declared.opening.Opening.{Opening}
-use Rattle.like_core.specs.Phase.{last_phase, IsJoined, IsSplit}
+use Rattle.like_core.specs.Phase.{IsJoined, IsSplit}
 use Rattle.like_core.specs.core.State.{CoreState}
 use Rattle.like_core.specs.core.Reachable.{Reachable}
 
@@ -26,8 +26,8 @@ pub record IsInPhase (z : Opening) (s : CoreState) : Type 0 where
       → (phase ≡ s.phase) ⊎ (phase + 1 ≡ s.phase)
   pub unmerged : (i : ℕ) → (s.unmerged i ≡ []) ⊎ ((s.state i ≡ Runs s.phase) × IsSplit s.phase)
   pub outside : (i : ℕ) → z.workers ≤ i → s.state i ≡ Gone
-  pub within : s.phase ≤ last_phase
-  pub last : s.ending ≡ true → s.phase < last_phase
+  pub within : s.phase ≤ z.limits.last_phase
+  pub last : s.ending ≡ true → s.phase < z.limits.last_phase
 
 -- every state that can be reached is exclusive, and in phase
 abbrev pub ReachableIsExclusive : Type 0

@@ -1,6 +1,7 @@
 use Rattle.std.specs.Prelude.{◌≡◌, ℕ, ◌<◌, Bool, List, [], length, slice_index, slice_index_or}
 use Rattle.like_core.specs.declared.worker_state.WorkerState.{WorkerState}
 use Rattle.like_core.specs.declared.worker_state.WorkerState.TheVariants.{Gone}
+use Rattle.like_core.specs.declared.limits.Limits.{Limits}
 use Rattle.like_core.specs.core.Numbers.{Numbers}
 use Rattle.like_core.specs.Phase.{is_marked}
 
@@ -9,11 +10,12 @@ abbrev pub AreRowsOf : ℕ → List (List ℕ) → Type 0
 AreRowsOf pages rows = (i : ℕ) → i < length rows → length (slice_index_or rows i []) ≡ pages
 
 -- the numbers that lists by worker and page keep; who is no worker is gone
-abbrev pub kept : ℕ → Bool → ℕ → List WorkerState → List (List ℕ) → List ℕ → List Bool → Numbers
-kept phase ending hot states unmerged counts marks = record {
+abbrev pub kept : Limits → ℕ → Bool → ℕ → List WorkerState → List (List ℕ) → List ℕ → List Bool → Numbers
+kept limits phase ending hot states unmerged counts marks = record {
   workers = length unmerged;
   pages = length counts;
   marked = is_marked marks;
+  limits = limits;
   phase = phase;
   ending = ending;
   hot = hot;

@@ -3,18 +3,21 @@ use Rattle.like_core.specs.declared.worker_state.WorkerState.{WorkerState}
 use Rattle.like_core.specs.declared.worker_state.WorkerState.TheVariants.{Answered, Gone}
 use Rattle.like_core.specs.declared.sight.Sight.{Sight}
 use Rattle.like_core.specs.declared.sight.CoordSight.{CoordSight}
+use Rattle.like_core.specs.declared.limits.Limits.{Limits}
 use Rattle.like_core.specs.Limits.{total_bound}
+use Rattle.like_core.specs.OpeningLimits.{number_of}
 use Rattle.like_core.specs.Functions.{sum_below, update}
 use Rattle.like_core.specs.Phase.{split}
 use Rattle.like_core.specs.WorkerState.{IsIn, looked}
 
--- what the table of events speaks of: how many workers and pages there are and which pages are marked as split; the
--- phase, whether its end was announced, and the mask of its hot pages; each worker's state; how many likes of a page a
--- worker has not merged; and each page's count
+-- what the table of events speaks of: how many workers and pages there are, which pages are marked as split, and the
+-- limits; the phase, whether its end was announced, and the mask of its hot pages; each worker's state; how many likes of
+-- a page a worker has not merged; and each page's count
 pub record Numbers : Type 0 where
   pub workers : ℕ
   pub pages : ℕ
   pub marked : ℕ → Bool
+  pub limits : Limits
   pub phase : ℕ
   pub ending : Bool
   pub hot : ℕ
@@ -69,13 +72,13 @@ AllGone n = (i : ℕ) → i < n.workers → n.state i ≡ Gone
 
 -- what worker i sees by a look
 pub record Sees (n : Numbers) (i : ℕ) (sight : Sight) : Type 0 where
-  pub number : sight.number ≡ n.phase
+  pub number : sight.number ≡ number_of n.limits n.phase
   pub ending : sight.ending ≡ n.ending
   pub waits : IsTrue sight.waits ↔ (n.state i ≡ Answered n.phase)
 
 -- what the coordinator sees by a look
 pub record CoordSees (n : Numbers) (sight : CoordSight) : Type 0 where
-  pub number : sight.number ≡ n.phase
+  pub number : sight.number ≡ number_of n.limits n.phase
   pub ending : sight.ending ≡ n.ending
   pub all_in : IsTrue sight.all_in ↔ AllIn n
   pub all_gone : IsTrue sight.all_gone ↔ AllGone n

@@ -4,8 +4,10 @@ use Rattle.like_core.specs.declared.worker_state.WorkerState.TheVariants.{Runs, 
 use Rattle.like_core.specs.declared.event.Event.{Event}
 use Rattle.like_core.specs.declared.event.Event.TheVariants.{Look, Acknowledge, Report, Retire, Like, Read, Merge, Hot, CoordLook, CoordRead, Announce, Release}
 use Rattle.like_core.specs.declared.opening.Opening.{Opening}
+use Rattle.like_core.specs.declared.limits.Limits.{Limits}
 use Rattle.like_core.specs.Functions.{update, times}
 use Rattle.like_core.specs.Phase.{is_marked, split}
+use Rattle.like_core.specs.OpeningLimits.{run_limits}
 use Rattle.like_core.specs.WorkerState.{looked}
 use Rattle.like_core.specs.core.Numbers.{Numbers}
 
@@ -33,9 +35,14 @@ pub record CoreState : Type 0 where
 abbrev pub label_now : CoreState → ℕ → Label
 label_now s i = record { worker = i; phase = s.phase }
 
--- the opening with these workers, counts and marks
+-- the opening with these limits, workers, counts and marks
+abbrev pub opening_with : Limits → ℕ → List ℕ → List Bool → Opening
+opening_with limits workers counts marks =
+    record { workers = workers; counts = counts; marks = marks; limits = limits }
+
+-- the opening of a run with these workers, counts and marks
 abbrev pub opening : ℕ → List ℕ → List Bool → Opening
-opening workers counts marks = record { workers = workers; counts = counts; marks = marks }
+opening workers counts marks = opening_with run_limits workers counts marks
 
 -- the core at the start: each worker runs phase 0; who is no worker is gone; no phase has hot pages yet
 abbrev pub start : Opening → CoreState
@@ -89,6 +96,7 @@ numbers z s = record {
   workers = z.workers;
   pages = length z.counts;
   marked = is_marked z.marks;
+  limits = z.limits;
   phase = s.phase;
   ending = s.ending;
   hot = s.hot s.phase;

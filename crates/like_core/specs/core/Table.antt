@@ -10,7 +10,7 @@ use Rattle.like_core.specs.declared.pure_core.refusal.NotNow.{NotNow}
 use Rattle.like_core.specs.declared.pure_core.refusal.Wrong.{Wrong}
 use Rattle.like_core.specs.declared.pure_core.refusal.NotNow.TheVariants.{NoSuch, Phase, Last, Full}
 use Rattle.like_core.specs.Limits.{total_bound}
-use Rattle.like_core.specs.Phase.{last_phase, IsJoined, IsSplit}
+use Rattle.like_core.specs.Phase.{IsJoined, IsSplit}
 use Rattle.like_core.specs.core.Numbers.{Numbers, with_state, with_unmerged, sliced, total, AllIn, Sees, CoordSees, with_look, with_like, with_more}
 
 -- the worker and the page that the event names are there, and the page of each bit of its mask
@@ -47,7 +47,7 @@ Suits n (Release mask) = (n.ending ≡ true) × AllIn n × (IsSplit n.phase → 
 
 -- the event does not announce the end of the last phase
 abbrev pub LeavesLast : Numbers → Event → Type 0
-LeavesLast n Announce = n.phase < last_phase
+LeavesLast n Announce = n.phase < n.limits.last_phase
 LeavesLast n _ = Unit {0}
 
 -- the event does not take a page's total to its bound

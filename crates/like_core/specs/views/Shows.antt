@@ -12,6 +12,7 @@ use Rattle.like_core.specs.declared.view.View.{View}
 use Rattle.like_core.specs.declared.view.View.TheVariants.{Coord, Worker, Spent}
 use Rattle.like_core.specs.Limits.{max_workers, max_pages, max_count}
 use Rattle.like_core.specs.Phase.{IsSplit}
+use Rattle.like_core.specs.OpeningLimits.{number_of, AreLimits}
 use Rattle.like_core.specs.PhaseMasks.{mask_of}
 use Rattle.like_core.specs.core.Numbers.{AllIn, AllGone, CoordSees}
 use Rattle.like_core.specs.core.Table.{Permits, IsShown}
@@ -27,17 +28,18 @@ use Rattle.like_core.specs.views.Places.{PlacesTile}
 use Rattle.like_core.specs.views.Layout.{phase_place, mask_place, word_of}
 
 -- an opening that a board may have: there are 1 to 16 workers and at most 1,024 pages, each with a mark and a count of
--- at most 10 ^ 18
+-- at most 10 ^ 18; and its limits are lawful
 pub record IsOpening (z : Opening) : Type 0 where
   pub some_worker : 1 ≤ z.workers
   pub few_workers : z.workers ≤ max_workers
   pub few_pages : length z.counts ≤ max_pages
   pub marks : length z.marks ≡ length z.counts
   pub counts : All (λ n. n ≤ max_count) z.counts
+  pub limits : AreLimits z.limits
 
--- a worker's view of a state: its worker's state there; it saw no later phase; what it saw of the phase that it runs is
--- still so; of each page's likes as many have the label of its worker and a phase as it added to the page in the phase;
--- and the masks that it read are those of their phases
+-- a worker's view of a state: its worker's state there; it saw no number above the phase; what it saw of the phase that
+-- it runs is still so; of each page's likes as many have the label of its worker and a phase as it added to the page in
+-- the phase; and the masks that it read are those of their phases
 pub record FitsWorker (z : Opening) (s : CoreState) (v : WorkerSeatView) : Type 0 where
   pub opening : v.opening ≡ z
   pub there : v.worker < z.workers
@@ -61,7 +63,8 @@ pub record FitsCoord (z : Opening) (s : CoreState) (c : CoordSeatView) : Type 0 
       → labelled i phase (s.applied page) ≡ 0
   pub phase : c.phase ≡ s.phase
   pub ending : c.ending ≡ s.ending
-  pub last : IfSome c.last (λ sight. (sight.number ≡ s.phase) × (sight.ending ≡ s.ending))
+  pub last : IfSome c.last (λ sight.
+      (sight.number ≡ number_of z.limits s.phase) × (sight.ending ≡ s.ending))
   pub stays : IfSome c.last (λ sight. sight.all_in ≡ true
       → CoordSees (numbers z s) sight × (c.word ≡ shown_word z s))
   pub all_in : c.all_in ≡ true → AllIn (numbers z s)
@@ -106,7 +109,7 @@ pub record ShowsSome (z : Opening) (words : List ℕ) (views : List View) : Type
   pub state : CoreState
   pub reachable : Reachable z state
   pub shows : Shows z state words views
-  pub tallied : Tallied state views
+  pub tallied : Tallied z.limits.likes state views
   pub places : PlacesTile z.counts views
 
 -- one step of a seat, whose view goes from v to w, is these events and then this one: some state that can be reached is

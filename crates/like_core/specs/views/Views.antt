@@ -11,7 +11,7 @@ use Rattle.like_core.specs.declared.view.CoordSeatView.{CoordSeatView}
 use Rattle.like_core.specs.declared.view.View.{View}
 use Rattle.like_core.specs.declared.view.View.TheVariants.{Coord, Worker, Spent}
 use Rattle.like_core.specs.Additions.{addition, page_read}
-use Rattle.like_core.specs.Phase.{last_phase, IsJoined}
+use Rattle.like_core.specs.Phase.{IsJoined}
 use Rattle.like_core.specs.WorkerState.{phase_of, seen}
 use Rattle.like_core.specs.Post.{PostView, slices}
 
@@ -77,6 +77,7 @@ post_of v = record {
   board = [];
   worker = v.worker;
   marks = v.opening.marks;
+  limits = v.opening.limits;
   state = v.state;
   last = v.last;
   additions = v.additions;
@@ -142,9 +143,10 @@ gathered_coord c v = record c { joined = v ∷ c.joined }
 abbrev pub gathered_all : CoordSeatView → List WorkerSeatView → CoordSeatView
 gathered_all c vs = record c { joined = vs ++ c.joined }
 
--- the coordinator may announce: the last look, since which it made no step, showed a running phase that is not the last
+-- the coordinator may announce: the last look, since which it made no step, showed a running phase, and not the last
 abbrev pub MayAnnounce : CoordSeatView → Type 0
-MayAnnounce c = IsSomeAnd c.last (λ sight. (sight.ending ≡ false) × (sight.number < last_phase))
+MayAnnounce c =
+    IsSomeAnd c.last (λ sight. sight.ending ≡ false) × (c.phase < c.opening.limits.last_phase)
 
 -- the last look, since which nothing was announced or released, showed an ending phase and all in
 abbrev pub SawAllIn : CoordSeatView → Type 0

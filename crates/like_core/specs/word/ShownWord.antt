@@ -2,6 +2,7 @@ use Rattle.std.specs.Prelude.{ℕ, zero, suc, ◌+◌, ◌*◌, ◌%◌, ◌^◌
 use Rattle.like_core.specs.declared.worker_state.WorkerState.{WorkerState}
 use Rattle.like_core.specs.declared.worker_state.WorkerState.TheVariants.{Runs, Answered, Gone}
 use Rattle.like_core.specs.declared.opening.Opening.{Opening}
+use Rattle.like_core.specs.OpeningLimits.{number_of}
 use Rattle.like_core.specs.word.Word.{Fields, packed}
 use Rattle.like_core.specs.core.State.{CoreState}
 
@@ -34,7 +35,7 @@ shown_fields z s = record {
   workers = z.workers;
   answered = mask (λ i. has_answered s.phase (s.state i)) z.workers;
   retired = mask (λ i. is_gone (s.state i)) z.workers;
-  number = s.phase;
+  number = number_of z.limits s.phase;
 }
 
 -- the phase word in a state of the core

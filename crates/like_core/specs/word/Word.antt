@@ -66,3 +66,7 @@ released f = record f {
   answered = 0;
   number = f.number + 1;
 }
+
+-- the same where numbers stand for phases modulo this
+abbrev pub released_modulo : ℕ → Fields → Fields
+released_modulo modulus f = record (released f) { number = (f.number + 1) % modulus }

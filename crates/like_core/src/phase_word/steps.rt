@@ -3,7 +3,7 @@ ghost use Rattle.std.specs.Int.{bit_at};
 ghost use Rattle.like_core.specs.word.Kind.{code_of};
 ghost use Rattle.like_core.specs.Limits.{max_workers};
 ghost use Rattle.like_core.specs.Phase.{last_phase};
-ghost use Rattle.like_core.specs.word.Word.{packed, answer_bit, retirement_bit, announced, answered_by, retired_by, released};
+ghost use Rattle.like_core.specs.word.Word.{packed, answer_bit, retirement_bit, announced, answered_by, retired_by, released, released_modulo};
 ghost use Rattle.like_core.specs.word.PhaseWord.{fields_of};
 
 use super::{ANSWERED_AT, Kind, PhaseWord, RETIRED_AT};
@@ -90,5 +90,17 @@ impl PhaseWord {
             retired: self.retired,
             number: self.number + 1,
         }
+    }
+
+    /// The word that a release stores where numbers stand for phases modulo this even number.
+    pub fn released_modulo(self, modulus: u32) -> PhaseWord
+        requires ending { code_of self.kind % 2 ≡ 1 }
+        requires some { 0 < modulus }
+        requires even { modulus % 2 ≡ 0 }
+        ensures fields { fields_of result ≡ released_modulo modulus (fields_of self) }
+    {
+        let mut word = self.released();
+        word.number %= modulus;
+        word
     }
 }

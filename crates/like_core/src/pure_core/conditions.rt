@@ -7,7 +7,6 @@ ghost use Rattle.like_core.specs.core.Core.{numbers_of};
 use super::{Core, NotNow};
 use crate::event::Event;
 use crate::hot::{HOT_PAGES, is_hot};
-use crate::phase_word::LAST_PHASE;
 use crate::worker_state::WorkerState;
 
 /// How many bits a mask has: one for each page that can be hot.
@@ -128,7 +127,7 @@ impl Core {
         ensures { IsTrue result ↔ LeavesLast (numbers_of self.now) event }
     {
         match event {
-            Event::Announce => self.phase < LAST_PHASE,
+            Event::Announce => self.phase < self.limits.last_phase,
             _ => true,
         }
     }

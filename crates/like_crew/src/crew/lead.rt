@@ -1,4 +1,5 @@
 ghost use Rattle.std.specs.Prelude.{◌≡◌, [], IfOk, true};
+ghost use Rattle.like_core.specs.OpeningLimits.{run_limits};
 ghost use Rattle.like_board.specs.Seats.{board_id, coord_board, coord_view};
 ghost use Rattle.like_roles.specs.coordinator.CoordTurns.{CoordTurns, HasEndedJoined};
 ghost use Rattle.like_crew.specs.Crew.{LeadGoesOn};
@@ -29,8 +30,8 @@ impl<'a> Model for Lead<'a> {
 }
 
 impl<'a> Lead<'a> {
-    /// The coordinator at this board, which was made with these counts; it counts so many turns in each phase, and `hot`
-    /// likes make a page hot.
+    /// The coordinator at this board, which was made with these counts and the limits of a run; it counts so many turns
+    /// in each phase, and `hot` likes make a page hot.
     pub(crate) fn new(
         alloc: Global,
         board: &'a Board,
@@ -41,6 +42,7 @@ impl<'a> Lead<'a> {
     ) -> Result<Lead<'a>, AllocError>
         requires here { coord_board seat ≡ board_id board.now }
         requires counts { counts.now ≡ (coord_view seat).opening.counts }
+        requires limits { (coord_view seat).opening.limits ≡ run_limits }
         requires new { (coord_view seat).phase ≡ 0 }
         requires no_masks { (coord_view seat).masks ≡ [] }
         ensures board { IfOk result (λ lead. lead.board ≡ board_id board.now) }

@@ -172,3 +172,10 @@ release-gone c d v w r = ap (λ (x : CoordSeatView). x.gone) (release-is c d v w
 -- the board is the one that opened so
 pub release-opening : (c d : CoordSeatView) (v w : ChoiceView) → ReleasesNext c v d w → d.opening ≡ c.opening
 release-opening c d v w r = ap (λ (x : CoordSeatView). x.opening) (release-is c d v w r).2
+
+-- as many counts are kept as before
+pub release-before : (c d : CoordSeatView) (v w : ChoiceView) → ReleasesNext c v d w → length w.before ≡ length v.before
+release-before c d v w (releases_joined split is same) = ap (λ (x : ChoiceView). length x.before) same
+release-before c d v w (releases_split joined ready (chooses_none none published same) is) = ap (λ (x : ChoiceView). length x.before) same
+release-before c d v w (releases_split joined ready (chooses_risen least counts some many m limit published same) is) =
+    ap (λ (x : ChoiceView). length x.before) same ∙ many

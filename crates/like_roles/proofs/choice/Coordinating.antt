@@ -1,29 +1,17 @@
 -- What the coordinator's turns keep.
-use Rattle.std.proofs.Common.{◌≡◌, ℕ, ◌≤◌, true, false, subst, ap, sym, ◌∙◌, arith}
+use Rattle.std.proofs.Common.{◌≡◌, ℕ, true, false, subst, ap, sym, ◌∙◌, arith}
 use Rattle.like_core.specs.declared.event.Event.TheVariants.{CoordLook}
-use Rattle.like_core.specs.declared.opening.Opening.{Opening}
-use Rattle.like_core.specs.declared.shown.Shown.{Shown}
 use Rattle.like_core.specs.declared.shown.Shown.TheVariants.{Coord as CoordShown}
 use Rattle.like_core.specs.declared.sight.CoordSight.{CoordSight}
-use Rattle.like_core.specs.declared.view.CoordSeatView.{CoordSeatView}
-use Rattle.like_core.specs.declared.view.View.{View}
 use Rattle.like_core.specs.declared.view.View.TheVariants.{Coord}
 use Rattle.like_core.specs.views.Views.{announced_coord}
-use Rattle.like_core.specs.Phase.{last_phase, IsJoined, IsSplit}
-use Rattle.like_core.specs.views.Shows.{FitsCoord, IsStep}
-use Rattle.like_core.proofs.core.InPhase.{reached_in_phase}
+use Rattle.like_core.specs.Phase.{IsJoined, IsSplit}
+use Rattle.like_core.specs.views.Shows.{IsStep}
 use Rattle.like_roles.specs.declared.coord_turn.CoordTurn.{CoordTurn}
 use Rattle.like_roles.specs.declared.coord_turn.CoordTurn.TheVariants.{Ended}
 use Rattle.like_roles.proofs.choice.Choosing.{release-gone}
 use Rattle.like_roles.proofs.choice.Releasing.{release-on}
 use Rattle.like_roles.specs.coordinator.CoordTurns.{Acts, ends, counts, stays, announces, releases, waits, ChoseByCounts, CoordinatorView, CoordTurns, HasEndedJoined, IsBeforeEnd, IsCoordSight, looks, surveyed}
-
--- no phase is above the last
-pub phase_within : (z : Opening) (shown : Shown) (c : CoordSeatView) (w : View) → IsStep z CoordLook shown (Coord c) w → c.phase ≤ last_phase
-phase_within z shown c w step =
-    let fits : FitsCoord z step.state c = step.shows.each step.place (Coord c) step.mine in
-    let within = (reached_in_phase z step.state step.reachable).within in
-    omega (arith, fits.phase)
 
 -- no turn releases a split phase after all are gone
 pub before_end : (v : CoordinatorView) (answer : CoordTurn) (after : CoordinatorView) → CoordTurns v answer after → IsBeforeEnd v → IsBeforeEnd after

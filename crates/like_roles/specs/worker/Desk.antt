@@ -6,6 +6,7 @@ use Rattle.like_requests.specs.declared.verdict.Verdict.{Verdict}
 use Rattle.like_requests.specs.declared.verdict.Verdict.TheVariants.{Accepted}
 use Rattle.like_requests.specs.Setup.{IsThere}
 use Rattle.like_core.specs.Additions.{all_added}
+use Rattle.like_core.specs.OpeningLimits.{run_limits}
 use Rattle.like_core.specs.Phase.{IsJoined, IsSplit}
 use Rattle.like_core.specs.Post.{pages_of}
 use Rattle.like_core.specs.WorkerState.{IsRunning}
@@ -85,9 +86,10 @@ pub record HasRoomForOne (s : SeatView Held) (d : Desk) : Type 0 where
 pub record HasRoomToNote (s : SeatView Held) (d : Desk) : Type 0 where
   pub ran : vec_len d.ran + length s.held.held + sum d.left.items < vec_capacity d.ran
 
--- what is true of a worker between two calls
+-- what is true of a worker between two calls: its board has the limits of a run
 pub record IsSound (s : SeatView Held) (d : Desk) : Type 0 where
   pub seat : IsSeat s
+  pub run : s.post.limits ≡ run_limits
   pub places : HasSubmitters s.last.share d
   pub room : HasRoom s d
   pub held : All (IsOwn s) s.held.held

@@ -1,3 +1,7 @@
+ghost use Rattle.std.specs.Prelude.{◌≡◌};
+ghost use Rattle.like_core.specs.OpeningLimits.{run_limits};
+ghost use Rattle.like_seat.specs.SeatView.{phase_at};
+
 mod addition;
 mod merge;
 mod new_desk;
@@ -6,6 +10,9 @@ mod taken;
 mod turns;
 
 use crate::log::{Added, Ran, Took};
+use like_core::Post;
+use like_seat::Seat;
+use like_tables::Held;
 
 /// What a worker keeps, beside its seat: of its submitters' plans, and of what it has done.
 #[derive(Drop)]
@@ -25,4 +32,12 @@ pub(crate) struct Desk {
     /// Whether it notes its additions.
     pub notes: bool,
     pub adds: Vec<Added>,
+}
+
+// The phase that a worker runs or has answered, which in a run is below 2^24.
+pub(crate) fn phase_of_run<P: Post>(seat: &Seat<P, Held>) -> u32
+    requires { seat.now.post.limits ≡ run_limits }
+    ensures { result ≡ phase_at seat.now }
+{
+    seat.phase() as u32
 }

@@ -1,6 +1,5 @@
 ghost use Rattle.std.specs.Prelude.{◌≡◌, ◌+◌, ◌<◌, false, IsTrue, sum};
 ghost use Rattle.like_core.specs.Additions.{all_added};
-ghost use Rattle.like_core.specs.Limits.{max_likes};
 ghost use Rattle.like_core.specs.Post.{pages_of, slices};
 ghost use Rattle.like_core.specs.WorkerState.{IsRunning};
 ghost use Rattle.like_tables.specs.Share.{owns};
@@ -27,7 +26,7 @@ impl<P: Post, W: Copy> Seat<P, W> {
         requires running { IsRunning self.old.post.state }
         requires there { page < pages_of self.old.post }
         requires owned { IsTrue (owns self.old.last.share user) }
-        requires room { all_added self.old.post.additions + sum self.old.slice < max_likes }
+        requires room { all_added self.old.post.additions + sum self.old.slice < self.old.post.limits.likes }
         ensures counts { CountsLike self.old user page result self.new }
         ensures seat { IsSeat self.new }
     {

@@ -1,7 +1,7 @@
 ghost use Rattle.std.specs.Prelude.{◌≡◌, ◌≢◌, false};
 ghost use Rattle.like_core.specs.declared.worker_state.WorkerState.TheVariants.{Gone};
 ghost use Rattle.like_core.specs.Post.{answered, retired};
-ghost use Rattle.like_core.specs.WorkerState.{IsRunning, IsSightOf, RunsJoined, SawEnding};
+ghost use Rattle.like_core.specs.WorkerState.{IsRunning, IsSightWithin, RunsJoined, SawEnding};
 ghost use Rattle.like_seat.specs.SeatView.{IsSeat};
 ghost use Rattle.like_seat.specs.Steps.{Looks};
 
@@ -12,7 +12,7 @@ impl<P: Post, W: Copy> Seat<P, W> {
     /// Looks at the phase word, and enters the next phase where it was released; of a split one it then reads the mask.
     pub fn look(&mut self) -> Sight
         requires { self.old.post.state ≢ Gone }
-        ensures sight { IsSightOf self.old.post.state result }
+        ensures sight { IsSightWithin self.old.post.limits self.old.post.state result }
         ensures looks { Looks self.old result self.new }
         ensures runs { result.waits ≡ false → IsRunning self.new.post.state }
         ensures seat { IsSeat self.new }

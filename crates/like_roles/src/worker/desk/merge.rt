@@ -4,7 +4,7 @@ ghost use Rattle.like_tables.specs.Liked.{AreUnliked};
 ghost use Rattle.like_roles.specs.worker.Desk.{view_of, IsSettled, IsSound};
 ghost use Rattle.like_roles.specs.worker.Turns.{IsMerged};
 
-use crate::worker::desk::Desk;
+use crate::worker::desk::{Desk, phase_of_run};
 use like_core::Post;
 use like_seat::Seat;
 use like_tables::Held;
@@ -19,7 +19,7 @@ impl Desk {
         ensures empty { AreUnliked seat.new.slice 0 (length seat.new.slice) }
         ensures merged { IsMerged (view_of seat.old self.old) (view_of seat.new self.new) }
     {
-        let phase = seat.phase();
+        let phase = phase_of_run(seat);
         let mut from = 0;
         while let Some(merged) = seat.merge_next(from) {
             self.note_addition(phase, merged.page, merged.old, merged.likes);

@@ -10,7 +10,7 @@ ghost use Rattle.like_roles.specs.worker.Serve.{Likes, Runs, GivesReply};
 use crate::gate::Gate;
 use crate::log::Ran;
 use crate::reply::Reply;
-use crate::worker::desk::Desk;
+use crate::worker::desk::{Desk, phase_of_run};
 use like_core::Post;
 use like_requests::{Op, PageRef, Verdict};
 use like_seat::Seat;
@@ -48,7 +48,7 @@ impl Desk {
         ensures room { HasRoomToNote seat.new self.new }
         ensures liked { Likes (view_of seat.old self.old) user page (view_of seat.new self.new) }
     {
-        let phase = seat.phase();
+        let phase = phase_of_run(seat);
         if let Some(old) = seat.count_like(user, page) {
             self.note_addition(phase, page, old, 1);
         }
@@ -106,7 +106,7 @@ impl Desk {
         gate.run(seat.users().worker(), held.submitter, held.ask.number);
         let reply = self.serve(seat, &held, verdict);
         self.ran.push_reserved(Ran {
-            phase: seat.phase(),
+            phase: phase_of_run(seat),
             submitter: held.submitter,
             number: held.ask.number,
             stashed,

@@ -5,7 +5,7 @@ ghost use Rattle.like_roles.specs.worker.Turns.{CanGive, Gives, IsNext, TakesAsk
 use crate::gate::Gate;
 use crate::log::Took;
 use crate::turn::Turn;
-use crate::worker::desk::Desk;
+use crate::worker::desk::{Desk, phase_of_run};
 use crate::worker::desk::request::waits;
 use like_core::Post;
 use like_requests::{Numbered, Taken};
@@ -59,7 +59,7 @@ impl Desk {
         };
         let verdict = seat.users().judge(held.submitter, &ask.request);
         let waits = waits(seat, &held, verdict);
-        self.note_taken(seat.phase(), place, held);
+        self.note_taken(phase_of_run(seat), place, held);
         if waits {
             seat.put_by(held);
             return Turn::Stashed;

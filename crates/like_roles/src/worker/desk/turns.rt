@@ -8,7 +8,7 @@ ghost use Rattle.like_roles.specs.worker.Turns.{Turns};
 
 use crate::gate::Gate;
 use crate::turn::Turn;
-use crate::worker::desk::Desk;
+use crate::worker::desk::{Desk, phase_of_run};
 use crate::worker::places::next_place;
 use like_core::{Post, Sight};
 use like_requests::Verdict;
@@ -49,7 +49,7 @@ impl Desk {
         let before = seat.phase();
         let sight = seat.look();
         if !self.started || seat.phase() != before {
-            gate.phase(seat.users().worker(), seat.phase());
+            gate.phase(seat.users().worker(), phase_of_run(seat));
         }
         self.started = true;
         sight

@@ -1,9 +1,10 @@
-use Rattle.std.proofs.Common.{◌≡◌, ◌≤◌, ◌∙◌, ℕ, List, Vec, Global, Bool, length, map, sym, ap, subst}
+use Rattle.std.proofs.Common.{◌≡◌, ◌≤◌, ◌∙◌, ℕ, List, Vec, Global, Bool, length, map, sym, ap, subst, refl}
 use Rattle.std.specs.List.{All}
 use Rattle.like_requests.specs.Pages.{Page}
 use Rattle.like_requests.specs.declared.request.Request.{Request}
 use Rattle.like_requests.specs.Limits.{max_count, max_requests}
 use Rattle.like_core.specs.declared.view.CoordSeatView.{CoordSeatView}
+use Rattle.like_core.specs.core.State.{opening}
 use Rattle.like_board.specs.Seats.{board_id}
 use Rattle.like_roles.proofs.Seats.{new_seats}
 use Rattle.like_crew.proofs.Makings.{all-back, all-map, map-twice}
@@ -36,9 +37,9 @@ returns-clause-seats c =
       start = ap (λ (v : CoordSeatView). v.phase) c.in_ok-board.ensures.coord;
       no_masks = ap (λ (v : CoordSeatView). v.masks) c.in_ok-board.ensures.coord;
       opening = ap (λ (v : CoordSeatView). v.opening) c.in_ok-board.ensures.coord
-          ∙ ap (λ (xs : List ℕ). record { workers = c.args.setup.now.workers; counts = xs; marks = c.deref-2.result.now }) counts
-          ∙ ap (λ (xs : List Bool). record { workers = c.args.setup.now.workers; counts = map (λ (p : Page). p.count) c.args.setup.now.pages; marks = xs }) marks;
+          ∙ ap (λ (xs : List ℕ). opening c.args.setup.now.workers xs c.deref-2.result.now) counts
+          ∙ ap (λ (xs : List Bool). opening c.args.setup.now.workers (map (λ (p : Page). p.count) c.args.setup.now.pages) xs) marks;
       workers = c.in_ok-board.ensures.seats;
-      new = new_seats (board_id c.in_ok-board.board) (record { workers = c.args.setup.now.workers; counts = c.deref.result.now; marks = c.deref-2.result.now }) c.args.setup.now.pages c.in_ok-board.workers.items marks
+      new = new_seats (board_id c.in_ok-board.board) (opening c.args.setup.now.workers c.deref.result.now c.deref-2.result.now) c.args.setup.now.pages c.in_ok-board.workers.items marks refl
           c.in_ok-board.ensures.views;
     }

@@ -1,8 +1,15 @@
-use Rattle.std.proofs.Common.{subst}
+use Rattle.std.proofs.Common.{subst, ◌∙◌}
 use Rattle.like_roles.specs.coordinator.CoordTurns.{CoordTurns}
 use Rattle.like_crew.specs.Crew.{LeadGoesOn}
 use Rattle.like_crew.proofs.Coordinated.{lead-goes-on}
 use Rattle.like_crew.proofs.crew.lead.Lead.turn.Goals as goal
+
+pub invariant_of-self : goal.invariant_of-self
+invariant_of-self c = (
+  c.turn.ensures.board ∙ c.self.invariant.0,
+  c.turn.ensures.keeps c.self.invariant.1,
+  c.turn.ensures.chose c.self.invariant.2,
+)
 
 pub returns-clause-case : goal.returns-clause-case
 returns-clause-case c = subst (λ v. CoordTurns v c.turn.result c.turn.new.self) c.self.view_is c.turn.ensures.case

@@ -33,13 +33,13 @@ loop-merged-preserved g c =
     let m = c.in-Some.merged in
     let merges = subst (λ r. MergesNext s c.loop-merged.from r t) c.in-Some.is c.merge_next.ensures.merges in
     let n = c.note_addition.ensures in
-    let phase_is : c.phase-phase.result ≡ phase_at s = c.phase-phase.ensures.phase ∙ sym (ap (λ (v : WorkerView). phase_of v.post.state) i.merging.rest) in
-    let noted : HasNoted d e c.phase-phase.result m.page m.old m.likes = record { noted = n.noted; len = n.len; capacity = n.capacity; rest = n.rest } in
-    let merged : view_of t e ≡ merged_page now m.page m.old = noting-merged s t d e c.loop-merged.from c.phase-phase.result m merges noted phase_is in
+    let phase_is : c.phase_of_run-phase.result ≡ phase_at s = c.phase_of_run-phase.ensures ∙ sym (ap (λ (v : WorkerView). phase_of v.post.state) i.merging.rest) in
+    let noted : HasNoted d e c.phase_of_run-phase.result m.page m.old m.likes = record { noted = n.noted; len = n.len; capacity = n.capacity; rest = n.rest } in
+    let merged : view_of t e ≡ merged_page now m.page m.old = noting-merged s t d e c.loop-merged.from c.phase_of_run-phase.result m merges noted phase_is in
     let there = Merging-unliked before now c.loop-merged.from m.page i.merging merges.next.after merges.next.least in
     let sized = ap (λ (w : WorkerView). length w.slice) merged ∙ length-set now.slice m.page 0 in
     record {
-      settled = merged-settled s t d e c.loop-merged.from c.phase-phase.result m i.settled c.merge_next.ensures.seat merges noted;
+      settled = merged-settled s t d e c.loop-merged.from c.phase_of_run-phase.result m i.settled c.merge_next.ensures.seat merges noted;
       within = omega (arith, sized, merges.next.there);
       merging = subst (λ w. Merging before w (m.page + 1)) (sym merged) (Merging-page before now m.page m.old there merges.next.there merges.next.liked);
     }

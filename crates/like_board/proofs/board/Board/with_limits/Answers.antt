@@ -1,7 +1,7 @@
 use Rattle.std.proofs.Common.{ap, ◌∙◌}
 use Rattle.like_core.specs.word.Word.{packed}
 use Rattle.like_board.proofs.Opens.{opens_key}
-use Rattle.like_board.proofs.board.Board.new.Goals as goal
+use Rattle.like_board.proofs.board.Board.with_limits.Goals as goal
 
 pub of_words-requires : goal.of_words-requires
 of_words-requires c =
@@ -11,6 +11,7 @@ of_words-requires c =
       workers = c.args.workers;
       counts = c.in_ok-from_slice.field-0;
       marks = c.in_ok-from_slice-2.field-0;
+      limits = c.args.limits;
     })
     c.args.counts.now
     c.args.split.now
@@ -27,3 +28,4 @@ of_words-requires c =
     c.requires.same_pages
     c.requires.few_pages
     c.requires.counts
+    c.requires.limits

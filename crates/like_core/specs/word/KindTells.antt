@@ -1,0 +1,21 @@
+-- Why a worker needs no more of a phase word than its kind.
+use Rattle.std.specs.Prelude.{◌≡◌, ◌≢◌, ℕ, ◌+◌, ◌/◌, ◌%◌, ◌==◌, if◌then◌else◌}
+use Rattle.like_core.specs.declared.worker_state.WorkerState.{WorkerState}
+use Rattle.like_core.specs.declared.worker_state.WorkerState.TheVariants.{Runs, Answered, Gone}
+use Rattle.like_core.specs.declared.opening.Opening.{Opening}
+use Rattle.like_core.specs.core.State.{CoreState}
+use Rattle.like_core.specs.core.Reachable.{Reachable}
+use Rattle.like_core.specs.word.ShownWord.{shown_fields}
+
+-- the phase that a word of this kind tells a worker in this state: one that has answered phase j is told j where the kind
+-- is split as j is, and j + 1 where it is not
+abbrev pub phase_told : ℕ → WorkerState → ℕ
+phase_told kind (Runs j) = j
+phase_told kind (Answered j) = (if kind / 2 == j % 2 then j else j + 1)
+phase_told kind Gone = 0
+
+-- in each state that can be reached, the kind of the phase word tells each worker that is not gone the present phase
+abbrev pub KindTellsPhase : Type 0
+KindTellsPhase =
+    (z : Opening) (s : CoreState) (i : ℕ) → Reachable z s → s.state i ≢ Gone
+    → phase_told (shown_fields z s).kind (s.state i) ≡ s.phase
