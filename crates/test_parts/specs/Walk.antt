@@ -6,13 +6,14 @@ use Rattle.like_core.specs.declared.opening.Opening.{Opening}
 use Rattle.like_core.specs.declared.view.Addition.{Addition}
 use Rattle.like_core.specs.declared.view.PhaseMask.{PhaseMask}
 use Rattle.like_core.specs.declared.view.WorkerSeatView.{WorkerSeatView}
+use Rattle.like_core.specs.core.State.{opening}
 use Rattle.like_core.specs.Post.{PostView}
 use Rattle.like_board.specs.declared.coord_seat.CoordSeat.{CoordSeat}
 use Rattle.like_board.specs.Seats.{coord_board, coord_view}
 
 -- a board of two workers and one page, which is split and begins at 10
 abbrev pub walk : Opening
-walk = record { workers = 2; counts = 10 ∷ []; marks = true ∷ [] }
+walk = opening 2 (10 ∷ []) (true ∷ [])
 
 -- what a worker may see
 abbrev pub sight : ℕ → Bool → Bool → Sight
@@ -38,7 +39,7 @@ pub record KeepsSeat (old new : CoordSeat) : Type 0 where
 
 -- a board of one worker and one page, which is not marked and begins at 5
 abbrev pub hot_walk : Opening
-hot_walk = record { workers = 1; counts = 5 ∷ []; marks = false ∷ [] }
+hot_walk = opening 1 (5 ∷ []) (false ∷ [])
 
 -- a mask that was read in a phase
 abbrev pub mask_in : ℕ → ℕ → PhaseMask
@@ -56,5 +57,6 @@ pub record HotWalks (v : WorkerSeatView) (state : WorkerState) (additions : List
 -- all but the state, the last sight and the masks of a post is as before
 pub record KeepsBoard (old new : PostView) : Type 0 where
   pub marks : new.marks ≡ old.marks
+  pub limits : new.limits ≡ old.limits
   pub additions : new.additions ≡ old.additions
   pub reads : new.reads ≡ old.reads

@@ -1,5 +1,6 @@
 ghost use Rattle.std.specs.Prelude.{◌≡◌, ◌≢◌, ◌+◌, ◌<◌, [], ◌∷◌, ◌++◌, IfOk, vec_len};
 ghost use Rattle.like_core.specs.declared.worker_state.WorkerState.TheVariants.{Runs, Answered, Gone};
+ghost use Rattle.like_core.specs.OpeningLimits.{run_limits};
 ghost use Rattle.like_core.specs.Post.{IsFresh};
 ghost use Rattle.like_core.specs.views.Views.{looked_view, looked_coord};
 ghost use Rattle.like_board.specs.Seats.{board_id, coord_board, coord_view, seat_board, seat_view, post_board, post_view, post_meaning, AreFresh};
@@ -7,6 +8,7 @@ ghost use Rattle.like_core.specs.Additions.{addition, page_read};
 ghost use Rattle.test_parts.specs.Walk.{walk, sight, coord_sight, KeepsSeat, Walks};
 
 mod hot;
+mod limits;
 mod posts;
 
 use like_board::{Board, BoardPost, CoordSeat, WorkerSeat};
@@ -37,7 +39,8 @@ fn surveys(
     all_in: bool,
     all_gone: bool,
 )
-    requires { coord_board coord.old ≡ board_id board.now }
+    requires here { coord_board coord.old ≡ board_id board.now }
+    requires run { (coord_view coord.old).opening.limits ≡ run_limits }
     ensures board { coord_board coord.new ≡ coord_board coord.old }
     ensures view { let seen = coord_sight number ending all_in all_gone in
         coord_view coord.new ≡ looked_coord (coord_view coord.old) (coord_view coord.new).word seen }
@@ -58,6 +61,7 @@ fn first_acknowledges(
     first: &mut BoardPost<'_>,
 )
     requires here { coord_board coord.old ≡ board_id board.now }
+    requires run { (coord_view coord.old).opening.limits ≡ run_limits }
     requires first { Walks (post_view first.old) 0 (Runs 0) [] }
     ensures coord { KeepsSeat coord.old coord.new }
     ensures first { Walks (post_view first.new) 0 (Answered 0) [] }
@@ -79,6 +83,7 @@ fn second_acknowledges(
     second: &mut BoardPost<'_>,
 )
     requires here { coord_board coord.old ≡ board_id board.now }
+    requires run { (coord_view coord.old).opening.limits ≡ run_limits }
     requires first { Walks (post_view first.old) 0 (Answered 0) [] }
     requires second { Walks (post_view second.old) 1 (Runs 0) [] }
     ensures coord { KeepsSeat coord.old coord.new }
@@ -98,6 +103,7 @@ fn second_acknowledges(
 // The end of phase 1 is announced; the first worker merges three likes of the page, which had 10, and reports.
 fn first_reports(rt: &impl Abort, board: &Board, coord: &mut CoordSeat, first: &mut BoardPost<'_>)
     requires here { coord_board coord.old ≡ board_id board.now }
+    requires run { (coord_view coord.old).opening.limits ≡ run_limits }
     requires first { Walks (post_view first.old) 0 (Runs 1) [] }
     ensures coord { KeepsSeat coord.old coord.new }
     ensures first { Walks (post_view first.new) 0 (Answered 1) (addition 1 0 10 3 ∷ []) }
@@ -114,6 +120,7 @@ fn first_reports(rt: &impl Abort, board: &Board, coord: &mut CoordSeat, first: &
 // The second worker reports, and phase 2 is released.
 fn second_reports(rt: &impl Abort, board: &Board, coord: &mut CoordSeat, second: &mut BoardPost<'_>)
     requires here { coord_board coord.old ≡ board_id board.now }
+    requires run { (coord_view coord.old).opening.limits ≡ run_limits }
     requires second { Walks (post_view second.old) 1 (Answered 0) [] }
     ensures coord { KeepsSeat coord.old coord.new }
     ensures second { Walks (post_view second.new) 1 (Answered 1) [] }
@@ -155,6 +162,7 @@ fn last_post<'a>(
     ensures here { post_board result ≡ board_id board.now }
     ensures fresh { Walks (post_view result) worker (Runs 0) [] }
     ensures meaning { IsFresh (post_meaning result) }
+    ensures run { (post_meaning result).limits ≡ run_limits }
     ensures rest { AreFresh (board_id board.now) walk seats.new.items }
     ensures left { vec_len seats.new ≡ worker }
 {

@@ -1,7 +1,7 @@
 mod cases;
 
 use cases::{Case, cases, lawful_words, unlawful_words};
-use like_core::{Core, Event, Kind, NotNow, PhaseWord, check_events};
+use like_core::{CoordSight, Core, Event, Kind, Limits, NotNow, PhaseWord, Shown, check_events};
 use std::alloc::{AllocError, Global};
 use std::process::Abort;
 use std::test::Fail;
@@ -56,6 +56,48 @@ fn refuses_announcement_in_last_phase(rt: HostRuntime) -> Result<(), Fail> {
     Ok(())
 }
 
+// Within limits whose last phase is 4, the numbers of phases 0 to 4 modulo 2 are 0, 1, 0, 1 and 0.
+#[test]
+fn takes_numbers_modulo_2(rt: HostRuntime) -> Result<(), Fail> {
+    let limits = Limits {
+        last_phase: 4,
+        likes: 2,
+        modulus: 2,
+    };
+    let mut core = Core::with_limits(rt.alloc(), 1, &[0], &[true], limits)?;
+    for number in [0, 1, 0, 1] {
+        let sight = CoordSight {
+            number,
+            ending: false,
+            all_in: false,
+            all_gone: false,
+        };
+        assert_eq!(rt; core.step(Event::CoordLook), Ok(Shown::Coord(sight)));
+        let answer = if number == 0 {
+            Event::Acknowledge(0)
+        } else {
+            Event::Report(0)
+        };
+        let events = [Event::Announce, answer, Event::Release(0), Event::Look(0)];
+        assert_eq!(rt; check_events(&mut core, &events), Ok(()));
+    }
+    assert_eq!(rt; core.step(Event::Announce), Err(NotNow::Last));
+    Ok(())
+}
+
+#[test]
+fn limits_are_these_numbers(rt: HostRuntime) -> Result<(), Fail> {
+    let run = Limits::of_run();
+    assert_eq!(rt; run.last_phase, 16_777_214);
+    assert_eq!(rt; run.likes, 64_000_000);
+    assert_eq!(rt; run.number(16_777_214), 16_777_214);
+    let service = Limits::of_service();
+    assert_eq!(rt; service.last_phase, 18_446_744_073_709_551_614);
+    assert_eq!(rt; service.likes, 72_057_594_037_927_936);
+    assert_eq!(rt; service.number(16_777_215), 1);
+    Ok(())
+}
+
 #[test]
 fn packs_and_unpacks_words(rt: HostRuntime) -> Result<(), Fail> {
     for (word, (kind, workers, answered, retired, number)) in lawful_words() {
@@ -79,5 +121,7 @@ fn steps_lead_to_words_of_idle_workers(rt: HostRuntime) -> Result<(), Fail> {
     assert!(rt; ending.kind.is_ending());
     assert!(rt; !ending.kind.is_split());
     assert_eq!(rt; ending.released().pack(), 1_099_746_508_818);
+    let split = PhaseWord::new(Kind::SplitEnding, 1, 1, 0, 1).ok_or("split")?;
+    assert_eq!(rt; split.released_modulo(2).pack(), 4);
     Ok(())
 }

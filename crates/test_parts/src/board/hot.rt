@@ -1,6 +1,7 @@
 //! A board with one page, which is not marked and is hot in phase 1.
 ghost use Rattle.std.specs.Prelude.{◌≡◌, [], ◌∷◌, IfOk};
 ghost use Rattle.like_core.specs.declared.worker_state.WorkerState.TheVariants.{Runs, Answered, Gone};
+ghost use Rattle.like_core.specs.OpeningLimits.{run_limits};
 ghost use Rattle.like_board.specs.Seats.{board_id, coord_board, coord_view, seat_board, seat_view, post_board, post_view, AreFresh};
 ghost use Rattle.like_core.specs.Additions.{addition};
 ghost use Rattle.test_parts.specs.Walk.{hot_walk, mask_in, HotWalks, KeepsSeat};
@@ -47,6 +48,7 @@ fn worker_learns(rt: &impl Abort, post: &mut BoardPost<'_>)
 // The end of phase 1 is announced; the worker merges two likes of the page, which had 5, and reports.
 fn worker_reports(rt: &impl Abort, board: &Board, coord: &mut CoordSeat, post: &mut BoardPost<'_>)
     requires here { coord_board coord.old ≡ board_id board.now }
+    requires run { (coord_view coord.old).opening.limits ≡ run_limits }
     requires post { HotWalks (post_view post.old) (Runs 1) [] (mask_in 1 1 ∷ []) }
     ensures coord { KeepsSeat coord.old coord.new }
     ensures post { HotWalks (post_view post.new) (Answered 1) (addition 1 0 5 2 ∷ []) (mask_in 1 1 ∷ []) }
@@ -63,6 +65,7 @@ fn worker_reports(rt: &impl Abort, board: &Board, coord: &mut CoordSeat, post: &
 // Phase 2 is released; the worker reads the page, and retires.
 fn worker_retires(rt: &impl Abort, board: &Board, coord: &mut CoordSeat, post: &mut BoardPost<'_>)
     requires here { coord_board coord.old ≡ board_id board.now }
+    requires run { (coord_view coord.old).opening.limits ≡ run_limits }
     requires post { HotWalks (post_view post.old) (Answered 1) (addition 1 0 5 2 ∷ []) (mask_in 1 1 ∷ []) }
     ensures coord { KeepsSeat coord.old coord.new }
     ensures post { HotWalks (post_view post.new) Gone (addition 1 0 5 2 ∷ []) (mask_in 1 1 ∷ []) }

@@ -1,11 +1,11 @@
 //! Each call of `Post`, by functions that know the trait alone.
 ghost use Rattle.std.specs.Prelude.{◌≡◌, ◌+◌, ◌<◌, ◌≤◌, true, []};
 ghost use Rattle.like_core.specs.declared.worker_state.WorkerState.TheVariants.{Runs, Answered, Gone};
-ghost use Rattle.like_core.specs.Limits.{max_likes};
 ghost use Rattle.like_core.specs.Phase.{IsJoined, IsSplit, is_marked, last_phase};
+ghost use Rattle.like_core.specs.OpeningLimits.{run_limits};
 ghost use Rattle.like_core.specs.Post.{IsFresh, pages_of};
-ghost use Rattle.like_board.specs.Seats.{board_id, coord_board};
-ghost use Rattle.test_parts.specs.Walk.{KeepsBoard};
+ghost use Rattle.like_board.specs.Seats.{board_id, coord_board, coord_view};
+ghost use Rattle.test_parts.specs.Walk.{KeepsBoard, KeepsSeat};
 
 use super::{last_post, surveys};
 use like_board::{Board, CoordSeat};
@@ -24,7 +24,7 @@ fn runs<P: Post>(rt: &impl Abort, post: &mut P, phase: u32)
 }
 
 // Answers the phase that a post runs, whose end was announced.
-fn answers<P: Post>(rt: &impl Abort, post: &mut P, phase: u32)
+pub fn answers<P: Post>(rt: &impl Abort, post: &mut P, phase: u32)
     requires { (P.view post.old).state ≡ Runs phase }
     ensures state { (P.view post.new).state ≡ Answered phase }
     ensures board { KeepsBoard (P.view post.old) (P.view post.new) }
@@ -49,7 +49,7 @@ fn waits<P: Post>(rt: &impl Abort, post: &mut P, phase: u32)
 }
 
 // Enters the next phase, which was released.
-fn enters<P: Post>(rt: &impl Abort, post: &mut P, phase: u32)
+pub fn enters<P: Post>(rt: &impl Abort, post: &mut P, phase: u32)
     requires { (P.view post.old).state ≡ Answered phase }
     ensures state { (P.view post.new).state ≡ Runs (phase + 1) }
     ensures board { KeepsBoard (P.view post.old) (P.view post.new) }
@@ -65,7 +65,7 @@ fn merges<P: Post>(rt: &impl Abort, post: &mut P, likes: u64, old: u64)
     requires split { is_marked (P.view post.old).marks 0 ≡ true }
     requires added_nothing { (P.view post.old).additions ≡ [] }
     requires some { 1 ≤ likes }
-    requires few { likes ≤ max_likes }
+    requires few { likes ≤ (P.view post.old).limits.likes }
     ensures state { (P.view post.new).state ≡ Runs 1 }
     ensures pages { pages_of (P.view post.new) ≡ pages_of (P.view post.old) }
 {
@@ -79,6 +79,7 @@ fn merges<P: Post>(rt: &impl Abort, post: &mut P, likes: u64, old: u64)
 // Runs the first like of a post. The count before is this.
 fn likes<P: Post>(rt: &impl Abort, post: &mut P, page: u32, old: u64)
     requires fresh { IsFresh (P.view post.old) }
+    requires few { 1 ≤ (P.view post.old).limits.likes }
     requires page { page < pages_of (P.view post.old) }
     ensures state { (P.view post.new).state ≡ Runs 0 }
     ensures pages { pages_of (P.view post.new) ≡ pages_of (P.view post.old) }
@@ -118,8 +119,9 @@ fn leaves<P: Post>(post: &mut P, phase: u32)
 // The coordinator sees a phase that runs, and announces its end.
 fn announces(rt: &impl Abort, coord: &mut CoordSeat, board: &Board, phase: u32)
     requires here { coord_board coord.old ≡ board_id board.now }
+    requires run { (coord_view coord.old).opening.limits ≡ run_limits }
     requires not_last { phase < last_phase }
-    ensures { coord_board coord.new ≡ coord_board coord.old }
+    ensures { KeepsSeat coord.old coord.new }
 {
     surveys(rt, coord, board, phase, false, false, false);
     coord.announce(board);
@@ -127,8 +129,9 @@ fn announces(rt: &impl Abort, coord: &mut CoordSeat, board: &Board, phase: u32)
 
 // The coordinator sees all workers in, and releases the next phase.
 fn releases(rt: &impl Abort, coord: &mut CoordSeat, board: &Board, phase: u32)
-    requires { coord_board coord.old ≡ board_id board.now }
-    ensures { coord_board coord.new ≡ coord_board coord.old }
+    requires here { coord_board coord.old ≡ board_id board.now }
+    requires run { (coord_view coord.old).opening.limits ≡ run_limits }
+    ensures { KeepsSeat coord.old coord.new }
 {
     surveys(rt, coord, board, phase, true, true, false);
     if phase % 2 == 0 {
@@ -146,9 +149,10 @@ fn go_through_joined_phase<P: Post>(
     second: &mut P,
 )
     requires here { coord_board coord.old ≡ board_id board.now }
+    requires run { (coord_view coord.old).opening.limits ≡ run_limits }
     requires first { (P.view first.old).state ≡ Runs 0 }
     requires second { (P.view second.old).state ≡ Runs 0 }
-    ensures here { coord_board coord.new ≡ coord_board coord.old }
+    ensures coord { KeepsSeat coord.old coord.new }
     ensures first { (P.view first.new).state ≡ Runs 1 }
     ensures first_board { KeepsBoard (P.view first.old) (P.view first.new) }
     ensures second { (P.view second.new).state ≡ Runs 1 }
@@ -172,10 +176,12 @@ fn go_through_split_phase<P: Post>(
     second: &mut P,
 )
     requires here { coord_board coord.old ≡ board_id board.now }
+    requires run { (coord_view coord.old).opening.limits ≡ run_limits }
     requires first { (P.view first.old).state ≡ Runs 1 }
     requires page { 0 < pages_of (P.view first.old) }
     requires split { is_marked (P.view first.old).marks 0 ≡ true }
     requires added_nothing { (P.view first.old).additions ≡ [] }
+    requires first_run { (P.view first.old).limits ≡ run_limits }
     requires second { (P.view second.old).state ≡ Runs 1 }
     ensures first { (P.view first.new).state ≡ Runs 2 }
     ensures pages { pages_of (P.view first.new) ≡ pages_of (P.view first.old) }

@@ -1,5 +1,6 @@
 //! A coordinator that finds no memory.
 ghost use Rattle.std.specs.Prelude.{◌≡◌, [], ◌∷◌, IfOk};
+ghost use Rattle.like_core.specs.OpeningLimits.{run_limits};
 ghost use Rattle.like_board.specs.Seats.{coord_board, coord_view};
 
 use like_board::{Board, CoordSeat};
@@ -9,7 +10,8 @@ use std::test::Fail;
 
 // The coordinator at this seat of a board with a page that begins at 10, and whether it was refused memory at first.
 fn coordinator_at(alloc: Global, coord: CoordSeat) -> Result<(Coordinator, bool), Fail>
-    requires { (coord_view coord).opening.counts ≡ 10 ∷ [] }
+    requires counts { (coord_view coord).opening.counts ≡ 10 ∷ [] }
+    requires run { (coord_view coord).opening.limits ≡ run_limits }
     ensures { IfOk result (λ r. r.0.board ≡ coord_board coord) }
 {
     match Coordinator::new(alloc, coord, 0, Some(1), &[10]) {

@@ -1,6 +1,7 @@
 ghost use Rattle.std.specs.Prelude.{◌≡◌, ◌≤◌, [], ◌∷◌, IfOk, length};
 ghost use Rattle.like_requests.specs.Limits.{max_workers};
 ghost use Rattle.like_requests.specs.Setup.{IsWithinLimits};
+ghost use Rattle.like_core.specs.OpeningLimits.{run_limits};
 ghost use Rattle.like_board.specs.Seats.{board_id, coord_board, coord_view};
 ghost use Rattle.like_requests.specs.Pages.{counts_of};
 ghost use Rattle.like_roles.specs.worker.New.{AreNewSeats};
@@ -41,6 +42,7 @@ pub fn board_of(
     requires few { setup.now.workers ≤ max_workers }
     ensures coord { IfOk result (λ r. coord_board r.1 ≡ board_id r.0) }
     ensures opened { IfOk result (λ r. (coord_view r.1).opening.counts ≡ counts_of setup.now.pages) }
+    ensures run { IfOk result (λ r. (coord_view r.1).opening.limits ≡ run_limits) }
     ensures seats { IfOk result (λ r. AreNewSeats (board_id r.0) setup.now.pages r.2.items) }
     ensures len { IfOk result (λ r. length r.2.items ≡ setup.now.workers) }
 {
@@ -85,6 +87,7 @@ impl<'a> Play<'a> {
         requires within { IsWithinLimits setup.now (plan.now ∷ []) }
         requires coord { coord_board coord ≡ board_id board.now }
         requires opened { (coord_view coord).opening.counts ≡ counts_of setup.now.pages }
+        requires run { (coord_view coord).opening.limits ≡ run_limits }
         requires seats { AreNewSeats (board_id board.now) setup.now.pages seats.items }
         requires len { length seats.items ≤ setup.now.workers }
     {
