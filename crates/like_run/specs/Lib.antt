@@ -1,3 +1,4 @@
 pub mod Lines
+pub mod Room
 pub mod Rounds
 pub mod Threads

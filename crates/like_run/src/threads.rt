@@ -2,6 +2,8 @@ ghost use Rattle.std.specs.Prelude.{◌≡◌, ◌+◌, ◌≤◌, false, true, 
 ghost use Rattle.like_requests.specs.Setup.{IsWithinLimits};
 ghost use Rattle.like_crew.specs.Asked.{lists_of};
 ghost use Rattle.like_crew.specs.EndToEnd.{IsRightReport};
+ghost use Rattle.like_crew.specs.Ended.{IsEnded};
+ghost use Rattle.like_crew.specs.Site.{AreSeats, IsSite};
 ghost use Rattle.like_crew.specs.Tiling.{HasNoPlaces, HasRightPlaces};
 ghost use Rattle.like_run.specs.Lines.{AreNewEnds};
 ghost use Rattle.like_run.specs.Threads.{HasEndedOn, IsRunFaultUnderWay, IsRunFault};
@@ -9,11 +11,12 @@ ghost use Rattle.like_run.specs.Threads.{HasEndedOn, IsRunFaultUnderWay, IsRunFa
 use crate::threads::coordinator::{coordinate, join_all};
 use crate::threads::lines::{Lines, ends_of};
 use crate::threads::parkers::Parkers;
+use crate::threads::room::Room;
 use crate::threads::signal::tell;
 use crate::threads::submitters::start_submitters;
 use crate::threads::workers::start_workers;
 use like_collection::Report;
-use like_crew::{Crew, Ended, Site, report_of};
+use like_crew::{Crew, Ended, Seats, Site, report_of};
 use like_queue::{SendEnd, TakeEnd};
 use like_requests::{Request, Setup, check_setup};
 use like_roles::Gate;
@@ -27,6 +30,7 @@ mod coordinator;
 mod fault;
 mod lines;
 mod parkers;
+mod room;
 mod signal;
 mod submitter;
 mod submitters;
@@ -139,13 +143,32 @@ fn run_within<R: Threads + Wait + Sync, G: Gate>(
 {
     let (site, seats) = Site::new(alloc, setup, &plans, notes)?;
     let lists = Snapshot::of(&plans);
+    let ended = run_at(rt, alloc, setup, &site, seats, plans, gate, starts)?;
+    Ok(report_of(alloc, setup, &lists, site, ended)?)
+}
+
+// Runs a crew at a new site, with a line for each submitter. The plans make room for the answers of the report.
+fn run_at<R: Threads + Wait + Sync, G: Gate>(
+    rt: &R,
+    alloc: Global,
+    setup: &Setup,
+    site: &Site,
+    seats: Seats,
+    plans: Vec<Vec<Request>>,
+    gate: &G,
+    starts: usize,
+) -> Result<Ended, RunFault>
+    requires within { IsWithinLimits setup.now (lists_of plans.items) }
+    requires site { IsSite setup.now (lists_of plans.items) site.now }
+    requires seats { AreSeats setup.now site.now seats }
+    ensures ended { IfOk result (IsEnded setup.now (lists_of plans.items) site.now) }
+    ensures enough { OnOk result (setup.now.workers + length plans.items ≤ starts) }
+    ensures fault { IfErr result IsRunFaultUnderWay }
+{
     let Lines { lines, passes } = Lines::new(alloc, plans)?;
     let (sends, takes) = ends_of(alloc, &lines, passes)?;
-    let crew = Crew::of_inboxes(alloc, setup, &site, seats, takes)?;
-    let ended = on_threads(rt, alloc, crew, sends, gate, starts)?;
-    // The plans make room for the answers.
-    drop(lines);
-    Ok(report_of(alloc, setup, &lists, site, ended)?)
+    let crew = Crew::of_inboxes(alloc, setup, site, seats, takes)?;
+    on_threads(rt, alloc, crew, sends, gate, starts)
 }
 
 // Runs the workers of a crew and the submitters on threads, and takes the crew apart.
@@ -191,10 +214,12 @@ fn in_scope<'s, E, R: Threads + Wait + Sync, G: Gate>(
     ensures fault { IfErr result IsRunFaultUnderWay }
 {
     let Crew { mut lead, servers } = crew;
-    let mut logs = Vec::with_capacity(alloc, servers.len())?;
-    let mut seats = Vec::with_capacity(alloc, servers.len())?;
-    let mut workers = Vec::with_capacity(alloc, servers.len())?;
-    let mut submitters = Vec::with_capacity(alloc, ends.len())?;
+    let Room {
+        mut workers,
+        mut submitters,
+        mut logs,
+        mut seats,
+    } = Room::new(alloc, servers.len(), ends.len())?;
     let left = starts.saturating_sub(servers.len());
     let all = start_workers(
         scope,

@@ -31,6 +31,7 @@ pub fn start_workers<'s, E, R: Threads + Wait + Sync, G: Gate>(
 {
     for server in servers {
         if threads.len() == most {
+            drop(server);
             return false;
         }
         let worker = threads.len();

@@ -1,4 +1,4 @@
-use Rattle.std.proofs.Common.{◌≡◌, ◌∙◌, true, List, Vec, Global, length, map, subst, sym, ap, arith}
+use Rattle.std.proofs.Common.{◌≡◌, ◌∙◌, true, true≢false, List, Vec, Global, length, map, subst, sym, ap, arith}
 use Rattle.std.proofs.lemmas.List.{length-map}
 use Rattle.std.specs.declared.thread.PromisedHandle.{PromisedHandle}
 use Rattle.like_run.specs.declared.threads.worker.Owes.{Owes}
@@ -21,42 +21,42 @@ pub join_all-requires-clause-logs : goal.join_all-requires-clause-logs
 join_all-requires-clause-logs g c =
     let served : c.start_workers.result ≡ true = elim c.if-start_workers.branch [
       | then-start_workers w ↦ w.if-start_workers.true
-      | else-start_workers w ↦ absurd (cc (w.all-is, c.in-Some.ensures.all))
+      | else-start_workers w ↦ absurd (true≢false (sym c.in-Some.ensures.all ∙ w.all-is ∙ w.if-start_workers.false))
     ] in
     let many = as-many c.start_workers.new.threads.items c.args.crew.servers.items (c.start_workers.ensures.servers served) in
-    (c.in_ok-logs.ensures.items, omega (arith, many, c.in_ok-logs.ensures.capacity, c.len.ensures, c.args.crew.servers.ok.0))
+    (c.in_ok-workers.ensures.no_logs, omega (arith, many, c.in_ok-workers.ensures.logs_room, c.len.ensures, c.args.crew.servers.ok.0))
 
 pub join_all-requires-clause-seats : goal.join_all-requires-clause-seats
 join_all-requires-clause-seats g c =
     let served : c.start_workers.result ≡ true = elim c.if-start_workers.branch [
       | then-start_workers w ↦ w.if-start_workers.true
-      | else-start_workers w ↦ absurd (cc (w.all-is, c.in-Some.ensures.all))
+      | else-start_workers w ↦ absurd (true≢false (sym c.in-Some.ensures.all ∙ w.all-is ∙ w.if-start_workers.false))
     ] in
     let many = as-many c.start_workers.new.threads.items c.args.crew.servers.items (c.start_workers.ensures.servers served) in
-    (c.in_ok-seats.ensures.items, omega (arith, many, c.in_ok-seats.ensures.capacity, c.len-2.ensures, c.args.crew.servers.ok.0))
+    (c.in_ok-workers.ensures.no_seats, omega (arith, many, c.in_ok-workers.ensures.seats_room, c.len.ensures, c.args.crew.servers.ok.0))
 
 pub returns-clause-ended : goal.returns-clause-ended
 returns-clause-ended g c =
     let servers = c.args.crew.servers.items in
     let served : c.start_workers.result ≡ true = elim c.if-start_workers.branch [
       | then-start_workers w ↦ w.if-start_workers.true
-      | else-start_workers w ↦ absurd (cc (w.all-is, c.in-Some.ensures.all))
+      | else-start_workers w ↦ absurd (true≢false (sym c.in-Some.ensures.all ∙ w.all-is ∙ w.if-start_workers.false))
     ] in
     let left : HaveLeft servers c.join_all.new.logs.items c.join_all.new.seats.items =
     subst (λ xs. HaveLeft xs c.join_all.new.logs.items c.join_all.new.seats.items) (c.start_workers.ensures.servers served) c.join_all.ensures in
     record {
       ended = record {
-        left = subst (λ (logs : Vec WorkerLog Global). HaveLeft servers logs.items c.new.result.seats.items) (sym c.new.ensures.logs)
-            (subst (λ (seats : Vec WorkerSeat Global). HaveLeft servers c.join_all.new.logs.items seats.items) (sym c.new.ensures.seats) left);
+        left = subst (λ (logs : Vec WorkerLog Global). HaveLeft servers logs.items c.new-2.result.seats.items) (sym c.new-2.ensures.logs)
+            (subst (λ (seats : Vec WorkerSeat Global). HaveLeft servers c.join_all.new.logs.items seats.items) (sym c.new-2.ensures.seats) left);
         lead = c.coordinate.new.lead;
         later = c.coordinate.ensures.goes_on;
-        lead_is = c.new.ensures.lead;
+        lead_is = c.new-2.ensures.lead;
       };
       enough = elim c.if-start_workers.branch [
         | then-start_workers w ↦
             let many = as-many c.start_workers.new.threads.items servers (c.start_workers.ensures.servers w.if-start_workers.true) in
-            let sent = w.start_submitters-all.ensures.many (cc (w.all-is, c.in-Some.ensures.all)) in
-            omega (arith, many, sent, c.start_workers.ensures.few, w.start_submitters-all.ensures.few, c.saturating_sub-left.ensures, c.len-5.ensures, c.args.crew.servers.ok.0)
-        | else-start_workers w ↦ absurd (cc (w.all-is, c.in-Some.ensures.all))
+            let sent = w.start_submitters-all.ensures.many (sym w.all-is ∙ c.in-Some.ensures.all) in
+            omega (arith, many, sent, c.start_workers.ensures.few, w.start_submitters-all.ensures.few, c.saturating_sub-left.ensures, c.len-3.ensures, c.args.crew.servers.ok.0)
+        | else-start_workers w ↦ absurd (true≢false (sym c.in-Some.ensures.all ∙ w.all-is ∙ w.if-start_workers.false))
       ];
     }

@@ -1,0 +1,31 @@
+ghost use Rattle.std.specs.Prelude.{IfOk};
+ghost use Rattle.like_run.specs.Room.{IsRoom};
+
+use crate::threads::worker::{Owes, Served};
+use like_board::WorkerSeat;
+use like_roles::WorkerLog;
+use std::alloc::{AllocError, Global};
+use std::thread::{JoinHandle, PromisedHandle};
+
+/// Room for the handles of a run's threads, and for what the workers leave.
+#[derive(Drop)]
+pub struct Room<'s> {
+    pub workers: Vec<PromisedHandle<Served<'s>, Owes<'s>>>,
+    pub submitters: Vec<JoinHandle<()>>,
+    pub logs: Vec<WorkerLog>,
+    pub seats: Vec<WorkerSeat>,
+}
+
+impl<'s> Room<'s> {
+    /// Room for so many workers and submitters. Nothing is in it.
+    pub fn new(alloc: Global, workers: usize, submitters: usize) -> Result<Room<'s>, AllocError>
+        ensures { IfOk result (IsRoom workers submitters) }
+    {
+        Ok(Room {
+            workers: Vec::with_capacity(alloc, workers)?,
+            submitters: Vec::with_capacity(alloc, submitters)?,
+            logs: Vec::with_capacity(alloc, workers)?,
+            seats: Vec::with_capacity(alloc, workers)?,
+        })
+    }
+}
