@@ -4,7 +4,7 @@ mod calls;
 
 use calls::{OnSlice, OnStash, held_of, slices, stashes};
 use like_requests::{Op, PageRef, Request, Verdict};
-use like_tables::{Slice, Stash, Users};
+use like_tables::{Held, Slice, Stash, Users};
 use std::alloc::{AllocError, Global};
 use std::process::Abort;
 use std::test::Fail;
@@ -44,7 +44,7 @@ fn a_slice_gives_what_was_added(rt: HostRuntime) -> Result<(), Fail> {
 }
 
 // Makes a call of a stash, and asserts its answer.
-fn call_stash(rt: &impl Abort, stash: &mut Stash, call: OnStash) {
+fn call_stash(rt: &impl Abort, stash: &mut Stash<Held>, call: OnStash) {
     match call {
         OnStash::Push(submitter) => {
             assert!(rt; !stash.is_full());
