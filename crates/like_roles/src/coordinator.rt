@@ -1,55 +1,47 @@
-ghost use Rattle.std.specs.Prelude.{◌≡◌, ◌≤◌, [], IfErr, IfOk, length};
+ghost use Rattle.std.specs.Prelude.{◌≡◌, ◌%◌, ◌==◌, ◌≤◌, [], IfErr, IfOk};
 ghost use Rattle.like_board.specs.Seats.{board_id, coord_board, coord_view};
-ghost use Rattle.like_core.specs.Phase.{last_phase};
+ghost use Rattle.like_core.specs.Phase.{last_phase, IsJoined};
 ghost use Rattle.like_core.specs.OpeningLimits.{run_limits};
 ghost use Rattle.like_core.specs.views.Actions.{Surveys};
-ghost use Rattle.like_core.specs.views.Views.{SawAllIn, looked_coord};
-ghost use Rattle.like_roles.specs.coordinator.Choice.{first_choice, ReleasesNext};
+ghost use Rattle.like_core.specs.views.Views.{SawAllIn};
+ghost use Rattle.like_seat.specs.Lead.{saw_word};
+ghost use Rattle.like_roles.specs.coordinator.Choice.{Chooses, choice_of, first_choice, ReleasesNext};
 ghost use Rattle.like_roles.specs.coordinator.CoordTurns.{ChoseByCounts, CoordTurns, HasEndedJoined, IsBeforeEnd, IsCoordSight};
 
-mod choice;
+mod choices;
 
-use self::choice::Choice;
+use self::choices::Choices;
 use crate::chosen::Chosen;
 use crate::coord_turn::CoordTurn;
 use like_board::{Board, CoordSeat};
 use like_core::{CoordSight, LAST_PHASE};
+use like_seat::{Lead, NoLead};
 use std::alloc::Global;
 use std::marker::Model;
 
 /// The coordinator: it ends each phase after some turns, and releases the next when all workers have answered.
 #[derive(Drop)]
 pub struct Coordinator {
-    seat: CoordSeat,
+    lead: Lead,
     /// How many turns it counts in each phase.
     turns: u32,
     /// How many of them the present phase has left.
     left: u32,
     /// The phase of its last look.
     phase: u32,
-    choice: Choice,
+    choices: Choices,
 }
 
 impl Model for Coordinator {
-    ghost use Rattle.std.specs.Prelude.{◌≡◌, length, min};
+    ghost use Rattle.std.specs.Prelude.{◌≡◌};
     ghost use Rattle.like_core.specs.OpeningLimits.{run_limits};
-    ghost use Rattle.like_board.specs.Seats.{coord_board, coord_view};
-    ghost use Rattle.like_core.specs.Limits.{hot_pages};
-    ghost use Rattle.like_roles.specs.coordinator.CoordTurns.{CoordinatorView};
+    ghost use Rattle.like_roles.specs.coordinator.CoordTurns.{CoordinatorView, coordinator_of};
 
     ghost Value = { CoordinatorView };
 
-    ghost view = { λ c. record {
-      board = coord_board c.seat;
-      seat = coord_view c.seat;
-      turns = c.turns;
-      left = c.left;
-      phase = c.phase;
-      choice = c.choice;
-    } };
+    ghost view = { λ c. coordinator_of c.lead c.turns c.left c.phase c.choices };
 
-    ghost invariant = { λ c. (length c.choice.before ≡ min hot_pages (length (coord_view c.seat).opening.counts))
-        × ((coord_view c.seat).opening.limits ≡ run_limits) };
+    ghost invariant = { λ c. c.lead.seat.opening.limits ≡ run_limits };
 }
 
 /// There is no memory for a coordinator. The seat that was passed comes back.
@@ -59,32 +51,49 @@ pub struct NoCoordinator {
 }
 
 // Looks at the phase word of a run, whose number is the phase.
-fn look_at_run(seat: &mut CoordSeat, board: &Board) -> CoordSight
-    requires here { coord_board seat.old ≡ board_id board.now }
-    requires run { (coord_view seat.old).opening.limits ≡ run_limits }
-    ensures board { coord_board seat.new ≡ coord_board seat.old }
-    ensures view { coord_view seat.new ≡ looked_coord (coord_view seat.old) (coord_view seat.new).word result }
-    ensures shows { IsCoordSight (coord_view seat.old) result }
-    ensures within { (coord_view seat.old).phase ≤ last_phase }
-    ensures event { Surveys (coord_view seat.old) result (coord_view seat.new) }
+fn look_at_run(lead: &mut Lead, board: &Board) -> CoordSight
+    requires here { lead.old.board ≡ board_id board.now }
+    requires run { lead.old.seat.opening.limits ≡ run_limits }
+    ensures saw { lead.new ≡ saw_word lead.old lead.new.seat.word result }
+    ensures shows { IsCoordSight lead.old.seat result }
+    ensures within { lead.old.seat.phase ≤ last_phase }
+    ensures event { Surveys lead.old.seat result lead.new.seat }
 {
-    seat.look(board)
+    lead.look(board)
+}
+
+// Chooses the hot pages of the phase that follows this joined one, and publishes them.
+fn choose(lead: &mut Lead, choices: &mut Choices, board: &Board, phase: u32)
+    requires here { lead.old.board ≡ board_id board.now }
+    requires saw { SawAllIn lead.old.seat }
+    requires joined { IsJoined lead.old.seat.phase }
+    requires phase { phase ≡ lead.old.seat.phase }
+    requires within { phase ≤ last_phase }
+    ensures board { lead.new.board ≡ lead.old.board }
+    ensures case { let v = choice_of lead.old choices.old in let w = choice_of lead.new choices.new in
+        Chooses lead.old.seat v lead.new.seat w }
+{
+    let risen = lead.choose(board);
+    let mask = choices.limited(risen);
+    choices.note(phase + 1, mask);
+    lead.publish(board, mask);
 }
 
 // Releases the phase that follows this one; before a split one it chooses that phase's hot pages.
-fn release(seat: &mut CoordSeat, choice: &mut Choice, board: &Board, phase: u32)
-    requires here { coord_board seat.old ≡ board_id board.now }
-    requires saw { SawAllIn (coord_view seat.old) }
-    requires phase { phase ≡ (coord_view seat.old).phase }
+fn release(lead: &mut Lead, choices: &mut Choices, board: &Board, phase: u32)
+    requires here { lead.old.board ≡ board_id board.now }
+    requires saw { SawAllIn lead.old.seat }
+    requires joined { lead.old.joined ≡ (lead.old.seat.phase % 2 == 0) }
+    requires phase { phase ≡ lead.old.seat.phase }
     requires within { phase ≤ last_phase }
-    requires there { length choice.old.before ≤ length (coord_view seat.old).opening.counts }
-    ensures board { coord_board seat.new ≡ coord_board seat.old }
-    ensures releases { ReleasesNext (coord_view seat.old) choice.old (coord_view seat.new) choice.new }
+    ensures board { lead.new.board ≡ lead.old.board }
+    ensures releases { let v = choice_of lead.old choices.old in let w = choice_of lead.new choices.new in
+        ReleasesNext lead.old.seat v lead.new.seat w }
 {
-    if phase % 2 == 0 {
-        choice.choose(seat, board, phase);
+    if lead.is_joined() {
+        choose(lead, choices, board, phase);
     }
-    seat.release(board);
+    lead.release(board);
 }
 
 impl Coordinator {
@@ -112,15 +121,18 @@ impl Coordinator {
             → ChoseByCounts coordinator) }
         ensures seat { IfErr result (λ refused. refused.seat ≡ seat) }
     {
-        match Choice::new(alloc, hot, counts) {
-            Ok(choice) => Ok(Coordinator {
-                seat,
+        let Ok(choices) = Choices::new(alloc) else {
+            return Err(NoCoordinator { seat });
+        };
+        match Lead::new(alloc, seat, hot, counts) {
+            Ok(lead) => Ok(Coordinator {
+                lead,
                 turns,
                 left: turns,
                 phase: 0,
-                choice,
+                choices,
             }),
-            Err(_) => Err(NoCoordinator { seat }),
+            Err(NoLead { seat }) => Err(NoCoordinator { seat }),
         }
     }
 
@@ -149,7 +161,7 @@ impl Coordinator {
         ensures view { coord_view result.0 ≡ self.seat }
         ensures chosen { result.1.items ≡ self.choice.chosen }
     {
-        (self.seat, self.choice.chosen)
+        (self.lead.finish(), self.choices.noted)
     }
 
     // Looks, and does what the sight asks for.
@@ -157,13 +169,13 @@ impl Coordinator {
         requires { self.old.board ≡ board_id board.now }
         ensures { CoordTurns self.old result self.new }
     {
-        let sight = look_at_run(&mut self.seat, board);
+        let sight = look_at_run(&mut self.lead, board);
         self.phase = sight.number;
         if sight.all_gone {
             return CoordTurn::Ended;
         }
         if sight.ending && sight.all_in {
-            release(&mut self.seat, &mut self.choice, board, sight.number);
+            release(&mut self.lead, &mut self.choices, board, sight.number);
             self.left = self.turns;
             return CoordTurn::Released;
         }
@@ -177,7 +189,7 @@ impl Coordinator {
         if sight.number == LAST_PHASE {
             return CoordTurn::Stays;
         }
-        self.seat.announce(board);
+        self.lead.announce(board);
         CoordTurn::Announced
     }
 }

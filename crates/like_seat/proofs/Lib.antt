@@ -1,2 +1,3 @@
+pub mod Leading
 pub mod Looking
 pub mod Merging

@@ -1,3 +1,4 @@
 pub mod Kept
+pub mod Lead
 pub mod SeatView
 pub mod Steps

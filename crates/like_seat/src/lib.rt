@@ -1,15 +1,18 @@
-//! A worker's seat: what a worker does at its post, phase by phase, apart from where its requests come from and what a
-//! run keeps of them.
+//! A worker's seat, and the lead of all workers: what each does at a board, phase by phase, apart from where requests
+//! come from and what a run keeps of them.
 //!
-//! Each step that a worker makes is one call: it looks, counts a like, reads for a look, puts a look by until the next
-//! joined phase, merges its slice, and answers the end of a phase.
+//! Each step is one call. A worker's seat looks, counts a like, reads for a look, puts a look by until the next joined
+//! phase, merges its slice, and answers the end of a phase. The lead looks, announces the end of a phase, chooses the hot
+//! pages of the next one, and releases it.
 #![tactic(auto)]
 
+mod lead;
 mod merged;
 mod seat;
 mod seen;
 mod tables;
 
+pub use lead::{Lead, NoLead};
 pub use merged::Merged;
 pub use seat::{NoSeat, Seat};
 pub use seen::Seen;

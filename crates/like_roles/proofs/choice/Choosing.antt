@@ -1,47 +1,33 @@
 -- What the coordinator chooses, by the counts that it read.
-use Rattle.std.proofs.Common.{◌≡◌, ◌⊎◌, ℕ, zero, suc, ◌+◌, ◌-◌, ◌*◌, ◌%◌, ◌^◌, ◌<◌, ◌≤◌, Bool, true, false, cond, ltb, leb, min, List, [], ◌∷◌, ◌++◌, length, get_or, set, Option, Some, refl, sym, ap, ◌∙◌, subst, arith, inl, inr, add-zero, zero-add, one-mul, length-append, rules}
-use Rattle.std.proofs.Math.Nat.{mod-eq_of_lt, pow-le-pow_right}
-use Rattle.std.proofs.lemmas.List.{get_or-set_other, get_or-set_same}
+use Rattle.std.proofs.Common.{◌≡◌, ◌⊎◌, ℕ, zero, suc, ◌+◌, ◌<◌, ◌≤◌, Bool, true, false, cond, ltb, min, List, [], ◌∷◌, ◌++◌, length, get_or, Option, Some, refl, sym, ap, ◌∙◌, subst, arith, inl, inr, add-zero, zero-add, append-nil, length-append, rules}
 use Rattle.std.proofs.lemmas.Bool.{cases_lt, le-ltb, lt-ltb}
 use Rattle.std.proofs.lemmas.List.FromFn.{filter_of_map_range_with_len_more}
 use Rattle.like_core.specs.declared.view.CoordSeatView.{CoordSeatView}
 use Rattle.like_core.specs.declared.view.PageCount.{PageCount}
-use Rattle.like_core.specs.word.ShownWord.{mask, weight}
-use Rattle.like_core.specs.views.Views.{counted_coord, published_coord, released_coord, saw_all_gone, MayCount, MayRelease, SawAllIn}
-use Rattle.like_core.proofs.word.Masks.{mask-lt, mask_same}
+use Rattle.like_core.specs.views.Views.{counted_coord, published_coord, released_coord, saw_all_gone, MayRelease, SawAllIn}
+use Rattle.like_seat.specs.Lead.{ChoosesRisen, LeadView, counted_from, none_asked, published, those_risen}
+use Rattle.like_seat.proofs.Leading.{counted-is}
 use Rattle.like_roles.specs.declared.chosen.Chosen.{Chosen}
-use Rattle.like_roles.specs.coordinator.Choice.{AreTotals, ChoiceView, Chooses, ReleasesNext, chooses_none, chooses_risen, counted_from, has_risen, releases_joined, releases_split, within_limit}
+use Rattle.like_roles.specs.coordinator.Choice.{AreTotals, ChoiceView, Chooses, ReleasesNext, chooses_none, chooses_risen, choice_of, releases_joined, releases_split, with_chosen, within_limit}
 use Rattle.like_roles.specs.service.HotPages.{chosen_below, hot_by, liked_pages, max_chosen}
 
--- a count more that was read
-pub counted-more : (c : CoordSeatView) (page : ℕ) (counts : List ℕ) (count : ℕ) → counted_from c page (counts ++ count ∷ []) ≡ counted_coord (counted_from c page counts) (page + length counts) count
-counted-more c page [] count = ap (λ p. counted_coord c p count) (sym (add-zero page))
-counted-more c page (x ∷ counts) count =
-    counted-more (counted_coord c page x) (page + 1) counts count
-    ∙ ap (λ p. counted_coord (counted_from (counted_coord c page x) (page + 1) counts) p count) (omega arith)
-
--- to read counts changes nothing else
-pub counted-is : (c : CoordSeatView) (page : ℕ) (counts : List ℕ) → counted_from c page counts ≡ record c { counted = (counted_from c page counts).counted }
-counted-is c page [] = refl
-counted-is c page (x ∷ counts) = counted-is (counted_coord c page x) (page + 1) counts
-
-pub may-count : (c : CoordSeatView) (page : ℕ) (counts : List ℕ) (other : ℕ) → MayCount c other → MayCount (counted_from c page counts) other
-may-count c page [] other may = may
-may-count c page (x ∷ counts) other may = may-count (counted_coord c page x) (page + 1) counts other may
-
-pub saw-still : (c : CoordSeatView) (page : ℕ) (counts : List ℕ) → SawAllIn c → SawAllIn (counted_from c page counts)
+-- after counts were read the last sight still shows all in
+saw-still : (c : CoordSeatView) (page : ℕ) (counts : List ℕ) → SawAllIn c → SawAllIn (counted_from c page counts)
 saw-still c page [] saw = saw
 saw-still c page (x ∷ counts) saw = saw-still (counted_coord c page x) (page + 1) counts saw
 
--- a mask within the limit is as small
-pub limited-lt : (chosen : List Chosen) (f : ℕ → Bool) (n pages : ℕ) → n ≤ pages → within_limit chosen (mask f n) < 2 ^ pages
-limited-lt chosen f n pages few =
-    let grows = pow-le-pow_right {n = 2} (omega arith) {i = n} {j = pages} (omega (arith, few)) in
-    let P : Bool → Type 0 = λ b. cond b (mask f n) 0 < 2 ^ pages in
+-- a mask within the limit is no greater
+limited-le : (chosen : List Chosen) (m : ℕ) → within_limit chosen m ≤ m
+limited-le chosen m =
+    let P : Bool → Type 0 = λ b. cond b m 0 ≤ m in
     elim (ltb (length chosen) max_chosen) as P [
-      | true ↦ omega (arith, grows, mask-lt f n)
-      | false ↦ omega (arith, grows, mask-lt f n)
+      | true ↦ omega arith
+      | false ↦ omega arith
     ]
+
+-- no mask is within each limit
+limited-none : (chosen : List Chosen) → within_limit chosen 0 ≡ 0
+limited-none chosen = let le = limited-le chosen 0 in omega arith
 
 -- a mask of some page within the limit has room
 pub limited-room : (chosen : List Chosen) (m : ℕ) → 0 < within_limit chosen m → length chosen < max_chosen
@@ -49,28 +35,6 @@ limited-room chosen m some = elim (cases_lt (length chosen) max_chosen) [
   | inl below ↦ below
   | inr past ↦ let none : within_limit chosen m ≡ 0 = ap (λ b. cond b m 0) (le-ltb (length chosen) max_chosen past) in absurd (omega (arith, some, none))
 ]
-
--- one bit of a mask of 64
-pub bit-is : (page : ℕ) → page < 64 → 1 * 2 ^ page % 18446744073709551616 ≡ 2 ^ page
-bit-is page few =
-    let grows = pow-le-pow_right {n = 2} (omega arith) {i = page} {j = 63} (omega (arith, few)) in
-    ap (λ n. n % 18446744073709551616) (one-mul (2 ^ page)) ∙ mod-eq_of_lt (omega (arith, grows))
-
-pub bit-fits : (f : ℕ → Bool) (page m : ℕ) → page < 64 → m ≡ mask f page → m + 1 * 2 ^ page % 18446744073709551616 < 18446744073709551616
-bit-fits f page m few is =
-    let grows = pow-le-pow_right {n = 2} (omega arith) {i = page} {j = 63} (omega (arith, few)) in
-    omega (arith, grows, bit-is page few, mask-lt f page, is)
-
--- the mask with the test of one page more, whose count was read
-pub mask-more : (least page count m : ℕ) (first counts : List ℕ) → page < length counts → m ≡ mask (has_risen least first counts) page
-    → m + weight (leb least (count - get_or first page 0)) * 2 ^ page ≡ mask (has_risen least first (set counts page count)) (page + 1)
-mask-more least page count m first counts there is =
-    ap (λ n. n + weight (leb least (count - get_or first page 0)) * 2 ^ page) (is ∙ mask_same _ _ page (λ i below. ap (λ n. leb least (n - get_or first i 0)) (sym (get_or-set_other counts page i count 0 (omega (arith, below))))))
-    ∙ ap (λ n. mask (has_risen least first (set counts page count)) page + weight (leb least (n - get_or first page 0)) * 2 ^ page) (sym (get_or-set_same counts page count 0 there))
-    ∙ ap (mask (has_risen least first (set counts page count))) one-more
-  where
-    one-more : suc page ≡ page + 1
-    one-more = omega arith
 
 -- the counts that were read are the totals, as those before them are
 pub totals-from : (total : ℕ → ℕ → ℕ) (c : CoordSeatView) (page : ℕ) (counts : List ℕ) → AreTotals total (counted_from c page counts).counted
@@ -146,6 +110,24 @@ module _ (least pages : ℕ) (got : ℕ → ℕ → ℕ) where
         let count = chosen-count n in
         le-ltb (length (chosen_below hot n)) max_chosen (omega (arith, count, past)) ∙ sym (le-ltb (length (chosen_below enough n)) max_chosen past)
 
+-- what a lead chooses, limited, noted and published, is a choice
+pub chooses-limited : (lead ready after : LeadView) (chosen : List Chosen) (m : ℕ) → ChoosesRisen lead m ready → after ≡ published ready (within_limit chosen m)
+    → Chooses lead.seat (choice_of lead chosen) after.seat (choice_of after (with_chosen chosen (lead.seat.phase + 1) (within_limit chosen m)))
+chooses-limited lead ready after chosen m (none_asked none zero-is same) is =
+    let zero-within : within_limit chosen m ≡ 0 = ap (within_limit chosen) zero-is ∙ limited-none chosen in
+    chooses_none none
+    (ap (λ (l : LeadView). l.seat) is ∙ (λ i. published_coord (same i).seat (zero-within i)))
+    (λ i. record {
+      hot = (ap (λ (l : LeadView). l.hot) is ∙ ap (λ (l : LeadView). l.hot) same) i;
+      before = (ap (λ (l : LeadView). l.before) is ∙ ap (λ (l : LeadView). l.before) same) i;
+      chosen = (ap (with_chosen chosen (lead.seat.phase + 1)) zero-within ∙ append-nil chosen) i;
+    })
+chooses-limited lead ready after chosen m (those_risen least counts some many risen-is same) is =
+    chooses_risen least counts some many (within_limit chosen m) (ap (within_limit chosen) risen-is)
+    (ap (λ (l : LeadView). l.seat) is ∙ ap (λ (l : LeadView). published_coord l.seat (within_limit chosen m)) same)
+    (ap (λ (l : LeadView). choice_of l (with_chosen chosen (lead.seat.phase + 1) (within_limit chosen m))) is
+    ∙ ap (λ (l : LeadView). choice_of l (with_chosen chosen (lead.seat.phase + 1) (within_limit chosen m))) same)
+
 -- after a choice the seat has published, and still has seen all in
 pub may-release : (c d : CoordSeatView) (v w : ChoiceView) → Chooses c v d w → SawAllIn c → MayRelease d
 may-release c d v w (chooses_none none published same) saw = subst MayRelease (sym published) (saw, λ joined. search rules)
@@ -159,12 +141,6 @@ release-is c d v w (releases_split joined ready (chooses_none none published sam
 release-is c d v w (releases_split joined ready (chooses_risen least counts some many m limit published same) is) =
     ((counted_from c 0 counts).counted, Some m, is ∙ ap released_coord published ∙ ap (λ (x : CoordSeatView). released_coord (published_coord x m)) (counted-is c 0 counts))
 
--- a release keeps as many counts for the next choice
-pub release-sized : (c d : CoordSeatView) (v w : ChoiceView) → ReleasesNext c v d w → length w.before ≡ length v.before
-release-sized c d v w (releases_joined split is same) = ap (λ (x : ChoiceView). length x.before) same
-release-sized c d v w (releases_split joined ready (chooses_none none published same) is) = ap (λ (x : ChoiceView). length x.before) same
-release-sized c d v w (releases_split joined ready (chooses_risen least counts some many m limit published same) is) = ap (λ (x : ChoiceView). length x.before) same ∙ many
-
 -- after a release a split phase has all gone only where the last sight had it
 pub release-gone : (c d : CoordSeatView) (v w : ChoiceView) → ReleasesNext c v d w → d.gone ≡ saw_all_gone c.last
 release-gone c d v w r = ap (λ (x : CoordSeatView). x.gone) (release-is c d v w r).2
@@ -172,10 +148,3 @@ release-gone c d v w r = ap (λ (x : CoordSeatView). x.gone) (release-is c d v w
 -- the board is the one that opened so
 pub release-opening : (c d : CoordSeatView) (v w : ChoiceView) → ReleasesNext c v d w → d.opening ≡ c.opening
 release-opening c d v w r = ap (λ (x : CoordSeatView). x.opening) (release-is c d v w r).2
-
--- as many counts are kept as before
-pub release-before : (c d : CoordSeatView) (v w : ChoiceView) → ReleasesNext c v d w → length w.before ≡ length v.before
-release-before c d v w (releases_joined split is same) = ap (λ (x : ChoiceView). length x.before) same
-release-before c d v w (releases_split joined ready (chooses_none none published same) is) = ap (λ (x : ChoiceView). length x.before) same
-release-before c d v w (releases_split joined ready (chooses_risen least counts some many m limit published same) is) =
-    ap (λ (x : ChoiceView). length x.before) same ∙ many

@@ -1,17 +1,16 @@
 -- What the coordinator's turns keep.
-use Rattle.std.proofs.Common.{◌≡◌, ℕ, true, false, subst, ap, sym, ◌∙◌, arith}
-use Rattle.like_core.specs.declared.event.Event.TheVariants.{CoordLook}
-use Rattle.like_core.specs.declared.shown.Shown.TheVariants.{Coord as CoordShown}
+use Rattle.std.proofs.Common.{◌≡◌, ℕ, List, true, false, subst, ap, sym, ◌∙◌, arith}
 use Rattle.like_core.specs.declared.sight.CoordSight.{CoordSight}
-use Rattle.like_core.specs.declared.view.View.TheVariants.{Coord}
 use Rattle.like_core.specs.views.Views.{announced_coord}
 use Rattle.like_core.specs.Phase.{IsJoined, IsSplit}
-use Rattle.like_core.specs.views.Shows.{IsStep}
+use Rattle.like_core.specs.views.Actions.{Surveys}
+use Rattle.like_seat.specs.Lead.{LeadView, saw_word}
+use Rattle.like_roles.specs.declared.chosen.Chosen.{Chosen}
 use Rattle.like_roles.specs.declared.coord_turn.CoordTurn.{CoordTurn}
 use Rattle.like_roles.specs.declared.coord_turn.CoordTurn.TheVariants.{Ended}
 use Rattle.like_roles.proofs.choice.Choosing.{release-gone}
 use Rattle.like_roles.proofs.choice.Releasing.{release-on}
-use Rattle.like_roles.specs.coordinator.CoordTurns.{Acts, ends, counts, stays, announces, releases, waits, ChoseByCounts, CoordinatorView, CoordTurns, HasEndedJoined, IsBeforeEnd, IsCoordSight, looks, surveyed}
+use Rattle.like_roles.specs.coordinator.CoordTurns.{Acts, ends, counts, stays, announces, releases, waits, ChoseByCounts, CoordinatorView, CoordTurns, HasEndedJoined, IsBeforeEnd, IsCoordSight, looks, surveyed, coordinator_of}
 
 -- no turn releases a split phase after all are gone
 pub before_end : (v : CoordinatorView) (answer : CoordTurn) (after : CoordinatorView) → CoordTurns v answer after → IsBeforeEnd v → IsBeforeEnd after
@@ -49,21 +48,17 @@ ended_joined v answer after t before is = shown t.acts
     shown (releases g n i seat choice r a e) = absurd (let clash = sym a ∙ is in cc)
     shown (waits g n i a e) = absurd (let clash = sym a ∙ is in cc)
 
--- the coordinator after a look
-pub record Looked (v w : CoordinatorView) (sight : CoordSight) : Type 0 where
-  pub shows : IsCoordSight v.seat sight
-  pub event : IsStep v.seat.opening CoordLook (CoordShown sight) (Coord v.seat) (Coord w.seat)
-  pub is : w ≡ surveyed v w.seat.word sight
-
--- what it does then is a turn case
-pub by_case : (v w : CoordinatorView) (sight : CoordSight) (answer : CoordTurn) (after : CoordinatorView) → Looked v w sight → Acts w sight answer after → CoordTurns v answer after
-by_case v w sight answer after l acts = record {
-  word = w.seat.word;
-  sight = sight;
-  shows = l.shows;
-  event = looks (subst (λ (x : CoordinatorView). IsStep v.seat.opening CoordLook (CoordShown sight) (Coord v.seat) (Coord x.seat)) l.is l.event);
-  acts = subst (λ (x : CoordinatorView). Acts x sight answer after) l.is acts;
-}
+-- what the coordinator does whose lead looked is a turn case
+pub by_case : (v : CoordinatorView) (lead after : LeadView) (turns left phase : ℕ) (chosen : List Chosen) (sight : CoordSight) (answer : CoordTurn) (w : CoordinatorView) → coordinator_of lead turns left phase chosen ≡ v
+    → IsCoordSight lead.seat sight → Surveys lead.seat sight after.seat → after ≡ saw_word lead after.seat.word sight → Acts (coordinator_of after turns left sight.number chosen) sight answer w → CoordTurns v answer w
+by_case v lead after turns left phase chosen sight answer w is shows event saw acts =
+    subst (λ (x : CoordinatorView). CoordTurns x answer w) is (record {
+      word = after.seat.word;
+      sight = sight;
+      shows = shows;
+      event = looks (subst (λ (x : LeadView). Surveys lead.seat sight x.seat) saw event);
+      acts = subst (λ (x : LeadView). Acts (coordinator_of x turns left sight.number chosen) sight answer w) saw acts;
+    })
 
 -- a turn steps on its own board
 pub same_board : (v : CoordinatorView) (answer : CoordTurn) (after : CoordinatorView) → CoordTurns v answer after → after.board ≡ v.board

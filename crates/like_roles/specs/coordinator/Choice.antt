@@ -1,13 +1,13 @@
 -- How the coordinator chooses hot pages: by how much the counts of pages rose since its last choice.
-use Rattle.std.specs.Prelude.{◌≡◌, ℕ, zero, suc, ◌+◌, ◌-◌, ◌%◌, ◌<◌, ◌≤◌, nat_lt, nat_le, Bool, if◌then◌else◌, List, [], ◌∷◌, ◌++◌, length, min, take, slice_index, All, Option, Some, None}
+use Rattle.std.specs.Prelude.{◌≡◌, ℕ, zero, suc, ◌+◌, ◌-◌, ◌%◌, ◌<◌, ◌≤◌, nat_lt, if◌then◌else◌, List, [], ◌∷◌, ◌++◌, length, min, slice_index, All, Option, Some, None}
 use Rattle.like_core.specs.declared.view.CoordSeatView.{CoordSeatView}
 use Rattle.like_core.specs.declared.view.PageCount.{PageCount}
 use Rattle.like_core.specs.Limits.{hot_pages}
 use Rattle.like_core.specs.Phase.{IsJoined, IsSplit}
 use Rattle.like_core.specs.PhaseMasks.{mask_of}
-use Rattle.like_core.specs.word.ShownWord.{mask}
-use Rattle.like_core.specs.views.Views.{counted_coord, published_coord, released_coord}
+use Rattle.like_core.specs.views.Views.{published_coord, released_coord}
 use Rattle.like_roles.specs.declared.chosen.Chosen.{Chosen}
+use Rattle.like_seat.specs.Lead.{LeadView, counted_from, of_hot_pages, risen}
 use Rattle.like_roles.specs.service.HotPages.{chosen_below, hot_by, max_chosen}
 
 -- what the coordinator chooses by: how many likes make a page hot, if any do; the counts at its last choice of the pages
@@ -19,22 +19,11 @@ pub record ChoiceView : Type 0 where
 
 -- what it begins with, where these are the pages' counts at the start
 abbrev pub first_choice : Option ℕ → List ℕ → ChoiceView
-first_choice hot counts =
-    record { hot = hot; before = take (min hot_pages (length counts)) counts; chosen = [] }
+first_choice hot counts = record { hot = hot; before = of_hot_pages counts; chosen = [] }
 
--- what the coordinator's seat knows after it read these counts, of the pages from this one on
-abbrev pub counted_from : CoordSeatView → ℕ → List ℕ → CoordSeatView
-counted_from c page [] = c
-counted_from c page (count ∷ counts) = counted_from (counted_coord c page count) (page + 1) counts
-
--- whether a page's count rose by at least so many
-abbrev pub has_risen : ℕ → List ℕ → List ℕ → ℕ → Bool
-has_risen least before counts page =
-    nat_le least (slice_index counts page - slice_index before page)
-
--- the mask of the pages whose counts rose by at least so many
-abbrev pub risen : ℕ → List ℕ → List ℕ → ℕ
-risen least before counts = mask (has_risen least before counts) (length before)
+-- what the coordinator chooses by whose lead this is, and whose choices these are
+abbrev pub choice_of : LeadView → List Chosen → ChoiceView
+choice_of lead chosen = record { hot = lead.hot; before = lead.before; chosen = chosen }
 
 -- the mask that is published: that one, as long as fewer than 1,024 choices were of some page
 abbrev pub within_limit : List Chosen → ℕ → ℕ

@@ -1,14 +1,16 @@
 -- The turns of the coordinator, case by case.
-use Rattle.std.specs.Prelude.{◌≡◌, ℕ, ◌-◌, ◌<◌, true, false, IsSomeAnd}
+use Rattle.std.specs.Prelude.{◌≡◌, ℕ, ◌-◌, ◌<◌, true, false, List, IsSomeAnd}
 use Rattle.like_core.specs.declared.sight.CoordSight.{CoordSight}
 use Rattle.like_core.specs.declared.view.CoordSeatView.{CoordSeatView}
 use Rattle.like_core.specs.Phase.{last_phase, IsJoined, IsSplit}
 use Rattle.like_core.specs.views.Actions.{Surveys}
 use Rattle.like_core.specs.views.Views.{announced_coord, looked_coord}
 use Rattle.like_board.specs.Seats.{BoardId}
+use Rattle.like_seat.specs.Lead.{LeadView}
+use Rattle.like_roles.specs.declared.chosen.Chosen.{Chosen}
 use Rattle.like_roles.specs.declared.coord_turn.CoordTurn.{CoordTurn}
 use Rattle.like_roles.specs.declared.coord_turn.CoordTurn.TheVariants.{Counted, Announced, Waiting, Released, Ended, Stays}
-use Rattle.like_roles.specs.coordinator.Choice.{AreTotals, ChoiceView, HasChosen, ReleasesNext}
+use Rattle.like_roles.specs.coordinator.Choice.{AreTotals, ChoiceView, HasChosen, ReleasesNext, choice_of}
 
 -- the coordinator as contracts see it: its board; what its seat knows; how many turns it counts in each phase, and how
 -- many of them the present phase has left; the phase of its last look; and what it chooses hot pages by
@@ -19,6 +21,17 @@ pub record CoordinatorView : Type 0 where
   pub left : ℕ
   pub phase : ℕ
   pub choice : ChoiceView
+
+-- the coordinator whose lead this is
+abbrev pub coordinator_of : LeadView → ℕ → ℕ → ℕ → List Chosen → CoordinatorView
+coordinator_of lead turns left phase chosen = record {
+  board = lead.board;
+  seat = lead.seat;
+  turns = turns;
+  left = left;
+  phase = phase;
+  choice = choice_of lead chosen;
+}
 
 -- what a look can show: the present phase, and whether it is ending; all in, once a look at this phase showed that; and
 -- all gone in a split phase only where the last sight before its release showed that

@@ -1,33 +1,42 @@
-use Rattle.std.proofs.Common.{◌≡◌, ◌%◌, ℕ, ap, sym, ◌∙◌, subst, arith}
+use Rattle.std.proofs.Common.{◌≡◌, ◌%◌, ◌==◌, ℕ, true, false, ap, sym, ◌∙◌, subst, arith}
+use Rattle.std.proofs.lemmas.Bool.{eq-eqb, eqb-true}
 use Rattle.like_core.specs.Phase.{IsJoined, IsSplit}
 use Rattle.like_core.specs.views.Views.{MayRelease, released_coord}
-use Rattle.like_board.specs.declared.coord_seat.CoordSeat.{CoordSeat}
-use Rattle.like_board.specs.Seats.{coord_view}
-use Rattle.like_roles.specs.coordinator.Choice.{ChoiceView, ReleasesNext, releases_joined, releases_split}
+use Rattle.like_seat.specs.Lead.{LeadView}
+use Rattle.like_roles.specs.coordinator.Choice.{ChoiceView, ReleasesNext, choice_of, releases_joined, releases_split}
 use Rattle.like_roles.proofs.choice.Choosing.{may-release}
 use Rattle.like_roles.proofs.coordinator.release.Goals as goal
-use Rattle.like_roles.proofs.coordinator.release.Goals.{then-phase-eq0, else-phase-eq0}
+use Rattle.like_roles.proofs.coordinator.release.Goals.{then-is_joined, else-is_joined}
 
 -- a phase that is not joined is split
-split : (phase known : ℕ) → phase ≡ known → (IsJoined phase → ⊥) → IsSplit known
-split phase known is other = omega (arith, is)
+split : (phase : ℕ) → (phase % 2 == 0) ≡ false → IsSplit phase
+split phase differs =
+    let other : IsJoined phase → ⊥ = λ even. (let clash : true ≡ false = sym (eq-eqb (phase % 2) 0 even) ∙ differs in cc) in
+    omega arith
 
 pub release-requires-clause-may : goal.release-requires-clause-may
 release-requires-clause-may c =
-    elim c.if-phase-eq0.branch [
-      | then-phase-eq0 w ↦ subst (λ (s : CoordSeat). MayRelease (coord_view s)) (sym w.seat-is) (may-release _ _ _ _ w.choose.ensures.case c.requires.saw)
-      | else-phase-eq0 w ↦ subst (λ (s : CoordSeat). MayRelease (coord_view s)) (sym w.seat-is)
-          (c.requires.saw, λ joined. absurd (w.if-phase-eq0.false (ap (λ n. n % 2) c.requires.phase ∙ joined)))
+    let phase = c.args.lead.now.seat.phase in
+    let tells : (phase % 2 == 0) ≡ c.is_joined.result = sym (c.is_joined.ensures ∙ c.requires.joined) in
+    elim c.if-is_joined.branch [
+      | then-is_joined w ↦ subst (λ (l : LeadView). MayRelease l.seat) (sym w.lead-is) (may-release _ _ _ _ w.choose.ensures.case c.requires.saw)
+      | else-is_joined w ↦ subst (λ (l : LeadView). MayRelease l.seat) (sym w.lead-is)
+          (c.requires.saw, λ joined. (let odd = split phase (tells ∙ w.if-is_joined.false) in absurd (omega arith)))
     ]
 
 pub returns-clause-releases : goal.returns-clause-releases
 returns-clause-releases c =
-    elim c.if-phase-eq0.branch [
-      | then-phase-eq0 w ↦
-          subst (λ (x : ChoiceView). ReleasesNext (coord_view c.args.seat.now) c.args.choice.now (coord_view c.release.new.self) x) (sym w.choice-is)
-          (releases_split (subst IsJoined c.requires.phase w.if-phase-eq0.true) (coord_view w.choose.new.seat) w.choose.ensures.case
-          (c.release.ensures.view ∙ ap (λ (s : CoordSeat). released_coord (coord_view s)) w.seat-is))
-      | else-phase-eq0 w ↦
-          releases_joined (split c.args.phase (coord_view c.args.seat.now).phase c.requires.phase w.if-phase-eq0.false)
-          (c.release.ensures.view ∙ ap (λ (s : CoordSeat). released_coord (coord_view s)) w.seat-is) w.choice-is
+    let lead = c.args.lead.now in
+    let phase = lead.seat.phase in
+    let tells : (phase % 2 == 0) ≡ c.is_joined.result = sym (c.is_joined.ensures ∙ c.requires.joined) in
+    let seat : c.release.new.self.seat ≡ released_coord c.if-is_joined.lead.seat = ap (λ (l : LeadView). l.seat) c.release.ensures in
+    let kept : choice_of c.release.new.self c.if-is_joined.choices ≡ choice_of c.if-is_joined.lead c.if-is_joined.choices = ap (λ (l : LeadView). choice_of l c.if-is_joined.choices) c.release.ensures in
+    elim c.if-is_joined.branch [
+      | then-is_joined w ↦
+          subst (λ (x : ChoiceView). ReleasesNext lead.seat (choice_of lead c.args.choices.now) c.release.new.self.seat x) (sym (kept ∙ (λ i. choice_of (w.lead-is i) (w.choices-is i))))
+          (releases_split (eqb-true (phase % 2) 0 (tells ∙ w.if-is_joined.true)) w.choose.new.lead.seat w.choose.ensures.case
+          (seat ∙ ap (λ (l : LeadView). released_coord l.seat) w.lead-is))
+      | else-is_joined w ↦
+          releases_joined (split phase (tells ∙ w.if-is_joined.false)) (seat ∙ ap (λ (l : LeadView). released_coord l.seat) w.lead-is)
+          (kept ∙ (λ i. choice_of (w.lead-is i) (w.choices-is i)))
     ]

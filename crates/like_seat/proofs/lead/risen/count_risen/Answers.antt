@@ -5,10 +5,10 @@ use Rattle.like_core.specs.declared.view.CoordSeatView.{CoordSeatView}
 use Rattle.like_core.specs.word.ShownWord.{weight}
 use Rattle.like_core.specs.views.Views.{counted_coord, MayCount}
 use Rattle.like_board.specs.Seats.{coord_view}
-use Rattle.like_roles.specs.coordinator.Choice.{counted_from, has_risen}
-use Rattle.like_roles.proofs.choice.Choosing.{bit-fits, bit-is, counted-more, mask-more, may-count}
-use Rattle.like_roles.proofs.coordinator.choice.count_risen.Goals as goal
-use Rattle.like_roles.proofs.coordinator.choice.count_risen.Goals.{then-saturating_sub-from, else-saturating_sub-from}
+use Rattle.like_seat.specs.Lead.{counted_from, has_risen}
+use Rattle.like_seat.proofs.Leading.{bit-fits, bit-is, counted-more, mask-more, may-count}
+use Rattle.like_seat.proofs.lead.risen.count_risen.Goals as goal
+use Rattle.like_seat.proofs.lead.risen.count_risen.Goals.{then-saturating_sub-from, else-saturating_sub-from}
 
 pub count-count-requires-clause-may : goal.count-count-requires-clause-may
 count-count-requires-clause-may c =

@@ -1,0 +1,89 @@
+-- What leads the phases of a board, and what each of its steps does to it.
+use Rattle.std.specs.Prelude.{◌≡◌, ℕ, ◌+◌, ◌-◌, ◌%◌, ◌==◌, ◌≤◌, nat_le, Bool, true, List, [], ◌∷◌, length, min, take, slice_index, Option, Some, None}
+use Rattle.like_board.specs.Seats.{BoardId}
+use Rattle.like_core.specs.declared.sight.CoordSight.{CoordSight}
+use Rattle.like_core.specs.declared.view.CoordSeatView.{CoordSeatView}
+use Rattle.like_core.specs.Limits.{hot_pages}
+use Rattle.like_core.specs.OpeningLimits.{number_of}
+use Rattle.like_core.specs.Phase.{IsSplit}
+use Rattle.like_core.specs.views.Actions.{Surveys}
+use Rattle.like_core.specs.views.Views.{announced_coord, counted_coord, looked_coord, published_coord, released_coord}
+use Rattle.like_core.specs.word.ShownWord.{mask}
+
+-- its board; what its seat knows; how many likes make a page hot, if any do; the counts at its last choice of the pages
+-- that may be hot; and whether the phase of its last look is joined
+pub record LeadView : Type 0 where
+  pub board : BoardId
+  pub seat : CoordSeatView
+  pub hot : Option ℕ
+  pub before : List ℕ
+  pub joined : Bool
+
+-- of the counts of all pages, those of the pages that may be hot
+abbrev pub of_hot_pages : List ℕ → List ℕ
+of_hot_pages counts = take (min hot_pages (length counts)) counts
+
+-- one that has done nothing yet, with this seat, where these are the pages' counts
+abbrev pub new_lead : BoardId → CoordSeatView → Option ℕ → List ℕ → LeadView
+new_lead board seat hot counts =
+    record { board = board; seat = seat; hot = hot; before = of_hot_pages counts; joined = true }
+
+-- what a look can show: the number of the present phase, which is no later than the last; whether it is ending; all in,
+-- once a look at this phase showed that; and all gone in a split phase only where the last sight before its release
+-- showed that
+pub record IsSightOf (c : CoordSeatView) (sight : CoordSight) : Type 0 where
+  pub number : sight.number ≡ number_of c.opening.limits c.phase
+  pub within : c.phase ≤ c.opening.limits.last_phase
+  pub ending : sight.ending ≡ c.ending
+  pub all_in : c.all_in ≡ true → sight.all_in ≡ true
+  pub all_gone : IsSplit c.phase → sight.all_gone ≡ true → c.gone ≡ true
+
+-- after a look at a word
+abbrev pub saw_word : LeadView → ℕ → CoordSight → LeadView
+saw_word v word sight =
+    record v { seat = looked_coord v.seat word sight; joined = v.seat.phase % 2 == 0 }
+
+-- it looks, and sees this: the look is the event of the core
+pub record Sees (v : LeadView) (sight : CoordSight) (after : LeadView) : Type 0 where
+  pub shows : IsSightOf v.seat sight
+  pub event : Surveys v.seat sight after.seat
+  pub saw : after ≡ saw_word v after.seat.word sight
+
+-- after an announcement
+abbrev pub announced : LeadView → LeadView
+announced v = record v { seat = announced_coord v.seat }
+
+-- after it read a page's count, which was this
+abbrev pub with_count : LeadView → ℕ → ℕ → LeadView
+with_count v page count = record v { seat = counted_coord v.seat page count }
+
+-- after it published a mask
+abbrev pub published : LeadView → ℕ → LeadView
+published v m = record v { seat = published_coord v.seat m }
+
+-- after a release
+abbrev pub released : LeadView → LeadView
+released v = record v { seat = released_coord v.seat }
+
+-- what the coordinator's seat knows after it read these counts, of the pages from this one on
+abbrev pub counted_from : CoordSeatView → ℕ → List ℕ → CoordSeatView
+counted_from c page [] = c
+counted_from c page (count ∷ counts) = counted_from (counted_coord c page count) (page + 1) counts
+
+-- whether a page's count rose by at least so many
+abbrev pub has_risen : ℕ → List ℕ → List ℕ → ℕ → Bool
+has_risen least before counts page =
+    nat_le least (slice_index counts page - slice_index before page)
+
+-- the mask of the pages whose counts rose by at least so many
+abbrev pub risen : ℕ → List ℕ → List ℕ → ℕ
+risen least before counts = mask (has_risen least before counts) (length before)
+
+-- it chooses the hot pages of the split phase that comes next, and this is their mask: none where none are to be hot;
+-- else it reads the counts of the pages that may be, chooses those whose counts rose enough, and keeps the counts
+pub data ChoosesRisen (v : LeadView) (m : ℕ) (after : LeadView) : Type 0 where
+  none_asked : v.hot ≡ None → m ≡ 0 → after ≡ v → ChoosesRisen v m after
+  those_risen : (least : ℕ) (counts : List ℕ) → v.hot ≡ Some least → length counts ≡ length v.before
+      → m ≡ risen least v.before counts
+      → after ≡ record v { seat = counted_from v.seat 0 counts; before = counts }
+      → ChoosesRisen v m after
