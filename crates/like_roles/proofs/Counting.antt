@@ -46,9 +46,9 @@ liked-slice s t d user page is room seat there c =
     let more : sum now.slice ≡ sum s.slice + 1 = omega (arith, sum_by-set (λ x. x) s.slice page (get_or s.slice page 0 + 1) 0 inside) in
     let before = is.sound.room in (
       settled-after s t d d is seat (ap (λ (x : SeatView Held). x.post.limits) c.1) (ap (λ (x : SeatView Held). x.last.share) c.1)
-      (subst (λ xs. All (IsOwn t) xs) (sym (ap (λ (x : SeatView Held). x.held.held) c.1)) (AreOwn-moved s t s.held.held (ap (λ (x : SeatView Held). x.last.share) c.1) (ap (λ (x : SeatView Held). x.post.marks) c.1) is.sound.held))
-      (subst (λ x. HasRoom x d) (sym c.1) (record { taken = before.taken; ran = before.ran; few_ran = before.few_ran; adds = λ n. omega (arith, room.adds n, more); few = omega (arith, room.few, more) }))
-      refl,
+          (subst (λ xs. All (IsOwn t) xs) (sym (ap (λ (x : SeatView Held). x.held.held) c.1)) (AreOwn-moved s t s.held.held (ap (λ (x : SeatView Held). x.last.share) c.1) (ap (λ (x : SeatView Held). x.post.marks) c.1) is.sound.held))
+          (subst (λ x. HasRoom x d) (sym c.1) (record { taken = before.taken; ran = before.ran; few_ran = before.few_ran; adds = λ n. omega (arith, room.adds n, more); few = omega (arith, room.few, more) }))
+          refl,
       subst (λ x. HasRoomToNote x d) (sym c.1) (record { ran = room.ran }),
       (0, ap (λ x. view_of x d) c.1 ∙ sym (ap (λ (b : Bool). record (cond b (view_of (sliced s page) d) (serve.with_addition v page 0 1)) { last = with_last s.last user page }) c.0)),
     )
@@ -64,15 +64,15 @@ liked-board s t d e user page phase count is room seat c phase_is h =
     let noted : view_of now e ≡ serve.noting (view_of now d) page count 1 = noting-view now d e phase page count 1 h phase_is in
     let all : IsSettled now e → IsSettled t e = subst (λ x. IsSettled x e) (sym c.1) in (
       settled-after s t d e is seat (ap (λ (x : SeatView Held). x.post.limits) c.1) (ap (λ (x : SeatView Held). x.last.share) c.1)
-      (subst (λ xs. All (IsOwn t) xs) (sym (ap (λ (x : SeatView Held). x.held.held) c.1)) (AreOwn-moved s t s.held.held (ap (λ (x : SeatView Held). x.last.share) c.1) (ap (λ (x : SeatView Held). x.post.marks) c.1) is.sound.held))
-      (subst (λ x. HasRoom x e) (sym c.1) (subst (λ x. HasRoom now x) (sym h.rest) (record {
-        taken = before.taken;
-        ran = before.ran;
-        few_ran = before.few_ran;
-        adds = λ n. omega (arith, room.adds n, h.len n, h.capacity);
-        few = omega (arith, room.few, more);
-      })))
-      h.rest,
+          (subst (λ xs. All (IsOwn t) xs) (sym (ap (λ (x : SeatView Held). x.held.held) c.1)) (AreOwn-moved s t s.held.held (ap (λ (x : SeatView Held). x.last.share) c.1) (ap (λ (x : SeatView Held). x.post.marks) c.1) is.sound.held))
+          (subst (λ x. HasRoom x e) (sym c.1) (subst (λ x. HasRoom now x) (sym h.rest) (record {
+            taken = before.taken;
+            ran = before.ran;
+            few_ran = before.few_ran;
+            adds = λ n. omega (arith, room.adds n, h.len n, h.capacity);
+            few = omega (arith, room.few, more);
+          })))
+          h.rest,
       subst (λ x. HasRoomToNote x e) (sym c.1) (subst (λ x. HasRoomToNote now x) (sym h.rest) (record { ran = room.ran })),
       (count, ap (λ x. view_of x e) c.1 ∙ (noted ∙ sym (ap (λ (b : Bool). record (cond b (view_of (sliced s page) d) (serve.with_addition v page count 1)) { last = with_last s.last user page }) c.0))),
     )

@@ -191,7 +191,10 @@ impl<P: Post> Worker<P> {
         let Worker { seat, desk } = self;
         let (post, last) = seat.finish();
         let Desk {
-            taken, ran, adds, ..
+            taken,
+            ran,
+            adds,
+            ..
         } = desk;
         let log = WorkerLog {
             taken,

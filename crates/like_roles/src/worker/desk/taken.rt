@@ -5,8 +5,8 @@ ghost use Rattle.like_roles.specs.worker.Turns.{CanGive, Gives, IsNext, TakesAsk
 use crate::gate::Gate;
 use crate::log::Took;
 use crate::turn::Turn;
-use crate::worker::desk::{Desk, phase_of_run};
 use crate::worker::desk::request::waits;
+use crate::worker::desk::{Desk, phase_of_run};
 use like_core::Post;
 use like_requests::{Numbered, Taken};
 use like_seat::Seat;
@@ -14,7 +14,12 @@ use like_tables::Held;
 
 impl Desk {
     /// Completes a turn by what was taken from the submitter that was tried.
-    pub fn give<P: Post, G: Gate>(&mut self, seat: &mut Seat<P, Held>, gate: &G, taken: Taken) -> Turn
+    pub fn give<P: Post, G: Gate>(
+        &mut self,
+        seat: &mut Seat<P, Held>,
+        gate: &G,
+        taken: Taken,
+    ) -> Turn
         requires sound { IsSound seat.old self.old }
         requires tried { IsSome self.old.pending }
         requires given { CanGive (view_of seat.old self.old) taken }
