@@ -12,7 +12,7 @@ use Rattle.like_roles.specs.coordinator.CoordTurns as turns
 use Rattle.like_roles.specs.coordinator.CoordTurns.{Acts, CoordTurns, CoordinatorView, surveyed}
 use Rattle.like_crew.specs.Server.{ServerGoesOn, ServerView}
 use Rattle.like_crew.specs.declared.crew.Crew.{Crew}
-use Rattle.like_crew.specs.Crew.{GoesOn, HasInbox, LeadGoesOn}
+use Rattle.like_crew.specs.Crew.{GoesOn, HasInbox, CaptainGoesOn}
 use Rattle.like_crew.proofs.servers.Later.{all-further-both, all-same}
 use Rattle.like_crew.proofs.lists.Pairs.{pairs-length}
 
@@ -54,27 +54,27 @@ hot-acts v sight answer w (turns.announces g e l n a x) = ap (λ (y : Coordinato
 hot-acts v sight answer w (turns.releases g e i seat choice r a x) = ap (λ (y : CoordinatorView). y.choice.hot) x ∙ release-hot _ _ _ _ r
 hot-acts v sight answer w (turns.waits g e i a x) = ap (λ (y : CoordinatorView). y.choice.hot) x
 
-pub lead-goes-on : (v : CoordinatorView) (answer : CoordTurn) (w : CoordinatorView) → CoordTurns v answer w → LeadGoesOn v w
-lead-goes-on v answer w t = record {
+pub captain-goes-on : (v : CoordinatorView) (answer : CoordTurn) (w : CoordinatorView) → CoordTurns v answer w → CaptainGoesOn v w
+captain-goes-on v answer w t = record {
   board = board-acts (surveyed v t.word t.sight) t.sight answer w t.acts;
   opening = opening-acts (surveyed v t.word t.sight) t.sight answer w t.acts;
   turns = turns-acts (surveyed v t.word t.sight) t.sight answer w t.acts;
   hot = hot-acts (surveyed v t.word t.sight) t.sight answer w t.acts;
 }
 
-pub lead-same : (v : CoordinatorView) → LeadGoesOn v v
-lead-same v = record { board = refl; opening = refl; turns = refl; hot = refl }
+pub captain-same : (v : CoordinatorView) → CaptainGoesOn v v
+captain-same v = record { board = refl; opening = refl; turns = refl; hot = refl }
 
-pub lead-further : (u v w : CoordinatorView) → LeadGoesOn u v → LeadGoesOn v w → LeadGoesOn u w
-lead-further u v w a b = record { board = b.board ∙ a.board; opening = b.opening ∙ a.opening; turns = b.turns ∙ a.turns; hot = b.hot ∙ a.hot }
+pub captain-further : (u v w : CoordinatorView) → CaptainGoesOn u v → CaptainGoesOn v w → CaptainGoesOn u w
+captain-further u v w a b = record { board = b.board ∙ a.board; opening = b.opening ∙ a.opening; turns = b.turns ∙ a.turns; hot = b.hot ∙ a.hot }
 
 -- the crew
 pub crew-same : {I : Type 0} (c : Crew I) → GoesOn c c
-crew-same c = record { lead = lead-same c.lead; servers = all-same c.servers.items }
+crew-same c = record { captain = captain-same c.captain; servers = all-same c.servers.items }
 
 pub crew-further : {I : Type 0} (b c d : Crew I) → GoesOn b c → GoesOn c d → GoesOn b d
 crew-further b c d e f = record {
-  lead = lead-further b.lead c.lead d.lead e.lead f.lead;
+  captain = captain-further b.captain c.captain d.captain e.captain f.captain;
   servers = all-further-both b.servers.items c.servers.items d.servers.items e.servers f.servers;
 }
 

@@ -20,7 +20,7 @@ use Rattle.like_core.specs.declared.view.CoordSeatView.{CoordSeatView}
 use Rattle.like_roles.specs.coordinator.Choice.{AreTotals, HasChosen}
 use Rattle.like_crew.specs.Servers.{AreServers, IsServer}
 use Rattle.like_crew.specs.Server.{ServerGoesOn, ServerView, plans_of}
-use Rattle.like_crew.proofs.Coordinated.{lead-further}
+use Rattle.like_crew.proofs.Coordinated.{captain-further}
 use Rattle.like_crew.proofs.servers.Later.{all-further-both}
 use Rattle.like_crew.proofs.servers.Shares.{plan-at}
 use Rattle.like_crew.proofs.lists.Pairs.{pairs-at, pairs-both, pairs-length}
@@ -74,14 +74,14 @@ has-ended setup plans site c e is h = record {
   gone = h.left.gone;
   logs = h.left.logs_are;
   seats = h.left.seats_are;
-  coord = h.lead_is.coord ∙ h.later.board ∙ is.board;
-  opening = ap (λ (v : CoordSeatView). v.opening) h.lead_is.view ∙ h.later.opening ∙ is.opening;
-  phases = h.lead_is.phases ∙ h.lead_is.ended.phase ∙ ap (λ (v : CoordSeatView). v.phase) (sym h.lead_is.view);
-  joined = subst (λ n. n % 2 ≡ 0) (sym h.lead_is.phases) h.lead_is.ended.joined;
-  choice = h.lead.choice;
+  coord = h.captain_is.coord ∙ h.later.board ∙ is.board;
+  opening = ap (λ (v : CoordSeatView). v.opening) h.captain_is.view ∙ h.later.opening ∙ is.opening;
+  phases = h.captain_is.phases ∙ h.captain_is.ended.phase ∙ ap (λ (v : CoordSeatView). v.phase) (sym h.captain_is.view);
+  joined = subst (λ n. n % 2 ≡ 0) (sym h.captain_is.phases) h.captain_is.ended.joined;
+  choice = h.captain.choice;
   hot = h.later.hot ∙ is.hot;
-  chosen = h.lead_is.chosen;
-  chose = subst (λ (v : CoordSeatView). (total : ℕ → ℕ → ℕ) → AreTotals total v.counted → HasChosen v h.lead.choice total) (sym h.lead_is.view) h.lead_is.chose;
+  chosen = h.captain_is.chosen;
+  chose = subst (λ (v : CoordSeatView). (total : ℕ → ℕ → ℕ) → AreTotals total v.counted → HasChosen v h.captain.choice total) (sym h.captain_is.view) h.captain_is.chose;
 }
 
 -- what is left of a crew later is left of the crew
@@ -94,7 +94,7 @@ ended-later c d e on h = record {
     logs_are = h.left.logs_are;
     seats_are = h.left.seats_are;
   };
-  lead = h.lead;
-  later = lead-further c.lead d.lead h.lead on.lead h.later;
-  lead_is = h.lead_is;
+  captain = h.captain;
+  later = captain-further c.captain d.captain h.captain on.captain h.later;
+  captain_is = h.captain_is;
 }

@@ -16,7 +16,7 @@ use Rattle.like_crew.specs.Site.{opening_of}
 
 -- the same coordinator, later: of the same board, which opened in the same way, with as many turns in each phase and as
 -- many likes that make a page hot
-pub record LeadGoesOn (v w : CoordinatorView) : Type 0 where
+pub record CaptainGoesOn (v w : CoordinatorView) : Type 0 where
   pub board : w.board ≡ v.board
   pub opening : w.seat.opening ≡ v.seat.opening
   pub turns : w.turns ≡ v.turns
@@ -24,15 +24,15 @@ pub record LeadGoesOn (v w : CoordinatorView) : Type 0 where
 
 -- the same crew, later
 pub record GoesOn {I : Type 0} (c d : Crew I) : Type 0 where
-  pub lead : LeadGoesOn c.lead d.lead
+  pub captain : CaptainGoesOn c.captain d.captain
   pub servers : AllZip ServerGoesOn c.servers.items d.servers.items
 
 -- the crew of a run of these plans, at the board of this site
 pub record IsCrew {I : Type 0} (setup : Setup) (plans : List (List Request)) (site : Site) (c : Crew I) : Type 0 where
-  pub board : c.lead.board ≡ board_id site.board
-  pub opening : c.lead.seat.opening ≡ opening_of setup
-  pub turns : c.lead.turns ≡ setup.turns
-  pub hot : c.lead.choice.hot ≡ setup.hot
+  pub board : c.captain.board ≡ board_id site.board
+  pub opening : c.captain.seat.opening ≡ opening_of setup
+  pub turns : c.captain.turns ≡ setup.turns
+  pub hot : c.captain.choice.hot ≡ setup.hot
   pub servers : AreServers (service_of setup plans) setup.workers (board_numbers (board_id site.board)) site.notes
       c.servers.items
 

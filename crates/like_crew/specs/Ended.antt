@@ -16,7 +16,7 @@ use Rattle.like_crew.specs.declared.ended.Ended.{Ended}
 use Rattle.like_crew.specs.declared.site.Site.{Site}
 use Rattle.like_crew.specs.Asked.{service_of}
 use Rattle.like_crew.specs.Site.{opening_of}
-use Rattle.like_crew.specs.Crew.{AreGone, LeadGoesOn}
+use Rattle.like_crew.specs.Crew.{AreGone, CaptainGoesOn}
 use Rattle.like_crew.specs.Server.{IsLogOf, ServerGoesOn, ServerView}
 use Rattle.like_crew.specs.Servers.{AreServers}
 
@@ -49,7 +49,7 @@ pub record AreLeft (board : BoardId) (coord : CoordSeat) (seats : List WorkerSea
 
 -- the coordinator found the run ended, in a joined phase, and chose by the counts that it read; and it left this phase,
 -- this seat and its choices
-pub record IsLeadOf (v : CoordinatorView) (e : Ended) : Type 0 where
+pub record IsCaptainOf (v : CoordinatorView) (e : Ended) : Type 0 where
   pub ended : HasEndedJoined v
   pub coord : coord_board e.coord ≡ v.board
   pub view : coord_view e.coord ≡ v.seat
@@ -60,9 +60,9 @@ pub record IsLeadOf (v : CoordinatorView) (e : Ended) : Type 0 where
 -- a crew went on from this one until its run had ended, and left this
 pub record HasEnded {I : Type 0} (c : Crew I) (e : Ended) : Type 0 where
   pub left : HaveLeft c.servers.items e.logs.items e.seats.items
-  pub lead : CoordinatorView
-  pub later : LeadGoesOn c.lead lead
-  pub lead_is : IsLeadOf lead e
+  pub captain : CoordinatorView
+  pub later : CaptainGoesOn c.captain captain
+  pub captain_is : IsCaptainOf captain e
 
 -- a run of these plans at this site that has ended: its workers are gone, and their servers left these logs and seats;
 -- and it ended in a joined phase, which is the last one that the coordinator's seat knows; and the coordinator chose by

@@ -18,21 +18,21 @@ use like_requests::{Request, Setup};
 use like_roles::{CoordTurn, Turn};
 use std::alloc::{AllocError, Global};
 
+mod captain;
 mod hands;
-mod lead;
 mod lists;
 mod new_servers;
 mod server;
 mod servers;
 
-pub use lead::Lead;
+pub use captain::Captain;
 pub use server::Server;
 
 /// The crew of a run: the coordinator at its board, and for each worker, in order, its server, which takes from inboxes
 /// of one kind.
 #[derive(Drop)]
 pub struct Crew<'a, I: Inbox> {
-    pub lead: Lead<'a>,
+    pub captain: Captain<'a>,
     pub servers: Vec<Server<BoardPost<'a>, I>>,
 }
 
@@ -62,7 +62,7 @@ impl<'a, I: Inbox> Crew<'a, I> {
             workers,
             inboxes,
         )?;
-        let lead = Lead::new(
+        let captain = Captain::new(
             alloc,
             &site.board,
             coord,
@@ -70,18 +70,18 @@ impl<'a, I: Inbox> Crew<'a, I> {
             setup.hot,
             &site.counts,
         )?;
-        Ok(Crew { lead, servers })
+        Ok(Crew { captain, servers })
     }
 
     /// Takes a crew apart whose run has ended.
     pub fn finish(self, alloc: Global) -> Result<Ended, AllocError>
-        requires ended { HasEndedJoined self.lead }
+        requires ended { HasEndedJoined self.captain }
         requires gone { AreGone self.servers.items }
         ensures { IfOk result (HasEnded self.entry) }
     {
-        let Crew { lead, servers } = self;
+        let Crew { captain, servers } = self;
         let (logs, seats) = finish_all(alloc, servers)?;
-        Ok(Ended::new(lead, logs, seats))
+        Ok(Ended::new(captain, logs, seats))
     }
 }
 
@@ -106,10 +106,10 @@ impl<'a> Crew<'a, ListInbox> {
     /// Makes one turn of the coordinator and one of each worker, in order, and says whether the run ended with it.
     pub fn round(&mut self) -> bool
         ensures goes_on { GoesOn self.old self.new }
-        ensures ended { result ≡ true → HasEndedJoined self.new.lead }
+        ensures ended { result ≡ true → HasEndedJoined self.new.captain }
         ensures gone { result ≡ true → AreGone self.new.servers.items }
     {
-        let ended = self.lead.ends();
+        let ended = self.captain.ends();
         let gone = turns(&mut self.servers);
         ended && gone
     }
@@ -118,7 +118,7 @@ impl<'a> Crew<'a, ListInbox> {
     pub fn turn(&mut self) -> CoordTurn
         ensures { GoesOn self.old self.new }
     {
-        self.lead.turn()
+        self.captain.turn()
     }
 
     /// Makes one turn of a worker.

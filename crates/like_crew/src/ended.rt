@@ -1,8 +1,8 @@
 ghost use Rattle.std.specs.Prelude.{◌≡◌};
 ghost use Rattle.like_roles.specs.coordinator.CoordTurns.{HasEndedJoined};
-ghost use Rattle.like_crew.specs.Ended.{IsLeadOf};
+ghost use Rattle.like_crew.specs.Ended.{IsCaptainOf};
 
-use crate::crew::Lead;
+use crate::crew::Captain;
 use like_board::{CoordSeat, WorkerSeat};
 use like_roles::{Chosen, WorkerLog};
 
@@ -20,13 +20,13 @@ pub struct Ended {
 
 impl Ended {
     /// What a coordinator leaves, with the logs and the seats of the workers.
-    pub fn new(lead: Lead<'_>, logs: Vec<WorkerLog>, seats: Vec<WorkerSeat>) -> Ended
-        requires { HasEndedJoined lead }
-        ensures lead { IsLeadOf lead.entry result }
+    pub fn new(captain: Captain<'_>, logs: Vec<WorkerLog>, seats: Vec<WorkerSeat>) -> Ended
+        requires { HasEndedJoined captain }
+        ensures captain { IsCaptainOf captain.entry result }
         ensures logs { result.logs ≡ logs }
         ensures seats { result.seats ≡ seats }
     {
-        let coordinator = lead.coordinator;
+        let coordinator = captain.coordinator;
         let phases = coordinator.phase();
         let (coord, chosen) = coordinator.finish();
         Ended {

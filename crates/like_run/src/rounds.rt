@@ -129,7 +129,7 @@ fn make(crew: &mut Crew<'_, ListInbox>, entry: &Turned)
 // Makes rounds until the run ended.
 fn make_rounds(crew: &mut Crew<'_, ListInbox>) -> Result<(), ReplayFault>
     ensures goes_on { GoesOn crew.old crew.new }
-    ensures ended { OnOk result (HasEndedJoined crew.new.lead) }
+    ensures ended { OnOk result (HasEndedJoined crew.new.captain) }
     ensures gone { OnOk result (AreGone crew.new.servers.items) }
     ensures fault { IfErr result (λ fault. fault ≡ ReplayFault.Unfinished) }
 {

@@ -213,7 +213,10 @@ fn in_scope<'s, E, R: Threads + Wait + Sync, G: Gate>(
     ensures ended { IfOk result (HasEndedOn starts crew.entry ends.entry.items) }
     ensures fault { IfErr result IsRunFaultUnderWay }
 {
-    let Crew { mut lead, servers } = crew;
+    let Crew {
+        mut captain,
+        servers,
+    } = crew;
     let Room {
         mut workers,
         mut submitters,
@@ -234,7 +237,7 @@ fn in_scope<'s, E, R: Threads + Wait + Sync, G: Gate>(
     let Some(go) = tell(rt, start, all) else {
         return Err(RunFault::Start);
     };
-    coordinate(rt, parkers, &mut lead);
+    coordinate(rt, parkers, &mut captain);
     join_all(rt, workers, &go, &mut logs, &mut seats);
-    Ok(Ended::new(lead, logs, seats))
+    Ok(Ended::new(captain, logs, seats))
 }

@@ -48,9 +48,9 @@ returns-clause-ended g c =
       ended = record {
         left = subst (λ (logs : Vec WorkerLog Global). HaveLeft servers logs.items c.new-2.result.seats.items) (sym c.new-2.ensures.logs)
             (subst (λ (seats : Vec WorkerSeat Global). HaveLeft servers c.join_all.new.logs.items seats.items) (sym c.new-2.ensures.seats) left);
-        lead = c.coordinate.new.lead;
+        captain = c.coordinate.new.captain;
         later = c.coordinate.ensures.goes_on;
-        lead_is = c.new-2.ensures.lead;
+        captain_is = c.new-2.ensures.captain;
       };
       enough = elim c.if-start_workers.branch [
         | then-start_workers w ↦

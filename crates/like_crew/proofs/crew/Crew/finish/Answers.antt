@@ -4,7 +4,7 @@ use Rattle.like_board.specs.declared.worker_seat.WorkerSeat.{WorkerSeat}
 use Rattle.like_roles.specs.declared.log.WorkerLog.{WorkerLog}
 use Rattle.like_crew.specs.Server.{IsLogOf}
 use Rattle.like_crew.specs.Ended.{IsSeatOf}
-use Rattle.like_crew.proofs.Coordinated.{lead-same}
+use Rattle.like_crew.proofs.Coordinated.{captain-same}
 use Rattle.like_crew.proofs.servers.Later.{all-same}
 use Rattle.like_crew.proofs.crew.Crew.finish.Goals as goal
 
@@ -19,7 +19,7 @@ returns g c =
         logs_are = subst (λ (logs : Vec WorkerLog Global). AllZip IsLogOf servers logs.items) (sym c.new.ensures.logs) c.in_ok-logs.ensures.logs;
         seats_are = subst (λ (seats : Vec WorkerSeat Global). AllZip IsSeatOf servers seats.items) (sym c.new.ensures.seats) c.in_ok-logs.ensures.seats;
       };
-      lead = c.args.self.lead;
-      later = lead-same c.args.self.lead;
-      lead_is = c.new.ensures.lead;
+      captain = c.args.self.captain;
+      later = captain-same c.args.self.captain;
+      captain_is = c.new.ensures.captain;
     }

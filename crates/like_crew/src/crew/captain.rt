@@ -2,7 +2,7 @@ ghost use Rattle.std.specs.Prelude.{◌≡◌, [], IfOk, true};
 ghost use Rattle.like_core.specs.OpeningLimits.{run_limits};
 ghost use Rattle.like_board.specs.Seats.{board_id, coord_board, coord_view};
 ghost use Rattle.like_roles.specs.coordinator.CoordTurns.{CoordTurns, HasEndedJoined};
-ghost use Rattle.like_crew.specs.Crew.{LeadGoesOn};
+ghost use Rattle.like_crew.specs.Crew.{CaptainGoesOn};
 
 use like_board::{Board, CoordSeat};
 use like_roles::{CoordTurn, Coordinator};
@@ -11,12 +11,12 @@ use std::marker::Model;
 
 /// The coordinator at its board.
 #[derive(Drop)]
-pub struct Lead<'a> {
+pub struct Captain<'a> {
     board: &'a Board,
     pub(crate) coordinator: Coordinator,
 }
 
-impl<'a> Model for Lead<'a> {
+impl<'a> Model for Captain<'a> {
     ghost use Rattle.std.specs.Prelude.{◌≡◌};
     ghost use Rattle.like_board.specs.Seats.{board_id};
     ghost use Rattle.like_roles.specs.coordinator.CoordTurns.{ChoseByCounts, CoordinatorView, IsBeforeEnd};
@@ -29,7 +29,7 @@ impl<'a> Model for Lead<'a> {
         × ChoseByCounts l.coordinator };
 }
 
-impl<'a> Lead<'a> {
+impl<'a> Captain<'a> {
     /// The coordinator at this board, which was made with these counts and the limits of a run; it counts so many turns
     /// in each phase, and `hot` likes make a page hot.
     pub(crate) fn new(
@@ -39,19 +39,19 @@ impl<'a> Lead<'a> {
         turns: u32,
         hot: Option<u32>,
         counts: &[u64],
-    ) -> Result<Lead<'a>, AllocError>
+    ) -> Result<Captain<'a>, AllocError>
         requires here { coord_board seat ≡ board_id board.now }
         requires counts { counts.now ≡ (coord_view seat).opening.counts }
         requires limits { (coord_view seat).opening.limits ≡ run_limits }
         requires new { (coord_view seat).phase ≡ 0 }
         requires no_masks { (coord_view seat).masks ≡ [] }
-        ensures board { IfOk result (λ lead. lead.board ≡ board_id board.now) }
-        ensures seat { IfOk result (λ lead. lead.seat ≡ coord_view seat) }
-        ensures turns { IfOk result (λ lead. lead.turns ≡ turns) }
-        ensures hot { IfOk result (λ lead. lead.choice.hot ≡ hot) }
+        ensures board { IfOk result (λ captain. captain.board ≡ board_id board.now) }
+        ensures seat { IfOk result (λ captain. captain.seat ≡ coord_view seat) }
+        ensures turns { IfOk result (λ captain. captain.turns ≡ turns) }
+        ensures hot { IfOk result (λ captain. captain.choice.hot ≡ hot) }
     {
         match Coordinator::new(alloc, seat, turns, hot, counts) {
-            Ok(coordinator) => Ok(Lead { board, coordinator }),
+            Ok(coordinator) => Ok(Captain { board, coordinator }),
             Err(_) => Err(AllocError),
         }
     }
@@ -59,7 +59,7 @@ impl<'a> Lead<'a> {
     /// Makes its next turn.
     pub fn turn(&mut self) -> CoordTurn
         ensures case { CoordTurns self.old result self.new }
-        ensures goes_on { LeadGoesOn self.old self.new }
+        ensures goes_on { CaptainGoesOn self.old self.new }
         ensures ended { result ≡ CoordTurn.Ended → HasEndedJoined self.new }
     {
         let board = self.board;
@@ -69,7 +69,7 @@ impl<'a> Lead<'a> {
     /// Makes its next turn, and says whether it found the run ended.
     pub fn ends(&mut self) -> bool
         ensures case { (answer : CoordTurn) × CoordTurns self.old answer self.new }
-        ensures goes_on { LeadGoesOn self.old self.new }
+        ensures goes_on { CaptainGoesOn self.old self.new }
         ensures ended { result ≡ true → HasEndedJoined self.new }
     {
         match self.turn() {

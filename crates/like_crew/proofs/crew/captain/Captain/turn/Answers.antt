@@ -1,8 +1,8 @@
 use Rattle.std.proofs.Common.{subst, ◌∙◌}
 use Rattle.like_roles.specs.coordinator.CoordTurns.{CoordTurns}
-use Rattle.like_crew.specs.Crew.{LeadGoesOn}
-use Rattle.like_crew.proofs.Coordinated.{lead-goes-on}
-use Rattle.like_crew.proofs.crew.lead.Lead.turn.Goals as goal
+use Rattle.like_crew.specs.Crew.{CaptainGoesOn}
+use Rattle.like_crew.proofs.Coordinated.{captain-goes-on}
+use Rattle.like_crew.proofs.crew.captain.Captain.turn.Goals as goal
 
 pub invariant_of-self : goal.invariant_of-self
 invariant_of-self c = (
@@ -16,4 +16,4 @@ returns-clause-case c = subst (λ v. CoordTurns v c.turn.result c.turn.new.self)
 
 pub returns-clause-goes_on : goal.returns-clause-goes_on
 returns-clause-goes_on c =
-    subst (λ v. LeadGoesOn v c.turn.new.self) c.self.view_is (lead-goes-on c.self.inside.coordinator c.turn.result c.turn.new.self c.turn.ensures.case)
+    subst (λ v. CaptainGoesOn v c.turn.new.self) c.self.view_is (captain-goes-on c.self.inside.coordinator c.turn.result c.turn.new.self c.turn.ensures.case)
