@@ -45,7 +45,7 @@ liked-slice s t d user page is room seat there c =
     let inside : page < length s.slice = omega (arith, is.sound.seat.sized) in
     let more : sum now.slice ≡ sum s.slice + 1 = omega (arith, sum_by-set (λ x. x) s.slice page (get_or s.slice page 0 + 1) 0 inside) in
     let before = is.sound.room in (
-      settled-after s t d d is seat (ap (λ (x : SeatView Held). x.post.limits) c.1) (ap (λ (x : SeatView Held). x.last.share) c.1)
+      settled-after s t d d is seat (ap (λ (x : SeatView Held). x.post.limits) c.1) (ap (λ (x : SeatView Held). x.post.last) c.1) (ap (λ (x : SeatView Held). x.last.share) c.1)
           (subst (λ xs. All (IsOwn t) xs) (sym (ap (λ (x : SeatView Held). x.held.held) c.1)) (AreOwn-moved s t s.held.held (ap (λ (x : SeatView Held). x.last.share) c.1) (ap (λ (x : SeatView Held). x.post.marks) c.1) is.sound.held))
           (subst (λ x. HasRoom x d) (sym c.1) (record { taken = before.taken; ran = before.ran; few_ran = before.few_ran; adds = λ n. omega (arith, room.adds n, more); few = omega (arith, room.few, more) }))
           refl,
@@ -63,7 +63,7 @@ liked-board s t d e user page phase count is room seat c phase_is h =
     let before = is.sound.room in
     let noted : view_of now e ≡ serve.noting (view_of now d) page count 1 = noting-view now d e phase page count 1 h phase_is in
     let all : IsSettled now e → IsSettled t e = subst (λ x. IsSettled x e) (sym c.1) in (
-      settled-after s t d e is seat (ap (λ (x : SeatView Held). x.post.limits) c.1) (ap (λ (x : SeatView Held). x.last.share) c.1)
+      settled-after s t d e is seat (ap (λ (x : SeatView Held). x.post.limits) c.1) (ap (λ (x : SeatView Held). x.post.last) c.1) (ap (λ (x : SeatView Held). x.last.share) c.1)
           (subst (λ xs. All (IsOwn t) xs) (sym (ap (λ (x : SeatView Held). x.held.held) c.1)) (AreOwn-moved s t s.held.held (ap (λ (x : SeatView Held). x.last.share) c.1) (ap (λ (x : SeatView Held). x.post.marks) c.1) is.sound.held))
           (subst (λ x. HasRoom x e) (sym c.1) (subst (λ x. HasRoom now x) (sym h.rest) (record {
             taken = before.taken;
@@ -81,7 +81,7 @@ liked-board s t d e user page phase count is room seat c phase_is h =
 pub read-settled : (s t : SeatView Held) (d : Desk) (page count : ℕ) → IsSettled s d → IsSeat t → t ≡ record s { post = has_read s.post page count } → IsSettled t d
 read-settled s t d page count is seat e =
     let before = is.sound.room in
-    settled-after s t d d is seat (ap (λ (x : SeatView Held). x.post.limits) e) (ap (λ (x : SeatView Held). x.last.share) e)
+    settled-after s t d d is seat (ap (λ (x : SeatView Held). x.post.limits) e) (ap (λ (x : SeatView Held). x.post.last) e) (ap (λ (x : SeatView Held). x.last.share) e)
     (subst (λ xs. All (IsOwn t) xs) (sym (ap (λ (x : SeatView Held). x.held.held) e)) (AreOwn-moved s t s.held.held (ap (λ (x : SeatView Held). x.last.share) e) (ap (λ (x : SeatView Held). x.post.marks) e) is.sound.held))
     (subst (λ x. HasRoom x d) (sym e) (record { taken = before.taken; ran = before.ran; few_ran = before.few_ran; adds = before.adds; few = before.few }))
     refl
@@ -104,7 +104,7 @@ merged-settled s t d e from phase m is seat merges h =
     let less : sum now.slice + likes ≡ sum s.slice = omega (arith, sum_by-set (λ x. x) s.slice page 0 0 merges.next.there) in
     let more : all_added now.post.additions ≡ all_added s.post.additions + likes = all_added-push s.post.additions (record { phase = phase_at s; page = page; old = m.old; likes = likes }) in
     let before = is.sound.room in
-    settled-after s t d e is seat (ap (λ (x : SeatView Held). x.post.limits) merges.merged) (ap (λ (x : SeatView Held). x.last.share) merges.merged)
+    settled-after s t d e is seat (ap (λ (x : SeatView Held). x.post.limits) merges.merged) (ap (λ (x : SeatView Held). x.post.last) merges.merged) (ap (λ (x : SeatView Held). x.last.share) merges.merged)
     (subst (λ xs. All (IsOwn t) xs) (sym (ap (λ (x : SeatView Held). x.held.held) merges.merged)) (AreOwn-moved s t s.held.held (ap (λ (x : SeatView Held). x.last.share) merges.merged) (ap (λ (x : SeatView Held). x.post.marks) merges.merged) is.sound.held))
     (subst (λ x. HasRoom x e) (sym merges.merged) (subst (λ x. HasRoom now x) (sym h.rest) (record {
       taken = before.taken;

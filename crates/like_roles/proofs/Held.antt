@@ -1,5 +1,5 @@
 -- What a worker holds, and that it stays sound.
-use Rattle.std.proofs.Common.{◌≡◌, ℕ, ◌+◌, ◌-◌, ◌*◌, ◌%◌, ◌<◌, ◌≤◌, Bool, true, false, List, [], ◌∷◌, ◌++◌, length, drop, get_or, set, sum, Option, Some, None, refl, ap, sym, ◌∙◌, arith, subst, vec_len, vec_capacity}
+use Rattle.std.proofs.Common.{◌≡◌, ℕ, ◌+◌, ◌-◌, ◌*◌, ◌%◌, ◌<◌, ◌≤◌, Bool, true, false, is_some, List, [], ◌∷◌, ◌++◌, length, drop, get_or, set, sum, Option, Some, None, refl, ap, sym, ◌∙◌, arith, subst, vec_len, vec_capacity}
 use Rattle.std.proofs.lemmas.List.{length-append, length-set}
 use Rattle.std.proofs.lemmas.List.Sums.{sum_by-set}
 use Rattle.std.proofs.lemmas.Bool.{and_parts}
@@ -48,14 +48,15 @@ AreOwn-moved s t hs share marks own = λ i y k. let o = own i y k in record {
 
 -- a worker stays settled where its seat made a step in the same share and at the same board, it holds only what it may,
 -- and there is room
-pub settled-after : (s t : SeatView Held) (d e : Desk) → IsSettled s d → IsSeat t → t.post.limits ≡ s.post.limits → t.last.share ≡ s.last.share → All (IsOwn t) t.held.held → HasRoom t e
+pub settled-after : (s t : SeatView Held) (d e : Desk) → IsSettled s d → IsSeat t → t.post.limits ≡ s.post.limits → t.post.last ≡ s.post.last → t.last.share ≡ s.last.share → All (IsOwn t) t.held.held → HasRoom t e
     → e ≡ record d { adds = e.adds } → IsSettled t e
-settled-after s t d e is seat limits share own room rest =
+settled-after s t d e is seat limits last share own room rest =
     let places : HasSubmitters t.last.share d = subst (λ x. HasSubmitters x d) (sym share) is.sound.places in
     record {
       sound = record {
         seat = seat;
         run = limits ∙ is.sound.run;
+        started = ap (λ (x : Desk). x.started) rest ∙ (is.sound.started ∙ ap is_some (sym last));
         places = subst (HasSubmitters t.last.share) (sym rest) (record { is_worker = places.is_worker; sized = places.sized; submitters = places.submitters; cursor = places.cursor });
         room = room;
         held = own;
@@ -77,7 +78,7 @@ settled-pop s t d first is seat e some =
     let room = is.sound.room in
     let own = AreOwn-moved s t s.held.held share marks is.sound.held in
     let first_own = subst (λ xs. All (IsOwn t) xs) list own in (
-      settled-after s t d d is seat (ap (λ (x : SeatView Held). x.post.limits) e) share (subst (λ xs. All (IsOwn t) xs) (sym held) (All-drop (IsOwn t) 1 s.held.held own)) (rw (held, added, slice) (record {
+      settled-after s t d d is seat (ap (λ (x : SeatView Held). x.post.limits) e) (ap (λ (x : SeatView Held). x.post.last) e) share (subst (λ xs. All (IsOwn t) xs) (sym held) (All-drop (IsOwn t) 1 s.held.held own)) (rw (held, added, slice) (record {
         taken = room.taken;
         ran = omega (arith, room.ran, longer);
         few_ran = room.few_ran;
@@ -98,7 +99,7 @@ settled-push s t d h is room own seat e =
     let added = ap (λ (x : SeatView Held). x.post) e in
     let slice = ap (λ (x : SeatView Held). x.slice) e in
     let all = All-append (IsOwn s) s.held.held (h ∷ []) is.sound.held (All-cons (IsOwn s) h [] own (λ i y k. absurd (omega arith))) in
-    settled-after s t d d is seat (ap (λ (x : SeatView Held). x.post.limits) e) share (subst (λ xs. All (IsOwn t) xs) (sym held) (AreOwn-moved s t (s.held.held ++ h ∷ []) share marks all)) (rw (held, added, slice) (record {
+    settled-after s t d d is seat (ap (λ (x : SeatView Held). x.post.limits) e) (ap (λ (x : SeatView Held). x.post.last) e) share (subst (λ xs. All (IsOwn t) xs) (sym held) (AreOwn-moved s t (s.held.held ++ h ∷ []) share marks all)) (rw (held, added, slice) (record {
       taken = is.sound.room.taken;
       ran = omega (arith, room.ran, longer);
       few_ran = is.sound.room.few_ran;
@@ -123,6 +124,7 @@ settled-taken s d n place is none there some left taken capacity rest =
         sound = record {
           seat = is.seat;
           run = is.run;
+          started = is.started;
           places = record { is_worker = is.places.is_worker; sized = omega (arith, n.left.ok.0, d.left.ok.0, is.places.sized); submitters = is.places.submitters; cursor = is.places.cursor };
           room = record { taken = omega (arith, is.room.taken); ran = omega (arith, is.room.ran); few_ran = is.room.few_ran; adds = λ n. omega (arith, is.room.adds n); few = omega (arith, is.room.few) };
           held = is.held;

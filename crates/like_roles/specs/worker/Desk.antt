@@ -1,5 +1,5 @@
 -- What a worker keeps, beside its seat.
-use Rattle.std.specs.Prelude.{◌≡◌, ◌↔◌, IsTrue, ℕ, ◌+◌, ◌<◌, ◌≤◌, Bool, true, false, List, [], length, sum, All, Some, None, replicate, vec_len, vec_capacity, if◌then◌else◌}
+use Rattle.std.specs.Prelude.{◌≡◌, ◌↔◌, IsTrue, ℕ, ◌+◌, ◌<◌, ◌≤◌, Bool, true, false, List, [], length, sum, All, Some, None, is_some, replicate, vec_len, vec_capacity, if◌then◌else◌}
 use Rattle.like_requests.specs.Verdict.{is_accepted, verdict_of}
 use Rattle.like_requests.specs.declared.setup.Setup.{Setup}
 use Rattle.like_requests.specs.declared.verdict.Verdict.{Verdict}
@@ -86,10 +86,11 @@ pub record HasRoomForOne (s : SeatView Held) (d : Desk) : Type 0 where
 pub record HasRoomToNote (s : SeatView Held) (d : Desk) : Type 0 where
   pub ran : vec_len d.ran + length s.held.held + sum d.left.items < vec_capacity d.ran
 
--- what is true of a worker between two calls: its board has the limits of a run
+-- what is true of a worker between two calls: its board has the limits of a run, and it has started once its post looked
 pub record IsSound (s : SeatView Held) (d : Desk) : Type 0 where
   pub seat : IsSeat s
   pub run : s.post.limits ≡ run_limits
+  pub started : d.started ≡ is_some s.post.last
   pub places : HasSubmitters s.last.share d
   pub room : HasRoom s d
   pub held : All (IsOwn s) s.held.held
