@@ -1,0 +1,5 @@
+pub mod Calls
+pub mod History
+pub mod Kept
+pub mod LiveView
+pub mod Moves
