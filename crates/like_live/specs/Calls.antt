@@ -1,5 +1,5 @@
 -- The calls of a live seat, case by case.
-use Rattle.std.specs.Prelude.{◌≡◌, ◌≢◌, ℕ, ◌+◌, ◌<◌, ◌==◌, nat_lt, if◌then◌else◌, true, false, List, [], drop, length, slice_get, Option, Some, None}
+use Rattle.std.specs.Prelude.{◌≡◌, ◌≢◌, ℕ, ◌+◌, ◌<◌, ◌==◌, nat_lt, if◌then◌else◌, true, false, [], drop, length, slice_get, Option}
 use Rattle.like_core.specs.Post.{pages_of, retired, slices}
 use Rattle.like_core.specs.WorkerState.{RunsJoined, RunsSplit}
 use Rattle.like_requests.specs.declared.request.Op.TheVariants.{Look}
@@ -9,9 +9,9 @@ use Rattle.like_requests.specs.declared.verdict.Verdict.{Verdict}
 use Rattle.like_requests.specs.declared.verdict.Verdict.TheVariants.{Accepted}
 use Rattle.like_requests.specs.Verdict.{verdict_of}
 use Rattle.like_seat.specs.declared.seen.Seen.{Seen}
-use Rattle.like_seat.specs.SeatView.{SeatView, likes_of, phase_at}
+use Rattle.like_seat.specs.SeatView.{SeatView, phase_at}
+use Rattle.like_seat.specs.SeatView.{likes_of}
 use Rattle.like_seat.specs.Steps.{CountsLike, Reads, holding}
-use Rattle.like_tables.specs.Share.{Share}
 use Rattle.like_tables.specs.UserTable.{UserTable, with_last}
 use Rattle.like_live.specs.declared.answer.LikeAnswer.{LikeAnswer}
 use Rattle.like_live.specs.declared.answer.LikeAnswer.TheVariants as like
@@ -104,7 +104,7 @@ TakesFound v taken after = (taken ≡ slice_get v.found 0) × (after ≡ record 
 
 -- how many likes of a page an answer to a like of another tells: one, if that is the page and it was liked
 abbrev pub told_of : ℕ → ℕ → LikeAnswer → ℕ
-told_of page other like.Liked = if other == page then 1 else 0
+told_of page other like.Liked = if page == other then 1 else 0
 told_of page other answer = 0
 
 -- a like that is counted adds one to its page's tally, and no answer changes any other

@@ -1,10 +1,9 @@
 -- What a live seat is, as contracts see it.
-use Rattle.std.specs.Prelude.{◌≡◌, ℕ, ◌+◌, ◌<◌, ◌≤◌, IsTrue, List, [], length, slice_index, replicate, All}
+use Rattle.std.specs.Prelude.{◌≡◌, ℕ, ◌+◌, ◌<◌, ◌≤◌, IsTrue, List, [], length, replicate, All}
 use Rattle.like_core.specs.OpeningLimits.{service_limits}
 use Rattle.like_core.specs.Phase.{IsJoined}
-use Rattle.like_core.specs.Post.{PostView, additions_of, pages_of}
-use Rattle.like_requests.specs.declared.verdict.Verdict.{Verdict}
-use Rattle.like_seat.specs.SeatView.{IsSeat, SeatView, phase_at}
+use Rattle.like_core.specs.Post.{PostView, pages_of}
+use Rattle.like_seat.specs.SeatView.{IsSeat, SeatView, phase_at, tally_of}
 use Rattle.like_tables.specs.Share.{owns}
 use Rattle.like_tables.specs.UserTable.{UserTable}
 use Rattle.like_tables.specs.Waiting.{Waiting}
@@ -34,11 +33,18 @@ room_of v = v.seat.held.capacity
 
 -- a page's tally: how many likes of it the seat has added to its count, and how many are in its slice
 abbrev pub tally : LiveView → ℕ → ℕ
-tally v page = additions_of v.seat.post page + slice_index v.seat.slice page
+tally v page = tally_of v.seat page
 
 -- no page's tally changes
 abbrev pub KeepsTallies : LiveView → LiveView → Type 0
 KeepsTallies v after = (page : ℕ) → tally after page ≡ tally v page
+
+-- it is the same seat: of the same board, the same worker, with the same users
+pub record IsSameSeat (v after : LiveView) : Type 0 where
+  pub board : after.seat.post.board ≡ v.seat.post.board
+  pub worker : after.seat.post.worker ≡ v.seat.post.worker
+  pub marks : after.seat.post.marks ≡ v.seat.post.marks
+  pub share : after.seat.last.share ≡ v.seat.last.share
 
 -- the look is one that the seat can answer: its page is there, and its user is the seat's
 pub record IsOwn (s : SeatView Asked) (a : Asked) : Type 0 where

@@ -3,8 +3,9 @@ ghost use Rattle.like_core.specs.declared.worker_state.WorkerState.TheVariants.{
 ghost use Rattle.like_core.specs.Limits.{max_pages};
 ghost use Rattle.like_core.specs.OpeningLimits.{service_limits};
 ghost use Rattle.like_core.specs.Post.{IsFresh, additions_of, pages_of};
+ghost use Rattle.like_core.specs.WorkerState.{IsRunning};
 ghost use Rattle.like_requests.specs.Limits.{max_stash};
-ghost use Rattle.like_live.specs.LiveView.{IsLive, IsNewLive, KeepsTallies, tally};
+ghost use Rattle.like_live.specs.LiveView.{IsLive, IsNewLive, IsSameSeat, KeepsTallies, tally};
 ghost use Rattle.like_live.specs.Moves.{Moves};
 ghost use Rattle.like_live.specs.Calls.{LikeCase, LookCase, RetireCase, TakesFound, TalliesLike, last_after};
 
@@ -92,6 +93,8 @@ impl<P: Post> LiveSeat<P> {
     pub fn turn(&mut self) -> TurnAnswer
         ensures case { Moves self.old result self.new }
         ensures keeps { IsLive self.new }
+        ensures runs { result ≡ TurnAnswer.Runs → IsRunning self.new.seat.post.state }
+        ensures same { IsSameSeat self.old self.new }
         ensures tallies { KeepsTallies self.old self.new }
         ensures last { self.new.seat.last ≡ self.old.seat.last }
     {
@@ -102,10 +105,11 @@ impl<P: Post> LiveSeat<P> {
     pub fn like(&mut self, user: u32, page: u32) -> LikeAnswer
         ensures case { LikeCase self.old user page result self.new }
         ensures keeps { IsLive self.new }
+        ensures same { IsSameSeat self.old self.new }
         ensures tallies { TalliesLike self.old page result self.new }
         ensures last { self.new.seat.last ≡ last_after self.old.seat.last user page result }
     {
-        match self.advance() {
+        match self.turn() {
             TurnAnswer::Runs => self.like_now(user, page),
             TurnAnswer::Between => LikeAnswer::Between,
             TurnAnswer::Gone => LikeAnswer::Gone,
@@ -116,10 +120,11 @@ impl<P: Post> LiveSeat<P> {
     pub fn look(&mut self, user: u32, page: u32, tag: u64) -> LookAnswer
         ensures case { LookCase self.old user page tag result self.new }
         ensures keeps { IsLive self.new }
+        ensures same { IsSameSeat self.old self.new }
         ensures tallies { KeepsTallies self.old self.new }
         ensures last { self.new.seat.last ≡ self.old.seat.last }
     {
-        match self.advance() {
+        match self.turn() {
             TurnAnswer::Runs => self.look_now(user, page, tag),
             TurnAnswer::Between => LookAnswer::Between,
             TurnAnswer::Gone => LookAnswer::Gone,
@@ -130,10 +135,11 @@ impl<P: Post> LiveSeat<P> {
     pub fn retire(&mut self) -> TurnAnswer
         ensures case { RetireCase self.old result self.new }
         ensures keeps { IsLive self.new }
+        ensures same { IsSameSeat self.old self.new }
         ensures tallies { KeepsTallies self.old self.new }
         ensures last { self.new.seat.last ≡ self.old.seat.last }
     {
-        match self.advance() {
+        match self.turn() {
             TurnAnswer::Runs => self.retire_now(),
             other => other,
         }
@@ -143,6 +149,7 @@ impl<P: Post> LiveSeat<P> {
     pub fn take_found(&mut self) -> Option<Found>
         ensures takes { TakesFound self.old result self.new }
         ensures keeps { IsLive self.new }
+        ensures same { IsSameSeat self.old self.new }
     {
         let found = self.found.pop_front()?;
         self.room += 1;
@@ -163,9 +170,10 @@ impl<P: Post> LiveSeat<P> {
         self.seat.users()
     }
 
-    /// Leaves the post, whatever is left to do. Of a seat that is gone, nothing is left in the slice.
+    /// Leaves the post, whatever is left to do. A seat that is gone leaves nothing in its slice.
     pub fn leave(self) -> P
         ensures post { P.view result ≡ self.seat.post }
+        ensures live { IsLive self }
         ensures slice { self.seat.post.state ≡ Gone → (page : ℕ) → tally self page ≡ additions_of self.seat.post page }
     {
         self.seat.leave()

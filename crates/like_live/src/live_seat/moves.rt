@@ -18,6 +18,7 @@ impl<P: Post> LiveSeat<P> {
         ensures moves { Moves self.old result self.new }
         ensures keeps { IsLive self.new }
         ensures runs { result ≡ TurnAnswer.Runs → IsRunning self.new.seat.post.state }
+        ensures was { IsLive self.old }
     {
         if self.seat.is_gone() {
             return TurnAnswer::Gone;

@@ -1,0 +1,6 @@
+pub mod Calling
+pub mod Finding
+pub mod Histories
+pub mod Moving
+pub mod Requests
+pub mod Telling
