@@ -106,7 +106,7 @@ empty-works v after ending answer (moves.runs_joined joined e a found) = λ gone
 empty-works v after ending answer (moves.acknowledges now joined e a found is) = λ gone. ap waiting is ∙ ap waiting found.rest
 empty-works v after ending answer (moves.runs_split split e a is) = subst IsEmpty (sym is) (λ gone. absurd (split-there v.seat.post.state split gone))
 empty-works v after ending answer (moves.reports s split e a merges is) =
-    subst IsEmpty (sym is ) (λ gone. absurd (cc (sym (ap (λ (t : SeatView Asked). t.post.state) merges.1.1) ∙ gone)))
+    subst IsEmpty (sym is) (λ gone. absurd (cc (sym (ap (λ (t : SeatView Asked). t.post.state) merges.1.1) ∙ gone)))
 
 empty-moves : (v after : LiveView) (answer : TurnAnswer) → IsEmpty v → Moves v answer after → IsEmpty after
 empty-moves v after answer empty (moves.is_gone gone a is) = subst IsEmpty (sym is) empty
