@@ -1,4 +1,4 @@
-use Rattle.std.specs.Prelude.{◌≡◌, ℕ, ◌+◌, ◌<◌, ◌==◌, All, List, ◌∷◌, Some, slice_get, slice_index, count_by}
+use Rattle.std.specs.Prelude.{◌≡◌, ℕ, ◌+◌, ◌<◌, ◌≤◌, ◌==◌, All, List, ◌∷◌, Some, slice_get, slice_index, count_by}
 use Rattle.std.specs.List.{sum_by}
 use Rattle.atomic_table.specs.Seated.{TableId}
 use Rattle.like_core.specs.declared.opening.Opening.{Opening}
@@ -9,6 +9,7 @@ use Rattle.like_board.specs.declared.board.Board.{Board}
 use Rattle.like_board.specs.declared.coord_seat.CoordSeat.{CoordSeat}
 use Rattle.like_board.specs.declared.worker_seat.WorkerSeat.{WorkerSeat}
 use Rattle.like_board.specs.declared.board_post.BoardPost.{BoardPost}
+use Rattle.like_board.specs.declared.shared_post.SharedPost.{SharedPost}
 use Rattle.like_core.specs.Additions.{added_before}
 use Rattle.like_core.specs.Post.{PostView, IsFresh, additions_of}
 use Rattle.like_core.specs.views.Views.{fresh, post_of}
@@ -62,6 +63,18 @@ seat_meaning seat = record (post_of (seat_view seat)) { board = board_numbers (s
 abbrev pub post_meaning : BoardPost → PostView
 post_meaning post = seat_meaning post.seat
 
+-- the board of a shared post
+abbrev pub shared_board : SharedPost → TableId
+shared_board post = seat_board post.seat
+
+-- what it knows
+abbrev pub shared_view : SharedPost → WorkerSeatView
+shared_view post = seat_view post.seat
+
+-- what it means
+abbrev pub shared_meaning : SharedPost → PostView
+shared_meaning post = seat_meaning post.seat
+
 -- the seats of the workers of a board in order, none of which made a step yet
 abbrev pub AreFresh : TableId → Opening → List WorkerSeat → Type 0
 AreFresh board z seats =
@@ -83,11 +96,21 @@ abbrev pub seats_before : List WorkerSeat → ℕ → ℕ → ℕ
 seats_before seats phase page =
     sum_by (λ seat. added_before phase page (seat_meaning seat).additions) seats
 
+-- each addition of the workers of these seats is of no later phase than this
+abbrev pub HaveAddedWithin : ℕ → List WorkerSeat → Type 0
+HaveAddedWithin phase seats = All (λ seat. All (λ a. a.phase ≤ phase) (seat_meaning seat).additions) seats
+
 -- each count that a worker of these seats read lies between what they all have added, and is of no later phase than this
 abbrev pub HaveReadBetween : Opening → ℕ → List WorkerSeat → Type 0
 HaveReadBetween z phase seats =
     All (λ seat. let post = seat_meaning seat in
     AreBetween z.counts (seats_before seats) phase post.additions post.reads) seats
+
+-- and so does each count at which it glanced
+abbrev pub HaveGlancedBetween : Opening → ℕ → List WorkerSeat → Type 0
+HaveGlancedBetween z phase seats =
+    All (λ seat. let post = seat_meaning seat in
+    AreBetween z.counts (seats_before seats) phase post.additions post.glances) seats
 
 -- each count that the coordinator read is the one at the start and all that the workers of these seats have added up to
 -- its phase
@@ -104,8 +127,11 @@ abbrev pub seats_passing : List WorkerSeat → Counting
 seats_passing seats test = sum_by (λ seat. count_by test (seat_meaning seat).additions) seats
 
 -- the stretches of the additions of the workers of these seats tile each page's counts, from the one at the start to the
--- last; each count that they read is the one at the start or the end of a stretch; and each worker's calls are in order
+-- last; each count that they read or glanced at is the one at the start or the end of a stretch; and each worker's
+-- additions and reads are in order, and its additions and glances
 pub record HavePlaces (z : Opening) (seats : List WorkerSeat) : Type 0 where
   pub tiles : AreTiles (slice_index z.counts) (last_count z seats) (seats_passing seats)
   pub each : All (λ seat. let post = seat_meaning seat in
       ArePlaced (slice_index z.counts) (seats_passing seats) post.additions post.reads) seats
+  pub glanced : All (λ seat. let post = seat_meaning seat in
+      ArePlaced (slice_index z.counts) (seats_passing seats) post.additions post.glances) seats
