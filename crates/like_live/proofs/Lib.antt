@@ -1,3 +1,4 @@
+pub mod Batches
 pub mod Calling
 pub mod Finding
 pub mod Histories

@@ -25,17 +25,20 @@ pub record Leaves (v after : LiveView) : Type 0 where
 same_seat : (v : LiveView) → IsSameSeat v v
 same_seat v = record { board = refl; worker = refl; marks = refl; share = refl }
 
+pub same_seat_both : (v now after : LiveView) → IsSameSeat v now → IsSameSeat now after → IsSameSeat v after
+same_seat_both v now after a b = record {
+  board = b.board ∙ a.board;
+  worker = b.worker ∙ a.worker;
+  marks = b.marks ∙ a.marks;
+  share = b.share ∙ a.share;
+}
+
 pub Leaves-all : (v : LiveView) → Leaves v v
 Leaves-all v = record { same = same_seat v; tallies = λ page. refl; last = refl; sized = refl }
 
 pub Leaves-both : (v now after : LiveView) → Leaves v now → Leaves now after → Leaves v after
 Leaves-both v now after a b = record {
-  same = record {
-    board = b.same.board ∙ a.same.board;
-    worker = b.same.worker ∙ a.same.worker;
-    marks = b.same.marks ∙ a.same.marks;
-    share = b.same.share ∙ a.same.share;
-  };
+  same = same_seat_both v now after a.same b.same;
   tallies = λ page. b.tallies page ∙ a.tallies page;
   last = b.last ∙ a.last;
   sized = b.sized ∙ a.sized;

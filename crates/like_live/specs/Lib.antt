@@ -1,3 +1,4 @@
+pub mod Batch
 pub mod Calls
 pub mod History
 pub mod Kept

@@ -6,6 +6,7 @@
 
 mod answer;
 mod asked;
+mod call;
 mod hint;
 mod laws;
 mod live_seat;
@@ -14,5 +15,6 @@ mod tests;
 
 pub use answer::{LikeAnswer, LookAnswer, TurnAnswer};
 pub use asked::{Asked, Found};
+pub use call::{Answer, Call};
 pub use laws::histories_are_counted;
 pub use live_seat::{LiveSeat, MAX_LIKES};

@@ -9,6 +9,7 @@ ghost use Rattle.like_live.specs.LiveView.{IsLive, IsNewLive, IsSameSeat, KeepsT
 ghost use Rattle.like_live.specs.Moves.{Moves};
 ghost use Rattle.like_live.specs.Calls.{LikeCase, LookCase, RetireCase, TakesFound, TalliesLike, last_after};
 
+mod batch;
 mod moves;
 mod requests;
 

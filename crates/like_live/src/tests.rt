@@ -1,10 +1,12 @@
 //! The worked examples, with one thread that plays the seats and who leads them.
 use crate::answer::{LikeAnswer, LookAnswer, TurnAnswer};
 use crate::asked::{Asked, Found};
+use crate::call::{Answer, Call};
 use crate::hint::Hint;
 use crate::live_seat::LiveSeat;
 use like_board::{Board, BoardPost, WorkerSeat};
 use like_core::Limits;
+use like_requests::Verdict;
 use like_seat::{Lead, Seen};
 use like_tables::Users;
 use std::alloc::{AllocError, Global};
@@ -118,6 +120,44 @@ fn live_two_seats(rt: HostRuntime) -> Result<(), Fail> {
     assert_eq!(rt; first.take_found(), Some(found));
     assert_eq!(rt; first.take_found(), None);
     assert_eq!(rt; first.look(0, 1, 9), seen(Some(1), 21));
+    Ok(())
+}
+
+// A batch stops before the first look that finds no room.
+#[test]
+fn live_batch(rt: HostRuntime) -> Result<(), Fail> {
+    let (counts, marks) = ([10], [true]);
+    let (board, coord, mut seats) = Board::with_limits(
+        rt.alloc(),
+        2,
+        &counts,
+        &marks,
+        Limits::of_service(),
+    )?;
+    let mut lead = Lead::new(rt.alloc(), coord, None, &counts)
+        .ok()
+        .expect(&rt, "memory");
+    let mut second = seat_at(&rt, rt.alloc(), &board, &mut seats, &marks, 2, 1, 2)?;
+    let mut first = seat_at(&rt, rt.alloc(), &board, &mut seats, &marks, 1, 0, 2)?;
+    change(&rt, &mut lead, &board, &mut first, &mut second);
+    let look = Call::Look {
+        user: 2,
+        page: 0,
+        tag: 3,
+    };
+    let calls = [
+        Call::Like { user: 0, page: 0 },
+        Call::Like { user: 1, page: 0 },
+        look,
+        look,
+    ];
+    let mut answers = [Answer::Like(LikeAnswer::Gone); 4];
+    assert_eq!(rt; first.run(&calls, &mut answers), 3);
+    let refused = LikeAnswer::Refused(Verdict::OtherHome);
+    assert_eq!(rt; answers[0], Answer::Like(LikeAnswer::Liked));
+    assert_eq!(rt; answers[1], Answer::Like(refused));
+    assert_eq!(rt; answers[2], Answer::Look(LookAnswer::Waits));
+    assert_eq!(rt; answers[3], Answer::Like(LikeAnswer::Gone));
     Ok(())
 }
 
