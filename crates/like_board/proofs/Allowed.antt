@@ -1,8 +1,10 @@
 -- Each step is allowed by the rule, and tells what it is said to tell.
 use Rattle.std.proofs.Common.{◌≡◌, ◌≢◌, ℕ, ◌+◌, ◌%◌, ◌^◌, ◌<◌, bit_or, List, [], ◌∷◌, ◌++◌, get_or, slice_set, subst, ap, sym, ◌∙◌, refl, arith}
+use Rattle.std.proofs.lemmas.List.{set-get_or}
 use mathlib.Core.Option.{some}
 use lib.ListN.{get_elem?}
 use Rattle.atomic_table.specs.Table.{Me, keeps, Allows, Splits, Joins}
+use Rattle.atomic_table.proofs.Lists.{set_again}
 use Rattle.like_core.specs.declared.worker_state.WorkerState.TheVariants.{Gone}
 use Rattle.like_core.specs.declared.event.Event.TheVariants.{Acknowledge, Report, Retire, Read, Hot, CoordRead, Announce, Release}
 use Rattle.like_core.specs.declared.shown.Shown.TheVariants.{Done, Old, Count, Hot as HotShown}
@@ -25,6 +27,7 @@ use Rattle.like_board.specs.declared.key.Key.{Key}
 use Rattle.like_board.specs.Known.{worker_view_of, coord_view_of}
 use Rattle.like_board.specs.Rule.{opening_of, IsShowing}
 use Rattle.like_board.specs.Plays.{Looked, Surveyed, TellsLook, TellsSurvey, TellsWorker, TellsCoord, TellsAdd, TellsRead, TellsAddAt, TellsReadAt, TellsMask, TellsCount, TellsCountAt}
+use Rattle.like_board.specs.Closed.{TellsLast}
 use Rattle.like_board.proofs.coordinator.Leads.{splits}
 use Rattle.like_board.proofs.worker.WorkerSteps.{looks, acknowledges, reports, retires}
 use Rattle.like_board.proofs.coordinator.CoordSteps.{surveys, announces, releases}
@@ -33,6 +36,7 @@ use Rattle.like_board.proofs.Tallying.{tallied_made, places_made}
 use Rattle.like_board.proofs.worker.Additions.{adds}
 use Rattle.like_board.proofs.worker.Readings.{reads, reads_mask}
 use Rattle.like_board.proofs.Gathering.{gathers}
+use Rattle.like_board.proofs.LastCounts.{closes}
 
 -- the opening in a worker's view is the board's
 worker_opening : (z : Opening) (words : List ℕ) (views : List View) (place : ℕ) (v : WorkerSeatView) → ShowsSome z words views → get_elem? views place ≡ some (Worker v) → v.opening ≡ z
@@ -323,3 +327,23 @@ gathering {S} key id other v w is_coord is_worker = λ st shows at apart mine.
 pub fresh_seat : {S : Type 0} (z : Opening) (i : ℕ) (me : Me S View) → me ≡ (Worker (fresh z i), []) → IsFresh (post_of (worker_view_of me.0))
 fresh_seat {S} z i me is =
     subst (λ (v : WorkerSeatView). IsFresh (post_of v)) (sym (ap (λ (m : Me S View). worker_view_of m.0) is)) (post_fresh z i)
+
+-- a read of a word changes nothing, and tells what is known where all seats were given back
+pub closing : {S : Type 0} (key : Key) (slots id : ℕ) (me : Me S View) (word : ℕ) → Allows (IsShowing key) slots id me word (λ n. n) (λ found after. TellsLast word me.0 found × (after ≡ me))
+closing {S} key slots id me word = λ st shows _ at _.
+    let z = opening_of key in
+    let same = set-get_or st.words word 0 in
+    let told : TellsLast word me.0 (get_or st.words word 0) =
+    record {
+      closed = λ c seats back. (closes z st.words st.views id me.0 c seats shows at back).0;
+      count = λ c seats back page is on.
+          ap (λ (i : ℕ). get_or st.words i 0) is ∙ (closes z st.words st.views id me.0 c seats shows at back).1 page on;
+    }
+    in (
+      me.0,
+      keeps,
+      tt,
+      subst (λ (l : List ℕ). ShowsSome z l (slice_set st.views id me.0)) (sym same)
+          (subst (λ (l : List View). ShowsSome z st.words l) (sym (set_again st.views id me.0 at)) shows),
+      (told, refl),
+    )

@@ -202,3 +202,13 @@ last_places z words views place c last counting some_state at all last_is same =
           (λ test. (let e = lone test in omega arith))
           (p.each place (Coord c) at j w found),
     )
+
+-- and nothing that they have added is of a later phase
+pub last_past : (z : Opening) (words : List ℕ) (views : List View) (place : ℕ) (c : CoordSeatView) → ShowsSome z words views → get_elem? views place ≡ some (Coord c) → ((i : ℕ) → i < c.made → seats_of i (Coord c) ≡ 1) → (page : ℕ) → before_in (c.phase + 1) page (Coord c) ≡ paged page (Coord c)
+last_past z words views place c some_state at all page =
+    let s = some_state.state in
+    let sh = some_state.shows in
+    let old : FitsCoord z s c = sh.each place (Coord c) at in
+    let phase = old.phase in
+    sym (sum_coord (before_in (c.phase + 1) page) z s words views place c refl sh at all) ∙
+    (some_state.tallied.past (c.phase + 1) page (omega arith) ∙ sum_coord (paged page) z s words views place c refl sh at all)

@@ -1,11 +1,11 @@
 -- What the last words are, in terms of the seats that were given back.
-use Rattle.std.proofs.Common.{◌≡◌, ℕ, zero, suc, ◌+◌, ◌<◌, ◌≤◌, ◌==◌, cond, List, [], ◌∷◌, ◌++◌, All, length, map, get_or, slice_index, count_by, Bool, IfSome, subst, ap, sym, ◌∙◌, refl, arith}
+use Rattle.std.proofs.Common.{◌≡◌, ℕ, zero, suc, ◌+◌, ◌<◌, ◌≤◌, ◌==◌, nat_lt, ◌&&◌, inl, inr, cond, List, [], ◌∷◌, ◌++◌, All, length, map, get_or, slice_index, count_by, Bool, IfSome, subst, ap, sym, ◌∙◌, refl, eq-eqb, arith}
 use Rattle.std.specs.List.{sum_by}
 use Rattle.std.proofs.lemmas.List.{append-nil, length-append}
 use Rattle.std.proofs.lemmas.List.Sums.{sum_by-cons}
-use mathlib.Core.Option.{some, some-injective, some-ne-none}
+use Rattle.std.proofs.lemmas.Bool.{cases_lt, cond-true, lt-ltb, le-ltb}
+use mathlib.Core.Option.{some}
 use lib.ListN.{get_elem?}
-use Rattle.atomic_table.specs.Table.{Final, Seen}
 use Rattle.like_core.specs.declared.sight.Sight.{Sight}
 use Rattle.like_core.specs.declared.opening.Opening.{Opening}
 use Rattle.like_core.specs.declared.view.Addition.{Addition}
@@ -19,24 +19,70 @@ use Rattle.like_core.specs.Additions.{added_to, added_before}
 use Rattle.like_core.specs.views.Views.{post_of, seats_of}
 use Rattle.like_core.specs.views.Reads.{before_in, AreBetween, IsCounted}
 use Rattle.like_core.specs.PhaseMasks.{mask_of, AreMasksOf}
-use Rattle.like_core.specs.views.Places.{Counting, AreTiles, ArePlaced, passing}
+use Rattle.like_core.specs.views.Places.{Counting, AreTiles, ArePlaced, is_empty, passing}
 use Rattle.like_core.specs.views.Tallies.{paged}
 use Rattle.like_core.specs.views.Layout.{word_of}
 use Rattle.like_core.specs.views.Shows.{ShowsSome, FitsWorker, FitsCoord}
 use Rattle.like_core.proofs.views.KeptReads.{between_on, counted_on}
-use Rattle.like_board.specs.declared.key.Key.{Key}
 use Rattle.like_board.specs.declared.worker_seat.WorkerSeat.{WorkerSeat}
 use Rattle.like_board.specs.Known.{coord_view_of}
-use Rattle.like_board.specs.Rule.{opening_of, IsShowing}
-use Rattle.like_board.specs.Seats.{seat_view, seat_meaning, AreAll, last_count, seats_before, HaveReadBetween, AreCounted, HaveReadMasks, HavePlaces, seats_passing}
+use Rattle.like_board.specs.Seats.{seat_view, seat_meaning, last_count, seats_before, seats_passing}
+use Rattle.like_board.specs.Closed.{HasAllBack, IsClosed}
 use Rattle.like_board.proofs.worker.Moves.{if_some}
-use Rattle.like_board.proofs.Gathering.{last_word, last_reads, last_counted, last_places}
+use Rattle.like_board.proofs.Gathering.{last_word, last_reads, last_counted, last_places, last_past}
 
--- what stands at a place is what is read there
-pub read_at : (l : List ℕ) (i n : ℕ) → get_elem? l i ≡ some n → get_or l i 0 ≡ n
-read_at [] i n at = absurd (some-ne-none n (sym at))
-read_at (x ∷ xs) zero n at = some-injective x n at
-read_at (x ∷ xs) (suc i) n at = read_at xs i n at
+module _ {A : Type 0} (f g : A → ℕ) (less : (x : A) → f x ≤ g x) where
+  -- sums of parts of which none is greater
+  sum_less : (xs : List A) → sum_by f xs ≤ sum_by g xs
+  sum_less [] = omega arith
+  sum_less (x ∷ xs) =
+      let rest = sum_less xs in
+      let here = less x in
+      omega (arith, sum_by-cons f x xs, sum_by-cons g x xs)
+
+  -- where they are the same, so is each part
+  same_parts : (xs : List A) → sum_by f xs ≡ sum_by g xs → (k : ℕ) (d : A) → k < length xs → f (get_or xs k d) ≡ g (get_or xs k d)
+  same_parts [] same k d below = absurd (omega arith)
+  same_parts (x ∷ xs) same zero d below =
+      let rest = sum_less xs in
+      let here = less x in
+      omega (arith, sum_by-cons f x xs, sum_by-cons g x xs)
+  same_parts (x ∷ xs) same (suc k) d below =
+      let rest = sum_less xs in
+      let here = less x in
+      same_parts xs (omega (arith, sum_by-cons f x xs, sum_by-cons g x xs)) k d (omega arith)
+
+-- each part of a sum that is 0 is 0
+no_part : {A : Type 0} (f : A → ℕ) (xs : List A) → sum_by f xs ≡ 0 → (k : ℕ) (d : A) → k < length xs → f (get_or xs k d) ≡ 0
+no_part f [] none k d below = absurd (omega arith)
+no_part f (x ∷ xs) none zero d below = omega (arith, sum_by-cons f x xs)
+no_part f (x ∷ xs) none (suc k) d below = no_part f xs (omega (arith, sum_by-cons f x xs)) k d (omega arith)
+
+-- whether an addition is of a page, and of a phase before this: what it counts for then
+counts_before : (phase page : ℕ) (a : Addition) → cond (nat_lt a.phase phase && (a.page == page)) a.likes 0 ≤ cond (a.page == page) a.likes 0
+counts_before phase page a = elim (cases_lt a.phase phase) [
+  | inl before ↦ let same = ap (λ (b : Bool). cond (b && (a.page == page)) a.likes 0) (lt-ltb a.phase phase before) in omega arith
+  | inr later ↦ let same = ap (λ (b : Bool). cond (b && (a.page == page)) a.likes 0) (le-ltb a.phase phase later) in omega arith
+]
+
+-- additions that all have likes, and that all count up to a phase, are of no later phase
+added_within : (phase : ℕ) (additions : List Addition) → count_by is_empty additions ≡ 0 → ((page : ℕ) → added_before (phase + 1) page additions ≡ added_to page additions) → All (λ a. a.phase ≤ phase) additions
+added_within phase additions with_likes same k d below =
+    let a : Addition = get_or additions k d in
+    let part : cond (nat_lt a.phase (phase + 1) && (a.page == a.page)) a.likes 0 ≡ cond (a.page == a.page) a.likes 0 =
+    same_parts (λ (b : Addition). cond (nat_lt b.phase (phase + 1) && (b.page == a.page)) b.likes 0) (λ (b : Addition). cond (b.page == a.page) b.likes 0)
+    (counts_before (phase + 1) a.page) additions (same a.page) k d below
+    in
+    let whole : cond (a.page == a.page) a.likes 0 ≡ a.likes = cond-true (a.page == a.page) a.likes 0 (eq-eqb a.page a.page refl) in
+    let counted : cond {A = ℕ} (a.likes == 0) 1 0 ≡ 0 = no_part (λ (b : Addition). cond (is_empty b) 1 0) additions with_likes k d below in
+    elim (cases_lt a.phase (phase + 1)) [
+      | inl before ↦ omega arith
+      | inr later ↦
+          let none : cond (nat_lt a.phase (phase + 1) && (a.page == a.page)) a.likes 0 ≡ 0 = ap (λ (b : Bool). cond (b && (a.page == a.page)) a.likes 0) (le-ltb a.phase (phase + 1) later) in
+          let no_likes : a.likes ≡ 0 = omega arith in
+          let one : cond {A = ℕ} (a.likes == 0) 1 0 ≡ 1 = cond-true (a.likes == 0) 1 0 (eq-eqb a.likes 0 no_likes) in
+          absurd (omega arith)
+    ]
 
 module _ {A B : Type 0} (g : A → B) where
   -- a sum over images
@@ -116,58 +162,60 @@ closed_places z words views place c last counting some_state at made all last_is
     (λ page. ap (λ (y : Opening). slice_index y.counts page + paged page (Coord c)) (sym old.opening) ∙ last_is page)
     same)
 
--- what a board is that ended: how many pages it has, its last words and phases, what its seats read, and where they added
-pub record IsClosed (words : List ℕ) (c : CoordSeatView) (seats : List WorkerSeat) : Type 0 where
-  pub few_pages : length c.opening.counts ≤ max_pages
-  pub counts : (page : ℕ) → page < length c.opening.counts → get_or words (word_of page) 0 ≡ last_count c.opening seats page
-  pub phases : All (λ seat. IfSome (seat_meaning seat).last (λ sight. sight.number ≤ c.phase)) seats
-  pub reads : HaveReadBetween c.opening c.phase seats
-  pub counted : AreCounted c seats
-  pub masks : HaveReadMasks c.masks seats
-  pub places : HavePlaces c.opening seats
-
 -- the last words, phases and reads, where the coordinator's seat has all workers' seats
-pub closes : {S : Type 0} (key : Key) (id : ℕ) (me : View) (words : List ℕ) (slots : List S) (c : CoordSeatView) (seats : List WorkerSeat) → Final (Seen (IsShowing key) id me) words slots → me ≡ Coord (record c { joined = map seat_view seats ++ c.joined }) → c.joined ≡ [] → c.made ≡ c.opening.workers → AreAll c.opening.workers seats → IsClosed words c seats
-closes key id me words slots c seats final me_is none made all =
-    let z = opening_of key in
-    let views : List View = final.0.views in
-    let back : map seat_view seats ++ c.joined ≡ map seat_view seats =
-    ap (λ (l : List WorkerSeatView). map seat_view seats ++ l) none ∙ append-nil (map seat_view seats)
+pub closes : (z : Opening) (words : List ℕ) (views : List View) (place : ℕ) (v : View) (c : CoordSeatView) (seats : List WorkerSeat) → ShowsSome z words views → get_elem? views place ≡ some v → HasAllBack v c seats → IsClosed c seats × ((page : ℕ) → page < length c.opening.counts → get_or words (word_of page) 0 ≡ last_count c.opening seats page)
+closes z words views place v c seats shows at_view back =
+    let joined : map seat_view seats ++ c.joined ≡ map seat_view seats =
+    ap (λ (l : List WorkerSeatView). map seat_view seats ++ l) back.none ∙ append-nil (map seat_view seats)
     in
     let d : CoordSeatView = record c { joined = map seat_view seats } in
-    let is : me ≡ Coord d = me_is ∙ ap (λ (l : List WorkerSeatView). Coord (record c { joined = l })) back in
-    let at : get_elem? views id ≡ some (Coord d) = final.1.1 ∙ ap some is in
-    let shows : ShowsSome z words views = subst (λ (l : List ℕ). ShowsSome z l views) final.2 final.1.0 in
+    let is : v ≡ Coord d = back.view ∙ ap (λ (l : List WorkerSeatView). Coord (record c { joined = l })) joined in
+    let at : get_elem? views place ≡ some (Coord d) = at_view ∙ ap some is in
     let each : (i : ℕ) → i < c.opening.workers → seats_of i (Coord d) ≡ 1 =
-    λ i below. sum_by-map seat_view (λ (w : WorkerSeatView). cond (w.worker == i) 1 0) seats ∙ all i below
+    λ i below. sum_by-map seat_view (λ (w : WorkerSeatView). cond (w.worker == i) 1 0) seats ∙ back.all i below
     in
     let added : (phase page : ℕ) → before_in phase page (Coord d) ≡ seats_before seats phase page =
     λ phase page. sum_by-map seat_view (λ (w : WorkerSeatView). added_before phase page w.additions) seats
     in
     let placed =
-    closed_places z words views id d (last_count c.opening seats) (seats_passing seats) shows at made each
+    closed_places z words views place d (last_count c.opening seats) (seats_passing seats) shows at back.made each
     (λ page. ap (λ (k : ℕ). slice_index c.opening.counts page + k) (sum_by-map seat_view (λ (w : WorkerSeatView). added_to page w.additions) seats))
     (λ test. sum_by-map seat_view (λ (w : WorkerSeatView). count_by test w.additions) seats)
     in
-    let old : FitsCoord z shows.state d = shows.shows.each id (Coord d) at in
-    record {
-      few_pages = subst (λ (y : Opening). length y.counts ≤ max_pages) (sym old.opening) shows.shows.opening.few_pages;
-      counts = λ page on.
-          closed_word z words views id d shows at made each page on ∙
-          ap (λ (k : ℕ). get_or c.opening.counts page 0 + k) (sum_by-map seat_view (λ (w : WorkerSeatView). additions_of (post_of w) page) seats);
-      phases = λ k seat below.
-          closed_phase z words views id d shows at k (seat_view (get_or seats k seat)) (at_mapped seat_view seats k seat below);
-      reads = λ k seat below.
-          closed_reads z words views id d (seats_before seats) shows at made each added
-          k (seat_view (get_or seats k seat)) (at_mapped seat_view seats k seat below);
-      counted = closed_counted z words views id d (seats_before seats) shows at made each added;
-      masks = λ k seat below.
-          closed_masks z words views id d shows at k (seat_view (get_or seats k seat)) (at_mapped seat_view seats k seat below);
-      places = record {
-        tiles = placed.0;
-        each = λ k seat below. placed.1 k (seat_view (get_or seats k seat)) (at_mapped seat_view seats k seat below);
-      };
-    }
+    let old : FitsCoord z shows.state d = shows.shows.each place (Coord d) at in
+    let past : (page : ℕ) → seats_before seats (c.phase + 1) page ≡ sum_by (λ seat. additions_of (seat_meaning seat) page) seats =
+    λ page.
+    let made = back.made in
+    sym (added (c.phase + 1) page) ∙
+    (last_past z words views place d shows at (λ i below. each i (omega arith)) page ∙
+    sum_by-map seat_view (λ (w : WorkerSeatView). added_to page w.additions) seats)
+    in (
+      record {
+        few_pages = subst (λ (y : Opening). length y.counts ≤ max_pages) (sym old.opening) shows.shows.opening.few_pages;
+        phases = λ k seat below.
+            closed_phase z words views place d shows at k (seat_view (get_or seats k seat)) (at_mapped seat_view seats k seat below);
+        added = λ k seat below.
+            added_within c.phase (seat_view (get_or seats k seat)).additions
+            (no_part (λ (s : WorkerSeat). count_by is_empty (seat_view s).additions) seats placed.0.some k seat below)
+            (λ page.
+            same_parts (λ (s : WorkerSeat). added_before (c.phase + 1) page (seat_view s).additions) (λ (s : WorkerSeat). added_to page (seat_view s).additions)
+            (λ s. sum_less (λ (a : Addition). cond (nat_lt a.phase (c.phase + 1) && (a.page == page)) a.likes 0) (λ (a : Addition). cond (a.page == page) a.likes 0) (counts_before (c.phase + 1) page) (seat_view s).additions)
+            seats (past page) k seat below);
+        reads = λ k seat below.
+            closed_reads z words views place d (seats_before seats) shows at back.made each added
+            k (seat_view (get_or seats k seat)) (at_mapped seat_view seats k seat below);
+        counted = closed_counted z words views place d (seats_before seats) shows at back.made each added;
+        masks = λ k seat below.
+            closed_masks z words views place d shows at k (seat_view (get_or seats k seat)) (at_mapped seat_view seats k seat below);
+        places = record {
+          tiles = placed.0;
+          each = λ k seat below. placed.1 k (seat_view (get_or seats k seat)) (at_mapped seat_view seats k seat below);
+        };
+      },
+      λ page on.
+          closed_word z words views place d shows at back.made each page on ∙
+          ap (λ (k : ℕ). get_or c.opening.counts page 0 + k) (sum_by-map seat_view (λ (w : WorkerSeatView). additions_of (post_of w) page) seats),
+    )
 
 -- a view that is some coordinator's is the coordinator's that it is read as
 pub as_coord : (v : View) (c : CoordSeatView) → v ≡ Coord c → v ≡ Coord (coord_view_of v)

@@ -1,4 +1,4 @@
-use Rattle.std.specs.Prelude.{◌≡◌, ℕ, ◌+◌, ◌<◌, ◌==◌, All, List, ◌∷◌, Some, slice_get, slice_index, count_by}
+use Rattle.std.specs.Prelude.{◌≡◌, ℕ, ◌+◌, ◌<◌, ◌≤◌, ◌==◌, All, List, ◌∷◌, Some, slice_get, slice_index, count_by}
 use Rattle.std.specs.List.{sum_by}
 use Rattle.atomic_table.specs.Seated.{TableId}
 use Rattle.like_core.specs.declared.opening.Opening.{Opening}
@@ -9,6 +9,7 @@ use Rattle.like_board.specs.declared.board.Board.{Board}
 use Rattle.like_board.specs.declared.coord_seat.CoordSeat.{CoordSeat}
 use Rattle.like_board.specs.declared.worker_seat.WorkerSeat.{WorkerSeat}
 use Rattle.like_board.specs.declared.board_post.BoardPost.{BoardPost}
+use Rattle.like_board.specs.declared.shared_post.SharedPost.{SharedPost}
 use Rattle.like_core.specs.Additions.{added_before}
 use Rattle.like_core.specs.Post.{PostView, IsFresh, additions_of}
 use Rattle.like_core.specs.views.Views.{fresh, post_of}
@@ -62,6 +63,18 @@ seat_meaning seat = record (post_of (seat_view seat)) { board = board_numbers (s
 abbrev pub post_meaning : BoardPost → PostView
 post_meaning post = seat_meaning post.seat
 
+-- the board of a shared post
+abbrev pub shared_board : SharedPost → TableId
+shared_board post = seat_board post.seat
+
+-- what it knows
+abbrev pub shared_view : SharedPost → WorkerSeatView
+shared_view post = seat_view post.seat
+
+-- what it means
+abbrev pub shared_meaning : SharedPost → PostView
+shared_meaning post = seat_meaning post.seat
+
 -- the seats of the workers of a board in order, none of which made a step yet
 abbrev pub AreFresh : TableId → Opening → List WorkerSeat → Type 0
 AreFresh board z seats =
@@ -82,6 +95,10 @@ last_count z seats page =
 abbrev pub seats_before : List WorkerSeat → ℕ → ℕ → ℕ
 seats_before seats phase page =
     sum_by (λ seat. added_before phase page (seat_meaning seat).additions) seats
+
+-- each addition of the workers of these seats is of no later phase than this
+abbrev pub HaveAddedWithin : ℕ → List WorkerSeat → Type 0
+HaveAddedWithin phase seats = All (λ seat. All (λ a. a.phase ≤ phase) (seat_meaning seat).additions) seats
 
 -- each count that a worker of these seats read lies between what they all have added, and is of no later phase than this
 abbrev pub HaveReadBetween : Opening → ℕ → List WorkerSeat → Type 0

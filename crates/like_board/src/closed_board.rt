@@ -1,25 +1,24 @@
 //! How a board ends: all seats are given back, and the words are the last counts.
-ghost use Rattle.std.specs.Prelude.{◌≡◌, ℕ, ◌<◌, ◌≤◌, [], All, length, map, slice_index};
-ghost use Rattle.std.specs.Slots.{IsFull, slots_items, slots_len};
-ghost use mathlib.Core.Option.{some};
-ghost use lib.ListN.{get_elem?};
+ghost use Rattle.std.specs.Prelude.{◌≡◌, ℕ, ◌<◌, ◌≤◌, [], All, List, length, map, slice_index};
+ghost use Rattle.like_core.specs.declared.view.CoordSeatView.{CoordSeatView};
 ghost use Rattle.like_core.specs.declared.view.View.TheVariants.{Coord};
 ghost use Rattle.like_core.specs.declared.worker_state.WorkerState.TheVariants.{Gone};
 ghost use Rattle.like_core.specs.Limits.{max_pages};
 ghost use Rattle.like_core.specs.WorkerState.{SawNoLater};
 ghost use Rattle.like_core.specs.views.Layout.{word_of};
 ghost use Rattle.like_core.specs.views.Views.{gathered_all};
+ghost use Rattle.like_board.specs.declared.worker_seat.WorkerSeat.{WorkerSeat};
 ghost use Rattle.like_board.specs.Known.{coord_view_of};
-ghost use Rattle.like_board.specs.Seats.{board_id, coord_board, coord_view, seat_board, seat_view, seat_meaning, AreAll, last_count, HaveReadBetween, HaveReadMasks, HavePlaces, AreCounted};
+ghost use Rattle.like_board.specs.Seats.{board_id, coord_board, coord_view, seat_board, seat_view, seat_meaning, AreAll, last_count, HaveAddedWithin, HaveReadBetween, HaveReadMasks, HavePlaces, AreCounted};
+ghost use Rattle.like_board.specs.Closed.{HasAllBack};
 
 use crate::board::Board;
 use crate::coord_seat::CoordSeat;
-use crate::layout::word_of;
-use crate::plays::Gathers;
+use crate::layout::{PHASE_WORD, word_of};
+use crate::plays::{Closing, Gathers};
 use crate::worker_seat::WorkerSeat;
-use atomic_table::{Closed, Seat};
+use atomic_table::Seat;
 use like_core::View;
-use std::alloc::Global;
 
 /// Gives the workers' seats back to the coordinator's.
 fn gather(board: &Board, coord: &mut Seat<(), View>, mut seats: Vec<WorkerSeat>)
@@ -36,23 +35,52 @@ fn gather(board: &Board, coord: &mut Seat<(), View>, mut seats: Vec<WorkerSeat>)
     }
 }
 
-/// Writes each page's word.
-fn write_counts(closed: &Closed<(), Global>, counts: &mut [u64])
-    requires full { IsFull closed.now.words }
-    requires sized { slots_len closed.now.words ≡ word_of (length counts.old) }
+/// Reads each page's word, and writes it down.
+fn write_counts(board: &Board, coord: &mut Seat<(), View>, counts: &mut [u64])
+    requires here { coord.old.table_id ≡ board_id board.now }
+    requires sized { coord.old.table_id.words ≡ word_of (length counts.old) }
     requires few_pages { length counts.old ≤ max_pages }
     ensures len { length counts.new ≡ length counts.old }
-    ensures words { (page : ℕ) → page < length counts.old →
-        get_elem? (slots_items closed.now.words) (word_of page) ≡ some (slice_index counts.new page) }
+    ensures counts { (c : CoordSeatView) (seats : List WorkerSeat) → HasAllBack coord.old.me.0 c seats
+        → length c.opening.counts ≡ length counts.old → (page : ℕ) → page < length counts.old
+        → slice_index counts.new page ≡ last_count c.opening seats page }
 {
     for (page, count) in counts.iter_mut().enumerate() {
-        *count = closed.word(word_of(page as u32));
+        let word = word_of(page as u32);
+        *count = board.table.shared.load::<Closing>(coord, word);
     }
 }
 
 impl Board {
+    /// The last counts of a board that several own: all seats are given back, so no step on it can follow. Each clause is
+    /// that of `close`.
+    pub fn last_counts(&self, coord: CoordSeat, seats: Vec<WorkerSeat>, counts: &mut [u64])
+        requires coord_here { coord_board coord ≡ board_id self.now }
+        requires seats_here { All (λ seat. seat_board seat ≡ board_id self.now) seats.items }
+        requires all { AreAll (coord_view coord).opening.workers seats.items }
+        requires places { length counts.old ≡ length (coord_view coord).opening.counts }
+        ensures len { length counts.new ≡ length counts.old }
+        ensures counts { (page : ℕ) → page < length counts.old →
+            slice_index counts.new page ≡ last_count (coord_view coord).opening seats.items page }
+        ensures phases { All (λ seat. SawNoLater (coord_view coord).phase (seat_meaning seat).last) seats.items }
+        ensures added { HaveAddedWithin (coord_view coord).phase seats.items }
+        ensures reads { HaveReadBetween (coord_view coord).opening (coord_view coord).phase seats.items }
+        ensures counted { AreCounted (coord_view coord) seats.items }
+        ensures masks { HaveReadMasks (coord_view coord).masks seats.items }
+        ensures places { HavePlaces (coord_view coord).opening seats.items }
+    {
+        let CoordSeat {
+            seat: mut coord,
+            ..
+        } = coord;
+        gather(self, &mut coord, seats);
+        self.table.shared.load::<Closing>(&mut coord, PHASE_WORD);
+        write_counts(self, &mut coord, counts);
+    }
+
     /// Ends the board, where each worker's seat is given back and all are gone, and writes each page's last count: its
-    /// count at the start and all that was added to it. No worker saw a greater number than the coordinator's phase.
+    /// count at the start and all that was added to it. No worker saw a greater number than the coordinator's phase,
+    /// and none added in a later phase.
     /// Each count that a worker read has all additions of earlier phases and its own before in that phase, and none of
     /// a later phase nor of its own later ones; each that the coordinator read has all additions up to its phase. Each
     /// mask that a worker read is the one with which the coordinator released its phase. The stretches of all additions
@@ -68,20 +96,12 @@ impl Board {
         ensures counts { (page : ℕ) → page < length counts.old →
             slice_index counts.new page ≡ last_count (coord_view coord).opening seats.items page }
         ensures phases { All (λ seat. SawNoLater (coord_view coord).phase (seat_meaning seat).last) seats.items }
+        ensures added { HaveAddedWithin (coord_view coord).phase seats.items }
         ensures reads { HaveReadBetween (coord_view coord).opening (coord_view coord).phase seats.items }
         ensures counted { AreCounted (coord_view coord) seats.items }
         ensures masks { HaveReadMasks (coord_view coord).masks seats.items }
         ensures places { HavePlaces (coord_view coord).opening seats.items }
     {
-        let CoordSeat {
-            seat: mut coord,
-            seen: _,
-            limits: _,
-        } = coord;
-        gather(&self, &mut coord, seats);
-        let Board { table } = self;
-        let closed = table.close_with(coord);
-        write_counts(&closed, counts);
-        closed.free();
+        self.last_counts(coord, seats, counts);
     }
 }

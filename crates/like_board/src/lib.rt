@@ -11,9 +11,11 @@ mod layout;
 mod new_seats;
 mod plays;
 mod rule;
+mod shared_post;
 mod worker_seat;
 
 pub use board::Board;
 pub use board_post::BoardPost;
 pub use coord_seat::CoordSeat;
+pub use shared_post::SharedPost;
 pub use worker_seat::WorkerSeat;

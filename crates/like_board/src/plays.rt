@@ -5,6 +5,7 @@ ghost use Rattle.like_core.specs.views.Views.{fresh, answered_view, retired_view
 ghost use Rattle.like_core.specs.views.Actions.{Acknowledges, Reports, Retires, Announces, Releases};
 ghost use Rattle.like_board.specs.Known.{coord_view_of, worker_view_of};
 ghost use Rattle.like_board.specs.Plays.{TellsLook, TellsSurvey, TellsWorker, TellsCoord, TellsAddAt, TellsReadAt, TellsMask, TellsCountAt};
+ghost use Rattle.like_board.specs.Closed.{TellsLast};
 
 use atomic_table::{Join, Play, Split};
 use like_core::View;
@@ -92,6 +93,13 @@ pub struct Releasing;
 
 impl Play<(), View> for Releasing {
     ghost then = { λ _ me _ after. TellsCoord Releases released_coord me.0 after.0 × (after.1 ≡ []) };
+}
+
+/// A read of a word by the coordinator's seat, where all workers' seats were given back to it.
+pub struct Closing;
+
+impl Play<(), View> for Closing {
+    ghost then = { λ step me found after. TellsLast step.word me.0 found × (after ≡ me) };
 }
 
 /// The coordinator's seat makes the seat of the next worker.

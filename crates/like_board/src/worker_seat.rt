@@ -1,4 +1,5 @@
 ghost use Rattle.std.specs.Prelude.{◌≡◌, ◌≢◌, ◌<◌, ◌≤◌, [], length};
+ghost use Rattle.std.specs.Arc.{arc_value};
 ghost use Rattle.like_core.specs.declared.view.View.TheVariants.{Worker};
 ghost use Rattle.like_core.specs.Limits.{max_workers};
 ghost use Rattle.like_core.specs.views.Layout.{word_of};
@@ -8,8 +9,17 @@ use crate::board::Board;
 use crate::board_post::BoardPost;
 use crate::layout::{MASK_WORD, PHASE_WORD, word_of};
 use crate::plays::{Acknowledging, Adding, Looking, Reading, ReadingMask, Reporting, Retiring};
+use crate::shared_post::SharedPost;
 use atomic_table::Seat;
 use like_core::{PhaseWord, Sight, View};
+use std::sync::Arc;
+
+/// The same value, of a type that any thread may take.
+fn for_any_thread<T: Send>(value: T) -> T
+    ensures { result ≡ value }
+{
+    value
+}
 
 /// A worker's right to step on a board. It borrows nothing, so any thread may take it.
 #[derive(Drop)]
@@ -29,7 +39,7 @@ impl WorkerSeat {
     ghost use Rattle.like_core.specs.Additions.{added_to};
     ghost use Rattle.like_core.specs.views.Views.{looked_view, answered_view, retired_view, added_view, read_view, masked_view};
     ghost use Rattle.like_core.specs.views.Actions.{Looks, Acknowledges, Reports, Retires, Adds, Reads, ReadsMask};
-    ghost use Rattle.like_board.specs.Seats.{board_id, seat_board, seat_view, seat_meaning, post_board, post_view, post_meaning};
+    ghost use Rattle.like_board.specs.Seats.{board_id, seat_board, seat_view, seat_meaning, post_board, post_view, post_meaning, shared_board, shared_view, shared_meaning};
 
     /// Takes the seat to its board.
     pub fn at(self, board: &Board) -> BoardPost<'_>
@@ -39,6 +49,16 @@ impl WorkerSeat {
         ensures meaning { post_meaning result ≡ seat_meaning self }
     {
         BoardPost { board, seat: self }
+    }
+
+    /// The same at a board that the post owns together with others.
+    pub fn at_shared(self, board: Arc<Board>) -> SharedPost
+        requires { seat_board self ≡ board_id (arc_value board) }
+        ensures board { shared_board result ≡ seat_board self }
+        ensures view { shared_view result ≡ seat_view self }
+        ensures meaning { shared_meaning result ≡ seat_meaning self }
+    {
+        for_any_thread(SharedPost { board, seat: self })
     }
 
     pub(crate) fn look(&mut self, board: &Board) -> Sight
