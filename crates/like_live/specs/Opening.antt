@@ -1,6 +1,6 @@
 -- What a service may be opened with.
-use Rattle.std.specs.Prelude.{◌≡◌, ◌⊎◌, ℕ, ◌≤◌, All, List, [], ◌∷◌, length, ⊤}
-use Rattle.std.specs.List.{AllByRecursion}
+use Rattle.std.specs.Prelude.{◌≡◌, ◌⊎◌, ℕ, ◌≤◌, ◌||◌, All, Bool, List, [], ◌∷◌, length, Option, is_some, ⊤}
+use Rattle.std.specs.List.{AllByRecursion, list_any}
 use Rattle.like_core.specs.Limits.{max_count, max_pages, max_workers}
 use Rattle.like_core.specs.OpeningLimits.{service_limits}
 use Rattle.like_core.specs.core.State.{opening_with}
@@ -36,6 +36,10 @@ IsFirstWrong o error = FailsFirst (Holds o) limits error
 -- why no service was opened: a number is wrong, and this is the first one; or there is no memory
 abbrev pub IsRefused : Opening → OpenError → Type 0
 IsRefused o error = IsFirstWrong o error ⊎ ((error ≡ Memory) × IsWithinLimits o)
+
+-- whether something would be split in a split phase: a page is marked, or pages can be hot
+abbrev pub splits_by : List Bool → Option ℕ → Bool
+splits_by marks hot = list_any (λ mark. mark) marks || is_some hot
 
 -- the opening of the service's board
 abbrev pub board_opening : Opening → CoreOpening

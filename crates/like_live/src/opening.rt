@@ -1,5 +1,6 @@
-ghost use Rattle.std.specs.Prelude.{MatchResult};
-ghost use Rattle.like_live.specs.Opening.{IsFirstWrong, IsWithinLimits};
+ghost use Rattle.std.specs.Prelude.{◌≡◌, MatchResult};
+ghost use Rattle.std.specs.List.{list_any};
+ghost use Rattle.like_live.specs.Opening.{IsFirstWrong, IsWithinLimits, splits_by};
 
 use crate::open_error::OpenError;
 use like_requests::{MAX_COUNT, MAX_PAGES, MAX_STASH, MAX_WORKERS};
@@ -47,4 +48,18 @@ impl Opening {
         }
         Ok(())
     }
+
+    /// Whether something would be split in a split phase: a page is marked, or pages can be hot.
+    pub(crate) fn splits_some(&self) -> bool
+        ensures { result ≡ splits_by self.now.marks.items self.now.hot }
+    {
+        any_marked(&self.marks) || self.hot.is_some()
+    }
+}
+
+// Whether a page is marked.
+fn any_marked(marks: &[bool]) -> bool
+    ensures { result ≡ list_any (λ mark. mark) marks.now }
+{
+    marks.iter().any(|mark| *mark)
 }
