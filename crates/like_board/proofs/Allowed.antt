@@ -6,7 +6,8 @@ use lib.ListN.{get_elem?}
 use Rattle.atomic_table.specs.Table.{Me, keeps, Allows, Splits, Joins}
 use Rattle.atomic_table.proofs.Lists.{set_again}
 use Rattle.like_core.specs.declared.worker_state.WorkerState.TheVariants.{Gone}
-use Rattle.like_core.specs.declared.event.Event.TheVariants.{Acknowledge, Report, Retire, Read, Hot, CoordRead, Announce, Release}
+use Rattle.like_core.specs.declared.event.Event.{Event}
+use Rattle.like_core.specs.declared.event.Event.TheVariants.{Acknowledge, Report, Retire, Read, Glance, Hot, CoordRead, Announce, Release}
 use Rattle.like_core.specs.declared.shown.Shown.TheVariants.{Done, Old, Count, Hot as HotShown}
 use Rattle.like_core.specs.declared.opening.Opening.{Opening}
 use Rattle.like_core.specs.declared.view.WorkerSeatView.{WorkerSeatView}
@@ -15,10 +16,10 @@ use Rattle.like_core.specs.declared.view.View.{View}
 use Rattle.like_core.specs.declared.view.View.TheVariants.{Coord, Worker, Spent}
 use Rattle.like_core.specs.word.Word.{Fields, packed, IsLawful, released_modulo, answer_bit, retirement_bit}
 use Rattle.like_core.specs.views.Sights.{sight_of, coord_sight_of}
-use Rattle.like_core.specs.Post.{IsFresh, MayAdd, MayRead}
+use Rattle.like_core.specs.Post.{IsFresh, MayAdd, MayRead, MayGlance}
 use Rattle.like_core.specs.WorkerState.{RunsJoined, RunsSplit, SawEnding}
-use Rattle.like_core.specs.views.Views.{MayAnnounce, MayCount, MayPublish, MayRelease, fresh, looked_view, answered_view, retired_view, added_view, read_view, masked_view, post_of, likes_merged, adding, looked_coord, announced_coord, counted_coord, published_coord, mask_released, released_coord, made_coord, gathered_coord}
-use Rattle.like_core.specs.views.Actions.{Acknowledges, Reports, Retires, Announces, Releases}
+use Rattle.like_core.specs.views.Views.{MayAnnounce, MayCount, MayPublish, MayRelease, fresh, looked_view, answered_view, retired_view, added_view, read_view, glanced_view, masked_view, post_of, likes_merged, adding, looked_coord, announced_coord, counted_coord, published_coord, mask_released, released_coord, made_coord, gathered_coord}
+use Rattle.like_core.specs.views.Actions.{Acknowledges, Reports, Retires, Reads, Glances, Announces, Releases}
 use Rattle.like_core.specs.views.Layout.{mask_place, word_of}
 use Rattle.like_core.specs.views.Shows.{ShowsSome, FitsWorker, FitsCoord, IsStep, IsSteps}
 use Rattle.like_core.proofs.views.Apart.{word_of-injective}
@@ -26,7 +27,7 @@ use Rattle.like_core.proofs.views.Posts.{post_fresh}
 use Rattle.like_board.specs.declared.key.Key.{Key}
 use Rattle.like_board.specs.Known.{worker_view_of, coord_view_of}
 use Rattle.like_board.specs.Rule.{opening_of, IsShowing}
-use Rattle.like_board.specs.Plays.{Looked, Surveyed, TellsLook, TellsSurvey, TellsWorker, TellsCoord, TellsAdd, TellsRead, TellsAddAt, TellsReadAt, TellsMask, TellsCount, TellsCountAt}
+use Rattle.like_board.specs.Plays.{Looked, Surveyed, TellsLook, TellsSurvey, TellsWorker, TellsCoord, PageAct, TellsAdd, TellsRead, TellsAddAt, TellsReadAt, TellsMask, TellsCount, TellsCountAt}
 use Rattle.like_board.specs.Closed.{TellsLast}
 use Rattle.like_board.proofs.coordinator.Leads.{splits}
 use Rattle.like_board.proofs.worker.WorkerSteps.{looks, acknowledges, reports, retires}
@@ -34,7 +35,7 @@ use Rattle.like_board.proofs.coordinator.CoordSteps.{surveys, announces, release
 use Rattle.like_board.proofs.coordinator.Choosing.{counts, publishes}
 use Rattle.like_board.proofs.Tallying.{tallied_made, places_made}
 use Rattle.like_board.proofs.worker.Additions.{adds}
-use Rattle.like_board.proofs.worker.Readings.{reads, reads_mask}
+use Rattle.like_board.proofs.worker.Readings.{IsRead, reads, glances, reads_mask}
 use Rattle.like_board.proofs.Gathering.{gathers}
 use Rattle.like_board.proofs.LastCounts.{closes}
 
@@ -268,20 +269,21 @@ adding_to {S} key slots id me page word n word_is is may =
     subst (λ (i : ℕ). Allows (IsShowing key) slots id me i (λ k. (k + n) % 2 ^ 64) (λ found after. TellsAddAt i n me.0 found after.0 × (after.1 ≡ []))) (sym word_is)
     (adding_page key slots id me page n is may)
 
-reading_page : {S : Type 0} (key : Key) (slots id : ℕ) (me : Me S View) (page : ℕ) → me ≡ (Worker (worker_view_of me.0), []) → MayRead (post_of (worker_view_of me.0)) page → Allows (IsShowing key) slots id me (word_of page) (λ k. k) (λ found after. TellsReadAt (word_of page) me.0 found after.0 × (after.1 ≡ []))
-reading_page {S} key slots id me page is may = λ st shows _ at _.
+-- a step that finds a page's count and is this event
+finding_page : {S : Type 0} (key : Key) (slots id : ℕ) (me : Me S View) (page : ℕ) (event : Event) (next : WorkerSeatView → ℕ → ℕ → WorkerSeatView) → me ≡ (Worker (worker_view_of me.0), []) → ((z : Opening) (words : List ℕ) (views : List View) → ShowsSome z words views → get_elem? views id ≡ some (Worker (worker_view_of me.0)) → IsRead z words views id (worker_view_of me.0) page event (next (worker_view_of me.0) page (get_or words (word_of page) 0))) → (does : PageAct) → ((count : ℕ) (w : WorkerSeatView) → IsStep (worker_view_of me.0).opening event (Count count) (Worker (worker_view_of me.0)) (Worker w) → does (worker_view_of me.0) page count w) → Allows (IsShowing key) slots id me (word_of page) (λ k. k) (λ found after. TellsReadAt does next (word_of page) me.0 found after.0 × (after.1 ≡ []))
+finding_page {S} key slots id me page event next is reads does act = λ st shows _ at _.
     let z = opening_of key in
     let v : WorkerSeatView = worker_view_of me.0 in
     let found : ℕ = get_or st.words (word_of page) 0 in
-    let w : WorkerSeatView = read_view v page found in
+    let w : WorkerSeatView = next v page found in
     let here : get_elem? st.views id ≡ some (Worker v) = at ∙ ap (λ (m : Me S View). some m.0) is in
     let same = worker_opening z st.words st.views id v shows here in
-    let r = reads z st.words st.views id v page shows here may in
-    let told : TellsRead page me.0 found (Worker w) =
+    let r = reads z st.words st.views shows here in
+    let told : TellsRead does next page me.0 found (Worker w) =
     record {
       view = refl;
       own = r.2;
-      step = subst (λ (y : Opening). IsStep y (Read v.worker page) (Count found) (Worker v) (Worker w)) (sym same) r.0;
+      step = act found w (subst (λ (y : Opening). IsStep y event (Count found) (Worker v) (Worker w)) (sym same) r.0);
     }
     in (
       Worker w,
@@ -289,15 +291,20 @@ reading_page {S} key slots id me page is may = λ st shows _ at _.
       tt,
       r.1,
       (
-        λ q on. subst (λ (p : ℕ). TellsRead p me.0 found (Worker w)) (word_of-injective page q on) told,
+        λ q on. subst (λ (p : ℕ). TellsRead does next p me.0 found (Worker w)) (word_of-injective page q on) told,
         ap (λ (m : Me S View). m.1) is,
       ),
     )
 
-pub reading : {S : Type 0} (key : Key) (slots id : ℕ) (me : Me S View) (page word : ℕ) → word ≡ word_of page → me ≡ (Worker (worker_view_of me.0), []) → MayRead (post_of (worker_view_of me.0)) page → Allows (IsShowing key) slots id me word (λ k. k) (λ found after. TellsReadAt word me.0 found after.0 × (after.1 ≡ []))
+pub reading : {S : Type 0} (key : Key) (slots id : ℕ) (me : Me S View) (page word : ℕ) → word ≡ word_of page → me ≡ (Worker (worker_view_of me.0), []) → MayRead (post_of (worker_view_of me.0)) page → Allows (IsShowing key) slots id me word (λ k. k) (λ found after. TellsReadAt Reads read_view word me.0 found after.0 × (after.1 ≡ []))
 reading {S} key slots id me page word word_is is may =
-    subst (λ (i : ℕ). Allows (IsShowing key) slots id me i (λ k. k) (λ found after. TellsReadAt i me.0 found after.0 × (after.1 ≡ []))) (sym word_is)
-    (reading_page key slots id me page is may)
+    subst (λ (i : ℕ). Allows (IsShowing key) slots id me i (λ k. k) (λ found after. TellsReadAt Reads read_view i me.0 found after.0 × (after.1 ≡ []))) (sym word_is)
+    (finding_page key slots id me page (Read (worker_view_of me.0).worker page) read_view is (λ z words views. reads z words views id (worker_view_of me.0) page may) Reads (λ count w step. step))
+
+pub glancing : {S : Type 0} (key : Key) (slots id : ℕ) (me : Me S View) (page word : ℕ) → word ≡ word_of page → me ≡ (Worker (worker_view_of me.0), []) → MayGlance (post_of (worker_view_of me.0)) page → Allows (IsShowing key) slots id me word (λ k. k) (λ found after. TellsReadAt Glances glanced_view word me.0 found after.0 × (after.1 ≡ []))
+glancing {S} key slots id me page word word_is is may =
+    subst (λ (i : ℕ). Allows (IsShowing key) slots id me i (λ k. k) (λ found after. TellsReadAt Glances glanced_view i me.0 found after.0 × (after.1 ≡ []))) (sym word_is)
+    (finding_page key slots id me page (Glance (worker_view_of me.0).worker page) glanced_view is (λ z words views. glances z words views id (worker_view_of me.0) page may) Glances (λ count w step. step))
 
 pub reading_mask : {S : Type 0} (key : Key) (slots id : ℕ) (me : Me S View) → me ≡ (Worker (worker_view_of me.0), []) → RunsSplit (worker_view_of me.0).state → Allows (IsShowing key) slots id me mask_place (λ k. k) (λ found after. TellsMask me.0 found after.0 × (after.1 ≡ []))
 reading_mask {S} key slots id me is split = λ st shows _ at _.

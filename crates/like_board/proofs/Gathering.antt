@@ -15,14 +15,14 @@ use Rattle.like_core.specs.declared.view.View.TheVariants.{Coord, Worker, Spent}
 use Rattle.like_core.specs.core.State.{CoreState}
 use Rattle.like_core.specs.Additions.{added_to, added_before}
 use Rattle.like_core.specs.views.Views.{gathered_coord, seats_of}
-use Rattle.like_core.specs.views.Reads.{before_in, all_before, AreBetween, IsCounted}
-use Rattle.like_core.specs.views.Places.{Counting, AreTiles, ArePlaced, passing, all_passing, count_after}
+use Rattle.like_core.specs.views.Reads.{before_in, all_before, HaveBetween, IsCounted}
+use Rattle.like_core.specs.views.Places.{Counting, AreTiles, HavePlaced, passing, all_passing, count_after}
 use Rattle.like_core.specs.views.Tallies.{paged, left_to, room}
 use Rattle.like_core.specs.views.Layout.{word_of}
 use Rattle.like_core.specs.views.Shows.{Shows, ShowsSome, Fits, FitsWorker, FitsCoord}
 use Rattle.like_core.proofs.views.ViewLists.{within, sum_two, sum_lone, sum_gathered}
-use Rattle.like_core.proofs.views.KeptPlaces.{join_keeps_places, placed_on, tiles_on}
-use Rattle.like_core.proofs.views.KeptReads.{between_on, counted_on, join_keeps_reads}
+use Rattle.like_core.proofs.views.KeptPlaces.{join_keeps_places, both_placed_on, tiles_on}
+use Rattle.like_core.proofs.views.KeptReads.{both_between_on, counted_on, join_keeps_reads}
 use Rattle.like_board.proofs.worker.Moves.{same_coord, has_seat, once_at_most}
 use Rattle.like_board.proofs.coordinator.Leads.{of_coord}
 
@@ -161,13 +161,13 @@ last_word z words views place c some_state at all page on =
     let found = sh.pages page on in
     omega arith
 
--- and each count that was read lies between what they have added
-pub last_reads : (z : Opening) (words : List ℕ) (views : List View) (place : ℕ) (c : CoordSeatView) → (shows : ShowsSome z words views) → get_elem? views place ≡ some (Coord c) → ((i : ℕ) → i < c.made → seats_of i (Coord c) ≡ 1) → (j : ℕ) (w : WorkerSeatView) → get_elem? c.joined j ≡ some w → AreBetween z.counts (λ phase page. before_in phase page (Coord c)) shows.state.phase w.additions w.reads
+-- and each count that was read or glanced at lies between what they have added
+pub last_reads : (z : Opening) (words : List ℕ) (views : List View) (place : ℕ) (c : CoordSeatView) → (shows : ShowsSome z words views) → get_elem? views place ≡ some (Coord c) → ((i : ℕ) → i < c.made → seats_of i (Coord c) ≡ 1) → (j : ℕ) (w : WorkerSeatView) → get_elem? c.joined j ≡ some w → HaveBetween z.counts (λ phase page. before_in phase page (Coord c)) shows.state.phase w
 last_reads z words views place c some_state at all j w found =
     let s = some_state.state in
     let sh = some_state.shows in
     let lone : (k p : ℕ) → all_before views k p ≡ before_in k p (Coord c) = λ k p. sum_coord (before_in k p) z s words views place c refl sh at all in
-    between_on z.counts (all_before views) (λ k p. before_in k p (Coord c)) s.phase s.phase w.additions w.reads (omega arith)
+    both_between_on z.counts (all_before views) (λ k p. before_in k p (Coord c)) s.phase s.phase w (omega arith)
     (λ k p _. (let e = lone k p in omega arith))
     (λ k p. (let e = lone k p in omega arith))
     (sh.reads place (Coord c) at j w found)
@@ -185,7 +185,7 @@ last_counted z words views place c some_state at all =
     (of_coord z s words views place c sh at).1
 
 -- and the stretches of what they have added tile the counts of each page, and all their calls have their places
-pub last_places : (z : Opening) (words : List ℕ) (views : List View) (place : ℕ) (c : CoordSeatView) (last : ℕ → ℕ) (counting : Counting) → ShowsSome z words views → get_elem? views place ≡ some (Coord c) → ((i : ℕ) → i < c.made → seats_of i (Coord c) ≡ 1) → ((page : ℕ) → slice_index z.counts page + paged page (Coord c) ≡ last page) → ((test : Addition → Bool) → passing test (Coord c) ≡ counting test) → AreTiles (slice_index z.counts) last counting × ((j : ℕ) (w : WorkerSeatView) → get_elem? c.joined j ≡ some w → ArePlaced (slice_index z.counts) counting w.additions w.reads)
+pub last_places : (z : Opening) (words : List ℕ) (views : List View) (place : ℕ) (c : CoordSeatView) (last : ℕ → ℕ) (counting : Counting) → ShowsSome z words views → get_elem? views place ≡ some (Coord c) → ((i : ℕ) → i < c.made → seats_of i (Coord c) ≡ 1) → ((page : ℕ) → slice_index z.counts page + paged page (Coord c) ≡ last page) → ((test : Addition → Bool) → passing test (Coord c) ≡ counting test) → AreTiles (slice_index z.counts) last counting × ((j : ℕ) (w : WorkerSeatView) → get_elem? c.joined j ≡ some w → HavePlaced (slice_index z.counts) counting w)
 last_places z words views place c last counting some_state at all last_is same =
     let s = some_state.state in
     let sh = some_state.shows in
@@ -198,7 +198,7 @@ last_places z words views place c last counting some_state at all last_is same =
     in (
       tiles_on (slice_index z.counts) (count_after z.counts views) last (all_passing views) counting ends lone p.tiles,
       λ j w found.
-          placed_on (slice_index z.counts) (all_passing views) counting w.additions w.reads
+          both_placed_on (slice_index z.counts) (all_passing views) counting w
           (λ test. (let e = lone test in omega arith))
           (p.each place (Coord c) at j w found),
     )

@@ -17,13 +17,13 @@ use Rattle.like_core.specs.Limits.{max_pages}
 use Rattle.like_core.specs.Post.{additions_of}
 use Rattle.like_core.specs.Additions.{added_to, added_before}
 use Rattle.like_core.specs.views.Views.{post_of, seats_of}
-use Rattle.like_core.specs.views.Reads.{before_in, AreBetween, IsCounted}
+use Rattle.like_core.specs.views.Reads.{before_in, HaveBetween, IsCounted}
 use Rattle.like_core.specs.PhaseMasks.{mask_of, AreMasksOf}
-use Rattle.like_core.specs.views.Places.{Counting, AreTiles, ArePlaced, is_empty, passing}
+use Rattle.like_core.specs.views.Places.{Counting, AreTiles, HavePlaced, is_empty, passing}
 use Rattle.like_core.specs.views.Tallies.{paged}
 use Rattle.like_core.specs.views.Layout.{word_of}
 use Rattle.like_core.specs.views.Shows.{ShowsSome, FitsWorker, FitsCoord}
-use Rattle.like_core.proofs.views.KeptReads.{between_on, counted_on}
+use Rattle.like_core.proofs.views.KeptReads.{both_between_on, counted_on}
 use Rattle.like_board.specs.declared.worker_seat.WorkerSeat.{WorkerSeat}
 use Rattle.like_board.specs.Known.{coord_view_of}
 use Rattle.like_board.specs.Seats.{seat_view, seat_meaning, last_count, seats_before, seats_passing}
@@ -120,14 +120,14 @@ closed_phase z words views place c some_state at k w found =
     (λ sight below. omega arith)
     fits.number
 
--- each count that a worker whose seat was given back read lies between what all those workers have added
-closed_reads : (z : Opening) (words : List ℕ) (views : List View) (place : ℕ) (c : CoordSeatView) (before : ℕ → ℕ → ℕ) → ShowsSome z words views → get_elem? views place ≡ some (Coord c) → c.made ≡ c.opening.workers → ((i : ℕ) → i < c.opening.workers → seats_of i (Coord c) ≡ 1) → ((k p : ℕ) → before_in k p (Coord c) ≡ before k p) → (k : ℕ) (w : WorkerSeatView) → get_elem? c.joined k ≡ some w → AreBetween c.opening.counts before c.phase w.additions w.reads
+-- each count that a worker whose seat was given back read or glanced at lies between what all those workers have added
+closed_reads : (z : Opening) (words : List ℕ) (views : List View) (place : ℕ) (c : CoordSeatView) (before : ℕ → ℕ → ℕ) → ShowsSome z words views → get_elem? views place ≡ some (Coord c) → c.made ≡ c.opening.workers → ((i : ℕ) → i < c.opening.workers → seats_of i (Coord c) ≡ 1) → ((k p : ℕ) → before_in k p (Coord c) ≡ before k p) → (k : ℕ) (w : WorkerSeatView) → get_elem? c.joined k ≡ some w → HaveBetween c.opening.counts before c.phase w
 closed_reads z words views place c before some_state at made all same k w found =
     let old : FitsCoord z some_state.state c = some_state.shows.each place (Coord c) at in
     let phase = old.phase in
     let reads = last_reads z words views place c some_state at (λ i below. all i (omega arith)) k w found in
-    subst (λ (y : Opening). AreBetween y.counts before c.phase w.additions w.reads) (sym old.opening)
-    (between_on z.counts (λ k p. before_in k p (Coord c)) before some_state.state.phase c.phase w.additions w.reads (omega arith)
+    subst (λ (y : Opening). HaveBetween y.counts before c.phase w) (sym old.opening)
+    (both_between_on z.counts (λ k p. before_in k p (Coord c)) before some_state.state.phase c.phase w (omega arith)
     (λ k p _. (let e = same k p in omega arith))
     (λ k p. (let e = same k p in omega arith))
     reads)
@@ -149,13 +149,13 @@ closed_masks z words views place c some_state at k w found =
     λ i m inside. (fits.masks i m inside).1 ∙ sym (old.masks (get_or w.masks i m).phase)
 
 -- the stretches of what those workers have added tile the counts of each page, and all their calls have their places
-closed_places : (z : Opening) (words : List ℕ) (views : List View) (place : ℕ) (c : CoordSeatView) (last : ℕ → ℕ) (counting : Counting) → ShowsSome z words views → get_elem? views place ≡ some (Coord c) → c.made ≡ c.opening.workers → ((i : ℕ) → i < c.opening.workers → seats_of i (Coord c) ≡ 1) → ((page : ℕ) → slice_index c.opening.counts page + paged page (Coord c) ≡ last page) → ((test : Addition → Bool) → passing test (Coord c) ≡ counting test) → AreTiles (slice_index c.opening.counts) last counting × ((k : ℕ) (w : WorkerSeatView) → get_elem? c.joined k ≡ some w → ArePlaced (slice_index c.opening.counts) counting w.additions w.reads)
+closed_places : (z : Opening) (words : List ℕ) (views : List View) (place : ℕ) (c : CoordSeatView) (last : ℕ → ℕ) (counting : Counting) → ShowsSome z words views → get_elem? views place ≡ some (Coord c) → c.made ≡ c.opening.workers → ((i : ℕ) → i < c.opening.workers → seats_of i (Coord c) ≡ 1) → ((page : ℕ) → slice_index c.opening.counts page + paged page (Coord c) ≡ last page) → ((test : Addition → Bool) → passing test (Coord c) ≡ counting test) → AreTiles (slice_index c.opening.counts) last counting × ((k : ℕ) (w : WorkerSeatView) → get_elem? c.joined k ≡ some w → HavePlaced (slice_index c.opening.counts) counting w)
 closed_places z words views place c last counting some_state at made all last_is same =
     let old : FitsCoord z some_state.state c = some_state.shows.each place (Coord c) at in
     let P : Opening → Type 0 =
     λ y.
     AreTiles (slice_index y.counts) last counting
-    × ((k : ℕ) (w : WorkerSeatView) → get_elem? c.joined k ≡ some w → ArePlaced (slice_index y.counts) counting w.additions w.reads)
+    × ((k : ℕ) (w : WorkerSeatView) → get_elem? c.joined k ≡ some w → HavePlaced (slice_index y.counts) counting w)
     in
     subst P (sym old.opening)
     (last_places z words views place c last counting some_state at (λ i below. all i (omega arith))
@@ -182,6 +182,11 @@ closes z words views place v c seats shows at_view back =
     (λ page. ap (λ (k : ℕ). slice_index c.opening.counts page + k) (sum_by-map seat_view (λ (w : WorkerSeatView). added_to page w.additions) seats))
     (λ test. sum_by-map seat_view (λ (w : WorkerSeatView). count_by test w.additions) seats)
     in
+    let between : All (λ (s : WorkerSeat). HaveBetween c.opening.counts (seats_before seats) c.phase (seat_view s)) seats =
+    λ k seat below.
+    closed_reads z words views place d (seats_before seats) shows at back.made each added
+    k (seat_view (get_or seats k seat)) (at_mapped seat_view seats k seat below)
+    in
     let old : FitsCoord z shows.state d = shows.shows.each place (Coord d) at in
     let past : (page : ℕ) → seats_before seats (c.phase + 1) page ≡ sum_by (λ seat. additions_of (seat_meaning seat) page) seats =
     λ page.
@@ -201,15 +206,15 @@ closes z words views place v c seats shows at_view back =
             same_parts (λ (s : WorkerSeat). added_before (c.phase + 1) page (seat_view s).additions) (λ (s : WorkerSeat). added_to page (seat_view s).additions)
             (λ s. sum_less (λ (a : Addition). cond (nat_lt a.phase (c.phase + 1) && (a.page == page)) a.likes 0) (λ (a : Addition). cond (a.page == page) a.likes 0) (counts_before (c.phase + 1) page) (seat_view s).additions)
             seats (past page) k seat below);
-        reads = λ k seat below.
-            closed_reads z words views place d (seats_before seats) shows at back.made each added
-            k (seat_view (get_or seats k seat)) (at_mapped seat_view seats k seat below);
+        reads = λ k seat below. (between k seat below).0;
+        glances = λ k seat below. (between k seat below).1;
         counted = closed_counted z words views place d (seats_before seats) shows at back.made each added;
         masks = λ k seat below.
             closed_masks z words views place d shows at k (seat_view (get_or seats k seat)) (at_mapped seat_view seats k seat below);
         places = record {
           tiles = placed.0;
-          each = λ k seat below. placed.1 k (seat_view (get_or seats k seat)) (at_mapped seat_view seats k seat below);
+          each = λ k seat below. (placed.1 k (seat_view (get_or seats k seat)) (at_mapped seat_view seats k seat below)).0;
+          glanced = λ k seat below. (placed.1 k (seat_view (get_or seats k seat)) (at_mapped seat_view seats k seat below)).1;
         };
       },
       λ page on.

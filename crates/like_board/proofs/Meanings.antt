@@ -1,7 +1,7 @@
 -- What a seat means, where the board does not matter; and the board that it means.
 use Rattle.std.proofs.Common.{◌≡◌, ℕ, List, get_or, drop, sym, ap, ◌∙◌, refl}
 use Rattle.atomic_table.specs.Seated.{TableId}
-use Rattle.like_core.specs.Post.{IsFresh, MayAdd, MayRead, PostView}
+use Rattle.like_core.specs.Post.{IsFresh, MayAdd, MayRead, MayGlance, PostView}
 use Rattle.like_board.specs.Seats.{board_numbers}
 
 -- the post at another board
@@ -14,12 +14,16 @@ may_add board v page n m = record { runs = m.runs; there = m.there; known = m.kn
 pub may_read : (board : List ℕ) (v : PostView) (page : ℕ) → MayRead (at_board board v) page → MayRead v page
 may_read board v page m = record { runs = m.runs; there = m.there; known = m.known; plain = m.plain }
 
+pub may_glance : (board : List ℕ) (v : PostView) (page : ℕ) → MayGlance (at_board board v) page → MayGlance v page
+may_glance board v page m = record { runs = m.runs; there = m.there; known = m.known; sliced = m.sliced }
+
 pub is_fresh : (board : List ℕ) (v : PostView) → IsFresh v → IsFresh (at_board board v)
 is_fresh board v f = record {
   runs = f.runs;
   never_looked = f.never_looked;
   added_nothing = f.added_nothing;
   read_nothing = f.read_nothing;
+  glanced_nothing = f.glanced_nothing;
   no_masks = f.no_masks;
 }
 

@@ -78,5 +78,5 @@ places_made z views place c at old =
     let d : CoordSeatView = made_coord c in
     let new : View = Worker (fresh z c.made) in
     let changed : List View = set views place (Coord d) in
-    places_push z.counts changed new (λ _. refl) (λ _. refl) (λ first f. placed_nothing first f) (λ j u found. at_snoc changed new u j found)
+    places_push z.counts changed new (λ _. refl) (λ _. refl) (λ first f. (placed_nothing first f, placed_nothing first f)) (λ j u found. at_snoc changed new u j found)
     (places_same z.counts views place (Coord c) (Coord d) at (λ _. refl) (λ _. refl) (λ _ _ has. has) old)

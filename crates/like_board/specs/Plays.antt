@@ -12,10 +12,10 @@ use Rattle.like_core.specs.word.Word.{Fields, packed, IsLawful}
 use Rattle.like_core.specs.views.Sights.{sight_of, coord_sight_of}
 use Rattle.like_core.specs.WorkerState.{IsSightWithin, SeesEndingStill, phase_of, seen}
 use Rattle.like_core.specs.Additions.{added_to}
-use Rattle.like_core.specs.views.Views.{looked_view, added_view, read_view, masked_view, looked_coord, counted_coord}
+use Rattle.like_core.specs.views.Views.{looked_view, added_view, masked_view, looked_coord, counted_coord}
 use Rattle.like_core.specs.views.Layout.{word_of}
 use Rattle.like_core.specs.views.Shows.{IsStep}
-use Rattle.like_core.specs.views.Actions.{Adds, Reads, ReadsMask, Counts}
+use Rattle.like_core.specs.views.Actions.{Adds, ReadsMask, Counts}
 use Rattle.like_board.specs.Known.{worker_view_of, coord_view_of}
 
 -- what a worker's look finds and shows
@@ -84,16 +84,21 @@ pub record TellsAdd (page n : ℕ) (v : View) (found : ℕ) (w : View) : Type 0 
 abbrev pub TellsAddAt : ℕ → ℕ → View → ℕ → View → Type 0
 TellsAddAt word n v found w = (page : ℕ) → word ≡ word_of page → TellsAdd page n v found w
 
--- what a read of a page tells: the view after has it, with the count that it found; the worker's own additions are in
--- that; and it is the action
-pub record TellsRead (page : ℕ) (v : View) (found : ℕ) (w : View) : Type 0 where
-  pub view : w ≡ Worker (read_view (worker_view_of v) page found)
+-- what a worker does that finds a page's count, as a relation of its views
+abbrev pub PageAct : Type 1
+PageAct = WorkerSeatView → ℕ → ℕ → WorkerSeatView → Type 0
+
+-- what a read of a page or a glance tells: the view after has it, with the count that it found; the worker's own
+-- additions are in that; and it is the action
+pub record TellsRead (does : PageAct) (next : WorkerSeatView → ℕ → ℕ → WorkerSeatView) (page : ℕ)
+    (v : View) (found : ℕ) (w : View) : Type 0 where
+  pub view : w ≡ Worker (next (worker_view_of v) page found)
   pub own : added_to page (worker_view_of v).additions ≤ found
-  pub step : let me = worker_view_of v in Reads me page found (read_view me page found)
+  pub step : let me = worker_view_of v in does me page found (next me page found)
 
 -- the same of a word
-abbrev pub TellsReadAt : ℕ → View → ℕ → View → Type 0
-TellsReadAt word v found w = (page : ℕ) → word ≡ word_of page → TellsRead page v found w
+abbrev pub TellsReadAt : PageAct → (WorkerSeatView → ℕ → ℕ → WorkerSeatView) → ℕ → View → ℕ → View → Type 0
+TellsReadAt does next word v found w = (page : ℕ) → word ≡ word_of page → TellsRead does next page v found w
 
 -- what a read of the mask word tells: the view after has the mask that it found, and it is the action
 pub record TellsMask (v : View) (found : ℕ) (w : View) : Type 0 where

@@ -106,6 +106,12 @@ HaveReadBetween z phase seats =
     All (λ seat. let post = seat_meaning seat in
     AreBetween z.counts (seats_before seats) phase post.additions post.reads) seats
 
+-- and so does each count at which it glanced
+abbrev pub HaveGlancedBetween : Opening → ℕ → List WorkerSeat → Type 0
+HaveGlancedBetween z phase seats =
+    All (λ seat. let post = seat_meaning seat in
+    AreBetween z.counts (seats_before seats) phase post.additions post.glances) seats
+
 -- each count that the coordinator read is the one at the start and all that the workers of these seats have added up to
 -- its phase
 abbrev pub AreCounted : CoordSeatView → List WorkerSeat → Type 0
@@ -121,8 +127,11 @@ abbrev pub seats_passing : List WorkerSeat → Counting
 seats_passing seats test = sum_by (λ seat. count_by test (seat_meaning seat).additions) seats
 
 -- the stretches of the additions of the workers of these seats tile each page's counts, from the one at the start to the
--- last; each count that they read is the one at the start or the end of a stretch; and each worker's calls are in order
+-- last; each count that they read or glanced at is the one at the start or the end of a stretch; and each worker's
+-- additions and reads are in order, and its additions and glances
 pub record HavePlaces (z : Opening) (seats : List WorkerSeat) : Type 0 where
   pub tiles : AreTiles (slice_index z.counts) (last_count z seats) (seats_passing seats)
   pub each : All (λ seat. let post = seat_meaning seat in
       ArePlaced (slice_index z.counts) (seats_passing seats) post.additions post.reads) seats
+  pub glanced : All (λ seat. let post = seat_meaning seat in
+      ArePlaced (slice_index z.counts) (seats_passing seats) post.additions post.glances) seats

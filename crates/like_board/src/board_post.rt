@@ -29,9 +29,9 @@ impl BoardPost<'_> {
 impl Post for BoardPost<'_> {
     ghost use Rattle.like_core.specs.declared.worker_state.WorkerState.TheVariants.{Gone};
     ghost use Rattle.like_core.specs.WorkerState.{RunsJoined, RunsSplit, SawEnding, IsSightWithin, SeesEndingStill, phase_of, seen};
-    ghost use Rattle.like_core.specs.Post.{looked_at, answered, retired, added, has_read, with_mask, additions_of, MayAdd, MayRead};
-    ghost use Rattle.like_core.specs.views.Views.{looked_view, answered_view, retired_view, added_view, read_view, masked_view};
-    ghost use Rattle.like_core.specs.views.Actions.{Looks, Acknowledges, Reports, Retires, Adds, Reads, ReadsMask};
+    ghost use Rattle.like_core.specs.Post.{looked_at, answered, retired, added, has_read, has_glanced, with_mask, additions_of, MayAdd, MayRead, MayGlance};
+    ghost use Rattle.like_core.specs.views.Views.{looked_view, answered_view, retired_view, added_view, read_view, glanced_view, masked_view};
+    ghost use Rattle.like_core.specs.views.Actions.{Looks, Acknowledges, Reports, Retires, Adds, Reads, Glances, ReadsMask};
     ghost use Rattle.like_board.specs.Seats.{post_board, post_view, post_meaning};
 
     ghost view = { post_meaning };
@@ -107,6 +107,18 @@ impl Post for BoardPost<'_> {
     {
         let board = self.board;
         self.seat.read(board, page)
+    }
+
+    fn glance(&mut self, page: u32) -> u64
+        requires { MayGlance (post_meaning self.old) page }
+        ensures view { post_meaning self.new ≡ has_glanced (post_meaning self.old) page result }
+        ensures own { additions_of (post_meaning self.old) page ≤ result }
+        ensures board { post_board self.new ≡ post_board self.old }
+        ensures known { post_view self.new ≡ glanced_view (post_view self.old) page result }
+        ensures event { Glances (post_view self.old) page result (post_view self.new) }
+    {
+        let board = self.board;
+        self.seat.glance(board, page)
     }
 
     fn hot(&mut self) -> u64

@@ -1,8 +1,8 @@
 //! What each kind of step tells the seat that makes it, and how a worker's seat is made and given back.
 ghost use Rattle.std.specs.Prelude.{◌≡◌, []};
 ghost use Rattle.like_core.specs.declared.view.View.TheVariants.{Coord, Worker, Spent};
-ghost use Rattle.like_core.specs.views.Views.{fresh, answered_view, retired_view, announced_coord, released_coord, published_coord, made_coord, gathered_coord};
-ghost use Rattle.like_core.specs.views.Actions.{Acknowledges, Reports, Retires, Announces, Releases};
+ghost use Rattle.like_core.specs.views.Views.{fresh, answered_view, retired_view, read_view, glanced_view, announced_coord, released_coord, published_coord, made_coord, gathered_coord};
+ghost use Rattle.like_core.specs.views.Actions.{Acknowledges, Reports, Retires, Reads, Glances, Announces, Releases};
 ghost use Rattle.like_board.specs.Known.{coord_view_of, worker_view_of};
 ghost use Rattle.like_board.specs.Plays.{TellsLook, TellsSurvey, TellsWorker, TellsCoord, TellsAddAt, TellsReadAt, TellsMask, TellsCountAt};
 ghost use Rattle.like_board.specs.Closed.{TellsLast};
@@ -49,7 +49,16 @@ impl Play<(), View> for Adding {
 pub struct Reading;
 
 impl Play<(), View> for Reading {
-    ghost then = { λ step me found after. TellsReadAt step.word me.0 found after.0 × (after.1 ≡ []) };
+    ghost then = { λ step me found after.
+        TellsReadAt Reads read_view step.word me.0 found after.0 × (after.1 ≡ []) };
+}
+
+/// A glance at such a count.
+pub struct Glancing;
+
+impl Play<(), View> for Glancing {
+    ghost then = { λ step me found after.
+        TellsReadAt Glances glanced_view step.word me.0 found after.0 × (after.1 ≡ []) };
 }
 
 /// A worker's read of the mask word.

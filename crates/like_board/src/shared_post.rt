@@ -31,9 +31,9 @@ impl SharedPost {
 impl Post for SharedPost {
     ghost use Rattle.like_core.specs.declared.worker_state.WorkerState.TheVariants.{Gone};
     ghost use Rattle.like_core.specs.WorkerState.{RunsJoined, RunsSplit, SawEnding, IsSightWithin, SeesEndingStill, phase_of, seen};
-    ghost use Rattle.like_core.specs.Post.{looked_at, answered, retired, added, has_read, with_mask, additions_of, MayAdd, MayRead};
-    ghost use Rattle.like_core.specs.views.Views.{looked_view, answered_view, retired_view, added_view, read_view, masked_view};
-    ghost use Rattle.like_core.specs.views.Actions.{Looks, Acknowledges, Reports, Retires, Adds, Reads, ReadsMask};
+    ghost use Rattle.like_core.specs.Post.{looked_at, answered, retired, added, has_read, has_glanced, with_mask, additions_of, MayAdd, MayRead, MayGlance};
+    ghost use Rattle.like_core.specs.views.Views.{looked_view, answered_view, retired_view, added_view, read_view, glanced_view, masked_view};
+    ghost use Rattle.like_core.specs.views.Actions.{Looks, Acknowledges, Reports, Retires, Adds, Reads, Glances, ReadsMask};
     ghost use Rattle.like_board.specs.Seats.{shared_board, shared_view, shared_meaning};
 
     ghost view = { shared_meaning };
@@ -109,6 +109,18 @@ impl Post for SharedPost {
     {
         let board: &Board = &self.board;
         self.seat.read(board, page)
+    }
+
+    fn glance(&mut self, page: u32) -> u64
+        requires { MayGlance (shared_meaning self.old) page }
+        ensures view { shared_meaning self.new ≡ has_glanced (shared_meaning self.old) page result }
+        ensures own { additions_of (shared_meaning self.old) page ≤ result }
+        ensures board { shared_board self.new ≡ shared_board self.old }
+        ensures known { shared_view self.new ≡ glanced_view (shared_view self.old) page result }
+        ensures event { Glances (shared_view self.old) page result (shared_view self.new) }
+    {
+        let board: &Board = &self.board;
+        self.seat.glance(board, page)
     }
 
     fn hot(&mut self) -> u64

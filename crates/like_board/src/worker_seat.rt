@@ -8,7 +8,9 @@ ghost use Rattle.like_board.specs.Known.{worker_view_of};
 use crate::board::Board;
 use crate::board_post::BoardPost;
 use crate::layout::{MASK_WORD, PHASE_WORD, word_of};
-use crate::plays::{Acknowledging, Adding, Looking, Reading, ReadingMask, Reporting, Retiring};
+use crate::plays::{
+    Acknowledging, Adding, Glancing, Looking, Reading, ReadingMask, Reporting, Retiring,
+};
 use crate::shared_post::SharedPost;
 use atomic_table::Seat;
 use like_core::{PhaseWord, Sight, View};
@@ -35,10 +37,10 @@ pub struct WorkerSeat {
 impl WorkerSeat {
     ghost use Rattle.like_core.specs.declared.worker_state.WorkerState.TheVariants.{Gone};
     ghost use Rattle.like_core.specs.WorkerState.{IsSightWithin, RunsJoined, RunsSplit, SawEnding, SeesEndingStill, phase_of, seen};
-    ghost use Rattle.like_core.specs.Post.{MayAdd, MayRead};
+    ghost use Rattle.like_core.specs.Post.{MayAdd, MayRead, MayGlance};
     ghost use Rattle.like_core.specs.Additions.{added_to};
-    ghost use Rattle.like_core.specs.views.Views.{looked_view, answered_view, retired_view, added_view, read_view, masked_view};
-    ghost use Rattle.like_core.specs.views.Actions.{Looks, Acknowledges, Reports, Retires, Adds, Reads, ReadsMask};
+    ghost use Rattle.like_core.specs.views.Views.{looked_view, answered_view, retired_view, added_view, read_view, glanced_view, masked_view};
+    ghost use Rattle.like_core.specs.views.Actions.{Looks, Acknowledges, Reports, Retires, Adds, Reads, Glances, ReadsMask};
     ghost use Rattle.like_board.specs.Seats.{board_id, seat_board, seat_view, seat_meaning, post_board, post_view, post_meaning, shared_board, shared_view, shared_meaning};
 
     /// Takes the seat to its board.
@@ -147,6 +149,18 @@ impl WorkerSeat {
     {
         let word = word_of(page);
         board.table.shared.load::<Reading>(&mut self.seat, word)
+    }
+
+    pub(crate) fn glance(&mut self, board: &Board, page: u32) -> u64
+        requires here { seat_board self.old ≡ board_id board.now }
+        requires may { MayGlance (seat_meaning self.old) page }
+        ensures board { seat_board self.new ≡ seat_board self.old }
+        ensures view { seat_view self.new ≡ glanced_view (seat_view self.old) page result }
+        ensures own { added_to page (seat_view self.old).additions ≤ result }
+        ensures event { Glances (seat_view self.old) page result (seat_view self.new) }
+    {
+        let word = word_of(page);
+        board.table.shared.load::<Glancing>(&mut self.seat, word)
     }
 
     pub(crate) fn hot(&mut self, board: &Board) -> u64

@@ -14,7 +14,7 @@ use Rattle.like_core.specs.WorkerState.{IsRunning, SawEnding, phase_of, seen}
 
 -- what a post means: at which board it stands, as numbers that tell boards apart; whose it is; for each page of its board,
 -- whether it is marked as split; the limits of its board; the worker's state and its last sight, if it looked; what it has
--- added to pages and read of them, in order; and the masks of hot pages that it read, the latest first
+-- added to pages, what it read of pages that were not sliced, and of others at a glance, in order; and the masks of hot pages that it read, the latest first
 pub record PostView : Type 0 where
   pub board : List ℕ
   pub worker : ℕ
@@ -24,6 +24,7 @@ pub record PostView : Type 0 where
   pub last : Option Sight
   pub additions : List Addition
   pub reads : List PageRead
+  pub glances : List PageRead
   pub masks : List PhaseMask
 
 -- how many pages there are
@@ -44,6 +45,7 @@ pub record IsFresh (v : PostView) : Type 0 where
   pub never_looked : v.last ≡ None
   pub added_nothing : v.additions ≡ []
   pub read_nothing : v.reads ≡ []
+  pub glanced_nothing : v.glances ≡ []
   pub no_masks : v.masks ≡ []
 
 -- whether the page is sliced in the post's phase
@@ -79,6 +81,11 @@ abbrev pub has_read : PostView → ℕ → ℕ → PostView
 has_read v page count =
     record v { reads = v.reads ++ page_read (phase_of v.state) page count (length v.additions) ∷ [] }
 
+-- the post after it glanced at a page's count, which was this
+abbrev pub has_glanced : PostView → ℕ → ℕ → PostView
+has_glanced v page count =
+    record v { glances = v.glances ++ page_read (phase_of v.state) page count (length v.additions) ∷ [] }
+
 -- the post after it read the mask of its phase's hot pages, which was this
 abbrev pub with_mask : PostView → ℕ → PostView
 with_mask v mask = record v { masks = record { phase = phase_of v.state; mask = mask } ∷ v.masks }
@@ -93,9 +100,16 @@ pub record MayAdd (v : PostView) (page n : ℕ) : Type 0 where
   pub merge : slices v page ≡ true → (1 ≤ n) × SawEnding v.last
   pub few : all_added v.additions + n ≤ v.limits.likes
 
--- the page may be read
+-- the page may be read: it is not sliced
 pub record MayRead (v : PostView) (page : ℕ) : Type 0 where
   pub runs : IsRunning v.state
   pub there : page < pages_of v
   pub known : KnowsSlices v page
   pub plain : slices v page ≡ false
+
+-- the page may be glanced at: it is sliced
+pub record MayGlance (v : PostView) (page : ℕ) : Type 0 where
+  pub runs : IsRunning v.state
+  pub there : page < pages_of v
+  pub known : KnowsSlices v page
+  pub sliced : slices v page ≡ true

@@ -11,8 +11,10 @@ pub enum Event {
     Retire(u32),
     /// The worker runs a like: in its slice where the page is sliced, else on the page's count.
     Like(u32, u32),
-    /// The worker reads a page's count.
+    /// The worker reads the count of a page that is not sliced.
     Read(u32, u32),
+    /// The worker reads the count of a page that is sliced, before the present phase's slices are merged.
+    Glance(u32, u32),
     /// The worker adds its slice of a page to the page's count.
     Merge(u32, u32),
     /// The worker, in a split phase, reads the mask of its hot pages.

@@ -4,8 +4,8 @@ ghost use Rattle.like_core.specs.core.Exclusive.{ReachableIsExclusive};
 ghost use Rattle.like_core.specs.core.Likes.{LikesStayReachable};
 ghost use Rattle.like_core.specs.views.Layout.{WordsStandApart};
 ghost use Rattle.like_core.specs.word.KindTells.{KindTellsPhase};
-ghost use Rattle.like_core.specs.views.Places.{AdditionKeepsPlaces, ReadKeepsPlaces, JoinKeepsPlaces};
-ghost use Rattle.like_core.specs.views.Reads.{AdditionKeepsReads, ReadKeepsReads, JoinKeepsReads};
+ghost use Rattle.like_core.specs.views.Places.{AdditionKeepsPlaces, ReadKeepsPlaces, GlanceKeepsPlaces, JoinKeepsPlaces};
+ghost use Rattle.like_core.specs.views.Reads.{AdditionKeepsReads, ReadKeepsReads, GlanceKeepsReads, JoinKeepsReads};
 
 /// No worker runs joined work while another has unmerged likes, after any list of events.
 pub fn reachable_is_exclusive()
@@ -35,6 +35,11 @@ pub fn read_keeps_reads()
     ensures { ReadKeepsReads }
 {}
 
+/// A glance does.
+pub fn glance_keeps_reads()
+    ensures { GlanceKeepsReads }
+{}
+
 /// A worker's seat that is given back does: its additions and reads go on to stand in the coordinator's view.
 pub fn join_keeps_reads()
     ensures { JoinKeepsReads }
@@ -49,6 +54,11 @@ pub fn addition_keeps_places()
 /// A read does, since it finds the page's count, which is that at the start or the end of the last stretch.
 pub fn read_keeps_places()
     ensures { ReadKeepsPlaces }
+{}
+
+/// A glance does.
+pub fn glance_keeps_places()
+    ensures { GlanceKeepsPlaces }
 {}
 
 /// A worker's seat that is given back does: its stretches and reads go on to stand in the coordinator's view.

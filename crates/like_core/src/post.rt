@@ -1,7 +1,7 @@
 ghost use Rattle.std.specs.Prelude.{◌≡◌, ◌≢◌, ◌≤◌, true};
 ghost use Rattle.like_core.specs.declared.worker_state.WorkerState.TheVariants.{Gone};
 ghost use Rattle.like_core.specs.WorkerState.{RunsJoined, RunsSplit, SawEnding, IsSightWithin, SeesEndingStill, phase_of, seen};
-ghost use Rattle.like_core.specs.Post.{PostView, looked_at, answered, retired, added, has_read, with_mask, additions_of, MayAdd, MayRead};
+ghost use Rattle.like_core.specs.Post.{PostView, looked_at, answered, retired, added, has_read, has_glanced, with_mask, additions_of, MayAdd, MayRead, MayGlance};
 
 use crate::sight::Sight;
 
@@ -46,10 +46,16 @@ pub trait Post {
         ensures view { view self.new ≡ added (view self.old) page result n }
         ensures own { additions_of (view self.old) page ≤ result };
 
-    /// The page's count.
+    /// The count of a page that is not sliced.
     fn read(&mut self, page: u32) -> u64
         requires { MayRead (view self.old) page }
         ensures view { view self.new ≡ has_read (view self.old) page result }
+        ensures own { additions_of (view self.old) page ≤ result };
+
+    /// The count of a page that is sliced. It lacks what the slices of the present phase have, the worker's own too.
+    fn glance(&mut self, page: u32) -> u64
+        requires { MayGlance (view self.old) page }
+        ensures view { view self.new ≡ has_glanced (view self.old) page result }
         ensures own { additions_of (view self.old) page ≤ result };
 
     /// The mask of the hot pages of the split phase that the worker runs: bit `p` is that of page `p`.

@@ -44,6 +44,8 @@ pub struct WorkerSeatView {
     pub last: Option<Sight>,
     pub additions: LinkedList<Addition>,
     pub reads: LinkedList<PageRead>,
+    /// The counts of sliced pages that it read.
+    pub glances: LinkedList<PageRead>,
     /// The masks that it read, the latest first.
     pub masks: LinkedList<PhaseMask>,
 }

@@ -1,10 +1,9 @@
 -- A like that a worker counts, and an addition that it notes.
-use Rattle.std.proofs.Common.{◌≡◌, ℕ, ◌+◌, ◌<◌, ◌≤◌, Bool, true, cond, List, [], ◌∷◌, ◌++◌, length, get_or, sum, Some, None, refl, ap, sym, ◌∙◌, arith, subst, vec_len, vec_capacity}
+use Rattle.std.proofs.Common.{◌≡◌, ℕ, ◌+◌, ◌<◌, ◌≤◌, Bool, true, cond, [], ◌∷◌, ◌++◌, length, get_or, sum, Some, None, refl, ap, sym, ◌∙◌, arith, subst, vec_len, vec_capacity}
 use Rattle.std.specs.List.{All}
-use Rattle.std.proofs.lemmas.List.Sums.{sum_by-append, sum_by-set}
+use Rattle.std.proofs.lemmas.List.Sums.{sum_by-set}
 use Rattle.like_core.specs.Additions.{all_added}
 use Rattle.like_core.specs.Post.{has_read, pages_of}
-use Rattle.like_core.specs.declared.view.Addition.{Addition}
 use Rattle.like_tables.specs.UserTable.{with_last}
 use Rattle.like_tables.specs.declared.held.Held.{Held}
 use Rattle.like_seat.specs.SeatView.{IsSeat, SeatView, phase_at}
@@ -15,12 +14,8 @@ use Rattle.like_roles.specs.declared.worker.desk.Desk.{Desk}
 use Rattle.like_roles.specs.worker.Desk.{HasRoom, HasRoomForOne, HasRoomToNote, IsOwn, IsSettled, view_of}
 use Rattle.like_roles.specs.worker.Serve as serve
 use Rattle.like_roles.specs.worker.Serve.{Likes, noted_if}
-use Rattle.like_roles.specs.worker.Turns.{merged_page}
+use Rattle.like_seat.proofs.MergedLikes.{all_added-push, merged_page-likes}
 use Rattle.like_roles.proofs.Held.{AreOwn-moved, settled-after}
-
--- one addition more
-pub all_added-push : (xs : List Addition) (a : Addition) → all_added (xs ++ a ∷ []) ≡ all_added xs + a.likes
-all_added-push xs a = sum_by-append (λ (b : Addition). b.likes) xs (a ∷ []) ∙ omega arith
 
 -- an addition in a phase was noted, where additions are
 pub record HasNoted (d e : Desk) (phase page old n : ℕ) : Type 0 where
@@ -86,14 +81,7 @@ read-settled s t d page count is seat e =
     (subst (λ x. HasRoom x d) (sym e) (record { taken = before.taken; ran = before.ran; few_ran = before.few_ran; adds = before.adds; few = before.few }))
     refl
 
--- a page that was merged, and noted
-pub noting-merged : (s t : SeatView Held) (d e : Desk) (from phase : ℕ) (m : Merged) → MergesPage s from m t → HasNoted d e phase m.page m.old m.likes → phase ≡ phase_at s
-    → view_of t e ≡ merged_page (view_of s d) m.page m.old
-noting-merged s t d e from phase m merges noted is =
-    noting-view t d e phase m.page m.old m.likes noted (is ∙ sym (ap (λ (x : SeatView Held). phase_at x) merges.merged))
-    ∙ (λ k. serve.noting (view_of (merges.merged k) d) m.page m.old (merges.likes k))
-
--- leaves room
+-- a page that was merged, and noted, leaves room
 pub merged-settled : (s t : SeatView Held) (d e : Desk) (from phase : ℕ) (m : Merged) → IsSettled s d → IsSeat t → MergesPage s from m t → HasNoted d e phase m.page m.old m.likes → IsSettled t e
 merged-settled s t d e from phase m is seat merges h =
     let now = steps.merged_page s m.page m.old in
@@ -102,7 +90,7 @@ merged-settled s t d e from phase m is seat merges h =
     let liked = merges.next.liked in
     let some : 1 ≤ likes = omega (arith, liked) in
     let less : sum now.slice + likes ≡ sum s.slice = omega (arith, sum_by-set (λ x. x) s.slice page 0 0 merges.next.there) in
-    let more : all_added now.post.additions ≡ all_added s.post.additions + likes = all_added-push s.post.additions (record { phase = phase_at s; page = page; old = m.old; likes = likes }) in
+    let same = merged_page-likes s page m.old merges.next.there in
     let before = is.sound.room in
     settled-after s t d e is seat (ap (λ (x : SeatView Held). x.post.limits) merges.merged) (ap (λ (x : SeatView Held). x.post.last) merges.merged) (ap (λ (x : SeatView Held). x.last.share) merges.merged)
     (subst (λ xs. All (IsOwn t) xs) (sym (ap (λ (x : SeatView Held). x.held.held) merges.merged)) (AreOwn-moved s t s.held.held (ap (λ (x : SeatView Held). x.last.share) merges.merged) (ap (λ (x : SeatView Held). x.post.marks) merges.merged) is.sound.held))
@@ -111,6 +99,6 @@ merged-settled s t d e from phase m is seat merges h =
       ran = before.ran;
       few_ran = before.few_ran;
       adds = λ n. omega (arith, before.adds n, h.len n, h.capacity, less, some);
-      few = omega (arith, before.few, more, less);
+      few = omega (arith, before.few, same);
     })))
     h.rest

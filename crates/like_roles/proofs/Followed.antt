@@ -3,8 +3,7 @@ use Rattle.std.proofs.Common.{◌≡◌, ◌≢◌, ℕ, ◌+◌, ◌%◌, ◌�
 use Rattle.std.proofs.lemmas.Bool.{cases_eq}
 use Rattle.std.proofs.lemmas.List.{map-append, length-replicate}
 use Rattle.std.proofs.lemmas.List.Elements.{All-head, All-tail, All-push}
-use Rattle.std.proofs.lemmas.List.Sums.{sum_by-append, sum_by-cons}
-use Rattle.std.specs.List.{All, sum_by}
+use Rattle.std.specs.List.{All}
 use Rattle.std.specs.Option.{option_map_or}
 use Rattle.like_requests.specs.declared.request.Numbered.{Numbered}
 use Rattle.like_requests.specs.declared.request.Request.{Request}
@@ -19,7 +18,7 @@ use Rattle.like_core.specs.PhaseMasks.{AreMasksOf}
 use Rattle.like_core.proofs.PhaseMasks.{masks-before, split-known}
 use Rattle.like_core.specs.Phase.{IsJoined, IsSplit, split}
 use Rattle.like_core.specs.WorkerState.{IsRunning, RunsJoined, RunsSplit, RunsSome, phase_of, seen}
-use Rattle.like_core.specs.Post.{additions_in, additions_of, answered, looked_at, pages_of, slices}
+use Rattle.like_core.specs.Post.{additions_in, answered, looked_at, pages_of, slices}
 use Rattle.like_tables.specs.declared.held.Held.{Held}
 use Rattle.like_roles.specs.declared.log.Took.{Took}
 use Rattle.like_roles.specs.declared.turn.Turn.{Turn}
@@ -29,21 +28,22 @@ use Rattle.like_roles.specs.service.Replies.{page_looked_at}
 use Rattle.like_roles.specs.worker.Serve.{Runs, ran_now, verdict_at}
 use Rattle.like_roles.specs.service.Service.{Service, is_split_in, marks, request_at, submitters}
 use Rattle.like_roles.specs.worker.Turns as turns
-use Rattle.like_roles.specs.worker.Turns.{CanGive, Gives, TakesAsk, Turns, Works, held_from, merged, merging, saw, settled, trying, with_stashed, with_taken, without_first, Merges, from_zero}
+use Rattle.like_roles.specs.worker.Turns.{CanGive, Gives, TakesAsk, Turns, Works, held_from, merged, saw, settled, trying, with_stashed, with_taken, without_first}
 use Rattle.like_requests.specs.Setup.{IsThere}
-use Rattle.like_roles.specs.worker.WorkerView.{WorkerView, has_to_wait, phase_at, submitter_at}
+use Rattle.like_roles.specs.worker.WorkerView.{WorkerView, has_to_wait, phase_at, seat_of, submitter_at}
+use Rattle.like_seat.specs.Merge.{Merges}
 use Rattle.like_seat.specs.SeatView.{HasPhaseMask, IsSliceInSplit}
 use Rattle.like_roles.proofs.order.Blocks.{block-after_joined, block-later, order_below-more, block-next-prompt, block-next-waits, order_below-prompt, order_below-waits, waits-joined}
 use Rattle.like_roles.proofs.Effects.{HasRunOne, Runs-effects}
 use Rattle.like_roles.proofs.order.InBlocks.{before-next, blocks-of_running, order-of_blocks, parity, running-of_blocks, runs-phase, runs-weaker}
-use Rattle.like_roles.proofs.Lists.{same_everywhere}
 use Rattle.like_roles.proofs.Keeps.{runs-keeps, works-keeps}
 use Rattle.like_seat.proofs.Looking.{has-after, splits-after}
-use Rattle.like_roles.proofs.Merging.{merging-all}
+use Rattle.like_seat.proofs.MergedLikes as merge
+use Rattle.like_seat.proofs.MergedLikes.{cond_same}
 use Rattle.like_roles.proofs.notes.NotedMerge.{merge-noted}
 use Rattle.like_roles.proofs.notes.Noting.{GivesReply-noted, running-unmerged, unmerged-running, unmerged-seen}
 use Rattle.like_roles.proofs.Served.{runs-split}
-use Rattle.like_roles.proofs.counts.Shown.{after-more, cond_same, shown_by-more}
+use Rattle.like_roles.proofs.counts.Shown.{after-more, shown_by-more}
 use Rattle.like_roles.proofs.counts.Tallied.{GivesReply-tallied, accepted-true}
 
 -- a worker that runs a phase and is in its blocks follows the plans
@@ -205,39 +205,6 @@ follows-held service v first rest after none f kept j e run =
       split_held = λ s. absurd (omega arith);
     })
 
--- a sum over additions that does not look at their counts
-sum-from_zero : (f : Addition → ℕ) → ((a : Addition) → f (from_zero a) ≡ f a) → (adds : List Addition) → sum_by f adds ≡ sum_by f (map from_zero adds)
-sum-from_zero f same [] = refl
-sum-from_zero f same (a ∷ adds) =
-    let here = same a in
-    let rest = sum-from_zero f same adds in
-    omega (arith, sum_by-cons f a adds, sum_by-cons f (from_zero a) (map from_zero adds))
-
--- the merge of a slice
-merged-likes : (v : WorkerView) (adds : List Addition) → Merges (phase_at v) v.slice (pages_of v.post) adds → IsSized v → (page : ℕ) → additions_of (merged v adds).post page + get_or (merged v adds).slice page 0 ≡ additions_of v.post page + get_or v.slice page 0
-merged-likes v adds merges s page =
-    let n = pages_of v.post in
-    let f : Addition → ℕ = λ a. cond (a.page == page) a.likes 0 in
-    let none : get_or (merged v adds).slice page 0 ≡ 0 = same_everywhere n page 0 in
-    let all = merging-all (λ _. true) (phase_at v) v.slice page n s.slice in
-    let new : sum_by f adds ≡ sum_by f (merging (phase_at v) v.slice n) = sum-from_zero f (λ a. refl) adds ∙ ap (sum_by f) merges in
-    let more = sum_by-append f v.post.additions adds in
-    omega arith
-
--- and in each phase
-merged-in : (v : WorkerView) (adds : List Addition) → Merges (phase_at v) v.slice (pages_of v.post) adds → IsSized v → (phase page : ℕ) → additions_in (merged v adds).post phase page + cond (phase_at v == phase) (get_or (merged v adds).slice page 0) 0
-    ≡ additions_in v.post phase page + cond (phase_at v == phase) (get_or v.slice page 0) 0
-merged-in v adds merges s phase page =
-    let n = pages_of v.post in
-    let f : Addition → ℕ = λ a. cond ((a.phase == phase) && (a.page == page)) a.likes 0 in
-    let none : cond (phase_at v == phase) (get_or (merged v adds).slice page 0) 0 ≡ 0 =
-    ap (λ (k : ℕ). cond (phase_at v == phase) k 0) (same_everywhere n page 0) ∙ cond_same (phase_at v == phase) 0
-    in
-    let all = merging-all (λ k. k == phase) (phase_at v) v.slice page n s.slice in
-    let new : sum_by f adds ≡ sum_by f (merging (phase_at v) v.slice n) = sum-from_zero f (λ a. refl) adds ∙ ap (sum_by f) merges in
-    let more = sum_by-append f v.post.additions adds in
-    omega arith
-
 -- a submitter is tried
 follows-trying : (service : Service) (v : WorkerView) (place : ℕ) → Follows service v → IsRunning v.post.state → (RunsJoined v.post.state → v.held.held ≡ []) → Follows service (trying v place)
 follows-trying service v place f run empty =
@@ -278,8 +245,8 @@ follows-reported service v adds merges f run none kept has =
       served = record { users = f.served.users; submitters_alike = f.served.submitters_alike; marks_alike = f.served.marks_alike; hot_alike = f.served.hot_alike };
       sized = record { slice = length-replicate (pages_of v.post) 0; users = f.sized.users };
       tallied = record {
-        likes = λ page. f.tallied.likes page ∙ sym (merged-likes v adds merges f.sized page);
-        by_phase = λ phase page. f.tallied.by_phase phase page ∙ sym (merged-in v adds merges f.sized phase page);
+        likes = λ page. f.tallied.likes page ∙ sym (merge.merged-tally (seat_of v) adds merges f.sized.slice page);
+        by_phase = λ phase page. f.tallied.by_phase phase page ∙ sym (merge.merged-in (seat_of v) adds merges f.sized.slice phase page);
         looks = f.tallied.looks ∙ sym (shown_by-more v.post.additions adds v.post.reads f.tallied.after);
         after = after-more v.post.additions adds v.post.reads f.tallied.after;
         replies = f.tallied.replies;

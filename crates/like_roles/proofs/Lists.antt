@@ -1,7 +1,6 @@
 -- Elements of lists by their places.
-use Rattle.std.proofs.Common.{◌≡◌, ℕ, zero, suc, ◌-◌, ◌<◌, inl, inr, List, [], ◌∷◌, ◌++◌, length, get_or, replicate, Some, refl, arith}
-use Rattle.std.proofs.lemmas.Bool.{cases_lt}
-use Rattle.std.proofs.lemmas.List.{length-append, length-replicate, get_or_past, get_or-replicate}
+use Rattle.std.proofs.Common.{◌≡◌, ℕ, zero, suc, ◌-◌, ◌<◌, List, [], ◌∷◌, ◌++◌, length, Some, refl, arith}
+use Rattle.std.proofs.lemmas.List.{length-append}
 use Rattle.std.specs.List.{slice_get}
 use Rattle.like_roles.specs.service.Likes.{last_in}
 
@@ -21,11 +20,3 @@ pub last_in-push : {X : Type 0} (xs : List X) (x : X) → last_in (xs ++ x ∷ [
 last_in-push xs x =
     let n : length (xs ++ x ∷ []) - 1 ≡ length xs = simp length-append (omega arith) in
     rw n (slice_get-at_end xs x)
-
--- a list of one element holds nothing else, whatever the place
-pub same_everywhere : {X : Type 0} (n i : ℕ) (x : X) → get_or (replicate n x) i x ≡ x
-same_everywhere {X} n i x =
-    elim (cases_lt i n) [
-      | inl inside ↦ get_or-replicate n i x x inside
-      | inr outside ↦ get_or_past (replicate n x) i x (omega (arith, length-replicate {A = X} n x))
-    ]

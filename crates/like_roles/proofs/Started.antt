@@ -25,9 +25,8 @@ use Rattle.like_roles.specs.service.Looks.{shown_by, shown_in}
 use Rattle.like_roles.specs.worker.WorkerView.{WorkerView, phase_at, submitter_at}
 use Rattle.like_seat.specs.SeatView.{IsSliceInSplit}
 use Rattle.like_roles.proofs.Effects.{Runs-effects}
-use Rattle.like_roles.proofs.Lists.{same_everywhere}
+use Rattle.like_seat.proofs.MergedLikes.{cond_same, same_everywhere}
 use Rattle.like_roles.proofs.notes.NotedMerge.{noted-nothing, one-of_likes}
-use Rattle.like_roles.proofs.counts.Shown.{cond_same}
 
 -- a new worker follows the plans
 pub follows-new : (s : Setup) (sizes : List ℕ) (worker : ℕ) (post : PostView) (notes : Bool) (v : WorkerView) (service : Service) → IsPostOf worker s.pages post → IsNew s sizes worker post notes v

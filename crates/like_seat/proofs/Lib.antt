@@ -1,3 +1,5 @@
 pub mod Leading
 pub mod Looking
+pub mod MergedLikes
 pub mod Merging
+pub mod WholeMerge

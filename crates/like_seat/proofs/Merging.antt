@@ -26,6 +26,7 @@ IsKept-reported post new t phase k none is e =
       marks = k.marks;
       state = ap (λ n. Answered n) (ap phase_of k.state ∙ sym is);
       hot = λ odd. absurd odd;
+      likes = k.likes;
       seat = record {
         few_pages = k.seat.few_pages;
         limits = k.seat.limits;

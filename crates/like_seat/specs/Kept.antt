@@ -4,7 +4,7 @@ use Rattle.like_core.specs.Phase.{is_marked, split}
 use Rattle.like_core.specs.PhaseMasks.{mask_of, HasMask}
 use Rattle.like_core.specs.Post.{PostView}
 use Rattle.like_core.specs.WorkerState.{RunsSplit, phase_of}
-use Rattle.like_seat.specs.SeatView.{IsSeat, SeatView}
+use Rattle.like_seat.specs.SeatView.{IsSeat, SeatView, likes_of}
 use Rattle.like_seat.specs.declared.tables.Tables.{Tables}
 
 -- the seat of a post and what is kept beside it
@@ -26,4 +26,5 @@ pub record IsKept {W : Type 0} (post : PostView) (t : Tables W) : Type 0 where
   pub marks : post.marks ≡ t.marks.items
   pub state : post.state ≡ t.state
   pub hot : KnowsHot post t.hot
+  pub likes : t.likes ≡ likes_of (view_of post t)
   pub seat : IsSeat (view_of post t)

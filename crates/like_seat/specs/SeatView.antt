@@ -4,7 +4,7 @@ use Rattle.like_core.specs.Additions.{all_added}
 use Rattle.like_core.specs.Limits.{max_pages}
 use Rattle.like_core.specs.OpeningLimits.{AreLimits}
 use Rattle.like_core.specs.PhaseMasks.{HasMask}
-use Rattle.like_core.specs.Post.{PostView, pages_of, slices}
+use Rattle.like_core.specs.Post.{PostView, additions_of, pages_of, slices}
 use Rattle.like_core.specs.WorkerState.{RunsSplit, phase_of}
 use Rattle.like_tables.specs.UserTable.{UserTable}
 use Rattle.like_tables.specs.Waiting.{IsWaiting, Waiting}
@@ -21,6 +21,14 @@ pub record SeatView (W : Type 0) : Type 0 where
 abbrev pub phase_at : {W : Type 0} → SeatView W → ℕ
 phase_at s = phase_of s.post.state
 
+-- how many likes it has counted: what it has added, and its slice
+abbrev pub likes_of : {W : Type 0} → SeatView W → ℕ
+likes_of s = all_added s.post.additions + sum s.slice
+
+-- how many likes of a page
+abbrev pub tally_of : {W : Type 0} → SeatView W → ℕ → ℕ
+tally_of s page = additions_of s.post page + slice_index s.slice page
+
 -- in a split phase the post has read the phase's mask
 abbrev pub HasPhaseMask : PostView → Type 0
 HasPhaseMask post = RunsSplit post.state → HasMask (phase_of post.state) post.masks
@@ -31,8 +39,8 @@ IsSliceInSplit post slice =
     (page : ℕ) → slice_index slice page ≢ 0 → RunsSplit post.state × (slices post page ≡ true)
 
 -- what is true of every seat: its board has at most 1,024 pages and lawful limits, and its phase is within them; its
--- slice has a number for each page; what it has added and its slice together are no more likes than a worker may add; and
--- it holds no more than it has room for
+-- slice has a number for each page; it has counted no more likes than a worker may add; and it holds no more than it has
+-- room for
 pub record IsSeat {W : Type 0} (s : SeatView W) : Type 0 where
   pub few_pages : pages_of s.post ≤ max_pages
   pub limits : AreLimits s.post.limits
@@ -40,5 +48,5 @@ pub record IsSeat {W : Type 0} (s : SeatView W) : Type 0 where
   pub sized : length s.slice ≡ pages_of s.post
   pub masked : HasPhaseMask s.post
   pub split : IsSliceInSplit s.post s.slice
-  pub few : all_added s.post.additions + sum s.slice ≤ s.post.limits.likes
+  pub few : likes_of s ≤ s.post.limits.likes
   pub waiting : IsWaiting s.held

@@ -4,7 +4,7 @@ ghost use Rattle.like_core.specs.Limits.{max_pages};
 ghost use Rattle.like_core.specs.OpeningLimits.{AreLimits};
 ghost use Rattle.like_core.specs.Post.{IsFresh, pages_of};
 ghost use Rattle.like_requests.specs.Limits.{max_stash};
-ghost use Rattle.like_seat.specs.SeatView.{IsSeat, phase_at};
+ghost use Rattle.like_seat.specs.SeatView.{IsSeat, likes_of, phase_at};
 ghost use Rattle.like_seat.specs.Steps.{IsNewSeat};
 
 mod answers;
@@ -86,6 +86,14 @@ impl<P: Post, W: Copy> Seat<P, W> {
         matches!(self.tables.state, WorkerState::Gone)
     }
 
+    /// How many likes it has counted: what it has added on the board, and its slice.
+    pub fn likes(&self) -> u64
+        ensures likes { result ≡ likes_of self.now }
+        ensures seat { IsSeat self.now }
+    {
+        self.tables.likes
+    }
+
     /// Its users, with their last likes.
     pub fn users(&self) -> &Users
         ensures { result.now ≡ self.now.last }
@@ -95,7 +103,8 @@ impl<P: Post, W: Copy> Seat<P, W> {
 
     /// Leaves the post, whatever is left to do.
     pub fn leave(self) -> P
-        ensures { P.view result ≡ self.post }
+        ensures post { P.view result ≡ self.post }
+        ensures seat { IsSeat self }
     {
         let Seat { post, .. } = self;
         post

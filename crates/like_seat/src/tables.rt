@@ -22,6 +22,8 @@ pub(crate) struct Tables<W: Copy> {
     /// What waits for the next joined phase, and in that phase what is left of it.
     pub held: Stash<W>,
     pub slice: Slice,
+    /// How many likes it has counted: what was added on the board, and the slice.
+    pub likes: u64,
     /// The last likes of its users.
     pub last: Users,
 }
@@ -41,6 +43,7 @@ impl<W: Copy> Tables<W> {
         ensures state { IfOk result (λ tables. tables.state ≡ Runs 0) }
         ensures held { IfOk result (λ tables. tables.held ≡ record { held = []; capacity = room }) }
         ensures slice { IfOk result (λ tables. tables.slice ≡ replicate (length marks.items) 0) }
+        ensures likes { IfOk result (λ tables. tables.likes ≡ 0) }
         ensures last { IfOk result (λ tables. tables.last ≡ last) }
     {
         let pages = marks.len() as u32;
@@ -50,6 +53,7 @@ impl<W: Copy> Tables<W> {
             hot: 0,
             held: Stash::new(alloc, room)?,
             slice: Slice::new(alloc, pages)?,
+            likes: 0,
             last,
         })
     }

@@ -1,4 +1,5 @@
 pub mod Homes
+pub mod LastLike
 pub mod Liked
 pub mod Limits
 pub mod PageSet

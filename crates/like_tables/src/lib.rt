@@ -3,6 +3,7 @@
 #![tactic(auto)]
 
 mod held;
+mod last_like;
 mod page_set;
 mod share;
 mod slice;

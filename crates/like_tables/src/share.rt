@@ -2,6 +2,7 @@ ghost use Rattle.std.specs.Prelude.{◌≡◌, ◌<◌, ◌≤◌, IfOk, length}
 ghost use Rattle.like_tables.specs.Places.{HoldsUsers, IsGiven};
 ghost use Rattle.like_tables.specs.Share.{owned_below, owns, share_of, submitter_of};
 
+use crate::last_like::LastLike;
 use std::alloc::{AllocError, Global};
 use std::marker::Model;
 
@@ -83,7 +84,7 @@ impl UserShare {
 
     // Writes the pages at the places of the worker's users to the places of all users. It walks over the users
     // submitter by submitter and round by round, so that none costs a division.
-    pub fn give(&self, pages: &[Option<u32>], last: &mut [Option<u32>])
+    pub fn give(&self, pages: &[LastLike], last: &mut [Option<u32>])
         requires places { HoldsUsers self.now pages.now }
         requires users { length last.old ≡ self.now.users }
         ensures { IsGiven self.now pages.now last.old last.new (length pages.now) }
@@ -92,7 +93,7 @@ impl UserShare {
         let first = self.worker as usize;
         let (mut round, mut submitter) = (0, first);
         for page in pages {
-            last[round + submitter] = *page;
+            last[round + submitter] = page.page();
             submitter += workers;
             if submitter >= submitters {
                 round += submitters;

@@ -1,8 +1,10 @@
 ghost use Rattle.std.specs.Prelude.{◌≡◌, ◌≢◌, ◌<◌, ◌≤◌, ◌↔◌, ℕ, None, Some, IfOk, IsTrue, false, length, slice_index_or};
 ghost use Rattle.like_requests.specs.Verdict.{is_accepted, verdict_of};
+ghost use Rattle.like_tables.specs.LastLike.{no_page};
 ghost use Rattle.like_tables.specs.Share.{owns, share_of, submitter_of};
 ghost use Rattle.like_tables.specs.UserTable.{IsUserTable, last_of, table_without_likes, with_last};
 
+use crate::last_like::LastLike;
 use crate::share::UserShare;
 use like_requests::{Request, Verdict, judge};
 use std::alloc::{AllocError, Global};
@@ -14,8 +16,8 @@ use std::marker::Model;
 #[derive(Debug, Drop)]
 pub struct Users {
     share: UserShare,
-    // The page of each such user's last like, in the order of the users.
-    pages: Vec<Option<u32>>,
+    // The last like of each such user, in the order of the users.
+    pages: Vec<LastLike>,
 }
 
 impl Model for Users {
@@ -48,7 +50,7 @@ impl Users {
         let places = share.owned_below(users) as usize;
         Ok(Users {
             share,
-            pages: vec![in alloc; None; places]?,
+            pages: vec![in alloc; LastLike::none(); places]?,
         })
     }
 
@@ -92,19 +94,20 @@ impl Users {
         requires { IsTrue (owns self.now.share user) }
         ensures { result ≡ last_of self.now user }
     {
-        self.pages[self.share.owned_below(user) as usize]
+        self.pages[self.share.owned_below(user) as usize].page()
     }
 
     /// Notes that the user's last like is of this page.
     pub fn set(&mut self, user: u32, page: u32)
-        requires { IsTrue (owns self.old.share user) }
+        requires owned { IsTrue (owns self.old.share user) }
+        requires page { page < no_page }
         ensures table { self.new ≡ with_last self.old user page }
         ensures user { last_of self.new user ≡ Some page }
         ensures others { (other : ℕ) → other ≢ user
             → last_of self.new other ≡ last_of self.old other }
     {
         let place = self.share.owned_below(user) as usize;
-        self.pages[place] = Some(page);
+        self.pages[place] = LastLike::of(page);
     }
 
     /// Writes the last like of each user of the worker to the user's place, and nothing to the places of others.

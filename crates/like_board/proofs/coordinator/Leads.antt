@@ -21,7 +21,7 @@ use Rattle.like_core.specs.core.State.{CoreState}
 use Rattle.like_core.specs.word.ShownWord.{shown_word}
 use Rattle.like_core.specs.Additions.{added_before}
 use Rattle.like_core.specs.views.Views.{fresh, made_coord, seats_of}
-use Rattle.like_core.specs.views.Reads.{before_in, all_before, IsBetween, AreBetween, IsCounted}
+use Rattle.like_core.specs.views.Reads.{before_in, all_before, IsBetween, HaveBetween, IsCounted}
 use Rattle.like_core.specs.views.Layout.{mask_place, word_of}
 use Rattle.like_core.specs.views.Shows.{Shows, Fits, FitsWorker, FitsCoord}
 use Rattle.like_core.proofs.views.Apart.{word_of-past}
@@ -29,10 +29,10 @@ use Rattle.like_core.proofs.views.ViewLists.{within, sum_set}
 use Rattle.like_core.proofs.views.KeptReads.{reads_same, reads_push, counted_on, counted_same}
 use Rattle.like_board.proofs.worker.Moves.{if_some, same_coord, counts_none, counts_one}
 
--- the reads of the views of seats that were given back lie between
+-- the reads and glances of the views of seats that were given back lie between
 abbrev HasJoinedReads : List ℕ → (ℕ → ℕ → ℕ) → ℕ → List WorkerSeatView → Type 0
 HasJoinedReads counts before phase joined =
-    (place : ℕ) (v : WorkerSeatView) → get_elem? joined place ≡ some v → AreBetween counts before phase v.additions v.reads
+    (place : ℕ) (v : WorkerSeatView) → get_elem? joined place ≡ some v → HaveBetween counts before phase v
 
 -- the state in another phase, where these are the masks of phases
 abbrev pub phased : CoreState → ℕ → Bool → (ℕ → ℕ) → CoreState
@@ -199,7 +199,7 @@ splits z s words views place c sh at room =
           (sh.once i ∙ ap (λ (e : CoordSeatView). cond (nat_lt i e.made) 1 0) is.1)) ∙
           one_more i c.made);
       reads = λ j u found.
-          reads_push z.counts s.phase changed (Worker new) (λ k p. refl) (λ f. All-nil (λ (r : PageRead). (r.phase ≤ s.phase) × IsBetween z.counts f [] r))
+          reads_push z.counts s.phase changed (Worker new) (λ k p. refl) (λ f. let none = All-nil (λ (r : PageRead). (r.phase ≤ s.phase) × IsBetween z.counts f [] r) in (none, none))
           (reads_same z.counts s.phase s.phase views place (Coord c) (Coord d) (omega arith) at (λ k p. refl) (λ f has. has) sh.reads)
           j u
           (at_snoc changed (Worker new) u j found);

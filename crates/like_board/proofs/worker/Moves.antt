@@ -22,7 +22,7 @@ use Rattle.like_core.specs.core.State.{CoreState, numbers}
 use Rattle.like_core.specs.word.ShownWord.{shown_word}
 use Rattle.like_core.specs.Additions.{added_before}
 use Rattle.like_core.specs.views.Views.{seats_of}
-use Rattle.like_core.specs.views.Reads.{all_before, AreBetween, IsCounted, ReadsFit}
+use Rattle.like_core.specs.views.Reads.{all_before, HaveBetween, IsCounted, ReadsFit}
 use Rattle.like_core.specs.views.Layout.{mask_place, word_of}
 use Rattle.like_core.specs.views.Shows.{Shows, Fits, FitsWorker, FitsCoord}
 use Rattle.like_core.proofs.Updates.{update-same, update-other, update_cases}
@@ -221,7 +221,7 @@ worker_moves z s words views place v w state word sh at rest word_is fits stays 
     (λ u none seat f. fits_other z s v.worker state old.there stays gone u none seat f)
     (reads_same z.counts s.phase s.phase views place (Worker v) (Worker w) (omega arith) at
     (λ k p. ap (λ (x : WorkerSeatView). added_before k p x.additions) rest)
-    (λ f has. subst (λ (x : WorkerSeatView). AreBetween z.counts f s.phase x.additions x.reads) (sym rest) has)
+    (λ f has. subst (λ (x : WorkerSeatView). HaveBetween z.counts f s.phase x) (sym rest) has)
     sh.reads)
     (counted_same z.counts views place (Worker v) (Worker w) sh.coord.counted at
     (λ k p. ap (λ (x : WorkerSeatView). added_before k p x.additions) rest)

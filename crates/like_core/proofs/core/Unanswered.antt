@@ -3,7 +3,7 @@ use Rattle.std.proofs.lemmas.Bool.{ne_eqb, ltb-true}
 use Rattle.like_core.specs.declared.worker_state.WorkerState.{WorkerState}
 use Rattle.like_core.specs.declared.worker_state.WorkerState.TheVariants.{Runs, Answered, Gone}
 use Rattle.like_core.specs.declared.event.Event.{Event}
-use Rattle.like_core.specs.declared.event.Event.TheVariants.{Look, Acknowledge, Report, Retire, Like, Read, Merge, Hot, CoordLook, CoordRead, Announce, Release}
+use Rattle.like_core.specs.declared.event.Event.TheVariants.{Look, Acknowledge, Report, Retire, Like, Read, Glance, Merge, Hot, CoordLook, CoordRead, Announce, Release}
 use Rattle.like_core.specs.declared.opening.Opening.{Opening}
 use Rattle.like_core.specs.Functions.{update}
 use Rattle.like_core.specs.Phase.{is_marked, split}
@@ -82,6 +82,7 @@ keeps_unanswered z s (Like i page) p none may =
     none
     none
 keeps_unanswered z s (Read i page) p none may = none
+keeps_unanswered z s (Glance i page) p none may = none
 keeps_unanswered z s (Merge i page) p none may = none
 keeps_unanswered z s (Hot i) p none may = none
 keeps_unanswered z s CoordLook p none may = none

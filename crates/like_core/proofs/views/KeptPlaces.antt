@@ -15,11 +15,11 @@ use Rattle.like_core.specs.declared.view.WorkerSeatView.{WorkerSeatView}
 use Rattle.like_core.specs.declared.view.CoordSeatView.{CoordSeatView}
 use Rattle.like_core.specs.declared.view.View.{View}
 use Rattle.like_core.specs.declared.view.View.TheVariants.{Coord, Worker, Spent}
-use Rattle.like_core.specs.Additions.{addition, added_to}
+use Rattle.like_core.specs.Additions.{addition, added_to, page_read}
 use Rattle.like_core.specs.views.Tallies.{paged}
 use Rattle.like_core.specs.WorkerState.{phase_of}
-use Rattle.like_core.specs.views.Views.{added_view, read_view, gathered_coord}
-use Rattle.like_core.specs.views.Places.{end_of, has_number, ends_at, is_empty, Counting, AreTiles, IsEnd, IsInPlace, AreInOrder, ArePlaced, HasPlaces, passing, all_passing, count_after, PlacesTile, AdditionKeepsPlaces, ReadKeepsPlaces, JoinKeepsPlaces}
+use Rattle.like_core.specs.views.Views.{added_view, read_view, glanced_view, gathered_coord}
+use Rattle.like_core.specs.views.Places.{end_of, has_number, ends_at, is_empty, Counting, AreTiles, IsEnd, IsInPlace, AreInOrder, ArePlaced, HavePlaced, HasPlaces, passing, all_passing, count_after, PlacesTile, AdditionKeepsPlaces, ReadKeepsPlaces, GlanceKeepsPlaces, JoinKeepsPlaces}
 use Rattle.like_core.proofs.core.Labels.{added_to-push}
 use Rattle.like_core.proofs.views.ViewLists.{sum_part, sum_swap, sum_gathered, replaced, kept}
 
@@ -165,9 +165,16 @@ placed_on first f g own reads more p = record {
   order = p.order;
 }
 
+-- and that it glanced at
+pub both_placed_on : (first : ℕ → ℕ) (f g : Counting) (v : WorkerSeatView) → ((test : Addition → Bool) → f test ≤ g test) → HavePlaced first f v → HavePlaced first g v
+both_placed_on first f g v more h = (
+  placed_on first f g v.additions v.reads more h.0,
+  placed_on first f g v.additions v.glances more h.1,
+)
+
 pub has_places_on : (first : ℕ → ℕ) (f g : Counting) (u : View) → ((test : Addition → Bool) → f test ≤ g test) → HasPlaces first f u → HasPlaces first g u
-has_places_on first f g (Coord c) more h = λ place v at. placed_on first f g v.additions v.reads more (h place v at)
-has_places_on first f g (Worker v) more h = placed_on first f g v.additions v.reads more h
+has_places_on first f g (Coord c) more h = λ place v at. both_placed_on first f g v more (h place v at)
+has_places_on first f g (Worker v) more h = both_placed_on first f g v more h
 has_places_on first f g Spent more h = tt
 
 -- places tile after one view was replaced
@@ -188,9 +195,9 @@ tiles_on first f_last g_last f g same_last same t = record {
   some = same is_empty ∙ t.some;
 }
 
--- by a view with the same additions and reads
-pub places_same : (counts : List ℕ) (views : List View) (place : ℕ) (a b : View) → get_elem? views place ≡ some a → ((test : Addition → Bool) → passing test b ≡ passing test a) → ((page : ℕ) → paged page b ≡ paged page a) → ((first : ℕ → ℕ) (f : Counting) → HasPlaces first f a → HasPlaces first f b) → PlacesTile counts views → PlacesTile counts (set views place b)
-places_same counts views place a b at same pages has p =
+-- places tile where a view is replaced by one that has the same additions, and whose reads have their places
+places_with : (counts : List ℕ) (views : List View) (place : ℕ) (a b : View) → get_elem? views place ≡ some a → ((test : Addition → Bool) → passing test b ≡ passing test a) → ((page : ℕ) → paged page b ≡ paged page a) → HasPlaces (slice_index counts) (all_passing views) b → PlacesTile counts views → PlacesTile counts (set views place b)
+places_with counts views place a b at same pages has p =
     let later : List View = set views place b in
     let all : (test : Addition → Bool) → all_passing later test ≡ all_passing views test =
     λ test. (let swap = sum_swap (passing test) views place a b at in let here = same test in omega arith)
@@ -204,8 +211,13 @@ places_same counts views place a b at same pages has p =
     (λ page.
     subst (IsEnd (slice_index counts) (all_passing later) page) (sym (last page))
     (end_on (slice_index counts) (all_passing views) (all_passing later) page (count_after counts views page) more (p.last page)))
-    (has (slice_index counts) (all_passing later) (has_places_on (slice_index counts) (all_passing views) (all_passing later) a more (p.each place a at)))
+    (has_places_on (slice_index counts) (all_passing views) (all_passing later) b more has)
     p
+
+-- by a view with the same additions and reads
+pub places_same : (counts : List ℕ) (views : List View) (place : ℕ) (a b : View) → get_elem? views place ≡ some a → ((test : Addition → Bool) → passing test b ≡ passing test a) → ((page : ℕ) → paged page b ≡ paged page a) → ((first : ℕ → ℕ) (f : Counting) → HasPlaces first f a → HasPlaces first f b) → PlacesTile counts views → PlacesTile counts (set views place b)
+places_same counts views place a b at same pages has p =
+    places_with counts views place a b at same pages (has (slice_index counts) (all_passing views) (p.each place a at)) p
 
 -- a worker's calls keep their order where it adds to a count that is at least what it left and read
 order-added : (own : List Addition) (reads : List PageRead) (phase page old n : ℕ) → All (λ a. page ≡ a.page → end_of a ≤ old) own → All (λ r. page ≡ r.page → r.count ≤ old) reads → AreInOrder own reads → AreInOrder (own ++ addition phase page old n ∷ []) reads
@@ -242,20 +254,22 @@ order-read own reads phase page count left found o =
       });
     }
 
--- what a worker left of a page, and what it read of it, is at most the present count
-left_within : (counts : List ℕ) (views : List View) (place : ℕ) (v : WorkerSeatView) (page count : ℕ) → get_elem? views place ≡ some (Worker v) → count ≡ count_after counts views page → PlacesTile counts views → All (λ a. page ≡ a.page → end_of a ≤ count) v.additions × All (λ r. page ≡ r.page → r.count ≤ count) v.reads
-left_within counts views place v page count at is p = (
-  λ i d inside same.
-      let low = own_within counts views place v at p i d inside in
-      let here = ap (count_after counts views) same in
-      omega arith,
-  λ i d inside same.
-      let r : PageRead = get_or v.reads i d in
-      let mine : ArePlaced (slice_index counts) (all_passing views) v.additions v.reads = p.each place (Worker v) at in
-      let low = end_within counts views r.page r.count p (mine.ends i d inside) in
-      let here = ap (count_after counts views) same in
-      omega arith,
-)
+-- what a worker left of a page is at most the present count
+left_within : (counts : List ℕ) (views : List View) (place : ℕ) (v : WorkerSeatView) (page count : ℕ) → get_elem? views place ≡ some (Worker v) → count ≡ count_after counts views page → PlacesTile counts views → All (λ a. page ≡ a.page → end_of a ≤ count) v.additions
+left_within counts views place v page count at is p =
+    λ i d inside same.
+    let low = own_within counts views place v at p i d inside in
+    let here = ap (count_after counts views) same in
+    omega arith
+
+-- and so is what it read of it
+found_within : (counts : List ℕ) (views : List View) (own : List Addition) (reads : List PageRead) (page count : ℕ) → count ≡ count_after counts views page → PlacesTile counts views → ArePlaced (slice_index counts) (all_passing views) own reads → All (λ r. page ≡ r.page → r.count ≤ count) reads
+found_within counts views own reads page count is p mine =
+    λ i d inside same.
+    let r : PageRead = get_or reads i d in
+    let low = end_within counts views r.page r.count p (mine.ends i d inside) in
+    let here = ap (count_after counts views) same in
+    omega arith
 
 -- one addition, at the present count
 pub addition_keeps_places : AdditionKeepsPlaces
@@ -331,41 +345,41 @@ addition_keeps_places counts views place v page old n at is some_likes p =
     ]
     in
     let low = left_within counts views place v page old at is p in
-    let mine : ArePlaced first f v.additions v.reads = p.each place (Worker v) at in
-    let mine_now : ArePlaced first g v.additions v.reads = placed_on first f g v.additions v.reads no_less mine in
-    let has : ArePlaced first g w.additions v.reads =
-    record { ends = mine_now.ends; order = order-added v.additions v.reads (phase_of v.state) page old n low.0 low.1 mine.order }
+    let mine : HavePlaced first f v = p.each place (Worker v) at in
+    let has : (reads : List PageRead) → ArePlaced first f v.additions reads → ArePlaced first g w.additions reads =
+    λ reads placed.
+    let found = found_within counts views v.additions reads page old is p placed in
+    let now : ArePlaced first g v.additions reads = placed_on first f g v.additions reads no_less placed in
+    record { ends = now.ends; order = order-added v.additions reads (phase_of v.state) page old n low found placed.order }
     in
-    places_set counts views place (Worker w) no_less tiles last_now has p
+    places_set counts views place (Worker w) no_less tiles last_now (has v.reads mine.0, has v.glances mine.1) p
+
+-- a list of reads with one more, of the present count
+placed-read : (counts : List ℕ) (views : List View) (place : ℕ) (v : WorkerSeatView) (page count : ℕ) (reads : List PageRead) → get_elem? views place ≡ some (Worker v) → count ≡ count_after counts views page → PlacesTile counts views → ArePlaced (slice_index counts) (all_passing views) v.additions reads → ArePlaced (slice_index counts) (all_passing views) v.additions (reads ++ page_read (phase_of v.state) page count (length v.additions) ∷ [])
+placed-read counts views place v page count reads at is p mine =
+    let first : ℕ → ℕ = slice_index counts in
+    let r : PageRead = page_read (phase_of v.state) page count (length v.additions) in
+    let P : PageRead → Type 0 = λ x. IsEnd first (all_passing views) x.page x.count in
+    let end : P r = subst (IsEnd first (all_passing views) page) (sym is) (p.last page) in
+    record {
+      ends = All-push P reads r mine.ends end;
+      order = order-read v.additions reads (phase_of v.state) page count (left_within counts views place v page count at is p) (found_within counts views v.additions reads page count is p mine) mine.order;
+    }
 
 -- one read, of the present count
 pub read_keeps_places : ReadKeepsPlaces
 read_keeps_places counts views place v page count at is p =
-    let w : WorkerSeatView = read_view v page count in
-    let r : PageRead = record { phase = phase_of v.state; page = page; count = count; after = length v.additions } in
-    let first : ℕ → ℕ = slice_index counts in
-    let low = left_within counts views place v page count at is p in
-    let mine : ArePlaced first (all_passing views) v.additions v.reads = p.each place (Worker v) at in
-    let P : PageRead → Type 0 = λ x. IsEnd first (all_passing views) x.page x.count in
-    let end : P r = subst (IsEnd first (all_passing views) page) (sym is) (p.last page) in
-    let has : ArePlaced first (all_passing views) v.additions w.reads =
-    record {
-      ends = All-push P v.reads r mine.ends end;
-      order = order-read v.additions v.reads (phase_of v.state) page count low.0 low.1 mine.order;
-    }
-    in
-    let later : List View = set views place (Worker w) in
-    let all : (test : Addition → Bool) → all_passing later test ≡ all_passing views test =
-    λ test. (let swap = sum_swap (passing test) views place (Worker v) (Worker w) at in omega arith)
-    in
-    let last : (q : ℕ) → count_after counts later q ≡ count_after counts views q =
-    λ q. (let swap = sum_swap (paged q) views place (Worker v) (Worker w) at in omega arith)
-    in
-    let more : (test : Addition → Bool) → all_passing views test ≤ all_passing later test = λ test. (let e = all test in omega arith) in
-    places_set counts views place (Worker w) more
-    (tiles_on first (count_after counts views) (count_after counts later) (all_passing views) (all_passing later) last all p.tiles)
-    (λ q. subst (IsEnd first (all_passing later) q) (sym (last q)) (end_on first (all_passing views) (all_passing later) q (count_after counts views q) more (p.last q)))
-    (placed_on first (all_passing views) (all_passing later) v.additions w.reads more has)
+    let mine : HavePlaced (slice_index counts) (all_passing views) v = p.each place (Worker v) at in
+    places_with counts views place (Worker v) (Worker (read_view v page count)) at (λ _. refl) (λ _. refl)
+    (placed-read counts views place v page count v.reads at is p mine.0, mine.1)
+    p
+
+-- one glance
+pub glance_keeps_places : GlanceKeepsPlaces
+glance_keeps_places counts views place v page count at is p =
+    let mine : HavePlaced (slice_index counts) (all_passing views) v = p.each place (Worker v) at in
+    places_with counts views place (Worker v) (Worker (glanced_view v page count)) at (λ _. refl) (λ _. refl)
+    (mine.0, placed-read counts views place v page count v.glances at is p mine.1)
     p
 
 -- one seat that is given back
@@ -412,7 +426,7 @@ join_keeps_places counts views place other c v at mine p =
   where
     gathered_places : (first : ℕ → ℕ) (g : Counting) → HasPlaces first g (Worker v) → HasPlaces first g (Coord c) → HasPlaces first g (Coord (gathered_coord c v))
     gathered_places first g own back zero w found =
-        subst (λ (x : WorkerSeatView). ArePlaced first g x.additions x.reads) (some-injective v w found) own
+        subst (λ (x : WorkerSeatView). HavePlaced first g x) (some-injective v w found) own
     gathered_places first g own back (suc j) w found = back j w found
 
 -- one view more, that has added and read nothing

@@ -14,10 +14,10 @@ use Rattle.like_core.specs.declared.view.WorkerSeatView.{WorkerSeatView}
 use Rattle.like_core.specs.declared.view.CoordSeatView.{CoordSeatView}
 use Rattle.like_core.specs.declared.view.View.{View}
 use Rattle.like_core.specs.declared.view.View.TheVariants.{Coord, Worker, Spent}
-use Rattle.like_core.specs.Additions.{addition, added_in, added_before}
+use Rattle.like_core.specs.Additions.{addition, added_in, added_before, page_read}
 use Rattle.like_core.specs.WorkerState.{phase_of}
-use Rattle.like_core.specs.views.Views.{added_view, read_view, gathered_coord}
-use Rattle.like_core.specs.views.Reads.{before_in, all_before, IsBetween, AreBetween, IsCounted, HasReads, ReadsFit, AdditionKeepsReads, ReadKeepsReads, JoinKeepsReads}
+use Rattle.like_core.specs.views.Views.{added_view, read_view, glanced_view, gathered_coord}
+use Rattle.like_core.specs.views.Reads.{before_in, all_before, IsBetween, AreBetween, IsCounted, HaveBetween, HasReads, ReadsFit, AdditionKeepsReads, ReadKeepsReads, GlanceKeepsReads, JoinKeepsReads}
 use Rattle.like_core.proofs.core.Labels.{added_in-push, added_before-push, added_before-next, one_before-next}
 use Rattle.like_core.proofs.views.ViewLists.{sum_mono, sum_more, sum_swap, sum_gathered, replaced, kept}
 
@@ -34,12 +34,19 @@ between_on counts f g phase later own reads on no_more no_less each = λ i d ins
     let most = b.most in
     (omega arith, record { after = b.after; least = omega arith; most = omega arith })
 
+-- and glances with them
+pub both_between_on : (counts : List ℕ) (f g : ℕ → ℕ → ℕ) (phase later : ℕ) (v : WorkerSeatView) → phase ≤ later → ((k p : ℕ) → k ≤ phase → g k p ≤ f k p) → ((k p : ℕ) → f k p ≤ g k p) → HaveBetween counts f phase v → HaveBetween counts g later v
+both_between_on counts f g phase later v on no_more no_less h = (
+  between_on counts f g phase later v.additions v.reads on no_more no_less h.0,
+  between_on counts f g phase later v.additions v.glances on no_more no_less h.1,
+)
+
 -- and those that a view has
 pub has_reads_on : (counts : List ℕ) (f g : ℕ → ℕ → ℕ) (phase later : ℕ) (u : View) → phase ≤ later → ((k p : ℕ) → k ≤ phase → g k p ≤ f k p) → ((k p : ℕ) → f k p ≤ g k p) → HasReads counts f phase u → HasReads counts g later u
 has_reads_on counts f g phase later (Coord c) on no_more no_less h =
-    λ place v at. between_on counts f g phase later v.additions v.reads on no_more no_less (h place v at)
+    λ place v at. both_between_on counts f g phase later v on no_more no_less (h place v at)
 has_reads_on counts f g phase later (Worker v) on no_more no_less h =
-    between_on counts f g phase later v.additions v.reads on no_more no_less h
+    both_between_on counts f g phase later v on no_more no_less h
 has_reads_on counts f g phase later Spent on no_more no_less h = tt
 
 -- and those of all, where one view is replaced
@@ -127,10 +134,10 @@ addition_keeps_reads counts views place v page old n at fit =
     λ k p past. (let e = more k p in let none = not_before now k n (page == p) past in omega arith)
     in
     let no_less : (k p : ℕ) → f k p ≤ g k p = λ k p. (let e = more k p in omega arith) in
-    let has : AreBetween counts g now w.additions v.reads =
-    λ i d inside.
-    let fits = fit place (Worker v) at i d inside in
-    let r : PageRead = get_or v.reads i d in
+    let has : (reads : List PageRead) → AreBetween counts f now v.additions reads → AreBetween counts g now w.additions reads =
+    λ reads each i d inside.
+    let fits = each i d inside in
+    let r : PageRead = get_or reads i d in
     let b : IsBetween counts f v.additions r = fits.1 in
     let within = fits.0 in
     let new : List Addition = addition now page old n ∷ [] in
@@ -146,7 +153,8 @@ addition_keeps_reads counts views place v page old n at fit =
     let push = added_in-push (drop r.after v.additions) now page old n r.phase r.page in
     (within, record { after = omega arith; least = omega arith; most = omega arith })
     in
-    reads_set counts now now views place (Worker w) (omega arith) no_more no_less has fit
+    let mine : HaveBetween counts f now v = fit place (Worker v) at in
+    reads_set counts now now views place (Worker w) (omega arith) no_more no_less (has v.reads mine.0, has v.glances mine.1) fit
 
 -- what a view has added before a phase is in what it has added before the next
 before_in-next : (phase page : ℕ) (u : View) → before_in phase page u ≤ before_in (phase + 1) page u
@@ -156,17 +164,16 @@ before_in-next phase page (Coord c) =
 before_in-next phase page (Worker v) = let e = added_before-next v.additions phase page in omega arith
 before_in-next phase page Spent = omega arith
 
--- one read in the present phase
-pub read_keeps_reads : ReadKeepsReads
-read_keeps_reads counts views place v page count at is fit =
+-- one read or glance in the present phase, which the view after has behind those before
+one_read : (counts : List ℕ) (views : List View) (place : ℕ) (v w : WorkerSeatView) (page count : ℕ) → get_elem? views place ≡ some (Worker v) → count ≡ slice_index counts page + all_before views (phase_of v.state + 1) page → w.additions ≡ v.additions → ((P : PageRead → Type 0) → P (page_read (phase_of v.state) page count (length v.additions)) → All P v.reads × All P v.glances → All P w.reads × All P w.glances) → ReadsFit counts (phase_of v.state) views → ReadsFit counts (phase_of v.state) (set views place (Worker w))
+one_read counts views place v w page count at is same_additions with_read fit =
     let now : ℕ = phase_of v.state in
-    let w : WorkerSeatView = read_view v page count in
     let later : List View = set views place (Worker w) in
     let g : ℕ → ℕ → ℕ = all_before later in
-    let same : (k p : ℕ) → g k p ≡ all_before views k p = same_before views place (Worker v) (Worker w) at (λ k p. refl) in
+    let same : (k p : ℕ) → g k p ≡ all_before views k p = same_before views place (Worker v) (Worker w) at (λ k p. ap (added_before k p) same_additions) in
     let no_more : (k p : ℕ) → k ≤ now → g k p ≤ all_before views k p = λ k p _. (let e = same k p in omega arith) in
     let no_less : (k p : ℕ) → all_before views k p ≤ g k p = λ k p. (let e = same k p in omega arith) in
-    let r : PageRead = record { phase = now; page = page; count = count; after = length v.additions } in
+    let r : PageRead = page_read now page count (length v.additions) in
     let own = added_before-next v.additions now page in
     let part =
     sum_more (before_in now page) (before_in (now + 1) page) views place (Worker v) (added_in now page v.additions)
@@ -180,12 +187,27 @@ read_keeps_reads counts views place v page count at is fit =
     in
     let new : IsBetween counts g v.additions r = record { after = omega arith; least = omega arith; most = omega arith } in
     let P : PageRead → Type 0 = λ x. (x.phase ≤ now) × IsBetween counts g v.additions x in
-    let old : All P v.reads =
-    between_on counts (all_before views) g now now v.additions v.reads (omega arith) no_more no_less (fit place (Worker v) at)
-    in
+    let old : HaveBetween counts g now v = both_between_on counts (all_before views) g now now v (omega arith) no_more no_less (fit place (Worker v) at) in
+    let has : All P w.reads × All P w.glances = with_read P (omega arith, new) old in
     reads_set counts now now views place (Worker w) (omega arith) no_more no_less
-    (All-append P v.reads (r ∷ []) old (All-cons P r [] (omega arith, new) (All-nil P)))
+    (subst (λ (own : List Addition). AreBetween counts g now own w.reads × AreBetween counts g now own w.glances) (sym same_additions) has)
     fit
+
+-- what holds of the reads before and of the new one
+and_read : (P : PageRead → Type 0) (reads : List PageRead) (r : PageRead) → P r → All P reads → All P (reads ++ r ∷ [])
+and_read P reads r new old = All-append P reads (r ∷ []) old (All-cons P r [] new (All-nil P))
+
+-- so a read keeps them
+pub read_keeps_reads : ReadKeepsReads
+read_keeps_reads counts views place v page count at is =
+    one_read counts views place v (read_view v page count) page count at is refl
+    (λ P new old. (and_read P v.reads (page_read (phase_of v.state) page count (length v.additions)) new old.0, old.1))
+
+-- and a glance
+pub glance_keeps_reads : GlanceKeepsReads
+glance_keeps_reads counts views place v page count at is =
+    one_read counts views place v (glanced_view v page count) page count at is refl
+    (λ P new old. (old.0, and_read P v.glances (page_read (phase_of v.state) page count (length v.additions)) new old.1))
 
 -- one seat that is given back
 pub join_keeps_reads : JoinKeepsReads
@@ -223,5 +245,5 @@ join_keeps_reads counts phase views place other c v at mine fit =
   where
     gathered_reads : (g : ℕ → ℕ → ℕ) → HasReads counts g phase (Worker v) → HasReads counts g phase (Coord c) → HasReads counts g phase (Coord (gathered_coord c v))
     gathered_reads g own back zero w found =
-        subst (λ (x : WorkerSeatView). AreBetween counts g phase x.additions x.reads) (some-injective v w found) own
+        subst (λ (x : WorkerSeatView). HaveBetween counts g phase x) (some-injective v w found) own
     gathered_reads g own back (suc j) w found = back j w found

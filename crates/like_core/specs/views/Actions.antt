@@ -2,7 +2,7 @@
 use Rattle.std.specs.Prelude.{ℕ}
 use Rattle.like_core.specs.declared.sight.Sight.{Sight}
 use Rattle.like_core.specs.declared.sight.CoordSight.{CoordSight}
-use Rattle.like_core.specs.declared.event.Event.TheVariants.{Look, Acknowledge, Report, Retire, Read, Hot, CoordLook, CoordRead, Announce, Release}
+use Rattle.like_core.specs.declared.event.Event.TheVariants.{Look, Acknowledge, Report, Retire, Read, Glance, Hot, CoordLook, CoordRead, Announce, Release}
 use Rattle.like_core.specs.declared.shown.Shown.TheVariants.{Seen, Done, Old, Count, Hot as HotShown, Coord as CoordShown}
 use Rattle.like_core.specs.declared.view.WorkerSeatView.{WorkerSeatView}
 use Rattle.like_core.specs.declared.view.CoordSeatView.{CoordSeatView}
@@ -34,6 +34,10 @@ Adds v page n count w =
 -- it reads a page's count, which is this
 abbrev pub Reads : WorkerSeatView → ℕ → ℕ → WorkerSeatView → Type 0
 Reads v page count w = IsStep v.opening (Read v.worker page) (Count count) (Worker v) (Worker w)
+
+-- it glances at a page's count, which is this
+abbrev pub Glances : WorkerSeatView → ℕ → ℕ → WorkerSeatView → Type 0
+Glances v page count w = IsStep v.opening (Glance v.worker page) (Count count) (Worker v) (Worker w)
 
 -- it reads the mask of its phase's hot pages, which is this
 abbrev pub ReadsMask : WorkerSeatView → ℕ → WorkerSeatView → Type 0

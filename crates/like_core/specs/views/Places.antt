@@ -11,7 +11,7 @@ use Rattle.like_core.specs.declared.view.CoordSeatView.{CoordSeatView}
 use Rattle.like_core.specs.declared.view.View.{View}
 use Rattle.like_core.specs.declared.view.View.TheVariants.{Coord, Worker, Spent}
 use Rattle.like_core.specs.views.Tallies.{paged}
-use Rattle.like_core.specs.views.Views.{added_view, read_view, gathered_coord}
+use Rattle.like_core.specs.views.Views.{added_view, read_view, glanced_view, gathered_coord}
 
 -- the count that an addition left: where its stretch ends
 abbrev pub end_of : Addition → ℕ
@@ -65,12 +65,17 @@ pub record ArePlaced (first : ℕ → ℕ) (counting : Counting) (own : List Add
   pub ends : All (λ r. IsEnd first counting r.page r.count) reads
   pub order : AreInOrder own reads
 
+-- a worker's additions are so with its reads, and with its glances
+abbrev pub HavePlaced : (ℕ → ℕ) → Counting → WorkerSeatView → Type 0
+HavePlaced first counting v =
+    ArePlaced first counting v.additions v.reads × ArePlaced first counting v.additions v.glances
+
 -- those of a view are, and those of the views of seats that were given back
 abbrev pub HasPlaces : (ℕ → ℕ) → Counting → View → Type 0
 HasPlaces first counting (Coord c) =
     (place : ℕ) (v : WorkerSeatView) → get_elem? c.joined place ≡ some v
-    → ArePlaced first counting v.additions v.reads
-HasPlaces first counting (Worker v) = ArePlaced first counting v.additions v.reads
+    → HavePlaced first counting v
+HasPlaces first counting (Worker v) = HavePlaced first counting v
 HasPlaces first counting Spent = Unit {0}
 
 -- how many additions of a view pass a test
@@ -113,6 +118,15 @@ ReadKeepsPlaces =
     → count ≡ count_after counts views page
     → PlacesTile counts views
     → PlacesTile counts (slice_set views place (Worker (read_view v page count)))
+
+-- a glance does
+abbrev pub GlanceKeepsPlaces : Type 0
+GlanceKeepsPlaces =
+    (counts : List ℕ) (views : List View) (place : ℕ) (v : WorkerSeatView) (page count : ℕ)
+    → get_elem? views place ≡ some (Worker v)
+    → count ≡ count_after counts views page
+    → PlacesTile counts views
+    → PlacesTile counts (slice_set views place (Worker (glanced_view v page count)))
 
 -- a worker's seat that is given back to the coordinator's does
 abbrev pub JoinKeepsPlaces : Type 0

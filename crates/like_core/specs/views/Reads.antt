@@ -12,7 +12,7 @@ use Rattle.like_core.specs.declared.view.View.{View}
 use Rattle.like_core.specs.declared.view.View.TheVariants.{Coord, Worker, Spent}
 use Rattle.like_core.specs.Additions.{added_in, added_before}
 use Rattle.like_core.specs.WorkerState.{phase_of}
-use Rattle.like_core.specs.views.Views.{added_view, read_view, gathered_coord}
+use Rattle.like_core.specs.views.Views.{added_view, read_view, glanced_view, gathered_coord}
 
 -- how much a view, or the views of seats that were given back, have added to a page in the phases before one
 abbrev pub before_in : ℕ → ℕ → View → ℕ
@@ -40,12 +40,18 @@ abbrev pub AreBetween : List ℕ → (ℕ → ℕ → ℕ) → ℕ → List Addi
 AreBetween counts before phase own reads =
     All (λ r. (r.phase ≤ phase) × IsBetween counts before own r) reads
 
--- the reads of a view are, and those of the views of seats that were given back
+-- each of a worker's reads and glances is
+abbrev pub HaveBetween : List ℕ → (ℕ → ℕ → ℕ) → ℕ → WorkerSeatView → Type 0
+HaveBetween counts before phase v =
+    AreBetween counts before phase v.additions v.reads
+    × AreBetween counts before phase v.additions v.glances
+
+-- those of a view are, and those of the views of seats that were given back
 abbrev pub HasReads : List ℕ → (ℕ → ℕ → ℕ) → ℕ → View → Type 0
 HasReads counts before phase (Coord c) =
     (place : ℕ) (v : WorkerSeatView) → get_elem? c.joined place ≡ some v
-    → AreBetween counts before phase v.additions v.reads
-HasReads counts before phase (Worker v) = AreBetween counts before phase v.additions v.reads
+    → HaveBetween counts before phase v
+HasReads counts before phase (Worker v) = HaveBetween counts before phase v
 HasReads counts before phase Spent = Unit {0}
 
 -- in a phase, with these counts at the start, the reads of all views lie between what all views have added
@@ -74,6 +80,15 @@ ReadKeepsReads =
     → count ≡ slice_index counts page + all_before views (phase_of v.state + 1) page
     → ReadsFit counts (phase_of v.state) views
     → ReadsFit counts (phase_of v.state) (slice_set views place (Worker (read_view v page count)))
+
+-- a glance does
+abbrev pub GlanceKeepsReads : Type 0
+GlanceKeepsReads =
+    (counts : List ℕ) (views : List View) (place : ℕ) (v : WorkerSeatView) (page count : ℕ)
+    → get_elem? views place ≡ some (Worker v)
+    → count ≡ slice_index counts page + all_before views (phase_of v.state + 1) page
+    → ReadsFit counts (phase_of v.state) views
+    → ReadsFit counts (phase_of v.state) (slice_set views place (Worker (glanced_view v page count)))
 
 -- a worker's seat that is given back to the coordinator's does
 abbrev pub JoinKeepsReads : Type 0

@@ -24,6 +24,7 @@ fresh z worker = record {
   last = None;
   additions = [];
   reads = [];
+  glances = [];
   masks = [];
 }
 
@@ -66,6 +67,11 @@ abbrev pub read_view : WorkerSeatView → ℕ → ℕ → WorkerSeatView
 read_view v page count =
     record v { reads = v.reads ++ page_read (phase_of v.state) page count (length v.additions) ∷ [] }
 
+-- a worker's view after it glanced at a page's count, which was this
+abbrev pub glanced_view : WorkerSeatView → ℕ → ℕ → WorkerSeatView
+glanced_view v page count =
+    record v { glances = v.glances ++ page_read (phase_of v.state) page count (length v.additions) ∷ [] }
+
 -- a worker's view after it read the mask of its phase's hot pages, which was this
 abbrev pub masked_view : WorkerSeatView → ℕ → WorkerSeatView
 masked_view v mask =
@@ -82,6 +88,7 @@ post_of v = record {
   last = v.last;
   additions = v.additions;
   reads = v.reads;
+  glances = v.glances;
   masks = v.masks;
 }
 

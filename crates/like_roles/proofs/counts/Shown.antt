@@ -1,5 +1,5 @@
 -- Which counts accepted looks were shown, as a worker goes on.
-use Rattle.std.proofs.Common.{◌≡◌, ℕ, zero, suc, ◌+◌, ◌<◌, ◌≤◌, Bool, true, false, cond, List, [], ◌∷◌, ◌++◌, All, length, map, Option, Some, None, subst, refl, ap, sym, ◌∙◌, arith, append-nil, zero-add}
+use Rattle.std.proofs.Common.{◌≡◌, ℕ, zero, suc, ◌+◌, ◌<◌, ◌≤◌, List, [], ◌∷◌, ◌++◌, All, length, map, Option, Some, None, subst, refl, ap, sym, ◌∙◌, arith, append-nil, zero-add}
 use Rattle.std.proofs.Math.Seq.{take-append_seam}
 use Rattle.std.proofs.lemmas.List.{length-append, take-append-le}
 use Rattle.std.specs.List.{cons_option, filter_map, range_with_len}
@@ -13,11 +13,6 @@ use Rattle.like_roles.specs.service.Likes.{likes_within}
 use Rattle.like_roles.specs.service.Looks.{look_ran, count_in, shown_to, shown_at, shown_in, shown_by}
 use Rattle.like_roles.specs.service.Service.{Service}
 use Rattle.like_roles.proofs.Lists.{slice_get-at_end, slice_get-before}
-
--- a choice between the same
-pub cond_same : (b : Bool) (n : ℕ) → cond b n n ≡ n
-cond_same true n = refl
-cond_same false n = refl
 
 module _ {Y : Type 0} where
   -- what is put before what is there

@@ -36,7 +36,8 @@ use Rattle.like_requests.specs.Setup.{IsThere}
 use Rattle.like_roles.specs.worker.WorkerView.{WorkerView, phase_at}
 use Rattle.like_roles.proofs.Lists.{last_in-push, slice_get-at_end, slice_get-before}
 use Rattle.like_roles.proofs.Served.{counted_by}
-use Rattle.like_roles.proofs.counts.Shown.{after-more, cond_same, shown_by-more, shown_in-none, shown_in-push}
+use Rattle.like_seat.proofs.MergedLikes.{cond_same}
+use Rattle.like_roles.proofs.counts.Shown.{after-more, shown_by-more, shown_in-none, shown_in-push}
 
 -- one more like counts for its page alone
 pub page_likes-push : (page : ℕ) (given : List AcceptedLike) (l : AcceptedLike) → page_likes page (given ++ l ∷ []) ≡ page_likes page given + cond (eqb l.page page) 1 0

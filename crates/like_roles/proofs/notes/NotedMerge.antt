@@ -19,10 +19,10 @@ use Rattle.like_roles.specs.worker.Follows.{IsNoted, IsTallied, IsUnmerged}
 use Rattle.like_roles.specs.service.Likes.{likes_within}
 use Rattle.like_roles.specs.worker.Serve.{noted, noted_at}
 use Rattle.like_roles.specs.service.Service.{Service, is_split_in}
-use Rattle.like_roles.specs.worker.Turns.{Merges, from_zero, merging, slice_addition}
+use Rattle.like_seat.specs.Merge.{Merges, from_zero, merging, slice_addition}
 use Rattle.like_roles.specs.worker.WorkerView.{WorkerView, phase_at}
 use Rattle.like_seat.specs.SeatView.{IsSliceInSplit}
-use Rattle.like_roles.proofs.Merging.{merging-next, merging-more, merging-none}
+use Rattle.like_seat.proofs.WholeMerge.{merging-next, merging-more, merging-none}
 use Rattle.like_roles.proofs.notes.Noted.{AreMore, apart, count-all, count-none, none-passes, noted-each, noted-merged}
 
 module _ {A B : Type 0} (f : A → B) where

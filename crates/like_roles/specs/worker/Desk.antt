@@ -5,7 +5,6 @@ use Rattle.like_requests.specs.declared.setup.Setup.{Setup}
 use Rattle.like_requests.specs.declared.verdict.Verdict.{Verdict}
 use Rattle.like_requests.specs.declared.verdict.Verdict.TheVariants.{Accepted}
 use Rattle.like_requests.specs.Setup.{IsThere}
-use Rattle.like_core.specs.Additions.{all_added}
 use Rattle.like_core.specs.OpeningLimits.{run_limits}
 use Rattle.like_core.specs.Phase.{IsJoined, IsSplit}
 use Rattle.like_core.specs.Post.{pages_of}
@@ -13,7 +12,7 @@ use Rattle.like_core.specs.WorkerState.{IsRunning}
 use Rattle.like_tables.specs.declared.held.Held.{Held}
 use Rattle.like_tables.specs.Limits.{max_likes}
 use Rattle.like_tables.specs.Share.{Share, dealt, submitter_of, worker_of}
-use Rattle.like_seat.specs.SeatView.{IsSeat, SeatView, phase_at}
+use Rattle.like_seat.specs.SeatView.{IsSeat, SeatView, likes_of, phase_at}
 use Rattle.like_roles.specs.declared.turn.Turn.{Turn}
 use Rattle.like_roles.specs.declared.worker.desk.Desk.{Desk}
 use Rattle.like_roles.specs.worker.Turns.{Works}
@@ -71,16 +70,14 @@ pub record HasRoom (s : SeatView Held) (d : Desk) : Type 0 where
   pub few_ran : vec_capacity d.ran ≤ max_likes
   pub adds : d.notes ≡ true
       → vec_len d.adds + sum s.slice + length s.held.held + sum d.left.items ≤ vec_capacity d.adds
-  pub few : all_added s.post.additions + sum s.slice + length s.held.held + sum d.left.items
-      ≤ max_likes
+  pub few : likes_of s + length s.held.held + sum d.left.items ≤ max_likes
 
 -- and there is room to run one more request
 pub record HasRoomForOne (s : SeatView Held) (d : Desk) : Type 0 where
   pub ran : vec_len d.ran + length s.held.held + sum d.left.items < vec_capacity d.ran
   pub adds : d.notes ≡ true
       → vec_len d.adds + sum s.slice + length s.held.held + sum d.left.items < vec_capacity d.adds
-  pub few : all_added s.post.additions + sum s.slice + length s.held.held + sum d.left.items
-      < max_likes
+  pub few : likes_of s + length s.held.held + sum d.left.items < max_likes
 
 -- there is room to note one more request that was run
 pub record HasRoomToNote (s : SeatView Held) (d : Desk) : Type 0 where

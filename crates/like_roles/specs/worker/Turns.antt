@@ -1,6 +1,5 @@
 -- The turns of a worker, case by case.
-use Rattle.std.specs.Prelude.{◌≡◌, ◌≢◌, ◌⊎◌, ℕ, ◌+◌, ◌-◌, ◌%◌, ◌<◌, ◌≤◌, ◌==◌, not, count_by, filter, ⊤, Bool, true, false, List, [], ◌∷◌, ◌++◌, length, map, replicate, slice_index, slice_index_or, slice_set, Some, None}
-use Rattle.std.specs.List.{range_with_len}
+use Rattle.std.specs.Prelude.{◌≡◌, ◌≢◌, ◌⊎◌, ℕ, ◌+◌, ◌-◌, ◌%◌, ◌<◌, ◌≤◌, ◌==◌, count_by, ⊤, Bool, true, false, List, [], ◌∷◌, ◌++◌, length, slice_index, slice_index_or, slice_set, Some, None}
 use Rattle.like_requests.specs.declared.request.Numbered.{Numbered}
 use Rattle.like_requests.specs.declared.request.Taken.{Taken}
 use Rattle.like_requests.specs.declared.request.Taken.TheVariants as taken
@@ -8,16 +7,17 @@ use Rattle.like_core.specs.declared.sight.Sight.{Sight}
 use Rattle.like_core.specs.declared.worker_state.WorkerState.TheVariants.{Gone}
 use Rattle.like_core.specs.WorkerState.{IsSightOf, RunsJoined, RunsSplit}
 use Rattle.like_core.specs.declared.view.Addition.{Addition}
-use Rattle.like_core.specs.Additions.{addition}
 use Rattle.like_core.specs.PhaseMasks.{KeepsMasks}
 use Rattle.like_core.specs.Post.{looked_at, answered, retired, pages_of}
 use Rattle.like_tables.specs.declared.held.Held.{Held}
 use Rattle.like_roles.specs.declared.turn.Turn.{Turn}
 use Rattle.like_roles.specs.declared.turn.Turn.TheVariants as turn
 use Rattle.like_requests.specs.Setup.{IsThere}
+use Rattle.like_seat.specs.Merge as merge
+use Rattle.like_seat.specs.Merge.{Merges}
 use Rattle.like_seat.specs.Steps as steps
 use Rattle.like_roles.specs.worker.WorkerView.{WorkerView, TookAllEnds, IsNextPlace, has_to_wait, phase_at, seat_of, submitter_at, with_seat}
-use Rattle.like_roles.specs.worker.Serve.{Runs, noted, noting}
+use Rattle.like_roles.specs.worker.Serve.{Runs, noted}
 
 -- the worker after a look: where it enters a split phase it has also read that phase's mask, which is this
 abbrev pub saw : WorkerView → Sight → ℕ → WorkerView
@@ -31,43 +31,15 @@ without_first v rest = record v { held = record v.held { held = rest } }
 abbrev pub trying : WorkerView → ℕ → WorkerView
 trying v place = record v { pending = Some place; cursor = (place + 1) % length v.ended }
 
--- a page's number in a slice, as an addition in a phase to a count of 0
-abbrev pub slice_addition : ℕ → List ℕ → ℕ → Addition
-slice_addition phase slice page = addition phase page 0 (slice_index slice page)
-
--- the additions that merge the first pages of a slice, so many, as if to counts of 0: one for each whose number is not 0,
--- in page order
-abbrev pub merging : ℕ → List ℕ → ℕ → List Addition
-merging phase slice pages =
-    filter (λ a. not (a.likes == 0)) (map (slice_addition phase slice) (range_with_len 0 pages))
-
--- an addition, as if to a count of 0
-abbrev pub from_zero : Addition → Addition
-from_zero a = record a { old = 0 }
-
--- additions merge the first pages of a slice, so many, whatever their counts are
-abbrev pub Merges : ℕ → List ℕ → ℕ → List Addition → Type 0
-Merges phase slice pages adds = map from_zero adds ≡ merging phase slice pages
-
 -- the slice is added to the board by these additions, which are noted, and emptied
 abbrev pub merged : WorkerView → List Addition → WorkerView
-merged v adds = record v {
-  post = record v.post { additions = v.post.additions ++ adds };
-  slice = replicate (pages_of v.post) 0;
-  adds = v.adds ++ noted v adds;
-}
+merged v adds = record (with_seat v (merge.merged (seat_of v) adds)) { adds = v.adds ++ noted v adds }
 
 -- the slice is merged
 abbrev pub IsMerged : WorkerView → WorkerView → Type 0
 IsMerged v after =
     (adds : List Addition)
     × (Merges (phase_at v) v.slice (pages_of v.post) adds × (after ≡ merged v adds))
-
--- a page's slice is, where the page's count was this
-abbrev pub merged_page : WorkerView → ℕ → ℕ → WorkerView
-merged_page v page old =
-    noting (with_seat v (steps.merged_page (seat_of v) page old)) page old
-    (slice_index v.slice page)
 
 -- it cannot take a request in a split phase
 abbrev pub IsStuck : WorkerView → Type 0

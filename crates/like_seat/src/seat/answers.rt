@@ -1,9 +1,8 @@
-ghost use Rattle.std.specs.Prelude.{◌≡◌, ◌+◌, ◌<◌, false, IsTrue, sum};
-ghost use Rattle.like_core.specs.Additions.{all_added};
+ghost use Rattle.std.specs.Prelude.{◌≡◌, ◌<◌, false, IsTrue};
 ghost use Rattle.like_core.specs.Post.{pages_of, slices};
 ghost use Rattle.like_core.specs.WorkerState.{IsRunning};
 ghost use Rattle.like_tables.specs.Share.{owns};
-ghost use Rattle.like_seat.specs.SeatView.{IsSeat};
+ghost use Rattle.like_seat.specs.SeatView.{IsSeat, likes_of};
 ghost use Rattle.like_seat.specs.Steps.{CountsLike, Reads};
 
 use crate::seat::Seat;
@@ -26,11 +25,12 @@ impl<P: Post, W: Copy> Seat<P, W> {
         requires running { IsRunning self.old.post.state }
         requires there { page < pages_of self.old.post }
         requires owned { IsTrue (owns self.old.last.share user) }
-        requires room { all_added self.old.post.additions + sum self.old.slice < self.old.post.limits.likes }
+        requires room { likes_of self.old < self.old.post.limits.likes }
         ensures counts { CountsLike self.old user page result self.new }
         ensures seat { IsSeat self.new }
     {
         self.tables.last.set(user, page);
+        self.tables.likes += 1;
         if self.tables.is_sliced(page) {
             self.tables.slice.add(page);
             return None;

@@ -1,8 +1,9 @@
-ghost use Rattle.std.specs.Prelude.{◌≡◌, ◌≤◌, length};
+ghost use Rattle.std.specs.Prelude.{◌≡◌, ◌≤◌, ℕ, length};
 ghost use Rattle.like_core.specs.Post.{answered};
 ghost use Rattle.like_core.specs.WorkerState.{RunsSplit, SawEnding};
 ghost use Rattle.like_tables.specs.Liked.{AreUnliked};
-ghost use Rattle.like_seat.specs.SeatView.{IsSeat};
+ghost use Rattle.like_seat.specs.Merge.{IsMerged, MergesAndReports};
+ghost use Rattle.like_seat.specs.SeatView.{IsSeat, likes_of, tally_of};
 ghost use Rattle.like_seat.specs.Steps.{MergesNext};
 
 use crate::merged::Merged;
@@ -22,6 +23,36 @@ impl<P: Post, W: Copy> Seat<P, W> {
         let likes = self.tables.slice.take(page);
         let old = self.post.add(page, likes);
         Some(Merged { page, old, likes })
+    }
+
+    /// Adds each page's slice that has a like to the page's count, in page order, and empties it.
+    pub fn merge(&mut self)
+        requires split { RunsSplit self.old.post.state }
+        requires ending { SawEnding self.old.post.last }
+        ensures merges { IsMerged self.old self.new }
+        ensures empty { AreUnliked self.new.slice 0 (length self.new.slice) }
+        ensures likes { likes_of self.new ≡ likes_of self.old }
+        ensures tallies { (page : ℕ) → tally_of self.new page ≡ tally_of self.old page }
+        ensures seat { IsSeat self.new }
+    {
+        let mut from = 0;
+        while let Some(merged) = self.merge_next(from) {
+            from = merged.page + 1;
+        }
+    }
+
+    /// Merges its slice, stops at the end of the split phase, and waits for the release of the next.
+    pub fn merge_and_report(&mut self)
+        requires split { RunsSplit self.old.post.state }
+        requires ending { SawEnding self.old.post.last }
+        ensures reports { MergesAndReports self.old self.new }
+        ensures empty { AreUnliked self.new.slice 0 (length self.new.slice) }
+        ensures likes { likes_of self.new ≡ likes_of self.old }
+        ensures tallies { (page : ℕ) → tally_of self.new page ≡ tally_of self.old page }
+        ensures seat { IsSeat self.new }
+    {
+        self.merge();
+        self.report();
     }
 
     /// Stops at the end of a split phase, once its slice is merged, and waits for the release of the next.

@@ -1,4 +1,5 @@
-use Rattle.std.proofs.Common.{◌≡◌, length, refl, ap, arith}
+use Rattle.std.proofs.Common.{◌≡◌, length, None, ap, ◌∙◌, arith}
+use Rattle.std.proofs.lemmas.List.{get_or_read}
 use Rattle.like_tables.specs.Share.{Share}
 use Rattle.like_tables.proofs.Walk.{IsAt-first, IsAt-next, IsAt-round, IsAt-there, IsGiven-more, IsGiven-none}
 use Rattle.like_tables.proofs.share.UserShare.give.Goals as goal
@@ -43,7 +44,7 @@ loop-page-preserved c =
     let workers : c.self.inside.workers ≡ c.args.self.now.workers = ap (λ (s : Share). s.workers) c.self.view_is in
     let worker : c.self.inside.worker ≡ c.args.self.now.worker = ap (λ (s : Share). s.worker) c.self.view_is in
     record {
-      given = IsGiven-more _ _ _ c.loop-page.last _ _ c.loop-page.page-index _ i.given at (omega (arith, c.requires.places.enough, c.loop-page-test.true)) (omega (arith, c.requires.users)) refl;
+      given = IsGiven-more _ _ _ c.loop-page.last _ _ c.loop-page.page-index _ i.given at (omega (arith, c.requires.places.enough, c.loop-page-test.true)) (omega (arith, c.requires.users)) (c.page.ensures ∙ get_or_read c.args.pages.now c.loop-page.page-index c.page-item.result c.loop-page-test.true c.page-item.is None);
       at = λ more. elim c.if-submitter-submitters.branch [
         | then-submitter-submitters w ↦
             rw (w.round-is, w.submitter-is, submitters, worker) (IsAt-round _ _ _ _ at (omega (arith, w.if-submitter-submitters.true)))

@@ -1,4 +1,4 @@
-use Rattle.std.proofs.Common.{◌<◌, length, arith}
+use Rattle.std.proofs.Common.{◌<◌, ◌∙◌, length, arith}
 use Rattle.like_tables.proofs.Places.{last_of-owned, owns-inside, place-lt}
 use Rattle.like_tables.proofs.users.Users.last.Goals as goal
 
@@ -15,4 +15,4 @@ index-requires c = let lt = placed c in omega (arith, c.self.inside.pages.ok)
 pub returns : goal.returns
 returns c =
     let lt = place-lt _ _ c.args.user c.self.invariant (owns-inside _ _ _ c.args.user c.self.view_is c.requires) in
-    rw (← c.self.view_is) (last_of-owned _ _ c.args.user _ _ (owns-inside _ _ _ c.args.user c.self.view_is c.requires) c.owned_below.ensures (omega arith) c.index.ensures)
+    rw (← c.self.view_is) (c.page.ensures ∙ last_of-owned _ _ c.args.user _ _ (owns-inside _ _ _ c.args.user c.self.view_is c.requires) c.owned_below.ensures (omega arith) c.index.ensures)

@@ -1,0 +1,149 @@
+-- How the merge of a slice goes from page to page.
+use Rattle.std.proofs.Common.{◌≡◌, ℕ, zero, suc, ◌≢◌, ◌+◌, ◌-◌, ◌<◌, ◌≤◌, ◌==◌, Bool, not, cond, List, [], ◌∷◌, ◌++◌, length, get_or, set, replicate, refl, ap, sym, ◌∙◌, inl, inr, arith, subst, append-nil, append_assoc}
+use Rattle.std.proofs.lemmas.Bool.{cases_lt, eq-eqb, ne_eqb}
+use Rattle.std.proofs.lemmas.List.{length-set, map-append, get_or-set_same, get_or-set_other}
+use Rattle.std.proofs.lemmas.List.FromFn.{filter_of_map_range_with_len_more}
+use Rattle.like_core.specs.declared.view.Addition.{Addition}
+use Rattle.like_core.specs.Post.{pages_of}
+use Rattle.like_tables.specs.Liked.{AreUnliked, IsNextLiked}
+use Rattle.like_seat.specs.Merge.{Merges, from_zero, merged, merging, slice_addition}
+use Rattle.like_seat.specs.SeatView.{SeatView, phase_at}
+use Rattle.like_seat.specs.Steps.{merged_page}
+
+-- the additions that merge one page more
+pub merging-next : (phase : ℕ) (slice : List ℕ) (n : ℕ) → merging phase slice (n + 1) ≡ merging phase slice n ++ cond (not (get_or slice n 0 == 0)) (slice_addition phase slice n ∷ []) []
+merging-next phase slice n = filter_of_map_range_with_len_more (λ (a : Addition). not (a.likes == 0)) (slice_addition phase slice) 0 n n (omega arith)
+
+-- where its number is not 0
+pub merging-more : (phase : ℕ) (slice : List ℕ) (n : ℕ) → get_or slice n 0 ≢ 0 → merging phase slice (n + 1) ≡ merging phase slice n ++ slice_addition phase slice n ∷ []
+merging-more phase slice n liked =
+    merging-next phase slice n
+    ∙ ap (λ (b : Bool). merging phase slice n ++ cond (not b) (slice_addition phase slice n ∷ []) []) (ne_eqb (get_or slice n 0) 0 liked)
+
+-- or is
+pub merging-none : (phase : ℕ) (slice : List ℕ) (n : ℕ) → get_or slice n 0 ≡ 0 → merging phase slice (n + 1) ≡ merging phase slice n
+merging-none phase slice n none =
+    merging-next phase slice n
+    ∙ (ap (λ (b : Bool). merging phase slice n ++ cond (not b) (slice_addition phase slice n ∷ []) []) (eq-eqb (get_or slice n 0) 0 none)
+    ∙ append-nil (merging phase slice n))
+
+-- what stands below n + 1 after a write at n
+below : (xs : List ℕ) (n x : ℕ) (f : ℕ → ℕ) → n < length xs → f n ≡ x → ((i : ℕ) → i < n → get_or xs i 0 ≡ f i) → (i : ℕ) → i < n + 1 → get_or (set xs n x) i 0 ≡ f i
+below xs n x f within here before i h =
+    elim (cases_lt i n) [
+      | inl earlier ↦ get_or-set_other xs n i x 0 (λ e. absurd (omega arith)) ∙ before i earlier
+      | inr at_end ↦
+          let same : n ≡ i = omega arith in
+          subst (λ k. get_or (set xs n x) k 0 ≡ f k) same (get_or-set_same xs n x 0 within ∙ sym here)
+    ]
+
+-- what stands above n after a write at n
+above : (xs ys : List ℕ) (n x : ℕ) → ((i : ℕ) → n ≤ i → get_or xs i 0 ≡ get_or ys i 0) → (i : ℕ) → n + 1 ≤ i → get_or (set xs n x) i 0 ≡ get_or ys i 0
+above xs ys n x after i h = get_or-set_other xs n i x 0 (λ e. absurd (omega arith)) ∙ after i (omega arith)
+
+-- a list of zeros
+zeros : (xs : List ℕ) → ((i : ℕ) → i < length xs → get_or xs i 0 ≡ 0) → xs ≡ replicate (length xs) 0
+zeros [] h = refl
+zeros (x ∷ xs) h =
+    let first : x ≡ 0 = h 0 (omega arith) in
+    let rest : xs ≡ replicate (length xs) 0 = zeros xs (λ i k. h (suc i) (omega arith)) in
+    ap (λ y. y ∷ xs) first ∙ ap (λ ys. 0 ∷ ys) rest
+
+module _ {W : Type 0} where
+  -- the seat after pages were merged by these additions, with this slice
+  abbrev pub merged_with : SeatView W → List Addition → List ℕ → SeatView W
+  merged_with s adds slice =
+      record s { post = record s.post { additions = s.post.additions ++ adds }; slice = slice }
+
+  -- the first n pages are merged, by these additions
+  pub record Merging (s0 s : SeatView W) (n : ℕ) (adds : List Addition) : Type 0 where
+    pub merges : Merges (phase_at s0) s0.slice n adds
+    pub rest : s ≡ merged_with s0 adds s.slice
+    pub sized : length s.slice ≡ length s0.slice
+    pub emptied : (page : ℕ) → page < n → get_or s.slice page 0 ≡ 0
+    pub left : (page : ℕ) → n ≤ page → get_or s.slice page 0 ≡ get_or s0.slice page 0
+
+  -- no page is merged at first
+  pub Merging-start : (s : SeatView W) → Merging s s 0 []
+  Merging-start s = record {
+    merges = refl;
+    rest = λ m. record s { post = record s.post { additions = sym (append-nil s.post.additions) m } };
+    sized = refl;
+    emptied = λ page h. absurd (omega arith);
+    left = λ page h. refl;
+  }
+
+  -- the addition that merges a page, where its count was this
+  abbrev pub merge_of : SeatView W → ℕ → ℕ → Addition
+  merge_of s page old =
+      record { phase = phase_at s; page = page; old = old; likes = get_or s.slice page 0 }
+
+  -- the next page is merged, where its count was this
+  pub Merging-page : (s0 s t : SeatView W) (n old : ℕ) (adds : List Addition) → Merging s0 s n adds → n < length s.slice → get_or s.slice n 0 ≢ 0 → t ≡ merged_page s n old
+      → Merging s0 t (n + 1) (adds ++ merge_of s n old ∷ [])
+  Merging-page s0 s t n old adds m inside liked is =
+      let new : Addition = merge_of s n old in
+      let phase : phase_at s ≡ phase_at s0 = ap {A = SeatView W} (λ x. phase_at x) m.rest in
+      let same : get_or s.slice n 0 ≡ get_or s0.slice n 0 = m.left n (omega arith) in
+      let more = merging-more (phase_at s0) s0.slice n (λ e. liked (same ∙ e)) in
+      let zero_is : from_zero new ≡ slice_addition (phase_at s0) s0.slice n =
+      λ k. record { phase = phase k; page = n; old = 0; likes = same k }
+      in
+      let slice : t.slice ≡ set s.slice n 0 = ap {A = SeatView W} (λ x. x.slice) is in
+      let walks : Merging s0 (merged_page s n old) (n + 1) (adds ++ new ∷ []) = record {
+        merges = map-append from_zero adds (new ∷ []) ∙ ((λ k. m.merges k ++ zero_is k ∷ []) ∙ sym more);
+        rest =
+            ap {A = SeatView W} (λ x. merged_with x (new ∷ []) (set s.slice n 0)) m.rest
+            ∙ (λ k. record s0 { post = record s0.post { additions = append_assoc s0.post.additions adds (new ∷ []) k }; slice = set s.slice n 0 });
+        sized = length-set s.slice n 0 ∙ m.sized;
+        emptied = below s.slice n 0 (λ _. 0) inside refl m.emptied;
+        left = above s.slice s0.slice n 0 m.left;
+      }
+      in subst (λ x. Merging s0 x (n + 1) (adds ++ new ∷ [])) (sym is) walks
+
+  -- there is nothing to merge of a page that has no like
+  Merging-none : (s0 s : SeatView W) (n : ℕ) (adds : List Addition) → Merging s0 s n adds → get_or s.slice n 0 ≡ 0 → Merging s0 s (n + 1) adds
+  Merging-none s0 s n adds m none =
+      let is : get_or s0.slice n 0 ≡ 0 = sym (m.left n (omega arith)) ∙ none in
+      record {
+        merges = m.merges ∙ sym (merging-none (phase_at s0) s0.slice n is);
+        rest = m.rest;
+        sized = m.sized;
+        emptied = λ page h. elim (cases_lt page n) [
+          | inl earlier ↦ m.emptied page earlier
+          | inr past ↦ let same : n ≡ page = omega arith in subst (λ k. get_or s.slice k 0 ≡ 0) same none
+        ];
+        left = λ page h. m.left page (omega arith);
+      }
+
+  -- nor of so many of them
+  unliked_next : (s0 s : SeatView W) (n more : ℕ) (adds : List Addition) → Merging s0 s n adds → AreUnliked s.slice n (n + more) → Merging s0 s (n + more) adds
+  unliked_next s0 s n zero adds m none = subst (λ k. Merging s0 s k adds) (omega arith) m
+  unliked_next s0 s n (suc more) adds m none =
+      let first = Merging-none s0 s n adds m (none n (omega arith) (omega arith)) in
+      subst (λ k. Merging s0 s k adds) (omega arith) (unliked_next s0 s (n + 1) more adds first (λ page low high. none page (omega arith) (omega arith)))
+
+  pub Merging-unliked : (s0 s : SeatView W) (n k : ℕ) (adds : List Addition) → Merging s0 s n adds → n ≤ k → AreUnliked s.slice n k → Merging s0 s k adds
+  Merging-unliked s0 s n k adds m up none =
+      let same : n + (k - n) ≡ k = omega arith in
+      subst (λ j. Merging s0 s j adds) same (unliked_next s0 s n (k - n) adds m (λ page low high. none page low (omega arith)))
+
+  -- all pages are merged
+  pub Merging-end : (s0 s : SeatView W) (adds : List Addition) → Merging s0 s (pages_of s0.post) adds → length s0.slice ≡ pages_of s0.post → s ≡ merged s0 adds
+  Merging-end s0 s adds m pages =
+      let slice : s.slice ≡ replicate (pages_of s0.post) 0 =
+      zeros s.slice (λ i k. m.emptied i (omega (arith, m.sized, pages))) ∙ ap (λ n. replicate n 0) (m.sized ∙ pages) in
+      m.rest ∙ ap (merged_with s0 adds) slice
+
+  -- a page is merged, and those before it that have no like
+  pub Merging-next : (s0 s t : SeatView W) (from page old : ℕ) (adds : List Addition) → Merging s0 s from adds → IsNextLiked s.slice from page → t ≡ merged_page s page old
+      → Merging s0 t (page + 1) (adds ++ merge_of s page old ∷ [])
+  Merging-next s0 s t from page old adds m next is =
+      Merging-page s0 s t page old adds (Merging-unliked s0 s from page adds m next.after next.least) next.there next.liked is
+
+  -- no page is left
+  pub Merging-done : (s0 s t : SeatView W) (from : ℕ) (adds : List Addition) → Merging s0 s from adds → from ≤ length s.slice → AreUnliked s.slice from (length s.slice) → t ≡ s → length s0.slice ≡ pages_of s0.post
+      → Merges (phase_at s0) s0.slice (pages_of s0.post) adds × (t ≡ merged s0 adds)
+  Merging-done s0 s t from adds m within none is pages =
+      let all = subst (λ k. Merging s0 s k adds) (m.sized ∙ pages) (Merging-unliked s0 s from (length s.slice) adds m within none) in
+      (all.merges, is ∙ Merging-end s0 s adds all pages)

@@ -1,0 +1,47 @@
+ghost use Rattle.std.specs.Prelude.{◌≡◌, ◌<◌, None, Some};
+ghost use Rattle.like_tables.specs.LastLike.{no_page};
+
+use std::marker::Model;
+
+// No page has this number.
+const NO_PAGE: u32 = u32::MAX;
+
+/// The page of a user's last like, if there is one, in four bytes.
+#[derive(Clone, Debug, Drop)]
+pub(crate) struct LastLike {
+    number: u32,
+}
+
+impl Model for LastLike {
+    ghost use Rattle.std.specs.Prelude.{ℕ, Option};
+    ghost use Rattle.like_tables.specs.LastLike.{page_in};
+
+    ghost Value = { Option ℕ };
+
+    ghost view = { λ l. page_in l.number };
+}
+
+impl LastLike {
+    pub fn none() -> Self
+        ensures { result ≡ None }
+    {
+        LastLike { number: NO_PAGE }
+    }
+
+    pub fn of(page: u32) -> Self
+        requires { page < no_page }
+        ensures { result ≡ Some page }
+    {
+        LastLike { number: page }
+    }
+
+    pub fn page(&self) -> Option<u32>
+        ensures { result ≡ self.now }
+    {
+        if self.number == NO_PAGE {
+            None
+        } else {
+            Some(self.number)
+        }
+    }
+}
