@@ -1,13 +1,26 @@
-//! The live core.
+//! The live core: a service that a host embeds. Its threads hold seats and call them, and a driver ends and releases
+//! phases, for ever and in bounded memory.
+//!
+//! After it is opened no call takes memory, and none waits, sleeps or locks.
 #![tactic(auto)]
 
+mod answer;
+mod asked;
 mod driver;
 mod driver_answer;
 mod hint;
+mod laws;
+mod live_seat;
 mod open_error;
 mod opening;
+#[cfg(test)]
+mod tests;
 
+pub use answer::{LikeAnswer, LookAnswer, TurnAnswer};
+pub use asked::{Asked, Found};
 pub use driver::Driver;
 pub use driver_answer::DriverAnswer;
+pub use laws::histories_are_counted;
+pub use live_seat::{LiveSeat, MAX_LIKES};
 pub use open_error::OpenError;
 pub use opening::Opening;
