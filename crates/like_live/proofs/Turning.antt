@@ -1,7 +1,8 @@
 -- What a driver's turn keeps.
-use Rattle.std.proofs.Common.{◌≡◌, ◌+◌, ◌≤◌, length, ℕ, Bool, true, false, List, Option, Some, ap, sym, ◌∙◌, subst, refl}
+use Rattle.std.proofs.Common.{Vec, Global, vec_capacity, ◌≡◌, ◌≤◌, length, ℕ, Bool, true, false, List, Option, Some, ap, sym, ◌∙◌, subst, refl}
 use Rattle.std.specs.Prelude.{IsSomeAnd}
 use Rattle.like_board.specs.Seats.{BoardId}
+use Rattle.like_board.specs.declared.worker_seat.WorkerSeat.{WorkerSeat}
 use Rattle.like_core.specs.Limits.{max_pages}
 use Rattle.like_core.specs.declared.opening.Opening.{Opening}
 use Rattle.like_core.specs.declared.sight.CoordSight.{CoordSight}
@@ -11,7 +12,7 @@ use Rattle.like_seat.specs.Lead.{ChoosesRisen, LeadView, Sees, counted_from, non
 use Rattle.like_seat.proofs.Leading.{counted-is}
 use Rattle.like_live.specs.declared.driver_answer.DriverAnswer.{DriverAnswer}
 use Rattle.like_live.specs.Opening.{splits_by}
-use Rattle.like_live.specs.Driver.{DriverCase, DriverTurns, IsKept, IsService, ReleasesNext, SnapshotCase, TakesSnapshot, announces, ended, not_now, releases, releases_joined, releases_split, running, taken, waiting}
+use Rattle.like_live.specs.Driver.{DriverCase, DriverTurns, HasRoom, IsKept, IsService, ReleasesNext, SnapshotCase, TakesSnapshot, announces, ended, not_now, releases, releases_joined, releases_split, running, taken, waiting}
 
 -- the same board, opened alike, with the same rule for hot pages
 pub record IsSame (v w : LeadView) : Type 0 where
@@ -72,12 +73,6 @@ release-keeps v w (releases_split _ m chosen chooses is) =
       ap (λ (l : LeadView). l.seat.gone) is ∙ ap saw_all_gone only.1.last,
     )
 
--- the phase is the next one then
-pub release-phase : (v w : LeadView) → ReleasesNext v w → w.seat.phase ≡ v.seat.phase + 1
-release-phase v w (releases_joined _ is) = ap (λ (l : LeadView). l.seat.phase) is
-release-phase v w (releases_split _ m chosen chooses is) =
-    ap (λ (l : LeadView). l.seat.phase) is ∙ ap (λ n. n + 1) (chosen-only v chosen m chooses).1.phase
-
 -- a look does, and it is its last sight
 pub record HasLooked (v w : LeadView) (sight : CoordSight) : Type 0 where
   pub same : IsSame v w
@@ -137,14 +132,6 @@ snapshot-stays v w old counts phase takes =
     let acted = snapshot-case-stays takes.seen w takes.sight old counts phase takes.case in
     record { same = same-on v takes.seen w looked.same acted.same; gone = λ before. acted.gone (looked.gone ∙ before) }
 
--- a snapshot leaves the phase
-pub snapshot-phase : (v w : LeadView) (old counts : List ℕ) (phase : Option ℕ) → TakesSnapshot v old phase w counts → w.seat.phase ≡ v.seat.phase
-snapshot-phase v w old counts phase takes = by_case takes.case ∙ (look-keeps v takes.seen takes.sight takes.sees).phase
-  where
-    by_case : SnapshotCase takes.seen takes.sight old phase w counts → w.seat.phase ≡ takes.seen.seat.phase
-    by_case (taken _ _ _ is) = ap (λ (l : LeadView). l.seat.phase) is ∙ (reads-only takes.seen.seat counts).phase
-    by_case (not_now _ _ _ is) = ap (λ (l : LeadView). l.seat.phase) is
-
 -- a driver that stays so is kept
 pub stays-service : (v w : LeadView) → Stays v w → IsService v → IsService w
 stays-service v w stays service = record {
@@ -154,11 +141,16 @@ stays-service v w stays service = record {
   before_end = stays.gone service.before_end;
 }
 
-pub stays-kept : (board : BoardId) (phase next : ℕ) (splits : Bool) (pages : ℕ) (v w : LeadView) → Stays v w → next ≡ w.seat.phase → IsKept board phase splits pages v → IsKept board next splits pages w
-stays-kept board phase next splits pages v w stays is kept = record {
+pub stays-kept : (board : BoardId) (splits : Bool) (pages : ℕ) (v w : LeadView) → Stays v w → IsKept board splits pages v → IsKept board splits pages w
+stays-kept board splits pages v w stays kept = record {
   here = stays.same.board ∙ kept.here;
-  phase_is = is;
   splits_is = kept.splits_is ∙ sym (λ i. splits_by (stays.same.opening i).marks (stays.same.hot i));
   pages_is = kept.pages_is ∙ sym (ap (λ (z : Opening). length z.counts) stays.same.opening);
   service = stays-service v w stays kept.service;
+}
+
+pub stays-room : (back : Vec WorkerSeat Global) (v w : LeadView) → Stays v w → HasRoom back v → HasRoom back w
+stays-room back v w stays room = record {
+  none = room.none;
+  enough = subst (λ (z : Opening). z.workers ≤ vec_capacity back) (sym stays.same.opening) room.enough;
 }

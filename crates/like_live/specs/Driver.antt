@@ -1,12 +1,14 @@
 -- What a driver does in its calls. A driver is seen as its lead.
-use Rattle.std.specs.Prelude.{◌≡◌, ℕ, ◌%◌, ◌==◌, ◌&&◌, ◌||◌, ◌≤◌, nat_lt, Bool, true, false, List, length, Option, Some, None}
+use Rattle.std.specs.Prelude.{◌≡◌, ℕ, ◌%◌, ◌==◌, ◌&&◌, ◌||◌, ◌≤◌, nat_lt, Bool, true, false, List, [], length, Vec, vec_capacity, Option, Some, None}
+use Rattle.std.specs.declared.alloc.Global.{Global}
 use Rattle.like_board.specs.Rule.{opened_coord}
 use Rattle.like_board.specs.Seats.{BoardId}
+use Rattle.like_board.specs.declared.worker_seat.WorkerSeat.{WorkerSeat}
 use Rattle.like_core.specs.declared.sight.CoordSight.{CoordSight}
 use Rattle.like_core.specs.Limits.{max_pages}
 use Rattle.like_core.specs.OpeningLimits.{service_limits}
 use Rattle.like_core.specs.Phase.{IsJoined, IsSplit}
-use Rattle.like_seat.specs.Lead.{ChoosesRisen, LeadView, Sees, announced, counted_from, new_lead, published, released}
+use Rattle.like_seat.specs.Lead.{ChoosesRisen, LeadView, Sees, announced, new_lead, published, released, with_counts}
 use Rattle.like_live.specs.Opening.{board_opening, splits_by}
 use Rattle.like_live.specs.declared.opening.Opening.{Opening}
 use Rattle.like_live.specs.declared.driver_answer.DriverAnswer.{DriverAnswer}
@@ -66,7 +68,7 @@ pub record IsBoundary (v : LeadView) (sight : CoordSight) : Type 0 where
 pub data SnapshotCase (v : LeadView) (sight : CoordSight) (old : List ℕ) (phase : Option ℕ)
     (after : LeadView) (counts : List ℕ) : Type 0 where
   taken : IsBoundary v sight → phase ≡ Some v.seat.phase → length counts ≡ length old
-      → after ≡ record v { seat = counted_from v.seat 0 counts }
+      → after ≡ with_counts v counts
       → SnapshotCase v sight old phase after counts
   not_now : ¬ IsBoundary v sight → phase ≡ None → counts ≡ old → after ≡ v
       → SnapshotCase v sight old phase after counts
@@ -87,14 +89,18 @@ pub record IsService (v : LeadView) : Type 0 where
   pub limits : v.seat.opening.limits ≡ service_limits
   pub before_end : v.seat.gone ≡ false
 
--- how a driver is kept: its lead is that of its board, and it knows the phase, whether something would be split, and how
--- many pages there are
-pub record IsKept (board : BoardId) (phase : ℕ) (splits : Bool) (pages : ℕ) (v : LeadView) : Type 0 where
+-- how a driver is kept: its lead is that of its board, and it knows whether something would be split, and how many pages
+-- there are
+pub record IsKept (board : BoardId) (splits : Bool) (pages : ℕ) (v : LeadView) : Type 0 where
   pub here : v.board ≡ board
-  pub phase_is : phase ≡ v.seat.phase
   pub splits_is : splits ≡ splits_some v
   pub pages_is : pages ≡ length v.seat.opening.counts
   pub service : IsService v
+
+-- there is room for the workers' seats to be given back, and none is yet
+pub record HasRoom (back : Vec WorkerSeat Global) (v : LeadView) : Type 0 where
+  pub none : back.items ≡ []
+  pub enough : v.seat.opening.workers ≤ vec_capacity back
 
 -- a new driver at this board: it has done nothing yet
 abbrev pub new_driver : Opening → BoardId → LeadView

@@ -5,3 +5,4 @@ pub mod Kept
 pub mod LiveView
 pub mod Moves
 pub mod Opening
+pub mod Service

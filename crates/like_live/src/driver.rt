@@ -4,16 +4,20 @@ ghost use Rattle.like_board.specs.Rule.{opened_coord};
 ghost use Rattle.like_board.specs.Seats.{board_id, coord_board, coord_view};
 ghost use Rattle.like_live.specs.Driver.{DriverTurns, IsService, TakesSnapshot, new_driver};
 ghost use Rattle.like_live.specs.Opening.{IsWithinLimits, board_opening};
+ghost use Rattle.like_live.specs.Service.{AreGone, AreItsSeats, IsClosed};
 
+mod back;
 mod boundary;
 mod turns;
 
+use self::back::give_back;
 use self::boundary::read_boundary;
 use self::turns::act;
 use crate::driver_answer::DriverAnswer;
 use crate::hint::Hint;
+use crate::live_seat::LiveSeat;
 use crate::opening::Opening;
-use like_board::{Board, CoordSeat};
+use like_board::{Board, CoordSeat, SharedPost, WorkerSeat};
 use like_seat::Lead;
 use std::alloc::{AllocError, Global};
 use std::marker::Model;
@@ -27,25 +31,27 @@ use std::sync::Arc;
 pub struct Driver {
     board: Arc<Board, Global>,
     lead: Lead,
-    phase: u64,
     /// Whether something would be split in a split phase: a page is marked, or pages can be hot.
     splits: bool,
     /// How many pages there are.
     pages: u32,
     hint: Hint,
+    /// Room for the workers' seats that are given back at the end.
+    back: Vec<WorkerSeat>,
 }
 
 impl Model for Driver {
     ghost use Rattle.std.specs.Arc.{arc_value};
     ghost use Rattle.like_board.specs.Seats.{board_id};
     ghost use Rattle.like_seat.specs.Lead.{LeadView};
-    ghost use Rattle.like_live.specs.Driver.{IsKept};
+    ghost use Rattle.like_live.specs.Driver.{HasRoom, IsKept};
 
     ghost Value = { LeadView };
 
     ghost view = { λ d. d.lead };
 
-    ghost invariant = { λ d. IsKept (board_id (arc_value d.board)) d.phase d.splits d.pages d.lead };
+    ghost invariant = { λ d. IsKept (board_id (arc_value d.board)) d.splits d.pages d.lead
+        × HasRoom d.back d.lead };
 }
 
 impl Driver {
@@ -62,14 +68,15 @@ impl Driver {
         requires new { coord_view coord ≡ opened_coord (board_opening opening.now) }
         ensures { IfOk result (λ driver. driver ≡ new_driver opening.now (board_id (arc_value board))) }
     {
+        let back = Vec::with_capacity(alloc, opening.seats as usize)?;
         match Lead::new(alloc, coord, opening.hot, &opening.counts) {
             Ok(lead) => Ok(Driver {
                 board,
                 lead,
-                phase: 0,
                 splits: opening.splits_some(),
                 pages: opening.counts.len() as u32,
                 hint,
+                back,
             }),
             Err(_) => Err(AllocError),
         }
@@ -85,7 +92,6 @@ impl Driver {
             &mut self.lead,
             &self.board,
             &self.hint,
-            &mut self.phase,
             self.splits,
             may_end,
         )
@@ -99,14 +105,31 @@ impl Driver {
         ensures case { TakesSnapshot self.old counts.old result self.new counts.new }
         ensures keeps { IsService self.new }
     {
-        read_boundary(&mut self.lead, &self.board, self.phase, counts)
+        read_boundary(&mut self.lead, &self.board, counts)
+    }
+
+    /// Ends the board, where all seats are given back and are gone, and writes each page's last count.
+    pub(crate) fn finish(self, seats: Vec<LiveSeat<SharedPost>>, counts: &mut [u64])
+        requires whole { AreItsSeats self seats.items }
+        requires gone { AreGone seats.items }
+        requires places { length counts.old ≡ length self.seat.opening.counts }
+        ensures { IsClosed self seats.items counts.new }
+    {
+        let Driver {
+            board,
+            lead,
+            mut back,
+            ..
+        } = self;
+        give_back(seats, &mut back);
+        board.last_counts(lead.finish(), back, counts);
     }
 
     /// The present phase.
     pub fn phase(&self) -> u64
         ensures { result ≡ self.now.seat.phase }
     {
-        self.phase
+        self.lead.phase()
     }
 
     /// How many pages there are.

@@ -13,6 +13,7 @@ mod laws;
 mod live_seat;
 mod open_error;
 mod opening;
+mod service;
 #[cfg(test)]
 mod tests;
 
@@ -24,3 +25,4 @@ pub use laws::histories_are_counted;
 pub use live_seat::{LiveSeat, MAX_LIKES};
 pub use open_error::OpenError;
 pub use opening::Opening;
+pub use service::{NotAllGone, Service};

@@ -17,31 +17,27 @@ pub(crate) fn act(
     lead: &mut Lead,
     board: &Board,
     hint: &Hint,
-    phase: &mut u64,
     splits: bool,
     may_end: bool,
 ) -> DriverAnswer
     requires here { lead.old.board ≡ board_id board.now }
-    requires phase { phase.old ≡ lead.old.seat.phase }
     requires limits { lead.old.seat.opening.limits ≡ service_limits }
     requires splits { splits ≡ splits_some lead.old }
-    ensures turns { DriverTurns lead.old may_end result lead.new }
-    ensures phase { phase.new ≡ lead.new.seat.phase }
+    ensures { DriverTurns lead.old may_end result lead.new }
 {
     let sight = lead.look(board);
     if sight.all_gone {
         return DriverAnswer::Ended;
     }
     if sight.ending && sight.all_in {
-        release(lead, board, *phase);
+        release(lead, board);
         hint.clear();
-        *phase += 1;
         return DriverAnswer::Released;
     }
     if sight.ending {
         return DriverAnswer::Waiting;
     }
-    if may_be_ended(*phase, splits) && (may_end || hint.is_asked()) {
+    if may_be_ended(lead.phase(), splits) && (may_end || hint.is_asked()) {
         lead.announce(board);
         return DriverAnswer::Announced;
     }
@@ -56,14 +52,13 @@ fn may_be_ended(phase: u64, splits: bool) -> bool
     phase < LAST_PHASE && (phase % 2 == 1 || splits)
 }
 
-// Releases the phase after this one; before a split one it chooses that phase's hot pages, and publishes their mask.
-fn release(lead: &mut Lead, board: &Board, phase: u64)
+// Releases the next phase; before a split one it chooses that phase's hot pages, and publishes their mask.
+fn release(lead: &mut Lead, board: &Board)
     requires here { lead.old.board ≡ board_id board.now }
-    requires phase { phase ≡ lead.old.seat.phase }
     requires saw { SawAllIn lead.old.seat }
     ensures { ReleasesNext lead.old lead.new }
 {
-    if phase % 2 == 0 {
+    if lead.is_joined() {
         let mask = lead.choose(board);
         lead.publish(board, mask);
     }

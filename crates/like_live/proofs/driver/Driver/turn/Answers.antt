@@ -1,8 +1,10 @@
-use Rattle.like_live.proofs.Turning.{stays-kept, stays-service, turn-stays}
+use Rattle.like_live.proofs.Turning.{stays-kept, stays-room, stays-service, turn-stays}
 use Rattle.like_live.proofs.driver.Driver.turn.Goals as goal
 
 pub invariant_of-self : goal.invariant_of-self
-invariant_of-self c = stays-kept _ _ _ _ _ _ _ (turn-stays _ _ _ _ c.act.ensures.turns) c.act.ensures.phase c.self.invariant
+invariant_of-self c =
+    let stays = turn-stays _ _ _ _ c.act.ensures in
+    (stays-kept _ _ _ _ _ stays c.self.invariant.0, stays-room _ _ _ stays c.self.invariant.1)
 
 pub returns-clause-keeps : goal.returns-clause-keeps
-returns-clause-keeps c = stays-service _ _ (turn-stays _ _ _ _ c.act.ensures.turns) c.self.invariant.service
+returns-clause-keeps c = stays-service _ _ (turn-stays _ _ _ _ c.act.ensures) c.self.invariant.0.service
