@@ -12,15 +12,9 @@ use Rattle.like_seat.specs.Lead.{ChoosesRisen, LeadView, Sees, counted_from, non
 use Rattle.like_seat.proofs.Leading.{counted-is}
 use Rattle.like_live.specs.declared.driver_answer.DriverAnswer.{DriverAnswer}
 use Rattle.like_live.specs.Opening.{splits_by}
-use Rattle.like_live.specs.Driver.{DriverCase, DriverTurns, HasRoom, IsKept, IsService, ReleasesNext, SnapshotCase, TakesSnapshot, announces, ended, not_now, releases, releases_joined, releases_split, running, taken, waiting}
+use Rattle.like_live.specs.Driver.{DriverCase, DriverTurns, HasRoom, IsKept, IsSameDriver, IsService, ReleasesNext, SnapshotCase, TakesSnapshot, announces, ended, not_now, releases, releases_joined, releases_split, running, taken, waiting}
 
--- the same board, opened alike, with the same rule for hot pages
-pub record IsSame (v w : LeadView) : Type 0 where
-  pub board : w.board ≡ v.board
-  pub opening : w.seat.opening ≡ v.seat.opening
-  pub hot : w.hot ≡ v.hot
-
-same-on : (u v w : LeadView) → IsSame u v → IsSame v w → IsSame u w
+same-on : (u v w : LeadView) → IsSameDriver u v → IsSameDriver v w → IsSameDriver u w
 same-on u v w a b = record { board = b.board ∙ a.board; opening = b.opening ∙ a.opening; hot = b.hot ∙ a.hot }
 
 -- to read counts changes nothing else
@@ -41,7 +35,7 @@ reads-only c counts =
     }
 
 -- so does a choice, but for the counts that are kept
-pub chosen-only : (v chosen : LeadView) (m : ℕ) → ChoosesRisen v m chosen → IsSame v chosen × ReadsOnly v.seat chosen.seat
+pub chosen-only : (v chosen : LeadView) (m : ℕ) → ChoosesRisen v m chosen → IsSameDriver v chosen × ReadsOnly v.seat chosen.seat
 chosen-only v chosen m (none_asked _ _ is) = (
   record { board = ap (λ (l : LeadView). l.board) is; opening = ap (λ (l : LeadView). l.seat.opening) is; hot = ap (λ (l : LeadView). l.hot) is },
   record { opening = ap (λ (l : LeadView). l.seat.opening) is; phase = ap (λ (l : LeadView). l.seat.phase) is; last = ap (λ (l : LeadView). l.seat.last) is; gone = ap (λ (l : LeadView). l.seat.gone) is },
@@ -58,7 +52,7 @@ may-release v chosen m chooses saw =
     (subst (λ (o : Option CoordSight). IsSomeAnd o (λ sight. (sight.ending ≡ true) × (sight.all_in ≡ true))) (sym ((chosen-only v chosen m chooses).1.last)) saw, λ _. refl)
 
 -- a release keeps all that, and tells by its last sight whether all were gone
-pub release-keeps : (v w : LeadView) → ReleasesNext v w → IsSame v w × (w.seat.gone ≡ saw_all_gone v.seat.last)
+pub release-keeps : (v w : LeadView) → ReleasesNext v w → IsSameDriver v w × (w.seat.gone ≡ saw_all_gone v.seat.last)
 release-keeps v w (releases_joined _ is) = (
   record { board = ap (λ (l : LeadView). l.board) is; opening = ap (λ (l : LeadView). l.seat.opening) is; hot = ap (λ (l : LeadView). l.hot) is },
   ap (λ (l : LeadView). l.seat.gone) is,
@@ -75,7 +69,7 @@ release-keeps v w (releases_split _ m chosen chooses is) =
 
 -- a look does, and it is its last sight
 pub record HasLooked (v w : LeadView) (sight : CoordSight) : Type 0 where
-  pub same : IsSame v w
+  pub same : IsSameDriver v w
   pub phase : w.seat.phase ≡ v.seat.phase
   pub gone : w.seat.gone ≡ v.seat.gone
   pub last : w.seat.last ≡ Some sight
@@ -90,7 +84,7 @@ look-keeps v w sight sees = record {
 
 -- what stays true from one driver to another
 pub record Stays (v w : LeadView) : Type 0 where
-  pub same : IsSame v w
+  pub same : IsSameDriver v w
   pub gone : v.seat.gone ≡ false → w.seat.gone ≡ false
 
 unchanged : (v w : LeadView) → w ≡ v → Stays v w

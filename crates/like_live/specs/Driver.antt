@@ -89,6 +89,12 @@ pub record IsService (v : LeadView) : Type 0 where
   pub limits : v.seat.opening.limits ≡ service_limits
   pub before_end : v.seat.gone ≡ false
 
+-- it is the same driver: of the same board, which was opened alike, with the same rule for hot pages
+pub record IsSameDriver (v after : LeadView) : Type 0 where
+  pub board : after.board ≡ v.board
+  pub opening : after.seat.opening ≡ v.seat.opening
+  pub hot : after.hot ≡ v.hot
+
 -- how a driver is kept: its lead is that of its board, and it knows whether something would be split, and how many pages
 -- there are
 pub record IsKept (board : BoardId) (splits : Bool) (pages : ℕ) (v : LeadView) : Type 0 where

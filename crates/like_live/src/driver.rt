@@ -2,7 +2,7 @@ ghost use Rattle.std.specs.Prelude.{◌≡◌, IfOk, length};
 ghost use Rattle.std.specs.Arc.{arc_value};
 ghost use Rattle.like_board.specs.Rule.{opened_coord};
 ghost use Rattle.like_board.specs.Seats.{board_id, coord_board, coord_view};
-ghost use Rattle.like_live.specs.Driver.{DriverTurns, IsService, TakesSnapshot, new_driver};
+ghost use Rattle.like_live.specs.Driver.{DriverTurns, IsSameDriver, IsService, TakesSnapshot, new_driver};
 ghost use Rattle.like_live.specs.Opening.{IsWithinLimits, board_opening};
 ghost use Rattle.like_live.specs.Service.{AreGone, AreItsSeats, IsClosed};
 
@@ -87,6 +87,7 @@ impl Driver {
     pub fn turn(&mut self, may_end: bool) -> DriverAnswer
         ensures case { DriverTurns self.old may_end result self.new }
         ensures keeps { IsService self.new }
+        ensures same { IsSameDriver self.old self.new }
     {
         act(
             &mut self.lead,
@@ -104,6 +105,7 @@ impl Driver {
         requires places { length counts.old ≡ length self.old.seat.opening.counts }
         ensures case { TakesSnapshot self.old counts.old result self.new counts.new }
         ensures keeps { IsService self.new }
+        ensures same { IsSameDriver self.old self.new }
     {
         read_boundary(&mut self.lead, &self.board, counts)
     }

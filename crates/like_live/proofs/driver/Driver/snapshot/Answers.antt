@@ -1,3 +1,6 @@
+use Rattle.std.proofs.Common.{subst}
+use Rattle.like_seat.specs.Lead.{LeadView}
+use Rattle.like_live.specs.Driver.{IsSameDriver}
 use Rattle.like_live.proofs.Turning.{snapshot-stays, stays-kept, stays-room, stays-service}
 use Rattle.like_live.proofs.driver.Driver.snapshot.Goals as goal
 
@@ -8,3 +11,6 @@ invariant_of-self c =
 
 pub returns-clause-keeps : goal.returns-clause-keeps
 returns-clause-keeps c = stays-service _ _ (snapshot-stays _ _ _ _ _ c.read_boundary.ensures) c.self.invariant.0.service
+
+pub returns-clause-same : goal.returns-clause-same
+returns-clause-same c = subst (λ (v : LeadView). IsSameDriver v c.read_boundary.new.lead) c.self.view_is (snapshot-stays _ _ _ _ _ c.read_boundary.ensures).same
