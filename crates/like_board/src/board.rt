@@ -84,6 +84,7 @@ impl Board {
         let coord = CoordSeat {
             seat,
             seen: first,
+            phase: 0,
             limits,
         };
         Ok((board, coord, seats))

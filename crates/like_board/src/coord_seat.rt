@@ -1,6 +1,7 @@
-ghost use Rattle.std.specs.Prelude.{◌≡◌, ◌≤◌, true, [], length};
+ghost use Rattle.std.specs.Prelude.{◌≡◌, ◌≤◌, ◌↔◌, true, [], length, IsSome, IsTrue};
 ghost use Rattle.std.specs.Option.{option_map};
 ghost use Rattle.like_core.specs.declared.view.View.TheVariants.{Coord};
+ghost use Rattle.like_core.specs.Limits.{max_pages};
 ghost use Rattle.like_core.specs.OpeningLimits.{AreLimits, number_of};
 ghost use Rattle.like_core.specs.word.Word.{packed};
 ghost use Rattle.like_core.specs.word.PhaseWord.{fields_of};
@@ -20,11 +21,16 @@ pub struct CoordSeat {
     pub(crate) seat: Seat<(), View>,
     /// The phase word that it saw last.
     pub(crate) seen: PhaseWord,
+    /// The present phase.
+    pub(crate) phase: u64,
     /// The limits of its board.
     pub(crate) limits: Limits,
     ghost is_coord: { seat.me ≡ (Coord (coord_view_of seat.me.0), []) },
     ghost saw: { packed (fields_of seen) ≡ (coord_view_of seat.me.0).word },
     ghost sized: { seat.table_id.words ≡ word_of (length (coord_view_of seat.me.0).opening.counts) },
+    ghost few_pages: { length (coord_view_of seat.me.0).opening.counts ≤ max_pages },
+    ghost present: { phase ≡ (coord_view_of seat.me.0).phase },
+    ghost within: { let c = coord_view_of seat.me.0 in IsSome c.last → c.phase ≤ limits.last_phase },
     ghost made_all: { (coord_view_of seat.me.0).made ≡ (coord_view_of seat.me.0).opening.workers },
     ghost none_back: { (coord_view_of seat.me.0).joined ≡ [] },
     ghost limited: { limits ≡ (coord_view_of seat.me.0).opening.limits },
@@ -38,6 +44,20 @@ impl CoordSeat {
     ghost use Rattle.like_core.specs.views.Views.{looked_coord, announced_coord, counted_coord, published_coord, released_coord, MayAnnounce, MayCount, MayPublish, MayRelease};
     ghost use Rattle.like_core.specs.views.Actions.{Surveys, Announces, Counts, Releases};
     ghost use Rattle.like_board.specs.Seats.{board_id, coord_board, coord_view};
+
+    /// The present phase. In a phase word stands only its number.
+    pub fn phase(&self) -> u64
+        ensures { result ≡ (coord_view self.now).phase }
+    {
+        self.phase
+    }
+
+    /// Whether the present phase is the last, whose end can't be announced.
+    pub fn is_last(&self) -> bool
+        ensures { let c = coord_view self.now in IsTrue result ↔ (c.phase ≡ c.opening.limits.last_phase) }
+    {
+        self.phase == self.limits.last_phase
+    }
 
     /// Looks at the phase word. Once it showed all workers in, it shows that until the release.
     pub fn look(&mut self, board: &Board) -> CoordSight
@@ -112,5 +132,6 @@ impl CoordSeat {
             .table
             .shared
             .store::<Releasing>(&mut self.seat, PHASE_WORD, next.pack());
+        self.phase += 1;
     }
 }

@@ -1,4 +1,4 @@
-ghost use Rattle.std.specs.Prelude.{◌≡◌, ◌%◌, ◌==◌, ◌≤◌, [], IfErr, IfOk};
+ghost use Rattle.std.specs.Prelude.{◌≡◌, ◌≤◌, [], IfErr, IfOk};
 ghost use Rattle.like_board.specs.Seats.{board_id, coord_board, coord_view};
 ghost use Rattle.like_core.specs.Phase.{last_phase, IsJoined};
 ghost use Rattle.like_core.specs.OpeningLimits.{run_limits};
@@ -83,7 +83,6 @@ fn choose(lead: &mut Lead, choices: &mut Choices, board: &Board, phase: u32)
 fn release(lead: &mut Lead, choices: &mut Choices, board: &Board, phase: u32)
     requires here { lead.old.board ≡ board_id board.now }
     requires saw { SawAllIn lead.old.seat }
-    requires joined { lead.old.joined ≡ (lead.old.seat.phase % 2 == 0) }
     requires phase { phase ≡ lead.old.seat.phase }
     requires within { phase ≤ last_phase }
     ensures board { lead.new.board ≡ lead.old.board }

@@ -21,6 +21,11 @@ pub counted-is : (c : CoordSeatView) (page : ℕ) (counts : List ℕ) → counte
 counted-is c page [] = refl
 counted-is c page (x ∷ counts) = counted-is (counted_coord c page x) (page + 1) counts
 
+-- after counts were read the last sight still shows all in
+pub saw-still : (c : CoordSeatView) (page : ℕ) (counts : List ℕ) → SawAllIn c → SawAllIn (counted_from c page counts)
+saw-still c page [] saw = saw
+saw-still c page (x ∷ counts) saw = saw-still (counted_coord c page x) (page + 1) counts saw
+
 pub may-count : (c : CoordSeatView) (page : ℕ) (counts : List ℕ) (other : ℕ) → MayCount c other → MayCount (counted_from c page counts) other
 may-count c page [] other may = may
 may-count c page (x ∷ counts) other may = may-count (counted_coord c page x) (page + 1) counts other may

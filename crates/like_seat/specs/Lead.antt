@@ -1,5 +1,5 @@
 -- What leads the phases of a board, and what each of its steps does to it.
-use Rattle.std.specs.Prelude.{◌≡◌, ℕ, ◌+◌, ◌-◌, ◌%◌, ◌==◌, ◌≤◌, nat_le, Bool, true, List, [], ◌∷◌, length, min, take, slice_index, Option, Some, None}
+use Rattle.std.specs.Prelude.{◌≡◌, ℕ, ◌+◌, ◌-◌, ◌≤◌, nat_le, Bool, true, List, [], ◌∷◌, length, min, take, slice_index, Option, Some, None}
 use Rattle.like_board.specs.Seats.{BoardId}
 use Rattle.like_core.specs.declared.sight.CoordSight.{CoordSight}
 use Rattle.like_core.specs.declared.view.CoordSeatView.{CoordSeatView}
@@ -10,14 +10,13 @@ use Rattle.like_core.specs.views.Actions.{Surveys}
 use Rattle.like_core.specs.views.Views.{announced_coord, counted_coord, looked_coord, published_coord, released_coord}
 use Rattle.like_core.specs.word.ShownWord.{mask}
 
--- its board; what its seat knows; how many likes make a page hot, if any do; the counts at its last choice of the pages
--- that may be hot; and whether the phase of its last look is joined
+-- its board; what its seat knows; how many likes make a page hot, if any do; and the counts at its last choice of the
+-- pages that may be hot
 pub record LeadView : Type 0 where
   pub board : BoardId
   pub seat : CoordSeatView
   pub hot : Option ℕ
   pub before : List ℕ
-  pub joined : Bool
 
 -- of the counts of all pages, those of the pages that may be hot
 abbrev pub of_hot_pages : List ℕ → List ℕ
@@ -26,7 +25,7 @@ of_hot_pages counts = take (min hot_pages (length counts)) counts
 -- one that has done nothing yet, with this seat, where these are the pages' counts
 abbrev pub new_lead : BoardId → CoordSeatView → Option ℕ → List ℕ → LeadView
 new_lead board seat hot counts =
-    record { board = board; seat = seat; hot = hot; before = of_hot_pages counts; joined = true }
+    record { board = board; seat = seat; hot = hot; before = of_hot_pages counts }
 
 -- what a look can show: the number of the present phase, which is no later than the last; whether it is ending; all in,
 -- once a look at this phase showed that; and all gone in a split phase only where the last sight before its release
@@ -40,8 +39,7 @@ pub record IsSightOf (c : CoordSeatView) (sight : CoordSight) : Type 0 where
 
 -- after a look at a word
 abbrev pub saw_word : LeadView → ℕ → CoordSight → LeadView
-saw_word v word sight =
-    record v { seat = looked_coord v.seat word sight; joined = v.seat.phase % 2 == 0 }
+saw_word v word sight = record v { seat = looked_coord v.seat word sight }
 
 -- it looks, and sees this: the look is the event of the core
 pub record Sees (v : LeadView) (sight : CoordSight) (after : LeadView) : Type 0 where
@@ -52,10 +50,6 @@ pub record Sees (v : LeadView) (sight : CoordSight) (after : LeadView) : Type 0 
 -- after an announcement
 abbrev pub announced : LeadView → LeadView
 announced v = record v { seat = announced_coord v.seat }
-
--- after it read a page's count, which was this
-abbrev pub with_count : LeadView → ℕ → ℕ → LeadView
-with_count v page count = record v { seat = counted_coord v.seat page count }
 
 -- after it published a mask
 abbrev pub published : LeadView → ℕ → LeadView
@@ -69,6 +63,10 @@ released v = record v { seat = released_coord v.seat }
 abbrev pub counted_from : CoordSeatView → ℕ → List ℕ → CoordSeatView
 counted_from c page [] = c
 counted_from c page (count ∷ counts) = counted_from (counted_coord c page count) (page + 1) counts
+
+-- after it read the counts of all pages, which were these
+abbrev pub with_counts : LeadView → List ℕ → LeadView
+with_counts v counts = record v { seat = counted_from v.seat 0 counts }
 
 -- whether a page's count rose by at least so many
 abbrev pub has_risen : ℕ → List ℕ → List ℕ → ℕ → Bool

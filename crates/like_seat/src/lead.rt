@@ -1,11 +1,14 @@
-ghost use Rattle.std.specs.Prelude.{◌≡◌, IfErr, IfOk};
+ghost use Rattle.std.specs.Prelude.{◌≡◌, ◌↔◌, ◌%◌, ◌==◌, IfErr, IfOk, IsTrue, length, min};
 ghost use Rattle.like_board.specs.Seats.{board_id, coord_board, coord_view};
+ghost use Rattle.like_core.specs.Limits.{hot_pages};
 ghost use Rattle.like_core.specs.Phase.{IsJoined};
-ghost use Rattle.like_core.specs.views.Views.{MayAnnounce, MayCount, MayPublish, MayRelease, SawAllIn};
-ghost use Rattle.like_seat.specs.Lead.{ChoosesRisen, Sees, announced, new_lead, published, released, with_count};
+ghost use Rattle.like_core.specs.views.Views.{MayAnnounce, MayPublish, MayRelease, SawAllIn};
+ghost use Rattle.like_seat.specs.Lead.{ChoosesRisen, Sees, announced, new_lead, published, released, with_counts};
 
+mod counts;
 mod risen;
 
+use self::counts::read_all;
 use self::risen::count_risen;
 use like_board::{Board, CoordSeat};
 use like_core::{CoordSight, HOT_PAGES};
@@ -22,8 +25,6 @@ pub struct Lead {
     hot: Option<u32>,
     /// The counts at the last choice of the pages that may be hot.
     before: Vec<u64>,
-    /// Whether the phase of its last look is joined.
-    joined: bool,
 }
 
 impl Model for Lead {
@@ -39,7 +40,6 @@ impl Model for Lead {
       seat = coord_view l.seat;
       hot = l.hot;
       before = l.before.items;
-      joined = l.joined;
     } };
 
     ghost invariant = { λ l. length l.before.items ≡ min hot_pages (length (coord_view l.seat).opening.counts) };
@@ -66,12 +66,7 @@ impl Lead {
     {
         let few = counts.len().min(HOT_PAGES as usize);
         match Vec::from_slice(alloc, &counts[..few]) {
-            Ok(before) => Ok(Lead {
-                seat,
-                hot,
-                before,
-                joined: true,
-            }),
+            Ok(before) => Ok(Lead { seat, hot, before }),
             Err(AllocError) => Err(NoLead { seat }),
         }
     }
@@ -81,16 +76,28 @@ impl Lead {
         requires { self.old.board ≡ board_id board.now }
         ensures { Sees self.old result self.new }
     {
-        let sight = self.seat.look(board);
-        self.joined = sight.number % 2 == 0;
-        sight
+        self.seat.look(board)
     }
 
-    /// Whether the phase of its last look is joined. Before its first look it says yes.
-    pub fn is_joined(&self) -> bool
-        ensures { result ≡ self.now.joined }
+    /// The present phase.
+    pub fn phase(&self) -> u64
+        ensures { result ≡ self.now.seat.phase }
     {
-        self.joined
+        self.seat.phase()
+    }
+
+    /// Whether the present phase is joined.
+    pub fn is_joined(&self) -> bool
+        ensures { result ≡ (self.now.seat.phase % 2 == 0) }
+    {
+        self.phase() % 2 == 0
+    }
+
+    /// Whether the present phase is the last of its board, whose end can't be announced.
+    pub fn is_last(&self) -> bool
+        ensures { IsTrue result ↔ (self.now.seat.phase ≡ self.now.seat.opening.limits.last_phase) }
+    {
+        self.seat.is_last()
     }
 
     /// Announces the end of the phase.
@@ -102,13 +109,18 @@ impl Lead {
         self.seat.announce(board);
     }
 
-    /// A page's count at the end of a joined phase: its count at the start and all that was added up to that phase.
-    pub fn count(&mut self, board: &Board, page: u32) -> u64
+    /// Reads the counts of all pages at the end of a joined phase: each is the page's count at the start and all that was
+    /// added up to that phase. So they are those of one moment.
+    pub fn read_counts(&mut self, board: &Board, counts: &mut [u64])
         requires here { self.old.board ≡ board_id board.now }
-        requires may { MayCount self.old.seat page }
-        ensures { self.new ≡ with_count self.old page result }
+        requires saw { SawAllIn self.old.seat }
+        requires joined { IsJoined self.old.seat.phase }
+        requires pages { length counts.old ≡ length self.old.seat.opening.counts }
+        ensures len { length counts.new ≡ length counts.old }
+        ensures reads { self.new ≡ with_counts self.old counts.new }
+        ensures saw { SawAllIn self.new.seat }
     {
-        self.seat.count(board, page)
+        read_all(&mut self.seat, board, counts);
     }
 
     /// Chooses the hot pages of the split phase that comes next: the mask of those of the first 64 pages whose counts
@@ -118,6 +130,7 @@ impl Lead {
         requires saw { SawAllIn self.old.seat }
         requires joined { IsJoined self.old.seat.phase }
         ensures chooses { ChoosesRisen self.old result self.new }
+        ensures few { length self.new.before ≡ min hot_pages (length self.new.seat.opening.counts) }
         ensures may { MayPublish self.new.seat result }
     {
         match self.hot {

@@ -17,7 +17,7 @@ split phase differs =
 pub release-requires-clause-may : goal.release-requires-clause-may
 release-requires-clause-may c =
     let phase = c.args.lead.now.seat.phase in
-    let tells : (phase % 2 == 0) ≡ c.is_joined.result = sym (c.is_joined.ensures ∙ c.requires.joined) in
+    let tells : (phase % 2 == 0) ≡ c.is_joined.result = sym c.is_joined.ensures in
     elim c.if-is_joined.branch [
       | then-is_joined w ↦ subst (λ (l : LeadView). MayRelease l.seat) (sym w.lead-is) (may-release _ _ _ _ w.choose.ensures.case c.requires.saw)
       | else-is_joined w ↦ subst (λ (l : LeadView). MayRelease l.seat) (sym w.lead-is)
@@ -28,7 +28,7 @@ pub returns-clause-releases : goal.returns-clause-releases
 returns-clause-releases c =
     let lead = c.args.lead.now in
     let phase = lead.seat.phase in
-    let tells : (phase % 2 == 0) ≡ c.is_joined.result = sym (c.is_joined.ensures ∙ c.requires.joined) in
+    let tells : (phase % 2 == 0) ≡ c.is_joined.result = sym c.is_joined.ensures in
     let seat : c.release.new.self.seat ≡ released_coord c.if-is_joined.lead.seat = ap (λ (l : LeadView). l.seat) c.release.ensures in
     let kept : choice_of c.release.new.self c.if-is_joined.choices ≡ choice_of c.if-is_joined.lead c.if-is_joined.choices = ap (λ (l : LeadView). choice_of l c.if-is_joined.choices) c.release.ensures in
     elim c.if-is_joined.branch [

@@ -32,12 +32,15 @@ returns-in-Some-clause-chooses c =
     let first = c.deref_mut.ensures.value in
     let kept : take inside.before.len (counts ++ drop (length counts) inside.before.items) ≡ counts =
     whole inside.before.items counts inside.before.len (c.count_risen.ensures.len ∙ c.deref_mut.ensures.len) in
-    let v : LeadView = record { board = coord_board inside.seat; seat = known; hot = inside.hot; before = inside.before.items; joined = inside.joined } in
-    let after : LeadView = record { board = coord_board c.count_risen.new.seat; seat = coord_view c.count_risen.new.seat; hot = inside.hot; before = take inside.before.len (counts ++ drop (length counts) inside.before.items); joined = inside.joined } in
+    let v : LeadView = record { board = coord_board inside.seat; seat = known; hot = inside.hot; before = inside.before.items } in
+    let after : LeadView = record { board = coord_board c.count_risen.new.seat; seat = coord_view c.count_risen.new.seat; hot = inside.hot; before = take inside.before.len (counts ++ drop (length counts) inside.before.items) } in
     subst (λ (x : LeadView). ChoosesRisen x c.count_risen.result after) c.self.view_is
     (those_risen c.in-Some.least counts c.in-Some.is (c.count_risen.ensures.len ∙ ap (λ (xs : List ℕ). length xs) first)
     (c.count_risen.ensures.risen ∙ ap (λ xs. risen c.in-Some.least xs counts) first)
-    (λ m. record { board = c.count_risen.ensures.board m; seat = c.count_risen.ensures.view m; hot = inside.hot; before = kept m; joined = inside.joined }))
+    (λ m. record { board = c.count_risen.ensures.board m; seat = c.count_risen.ensures.view m; hot = inside.hot; before = kept m }))
+
+pub returns-in-Some-clause-few : goal.returns-in-Some-clause-few
+returns-in-Some-clause-few c = invariant_of-self c
 
 pub returns-in-Some-clause-may : goal.returns-in-Some-clause-may
 returns-in-Some-clause-may c =
