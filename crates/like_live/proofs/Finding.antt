@@ -1,0 +1,185 @@
+-- How the looks that wait are found, one after the other.
+use Rattle.std.proofs.Common.{◌≡◌, ℕ, ◌+◌, ◌%◌, ◌<◌, ◌≤◌, ◌||◌, Bool, true, false, List, [], ◌∷◌, ◌++◌, length, map, drop, Option, Some, None, refl, ap, sym, ◌∙◌, subst, arith, append-nil, append_assoc, length-append, IsTrue}
+use Rattle.std.specs.List.{All, slice_get}
+use Rattle.std.proofs.lemmas.Bool.{eq-eqb, ne_eqb, and_left}
+use Rattle.std.proofs.lemmas.List.{map-append, length-map}
+use Rattle.std.proofs.lemmas.List.Elements.{All-nil, All-push, All-head, All-drop}
+use Rattle.like_core.specs.declared.view.Addition.{Addition}
+use Rattle.like_core.specs.declared.view.PageRead.{PageRead}
+use Rattle.like_core.specs.Additions.{added_to, page_read}
+use Rattle.like_core.specs.declared.worker_state.WorkerState.{WorkerState}
+use Rattle.like_core.specs.declared.worker_state.WorkerState.TheVariants as state
+use Rattle.like_core.specs.Post.{PostView, has_read, slices}
+use Rattle.like_core.specs.Phase.{IsJoined, is_hot, is_marked, split}
+use Rattle.like_core.specs.PhaseMasks.{mask_of}
+use Rattle.like_core.specs.WorkerState.{IsRunning, RunsJoined, RunsSplit, phase_of}
+use Rattle.like_tables.specs.Share.{owns}
+use Rattle.like_tables.specs.UserTable.{UserTable, last_of}
+use Rattle.like_seat.specs.declared.seen.Seen.{Seen}
+use Rattle.like_seat.specs.SeatView.{SeatView, phase_at}
+use Rattle.like_seat.specs.Steps.{Reads, without_first}
+use Rattle.like_live.specs.declared.asked.Asked.{Asked}
+use Rattle.like_live.specs.declared.asked.Found.{Found}
+use Rattle.like_live.specs.LiveView.{LiveView, IsOwn, live_of, waiting}
+use Rattle.like_live.specs.Kept.{HasLooked}
+use Rattle.like_live.specs.Moves.{FindsAll, IsFoundAt, read_for, with_found}
+
+-- a list with a first element
+pub first_of : {X : Type 0} (xs : List X) (x : X) → slice_get xs 0 ≡ Some x → xs ≡ x ∷ drop 1 xs
+first_of [] x h = cc
+first_of (y ∷ ys) x h = let e : y ≡ x = cc h in ap (λ z. z ∷ ys) e
+
+-- and one without
+pub none_first : {X : Type 0} (xs : List X) → slice_get xs 0 ≡ None → xs ≡ []
+none_first [] h = refl
+none_first (y ∷ ys) h = cc
+
+-- who runs a joined phase runs a phase
+pub running : (s : WorkerState) → RunsJoined s → IsRunning s
+running (state.Runs k) h = tt
+running (state.Answered k) h = absurd h
+running state.Gone h = absurd h
+
+-- who runs a phase that is not joined runs a split one
+pub split_since : (s : WorkerState) (phase : ℕ) → IsRunning s → phase ≡ phase_of s → (phase % 2 ≡ 0 → ⊥) → RunsSplit s
+split_since (state.Runs k) phase h is odd = let some : phase % 2 ≡ 1 = omega arith in ap (λ n. n % 2) (sym is) ∙ some
+split_since (state.Answered k) phase h is odd = absurd h
+split_since state.Gone phase h is odd = absurd h
+
+-- in a joined phase
+pub joined_phase : (s : WorkerState) → RunsJoined s → IsJoined (phase_of s)
+joined_phase (state.Runs k) h = h
+joined_phase (state.Answered k) h = absurd h
+joined_phase state.Gone h = absurd h
+
+-- no page is split in a joined phase
+pub plain : (post : PostView) (page : ℕ) → RunsJoined post.state → slices post page ≡ false
+plain post page joined =
+    let even = joined_phase post.state joined in
+    and_left _ (is_marked post.marks page || is_hot (mask_of post.masks (phase_of post.state)) page) (ne_eqb _ 1 (λ odd. absurd (omega arith)))
+
+-- some of the looks that waited are found, and these wait still
+pub record Finding (v now : LiveView) : Type 0 where
+  pub found : List Found
+  pub order : map (λ f. f.asked) found ++ waiting now ≡ waiting v
+  pub shown : All (IsFoundAt v.seat) found
+  pub post : now.seat.post ≡ record v.seat.post { reads = v.seat.post.reads ++ map (read_for (length v.seat.post.additions)) found }
+  pub capacity : now.seat.held.capacity ≡ v.seat.held.capacity
+  pub slice : now.seat.slice ≡ v.seat.slice
+  pub last : now.seat.last ≡ v.seat.last
+  pub found_is : now.found ≡ v.found ++ found
+
+-- none is found at first
+pub Finding-start : (v : LiveView) → Finding v v
+Finding-start v = record {
+  found = [];
+  order = refl;
+  shown = All-nil (IsFoundAt v.seat);
+  post = λ m. record v.seat.post { reads = sym (append-nil v.seat.post.reads) m };
+  capacity = refl;
+  slice = refl;
+  last = refl;
+  found_is = sym (append-nil v.found);
+}
+
+-- all are found once none waits
+pub Finding-end : (v now : LiveView) → Finding v now → waiting now ≡ [] → FindsAll v now
+Finding-end v now f none = record {
+  found = f.found;
+  order = sym (append-nil (map (λ (x : Found). x.asked) f.found)) ∙ ap (λ ws. map (λ (x : Found). x.asked) f.found ++ ws) (sym none) ∙ f.order;
+  shown = f.shown;
+  rest = λ m. record {
+    seat = record {
+      post = f.post m;
+      held = record { held = none m; capacity = f.capacity m };
+      slice = f.slice m;
+      last = f.last m;
+    };
+    found = f.found_is m;
+  };
+}
+
+-- the looks that wait still are the seat's
+pub Finding-own : (v now : LiveView) → Finding v now → All (IsOwn v.seat) (waiting v) → All (IsOwn v.seat) (waiting now)
+Finding-own v now f own =
+    subst (All (IsOwn v.seat)) (drop_front (map (λ (x : Found). x.asked) f.found) (waiting now))
+    (All-drop (IsOwn v.seat) (length (map (λ (x : Found). x.asked) f.found)) (map (λ (x : Found). x.asked) f.found ++ waiting now) (subst (All (IsOwn v.seat)) (sym f.order) own))
+  where
+    drop_front : {X : Type 0} (xs ys : List X) → drop (length xs) (xs ++ ys) ≡ ys
+    drop_front [] ys = refl
+    drop_front (x ∷ xs) ys = drop_front xs ys
+
+-- as many looks wait and are found as before
+pub Finding-room : (v now : LiveView) → Finding v now → length (waiting now) + length now.found ≡ length (waiting v) + length v.found
+Finding-room v now f =
+    let asked = map (λ (x : Found). x.asked) f.found in
+    omega (arith, ap length f.order, length-append asked (waiting now), length-map f.found (λ (x : Found). x.asked), ap length f.found_is, length-append v.found f.found)
+
+-- one look more is found, which was the first that waited still
+pub Finding-more : (v now next : LiveView) (a : Asked) (f : Found) → Finding v now
+    → waiting now ≡ a ∷ waiting next → f.asked ≡ a → IsFoundAt v.seat f
+    → next.seat.post ≡ record now.seat.post { reads = now.seat.post.reads ++ read_for (length v.seat.post.additions) f ∷ [] }
+    → next.seat.held.capacity ≡ now.seat.held.capacity → next.seat.slice ≡ now.seat.slice → next.seat.last ≡ now.seat.last
+    → next.found ≡ now.found ++ f ∷ [] → Finding v next
+Finding-more v now next a f d first is shown post capacity slice last found = record {
+  found = d.found ++ f ∷ [];
+  order =
+      ap (λ (xs : List Asked). xs ++ waiting next) (map-append (λ (x : Found). x.asked) d.found (f ∷ []))
+      ∙ append_assoc (map (λ (x : Found). x.asked) d.found) (f.asked ∷ []) (waiting next)
+      ∙ ap (λ (x : Asked). map (λ (x : Found). x.asked) d.found ++ x ∷ waiting next) is
+      ∙ ap (λ ws. map (λ (x : Found). x.asked) d.found ++ ws) (sym first)
+      ∙ d.order;
+  shown = All-push (IsFoundAt v.seat) d.found f d.shown shown;
+  post =
+      post ∙ ap (λ (p : PostView). record p { reads = p.reads ++ read_for (length v.seat.post.additions) f ∷ [] }) d.post
+      ∙ (λ m. record v.seat.post { reads = reads m });
+  capacity = capacity ∙ d.capacity;
+  slice = slice ∙ d.slice;
+  last = last ∙ d.last;
+  found_is = found ∙ ap (λ xs. xs ++ f ∷ []) d.found_is ∙ append_assoc v.found d.found (f ∷ []);
+}
+  where
+    reads : (v.seat.post.reads ++ map (read_for (length v.seat.post.additions)) d.found) ++ read_for (length v.seat.post.additions) f ∷ [] ≡ v.seat.post.reads ++ map (read_for (length v.seat.post.additions)) (d.found ++ f ∷ [])
+    reads =
+        append_assoc v.seat.post.reads (map (read_for (length v.seat.post.additions)) d.found) (read_for (length v.seat.post.additions) f ∷ [])
+        ∙ ap (λ (xs : List PageRead). v.seat.post.reads ++ xs) (sym (map-append (read_for (length v.seat.post.additions)) d.found (f ∷ [])))
+
+-- the first that waits still is the seat's, once it is taken out
+pub Finding-first : (v now : LiveView) (s : SeatView Asked) (a : Asked) → Finding v now → All (IsOwn v.seat) (waiting v)
+    → slice_get (waiting now) 0 ≡ Some a → s ≡ without_first now.seat → IsOwn s a
+Finding-first v now s a d own first is =
+    let mine : IsOwn v.seat a = All-head (IsOwn v.seat) a (drop 1 (waiting now)) (subst (All (IsOwn v.seat)) (first_of (waiting now) a first) (Finding-own v now d own)) in
+    let marks : s.post.marks ≡ v.seat.post.marks = ap (λ (t : SeatView Asked). t.post.marks) is ∙ ap (λ (p : PostView). p.marks) d.post in
+    let last : s.last ≡ v.seat.last = ap (λ (t : SeatView Asked). t.last) is ∙ d.last in
+    record {
+      there = subst (λ (m : List Bool). a.page < length m) (sym marks) mine.there;
+      owned = subst (λ (t : UserTable). IsTrue (owns t.share a.user)) (sym last) mine.owned;
+    }
+
+-- the first that waits still is found by a read
+pub Finding-next : (v now : LiveView) (s after : SeatView Asked) (found : List Found) (a : Asked) (seen : Seen) (phase : ℕ) → Finding v now
+    → slice_get (waiting now) 0 ≡ Some a → s ≡ without_first now.seat → Reads s a.user a.page seen after → phase ≡ phase_at v.seat
+    → found ≡ now.found ++ record { asked = a; last = seen.last; count = seen.count; phase = phase } ∷ []
+    → Finding v (record { seat = after; found = found })
+Finding-next v now s after found a seen phase d first is reads phase_is found_is =
+    let last : s.last ≡ v.seat.last = ap (λ (t : SeatView Asked). t.last) is ∙ d.last in
+    let post : s.post ≡ now.seat.post = ap (λ (t : SeatView Asked). t.post) is in
+    let additions : s.post.additions ≡ v.seat.post.additions = ap (λ (p : PostView). p.additions) (post ∙ d.post) in
+    let state : phase_of now.seat.post.state ≡ phase = ap (λ (p : PostView). phase_of p.state) d.post ∙ sym phase_is in
+    let count : length now.seat.post.additions ≡ length v.seat.post.additions = ap (λ (p : PostView). length p.additions) d.post in
+    let e : after ≡ record (without_first now.seat) { post = has_read now.seat.post a.page seen.count } =
+    reads.read ∙ ap (λ (t : SeatView Asked). record t { post = has_read t.post a.page seen.count }) is in
+    let f : Found = record { asked = a; last = seen.last; count = seen.count; phase = phase } in
+    Finding-more v now (record { seat = after; found = found }) a f d
+    (first_of (waiting now) a first ∙ ap (λ (xs : List Asked). a ∷ xs) (sym (ap (λ (t : SeatView Asked). t.held.held) e)))
+    refl
+    (record {
+      last = reads.last ∙ ap (λ (t : UserTable). last_of t a.user) last;
+      own = subst (λ (xs : List Addition). added_to a.page xs ≤ seen.count) additions reads.own;
+      phase = phase_is;
+    })
+    (ap (λ (t : SeatView Asked). t.post) e ∙ (λ m. record now.seat.post { reads = now.seat.post.reads ++ page_read (state m) a.page seen.count (count m) ∷ [] }))
+    (ap (λ (t : SeatView Asked). t.held.capacity) e)
+    (ap (λ (t : SeatView Asked). t.slice) e)
+    (ap (λ (t : SeatView Asked). t.last) e)
+    found_is

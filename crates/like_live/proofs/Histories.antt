@@ -1,0 +1,208 @@
+-- The law of histories.
+use Rattle.std.proofs.Common.{◌≡◌, ◌≢◌, ℕ, ◌+◌, ◌<◌, ◌==◌, Bool, true, false, cond, List, [], ◌∷◌, ◌++◌, length, map, drop, get_or, replicate, Option, Some, None, refl, ap, sym, ◌∙◌, subst, arith, append-nil, append_assoc}
+use Rattle.std.specs.List.{flat_map, last_or, slice_get, sum_by}
+use Rattle.std.proofs.lemmas.List.{length-replicate, length-set, map-append}
+use Rattle.std.proofs.lemmas.List.Sums.{sum_by-cons}
+use Rattle.like_core.specs.declared.worker_state.WorkerState.TheVariants as state
+use Rattle.like_core.specs.Additions.{added_to}
+use Rattle.like_core.specs.Post.{PostView, slices}
+use Rattle.like_seat.specs.SeatView.{SeatView}
+use Rattle.like_seat.specs.Steps.{holding}
+use Rattle.like_seat.proofs.MergedLikes.{same_everywhere}
+use Rattle.like_tables.specs.UserTable.{UserTable, last_of}
+use Rattle.like_tables.specs.Waiting.{Waiting}
+use Rattle.like_live.specs.declared.answer.LikeAnswer.{LikeAnswer}
+use Rattle.like_live.specs.declared.answer.LookAnswer.{LookAnswer}
+use Rattle.like_live.specs.declared.answer.LookAnswer.TheVariants.{Waits}
+use Rattle.like_live.specs.declared.answer.TurnAnswer.{TurnAnswer}
+use Rattle.like_live.specs.declared.asked.Asked.{Asked}
+use Rattle.like_live.specs.declared.asked.Found.{Found}
+use Rattle.like_live.specs.LiveView.{LiveView, tally, waiting, with_seat}
+use Rattle.like_live.specs.Calls as calls
+use Rattle.like_live.specs.Calls.{LikeCase, LikesNow, LookCase, LooksNow, RetireCase, RetiresNow, TakesFound, asked_now, left}
+use Rattle.like_live.specs.History.{AreCounted, Ask, Does, HasDone, HistoriesAreCounted, IsUnused, Told, ask_of, ask_taken, ask_told, asks_taken, asks_told, like, like_told, likes_told, look, page_liked, pages_liked, retire, take_found, turn}
+use Rattle.like_live.proofs.Calling.{LikesNow-tallies}
+use Rattle.like_live.proofs.Telling.{IsQuiet, IsQuiet-moves, IsQuiet-same, IsTold, IsTold-after, IsTold-quiet, IsWhole, TellsNothing, ask_waiting, asks_of, is_counted, last-more, merged-asks, user_there}
+
+-- a like at a seat that runs a phase
+told-like : (v after : LiveView) (user page : ℕ) (answer : LikeAnswer) → IsWhole v → LikesNow v user page answer after → IsTold v after (like user page answer)
+told-like v after user page answer whole (calls.refused fails a is) =
+    IsTold-quiet v after (like user page answer) (subst (IsQuiet v) (sym is) (IsQuiet-same v whole))
+    (subst (λ x. TellsNothing (like user page x)) (sym a) (record { likes = λ p. refl; pages = λ u. refl; taken = refl; told = refl }))
+told-like v after user page answer whole (calls.full accepted most a is) =
+    IsTold-quiet v after (like user page answer) (subst (IsQuiet v) (sym is) (IsQuiet-same v whole))
+    (subst (λ x. TellsNothing (like user page x)) (sym a) (record { likes = λ p. refl; pages = λ u. refl; taken = refl; told = refl }))
+told-like v after user page answer whole (calls.liked old s accepted few a counts is) =
+    let c = is_counted v.seat s user page old counts in
+    let there = subst (λ n. user < n) (sym whole.table) (user_there v.seat user page accepted) in
+    let done : LikesNow v user page answer after = calls.liked old s accepted few a counts is in
+    record {
+      whole = subst IsWhole (sym is) (record {
+        sized = c.sized ∙ whole.sized ∙ ap length (sym c.marks);
+        table = ap (λ (t : UserTable). length t.last) c.last ∙ length-set v.seat.last.last user (Some page) ∙ whole.table ∙ ap (λ (t : UserTable). t.share.users) (sym c.last);
+        empty = λ gone. ap (λ (w : Waiting Asked). w.held) c.held ∙ whole.empty (sym c.is_in ∙ gone);
+      });
+      tallies = LikesNow-tallies v after user page answer whole.sized done;
+      last = λ other.
+          ap (λ (w : LiveView). last_of w.seat.last other) is ∙ ap (λ (t : UserTable). last_of t other) c.last
+          ∙ last-more v.seat.last user page other there
+          ∙ sym (ap (λ x. last_or (last_of v.seat.last other) (page_liked other (like user page x))) a);
+      asks = ap asks_of is ∙ merged-asks v s c.held ∙ sym (append-nil (asks_of v));
+    }
+
+-- a look at a seat that runs a phase
+told-look : (v after : LiveView) (user page tag : ℕ) (answer : LookAnswer) → IsWhole v → LooksNow v user page tag answer after → IsTold v after (look user page tag answer)
+told-look v after user page tag answer whole (calls.refused fails a is) =
+    IsTold-quiet v after (look user page tag answer) (subst (IsQuiet v) (sym is) (IsQuiet-same v whole))
+    (subst (λ x. TellsNothing (look user page tag x)) (sym a) (record { likes = λ p. refl; pages = λ u. refl; taken = refl; told = refl }))
+told-look v after user page tag answer whole (calls.no_room accepted split none a is) =
+    IsTold-quiet v after (look user page tag answer) (subst (IsQuiet v) (sym is) (IsQuiet-same v whole))
+    (subst (λ x. TellsNothing (look user page tag x)) (sym a) (record { likes = λ p. refl; pages = λ u. refl; taken = refl; told = refl }))
+told-look v after user page tag answer whole (calls.seen shown s accepted plain a reads is) =
+    IsTold-quiet v after (look user page tag answer)
+    (subst (IsQuiet v) (sym (is ∙ ap (with_seat v) reads.read)) (record {
+      whole = record { sized = whole.sized; table = whole.table; empty = whole.empty };
+      tallies = λ p. refl;
+      last = refl;
+      asks = refl;
+    }))
+    (subst (λ x. TellsNothing (look user page tag x)) (sym a) (record { likes = λ p. refl; pages = λ u. refl; taken = refl; told = refl }))
+told-look v after user page tag answer whole (calls.waits accepted split room a is) =
+    subst (λ x. IsTold v after (look user page tag x)) (sym a)
+    (subst (λ w. IsTold v w (look user page tag Waits)) (sym is) (record {
+      whole = record { sized = whole.sized; table = whole.table; empty = λ gone. absurd (gone-plain v.seat.post page gone split) };
+      tallies = λ p. omega arith;
+      last = λ u. refl;
+      asks =
+          ap (λ xs. map ask_of v.found ++ xs) (map-append ask_waiting (waiting v) (asked_now v user page tag ∷ []))
+          ∙ sym (append_assoc (map ask_of v.found) (map ask_waiting (waiting v)) (ask_waiting (asked_now v user page tag) ∷ []));
+    }))
+  where
+    -- no page is split for one that is gone
+    gone-plain : (post : PostView) (page : ℕ) → post.state ≡ state.Gone → slices post page ≡ true → ⊥
+    gone-plain post page gone split = let e : slices post page ≡ false = ap (λ s. slices (record post { state = s }) page) gone in absurd (cc (sym e ∙ split))
+
+-- a retirement at a seat that runs a phase
+told-retire : (v after : LiveView) (answer : TurnAnswer) → IsWhole v → RetiresNow v answer after → IsTold v after (retire answer)
+told-retire v after answer whole (calls.retires joined none a is) =
+    IsTold-quiet v after (retire answer)
+    (subst (IsQuiet v) (sym is) (record {
+      whole = record { sized = whole.sized; table = whole.table; empty = λ gone. none };
+      tallies = λ p. refl;
+      last = refl;
+      asks = refl;
+    }))
+    (record { likes = λ p. refl; pages = λ u. refl; taken = refl; told = refl })
+told-retire v after answer whole (calls.runs split a is) =
+    IsTold-quiet v after (retire answer) (subst (IsQuiet v) (sym is) (IsQuiet-same v whole)) (record { likes = λ p. refl; pages = λ u. refl; taken = refl; told = refl })
+
+-- a found look that is taken
+takes-asks : (fs : List Found) (waits : List Ask) (taken : Option Found) → taken ≡ slice_get fs 0
+    → ask_taken (take_found taken) ++ (map ask_of (drop 1 fs) ++ waits) ≡ map ask_of fs ++ waits
+takes-asks [] waits taken e = ap (λ (o : Option Found). ask_taken (take_found o) ++ waits) e
+takes-asks (f ∷ fs) waits taken e = ap (λ (o : Option Found). ask_taken (take_found o) ++ (map ask_of fs ++ waits)) e
+
+told-take : (v after : LiveView) (taken : Option Found) → IsWhole v → TakesFound v taken after → IsTold v after (take_found taken)
+told-take v after taken whole takes = subst (λ w. IsTold v w (take_found taken)) (sym takes.1) (record {
+  whole = record { sized = whole.sized; table = whole.table; empty = whole.empty };
+  tallies = λ p. omega arith;
+  last = λ u. refl;
+  asks = takes-asks v.found (map ask_waiting (waiting v)) taken takes.0 ∙ sym (append-nil (asks_of v));
+})
+
+-- each call tells what it does
+told-does : (t : Told) (v after : LiveView) → IsWhole v → Does v t after → IsTold v after t
+told-does (turn answer) v after whole m = IsTold-quiet v after (turn answer) (IsQuiet-moves v after answer whole m) (record { likes = λ p. refl; pages = λ u. refl; taken = refl; told = refl })
+told-does (like user page answer) v after whole d = by_case d
+  where
+    by_case : LikeCase v user page answer after → IsTold v after (like user page answer)
+    by_case (calls.gone m a) =
+        IsTold-quiet v after (like user page answer) (IsQuiet-moves v after _ whole m)
+        (subst (λ x. TellsNothing (like user page x)) (sym a) (record { likes = λ p. refl; pages = λ u. refl; taken = refl; told = refl }))
+    by_case (calls.between m a) =
+        IsTold-quiet v after (like user page answer) (IsQuiet-moves v after _ whole m)
+        (subst (λ x. TellsNothing (like user page x)) (sym a) (record { likes = λ p. refl; pages = λ u. refl; taken = refl; told = refl }))
+    by_case (calls.runs now m l) =
+        let q = IsQuiet-moves v now _ whole m in
+        IsTold-after v now after (like user page answer) q (told-like now after user page answer q.whole l)
+told-does (look user page tag answer) v after whole d = by_case d
+  where
+    by_case : LookCase v user page tag answer after → IsTold v after (look user page tag answer)
+    by_case (calls.gone m a) =
+        IsTold-quiet v after (look user page tag answer) (IsQuiet-moves v after _ whole m)
+        (subst (λ x. TellsNothing (look user page tag x)) (sym a) (record { likes = λ p. refl; pages = λ u. refl; taken = refl; told = refl }))
+    by_case (calls.between m a) =
+        IsTold-quiet v after (look user page tag answer) (IsQuiet-moves v after _ whole m)
+        (subst (λ x. TellsNothing (look user page tag x)) (sym a) (record { likes = λ p. refl; pages = λ u. refl; taken = refl; told = refl }))
+    by_case (calls.runs now m l) =
+        let q = IsQuiet-moves v now _ whole m in
+        IsTold-after v now after (look user page tag answer) q (told-look now after user page tag answer q.whole l)
+told-does (take_found taken) v after whole d = told-take v after taken whole d
+told-does (retire answer) v after whole d = by_case d
+  where
+    by_case : RetireCase v answer after → IsTold v after (retire answer)
+    by_case (calls.turns ends m) =
+        IsTold-quiet v after (retire answer) (IsQuiet-moves v after answer whole m) (record { likes = λ p. refl; pages = λ u. refl; taken = refl; told = refl })
+    by_case (calls.runs now m l) =
+        let q = IsQuiet-moves v now _ whole m in
+        IsTold-after v now after (retire answer) q (told-retire now after answer q.whole l)
+
+-- calls tell what they do, one after the other
+record AreTold (v after : LiveView) (told : List Told) : Type 0 where
+  whole : IsWhole after
+  tallies : (page : ℕ) → tally after page ≡ tally v page + likes_told page told
+  last : (user : ℕ) → last_of after.seat.last user ≡ last_or (last_of v.seat.last user) (pages_liked user told)
+  asks : asks_taken told ++ asks_of after ≡ asks_of v ++ asks_told told
+
+last_or-append : (o : Option ℕ) (xs ys : List ℕ) → last_or o (xs ++ ys) ≡ last_or (last_or o xs) ys
+last_or-append o [] ys = refl
+last_or-append o (x ∷ xs) ys = last_or-append (Some x) xs ys
+
+are_told : (told : List Told) (v after : LiveView) → IsWhole v → HasDone v told after → AreTold v after told
+are_told [] v after whole is = subst (λ w. AreTold v w []) (sym is) (record {
+  whole = whole;
+  tallies = λ page. omega arith;
+  last = λ user. refl;
+  asks = sym (append-nil (asks_of v));
+})
+are_told (t ∷ told) v after whole d =
+    let now = d.0 in
+    let first = told-does t v now whole d.1.0 in
+    let rest = are_told told now after first.whole d.1.1 in
+    record {
+      whole = rest.whole;
+      tallies = λ page. let a = first.tallies page in let b = rest.tallies page in omega (arith, sum_by-cons (like_told page) t told);
+      last = λ user.
+          rest.last user ∙ ap (λ (o : Option ℕ). last_or o (pages_liked user told)) (first.last user)
+          ∙ sym (last_or-append (last_of v.seat.last user) (page_liked user t) (pages_liked user told));
+      asks =
+          append_assoc (ask_taken t) (asks_taken told) (asks_of after)
+          ∙ ap (λ xs. ask_taken t ++ xs) rest.asks
+          ∙ sym (append_assoc (ask_taken t) (asks_of now) (asks_told told))
+          ∙ ap (λ xs. xs ++ asks_told told) first.asks
+          ∙ append_assoc (asks_of v) (ask_told t) (asks_told told);
+    }
+
+pub histories_are_counted : HistoriesAreCounted
+histories_are_counted v after told unused done gone none =
+    let new = unused.new in
+    let whole : IsWhole v = record {
+      sized = ap length new.slice ∙ length-replicate {A = ℕ} _ 0 ∙ ap (λ (p : PostView). length p.marks) (sym new.at_post);
+      table = ap (λ (t : UserTable). length t.last) new.last ∙ length-replicate {A = Option ℕ} _ None ∙ ap (λ (t : UserTable). t.share.users) (sym new.last);
+      empty = λ e. ap (λ (w : Waiting Asked). w.held) new.held;
+    } in
+    let t = are_told told v after whole done in
+    let nothing : asks_of v ≡ [] = λ m. map ask_of (new.found m) ++ map ask_waiting ((new.held m).held) in
+    let all_taken : asks_of after ≡ [] = λ m. map ask_of (none m) ++ map ask_waiting (t.whole.empty gone m) in
+    record {
+      tallies = λ page.
+          let added : added_to page v.seat.post.additions ≡ 0 = ap (λ (p : PostView). added_to page p.additions) new.at_post ∙ ap (added_to page) unused.fresh.added_nothing in
+          let slice : get_or v.seat.slice page 0 ≡ 0 = ap (λ (xs : List ℕ). get_or xs page 0) new.slice ∙ same_everywhere _ page 0 in
+          let all = t.tallies page in
+          omega arith;
+      last = λ user.
+          t.last user ∙ ap (λ (o : Option ℕ). last_or o (pages_liked user told)) (ap (λ (u : UserTable). last_of u user) new.last ∙ same_everywhere _ user None);
+      taken =
+          sym (append-nil (asks_taken told)) ∙ ap (λ xs. asks_taken told ++ xs) (sym all_taken) ∙ t.asks
+          ∙ ap (λ xs. xs ++ asks_told told) nothing;
+    }

@@ -1,0 +1,95 @@
+-- What phase work leaves as it is.
+use Rattle.std.proofs.Common.{◌≡◌, ℕ, Bool, List, length, replicate, refl, ap, sym, ◌∙◌, subst}
+use Rattle.std.proofs.lemmas.List.{length-replicate}
+use Rattle.like_core.specs.declared.sight.Sight.{Sight}
+use Rattle.like_core.specs.Post.{answered, pages_of}
+use Rattle.like_seat.specs.Merge.{MergesAndReports, merged}
+use Rattle.like_seat.specs.SeatView.{SeatView}
+use Rattle.like_seat.proofs.MergedLikes.{merged-tally}
+use Rattle.like_live.specs.declared.answer.TurnAnswer.{TurnAnswer}
+use Rattle.like_live.specs.declared.asked.Asked.{Asked}
+use Rattle.like_live.specs.LiveView.{IsSameSeat, KeepsTallies, LiveView, tally, with_seat}
+use Rattle.like_live.specs.Moves.{FindsAll, Moves, Works, is_gone, looked, stopped, waits, works, runs_joined, acknowledges, runs_split, reports, with_found}
+
+-- the slice has a number for each page
+abbrev pub IsSized : LiveView → Type 0
+IsSized v = length v.seat.slice ≡ pages_of v.seat.post
+
+-- it is the same seat, with the same tallies and the same last likes
+pub record Leaves (v after : LiveView) : Type 0 where
+  pub same : IsSameSeat v after
+  pub tallies : KeepsTallies v after
+  pub last : after.seat.last ≡ v.seat.last
+  pub sized : length after.seat.slice ≡ length v.seat.slice
+
+same_seat : (v : LiveView) → IsSameSeat v v
+same_seat v = record { board = refl; worker = refl; marks = refl; share = refl }
+
+pub same_seat_both : (v now after : LiveView) → IsSameSeat v now → IsSameSeat now after → IsSameSeat v after
+same_seat_both v now after a b = record {
+  board = b.board ∙ a.board;
+  worker = b.worker ∙ a.worker;
+  marks = b.marks ∙ a.marks;
+  share = b.share ∙ a.share;
+}
+
+pub Leaves-all : (v : LiveView) → Leaves v v
+Leaves-all v = record { same = same_seat v; tallies = λ page. refl; last = refl; sized = refl }
+
+pub Leaves-both : (v now after : LiveView) → Leaves v now → Leaves now after → Leaves v after
+Leaves-both v now after a b = record {
+  same = same_seat_both v now after a.same b.same;
+  tallies = λ page. b.tallies page ∙ a.tallies page;
+  last = b.last ∙ a.last;
+  sized = b.sized ∙ a.sized;
+}
+
+Leaves-looked : (v : LiveView) (sight : Sight) (mask : ℕ) → Leaves v (looked v sight mask)
+Leaves-looked v sight mask = record {
+  same = record { board = refl; worker = refl; marks = refl; share = refl };
+  tallies = λ page. refl;
+  last = refl;
+  sized = refl;
+}
+
+Leaves-stopped : (v : LiveView) → Leaves v (stopped v)
+Leaves-stopped v = record {
+  same = record { board = refl; worker = refl; marks = refl; share = refl };
+  tallies = λ page. refl;
+  last = refl;
+  sized = refl;
+}
+
+Leaves-found : (v after : LiveView) → FindsAll v after → Leaves v after
+Leaves-found v after f = subst (Leaves v) (sym f.rest) (record {
+  same = record { board = refl; worker = refl; marks = refl; share = refl };
+  tallies = λ page. refl;
+  last = refl;
+  sized = refl;
+})
+
+-- to merge a slice and report leaves each page's tally
+Leaves-merged : (v : LiveView) (s : SeatView Asked) → IsSized v → MergesAndReports v.seat s → Leaves v (with_seat v s)
+Leaves-merged v s sized m =
+    let adds = m.1.0.0 in
+    let is : s ≡ record (merged v.seat adds) { post = answered (merged v.seat adds).post } =
+    m.1.1 ∙ ap (λ (t : SeatView Asked). record t { post = answered t.post }) m.1.0.1.1 in
+    subst (λ (t : SeatView Asked). Leaves v (with_seat v t)) (sym is) (record {
+      same = record { board = refl; worker = refl; marks = refl; share = refl };
+      tallies = merged-tally v.seat adds m.1.0.1.0 sized;
+      last = refl;
+      sized = length-replicate {A = ℕ} (pages_of v.seat.post) 0 ∙ sym sized;
+    })
+
+pub Leaves-works : (v after : LiveView) (ending : Bool) (answer : TurnAnswer) → IsSized v → Works v ending answer after → Leaves v after
+Leaves-works v after ending answer sized (runs_joined joined e a found) = Leaves-found v after found
+Leaves-works v after ending answer sized (acknowledges now joined e a found is) =
+    subst (Leaves v) (sym is) (Leaves-both v now (stopped now) (Leaves-found v now found) (Leaves-stopped now))
+Leaves-works v after ending answer sized (runs_split split e a is) = subst (Leaves v) (sym is) (Leaves-all v)
+Leaves-works v after ending answer sized (reports s split e a merges is) = subst (Leaves v) (sym is) (Leaves-merged v s sized merges)
+
+pub Leaves-moves : (v after : LiveView) (answer : TurnAnswer) → IsSized v → Moves v answer after → Leaves v after
+Leaves-moves v after answer sized (is_gone gone a is) = subst (Leaves v) (sym is) (Leaves-all v)
+Leaves-moves v after answer sized (waits sight mask there w a is) = subst (Leaves v) (sym is) (Leaves-looked v sight mask)
+Leaves-moves v after answer sized (works sight mask there w does) =
+    Leaves-both v (looked v sight mask) after (Leaves-looked v sight mask) (Leaves-works (looked v sight mask) after sight.ending answer sized does)

@@ -1,0 +1,201 @@
+-- What each call of a live seat tells.
+use Rattle.std.proofs.Common.{◌≡◌, ◌≢◌, ℕ, ◌+◌, ◌<◌, ◌==◌, Bool, true, false, not, cond, nat_lt, List, [], ◌∷◌, ◌++◌, length, map, drop, get_or, set, Option, Some, None, refl, ap, sym, ◌∙◌, subst, inl, inr, arith, append-nil, append_assoc}
+use Rattle.std.specs.List.{last_or, slice_get}
+use Rattle.std.proofs.lemmas.Bool.{cases_eq, eq-eqb, ltb-true, ne_eqb}
+use Rattle.std.proofs.lemmas.List.{get_or-set_other, get_or-set_same, length-set, map-append}
+use Rattle.like_core.specs.declared.sight.Sight.{Sight}
+use Rattle.like_core.specs.declared.worker_state.WorkerState.{WorkerState}
+use Rattle.like_core.specs.declared.worker_state.WorkerState.TheVariants as state
+use Rattle.like_core.specs.Post.{pages_of, slices}
+use Rattle.like_core.specs.WorkerState.{RunsJoined, RunsSplit, seen}
+use Rattle.like_requests.specs.declared.verdict.Verdict.TheVariants.{Accepted, UnknownUser}
+use Rattle.like_requests.specs.declared.verdict.Verdict.{Verdict}
+use Rattle.like_seat.specs.SeatView.{SeatView}
+use Rattle.like_seat.specs.Steps.{CountsLike, holding}
+use Rattle.like_tables.specs.UserTable.{UserTable, last_of, with_last}
+use Rattle.like_live.specs.declared.answer.LikeAnswer.{LikeAnswer}
+use Rattle.like_live.specs.declared.answer.LookAnswer.{LookAnswer}
+use Rattle.like_live.specs.declared.answer.TurnAnswer.{TurnAnswer}
+use Rattle.like_live.specs.declared.asked.Asked.{Asked}
+use Rattle.like_live.specs.declared.asked.Found.{Found}
+use Rattle.like_live.specs.LiveView.{KeepsTallies, LiveView, tally, waiting, with_seat}
+use Rattle.like_live.specs.Moves as moves
+use Rattle.like_live.specs.Moves.{FindsAll, Moves, Works, looked, stopped, with_found}
+use Rattle.like_live.specs.Calls as calls
+use Rattle.like_live.specs.Calls.{LikeCase, LikesNow, LookCase, LooksNow, RetireCase, RetiresNow, TakesFound, verdict_at}
+use Rattle.like_live.specs.History.{Ask, Does, Told, ask_of, ask_taken, ask_told, like, like_told, look, page_liked, retire, take_found, turn}
+use Rattle.like_live.proofs.Calling.{LikesNow-tallies}
+use Rattle.like_live.proofs.Moving.{IsSized, Leaves-moves}
+
+-- a look that waits
+abbrev pub ask_waiting : Asked → Ask
+ask_waiting a = record { tag = a.tag; user = a.user; page = a.page }
+
+-- the looks that were found and not taken yet, and those that wait
+abbrev pub asks_of : LiveView → List Ask
+asks_of v = map ask_of v.found ++ map ask_waiting (waiting v)
+
+-- a seat with a number for each page and an entry for each user, at which nothing waits once it is gone
+pub record IsWhole (v : LiveView) : Type 0 where
+  pub sized : IsSized v
+  pub table : length v.seat.last.last ≡ v.seat.last.share.users
+  pub empty : v.seat.post.state ≡ state.Gone → waiting v ≡ []
+
+-- nothing that a history counts changes
+pub record IsQuiet (v after : LiveView) : Type 0 where
+  pub whole : IsWhole after
+  pub tallies : KeepsTallies v after
+  pub last : after.seat.last ≡ v.seat.last
+  pub asks : asks_of after ≡ asks_of v
+
+-- what a call tells is what it does
+pub record IsTold (v after : LiveView) (t : Told) : Type 0 where
+  pub whole : IsWhole after
+  pub tallies : (page : ℕ) → tally after page ≡ tally v page + like_told page t
+  pub last : (user : ℕ) → last_of after.seat.last user ≡ last_or (last_of v.seat.last user) (page_liked user t)
+  pub asks : ask_taken t ++ asks_of after ≡ asks_of v ++ ask_told t
+
+-- it tells of nothing that a history counts
+pub record TellsNothing (t : Told) : Type 0 where
+  pub likes : (page : ℕ) → like_told page t ≡ 0
+  pub pages : (user : ℕ) → page_liked user t ≡ []
+  pub taken : ask_taken t ≡ []
+  pub told : ask_told t ≡ []
+
+pub IsTold-quiet : (v after : LiveView) (t : Told) → IsQuiet v after → TellsNothing t → IsTold v after t
+IsTold-quiet v after t q none = record {
+  whole = q.whole;
+  tallies = λ page. let a = q.tallies page in let b = none.likes page in omega arith;
+  last = λ user. ap (λ (x : UserTable). last_of x user) q.last ∙ sym (ap (last_or (last_of v.seat.last user)) (none.pages user));
+  asks = ap (λ xs. xs ++ asks_of after) none.taken ∙ q.asks ∙ sym (append-nil (asks_of v)) ∙ ap (λ xs. asks_of v ++ xs) (sym none.told);
+}
+
+pub IsTold-after : (v now after : LiveView) (t : Told) → IsQuiet v now → IsTold now after t → IsTold v after t
+IsTold-after v now after t q s = record {
+  whole = s.whole;
+  tallies = λ page. s.tallies page ∙ ap (λ n. n + like_told page t) (q.tallies page);
+  last = λ user. s.last user ∙ ap (λ (x : UserTable). last_or (last_of x user) (page_liked user t)) q.last;
+  asks = s.asks ∙ ap (λ xs. xs ++ ask_told t) q.asks;
+}
+
+pub IsQuiet-same : (v : LiveView) → IsWhole v → IsQuiet v v
+IsQuiet-same v whole = record { whole = whole; tallies = λ page. refl; last = refl; asks = refl }
+
+-- a look leaves a worker that is there
+seen-there : (s : WorkerState) (sight : Sight) → s ≢ state.Gone → seen s sight ≢ state.Gone
+seen-there (state.Runs k) sight there = λ e. absurd (cc e)
+seen-there (state.Answered k) sight there = by_test sight.waits
+  where
+    by_test : (b : Bool) → cond b (state.Answered k) (state.Runs (k + 1)) ≢ state.Gone
+    by_test true = λ e. absurd (cc e)
+    by_test false = λ e. absurd (cc e)
+seen-there state.Gone sight there = absurd (there refl)
+
+-- who runs a split phase is there
+split-there : (s : WorkerState) → RunsSplit s → s ≢ state.Gone
+split-there (state.Runs k) split = λ e. absurd (cc e)
+split-there (state.Answered k) split = absurd split
+split-there state.Gone split = absurd split
+
+-- nothing waits at a seat that is gone
+abbrev IsEmpty : LiveView → Type 0
+IsEmpty v = v.seat.post.state ≡ state.Gone → waiting v ≡ []
+
+empty-works : (v after : LiveView) (ending : Bool) (answer : TurnAnswer) → Works v ending answer after → IsEmpty after
+empty-works v after ending answer (moves.runs_joined joined e a found) = λ gone. ap waiting found.rest
+empty-works v after ending answer (moves.acknowledges now joined e a found is) = λ gone. ap waiting is ∙ ap waiting found.rest
+empty-works v after ending answer (moves.runs_split split e a is) = subst IsEmpty (sym is) (λ gone. absurd (split-there v.seat.post.state split gone))
+empty-works v after ending answer (moves.reports s split e a merges is) =
+    subst IsEmpty (sym is) (λ gone. absurd (cc (sym (ap (λ (t : SeatView Asked). t.post.state) merges.1.1) ∙ gone)))
+
+empty-moves : (v after : LiveView) (answer : TurnAnswer) → IsEmpty v → Moves v answer after → IsEmpty after
+empty-moves v after answer empty (moves.is_gone gone a is) = subst IsEmpty (sym is) empty
+empty-moves v after answer empty (moves.waits sight mask there w a is) =
+    subst IsEmpty (sym is) (λ gone. absurd (seen-there v.seat.post.state sight there gone))
+empty-moves v after answer empty (moves.works sight mask there w does) = empty-works (looked v sight mask) after sight.ending answer does
+
+-- a found look is the one that waited
+asks-found : (fs : List Found) → map ask_of fs ≡ map ask_waiting (map (λ f. f.asked) fs)
+asks-found [] = refl
+asks-found (f ∷ fs) = ap (λ xs. ask_of f ∷ xs) (asks-found fs)
+
+finds-asks : (v after : LiveView) → FindsAll v after → asks_of after ≡ asks_of v
+finds-asks v after f =
+    ap asks_of f.rest
+    ∙ append-nil (map ask_of (v.found ++ f.found))
+    ∙ map-append ask_of v.found f.found
+    ∙ ap (λ xs. map ask_of v.found ++ xs) (asks-found f.found ∙ ap (map ask_waiting) f.order)
+
+pub merged-asks : (v : LiveView) (s : SeatView Asked) → s.held ≡ v.seat.held → asks_of (with_seat v s) ≡ asks_of v
+merged-asks v s held = ap (λ h. map ask_of v.found ++ map ask_waiting h.held) held
+
+works-asks : (v after : LiveView) (ending : Bool) (answer : TurnAnswer) → Works v ending answer after → asks_of after ≡ asks_of v
+works-asks v after ending answer (moves.runs_joined joined e a found) = finds-asks v after found
+works-asks v after ending answer (moves.acknowledges now joined e a found is) = ap asks_of is ∙ finds-asks v now found
+works-asks v after ending answer (moves.runs_split split e a is) = ap asks_of is
+works-asks v after ending answer (moves.reports s split e a merges is) =
+    ap asks_of is ∙ merged-asks v s (ap (λ (t : SeatView Asked). t.held) merges.1.1 ∙ ap (λ (t : SeatView Asked). t.held) merges.1.0.1.1)
+
+moves-asks : (v after : LiveView) (answer : TurnAnswer) → Moves v answer after → asks_of after ≡ asks_of v
+moves-asks v after answer (moves.is_gone gone a is) = ap asks_of is
+moves-asks v after answer (moves.waits sight mask there w a is) = ap asks_of is
+moves-asks v after answer (moves.works sight mask there w does) = works-asks (looked v sight mask) after sight.ending answer does
+
+-- phase work is quiet
+pub IsQuiet-moves : (v after : LiveView) (answer : TurnAnswer) → IsWhole v → Moves v answer after → IsQuiet v after
+IsQuiet-moves v after answer whole m =
+    let l = Leaves-moves v after answer whole.sized m in
+    record {
+      whole = record {
+        sized = l.sized ∙ whole.sized ∙ ap length (sym l.same.marks);
+        table = ap (λ (t : UserTable). length t.last) l.last ∙ whole.table ∙ ap (λ (t : UserTable). t.share.users) (sym l.last);
+        empty = empty-moves v after answer whole.empty m;
+      };
+      tallies = l.tallies;
+      last = l.last;
+      asks = moves-asks v after answer m;
+    }
+
+-- the user of a request that is accepted has an entry
+first_test : (a : Bool) (rest : Verdict) → cond (not a) UnknownUser rest ≡ Accepted → a ≡ true
+first_test false rest e = cc
+first_test true rest e = refl
+
+pub user_there : (s : SeatView Asked) (user page : ℕ) → verdict_at s user page ≡ Accepted → user < s.last.share.users
+user_there s user page is = ltb-true user s.last.share.users (first_test _ _ is)
+
+-- a like is the user's last
+pub last-more : (t : UserTable) (user page other : ℕ) → user < length t.last → last_of (with_last t user page) other ≡ last_or (last_of t other) (cond (user == other) (page ∷ []) [])
+last-more t user page other there =
+    elim (cases_eq user other) [
+      | inl same ↦
+          subst (λ (k : ℕ). last_of (with_last t user page) k ≡ last_or (last_of t k) (cond (user == k) (page ∷ []) [])) same
+          (get_or-set_same t.last user (Some page) None there ∙ ap (λ (b : Bool). last_or (last_of t user) (cond b (page ∷ []) [])) (sym (eq-eqb user user refl)))
+      | inr apart ↦
+          get_or-set_other t.last user other (Some page) None (λ e. apart (sym e))
+          ∙ ap (λ (b : Bool). last_or (last_of t other) (cond b (page ∷ []) [])) (sym (ne_eqb user other apart))
+    ]
+
+-- what a like that is counted leaves
+pub record IsCounted (s after : SeatView Asked) (user page : ℕ) : Type 0 where
+  pub held : after.held ≡ s.held
+  pub last : after.last ≡ with_last s.last user page
+  pub is_in : after.post.state ≡ s.post.state
+  pub marks : after.post.marks ≡ s.post.marks
+  pub sized : length after.slice ≡ length s.slice
+
+pub is_counted : (s after : SeatView Asked) (user page : ℕ) (old : Option ℕ) → CountsLike s user page old after → IsCounted s after user page
+is_counted s after user page None c = record {
+  held = ap (λ (t : SeatView Asked). t.held) c.1;
+  last = ap (λ (t : SeatView Asked). t.last) c.1;
+  is_in = ap (λ (t : SeatView Asked). t.post.state) c.1;
+  marks = ap (λ (t : SeatView Asked). t.post.marks) c.1;
+  sized = ap (λ (t : SeatView Asked). length t.slice) c.1 ∙ length-set s.slice page _;
+}
+is_counted s after user page (Some count) c = record {
+  held = ap (λ (t : SeatView Asked). t.held) c.1;
+  last = ap (λ (t : SeatView Asked). t.last) c.1;
+  is_in = ap (λ (t : SeatView Asked). t.post.state) c.1;
+  marks = ap (λ (t : SeatView Asked). t.post.marks) c.1;
+  sized = ap (λ (t : SeatView Asked). length t.slice) c.1;
+}

@@ -1,0 +1,21 @@
+use Rattle.std.proofs.Common.{◌≡◌, ◌<◌, refl, ap, sym, subst, ◌∙◌}
+use Rattle.like_seat.specs.SeatView.{SeatView}
+use Rattle.like_seat.specs.Steps.{CountsLike}
+use Rattle.like_live.specs.declared.asked.Asked.{Asked}
+use Rattle.like_live.specs.Calls.{liked}
+use Rattle.like_live.specs.LiveView.{LiveView, with_seat}
+use Rattle.like_seat.specs.SeatView.{likes_of}
+use Rattle.like_live.proofs.Requests.{not-full}
+use Rattle.like_live.proofs.live_seat.LiveSeat.like_now.Goals as goal
+
+pub returns-clause-case : goal.returns-clause-case
+returns-clause-case g c =
+    let s = c.self.inside.seat in
+    let live = c.self.invariant.live in
+    let same : s ≡ c.args.self.now.seat = ap (λ (w : LiveView). w.seat) c.self.view_is in
+    let few = not-full s live.seat live.limits (λ e. c.if-likes-eq-MAX_LIKES.false (c.likes.ensures.likes ∙ e)) in
+    liked c.count_like.result c.count_like.new.self (sym c.in-Accepted.ensures.verdict)
+    (subst (λ (t : SeatView Asked). likes_of t < t.post.limits.likes) same few)
+    refl
+    (subst (λ (t : SeatView Asked). CountsLike t c.args.user c.args.page c.count_like.result c.count_like.new.self) same c.count_like.ensures.counts)
+    (ap (λ (w : LiveView). with_seat w c.count_like.new.self) c.self.view_is)

@@ -1,0 +1,19 @@
+use Rattle.std.proofs.Common.{◌≡◌, false, refl, ap, sym, subst, ◌∙◌}
+use Rattle.like_core.specs.Post.{slices}
+use Rattle.like_seat.specs.SeatView.{SeatView}
+use Rattle.like_seat.specs.Steps.{Reads}
+use Rattle.like_live.specs.declared.asked.Asked.{Asked}
+use Rattle.like_live.specs.Calls.{seen}
+use Rattle.like_live.specs.LiveView.{LiveView, with_seat}
+use Rattle.like_live.proofs.live_seat.LiveSeat.look_now.Goals as goal
+
+pub returns-then-not-is_sliced-clause-case : goal.returns-then-not-is_sliced-clause-case
+returns-then-not-is_sliced-clause-case g c =
+    let s = c.self.inside.seat in
+    let same : s ≡ c.args.self.now.seat = ap (λ (w : LiveView). w.seat) c.self.view_is in
+    let plain : slices s.post c.args.page ≡ false = sym c.is_sliced.ensures ∙ c.if-not-is_sliced.true in
+    seen c.read_for.result c.read_for.new.self (sym c.in-Accepted.ensures.verdict)
+    (subst (λ (t : SeatView Asked). slices t.post c.args.page ≡ false) same plain)
+    refl
+    (subst (λ (t : SeatView Asked). Reads t c.args.user c.args.page c.read_for.result c.read_for.new.self) same c.read_for.ensures.reads)
+    (ap (λ (w : LiveView). with_seat w c.read_for.new.self) c.self.view_is)

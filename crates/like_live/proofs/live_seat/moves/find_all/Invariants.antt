@@ -1,0 +1,15 @@
+use Rattle.std.proofs.Common.{◌≡◌, length}
+use Rattle.like_seat.specs.SeatView.{IsSeat, phase_at}
+use Rattle.like_live.specs.LiveView.{live_of}
+use Rattle.like_live.proofs.Finding.{Finding}
+use Rattle.like_live.proofs.live_seat.moves.find_all.Given as goal
+
+abbrev pub invariant-loop-asked : goal.invariant-loop-asked
+invariant-loop-asked g l = record {
+  finding : Finding (live_of l.initial.seat l.initial.found) (live_of l.seat l.found);
+  seat : IsSeat l.seat;
+  capacity : l.found.capacity ≡ l.initial.found.capacity;
+}
+
+abbrev pub decreases-loop-asked : goal.decreases-loop-asked
+decreases-loop-asked g l = length l.seat.held.held

@@ -1,0 +1,117 @@
+-- The calls of a live seat, case by case.
+use Rattle.std.specs.Prelude.{◌≡◌, ◌≢◌, ℕ, ◌+◌, ◌<◌, ◌==◌, nat_lt, if◌then◌else◌, true, false, [], drop, length, slice_get, Option}
+use Rattle.like_core.specs.Post.{pages_of, retired, slices}
+use Rattle.like_core.specs.WorkerState.{RunsJoined, RunsSplit}
+use Rattle.like_requests.specs.declared.request.Op.TheVariants.{Look}
+use Rattle.like_requests.specs.declared.request.PageRef.{PageRef}
+use Rattle.like_requests.specs.declared.request.PageRef.TheVariants.{Known, Unknown}
+use Rattle.like_requests.specs.declared.verdict.Verdict.{Verdict}
+use Rattle.like_requests.specs.declared.verdict.Verdict.TheVariants.{Accepted}
+use Rattle.like_requests.specs.Verdict.{verdict_of}
+use Rattle.like_seat.specs.declared.seen.Seen.{Seen}
+use Rattle.like_seat.specs.SeatView.{SeatView, phase_at}
+use Rattle.like_seat.specs.SeatView.{likes_of}
+use Rattle.like_seat.specs.Steps.{CountsLike, Reads, holding}
+use Rattle.like_tables.specs.UserTable.{UserTable, with_last}
+use Rattle.like_live.specs.declared.answer.LikeAnswer.{LikeAnswer}
+use Rattle.like_live.specs.declared.answer.LikeAnswer.TheVariants as like
+use Rattle.like_live.specs.declared.answer.LookAnswer.{LookAnswer}
+use Rattle.like_live.specs.declared.answer.LookAnswer.TheVariants as look
+use Rattle.like_live.specs.declared.answer.TurnAnswer.{TurnAnswer}
+use Rattle.like_live.specs.declared.answer.TurnAnswer.TheVariants as turn
+use Rattle.like_live.specs.declared.asked.Asked.{Asked}
+use Rattle.like_live.specs.declared.asked.Found.{Found}
+use Rattle.like_live.specs.LiveView.{LiveView, room_of, tally, waiting, with_seat}
+use Rattle.like_live.specs.Moves.{Moves}
+
+-- a page by its number, where there are so many
+abbrev pub page_ref : ℕ → ℕ → PageRef
+page_ref pages page = if nat_lt page pages then Known page else Unknown
+
+-- the verdict on a request of a user for a page at this seat: the first that fails of "the user is there", "it is this
+-- seat's" and "the page is there", and else that it is accepted
+abbrev pub verdict_at : SeatView Asked → ℕ → ℕ → Verdict
+verdict_at s user page =
+    verdict_of s.last.share.users s.last.share.submitters s.last.share.worker
+    (record { op = Look; user = user; page = page_ref (pages_of s.post) page })
+
+-- what a like does at a seat that runs a phase
+pub data LikesNow (v : LiveView) (user page : ℕ) (answer : LikeAnswer) (after : LiveView) : Type 0 where
+  refused : verdict_at v.seat user page ≢ Accepted
+      → answer ≡ like.Refused (verdict_at v.seat user page) → after ≡ v → LikesNow v user page answer after
+  full : verdict_at v.seat user page ≡ Accepted → likes_of v.seat ≡ v.seat.post.limits.likes
+      → answer ≡ like.Full → after ≡ v → LikesNow v user page answer after
+  liked : (old : Option ℕ) (s : SeatView Asked)
+      → verdict_at v.seat user page ≡ Accepted → likes_of v.seat < v.seat.post.limits.likes
+      → answer ≡ like.Liked → CountsLike v.seat user page old s → after ≡ with_seat v s
+      → LikesNow v user page answer after
+
+-- like case: the answer to a like, and the seat after; the phase work comes first
+pub data LikeCase (v : LiveView) (user page : ℕ) (answer : LikeAnswer) (after : LiveView) : Type 0 where
+  gone : Moves v turn.Gone after → answer ≡ like.Gone → LikeCase v user page answer after
+  between : Moves v turn.Between after → answer ≡ like.Between → LikeCase v user page answer after
+  runs : (now : LiveView) → Moves v turn.Runs now → LikesNow now user page answer after
+      → LikeCase v user page answer after
+
+-- a look that is asked now
+abbrev pub asked_now : LiveView → ℕ → ℕ → ℕ → Asked
+asked_now v user page tag =
+    record { tag = tag; user = user; page = page; phase = phase_at v.seat }
+
+-- what a look does at a seat that runs a phase
+pub data LooksNow (v : LiveView) (user page tag : ℕ) (answer : LookAnswer) (after : LiveView) : Type 0 where
+  refused : verdict_at v.seat user page ≢ Accepted
+      → answer ≡ look.Refused (verdict_at v.seat user page) → after ≡ v → LooksNow v user page tag answer after
+  seen : (shown : Seen) (s : SeatView Asked)
+      → verdict_at v.seat user page ≡ Accepted → slices v.seat.post page ≡ false
+      → answer ≡ look.Seen shown → Reads v.seat user page shown s → after ≡ with_seat v s
+      → LooksNow v user page tag answer after
+  no_room : verdict_at v.seat user page ≡ Accepted → slices v.seat.post page ≡ true
+      → length (waiting v) + length v.found ≡ room_of v
+      → answer ≡ look.NoRoom → after ≡ v → LooksNow v user page tag answer after
+  waits : verdict_at v.seat user page ≡ Accepted → slices v.seat.post page ≡ true
+      → length (waiting v) + length v.found < room_of v
+      → answer ≡ look.Waits → after ≡ with_seat v (holding v.seat (asked_now v user page tag))
+      → LooksNow v user page tag answer after
+
+-- look case: the answer to a look, and the seat after; the phase work comes first
+pub data LookCase (v : LiveView) (user page tag : ℕ) (answer : LookAnswer) (after : LiveView) : Type 0 where
+  gone : Moves v turn.Gone after → answer ≡ look.Gone → LookCase v user page tag answer after
+  between : Moves v turn.Between after → answer ≡ look.Between → LookCase v user page tag answer after
+  runs : (now : LiveView) → Moves v turn.Runs now → LooksNow now user page tag answer after
+      → LookCase v user page tag answer after
+
+-- the seat after it retired
+abbrev pub left : LiveView → LiveView
+left v = record v { seat = record v.seat { post = retired v.seat.post } }
+
+-- what it does to a seat that runs a phase to retire: in a joined one, in which nothing waits, it is gone
+pub data RetiresNow (v : LiveView) (answer : TurnAnswer) (after : LiveView) : Type 0 where
+  retires : RunsJoined v.seat.post.state → waiting v ≡ []
+      → answer ≡ turn.Gone → after ≡ left v → RetiresNow v answer after
+  runs : RunsSplit v.seat.post.state → answer ≡ turn.Runs → after ≡ v → RetiresNow v answer after
+
+-- retire case: the answer, and the seat after; the phase work comes first, and where the seat does not run a phase after
+-- it, this is a turn
+pub data RetireCase (v : LiveView) (answer : TurnAnswer) (after : LiveView) : Type 0 where
+  turns : answer ≢ turn.Runs → Moves v answer after → RetireCase v answer after
+  runs : (now : LiveView) → Moves v turn.Runs now → RetiresNow now answer after
+      → RetireCase v answer after
+
+-- the first of the found looks is taken, if there is one
+abbrev pub TakesFound : LiveView → Option Found → LiveView → Type 0
+TakesFound v taken after = (taken ≡ slice_get v.found 0) × (after ≡ record v { found = drop 1 v.found })
+
+-- how many likes of a page an answer to a like of another tells: one, if that is the page and it was liked
+abbrev pub told_of : ℕ → ℕ → LikeAnswer → ℕ
+told_of page other like.Liked = if page == other then 1 else 0
+told_of page other answer = 0
+
+-- a like that is counted adds one to its page's tally, and no answer changes any other
+abbrev pub TalliesLike : LiveView → ℕ → LikeAnswer → LiveView → Type 0
+TalliesLike v page answer after = (other : ℕ) → tally after other ≡ tally v other + told_of page other answer
+
+-- the last likes after an answer to a like: where it was liked, the page is the user's last
+abbrev pub last_after : UserTable → ℕ → ℕ → LikeAnswer → UserTable
+last_after t user page like.Liked = with_last t user page
+last_after t user page answer = t

@@ -1,0 +1,105 @@
+-- What a live seat's calls were told, from its first call on.
+use Rattle.std.specs.Prelude.{◌≡◌, ℕ, ◌==◌, if◌then◌else◌, List, [], ◌∷◌, Option, Some, None, count_by, flat_map, sum_by}
+use Rattle.std.specs.List.{last_or}
+use Rattle.like_core.specs.declared.worker_state.WorkerState.TheVariants.{Gone}
+use Rattle.like_core.specs.Post.{IsFresh, PostView}
+use Rattle.like_tables.specs.Share.{Share}
+use Rattle.like_tables.specs.UserTable.{last_of, table_without_likes}
+use Rattle.like_live.specs.declared.answer.LikeAnswer.{LikeAnswer}
+use Rattle.like_live.specs.declared.answer.LikeAnswer.TheVariants.{Liked}
+use Rattle.like_live.specs.declared.answer.LookAnswer.{LookAnswer}
+use Rattle.like_live.specs.declared.answer.LookAnswer.TheVariants.{Waits}
+use Rattle.like_live.specs.declared.answer.TurnAnswer.{TurnAnswer}
+use Rattle.like_live.specs.declared.asked.Found.{Found}
+use Rattle.like_live.specs.LiveView.{LiveView, IsNewLive, tally}
+use Rattle.like_live.specs.Moves.{Moves}
+use Rattle.like_live.specs.Calls.{LikeCase, LookCase, RetireCase, TakesFound, told_of}
+
+-- a call of a seat, with its answer
+pub data Told : Type 0 where
+  turn : TurnAnswer → Told
+  like : (user page : ℕ) → LikeAnswer → Told
+  look : (user page tag : ℕ) → LookAnswer → Told
+  take_found : Option Found → Told
+  retire : TurnAnswer → Told
+
+-- the call does this to a seat
+abbrev pub Does : LiveView → Told → LiveView → Type 0
+Does v (turn answer) after = Moves v answer after
+Does v (like user page answer) after = LikeCase v user page answer after
+Does v (look user page tag answer) after = LookCase v user page tag answer after
+Does v (take_found taken) after = TakesFound v taken after
+Does v (retire answer) after = RetireCase v answer after
+
+-- the calls were made one after the other
+abbrev pub HasDone : LiveView → List Told → LiveView → Type 0
+HasDone v [] after = after ≡ v
+HasDone v (t ∷ told) after = (now : LiveView) × (Does v t now × HasDone now told after)
+
+-- the page of a like of this user that was told `Liked`, if this is one
+abbrev pub page_liked : ℕ → Told → List ℕ
+page_liked user (like other page Liked) = if other == user then page ∷ [] else []
+page_liked user told = []
+
+-- the pages that this user was told to have liked, in order
+abbrev pub pages_liked : ℕ → List Told → List ℕ
+pages_liked user told = flat_map (page_liked user) told
+
+-- whether
+abbrev pub like_told : ℕ → Told → ℕ
+like_told page (like user other answer) = told_of other page answer
+like_told page told = 0
+
+-- how many likes of a page were told `Liked`
+abbrev pub likes_told : ℕ → List Told → ℕ
+likes_told page told = sum_by (like_told page) told
+
+-- a look that was asked: its tag, its user and its page
+pub record Ask : Type 0 where
+  pub tag : ℕ
+  pub user : ℕ
+  pub page : ℕ
+
+-- the look that a found one was
+abbrev pub ask_of : Found → Ask
+ask_of f = record { tag = f.asked.tag; user = f.asked.user; page = f.asked.page }
+
+-- a look that was told `Waits`, if this is one
+abbrev pub ask_told : Told → List Ask
+ask_told (look user page tag Waits) = record { tag = tag; user = user; page = page } ∷ []
+ask_told told = []
+
+-- a found look that was taken, if this is one
+abbrev pub ask_taken : Told → List Ask
+ask_taken (take_found (Some f)) = ask_of f ∷ []
+ask_taken told = []
+
+-- the looks that were told `Waits`, in order
+abbrev pub asks_told : List Told → List Ask
+asks_told told = flat_map ask_told told
+
+-- the found looks that were taken, in order
+abbrev pub asks_taken : List Told → List Ask
+asks_taken told = flat_map ask_taken told
+
+-- a seat that has done nothing yet, in whose table no user has liked a page
+pub record IsUnused (v : LiveView) : Type 0 where
+  pub post : PostView
+  pub share : Share
+  pub room : ℕ
+  pub fresh : IsFresh post
+  pub new : IsNewLive post room (table_without_likes share) v
+
+-- what is true of calls and a seat after them: a page's tally is the number of its likes that were told `Liked`; a
+-- user's last like is the page of the user's last one; and the found looks that were taken are those that were told
+-- `Waits`, each once and in order
+pub record AreCounted (told : List Told) (after : LiveView) : Type 0 where
+  pub tallies : (page : ℕ) → tally after page ≡ likes_told page told
+  pub last : (user : ℕ) → last_of after.seat.last user ≡ last_or None (pages_liked user told)
+  pub taken : asks_taken told ≡ asks_told told
+
+-- the law of histories: whatever calls a fresh seat is asked, until it is gone and all found looks are taken
+abbrev pub HistoriesAreCounted : Type 0
+HistoriesAreCounted =
+    (v after : LiveView) (told : List Told) → IsUnused v → HasDone v told after
+    → after.seat.post.state ≡ Gone → after.found ≡ [] → AreCounted told after

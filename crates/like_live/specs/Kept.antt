@@ -1,0 +1,31 @@
+-- How a live seat is kept, between two calls and within one.
+use Rattle.std.specs.Prelude.{◌≡◌, ℕ, ◌+◌, ◌≤◌, length, All}
+use Rattle.like_core.specs.OpeningLimits.{service_limits}
+use Rattle.like_core.specs.Phase.{IsSplit}
+use Rattle.like_core.specs.Post.{pages_of}
+use Rattle.like_core.specs.WorkerState.{IsRunning}
+use Rattle.like_seat.specs.SeatView.{IsSeat, SeatView, phase_at}
+use Rattle.like_tables.specs.Waiting.{Waiting}
+use Rattle.like_live.specs.declared.asked.Asked.{Asked}
+use Rattle.like_live.specs.declared.asked.Found.{Found}
+use Rattle.like_live.specs.LiveView.{IsLive, IsOwn, live_of}
+
+-- a live seat's parts: a worker's seat and a stash of found looks, the number of its pages, and how many more looks may
+-- wait
+pub record IsKept (s : SeatView Asked) (found : Waiting Found) (pages room : ℕ) : Type 0 where
+  pub live : IsLive (live_of s found)
+  pub capacity : found.capacity ≡ s.held.capacity
+  pub pages_are : pages ≡ pages_of s.post
+  pub room_is : room + length s.held.held + length found.held ≡ s.held.capacity
+
+-- a live seat's parts after a look at the phase word that showed a phase that it runs: in a joined one, looks may wait
+-- that were asked in the split phase before
+pub record HasLooked (s : SeatView Asked) (found : Waiting Found) : Type 0 where
+  pub seat : IsSeat s
+  pub runs : IsRunning s.post.state
+  pub limits : s.post.limits ≡ service_limits
+  pub home : s.last.share.submitters ≡ s.last.share.workers
+  pub own : All (IsOwn s) s.held.held
+  pub asked : IsSplit (phase_at s) → All (λ a. a.phase ≡ phase_at s) s.held.held
+  pub capacity : found.capacity ≡ s.held.capacity
+  pub room : length s.held.held + length found.held ≤ s.held.capacity

@@ -1,0 +1,72 @@
+-- What a live seat is, as contracts see it.
+use Rattle.std.specs.Prelude.{◌≡◌, ℕ, ◌+◌, ◌<◌, ◌≤◌, IsTrue, List, [], length, replicate, All}
+use Rattle.like_core.specs.OpeningLimits.{service_limits}
+use Rattle.like_core.specs.Phase.{IsJoined}
+use Rattle.like_core.specs.Post.{PostView, pages_of}
+use Rattle.like_seat.specs.SeatView.{IsSeat, SeatView, phase_at, tally_of}
+use Rattle.like_tables.specs.Share.{owns}
+use Rattle.like_tables.specs.UserTable.{UserTable}
+use Rattle.like_tables.specs.Waiting.{Waiting}
+use Rattle.like_live.specs.declared.asked.Asked.{Asked}
+use Rattle.like_live.specs.declared.asked.Found.{Found}
+
+-- a worker's seat, which holds the looks that wait; and the looks that were found and not taken yet
+pub record LiveView : Type 0 where
+  pub seat : SeatView Asked
+  pub found : List Found
+
+-- the live seat of a worker's seat and a stash of found looks
+abbrev pub live_of : SeatView Asked → Waiting Found → LiveView
+live_of s found = record { seat = s; found = found.held }
+
+-- with this worker's seat
+abbrev pub with_seat : LiveView → SeatView Asked → LiveView
+with_seat v s = record v { seat = s }
+
+-- the looks that wait, in the order of asking
+abbrev pub waiting : LiveView → List Asked
+waiting v = v.seat.held.held
+
+-- how many looks may wait, found ones included
+abbrev pub room_of : LiveView → ℕ
+room_of v = v.seat.held.capacity
+
+-- a page's tally: how many likes of it the seat has added to its count, and how many are in its slice
+abbrev pub tally : LiveView → ℕ → ℕ
+tally v page = tally_of v.seat page
+
+-- no page's tally changes
+abbrev pub KeepsTallies : LiveView → LiveView → Type 0
+KeepsTallies v after = (page : ℕ) → tally after page ≡ tally v page
+
+-- it is the same seat: of the same board, the same worker, with the same users
+pub record IsSameSeat (v after : LiveView) : Type 0 where
+  pub board : after.seat.post.board ≡ v.seat.post.board
+  pub worker : after.seat.post.worker ≡ v.seat.post.worker
+  pub marks : after.seat.post.marks ≡ v.seat.post.marks
+  pub share : after.seat.last.share ≡ v.seat.last.share
+
+-- the look is one that the seat can answer: its page is there, and its user is the seat's
+pub record IsOwn (s : SeatView Asked) (a : Asked) : Type 0 where
+  pub there : a.page < pages_of s.post
+  pub owned : IsTrue (owns s.last.share a.user)
+
+-- what is true of every live seat: its board is a service's; it serves the users whose number modulo the number of seats
+-- is its own; nothing waits unless it runs or has answered a split phase, and what waits was asked in that phase; and
+-- no more looks wait or were found than there is room for
+pub record IsLive (v : LiveView) : Type 0 where
+  pub seat : IsSeat v.seat
+  pub limits : v.seat.post.limits ≡ service_limits
+  pub home : v.seat.last.share.submitters ≡ v.seat.last.share.workers
+  pub split : IsJoined (phase_at v.seat) → waiting v ≡ []
+  pub own : All (IsOwn v.seat) (waiting v)
+  pub asked : All (λ a. a.phase ≡ phase_at v.seat) (waiting v)
+  pub room : length (waiting v) + length v.found ≤ room_of v
+
+-- a live seat that has done nothing yet
+pub record IsNewLive (post : PostView) (room : ℕ) (users : UserTable) (v : LiveView) : Type 0 where
+  pub at_post : v.seat.post ≡ post
+  pub held : v.seat.held ≡ record { held = []; capacity = room }
+  pub slice : v.seat.slice ≡ replicate (pages_of post) 0
+  pub last : v.seat.last ≡ users
+  pub found : v.found ≡ []

@@ -1,0 +1,77 @@
+-- The phase work of a live seat: what a look at the phase word makes it do.
+use Rattle.std.specs.Prelude.{◌≡◌, ◌≢◌, ℕ, ◌≤◌, Bool, true, false, List, [], ◌++◌, length, map, All}
+use Rattle.like_core.specs.declared.sight.Sight.{Sight}
+use Rattle.like_core.specs.declared.view.PageRead.{PageRead}
+use Rattle.like_core.specs.declared.worker_state.WorkerState.TheVariants.{Gone}
+use Rattle.like_core.specs.Additions.{page_read}
+use Rattle.like_core.specs.Post.{additions_of, answered}
+use Rattle.like_core.specs.WorkerState.{RunsJoined, RunsSplit}
+use Rattle.like_seat.specs.Merge.{MergesAndReports}
+use Rattle.like_seat.specs.SeatView.{SeatView, phase_at}
+use Rattle.like_seat.specs.Steps.{saw}
+use Rattle.like_tables.specs.UserTable.{last_of}
+use Rattle.like_live.specs.declared.answer.TurnAnswer.{TurnAnswer}
+use Rattle.like_live.specs.declared.answer.TurnAnswer.TheVariants as turn
+use Rattle.like_live.specs.declared.asked.Asked.{Asked}
+use Rattle.like_live.specs.declared.asked.Found.{Found}
+use Rattle.like_live.specs.LiveView.{LiveView, waiting, with_seat}
+
+-- the seat after a look at the phase word; where it enters a split phase it has also read that phase's mask
+abbrev pub looked : LiveView → Sight → ℕ → LiveView
+looked v sight mask = with_seat v (saw v.seat sight mask)
+
+-- the seat after it acknowledged its phase
+abbrev pub stopped : LiveView → LiveView
+stopped v = with_seat v (record v.seat { post = answered v.seat.post })
+
+-- the look is shown its user's last like, and a count of its page that has all that the seat added, in the phase that
+-- the seat runs
+pub record IsFoundAt (s : SeatView Asked) (f : Found) : Type 0 where
+  pub last : f.last ≡ last_of s.last f.asked.user
+  pub own : additions_of s.post f.asked.page ≤ f.count
+  pub phase : f.phase ≡ phase_at s
+
+-- the read of a page's count that was made for a found look, after so many additions
+abbrev pub read_for : ℕ → Found → PageRead
+read_for additions f = page_read f.phase f.asked.page f.count additions
+
+-- the seat after these looks were found, each with one read, and no other waits
+abbrev pub with_found : LiveView → List Found → LiveView
+with_found v found = record {
+  seat = record v.seat {
+    post = record v.seat.post {
+      reads = v.seat.post.reads ++ map (read_for (length v.seat.post.additions)) found;
+    };
+    held = record v.seat.held { held = [] };
+  };
+  found = v.found ++ found;
+}
+
+-- all looks that wait are found, in the order of asking
+pub record FindsAll (v after : LiveView) : Type 0 where
+  pub found : List Found
+  pub order : map (λ f. f.asked) found ≡ waiting v
+  pub shown : All (IsFoundAt v.seat) found
+  pub rest : after ≡ with_found v found
+
+-- what a seat does that has looked and runs a phase. In a joined phase, all looks that wait are found first. If the phase
+-- is ending, the seat then stops: at the end of a joined phase it acknowledges; at the end of a split phase it adds its
+-- slice to the pages' counts, empties it, and reports
+pub data Works (v : LiveView) (ending : Bool) (answer : TurnAnswer) (after : LiveView) : Type 0 where
+  runs_joined : RunsJoined v.seat.post.state → ending ≡ false
+      → answer ≡ turn.Runs → FindsAll v after → Works v ending answer after
+  acknowledges : (now : LiveView) → RunsJoined v.seat.post.state → ending ≡ true
+      → answer ≡ turn.Between → FindsAll v now → after ≡ stopped now → Works v ending answer after
+  runs_split : RunsSplit v.seat.post.state → ending ≡ false
+      → answer ≡ turn.Runs → after ≡ v → Works v ending answer after
+  reports : (s : SeatView Asked) → RunsSplit v.seat.post.state → ending ≡ true
+      → answer ≡ turn.Between → MergesAndReports v.seat s → after ≡ with_seat v s → Works v ending answer after
+
+-- the phase work of a seat: it is gone; or it has answered a phase and waits, since the next is not released yet; or it
+-- runs the phase that it looked at, which it enters by that look where it is the next one
+pub data Moves (v : LiveView) (answer : TurnAnswer) (after : LiveView) : Type 0 where
+  is_gone : v.seat.post.state ≡ Gone → answer ≡ turn.Gone → after ≡ v → Moves v answer after
+  waits : (sight : Sight) (mask : ℕ) → v.seat.post.state ≢ Gone → sight.waits ≡ true
+      → answer ≡ turn.Between → after ≡ looked v sight mask → Moves v answer after
+  works : (sight : Sight) (mask : ℕ) → v.seat.post.state ≢ Gone → sight.waits ≡ false
+      → Works (looked v sight mask) sight.ending answer after → Moves v answer after

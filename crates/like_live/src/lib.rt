@@ -1,0 +1,20 @@
+//! The live core: a service that a host embeds. Its threads hold seats and call them, and a driver ends and releases
+//! phases, for ever and in bounded memory.
+//!
+//! After it is opened no call takes memory, and none waits, sleeps or locks.
+#![tactic(auto)]
+
+mod answer;
+mod asked;
+mod call;
+mod hint;
+mod laws;
+mod live_seat;
+#[cfg(test)]
+mod tests;
+
+pub use answer::{LikeAnswer, LookAnswer, TurnAnswer};
+pub use asked::{Asked, Found};
+pub use call::{Answer, Call};
+pub use laws::histories_are_counted;
+pub use live_seat::{LiveSeat, MAX_LIKES};

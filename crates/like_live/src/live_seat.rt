@@ -1,0 +1,182 @@
+ghost use Rattle.std.specs.Prelude.{◌≡◌, ◌≤◌, ◌↔◌, ℕ, IfOk, IsTrue};
+ghost use Rattle.like_core.specs.declared.worker_state.WorkerState.TheVariants.{Gone};
+ghost use Rattle.like_core.specs.Limits.{max_pages};
+ghost use Rattle.like_core.specs.OpeningLimits.{service_limits};
+ghost use Rattle.like_core.specs.Post.{IsFresh, additions_of, pages_of};
+ghost use Rattle.like_core.specs.WorkerState.{IsRunning};
+ghost use Rattle.like_requests.specs.Limits.{max_stash};
+ghost use Rattle.like_live.specs.LiveView.{IsLive, IsNewLive, IsSameSeat, KeepsTallies, tally};
+ghost use Rattle.like_live.specs.Moves.{Moves};
+ghost use Rattle.like_live.specs.Calls.{LikeCase, LookCase, RetireCase, TakesFound, TalliesLike, last_after};
+
+mod batch;
+mod moves;
+mod requests;
+
+use crate::answer::{LikeAnswer, LookAnswer, TurnAnswer};
+use crate::asked::{Asked, Found};
+use crate::hint::Hint;
+use like_core::Post;
+use like_seat::Seat;
+use like_tables::{Stash, Users};
+pub use requests::MAX_LIKES;
+use std::alloc::{AllocError, Global};
+use std::marker::Model;
+
+/// A seat of a live service: a worker's seat, and the looks that were found and not taken yet.
+///
+/// One thread at a time calls it, whichever that is.
+#[derive(Drop)]
+pub struct LiveSeat<P: Post> {
+    /// What waits is in its stash.
+    seat: Seat<P, Asked>,
+    found: Stash<Found>,
+    /// How many pages there are.
+    pages: u32,
+    /// How many more looks may wait.
+    room: u32,
+    /// How many looks may wait when half of the room is taken.
+    half: u32,
+    hint: Hint,
+}
+
+impl<P: Post> Model for LiveSeat<P> {
+    ghost use Rattle.like_live.specs.LiveView.{LiveView, live_of};
+
+    ghost Value = { LiveView };
+
+    ghost use Rattle.like_live.specs.Kept.{IsKept};
+
+    ghost view = { λ s. live_of s.seat s.found };
+
+    ghost invariant = { λ s. IsKept s.seat s.found s.pages s.room };
+}
+
+impl<P: Post + Drop> LiveSeat<P> {
+    /// A seat that has done nothing yet, with these marks of split pages, with room for so many looks that wait or were
+    /// found, and with these last likes. All its room is made here: its calls take no memory.
+    pub(crate) fn new(
+        alloc: Global,
+        post: P,
+        marks: Vec<bool>,
+        room: u32,
+        last: Users,
+        hint: Hint,
+    ) -> Result<LiveSeat<P>, AllocError>
+        requires fresh { IsFresh (P.view post) }
+        requires limits { (P.view post).limits ≡ service_limits }
+        requires marks { marks.items ≡ (P.view post).marks }
+        requires few_pages { pages_of (P.view post) ≤ max_pages }
+        requires some { 1 ≤ room }
+        requires few { room ≤ max_stash }
+        requires home { last.share.submitters ≡ last.share.workers }
+        ensures new { IfOk result (IsNewLive (P.view post) room last) }
+        ensures live { IfOk result (λ seat. IsLive seat) }
+    {
+        let pages = marks.len() as u32;
+        let found = Stash::new(alloc, room)?;
+        match Seat::new(alloc, post, marks, room, last) {
+            Ok(seat) => Ok(LiveSeat {
+                seat,
+                found,
+                pages,
+                room,
+                half: room / 2,
+                hint,
+            }),
+            Err(_) => Err(AllocError),
+        }
+    }
+}
+
+impl<P: Post> LiveSeat<P> {
+    /// Looks at the phase word and does the phase work that it asks for, for a thread that has nothing else to do.
+    pub fn turn(&mut self) -> TurnAnswer
+        ensures case { Moves self.old result self.new }
+        ensures keeps { IsLive self.new }
+        ensures runs { result ≡ TurnAnswer.Runs → IsRunning self.new.seat.post.state }
+        ensures same { IsSameSeat self.old self.new }
+        ensures tallies { KeepsTallies self.old self.new }
+        ensures last { self.new.seat.last ≡ self.old.seat.last }
+    {
+        self.advance()
+    }
+
+    /// Counts a user's like of a page, which is then the user's last.
+    pub fn like(&mut self, user: u32, page: u32) -> LikeAnswer
+        ensures case { LikeCase self.old user page result self.new }
+        ensures keeps { IsLive self.new }
+        ensures same { IsSameSeat self.old self.new }
+        ensures tallies { TalliesLike self.old page result self.new }
+        ensures last { self.new.seat.last ≡ last_after self.old.seat.last user page result }
+    {
+        match self.turn() {
+            TurnAnswer::Runs => self.like_now(user, page),
+            TurnAnswer::Between => LikeAnswer::Between,
+            TurnAnswer::Gone => LikeAnswer::Gone,
+        }
+    }
+
+    /// Looks for a user at a page. A look that waits is found later, with its tag.
+    pub fn look(&mut self, user: u32, page: u32, tag: u64) -> LookAnswer
+        ensures case { LookCase self.old user page tag result self.new }
+        ensures keeps { IsLive self.new }
+        ensures same { IsSameSeat self.old self.new }
+        ensures tallies { KeepsTallies self.old self.new }
+        ensures last { self.new.seat.last ≡ self.old.seat.last }
+    {
+        match self.turn() {
+            TurnAnswer::Runs => self.look_now(user, page, tag),
+            TurnAnswer::Between => LookAnswer::Between,
+            TurnAnswer::Gone => LookAnswer::Gone,
+        }
+    }
+
+    /// Retires, where the seat runs a joined phase and nothing waits; else this is a turn. Found looks can still be taken.
+    pub fn retire(&mut self) -> TurnAnswer
+        ensures case { RetireCase self.old result self.new }
+        ensures keeps { IsLive self.new }
+        ensures same { IsSameSeat self.old self.new }
+        ensures tallies { KeepsTallies self.old self.new }
+        ensures last { self.new.seat.last ≡ self.old.seat.last }
+    {
+        match self.turn() {
+            TurnAnswer::Runs => self.retire_now(),
+            other => other,
+        }
+    }
+
+    /// Gives and takes out the first of the found looks, if there is one. It makes no look at the phase word.
+    pub fn take_found(&mut self) -> Option<Found>
+        ensures takes { TakesFound self.old result self.new }
+        ensures keeps { IsLive self.new }
+        ensures same { IsSameSeat self.old self.new }
+    {
+        let found = self.found.pop_front()?;
+        self.room += 1;
+        Some(found)
+    }
+
+    /// Whether it has retired.
+    pub fn is_gone(&self) -> bool
+        ensures { IsTrue result ↔ (self.now.seat.post.state ≡ Gone) }
+    {
+        self.seat.is_gone()
+    }
+
+    /// Its users, with their last likes.
+    pub fn users(&self) -> &Users
+        ensures { result.now ≡ self.now.seat.last }
+    {
+        self.seat.users()
+    }
+
+    /// Leaves the post, whatever is left to do. A seat that is gone leaves nothing in its slice.
+    pub fn leave(self) -> P
+        ensures post { P.view result ≡ self.seat.post }
+        ensures live { IsLive self }
+        ensures slice { self.seat.post.state ≡ Gone → (page : ℕ) → tally self page ≡ additions_of self.seat.post page }
+    {
+        self.seat.leave()
+    }
+}

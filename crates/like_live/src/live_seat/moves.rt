@@ -1,0 +1,91 @@
+ghost use Rattle.std.specs.Prelude.{◌≡◌, true};
+ghost use Rattle.like_core.specs.WorkerState.{IsRunning, RunsJoined, SawEnding};
+ghost use Rattle.like_seat.specs.SeatView.{IsSeat};
+ghost use Rattle.like_live.specs.LiveView.{IsLive, live_of};
+ghost use Rattle.like_live.specs.Kept.{HasLooked};
+ghost use Rattle.like_live.specs.Moves.{FindsAll, Moves, Works};
+
+use crate::answer::TurnAnswer;
+use crate::asked::{Asked, Found};
+use crate::live_seat::LiveSeat;
+use like_core::Post;
+use like_seat::Seat;
+use like_tables::Stash;
+
+impl<P: Post> LiveSeat<P> {
+    // Looks at the phase word, and does the phase work that it asks for.
+    pub(crate) fn advance(&mut self) -> TurnAnswer
+        ensures moves { Moves self.old result self.new }
+        ensures keeps { IsLive self.new }
+        ensures runs { result ≡ TurnAnswer.Runs → IsRunning self.new.seat.post.state }
+        ensures was { IsLive self.old }
+    {
+        if self.seat.is_gone() {
+            return TurnAnswer::Gone;
+        }
+        let sight = self.seat.look();
+        if sight.waits {
+            return TurnAnswer::Between;
+        }
+        work(&mut self.seat, &mut self.found, sight.ending)
+    }
+}
+
+// The phase work of a seat that runs a phase.
+fn work<P: Post>(seat: &mut Seat<P, Asked>, found: &mut Stash<Found>, ending: bool) -> TurnAnswer
+    requires looked { HasLooked seat.old found.old }
+    requires ending { ending ≡ true → SawEnding seat.old.post.last }
+    ensures works { Works (live_of seat.old found.old) ending result (live_of seat.new found.new) }
+    ensures live { IsLive (live_of seat.new found.new) }
+    ensures capacity { found.new.capacity ≡ found.old.capacity }
+{
+    if seat.phase() % 2 == 0 {
+        return joined_work(seat, found, ending);
+    }
+    if !ending {
+        return TurnAnswer::Runs;
+    }
+    seat.merge_and_report();
+    TurnAnswer::Between
+}
+
+// Of a joined phase: all that waits runs first.
+fn joined_work<P: Post>(
+    seat: &mut Seat<P, Asked>,
+    found: &mut Stash<Found>,
+    ending: bool,
+) -> TurnAnswer
+    requires looked { HasLooked seat.old found.old }
+    requires joined { RunsJoined seat.old.post.state }
+    requires ending { ending ≡ true → SawEnding seat.old.post.last }
+    ensures works { Works (live_of seat.old found.old) ending result (live_of seat.new found.new) }
+    ensures live { IsLive (live_of seat.new found.new) }
+    ensures capacity { found.new.capacity ≡ found.old.capacity }
+{
+    find_all(seat, found);
+    if !ending {
+        return TurnAnswer::Runs;
+    }
+    seat.acknowledge();
+    TurnAnswer::Between
+}
+
+// Runs all that waits, in order.
+fn find_all<P: Post>(seat: &mut Seat<P, Asked>, found: &mut Stash<Found>)
+    requires looked { HasLooked seat.old found.old }
+    requires joined { RunsJoined seat.old.post.state }
+    ensures finds { FindsAll (live_of seat.old found.old) (live_of seat.new found.new) }
+    ensures seat { IsSeat seat.new }
+    ensures capacity { found.new.capacity ≡ found.old.capacity }
+{
+    let phase = seat.phase();
+    while let Some(asked) = seat.next_held() {
+        let seen = seat.read_for(asked.user, asked.page);
+        found.push(Found {
+            asked,
+            last: seen.last,
+            count: seen.count,
+            phase,
+        });
+    }
+}

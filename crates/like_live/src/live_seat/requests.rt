@@ -1,0 +1,111 @@
+ghost use Rattle.std.specs.Prelude.{◌≡◌, ◌+◌, ◌<◌, IsTrue, length};
+ghost use Rattle.like_core.specs.Post.{pages_of};
+ghost use Rattle.like_core.specs.WorkerState.{IsRunning, RunsSplit};
+ghost use Rattle.like_seat.specs.SeatView.{phase_at};
+ghost use Rattle.like_seat.specs.Steps.{holding};
+ghost use Rattle.like_tables.specs.Share.{owns};
+ghost use Rattle.like_live.specs.LiveView.{IsLive, IsOwn, room_of, waiting, with_seat};
+ghost use Rattle.like_live.specs.Calls.{LikesNow, LooksNow, RetiresNow, verdict_at};
+
+use crate::answer::{LikeAnswer, LookAnswer, TurnAnswer};
+use crate::asked::Asked;
+use crate::live_seat::LiveSeat;
+use like_core::Post;
+use like_requests::{Op, PageRef, Request, Verdict};
+
+/// The most likes that a seat may count.
+pub const MAX_LIKES: u64 = 1 << 56;
+
+impl<P: Post> LiveSeat<P> {
+    // Judges a request of a user for a page.
+    fn verdict(&self, user: u32, page: u32) -> Verdict
+        ensures verdict { result ≡ verdict_at self.now.seat user page }
+        ensures there { result ≡ Verdict.Accepted → page < pages_of self.now.seat.post }
+        ensures owned { result ≡ Verdict.Accepted → IsTrue (owns self.now.seat.last.share user) }
+    {
+        let page = if page < self.pages {
+            PageRef::Known(page)
+        } else {
+            PageRef::Unknown
+        };
+        let users = self.seat.users();
+        let request = Request {
+            op: Op::Look,
+            user,
+            page,
+        };
+        users.judge(users.worker(), &request)
+    }
+
+    // A like, of a seat that runs a phase.
+    pub(crate) fn like_now(&mut self, user: u32, page: u32) -> LikeAnswer
+        requires { IsRunning self.old.seat.post.state }
+        ensures case { LikesNow self.old user page result self.new }
+        ensures keeps { IsLive self.new }
+    {
+        match self.verdict(user, page) {
+            Verdict::Accepted => {}
+            refused => return LikeAnswer::Refused(refused),
+        }
+        if self.seat.likes() == MAX_LIKES {
+            return LikeAnswer::Full;
+        }
+        self.seat.count_like(user, page);
+        LikeAnswer::Liked
+    }
+
+    // A look, of a seat that runs a phase.
+    pub(crate) fn look_now(&mut self, user: u32, page: u32, tag: u64) -> LookAnswer
+        requires { IsRunning self.old.seat.post.state }
+        ensures case { LooksNow self.old user page tag result self.new }
+        ensures keeps { IsLive self.new }
+    {
+        match self.verdict(user, page) {
+            Verdict::Accepted => {}
+            refused => return LookAnswer::Refused(refused),
+        }
+        if !self.seat.is_sliced(page) {
+            return LookAnswer::Seen(self.seat.read_for(user, page));
+        }
+        if self.room == 0 {
+            return LookAnswer::NoRoom;
+        }
+        let phase = self.seat.phase();
+        self.wait(Asked {
+            tag,
+            user,
+            page,
+            phase,
+        });
+        LookAnswer::Waits
+    }
+
+    // Puts a look at a split page by until the next joined phase.
+    fn wait(&mut self, asked: Asked)
+        requires split { RunsSplit self.old.seat.post.state }
+        requires own { IsOwn self.old.seat asked }
+        requires phase { asked.phase ≡ phase_at self.old.seat }
+        requires room { length (waiting self.old) + length self.old.found < room_of self.old }
+        ensures waits { self.new ≡ with_seat self.old (holding self.old.seat asked) }
+        ensures keeps { IsLive self.new }
+    {
+        self.room -= 1;
+        self.seat.put_by(asked);
+        if self.room <= self.half && !self.hint.is_asked() {
+            self.hint.ask();
+        }
+    }
+
+    // Retires, of a seat that runs a phase, where that is joined.
+    pub(crate) fn retire_now(&mut self) -> TurnAnswer
+        requires { IsRunning self.old.seat.post.state }
+        ensures case { RetiresNow self.old result self.new }
+        ensures keeps { IsLive self.new }
+    {
+        if self.seat.phase() % 2 == 1 {
+            return TurnAnswer::Runs;
+        }
+        self.seat.retire();
+        TurnAnswer::Gone
+    }
+}
