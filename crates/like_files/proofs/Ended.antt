@@ -28,9 +28,11 @@ use Rattle.like_replies.specs.PlaceRows.{text_of}
 use Rattle.like_replies.specs.Summary.{requests_in}
 use Rattle.like_replies.specs.declared.summary.Summary.{Summary}
 use Rattle.like_files.specs.Faults.{fault_of, fault_of_replay, fault_of_run}
-use Rattle.like_files.specs.Inputs.{GivesLists, Inputs, WritesReport, asked_summary, setup_of}
-use Rattle.like_files.specs.Replay.{CanReplay, GivesAll, IsReplayFilesFault}
-use Rattle.like_files.specs.Run.{CanRun, IsRunFilesFault}
+use Rattle.like_files.specs.Inputs.{GivesLists, GivesPages, Inputs, RefusesLists, RefusesPlans, WritesReport, asked_summary, setup_of}
+use Rattle.like_files.specs.Replay.{GivesAll, IsReplayFilesFault, IsReplayListsFault}
+use Rattle.like_files.specs.Run.{IsRunFilesFault, IsRunListsFault}
+use Rattle.like_files.specs.declared.fault.DriverFault.{DriverFault}
+use Rattle.like_files.specs.declared.fault.DriverFault.TheVariants.{Pages, Requests, Script, Settings, Start, Unfinished, Write, Memory}
 
 -- right places are one list for each page
 pub one_list_a_page : (setup : Setup) (plans : List (List Request)) (report : Report) → HasRightPlaces setup plans report → length report.places.items ≡ length setup.pages
@@ -60,33 +62,78 @@ few_requests setup plans report within right =
     let same : requests_in report.replies ≡ fold (λ s n. s + n) 0 sizes = lengths report.replies.rows.items 0 ∙ ap (fold (λ (s n : ℕ). s + n) 0) right.replies.sized in
     omega (arith, same, sum-≤ sizes 0 within.numbers.small, within.numbers.submitters.1)
 
-module _ (options : Options) (inputs : Inputs) (pages : List Page) (plans : List (List Request)) where
-  module _ (script : List Turned) (given : GivesAll inputs pages plans script) where
-    can-replay : run.CanReplayScript (setup_of options pages) plans script → CanReplay options inputs
-    can-replay fits = record { pages = pages; plans = plans; script = script; given = given; fits = fits }
+-- request files that were refused, where the pages file gives these pages
+pub lists-refused : (file : Option (List ℕ)) (files : List (Option (List ℕ))) (pages : List Page) (fault : DriverFault) → GivesPages file pages → RefusesPlans pages files fault → RefusesLists file files fault
+lists-refused file files pages (Pages fault) given refused = absurd refused
+lists-refused file files pages (Requests submitter fault) given refused = record { pages = pages; pages_given = given; refused = refused }
+lists-refused file files pages (Script fault) given refused = absurd refused
+lists-refused file files pages (Settings fault) given refused = absurd refused
+lists-refused file files pages Start given refused = absurd refused
+lists-refused file files pages Unfinished given refused = absurd refused
+lists-refused file files pages Write given refused = absurd refused
+lists-refused file files pages Memory given refused = absurd refused
 
-    -- the replay gave no report
-    pub replay-refused : (fault : ReplayFault) → run.IsReplayFault (setup_of options pages) plans script fault → IsReplayFilesFault options inputs (fault_of_replay fault)
-    replay-refused (why.Settings fault) refused = record { pages = pages; plans = plans; script = script; given = given; refused = refused }
-    replay-refused why.Unfinished refused = record { pages = pages; plans = plans; script = script; given = given; refused = refused }
-    replay-refused why.Memory refused = can-replay refused
+module _ (setup : Setup) (plans : List (List Request)) where
+  -- a replay gave no report, or its report was not written
+  pub replay-refused : (script : List Turned) (fault : ReplayFault) → run.IsReplayFault setup plans script fault → IsReplayListsFault setup plans script (fault_of_replay fault)
+  replay-refused script (why.Settings fault) refused = refused
+  replay-refused script why.Unfinished refused = refused
+  replay-refused script why.Memory refused = refused
 
-    -- its report was not written
-    pub replay-unwritten : (fault : WriteFault) → run.CanReplayScript (setup_of options pages) plans script → IsReplayFilesFault options inputs (fault_of fault)
-    replay-unwritten write.Write fits = can-replay fits
-    replay-unwritten write.Memory fits = can-replay fits
+  pub replay-unwritten : (script : List Turned) (fault : WriteFault) → run.CanReplayScript setup plans script → IsReplayListsFault setup plans script (fault_of fault)
+  replay-unwritten script write.Write fits = fits
+  replay-unwritten script write.Memory fits = fits
 
-  module _ (given : GivesLists inputs.pages inputs.requests pages plans) where
-    can-run : IsWithinLimits (setup_of options pages) plans → CanRun options inputs
-    can-run within = record { pages = pages; plans = plans; given = given; within = within }
+  -- the run on threads gave no report, or its report was not written
+  pub run-refused : (fault : RunFault) → on_threads.IsRunFault setup plans fault → IsRunListsFault setup plans (fault_of_run fault)
+  run-refused (threads.Settings fault) refused = refused
+  run-refused threads.Start refused = refused
+  run-refused threads.Memory refused = refused
 
-    -- the run on threads gave no report
-    pub run-refused : (fault : RunFault) → on_threads.IsRunFault (setup_of options pages) plans fault → IsRunFilesFault options inputs (fault_of_run fault)
-    run-refused (threads.Settings fault) refused = record { pages = pages; plans = plans; given = given; refused = refused }
-    run-refused threads.Start refused = record { pages = pages; plans = plans; given = given; refused = refused }
-    run-refused threads.Memory refused = can-run refused
+  pub run-unwritten : (fault : WriteFault) → IsWithinLimits setup plans → IsRunListsFault setup plans (fault_of fault)
+  run-unwritten write.Write within = within
+  run-unwritten write.Memory within = within
 
-    -- its report was not written
-    pub run-unwritten : (fault : WriteFault) → IsWithinLimits (setup_of options pages) plans → IsRunFilesFault options inputs (fault_of fault)
-    run-unwritten write.Write within = can-run within
-    run-unwritten write.Memory within = can-run within
+module _ (options : Options) (inputs : Inputs) where
+  -- the files gave no values
+  pub replay-unread : (fault : DriverFault) → RefusesLists inputs.pages inputs.requests fault → IsReplayFilesFault options inputs fault
+  replay-unread (Pages fault) refused = refused
+  replay-unread (Requests submitter fault) refused = refused
+  replay-unread (Script fault) refused = absurd refused
+  replay-unread (Settings fault) refused = absurd refused
+  replay-unread Start refused = absurd refused
+  replay-unread Unfinished refused = absurd refused
+  replay-unread Write refused = absurd refused
+  replay-unread Memory refused = absurd refused
+
+  pub run-unread : (fault : DriverFault) → RefusesLists inputs.pages inputs.requests fault → IsRunFilesFault options inputs fault
+  run-unread (Pages fault) refused = refused
+  run-unread (Requests submitter fault) refused = refused
+  run-unread (Script fault) refused = absurd refused
+  run-unread (Settings fault) refused = absurd refused
+  run-unread Start refused = absurd refused
+  run-unread Unfinished refused = absurd refused
+  run-unread Write refused = absurd refused
+  run-unread Memory refused = absurd refused
+
+  module _ (pages : List Page) (plans : List (List Request)) where
+    -- their values gave no report
+    pub replay-fault : (script : List Turned) (given : GivesAll inputs pages plans script) (fault : DriverFault) → IsReplayListsFault (setup_of options pages) plans script fault → IsReplayFilesFault options inputs fault
+    replay-fault script given (Pages fault) refused = absurd refused
+    replay-fault script given (Requests submitter fault) refused = absurd refused
+    replay-fault script given (Script fault) refused = absurd refused
+    replay-fault script given (Settings fault) refused = record { pages = pages; plans = plans; script = script; given = given; refused = refused }
+    replay-fault script given Start refused = absurd refused
+    replay-fault script given Unfinished refused = record { pages = pages; plans = plans; script = script; given = given; refused = refused }
+    replay-fault script given Write fits = record { pages = pages; plans = plans; script = script; given = given; fits = fits }
+    replay-fault script given Memory fits = record { pages = pages; plans = plans; script = script; given = given; fits = fits }
+
+    pub run-fault : (given : GivesLists inputs.pages inputs.requests pages plans) (fault : DriverFault) → IsRunListsFault (setup_of options pages) plans fault → IsRunFilesFault options inputs fault
+    run-fault given (Pages fault) refused = absurd refused
+    run-fault given (Requests submitter fault) refused = absurd refused
+    run-fault given (Script fault) refused = absurd refused
+    run-fault given (Settings fault) refused = record { pages = pages; plans = plans; given = given; refused = refused }
+    run-fault given Start refused = record { pages = pages; plans = plans; given = given; refused = refused }
+    run-fault given Unfinished refused = absurd refused
+    run-fault given Write within = record { pages = pages; plans = plans; given = given; within = within }
+    run-fault given Memory within = record { pages = pages; plans = plans; given = given; within = within }

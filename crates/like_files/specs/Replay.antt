@@ -2,6 +2,7 @@
 use Rattle.std.specs.Prelude.{◌≡◌, ℕ, List, length, is_some, Option}
 use Rattle.like_requests.specs.Pages.{Page}
 use Rattle.like_requests.specs.declared.request.Request.{Request}
+use Rattle.like_requests.specs.declared.setup.Setup.{Setup}
 use Rattle.like_run.specs.Rounds as replay
 use Rattle.like_run.specs.declared.rounds.fault.ReplayFault.{ReplayFault}
 use Rattle.like_run.specs.declared.rounds.fault.ReplayFault.TheVariants as why
@@ -29,12 +30,27 @@ pub record HasReplayed (options : Options) (inputs : Inputs) (old new : Option (
   pub fits : replay.CanReplayScript (setup_of options pages) plans script
   pub reported : WritesReport options (setup_of options pages) plans old new summary
 
+-- these values were replayed, and the report was written, which has this summary
+pub record HasReplayedLists (options : Options) (setup : Setup) (plans : List (List Request)) (script : List Turned)
+    (old new : Option (List ℕ)) (summary : Option Summary) : Type 0 where
+  pub fits : replay.CanReplayScript setup plans script
+  pub reported : WritesReport options setup plans old new summary
+
 -- some files were replayed, as many request files as the options name, and with a script just where they name one
 pub record HasReplayedSome (options : Options) (old new : Option (List ℕ)) (summary : Option Summary) : Type 0 where
   pub inputs : Inputs
   pub all_requests : length inputs.requests ≡ length options.requests.items
   pub scripted : is_some inputs.script ≡ is_some options.script
   pub replayed : HasReplayed options inputs old new summary
+
+-- why a replay of these values ended: a fault of the settings, the replay or the output; want of memory is that of the replay
+-- or of its report
+abbrev pub IsReplayListsFault : Setup → List (List Request) → List Turned → DriverFault → Type 0
+IsReplayListsFault setup plans script (Settings fault) = replay.IsReplayFault setup plans script (why.Settings fault)
+IsReplayListsFault setup plans script Unfinished = replay.IsReplayFault setup plans script why.Unfinished
+IsReplayListsFault setup plans script Write = replay.CanReplayScript setup plans script
+IsReplayListsFault setup plans script Memory = replay.CanReplayScript setup plans script
+IsReplayListsFault setup plans script fault = ⊥
 
 -- the script file was refused, where the other files give these values
 pub record ScriptRefused (inputs : Inputs) (fault : ScriptFault) : Type 0 where

@@ -3,6 +3,7 @@ use Rattle.std.specs.Prelude.{◌≡◌, ℕ, List, length, Option}
 use Rattle.like_requests.specs.Pages.{Page}
 use Rattle.like_requests.specs.Setup.{IsWithinLimits}
 use Rattle.like_requests.specs.declared.request.Request.{Request}
+use Rattle.like_requests.specs.declared.setup.Setup.{Setup}
 use Rattle.like_run.specs.Threads as run
 use Rattle.like_run.specs.declared.threads.fault.RunFault.{RunFault}
 use Rattle.like_run.specs.declared.threads.fault.RunFault.TheVariants as why
@@ -21,11 +22,26 @@ pub record HasRun (options : Options) (inputs : Inputs) (old new : Option (List 
   pub within : IsWithinLimits (setup_of options pages) plans
   pub reported : WritesReport options (setup_of options pages) plans old new summary
 
+-- the run of these values was made, and its report was written, which has this summary
+pub record HasRunLists (options : Options) (setup : Setup) (plans : List (List Request))
+    (old new : Option (List ℕ)) (summary : Option Summary) : Type 0 where
+  pub within : IsWithinLimits setup plans
+  pub reported : WritesReport options setup plans old new summary
+
 -- some files were run, as many request files as the options name
 pub record HasRunSome (options : Options) (old new : Option (List ℕ)) (summary : Option Summary) : Type 0 where
   pub inputs : Inputs
   pub all_requests : length inputs.requests ≡ length options.requests.items
   pub run : HasRun options inputs old new summary
+
+-- why a run of these values ended: a fault of the settings, the run or the output; want of memory is that of the run or of its
+-- report
+abbrev pub IsRunListsFault : Setup → List (List Request) → DriverFault → Type 0
+IsRunListsFault setup plans (Settings fault) = run.IsRunFault setup plans (why.Settings fault)
+IsRunListsFault setup plans Start = run.IsRunFault setup plans why.Start
+IsRunListsFault setup plans Write = IsWithinLimits setup plans
+IsRunListsFault setup plans Memory = IsWithinLimits setup plans
+IsRunListsFault setup plans fault = ⊥
 
 -- the files give values of which a run was refused with this fault
 pub record RunRefused (options : Options) (inputs : Inputs) (fault : RunFault) : Type 0 where

@@ -3,6 +3,7 @@
 
 mod fault;
 mod line;
+mod lists;
 mod opened;
 mod plans;
 mod progress;

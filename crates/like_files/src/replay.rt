@@ -1,17 +1,18 @@
 ghost use Rattle.std.specs.Prelude.{◌≡◌, ◌≤◌, false, true, IfErr, IfOk, MatchResult, OnOk, Option, is_some, length, option_map};
+ghost use Rattle.like_crew.specs.Asked.{lists_of};
 ghost use Rattle.like_script.specs.Limits.{max_entries};
 ghost use Rattle.like_files.specs.Faults.{IsBeforeOutput};
 ghost use Rattle.like_files.specs.Inputs.{GivesScript, RefusesScript, inputs_of};
-ghost use Rattle.like_files.specs.Replay.{HasReplayed, IsReplayFilesFault};
+ghost use Rattle.like_files.specs.Replay.{HasReplayed, HasReplayedLists, IsReplayFilesFault, IsReplayListsFault};
 ghost use Rattle.like_replies.specs.declared.summary.Summary.{Summary};
 
 use crate::fault::DriverFault;
-use crate::plans::read_plans;
+use crate::lists::read_lists;
 use crate::progress::{NoProgress, Part, Progress};
 use crate::setup::with_pages;
 use crate::summed::asked_summary;
 use like_replies::{Summary, write_text};
-use like_requests::read_pages;
+use like_requests::{Request, Setup};
 use like_run::{ScriptFault, Turned, read_script, replay_noting};
 use like_words::Options;
 use std::alloc::Global;
@@ -67,12 +68,30 @@ pub fn replay_files_summed<R: Read + Drop, W: Write, P: Progress>(
         IfErr result (IsReplayFilesFault options.now inputs) }
     ensures untouched { IfErr result (λ fault. IsBeforeOutput fault → out.new ≡ out.old) }
 {
-    let pages = read_pages(alloc, pages)?;
-    let plans = read_plans(alloc, &pages, requests)?;
+    let (pages, plans) = read_lists(alloc, pages, requests)?;
     let script = read_turns(alloc, script)?;
     progress.done(Part::Reading);
     let setup = with_pages(options, pages);
-    let report = replay_noting(alloc, &setup, plans, &script, options.places)?;
+    replay_lists(alloc, options, &setup, plans, &script, out, progress)
+}
+
+// Replays what the files gave, and writes the report.
+fn replay_lists<W: Write, P: Progress>(
+    alloc: Global,
+    options: &Options,
+    setup: &Setup,
+    plans: Vec<Vec<Request>>,
+    script: &[Turned],
+    out: &mut W,
+    progress: &mut P,
+) -> Result<Option<Summary>, DriverFault>
+    requires { length script.now ≤ max_entries }
+    ensures replayed { IfOk result (HasReplayedLists options.now setup.now (lists_of plans.items) script.now
+        (W.contents out.old) (W.contents out.new)) }
+    ensures fault { IfErr result (IsReplayListsFault setup.now (lists_of plans.items) script.now) }
+    ensures untouched { IfErr result (λ fault. IsBeforeOutput fault → out.new ≡ out.old) }
+{
+    let report = replay_noting(alloc, setup, plans, script, options.places)?;
     progress.done(Part::Running);
     write_text(alloc, options.places, &report, &setup.pages, out)?;
     progress.done(Part::Writing);

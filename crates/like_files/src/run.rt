@@ -1,16 +1,17 @@
 ghost use Rattle.std.specs.Prelude.{◌≡◌, IfErr, IfOk, None, OnOk, Option, length};
+ghost use Rattle.like_crew.specs.Asked.{lists_of};
 ghost use Rattle.like_files.specs.Faults.{IsBeforeOutput};
 ghost use Rattle.like_files.specs.Inputs.{inputs_of};
-ghost use Rattle.like_files.specs.Run.{HasRun, IsRunFilesFault};
+ghost use Rattle.like_files.specs.Run.{HasRun, HasRunLists, IsRunFilesFault, IsRunListsFault};
 ghost use Rattle.like_replies.specs.declared.summary.Summary.{Summary};
 
 use crate::fault::DriverFault;
-use crate::plans::read_plans_at_once;
+use crate::lists::read_lists_at_once;
 use crate::progress::{NoProgress, Part, Progress};
 use crate::setup::with_pages;
 use crate::summed::asked_summary;
 use like_replies::{Summary, write_text_at_once};
-use like_requests::read_pages;
+use like_requests::{Request, Setup};
 use like_roles::NoGate;
 use like_run::run_noting;
 use like_words::Options;
@@ -59,11 +60,28 @@ pub fn run_files_summed<T: Threads + Wait + Sync, R: Read + Drop + Send, W: Writ
         IfErr result (IsRunFilesFault options.now inputs) }
     ensures untouched { IfErr result (λ fault. IsBeforeOutput fault → out.new ≡ out.old) }
 {
-    let pages = read_pages(alloc, pages)?;
-    let plans = read_plans_at_once(rt, alloc, &pages, requests)?;
+    let (pages, plans) = read_lists_at_once(rt, alloc, pages, requests)?;
     progress.done(Part::Reading);
     let setup = with_pages(options, pages);
-    let report = run_noting(rt, alloc, &setup, plans, &NoGate, options.places)?;
+    run_lists(rt, alloc, options, &setup, plans, out, progress)
+}
+
+// Runs what the files gave, and writes the report.
+fn run_lists<T: Threads + Wait + Sync, W: Write, P: Progress>(
+    rt: &T,
+    alloc: Global,
+    options: &Options,
+    setup: &Setup,
+    plans: Vec<Vec<Request>>,
+    out: &mut W,
+    progress: &mut P,
+) -> Result<Option<Summary>, DriverFault>
+    ensures run { IfOk result (HasRunLists options.now setup.now (lists_of plans.items)
+        (W.contents out.old) (W.contents out.new)) }
+    ensures fault { IfErr result (IsRunListsFault setup.now (lists_of plans.items)) }
+    ensures untouched { IfErr result (λ fault. IsBeforeOutput fault → out.new ≡ out.old) }
+{
+    let report = run_noting(rt, alloc, setup, plans, &NoGate, options.places)?;
     progress.done(Part::Running);
     write_text_at_once(rt, alloc, options.places, &report, &setup.pages, out)?;
     progress.done(Part::Writing);

@@ -1,9 +1,12 @@
 //! Cases of the worked examples.
+use super::watch::Watch;
 use like_replies::Report;
-use like_requests::{Op, PageRef, Request, Setup, read_pages, read_requests};
-use like_run::{MAX_ENTRIES, ReplayFault, Turned, replay};
+use like_requests::{Op, PageRef, Pages, Request, Setup, read_pages, read_requests};
+use like_run::{MAX_ENTRIES, ReplayFault, RunFault, Turned, replay, run};
 use std::alloc::Global;
 use std::process::Abort;
+use std::sync::Wait;
+use std::thread::Threads;
 
 /// A replay: its settings, its files without their headers, and its script as words of two letters.
 #[derive(Clone, Copy)]
@@ -20,54 +23,110 @@ pub struct Case {
 
 impl Case {
     pub fn setup(&self, rt: &impl Abort, alloc: Global) -> Setup {
-        let text = format!(in alloc; "name,count,split\n{}", self.pages).expect(rt, "memory");
         Setup {
             workers: self.workers,
             users: self.users,
             stash: self.stash,
             turns: self.turns,
             hot: self.hot,
-            pages: read_pages(alloc, text.as_bytes()).expect(rt, "pages"),
+            pages: pages_of(rt, alloc, self.pages),
         }
     }
 
-    pub fn plans(&self, rt: &impl Abort, alloc: Global, setup: &Setup) -> Vec<Vec<Request>> {
-        let mut plans = Vec::new(alloc);
-        for requests in self.requests {
-            let plan = plan_of(rt, alloc, requests, setup);
-            plans.push(plan).expect(rt, "memory");
-        }
-        plans
+    pub fn plans(&self, rt: &impl Abort, alloc: Global) -> Vec<Vec<Request>> {
+        let pages = pages_of(rt, alloc, self.pages);
+        plans_of(rt, alloc, self.requests, &pages)
     }
 
-    pub fn replay(&self, rt: &impl Abort, alloc: Global) -> Result<Report, ReplayFault> {
-        let setup = self.setup(rt, alloc);
-        let plans = self.plans(rt, alloc, &setup);
-        let script = turns(rt, alloc, self.script);
+    // What a replay of these plans by a script ends in.
+    fn replayed(
+        &self,
+        rt: &impl Abort,
+        alloc: Global,
+        plans: Vec<Vec<Request>>,
+        script: &[Turned],
+    ) -> Result<Report, ReplayFault> {
         assert!(rt; script.len() <= MAX_ENTRIES as usize);
-        replay(alloc, &setup, plans, &script)
+        replay(alloc, &self.setup(rt, alloc), plans, script)
+    }
+
+    /// What a replay of the case's own requests and script ends in.
+    pub fn replay(&self, rt: &impl Abort, alloc: Global) -> Result<Report, ReplayFault> {
+        let plans = self.plans(rt, alloc);
+        let script = turns(rt, alloc, self.script);
+        self.replayed(rt, alloc, plans, &script)
+    }
+
+    /// What a replay of these plans without a script ends in.
+    pub fn replay_plans(
+        &self,
+        rt: &impl Abort,
+        alloc: Global,
+        plans: Vec<Vec<Request>>,
+    ) -> Result<Report, ReplayFault> {
+        self.replayed(rt, alloc, plans, &[])
+    }
+
+    /// What a run of these plans on threads ends in.
+    pub fn run(
+        &self,
+        rt: &(impl Abort + Threads + Wait + Sync),
+        alloc: Global,
+        plans: Vec<Vec<Request>>,
+        gate: &Watch,
+    ) -> Result<Report, RunFault> {
+        run(rt, alloc, &self.setup(rt, alloc), plans, gate)
+    }
+
+    /// The report of a run of these plans on threads.
+    pub fn report(
+        &self,
+        rt: &(impl Abort + Threads + Wait + Sync),
+        alloc: Global,
+        plans: Vec<Vec<Request>>,
+        gate: &Watch,
+    ) -> Report {
+        self.run(rt, alloc, plans, gate).expect(rt, "a report")
     }
 }
 
-fn plan_of(rt: &impl Abort, alloc: Global, requests: &str, setup: &Setup) -> Vec<Request> {
+fn pages_of(rt: &impl Abort, alloc: Global, pages: &str) -> Pages {
+    let text = format!(in alloc; "name,count,split\n{pages}").expect(rt, "memory");
+    read_pages(alloc, text.as_bytes()).expect(rt, "pages")
+}
+
+fn plan_of(rt: &impl Abort, alloc: Global, requests: &str, pages: &Pages) -> Vec<Request> {
     let text = format!(in alloc; "op,user,page\n{requests}").expect(rt, "memory");
-    read_requests(alloc, text.as_bytes(), &setup.pages).expect(rt, "requests")
+    read_requests(alloc, text.as_bytes(), pages).expect(rt, "requests")
+}
+
+fn plans_of(rt: &impl Abort, alloc: Global, requests: &[&str], pages: &Pages) -> Vec<Vec<Request>> {
+    let mut plans = Vec::new(alloc);
+    for requests in requests {
+        let plan = plan_of(rt, alloc, requests, pages);
+        assert!(rt; plans.push(plan).is_ok());
+    }
+    plans
+}
+
+// The entry of a script that a word stands for.
+fn turned(rt: &impl Abort, word: &[u8]) -> Turned {
+    let (Some(kind), Some(digit)) = (word.first(), word.get(1)) else {
+        panic!(rt; "no word");
+    };
+    let index = u32::from(digit.saturating_sub(b'0'));
+    match kind {
+        b'o' => Turned::OpenOne(index),
+        b'w' => Turned::Worker(index),
+        _ => Turned::Coordinator,
+    }
 }
 
 /// The entries of a script whose words are `o0` for an open, `w0` for a worker's turn, `c0` for the coordinator's.
 pub fn turns(rt: &impl Abort, alloc: Global, script: &str) -> Vec<Turned> {
     let mut turns = Vec::new(alloc);
     for word in script.as_bytes().chunks(3) {
-        let (Some(kind), Some(digit)) = (word.first(), word.get(1)) else {
-            panic!(rt; "no word");
-        };
-        let index = u32::from(digit.saturating_sub(b'0'));
-        let turned = match kind {
-            b'o' => Turned::OpenOne(index),
-            b'w' => Turned::Worker(index),
-            _ => Turned::Coordinator,
-        };
-        assert!(rt; turns.push(turned).is_ok());
+        assert!(rt; turns.push(turned(rt, word)).is_ok());
     }
     turns
 }
@@ -78,22 +137,19 @@ pub fn requests(
     alloc: Global,
     op: Op,
     submitters: u32,
-    each: u32,
+    each: usize,
 ) -> Vec<Vec<Request>> {
     let mut plans = Vec::new(alloc);
     for user in 0..submitters {
         let page = PageRef::Known(0);
-        let mut plan = Vec::new(alloc);
-        for _ in 0..each {
-            assert!(rt; plan.push(Request { op, user, page }).is_ok());
-        }
+        let plan = vec![in alloc; Request { op, user, page }; each].expect(rt, "memory");
         assert!(rt; plans.push(plan).is_ok());
     }
     plans
 }
 
 /// For each submitter so many likes of page 0 by the user of its number.
-pub fn likes(rt: &impl Abort, alloc: Global, submitters: u32, each: u32) -> Vec<Vec<Request>> {
+pub fn likes(rt: &impl Abort, alloc: Global, submitters: u32, each: usize) -> Vec<Vec<Request>> {
     requests(rt, alloc, Op::Like, submitters, each)
 }
 

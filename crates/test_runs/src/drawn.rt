@@ -1,11 +1,13 @@
 //! Drawn replays, compared with runs that are played by the tables of turns.
 ghost use Rattle.std.specs.Prelude.{◌+◌, ◌<◌, ◌≤◌, ◌^◌, IfOk};
 
-use super::players::play;
-use like_requests::{Op, PageRef, Request, Setup, read_pages};
+use super::players::{Played, Player, play};
+use like_replies::Report;
+use like_requests::{Op, PageRef, Pages, Request, Setup, read_pages};
+use like_roles::WorkerLog;
 use like_run::{MAX_ENTRIES, Turned, replay};
 use std::alloc::{AllocError, Global};
-use std::test::Fail;
+use std::process::Abort;
 
 // Numbers by a linear congruence, with the factor and the summand of Knuth's MMIX.
 #[derive(Drop)]
@@ -47,11 +49,8 @@ fn draw_hot(draws: &mut Draws) -> Option<u32> {
     }
 }
 
-// The settings of a run with four pages, of which these are split.
-fn draw_setup(alloc: Global, draws: &mut Draws, split: [bool; 4]) -> Result<Setup, Fail>
-    ensures some { IfOk result (λ setup. 1 ≤ setup.workers) }
-    ensures few { IfOk result (λ setup. setup.workers ≤ 5) }
-{
+// Four pages, of which these are split.
+fn pages_of(rt: &impl Abort, alloc: Global, split: [bool; 4]) -> Pages {
     let [a, b, c, d] = split;
     let text = format!(in alloc;
         "name,count,split\na,10,{}\nb,20,{}\nc,30,{}\nd,40,{}\n",
@@ -59,15 +58,24 @@ fn draw_setup(alloc: Global, draws: &mut Draws, split: [bool; 4]) -> Result<Setu
         yes_or_no(b),
         yes_or_no(c),
         yes_or_no(d)
-    )?;
-    Ok(Setup {
+    )
+    .expect(rt, "memory");
+    read_pages(alloc, text.as_bytes()).expect(rt, "pages")
+}
+
+// The settings of a run with these pages.
+fn draw_setup(draws: &mut Draws, pages: Pages) -> Setup
+    ensures some { 1 ≤ result.workers }
+    ensures few { result.workers ≤ 5 }
+{
+    Setup {
         workers: 1 + draws.below(5),
         users: 12,
         stash: 1 + draws.below(2),
         turns: draws.below(3),
         hot: draw_hot(draws),
-        pages: read_pages(alloc, text.as_bytes())?,
-    })
+        pages,
+    }
 }
 
 // One request in four is of any user, also of one who is unknown or has another home; one in eight is of an unknown page.
@@ -90,6 +98,21 @@ fn draw_request(draws: &mut Draws, submitter: u32, submitters: u32) -> Request
     Request { op, user, page }
 }
 
+fn draw_plan(
+    alloc: Global,
+    draws: &mut Draws,
+    submitter: u32,
+    submitters: u32,
+) -> Result<Vec<Request>, AllocError>
+    requires { submitter + submitters < 2 ^ 32 }
+{
+    let mut plan = Vec::new(alloc);
+    for _ in 0..draws.below(7) {
+        plan.push(draw_request(draws, submitter, submitters))?;
+    }
+    Ok(plan)
+}
+
 fn draw_plans(
     alloc: Global,
     draws: &mut Draws,
@@ -99,13 +122,20 @@ fn draw_plans(
 {
     let mut plans = Vec::new(alloc);
     for submitter in 0..submitters {
-        let mut plan = Vec::new(alloc);
-        for _ in 0..draws.below(7) {
-            plan.push(draw_request(draws, submitter, submitters))?;
-        }
-        plans.push(plan)?;
+        plans.push(draw_plan(alloc, draws, submitter, submitters)?)?;
     }
     Ok(plans)
+}
+
+fn draw_turn(draws: &mut Draws, workers: u32, submitters: u32) -> Turned
+    requires workers { 0 < workers }
+    requires submitters { 0 < submitters }
+{
+    match draws.below(4) {
+        0 => Turned::OpenOne(draws.below(submitters)),
+        1 => Turned::Coordinator,
+        _ => Turned::Worker(draws.below(workers)),
+    }
 }
 
 fn draw_script(
@@ -119,38 +149,56 @@ fn draw_script(
 {
     let mut script = Vec::new(alloc);
     for _ in 0..draws.below(161) {
-        script.push(match draws.below(4) {
-            0 => Turned::OpenOne(draws.below(submitters)),
-            1 => Turned::Coordinator,
-            _ => Turned::Worker(draws.below(workers)),
-        })?;
+        script.push(draw_turn(draws, workers, submitters))?;
     }
     Ok(script)
 }
 
-#[test]
-fn replays_by_the_tables(rt: HostRuntime) -> Result<(), Fail> {
-    let mut draws = Draws { state: 1 };
-    for case in 0..1_000 {
-        let split = draw_marks(&mut draws);
-        let setup = draw_setup(rt.alloc(), &mut draws, split)?;
-        let submitters = 1 + draws.below(7);
-        let plans = draw_plans(rt.alloc(), &mut draws, submitters)?;
-        let script = draw_script(rt.alloc(), &mut draws, setup.workers, submitters)?;
-        let (players, phases, chosen) = play(rt.alloc(), &setup, split, &plans, &script)?;
-        assert!(rt; script.len() <= MAX_ENTRIES as usize);
-        let report = replay(rt.alloc(), &setup, plans, &script)?;
-        assert_eq!(rt; report.phases, phases, "in case {case}");
-        assert_eq!(rt; report.hot.as_slice(), chosen.as_slice(), "in case {case}");
-        assert_eq!(rt; report.logs.len(), players.len(), "in case {case}");
-        for (log, player) in report.logs.iter().zip(&players) {
-            assert_eq!(rt;
-                log.taken.as_slice(),
-                player.taken.as_slice(),
-                "in case {case}"
-            );
-            assert_eq!(rt; log.ran.as_slice(), player.ran.as_slice(), "in case {case}");
+fn replayed(
+    rt: &impl Abort,
+    alloc: Global,
+    setup: &Setup,
+    plans: Vec<Vec<Request>>,
+    script: &[Turned],
+) -> Report {
+    assert!(rt; script.len() <= MAX_ENTRIES as usize);
+    replay(alloc, setup, plans, script).expect(rt, "a report")
+}
+
+// Whether each worker's log is what the player of that worker took and ran.
+fn are_as_played(logs: &[WorkerLog], players: &[Player]) -> bool {
+    for (log, player) in logs.iter().zip(players) {
+        if log.taken != player.taken || log.ran != player.ran {
+            return false;
         }
     }
-    Ok(())
+    logs.len() == players.len()
+}
+
+fn is_as_played(report: &Report, played: &Played) -> bool {
+    report.phases == played.phases
+        && report.hot == played.chosen
+        && are_as_played(&report.logs, &played.players)
+}
+
+// Whether a run that is drawn next is replayed as it is played.
+fn is_next_as_played(rt: &impl Abort, alloc: Global, draws: &mut Draws) -> bool {
+    let split = draw_marks(draws);
+    let setup = draw_setup(draws, pages_of(rt, alloc, split));
+    let submitters = 1 + draws.below(7);
+    let plans = draw_plans(alloc, draws, submitters).expect(rt, "memory");
+    let script = draw_script(alloc, draws, setup.workers, submitters).expect(rt, "memory");
+    let played = play(alloc, &setup, split, &plans, &script).expect(rt, "a play");
+    is_as_played(&replayed(rt, alloc, &setup, plans, &script), &played)
+}
+
+#[test]
+fn replays_by_the_tables(rt: HostRuntime) {
+    let mut draws = Draws { state: 1 };
+    for case in 0..1_000 {
+        assert!(rt;
+            is_next_as_played(&rt, rt.alloc(), &mut draws),
+            "in case {case}"
+        );
+    }
 }

@@ -1,12 +1,13 @@
 //! Example mixed-load: likes and looks of a page that is split and of one that isn't, on threads. Run order, and the bounds
 //! between which each count has to lie, are computed here from what the workers took and from which likes they ran.
 use super::cases::{Case, ONE_PAGE};
-use super::watch::{Held, Watch};
+use super::watch::Watch;
 use like_requests::{Op, PageRef, Request};
 use like_roles::{Ran, Reply, Took, WorkerLog};
-use like_run::run;
 use std::alloc::{AllocError, Global};
-use std::test::Fail;
+use std::process::Abort;
+use std::sync::Wait;
+use std::thread::Threads;
 
 const MIXED_LOAD: Case = Case {
     workers: 4,
@@ -27,31 +28,51 @@ fn asked(number: u32) -> (Op, u32) {
     }
 }
 
+fn plan(alloc: Global, user: u32) -> Result<Vec<Request>, AllocError> {
+    let mut plan = Vec::new(alloc);
+    for number in 1..2_001 {
+        let (op, page) = asked(number);
+        let page = PageRef::Known(page);
+        plan.push(Request { op, user, page })?;
+    }
+    Ok(plan)
+}
+
 fn plans(alloc: Global) -> Result<Vec<Vec<Request>>, AllocError> {
     let mut plans = Vec::new(alloc);
     for user in 0..8 {
-        let mut plan = Vec::new(alloc);
-        for number in 1..2_001 {
-            let (op, page) = asked(number);
-            let page = PageRef::Known(page);
-            plan.push(Request { op, user, page })?;
-        }
-        plans.push(plan)?;
+        plans.push(plan(alloc, user)?)?;
     }
     Ok(plans)
 }
 
+// A request's place in run order: phase, whether it is not from the stash, submitter and number.
+type Place = (u32, bool, u32, u32);
+
 // Run order: a look of the split page that was taken in an odd phase runs in the next one, before all others there; every
-// other request runs in the phase in which it was taken. By phase, whether it is not from the stash, submitter, number.
-fn order(alloc: Global, taken: &[Took]) -> Result<Vec<(u32, bool, u32, u32)>, AllocError> {
+// other request runs in the phase in which it was taken.
+fn place(took: &Took) -> Place {
+    let waits = took.phase % 2 == 1 && asked(took.number) == (Op::Look, 0);
+    let phase = took.phase.saturating_add(u32::from(waits));
+    (phase, !waits, took.submitter, took.number)
+}
+
+fn order(alloc: Global, taken: &[Took]) -> Result<Vec<Place>, AllocError> {
     let mut order = Vec::new(alloc);
     for took in taken {
-        let waits = took.phase % 2 == 1 && asked(took.number) == (Op::Look, 0);
-        let phase = took.phase.saturating_add(u32::from(waits));
-        order.push((phase, !waits, took.submitter, took.number))?;
+        order.push(place(took))?;
     }
     order.sort_by_key(|entry| (entry.0, entry.1))?;
     Ok(order)
+}
+
+// The places of what ran, as it ran.
+fn places(alloc: Global, ran: &[Ran]) -> Result<Vec<Place>, AllocError> {
+    let mut places = Vec::new(alloc);
+    for entry in ran {
+        places.push((entry.phase, !entry.stashed, entry.submitter, entry.number))?;
+    }
+    Ok(places)
 }
 
 // How many likes ran, by phase and page.
@@ -76,6 +97,12 @@ impl Likes {
         }
     }
 
+    fn add_all(&mut self, ran: &[Ran]) {
+        for entry in ran {
+            self.add(entry);
+        }
+    }
+
     fn within(&self, phase: u32, page: u32) -> u64 {
         match self.rows.get(phase as usize) {
             Some(row) => row.get(page as usize).copied().unwrap_or(0),
@@ -95,62 +122,92 @@ impl Likes {
     }
 }
 
-// Whether each count that a worker's looks were shown lies between: at least all likes of earlier phases and its own ones
-// before in its phase, and at most all likes up to that phase less its own later ones in it.
-fn has_right_counts(alloc: Global, ran: &[Ran], all: &Likes) -> Result<bool, Fail> {
-    let up_to = all.up_to(alloc)?;
-    let phases = u32::try_from(all.rows.len())?;
-    let mut own = Likes::none(alloc, phases)?;
-    for entry in ran {
-        own.add(entry);
-    }
-    let mut before = Likes::none(alloc, phases)?;
-    for entry in ran {
+// What the counts that a worker's looks were shown have to lie between.
+#[derive(Clone, Copy)]
+struct Bounds<'a> {
+    // All likes, in each phase and up to it, and the worker's own ones.
+    all: &'a Likes,
+    up_to: &'a Likes,
+    own: &'a Likes,
+}
+
+impl Bounds<'_> {
+    // Whether the count that an entry was shown, if one was, lies between: at least all likes of earlier phases and the
+    // worker's own ones before in its phase, and at most all likes up to that phase less its own later ones in it.
+    fn hold(self, entry: &Ran, before: &Likes) -> bool {
+        let Reply::Seen { count, .. } = entry.reply else {
+            return true;
+        };
         let (phase, page) = (entry.phase, asked(entry.number).1);
-        if let Reply::Seen { count, .. } = entry.reply {
-            let so_far = up_to.within(phase, page);
-            let made = before.within(phase, page);
-            let least = so_far
-                .saturating_sub(all.within(phase, page))
-                .saturating_add(made);
-            let later = own.within(phase, page).saturating_sub(made);
-            if count < least || count > so_far.saturating_sub(later) {
-                return Ok(false);
-            }
-        }
-        before.add(entry);
+        let so_far = self.up_to.within(phase, page);
+        let made = before.within(phase, page);
+        let later = self.own.within(phase, page).saturating_sub(made);
+        let earlier = so_far.saturating_sub(self.all.within(phase, page));
+        earlier.saturating_add(made) <= count && count <= so_far.saturating_sub(later)
     }
-    Ok(true)
+
+    // Whether they hold for each entry, beside the likes before it, of which there are none at first.
+    fn hold_for(self, ran: &[Ran], mut before: Likes) -> bool {
+        for entry in ran {
+            if !self.hold(entry, &before) {
+                return false;
+            }
+            before.add(entry);
+        }
+        true
+    }
+}
+
+fn has_right_counts(
+    alloc: Global,
+    ran: &[Ran],
+    all: &Likes,
+    phases: u32,
+) -> Result<bool, AllocError> {
+    let mut own = Likes::none(alloc, phases)?;
+    own.add_all(ran);
+    let bounds = Bounds {
+        all,
+        up_to: &all.up_to(alloc)?,
+        own: &own,
+    };
+    Ok(bounds.hold_for(ran, Likes::none(alloc, phases)?))
 }
 
 fn likes_of(alloc: Global, logs: &[WorkerLog], phases: u32) -> Result<Likes, AllocError> {
     let mut all = Likes::none(alloc, phases)?;
     for log in logs {
-        for entry in log.ran.iter() {
-            all.add(entry);
-        }
+        all.add_all(&log.ran);
     }
     Ok(all)
 }
 
-#[test]
-fn runs_a_mixed_load(rt: HostRuntime) -> Result<(), Fail> {
-    let setup = MIXED_LOAD.setup(&rt, rt.alloc());
-    for _ in 0..100 {
-        let gate = Watch::new(Held::Nobody, 0);
-        let report = run(&rt, rt.alloc(), &setup, plans(rt.alloc())?, &gate)?;
-        assert_eq!(rt; report.counts.as_slice(), [4_000, 4_000].as_slice());
-        assert_eq!(rt; gate.calls(), (16_000, 16_000));
-        assert_eq!(rt; gate.phases(), report.phases.saturating_add(1));
-        let all = likes_of(rt.alloc(), &report.logs, gate.phases())?;
-        for log in report.logs.iter() {
-            let mut ran = Vec::new(rt.alloc());
-            for entry in log.ran.iter() {
-                ran.push((entry.phase, !entry.stashed, entry.submitter, entry.number))?;
-            }
-            assert!(rt; ran == order(rt.alloc(), &log.taken)?);
-            assert!(rt; has_right_counts(rt.alloc(), &log.ran, &all)?);
-        }
+fn has_run_order(alloc: Global, log: &WorkerLog) -> Result<bool, AllocError> {
+    Ok(places(alloc, &log.ran)? == order(alloc, &log.taken)?)
+}
+
+// Asserts that each worker ran in run order, and that its looks were shown right counts.
+fn assert_logs(rt: &impl Abort, alloc: Global, logs: &[WorkerLog], phases: u32) {
+    let all = likes_of(alloc, logs, phases).expect(rt, "memory");
+    for log in logs {
+        assert!(rt; matches!(has_run_order(alloc, log), Ok(true)));
+        assert!(rt; matches!(has_right_counts(alloc, &log.ran, &all, phases), Ok(true)));
     }
-    Ok(())
+}
+
+fn assert_run(rt: &(impl Abort + Threads + Wait + Sync), alloc: Global) {
+    let gate = Watch::idle();
+    let plans = plans(alloc).expect(rt, "memory");
+    let report = MIXED_LOAD.report(rt, alloc, plans, &gate);
+    assert!(rt; report.counts.as_slice() == [4_000, 4_000].as_slice());
+    assert!(rt; gate.calls() == (16_000, 16_000));
+    assert!(rt; gate.phases() == report.phases.saturating_add(1));
+    assert_logs(rt, alloc, &report.logs, gate.phases());
+}
+
+#[test]
+fn runs_a_mixed_load(rt: HostRuntime) {
+    for _ in 0..100 {
+        assert_run(&rt, rt.alloc());
+    }
 }

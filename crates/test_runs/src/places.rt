@@ -1,9 +1,12 @@
 //! Where the additions of runs stand.
 use super::cases::{Case, PLAIN_LIKES, SPLIT_AND_STASH, TWO_SLICES};
-use super::watch::{Held, Watch};
+use super::watch::Watch;
 use like_replies::{Place, Report};
-use like_run::{replay_noting, run, run_noting};
+use like_run::{replay_noting, run_noting};
+use std::alloc::{AllocError, Global};
 use std::process::Abort;
+use std::sync::Wait;
+use std::thread::Threads;
 
 // Three likes of one worker in phase 1 are one addition.
 const MERGED: Case = Case {
@@ -13,71 +16,93 @@ const MERGED: Case = Case {
     ..SPLIT_AND_STASH
 };
 
-// Where an addition stands: worker, phase, the count before and how many likes.
-type Placed = (u32, u32, u64, u64);
-
-// The places of the one page of a case.
-const PLACES: [(Case, &[Placed]); 3] = [
-    (PLAIN_LIKES, &[(0, 0, 10, 1), (0, 0, 11, 1), (0, 0, 12, 1)]),
-    (TWO_SLICES, &[(0, 1, 100, 1), (1, 1, 101, 1)]),
-    (MERGED, &[(0, 1, 10, 3)]),
+// A case of one page, and where its additions stand: worker, phase, the count before and how many likes of each.
+const PLACES: &[(&Case, &str)] = &[
+    (&PLAIN_LIKES, "0.0.10.1 0.0.11.1 0.0.12.1 "),
+    (&TWO_SLICES, "0.1.100.1 1.1.101.1 "),
+    (&MERGED, "0.1.10.3 "),
 ];
 
-fn the_page<'a>(rt: &impl Abort, report: &'a Report) -> &'a [Place] {
-    assert_eq!(rt; report.places.len(), 1);
-    report.places.first().expect(rt, "a page")
+// A test that takes them from here has none of their texts in its proof, as it would with a constant.
+fn all_places() -> &'static [(&'static Case, &'static str)] {
+    PLACES
 }
 
-fn assert_placed(rt: &impl Abort, page: &[Place], places: &[Placed]) {
-    assert_eq!(rt; page.len(), places.len());
-    for (place, wanted) in page.iter().zip(places) {
-        assert_eq!(rt; (place.worker, place.phase, place.old, place.n), *wanted);
+fn text_of(alloc: Global, places: &[Place]) -> Result<String, AllocError> {
+    let mut text = String::new(alloc);
+    for place in places {
+        let word = format!(in alloc;
+            "{}.{}.{}.{} ",
+            place.worker, place.phase, place.old, place.n
+        )?;
+        text.push_str(&word)?;
     }
+    Ok(text)
+}
+
+// Asserts where the additions to the one page of a report stand.
+fn assert_placed(rt: &impl Abort, alloc: Global, report: &Report, wanted: &str) {
+    assert!(rt; report.places.len() == 1);
+    let page = report.places.first().expect(rt, "a page");
+    let text = text_of(alloc, page).expect(rt, "memory");
+    assert!(rt; text.as_str() == wanted, "{text}");
 }
 
 #[test]
 fn places_of_scripts(rt: HostRuntime) {
-    for (case, places) in PLACES {
+    for (case, places) in all_places() {
         let report = case.replay(&rt, rt.alloc()).expect(&rt, "a report");
-        assert_placed(&rt, the_page(&rt, &report), places);
+        assert_placed(&rt, rt.alloc(), &report, places);
     }
 }
 
-// Asserts that worker 0 made three additions of one like each, from a count of 10 on.
-fn assert_placed_singly(rt: &impl Abort, page: &[Place]) {
-    assert_eq!(rt; page.len(), 3);
-    for (place, old) in page.iter().zip(10..) {
-        assert_eq!(rt; (place.worker, place.old, place.n), (0, old, 1));
+// Whether worker 0 made three additions of one like each, from a count of 10 on.
+fn are_placed_singly(places: &[Place]) -> bool {
+    let mut old = 10_u64;
+    for place in places {
+        if place.worker != 0 || place.old != old || place.n != 1 {
+            return false;
+        }
+        old = old.saturating_add(1);
     }
+    old == 13
 }
 
 // On threads the likes run in any phase.
 #[test]
 fn places_on_threads(rt: HostRuntime) {
-    let setup = PLAIN_LIKES.setup(&rt, rt.alloc());
-    let plans = PLAIN_LIKES.plans(&rt, rt.alloc(), &setup);
-    let gate = Watch::new(Held::Nobody, 0);
-    let report = run(&rt, rt.alloc(), &setup, plans, &gate).expect(&rt, "a report");
-    assert_placed_singly(&rt, the_page(&rt, &report));
+    let plans = PLAIN_LIKES.plans(&rt, rt.alloc());
+    let report = PLAIN_LIKES.report(&rt, rt.alloc(), plans, &Watch::idle());
+    assert!(rt; report.places.len() == 1);
+    let page = report.places.first().expect(&rt, "a page");
+    assert!(rt; are_placed_singly(page));
 }
 
 // Asserts that a report of plain likes has their count, and no places.
 fn assert_none(rt: &impl Abort, report: &Report) {
-    assert_eq!(rt; report.counts.as_slice(), [13].as_slice());
+    assert!(rt; report.counts.as_slice() == [13].as_slice());
     assert!(rt; report.places.is_empty());
     for log in report.logs.iter() {
         assert!(rt; log.adds.is_empty());
     }
 }
 
+// The report of a replay that notes no additions.
+fn replayed_unnoted(rt: &impl Abort, alloc: Global) -> Report {
+    let setup = PLAIN_LIKES.setup(rt, alloc);
+    let plans = PLAIN_LIKES.plans(rt, alloc);
+    replay_noting(alloc, &setup, plans, &[], false).expect(rt, "a report")
+}
+
+// The report of a run that notes none.
+fn ran_unnoted(rt: &(impl Abort + Threads + Wait + Sync), alloc: Global) -> Report {
+    let setup = PLAIN_LIKES.setup(rt, alloc);
+    let plans = PLAIN_LIKES.plans(rt, alloc);
+    run_noting(rt, alloc, &setup, plans, &Watch::idle(), false).expect(rt, "a report")
+}
+
 #[test]
 fn notes_no_places_where_none_are_asked(rt: HostRuntime) {
-    let setup = PLAIN_LIKES.setup(&rt, rt.alloc());
-    let plans = PLAIN_LIKES.plans(&rt, rt.alloc(), &setup);
-    let report = replay_noting(rt.alloc(), &setup, plans, &[], false).expect(&rt, "a report");
-    assert_none(&rt, &report);
-    let plans = PLAIN_LIKES.plans(&rt, rt.alloc(), &setup);
-    let gate = Watch::new(Held::Nobody, 0);
-    let report = run_noting(&rt, rt.alloc(), &setup, plans, &gate, false).expect(&rt, "a report");
-    assert_none(&rt, &report);
+    assert_none(&rt, &replayed_unnoted(&rt, rt.alloc()));
+    assert_none(&rt, &ran_unnoted(&rt, rt.alloc()));
 }

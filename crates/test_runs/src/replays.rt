@@ -3,77 +3,93 @@ use super::cases::{
     Case, FULL_STASH, LATE_WORKER, SMALL, SPLIT_AND_STASH, STASH_THEN_LIKE, TWO_SLICES, likes,
 };
 use like_replies::Report;
-use like_requests::SettingsFault;
-use like_roles::{Chosen, WorkerLog};
-use like_run::{ReplayFault, replay};
-use std::alloc::Global;
+use like_roles::{Chosen, Ran, Took};
+use like_run::ReplayFault;
+use std::alloc::{AllocError, Global};
 use std::process::Abort;
 
-// What a worker took: phase, submitter and number.
-type Taken = (u32, u32, u32);
-
-// What a worker ran: phase, submitter, number and whether it was stashed.
-type Entry = (u32, u32, u32, bool);
-
-// What a worker of a case takes, and in which order it runs that.
-const LOGS: [(Case, usize, &[Taken], &[Entry]); 7] = [
-    (
-        SPLIT_AND_STASH,
-        0,
-        &[(1, 0, 1), (1, 0, 2)],
-        &[(1, 0, 1, false), (2, 0, 2, true)],
-    ),
-    (LATE_WORKER, 0, &[], &[]),
-    (
-        LATE_WORKER,
-        1,
-        &[(1, 1, 1), (1, 1, 2)],
-        &[(2, 1, 1, true), (2, 1, 2, true)],
-    ),
-    (
-        STASH_THEN_LIKE,
-        0,
-        &[(1, 0, 1), (1, 0, 2)],
-        &[(1, 0, 2, false), (2, 0, 1, true)],
-    ),
-    (
-        FULL_STASH,
-        0,
-        &[(1, 0, 1), (2, 0, 2)],
-        &[(2, 0, 1, true), (2, 0, 2, false)],
-    ),
-    (
-        TWO_SLICES,
-        0,
-        &[(1, 0, 1), (1, 0, 2)],
-        &[(1, 0, 1, false), (2, 0, 2, true)],
-    ),
-    (TWO_SLICES, 1, &[(1, 1, 1)], &[(1, 1, 1, false)]),
+// A case, a worker of it, what that takes, and in which order it runs it. `1.0.2` is request 2 of submitter 0 in phase 1,
+// and `2.0.2+` one that was stashed.
+const LOGS: &[(&Case, usize, &str, &str)] = &[
+    (&SPLIT_AND_STASH, 0, "1.0.1 1.0.2 ", "1.0.1 2.0.2+ "),
+    (&LATE_WORKER, 0, "", ""),
+    (&LATE_WORKER, 1, "1.1.1 1.1.2 ", "2.1.1+ 2.1.2+ "),
+    (&STASH_THEN_LIKE, 0, "1.0.1 1.0.2 ", "1.0.2 2.0.1+ "),
+    (&FULL_STASH, 0, "1.0.1 2.0.2 ", "2.0.1+ 2.0.2 "),
+    (&TWO_SLICES, 0, "1.0.1 1.0.2 ", "1.0.1 2.0.2+ "),
+    (&TWO_SLICES, 1, "1.1.1 ", "1.1.1 "),
 ];
 
-fn assert_taken(rt: &impl Abort, log: &WorkerLog, wanted: &[Taken]) {
-    assert_eq!(rt; log.taken.len(), wanted.len());
-    for (took, wanted) in log.taken.iter().zip(wanted) {
-        assert_eq!(rt; (took.phase, took.submitter, took.number), *wanted);
-    }
+// A test that takes them from here has none of their texts in its proof, as it would with a constant.
+fn all_logs() -> &'static [(&'static Case, usize, &'static str, &'static str)] {
+    LOGS
 }
 
-fn assert_ran(rt: &impl Abort, log: &WorkerLog, wanted: &[Entry]) {
-    assert_eq!(rt; log.ran.len(), wanted.len());
-    for (entry, wanted) in log.ran.iter().zip(wanted) {
-        let shown = (entry.phase, entry.submitter, entry.number, entry.stashed);
-        assert_eq!(rt; shown, *wanted);
+fn taken_text(alloc: Global, taken: &[Took]) -> Result<String, AllocError> {
+    let mut text = String::new(alloc);
+    for took in taken {
+        let (phase, submitter, number) = (took.phase, took.submitter, took.number);
+        let word = format!(in alloc; "{phase}.{submitter}.{number} ")?;
+        text.push_str(&word)?;
     }
+    Ok(text)
+}
+
+fn ran_text(alloc: Global, ran: &[Ran]) -> Result<String, AllocError> {
+    let mut text = String::new(alloc);
+    for entry in ran {
+        let (phase, submitter, number) = (entry.phase, entry.submitter, entry.number);
+        let mark = if entry.stashed { "+" } else { "" };
+        let word = format!(in alloc; "{phase}.{submitter}.{number}{mark} ")?;
+        text.push_str(&word)?;
+    }
+    Ok(text)
+}
+
+// Asserts that a text was made, and is this.
+fn assert_text(rt: &impl Abort, text: Result<String, AllocError>, wanted: &str) {
+    let text = text.expect(rt, "memory");
+    assert!(rt; text.as_str() == wanted, "{text}");
+}
+
+fn assert_log(
+    rt: &impl Abort,
+    alloc: Global,
+    report: &Report,
+    worker: usize,
+    taken: &str,
+    ran: &str,
+) {
+    let log = report.logs.get(worker).expect(rt, "a log");
+    assert_text(rt, taken_text(alloc, &log.taken), taken);
+    assert_text(rt, ran_text(alloc, &log.ran), ran);
 }
 
 #[test]
 fn logs_of_scripts(rt: HostRuntime) {
-    for (case, worker, taken, ran) in LOGS {
+    for (case, worker, taken, ran) in all_logs() {
         let report = case.replay(&rt, rt.alloc()).expect(&rt, "a report");
-        let log = report.logs.get(worker).expect(&rt, "a log");
-        assert_taken(&rt, log, taken);
-        assert_ran(&rt, log, ran);
+        assert_log(&rt, rt.alloc(), &report, *worker, taken, ran);
     }
+}
+
+// What a replay ends in: its hot pages, its counts and its last phase, or its fault.
+fn end_text(alloc: Global, replayed: &Result<Report, ReplayFault>) -> Result<String, AllocError> {
+    match replayed {
+        Ok(
+            Report {
+                hot,
+                counts,
+                phases,
+                ..
+            },
+        ) => { format!(in alloc; "{hot:?} {counts:?} {phases}") }
+        Err(fault) => format!(in alloc; "{fault:?}"),
+    }
+}
+
+fn assert_end(rt: &impl Abort, alloc: Global, replayed: &Result<Report, ReplayFault>, end: &str) {
+    assert_text(rt, end_text(alloc, replayed), end);
 }
 
 // Example `hot-choice`: the page is hot in phase 3, so the look that is taken there waits for phase 4.
@@ -86,32 +102,51 @@ const HOT_CHOICE: Case = Case {
 
 #[test]
 fn chooses_hot_pages(rt: HostRuntime) {
-    let report = HOT_CHOICE.replay(&rt, rt.alloc()).expect(&rt, "a report");
-    let hot = Chosen { phase: 3, mask: 1 };
-    assert_eq!(rt; report.hot.as_slice(), [hot].as_slice());
-    assert_eq!(rt; report.phases, 6);
+    let alloc = rt.alloc();
+    let replayed = HOT_CHOICE.replay(&rt, alloc);
+    assert_end(
+        &rt,
+        alloc,
+        &replayed,
+        "[Chosen { phase: 3, mask: 1 }] [2] 6",
+    );
     let case = Case {
         hot: Some(3),
         ..HOT_CHOICE
     };
-    let report = case.replay(&rt, rt.alloc()).expect(&rt, "a report");
-    assert!(rt; report.hot.is_empty());
-    assert_eq!(rt; report.phases, 4);
+    assert_end(&rt, alloc, &case.replay(&rt, alloc), "[] [2] 4");
 }
 
-// Asserts that entry n of a log ran in phase n, and is number n.
-fn assert_ran_by_phase(rt: &impl Abort, log: &WorkerLog) {
-    for (entry, phase) in log.ran.iter().zip(1..=2_060) {
-        assert_eq!(rt; (entry.phase, entry.number), (phase, phase));
+// Whether entry n of a log ran in phase n and is number n, from 1 on.
+fn ran_by_phase(ran: &[Ran]) -> bool {
+    let mut phase = 0_u32;
+    for entry in ran {
+        phase = phase.saturating_add(1);
+        if entry.phase != phase || entry.number != phase {
+            return false;
+        }
     }
+    true
 }
 
-// Asserts that page 0 alone was chosen for 1,024 phases, of which phase 3 is the first.
-fn assert_hot_in_odd_phases(rt: &impl Abort, hot: &[Chosen]) {
-    assert_eq!(rt; hot.len(), 1_024);
-    for (chosen, phase) in hot.iter().zip((3..=2_049).step_by(2)) {
-        assert_eq!(rt; *chosen, Chosen { phase, mask: 1 });
+// Whether page 0 alone was chosen for each odd phase from 3 on.
+fn is_hot_in_odd_phases(hot: &[Chosen]) -> bool {
+    let mut phase = 1_u32;
+    for chosen in hot {
+        phase = phase.saturating_add(2);
+        if chosen.phase != phase || chosen.mask != 1 {
+            return false;
+        }
     }
+    true
+}
+
+// Asserts that like n of 2,060 ran in phase n, and that page 0 alone was hot in 1,024 odd phases, of which 3 is the first.
+fn assert_hot_in_1024_phases(rt: &impl Abort, report: &Report) {
+    let log = report.logs.first().expect(rt, "a log");
+    assert!(rt; log.ran.len() == 2_060 && ran_by_phase(&log.ran));
+    assert!(rt; report.counts.as_slice() == [2_060].as_slice());
+    assert!(rt; report.hot.len() == 1_024 && is_hot_in_odd_phases(&report.hot));
 }
 
 // Like n of 2,060 runs in phase n, so the page is hot in each odd phase from 3 on, until 1,024 had hot pages.
@@ -121,12 +156,9 @@ fn chooses_in_1024_phases_at_most(rt: HostRuntime) {
         hot: Some(1),
         ..HOT_CHOICE
     };
-    let setup = case.setup(&rt, rt.alloc());
     let plans = likes(&rt, rt.alloc(), 1, 2_060);
-    let report = replay(rt.alloc(), &setup, plans, &[]).expect(&rt, "a report");
-    assert_ran_by_phase(&rt, report.logs.first().expect(&rt, "a log"));
-    assert_eq!(rt; report.counts.as_slice(), [2_060].as_slice());
-    assert_hot_in_odd_phases(&rt, &report.hot);
+    let report = case.replay_plans(&rt, rt.alloc(), plans);
+    assert_hot_in_1024_phases(&rt, &report.expect(&rt, "a report"));
 }
 
 #[test]
@@ -137,35 +169,24 @@ fn names_the_entry_that_is_not_there(rt: HostRuntime) {
         script: "w0 w5",
         ..SMALL
     };
-    match case.replay(&rt, rt.alloc()) {
-        Ok(_) => panic!(rt; "a report"),
-        Err(fault) => assert_eq!(rt;
-            fault,
-            ReplayFault::Settings(SettingsFault::Script { at: 1 })
-        ),
-    }
+    let replayed = case.replay(&rt, rt.alloc());
+    assert_end(&rt, rt.alloc(), &replayed, "Settings(Script { at: 1 })");
 }
 
-// Replays so many likes of one user, without a script.
-fn many_likes(rt: &impl Abort, alloc: Global, number: u32) -> Result<Report, ReplayFault> {
+#[test]
+fn a_replay_has_a_million_rounds(rt: HostRuntime) {
     let case = Case {
         turns: 1_000_000,
         pages: "a,0,no\n",
         ..SMALL
     };
-    let setup = case.setup(rt, alloc);
-    replay(alloc, &setup, likes(rt, alloc, 1, number), &[])
-}
-
-#[test]
-fn a_replay_has_a_million_rounds(rt: HostRuntime) {
-    for number in [1_000_000, 999_998] {
-        match many_likes(&rt, rt.alloc(), number) {
-            Ok(_) => panic!(rt; "finished"),
-            Err(fault) => assert_eq!(rt; fault, ReplayFault::Unfinished),
-        }
+    for (number, end) in [
+        (1_000_000, "Unfinished"),
+        (999_998, "Unfinished"),
+        (999_997, "[] [999997] 0"),
+    ] {
+        let plans = likes(&rt, rt.alloc(), 1, number);
+        let replayed = case.replay_plans(&rt, rt.alloc(), plans);
+        assert_end(&rt, rt.alloc(), &replayed, end);
     }
-    let report = many_likes(&rt, rt.alloc(), 999_997).expect(&rt, "a report");
-    assert_eq!(rt; report.counts.as_slice(), [999_997].as_slice());
-    assert_eq!(rt; report.phases, 0);
 }

@@ -1,10 +1,10 @@
 //! Runs on threads. What is asserted of them is the same on every schedule.
 use super::cases::{Case, ONE_PAGE, PLAIN_LIKES, likes};
 use super::watch::{Held, Watch};
-use like_replies::Report;
-use like_requests::SettingsFault;
+use like_replies::{Answer, Report};
+use like_requests::{Request, SettingsFault};
 use like_roles::Reply;
-use like_run::{RunFault, run, run_limited};
+use like_run::{RunFault, run_limited};
 use std::alloc::Global;
 use std::process::Abort;
 use std::sync::Wait;
@@ -12,6 +12,16 @@ use std::thread::Threads;
 
 // How many times a gate looks before it gives up.
 const LOOKS: u32 = 1 << 24;
+
+// Whether so many submitters have so many replies each, all of them `Liked`.
+fn are_all_liked(rows: &[Vec<Answer>], submitters: usize, each: usize) -> bool {
+    for row in rows {
+        if row.len() != each || !row.iter().all(|answer| answer.reply == Reply::Liked) {
+            return false;
+        }
+    }
+    rows.len() == submitters
+}
 
 // Asserts that so many submitters have so many replies each, all of them `Liked`, and that so many users like the page,
 // whose count this is.
@@ -23,26 +33,16 @@ fn assert_liked(
     users: usize,
     count: u64,
 ) {
-    assert_eq!(rt; report.replies.rows.len(), submitters);
-    for row in report.replies.rows.iter() {
-        assert_eq!(rt; row.len(), each);
-        for answer in row {
-            assert_eq!(rt; answer.reply, Reply::Liked);
-        }
-    }
-    assert_eq!(rt; report.counts.as_slice(), [count].as_slice());
-    assert_eq!(rt; report.last.len(), users);
-    for last in report.last.iter() {
-        assert_eq!(rt; *last, Some(0));
-    }
+    assert!(rt; are_all_liked(&report.replies.rows, submitters, each));
+    assert!(rt; report.counts.as_slice() == [count].as_slice());
+    assert!(rt; report.last.len() == users);
+    assert!(rt; report.last.iter().all(|last| *last == Some(0)));
 }
 
 #[test]
 fn runs_plain_likes(rt: HostRuntime) {
-    let setup = PLAIN_LIKES.setup(&rt, rt.alloc());
-    let plans = PLAIN_LIKES.plans(&rt, rt.alloc(), &setup);
-    let gate = Watch::new(Held::Nobody, 0);
-    let report = run(&rt, rt.alloc(), &setup, plans, &gate).expect(&rt, "a report");
+    let plans = PLAIN_LIKES.plans(&rt, rt.alloc());
+    let report = PLAIN_LIKES.report(&rt, rt.alloc(), plans, &Watch::idle());
     assert_liked(&rt, &report, 1, 3, 2, 13);
 }
 
@@ -55,12 +55,11 @@ fn runs_many_submitters(rt: HostRuntime) {
             turns,
             ..ONE_PAGE
         };
-        let setup = case.setup(&rt, rt.alloc());
         let plans = likes(&rt, rt.alloc(), 64, 1_000);
-        let gate = Watch::new(Held::Nobody, 0);
-        let report = run(&rt, rt.alloc(), &setup, plans, &gate).expect(&rt, "a report");
+        let gate = Watch::idle();
+        let report = case.report(&rt, rt.alloc(), plans, &gate);
         assert_liked(&rt, &report, 64, 1_000, 64, 64_000);
-        assert_eq!(rt; gate.calls(), (64_000, 64_000));
+        assert!(rt; gate.calls() == (64_000, 64_000));
     }
 }
 
@@ -71,12 +70,11 @@ fn tells_the_gate_who_pushes(rt: HostRuntime) {
         requests: &["like,0,a\nlike,0,a\n", "like,1,a\nlike,1,a\nlike,1,a\n"],
         ..ONE_PAGE
     };
-    let setup = case.setup(&rt, rt.alloc());
-    let plans = case.plans(&rt, rt.alloc(), &setup);
-    let gate = Watch::new(Held::Nobody, 0);
-    let report = run(&rt, rt.alloc(), &setup, plans, &gate).expect(&rt, "a report");
-    assert_eq!(rt; report.counts.as_slice(), [5].as_slice());
-    assert_eq!(rt; gate.sums(), (1 + 2, 1 + 2 + 3));
+    let plans = case.plans(&rt, rt.alloc());
+    let gate = Watch::idle();
+    let report = case.report(&rt, rt.alloc(), plans, &gate);
+    assert!(rt; report.counts.as_slice() == [5].as_slice());
+    assert!(rt; gate.sums() == (1 + 2, 1 + 2 + 3));
 }
 
 // Asserts that a run with a gate that holds calls ends with two likes, that both calls were made, and that none waited
@@ -86,21 +84,19 @@ fn assert_held(
     alloc: Global,
     held: Held,
     case: &Case,
-    submitters: u32,
-    each: u32,
+    plans: Vec<Vec<Request>>,
 ) {
-    let setup = case.setup(rt, alloc);
-    let plans = likes(rt, alloc, submitters, each);
     let gate = Watch::new(held, LOOKS);
-    let report = run(rt, alloc, &setup, plans, &gate).expect(rt, "a report");
-    assert_eq!(rt; gate.made(), 2);
+    let report = case.report(rt, alloc, plans, &gate);
+    assert!(rt; gate.made() == 2);
     assert!(rt; !gate.gave_up());
-    assert_eq!(rt; report.counts.as_slice(), [2].as_slice());
+    assert!(rt; report.counts.as_slice() == [2].as_slice());
 }
 
 #[test]
 fn runs_workers_side_by_side(rt: HostRuntime) {
-    assert_held(&rt, rt.alloc(), Held::Workers, &ONE_PAGE, 2, 1);
+    let plans = likes(&rt, rt.alloc(), 2, 1);
+    assert_held(&rt, rt.alloc(), Held::Workers, &ONE_PAGE, plans);
 }
 
 #[test]
@@ -112,7 +108,8 @@ fn runs_a_submitter_beside_its_worker(rt: HostRuntime) {
         hot: None,
         ..ONE_PAGE
     };
-    assert_held(&rt, rt.alloc(), Held::SecondRequest, &case, 1, 2);
+    let plans = likes(&rt, rt.alloc(), 1, 2);
+    assert_held(&rt, rt.alloc(), Held::SecondRequest, &case, plans);
 }
 
 #[test]
@@ -121,27 +118,36 @@ fn runs_submitters_side_by_side(rt: HostRuntime) {
         workers: 1,
         ..ONE_PAGE
     };
-    assert_held(&rt, rt.alloc(), Held::Submitters, &case, 2, 1);
+    let plans = likes(&rt, rt.alloc(), 2, 1);
+    assert_held(&rt, rt.alloc(), Held::Submitters, &case, plans);
+}
+
+// What a run of two likes with at most so many threads ends in.
+fn limited(
+    rt: &(impl Abort + Threads + Wait + Sync),
+    alloc: Global,
+    gate: &Watch,
+    starts: u32,
+) -> Result<Report, RunFault> {
+    let setup = ONE_PAGE.setup(rt, alloc);
+    run_limited(rt, alloc, &setup, likes(rt, alloc, 2, 1), gate, starts)
+}
+
+// Asserts that a run with at most so many threads, which are too few, makes no call.
+fn assert_not_started(rt: &(impl Abort + Threads + Wait + Sync), alloc: Global, starts: u32) {
+    let gate = Watch::idle();
+    let fault = limited(rt, alloc, &gate, starts).err();
+    assert!(rt; fault == Some(RunFault::Start));
+    assert!(rt; gate.calls() == (0, 0) && gate.phases() == 0);
 }
 
 #[test]
 fn starts_no_more_than_it_may(rt: HostRuntime) {
-    let setup = ONE_PAGE.setup(&rt, rt.alloc());
-    for starts in 0..5 {
-        let plans = likes(&rt, rt.alloc(), 2, 1);
-        let gate = Watch::new(Held::Nobody, 0);
-        match run_limited(&rt, rt.alloc(), &setup, plans, &gate, starts) {
-            Ok(report) => {
-                assert_eq!(rt; starts, 4);
-                assert_liked(&rt, &report, 2, 1, 2, 2);
-            }
-            Err(fault) => {
-                assert_eq!(rt; (fault, starts < 4), (RunFault::Start, true));
-                assert_eq!(rt; gate.calls(), (0, 0));
-                assert_eq!(rt; gate.phases(), 0);
-            }
-        }
+    for starts in 0..4 {
+        assert_not_started(&rt, rt.alloc(), starts);
     }
+    let limited = limited(&rt, rt.alloc(), &Watch::idle(), 4);
+    assert_liked(&rt, &limited.expect(&rt, "a report"), 2, 1, 2, 2);
 }
 
 #[test]
@@ -150,11 +156,7 @@ fn names_the_limit_that_a_run_breaks(rt: HostRuntime) {
         workers: 17,
         ..ONE_PAGE
     };
-    let setup = case.setup(&rt, rt.alloc());
     let plans = likes(&rt, rt.alloc(), 2, 1);
-    let gate = Watch::new(Held::Nobody, 0);
-    match run(&rt, rt.alloc(), &setup, plans, &gate) {
-        Ok(_) => panic!(rt; "a report"),
-        Err(fault) => assert_eq!(rt; fault, RunFault::Settings(SettingsFault::Workers)),
-    }
+    let fault = case.run(&rt, rt.alloc(), plans, &Watch::idle()).err();
+    assert!(rt; fault == Some(RunFault::Settings(SettingsFault::Workers)));
 }

@@ -2,9 +2,8 @@
 //! until one has shown it, and so many at most.
 use super::cases::{Case, ONE_PAGE, likes, requests};
 use super::watch::{Held, Watch};
-use like_replies::Report;
 use like_requests::Op;
-use like_run::run;
+use like_roles::{Ran, WorkerLog};
 use std::alloc::Global;
 use std::process::Abort;
 use std::sync::Wait;
@@ -13,25 +12,22 @@ use std::thread::Threads;
 // The most runs that a test makes.
 const RUNS: u32 = 50;
 
-// Makes a run of so many likes of each submitter, with one worker and so many turns, and gives its gate back.
-fn watched(
+// Makes a run of so many likes of each submitter, with one worker and so many turns.
+fn watch(
     rt: &(impl Abort + Threads + Wait + Sync),
     alloc: Global,
     turns: u32,
     submitters: u32,
-    each: u32,
-    gate: Watch,
-) -> Watch {
+    each: usize,
+    gate: &Watch,
+) {
     let case = Case {
         workers: 1,
         turns,
         ..ONE_PAGE
     };
-    let setup = case.setup(rt, alloc);
-    let plans = likes(rt, alloc, submitters, each);
-    let report = run(rt, alloc, &setup, plans, &gate).expect(rt, "a report");
-    assert_eq!(rt; report.phases.saturating_add(1), gate.phases());
-    gate
+    let report = case.report(rt, alloc, likes(rt, alloc, submitters, each), gate);
+    assert!(rt; report.phases.saturating_add(1) == gate.phases());
 }
 
 // 16 submitters look until phase 400, and let others run after each look; the coordinator rests after 32 turns in a
@@ -41,7 +37,8 @@ fn watched(
 fn comes_soon_to_phases_of_no_turns(rt: HostRuntime) {
     for _ in 0..10 {
         let gate = Watch::new(Held::FirstRequests(400), 50_000);
-        if !watched(&rt, rt.alloc(), 0, 16, 1, gate).gave_up() {
+        watch(&rt, rt.alloc(), 0, 16, 1, &gate);
+        if !gate.gave_up() {
             return;
         }
     }
@@ -52,7 +49,7 @@ fn comes_soon_to_phases_of_no_turns(rt: HostRuntime) {
 fn stays_in_a_phase_of_many_turns(rt: HostRuntime) {
     for _ in 0..RUNS {
         let gate = Watch::new(Held::SecondRequest, 20_000);
-        let gate = watched(&rt, rt.alloc(), 1_000_000, 1, 2, gate);
+        watch(&rt, rt.alloc(), 1_000_000, 1, 2, &gate);
         if gate.gave_up() && gate.phases() == 1 {
             return;
         }
@@ -60,20 +57,27 @@ fn stays_in_a_phase_of_many_turns(rt: HostRuntime) {
     panic!(rt; "phase 2 came early in each run");
 }
 
-// The most entries that a worker ran in one phase from its stash.
-fn most_stashed(report: &Report) -> u32 {
-    let mut most = 0;
-    for log in report.logs.iter() {
-        let mut phase = 0;
-        let mut many = 0u32;
-        for entry in log.ran.iter().filter(|entry| entry.stashed) {
-            many = match entry.phase == phase {
-                true => many.saturating_add(1),
-                false => 1,
-            };
+// The most entries of a log that ran in one phase from the stash.
+fn most_stashed_of(ran: &[Ran]) -> u32 {
+    let (mut most, mut phase, mut many) = (0, 0, 0_u32);
+    for entry in ran {
+        if entry.stashed {
+            if entry.phase != phase {
+                many = 0;
+            }
+            many = many.saturating_add(1);
             phase = entry.phase;
             most = most.max(many);
         }
+    }
+    most
+}
+
+// The most entries that a worker ran in one phase from its stash.
+fn most_stashed(logs: &[WorkerLog]) -> u32 {
+    let mut most = 0;
+    for log in logs {
+        most = most.max(most_stashed_of(&log.ran));
     }
     most
 }
@@ -85,12 +89,11 @@ fn fill_stash(rt: &(impl Abort + Threads + Wait + Sync), alloc: Global, stash: u
         stash,
         ..ONE_PAGE
     };
-    let setup = case.setup(rt, alloc);
     let gate = Watch::new(Held::FirstRequests(1), 1 << 24);
     let plans = requests(rt, alloc, Op::Look, 1, 200);
-    let report = run(rt, alloc, &setup, plans, &gate).expect(rt, "a report");
+    let report = case.report(rt, alloc, plans, &gate);
     assert!(rt; !gate.gave_up());
-    most_stashed(&report)
+    most_stashed(&report.logs)
 }
 
 #[test]
@@ -100,6 +103,6 @@ fn fills_its_stash_and_no_other(rt: HostRuntime) {
         for _ in 0..RUNS {
             most = most.max(fill_stash(&rt, rt.alloc(), stash));
         }
-        assert_eq!(rt; most, stash);
+        assert!(rt; most == stash);
     }
 }

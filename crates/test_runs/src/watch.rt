@@ -75,6 +75,11 @@ impl Watch {
         }
     }
 
+    /// A gate that holds nobody.
+    pub fn idle() -> Watch {
+        Watch::new(Held::Nobody, 0)
+    }
+
     /// How many requests were pushed, and how many ran.
     pub fn calls(&self) -> (u32, u32) {
         (self.pushed.get(), self.ran.get())

@@ -1,49 +1,46 @@
-use Rattle.std.proofs.Common.{map}
+use Rattle.std.proofs.Common.{Option, Result, Ok, Err, IfErr, IfOk, List, ℕ}
 use Rattle.std.proofs.lemmas.Result.{err_from_is_err_and}
-use Rattle.like_requests.proofs.Planned.{plans-within}
-use Rattle.like_crew.specs.Asked.{asked}
-use Rattle.like_crew.specs.EndToEnd.{runs_of}
-use Rattle.like_files.specs.Inputs.{Inputs, inputs_of}
-use Rattle.like_files.specs.Replay.{GivesAll}
-use Rattle.like_files.proofs.Ended.{few_requests, one_list_a_page, replay-refused, replay-unwritten, writes}
-use Rattle.like_files.proofs.Planned.{requests_of}
-use Rattle.like_files.proofs.Writable.{IsWritable-end_to_end}
+use Rattle.like_requests.specs.Pages.{Page}
+use Rattle.like_requests.specs.declared.request.Request.{Request}
+use Rattle.like_script.specs.declared.turned.Turned.{Turned}
+use Rattle.like_crew.specs.Asked.{lists_of}
+use Rattle.like_replies.specs.declared.summary.Summary.{Summary}
+use Rattle.like_words.specs.declared.options.Options.{Options}
+use Rattle.like_files.specs.declared.fault.DriverFault.{DriverFault}
+use Rattle.like_files.specs.Inputs.{Inputs, inputs_of, setup_of}
+use Rattle.like_files.specs.Replay.{GivesAll, HasReplayed, HasReplayedLists, IsReplayFilesFault, IsReplayListsFault}
+use Rattle.like_files.proofs.Ended.{replay-fault, replay-unread}
 use Rattle.like_files.proofs.replay.replay_files_summed.Goals as goal
 
-pub write_text-requires-clause-writable : goal.write_text-requires-clause-writable
-write_text-requires-clause-writable g c =
-    IsWritable-end_to_end (asked c.with_pages-setup.result (map requests_of c.in_ok-plans.plans.items) (runs_of c.in_ok-report.report.logs.items)) (plans-within _ _ c.in_ok-report.ensures.fits.within)
-    c.with_pages-setup.result.workers c.in_ok-report.report c.in_ok-report.ensures.report
+-- what was replayed of these values was replayed of the files
+replayed : (options : Options) (inputs : Inputs) (pages : List Page) (plans : List (List Request)) (script : List Turned) (old new : Option (List ℕ)) (r : Result (Option Summary) DriverFault)
+    → GivesAll inputs pages plans script → IfOk r (HasReplayedLists options (setup_of options pages) plans script old new) → IfOk r (HasReplayed options inputs old new)
+replayed options inputs pages plans script old new (Ok summary) given done = record { pages = pages; plans = plans; script = script; given = given; fits = done.fits; reported = done.reported }
+replayed options inputs pages plans script old new (Err fault) given done = tt
 
-pub write_text-requires-clause-placed : goal.write_text-requires-clause-placed
-write_text-requires-clause-placed g c wanted =
-    one_list_a_page c.with_pages-setup.result (map requests_of c.in_ok-plans.plans.items) c.in_ok-report.report (c.in_ok-report.ensures.places wanted)
+-- and so is why it was not
+refused : (options : Options) (inputs : Inputs) (pages : List Page) (plans : List (List Request)) (script : List Turned) (r : Result (Option Summary) DriverFault) → GivesAll inputs pages plans script
+    → IfErr r (IsReplayListsFault (setup_of options pages) plans script) → IfErr r (IsReplayFilesFault options inputs)
+refused options inputs pages plans script (Ok summary) given why = tt
+refused options inputs pages plans script (Err fault) given why = replay-fault options inputs pages plans script given fault why
 
-pub returns-in_err-report-clause-fault : goal.returns-in_err-report-clause-fault
-returns-in_err-report-clause-fault g c =
-    let inputs : Inputs = inputs_of g.R.Read.remaining c.args.pages c.args.requests.items c.args.script in
-    let given : GivesAll inputs c.in_ok-pages.pages (map requests_of c.in_ok-plans.plans.items) c.in_ok-script.script.items = record { lists = record { pages_given = c.in_ok-pages.ensures; plans_given = c.in_ok-plans.ensures }; script_given = c.in_ok-script.ensures.given } in
-    let p = err_from_is_err_and c.from_residual-in_err-report.result c.from_residual-in_err-report.ensures.1 in
-    rw (p.1, p.2) (replay-refused c.args.options.now inputs c.in_ok-pages.pages (map requests_of c.in_ok-plans.plans.items) c.in_ok-script.script.items given c.in_err-report.field-0.0
-    (rw (c.with_pages-setup.ensures, c.deref.ensures.value) at c.in_err-report.ensures.fault))
-
-pub returns-in_err-write_text-clause-fault : goal.returns-in_err-write_text-clause-fault
-returns-in_err-write_text-clause-fault g c =
-    let inputs : Inputs = inputs_of g.R.Read.remaining c.args.pages c.args.requests.items c.args.script in
-    let given : GivesAll inputs c.in_ok-pages.pages (map requests_of c.in_ok-plans.plans.items) c.in_ok-script.script.items = record { lists = record { pages_given = c.in_ok-pages.ensures; plans_given = c.in_ok-plans.ensures }; script_given = c.in_ok-script.ensures.given } in
-    let p = err_from_is_err_and c.from_residual-in_err-write_text.result c.from_residual-in_err-write_text.ensures.1 in
-    rw (p.1, p.2) (replay-unwritten c.args.options.now inputs c.in_ok-pages.pages (map requests_of c.in_ok-plans.plans.items) c.in_ok-script.script.items given c.in_err-write_text.field-0.0
-    (rw (c.with_pages-setup.ensures, c.deref.ensures.value) at c.in_ok-report.ensures.fits))
+pub returns-in_err-pages-clause-fault : goal.returns-in_err-pages-clause-fault
+returns-in_err-pages-clause-fault g c =
+    let p = err_from_is_err_and c.from_residual.result c.from_residual.ensures.1 in
+    rw (p.1, p.2) (replay-unread c.args.options.now (inputs_of g.R.Read.remaining c.args.pages c.args.requests.items c.args.script) c.in_err-pages.field-0.0 c.in_err-pages.ensures)
 
 pub returns-clause-replayed : goal.returns-clause-replayed
-returns-clause-replayed g c = record {
-  pages = c.in_ok-pages.pages;
-  plans = map requests_of c.in_ok-plans.plans.items;
-  script = c.in_ok-script.script.items;
-  given = record { lists = record { pages_given = c.in_ok-pages.ensures; plans_given = c.in_ok-plans.ensures }; script_given = c.in_ok-script.ensures.given };
-  fits = rw (c.with_pages-setup.ensures, c.deref.ensures.value) at c.in_ok-report.ensures.fits;
-  reported = writes c.args.options.now c.with_pages-setup.result _ (map requests_of c.in_ok-plans.plans.items) c.in_ok-report.report _ _ c.with_pages-setup.ensures c.in_ok-report.ensures.report c.in_ok-report.ensures.places c.in_ok-report.ensures.none c.in_ok-write_text.ensures c.asked_summary.ensures;
-}
+returns-clause-replayed g c =
+    let inputs : Inputs = inputs_of g.R.Read.remaining c.args.pages c.args.requests.items c.args.script in
+    let plans : List (List Request) = lists_of c.in_ok-pages.plans.items in
+    let script : List Turned = c.in_ok-script.script.items in
+    replayed c.args.options.now inputs c.in_ok-pages.pages plans script _ _ c.replay_lists.result (record { lists = c.in_ok-pages.ensures; script_given = c.in_ok-script.ensures.given })
+    (rw (c.with_pages-setup.ensures, c.deref.ensures.value) at c.replay_lists.ensures.replayed)
 
-pub asked_summary-requires : goal.asked_summary-requires
-asked_summary-requires g c = few_requests c.with_pages-setup.result (map requests_of c.in_ok-plans.plans.items) c.in_ok-report.report c.in_ok-report.ensures.fits.within c.in_ok-report.ensures.report
+pub returns-clause-fault : goal.returns-clause-fault
+returns-clause-fault g c =
+    let inputs : Inputs = inputs_of g.R.Read.remaining c.args.pages c.args.requests.items c.args.script in
+    let plans : List (List Request) = lists_of c.in_ok-pages.plans.items in
+    let script : List Turned = c.in_ok-script.script.items in
+    refused c.args.options.now inputs c.in_ok-pages.pages plans script c.replay_lists.result (record { lists = c.in_ok-pages.ensures; script_given = c.in_ok-script.ensures.given })
+    (rw (c.with_pages-setup.ensures, c.deref.ensures.value) at c.replay_lists.ensures.fault)
