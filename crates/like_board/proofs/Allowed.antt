@@ -283,6 +283,7 @@ finding_page {S} key slots id me page event next is reads does act = λ st shows
     record {
       view = refl;
       own = r.2;
+      bounded = r.3;
       step = act found w (subst (λ (y : Opening). IsStep y event (Count found) (Worker v) (Worker w)) (sym same) r.0);
     }
     in (

@@ -1,4 +1,4 @@
-use Rattle.std.specs.Prelude.{◌≡◌, ℕ, ◌≤◌, true}
+use Rattle.std.specs.Prelude.{◌≡◌, ℕ, ◌<◌, ◌≤◌, true}
 use Rattle.like_core.specs.declared.event.Event.TheVariants.{Look, CoordLook}
 use Rattle.like_core.specs.declared.shown.Shown.TheVariants.{Seen, Coord as CoordShown}
 use Rattle.like_core.specs.declared.opening.Opening.{Opening}
@@ -7,6 +7,7 @@ use Rattle.like_core.specs.declared.view.CoordSeatView.{CoordSeatView}
 use Rattle.like_core.specs.declared.view.View.{View}
 use Rattle.like_core.specs.declared.view.View.TheVariants.{Coord, Worker}
 use Rattle.like_core.specs.Phase.{IsSplit}
+use Rattle.like_core.specs.Limits.{total_bound}
 use Rattle.like_core.specs.OpeningLimits.{number_of}
 use Rattle.like_core.specs.word.Word.{Fields, packed, IsLawful}
 use Rattle.like_core.specs.views.Sights.{sight_of, coord_sight_of}
@@ -89,11 +90,12 @@ abbrev pub PageAct : Type 1
 PageAct = WorkerSeatView → ℕ → ℕ → WorkerSeatView → Type 0
 
 -- what a read of a page or a glance tells: the view after has it, with the count that it found; the worker's own
--- additions are in that; and it is the action
+-- additions are in that, and it is within the bound of all counts; and it is the action
 pub record TellsRead (does : PageAct) (next : WorkerSeatView → ℕ → ℕ → WorkerSeatView) (page : ℕ)
     (v : View) (found : ℕ) (w : View) : Type 0 where
   pub view : w ≡ Worker (next (worker_view_of v) page found)
   pub own : added_to page (worker_view_of v).additions ≤ found
+  pub bounded : found < total_bound
   pub step : let me = worker_view_of v in does me page found (next me page found)
 
 -- the same of a word

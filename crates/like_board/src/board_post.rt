@@ -1,4 +1,4 @@
-ghost use Rattle.std.specs.Prelude.{◌≡◌, ◌≢◌, ◌≤◌};
+ghost use Rattle.std.specs.Prelude.{◌≡◌, ◌<◌, ◌≢◌, ◌≤◌};
 
 use crate::board::Board;
 use crate::worker_seat::WorkerSeat;
@@ -28,6 +28,7 @@ impl BoardPost<'_> {
 
 impl Post for BoardPost<'_> {
     ghost use Rattle.like_core.specs.declared.worker_state.WorkerState.TheVariants.{Gone};
+    ghost use Rattle.like_core.specs.Limits.{total_bound};
     ghost use Rattle.like_core.specs.WorkerState.{RunsJoined, RunsSplit, SawEnding, IsSightWithin, SeesEndingStill, phase_of, seen};
     ghost use Rattle.like_core.specs.Post.{looked_at, answered, retired, added, has_read, has_glanced, with_mask, additions_of, MayAdd, MayRead, MayGlance};
     ghost use Rattle.like_core.specs.views.Views.{looked_view, answered_view, retired_view, added_view, read_view, glanced_view, masked_view};
@@ -113,6 +114,7 @@ impl Post for BoardPost<'_> {
         requires { MayGlance (post_meaning self.old) page }
         ensures view { post_meaning self.new ≡ has_glanced (post_meaning self.old) page result }
         ensures own { additions_of (post_meaning self.old) page ≤ result }
+        ensures bounded { result < total_bound }
         ensures board { post_board self.new ≡ post_board self.old }
         ensures known { post_view self.new ≡ glanced_view (post_view self.old) page result }
         ensures event { Glances (post_view self.old) page result (post_view self.new) }

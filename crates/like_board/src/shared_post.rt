@@ -1,4 +1,4 @@
-ghost use Rattle.std.specs.Prelude.{◌≡◌, ◌≢◌, ◌≤◌};
+ghost use Rattle.std.specs.Prelude.{◌≡◌, ◌<◌, ◌≢◌, ◌≤◌};
 ghost use Rattle.std.specs.Arc.{arc_value};
 
 use crate::board::Board;
@@ -30,6 +30,7 @@ impl SharedPost {
 
 impl Post for SharedPost {
     ghost use Rattle.like_core.specs.declared.worker_state.WorkerState.TheVariants.{Gone};
+    ghost use Rattle.like_core.specs.Limits.{total_bound};
     ghost use Rattle.like_core.specs.WorkerState.{RunsJoined, RunsSplit, SawEnding, IsSightWithin, SeesEndingStill, phase_of, seen};
     ghost use Rattle.like_core.specs.Post.{looked_at, answered, retired, added, has_read, has_glanced, with_mask, additions_of, MayAdd, MayRead, MayGlance};
     ghost use Rattle.like_core.specs.views.Views.{looked_view, answered_view, retired_view, added_view, read_view, glanced_view, masked_view};
@@ -115,6 +116,7 @@ impl Post for SharedPost {
         requires { MayGlance (shared_meaning self.old) page }
         ensures view { shared_meaning self.new ≡ has_glanced (shared_meaning self.old) page result }
         ensures own { additions_of (shared_meaning self.old) page ≤ result }
+        ensures bounded { result < total_bound }
         ensures board { shared_board self.new ≡ shared_board self.old }
         ensures known { shared_view self.new ≡ glanced_view (shared_view self.old) page result }
         ensures event { Glances (shared_view self.old) page result (shared_view self.new) }

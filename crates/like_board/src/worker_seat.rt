@@ -1,7 +1,7 @@
 ghost use Rattle.std.specs.Prelude.{◌≡◌, ◌≢◌, ◌<◌, ◌≤◌, [], length};
 ghost use Rattle.std.specs.Arc.{arc_value};
 ghost use Rattle.like_core.specs.declared.view.View.TheVariants.{Worker};
-ghost use Rattle.like_core.specs.Limits.{max_workers};
+ghost use Rattle.like_core.specs.Limits.{max_workers, total_bound};
 ghost use Rattle.like_core.specs.views.Layout.{word_of};
 ghost use Rattle.like_board.specs.Known.{worker_view_of};
 
@@ -157,6 +157,7 @@ impl WorkerSeat {
         ensures board { seat_board self.new ≡ seat_board self.old }
         ensures view { seat_view self.new ≡ glanced_view (seat_view self.old) page result }
         ensures own { added_to page (seat_view self.old).additions ≤ result }
+        ensures bounded { result < total_bound }
         ensures event { Glances (seat_view self.old) page result (seat_view self.new) }
     {
         let word = word_of(page);

@@ -1,5 +1,6 @@
-ghost use Rattle.std.specs.Prelude.{◌≡◌, ◌≢◌, ◌≤◌, true};
+ghost use Rattle.std.specs.Prelude.{◌≡◌, ◌≢◌, ◌<◌, ◌≤◌, true};
 ghost use Rattle.like_core.specs.declared.worker_state.WorkerState.TheVariants.{Gone};
+ghost use Rattle.like_core.specs.Limits.{total_bound};
 ghost use Rattle.like_core.specs.WorkerState.{RunsJoined, RunsSplit, SawEnding, IsSightWithin, SeesEndingStill, phase_of, seen};
 ghost use Rattle.like_core.specs.Post.{PostView, looked_at, answered, retired, added, has_read, has_glanced, with_mask, additions_of, MayAdd, MayRead, MayGlance};
 
@@ -56,7 +57,8 @@ pub trait Post {
     fn glance(&mut self, page: u32) -> u64
         requires { MayGlance (view self.old) page }
         ensures view { view self.new ≡ has_glanced (view self.old) page result }
-        ensures own { additions_of (view self.old) page ≤ result };
+        ensures own { additions_of (view self.old) page ≤ result }
+        ensures bounded { result < total_bound };
 
     /// The mask of the hot pages of the split phase that the worker runs: bit `p` is that of page `p`.
     fn hot(&mut self) -> u64

@@ -1,7 +1,10 @@
 pub mod Batches
 pub mod Calling
+pub mod Closing
 pub mod Finding
 pub mod Histories
 pub mod Moving
+pub mod Newly
 pub mod Requests
 pub mod Telling
+pub mod Turning

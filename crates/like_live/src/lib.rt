@@ -7,14 +7,22 @@
 mod answer;
 mod asked;
 mod call;
+mod driver;
+mod driver_answer;
 mod hint;
 mod laws;
 mod live_seat;
-#[cfg(test)]
-mod tests;
+mod open_error;
+mod opening;
+mod service;
 
 pub use answer::{LikeAnswer, LookAnswer, TurnAnswer};
 pub use asked::{Asked, Found};
 pub use call::{Answer, Call};
+pub use driver::Driver;
+pub use driver_answer::DriverAnswer;
 pub use laws::histories_are_counted;
 pub use live_seat::{LiveSeat, MAX_LIKES};
+pub use open_error::OpenError;
+pub use opening::Opening;
+pub use service::{NotAllGone, Service};

@@ -2,13 +2,13 @@
 use Rattle.std.specs.Prelude.{◌≡◌, ℕ, ◌+◌, ◌%◌, ◌≤◌, ◌==◌, if◌then◌else◌, true, false, List, [], ◌∷◌, ◌++◌, drop, length, replicate, slice_index, slice_set, Option, MatchOption}
 use Rattle.like_core.specs.declared.sight.Sight.{Sight}
 use Rattle.like_core.specs.declared.view.PhaseMask.{PhaseMask}
-use Rattle.like_core.specs.Post.{PostView, added, additions_of, has_read, looked_at, slices}
+use Rattle.like_core.specs.Post.{PostView, added, additions_of, has_glanced, has_read, looked_at, slices}
 use Rattle.like_core.specs.WorkerState.{phase_of, seen}
 use Rattle.like_tables.specs.Liked.{AreUnliked, IsNextLiked}
 use Rattle.like_tables.specs.UserTable.{UserTable, last_of, with_last}
 use Rattle.like_seat.specs.declared.merged.Merged.{Merged}
 use Rattle.like_seat.specs.declared.seen.Seen.{Seen}
-use Rattle.like_seat.specs.SeatView.{SeatView}
+use Rattle.like_seat.specs.SeatView.{SeatView, tally_of}
 
 -- a seat that has done nothing yet: it holds nothing, and its slice is empty
 pub record IsNewSeat {W : Type 0} (post : PostView) (room : ℕ) (users : UserTable) (s : SeatView W)
@@ -68,6 +68,16 @@ pub record Reads {W : Type 0} (s : SeatView W) (user page : ℕ) (shown : Seen) 
   pub last : shown.last ≡ last_of s.last user
   pub own : additions_of s.post page ≤ shown.count
   pub read : after ≡ record s { post = has_read s.post page shown.count }
+
+-- a page that is sliced is glanced at for a user's look: the user's last like is shown, and the page's count with the
+-- seat's slice of it, which has all likes that the seat has counted
+pub record Glances {W : Type 0} (s : SeatView W) (user page : ℕ) (shown : Seen) (after : SeatView W)
+    : Type 0 where
+  pub count : ℕ
+  pub last : shown.last ≡ last_of s.last user
+  pub counts : shown.count ≡ count + slice_index s.slice page
+  pub own : tally_of s page ≤ shown.count
+  pub glanced : after ≡ record s { post = has_glanced s.post page count }
 
 -- one more waits, behind all others
 abbrev pub holding : {W : Type 0} → SeatView W → W → SeatView W

@@ -51,6 +51,15 @@ impl Slice {
         *likes += 1;
     }
 
+    /// How many likes it has of the page.
+    pub fn likes(&self, page: u32) -> u64
+        requires { page < length self.now }
+        ensures { result ≡ slice_index self.now page }
+    {
+        let place = page as usize;
+        self.counts[place]
+    }
+
     /// Gives the page's number and sets it to 0.
     pub fn take(&mut self, page: u32) -> u64
         requires { page < length self.old }

@@ -19,6 +19,10 @@ fn call_slice(rt: &impl Abort, slice: &mut Slice, pages: u32, call: OnSlice)
             assert!(rt; page < pages && slice.total() < 64);
             slice.add(page);
         }
+        OnSlice::Likes(page, want) => {
+            assert!(rt; page < pages);
+            assert_eq!(rt; slice.likes(page), want, "of {page}");
+        }
         OnSlice::Take(page, want) => {
             assert!(rt; page < pages);
             assert_eq!(rt; slice.take(page), want, "of {page}");

@@ -162,7 +162,7 @@ counted_added z s words views place v page count n sh at runs present =
     sh.counted
 
 -- a count is at most as large as counts may be at the start
-count_low : (counts : List ℕ) (page : ℕ) → page < length counts → All (λ n. n ≤ max_count) counts → get_or counts page 0 ≤ max_count
+pub count_low : (counts : List ℕ) (page : ℕ) → page < length counts → All (λ n. n ≤ max_count) counts → get_or counts page 0 ≤ max_count
 count_low counts page on low = All-get_or (λ (n : ℕ). n ≤ max_count) counts page 0 on low
 
 -- something is added

@@ -15,6 +15,7 @@ use Rattle.like_core.specs.declared.view.PageRead.{PageRead}
 use Rattle.like_core.specs.declared.view.WorkerSeatView.{WorkerSeatView}
 use Rattle.like_core.specs.declared.view.View.{View}
 use Rattle.like_core.specs.declared.view.View.TheVariants.{Worker}
+use Rattle.like_core.specs.Limits.{total_bound}
 use Rattle.like_core.specs.Phase.{IsSplit, is_marked, split}
 use Rattle.like_core.specs.core.Table.{Permits, IsShown}
 use Rattle.like_core.specs.core.State.{CoreState, after, numbers}
@@ -32,18 +33,20 @@ use Rattle.like_core.proofs.views.Apart.{word_of-past}
 use Rattle.like_core.proofs.views.KeptPlaces.{read_keeps_places, glance_keeps_places, places_same}
 use Rattle.like_core.proofs.views.KeptReads.{read_keeps_reads, glance_keeps_reads, reads_same, counted_same}
 use Rattle.like_core.proofs.views.ViewLists.{sum_part}
+use Rattle.like_board.proofs.worker.Additions.{count_low}
 use Rattle.like_board.proofs.worker.Moves.{worker_steps}
 use Rattle.like_board.proofs.worker.WorkerSteps.{running_is}
 use Rattle.like_board.proofs.worker.Pages.{slices_are, page_steps}
 use Rattle.like_board.proofs.Tallying.{tallied_on}
 
 -- a step of a worker that finds a page's count, and after which its view is w: it is the event, keeps what is shown, and
--- the count has the worker's own additions
+-- the count has the worker's own additions and is within the bound of all counts
 abbrev pub IsRead : Opening → List ℕ → List View → ℕ → WorkerSeatView → ℕ → Event → WorkerSeatView → Type 0
 IsRead z words views place v page event w =
     IsStep z event (Count (get_or words (word_of page) 0)) (Worker v) (Worker w)
     × ShowsSome z (set words (word_of page) (get_or words (word_of page) 0)) (set views place (Worker w))
     × (added_to page v.additions ≤ get_or words (word_of page) 0)
+    × (get_or words (word_of page) 0 < total_bound)
 
 -- a read or a glance, which gives the view these reads and glances, is the event, where the event changes nothing, shows
 -- the count and is permitted, and where the view's reads and glances stay between what was added and in their places
@@ -122,6 +125,7 @@ reads_word z words views place v page event rs gs some_state at running may_ther
         places = keep_places (omega arith) some_state.places;
       },
       omega arith,
+      omega (arith, count_low z.counts page on sh.opening.counts, some_state.tallied.rooms page, sh.opening.limits.likes, found),
     )
 
 -- a read is the event

@@ -1,9 +1,9 @@
-ghost use Rattle.std.specs.Prelude.{◌≡◌, ◌<◌, false, IsTrue};
+ghost use Rattle.std.specs.Prelude.{◌≡◌, ◌<◌, false, true, IsTrue};
 ghost use Rattle.like_core.specs.Post.{pages_of, slices};
 ghost use Rattle.like_core.specs.WorkerState.{IsRunning};
 ghost use Rattle.like_tables.specs.Share.{owns};
 ghost use Rattle.like_seat.specs.SeatView.{IsSeat, likes_of};
-ghost use Rattle.like_seat.specs.Steps.{CountsLike, Reads};
+ghost use Rattle.like_seat.specs.Steps.{CountsLike, Glances, Reads};
 
 use crate::seat::Seat;
 use crate::seen::Seen;
@@ -50,6 +50,24 @@ impl<P: Post, W: Copy> Seat<P, W> {
         Seen {
             last: self.tables.last.last(user),
             count: self.post.read(page),
+        }
+    }
+
+    /// Shows a user at once what the seat knows of a sliced page: the page's count with the seat's own slice of it. It
+    /// lacks what the slices of others have.
+    pub fn glance(&mut self, user: u32, page: u32) -> Seen
+        requires running { IsRunning self.old.post.state }
+        requires there { page < pages_of self.old.post }
+        requires sliced { slices self.old.post page ≡ true }
+        requires owned { IsTrue (owns self.old.last.share user) }
+        ensures glances { Glances self.old user page result self.new }
+        ensures seat { IsSeat self.new }
+    {
+        let last = self.tables.last.last(user);
+        let own = self.tables.slice.likes(page);
+        Seen {
+            last,
+            count: self.post.glance(page) + own,
         }
     }
 }

@@ -21,6 +21,8 @@ fn announces(rt: &impl Abort, coord: &mut CoordSeat, board: &Board, phase: u32)
     let sight = coord.look(board);
     assert!(rt; sight.number == phase % 2);
     assert!(rt; !sight.ending);
+    assert!(rt; coord.phase() == u64::from(phase));
+    assert!(rt; !coord.is_last());
     coord.announce(board);
 }
 
@@ -81,5 +83,6 @@ fn goes_through_phases_of_equal_numbers(rt: HostRuntime) -> Result<(), Fail> {
     goes_on(&rt, &mut coord, &board, &mut post, 2);
     goes_on(&rt, &mut coord, &board, &mut post, 3);
     sees_number(&rt, &mut post, 4);
+    assert!(rt; coord.is_last());
     Ok(())
 }

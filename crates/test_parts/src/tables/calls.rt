@@ -6,6 +6,8 @@ use like_tables::Held;
 pub enum OnSlice {
     /// A like of this page.
     Add(u32),
+    /// How many likes this page has.
+    Likes(u32, u64),
     /// The likes of this page.
     Take(u32, u64),
     /// The next page that is liked, from this one on.
@@ -69,6 +71,8 @@ const SLICES: &[(u32, &[OnSlice])] = &[
             OnSlice::Add(1),
             OnSlice::Add(1),
             OnSlice::Total(3),
+            OnSlice::Likes(0, 0),
+            OnSlice::Likes(1, 3),
             OnSlice::Take(1, 3),
             OnSlice::Take(1, 0),
             OnSlice::IsEmpty(true),

@@ -23,3 +23,6 @@ invariant_of-self c = let told = c.load.ensures.2.0 c.args.page c.word_of-word.e
 
 pub returns-clause-event : goal.returns-clause-event
 returns-clause-event c = let told = c.load.ensures.2.0 c.args.page c.word_of-word.ensures in search (rules, told)
+
+pub returns-clause-bounded : goal.returns-clause-bounded
+returns-clause-bounded c = let told = c.load.ensures.2.0 c.args.page c.word_of-word.ensures in search (rules, told)

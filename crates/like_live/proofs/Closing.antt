@@ -1,0 +1,66 @@
+-- What the seats of a service tell of the workers' seats that they give back.
+use Rattle.std.proofs.Common.{◌≡◌, ℕ, ◌+◌, ◌==◌, ◌<◌, cond, List, [], ◌∷◌, map, get_or, slice_index, drop, ap, sym, ◌∙◌, subst, refl, arith}
+use Rattle.std.specs.List.{All, sum_by}
+use Rattle.std.proofs.lemmas.List.{get_or-map, length-map}
+use Rattle.std.proofs.lemmas.List.Elements.{All-map, All-tail}
+use Rattle.std.proofs.lemmas.List.Sums.{sum_by-cons}
+use Rattle.like_board.specs.declared.worker_seat.WorkerSeat.{WorkerSeat}
+use Rattle.like_board.specs.Seats.{AreAll, BoardId, board_numbers, last_count, seat_board, seat_meaning}
+use Rattle.like_core.specs.Post.{PostView, additions_of}
+use Rattle.like_seat.specs.Lead.{LeadView}
+use Rattle.like_live.specs.LiveView.{LiveView, tally}
+use Rattle.like_live.specs.Service.{AreBackFrom, AreGone, AreItsSeats, HasMergedOnceGone, total_of}
+
+-- the numbers of a board tell it from others
+pub same-board : (a b : BoardId) → board_numbers a ≡ board_numbers b → a ≡ b
+same-board a b e = λ i. record {
+  words = get_or (e i) 0 0;
+  slots = get_or (e i) 1 0;
+  views_name = get_or (e i) 2 0;
+  atom = get_or (e i) 3 0;
+  block = get_or (e i) 4 0;
+  offset = get_or (e i) 5 0;
+  slot_names = drop 6 (e i);
+}
+
+-- a sum over what a list stands for
+sum-of-map : {A B : Type 0} (f : B → ℕ) (g : A → B) (xs : List A) → sum_by f (map g xs) ≡ sum_by (λ x. f (g x)) xs
+sum-of-map f g [] = refl
+sum-of-map f g (x ∷ xs) = sum_by-cons f (g x) (map g xs) ∙ ap (λ n. f (g x) + n) (sum-of-map f g xs) ∙ sym (sum_by-cons (λ y. f (g y)) x xs)
+
+-- two lists that stand for the same have equal sums
+pub sum-alike : {A B C : Type 0} (f : C → ℕ) (p : A → C) (q : B → C) (xs : List A) (ys : List B) → map p xs ≡ map q ys → sum_by (λ x. f (p x)) xs ≡ sum_by (λ y. f (q y)) ys
+sum-alike f p q xs ys same = sym (sum-of-map f p xs) ∙ ap (sum_by f) same ∙ sum-of-map f q ys
+
+-- equal numbers have equal sums
+sum-equal : {A : Type 0} (f g : A → ℕ) (xs : List A) → All (λ x. f x ≡ g x) xs → sum_by f xs ≡ sum_by g xs
+sum-equal f g [] all = refl
+sum-equal f g (x ∷ xs) all =
+    sum_by-cons f x xs ∙ (λ i. all 0 x (omega arith) i + sum-equal f g xs (All-tail (λ y. f y ≡ g y) x xs all) i) ∙ sym (sum_by-cons g x xs)
+
+-- what is true of all that one list stands for is true of all that the other does
+pub all-alike : {A B C : Type 0} (P : C → Type 0) (p : A → C) (q : B → C) (xs : List A) (ys : List B) → map p xs ≡ map q ys → All (λ y. P (q y)) ys → All (λ x. P (p x)) xs
+all-alike P p q xs ys same all = λ k d below.
+    subst P (get_or-map p xs k d (p d) below)
+    (subst (All P) (sym same) (All-map P q ys all) k (p d) (subst (λ n. k < n) (sym (length-map xs p)) below))
+
+abbrev post_at : LiveView → PostView
+post_at s = s.seat.post
+
+-- the seats that were given back are those of the driver's board
+pub back-here : (v : LeadView) (seats : List LiveView) (back : List WorkerSeat) → AreBackFrom seats back → AreItsSeats v seats → All (λ seat. seat_board seat ≡ v.board) back
+back-here v seats back same its = λ k d below.
+    same-board _ _ (all-alike (λ (post : PostView). post.board ≡ board_numbers v.board) seat_meaning post_at back seats same its.here k d below)
+
+-- each of them once
+pub back-all : (v : LeadView) (seats : List LiveView) (back : List WorkerSeat) → AreBackFrom seats back → AreItsSeats v seats → AreAll v.seat.opening.workers back
+back-all v seats back same its i there =
+    let one : PostView → ℕ = λ post. cond (post.worker == i) 1 0 in
+    sum-alike one seat_meaning post_at back seats same ∙ its.all i there
+
+-- of seats that are gone, each page's last count is its first count and the tallies
+pub last-total : (v : LeadView) (seats : List LiveView) (back : List WorkerSeat) (page : ℕ) → AreBackFrom seats back → All HasMergedOnceGone seats → AreGone seats → last_count v.seat.opening back page ≡ total_of v seats page
+last-total v seats back page same merged gone =
+    ap (λ n. slice_index v.seat.opening.counts page + n)
+    (sum-alike (λ (post : PostView). additions_of post page) seat_meaning post_at back seats same
+    ∙ sym (sum-equal (λ s. tally s page) (λ (s : LiveView). additions_of s.seat.post page) seats (λ k d below. merged k d below (gone k d below) page)))

@@ -1,0 +1,32 @@
+use Rattle.std.proofs.Common.{◌≡◌, ◌+◌, ◌≤◌, ℕ, List, Some, slice_get, length, sym, ap, ◌∙◌, subst, arith}
+use Rattle.std.proofs.lemmas.Iterator.Adapters.{YieldsList-from_vec}
+use Rattle.std.proofs.lemmas.Iterator.Consumers.{YieldsList-turn}
+use Rattle.std.proofs.lemmas.List.{length_push}
+use Rattle.std.specs.Arc.{arc_value}
+use Rattle.like_board.specs.Seats.{board_id}
+use Rattle.like_live.specs.LiveView.{LiveView}
+use Rattle.like_live.specs.Service.{IsNewSeat}
+use Rattle.like_live.proofs.Newly.{each-pushed}
+use Rattle.like_live.proofs.service.parts.new_seats.Goals as goal
+
+pub overflow_cast-number : goal.overflow_cast-number
+overflow_cast-number c =
+    let l = c.loop-worker in
+    let from = c.into_iter-worker-iterator.ensures.into_iter_gives in
+    let all = YieldsList-from_vec {s = c.into_iter-worker-iterator.result} c.args.workers.items from.0 (from.1 ∙ c.args.workers.ok.0) in
+    let turn = YieldsList-turn all l.yielded _ l.yielded_by _ c.next.new.self c.in-Some.worker c.in-Some.is c.next.ensures.steps in
+    let few : length c.args.workers.items ≤ 16 = subst (λ n. n ≤ 16) (sym c.requires.len) c.requires.within.1.1.1.0.1 in
+    omega (arith, turn.0, few, c.len-number.ensures, l.seats.ok.0, l.invariant.len)
+
+pub loop-worker-preserved : goal.loop-worker-preserved
+loop-worker-preserved c =
+    let l = c.loop-worker in
+    let seat = c.in_ok-seat.seat in
+    let items = c.in_ok-push.ensures.items in
+    let Is : ℕ → LiveView → Type 0 = IsNewSeat c.args.opening.now (board_id (arc_value c.args.board.now)) in
+    let number : c.len-number.result ≡ length l.seats.items = c.len-number.ensures ∙ l.seats.ok.0 in
+    record {
+      len = ap length items ∙ length_push l.seats.items seat ∙ ap (λ n. n + 1) l.invariant.len ∙ sym (length_push l.yielded c.in-Some.worker);
+      each = subst (λ (xs : List LiveView). (i : ℕ) (s : LiveView) → slice_get xs i ≡ Some s → Is i s) (sym items)
+          (each-pushed Is l.seats.items seat l.invariant.each (subst (λ n. Is n seat) number c.in_ok-seat.ensures));
+    }

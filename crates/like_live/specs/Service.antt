@@ -1,0 +1,73 @@
+-- What a service is when it is opened, and what is known when it is closed.
+use Rattle.std.specs.Prelude.{◌≡◌, ℕ, ◌+◌, ◌<◌, ◌==◌, All, List, length, map, slice_get, slice_index, Some, count_by}
+use Rattle.std.specs.List.{sum_by}
+use Rattle.like_board.specs.Seats.{AreCounted, BoardId, HaveAddedWithin, HaveGlancedBetween, HavePlaces, HaveReadBetween, HaveReadMasks, board_numbers, seat_meaning}
+use Rattle.like_board.specs.declared.worker_seat.WorkerSeat.{WorkerSeat}
+use Rattle.like_core.specs.Post.{IsFresh, additions_of}
+use Rattle.like_core.specs.OpeningLimits.{service_limits}
+use Rattle.like_core.specs.declared.worker_state.WorkerState.TheVariants.{Gone}
+use Rattle.like_seat.specs.Lead.{LeadView}
+use Rattle.like_tables.specs.Share.{share_of}
+use Rattle.like_tables.specs.UserTable.{table_without_likes}
+use Rattle.like_live.specs.declared.opening.Opening.{Opening}
+use Rattle.like_live.specs.declared.service.Service.{Service}
+use Rattle.like_live.specs.LiveView.{IsNewLive, LiveView, tally}
+use Rattle.like_live.specs.Driver.{new_driver}
+use Rattle.like_live.specs.Opening.{IsWithinLimits}
+
+-- a new seat of this number at this board: its users are those that are this number modulo the number of seats
+pub record IsNewSeat (o : Opening) (board : BoardId) (number : ℕ) (s : LiveView) : Type 0 where
+  pub here : s.seat.post.board ≡ board_numbers board
+  pub worker : s.seat.post.worker ≡ number
+  pub fresh : IsFresh s.seat.post
+  pub marks : s.seat.post.marks ≡ o.marks.items
+  pub limits : s.seat.post.limits ≡ service_limits
+  pub new : IsNewLive s.seat.post o.room (table_without_likes (share_of o.users o.seats o.seats number)) s
+
+-- the new seats of a service in order
+pub record AreNewSeats (o : Opening) (board : BoardId) (seats : List LiveView) : Type 0 where
+  pub len : length seats ≡ o.seats
+  pub each : (i : ℕ) (s : LiveView) → slice_get seats i ≡ Some s → IsNewSeat o board i s
+
+-- a service that was opened so: every limit holds, and its driver and its seats are new ones of one board
+pub record IsOpened (o : Opening) (s : Service) : Type 0 where
+  pub within : IsWithinLimits o
+  pub driver : s.driver ≡ new_driver o s.driver.board
+  pub seats : AreNewSeats o s.driver.board s.seats.items
+
+-- the seats are those of the driver's board, each of them once
+pub record AreItsSeats (v : LeadView) (seats : List LiveView) : Type 0 where
+  pub len : length seats ≡ v.seat.opening.workers
+  pub here : All (λ s. s.seat.post.board ≡ board_numbers v.board) seats
+  pub all : (i : ℕ) → i < v.seat.opening.workers → count_by (λ s. s.seat.post.worker == i) seats ≡ 1
+
+-- all seats are gone
+abbrev pub AreGone : List LiveView → Type 0
+AreGone seats = All (λ s. s.seat.post.state ≡ Gone) seats
+
+-- once it is gone, all its likes are added
+abbrev pub HasMergedOnceGone : LiveView → Type 0
+HasMergedOnceGone s = s.seat.post.state ≡ Gone → (page : ℕ) → tally s page ≡ additions_of s.seat.post page
+
+-- the workers' seats that were given back by these seats
+abbrev pub AreBackFrom : List LiveView → List WorkerSeat → Type 0
+AreBackFrom seats back = map seat_meaning back ≡ map (λ s. s.seat.post) seats
+
+-- a page's first count, and the tallies of all seats
+abbrev pub total_of : LeadView → List LiveView → ℕ → ℕ
+total_of v seats page = slice_index v.seat.opening.counts page + sum_by (λ s. tally s page) seats
+
+-- what is known of a service that was closed: each page's last count is its total. No seat added in a phase after the
+-- driver's; each count that a look or a glance was shown is within its bounds; each snapshot has all additions up
+-- to its phase; each phase had one mask; and the additions of all seats tile each page's counts
+pub record IsClosed (v : LeadView) (seats : List LiveView) (counts : List ℕ) : Type 0 where
+  pub len : length counts ≡ length v.seat.opening.counts
+  pub totals : (page : ℕ) → page < length counts → slice_index counts page ≡ total_of v seats page
+  pub back : List WorkerSeat
+  pub posts : AreBackFrom seats back
+  pub added : HaveAddedWithin v.seat.phase back
+  pub reads : HaveReadBetween v.seat.opening v.seat.phase back
+  pub glances : HaveGlancedBetween v.seat.opening v.seat.phase back
+  pub snapshots : AreCounted v.seat back
+  pub masks : HaveReadMasks v.seat.masks back
+  pub places : HavePlaces v.seat.opening back

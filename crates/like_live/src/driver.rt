@@ -1,0 +1,143 @@
+ghost use Rattle.std.specs.Prelude.{◌≡◌, IfOk, length};
+ghost use Rattle.std.specs.Arc.{arc_value};
+ghost use Rattle.like_board.specs.Rule.{opened_coord};
+ghost use Rattle.like_board.specs.Seats.{board_id, coord_board, coord_view};
+ghost use Rattle.like_live.specs.Driver.{DriverTurns, IsSameDriver, IsService, TakesSnapshot, new_driver};
+ghost use Rattle.like_live.specs.Opening.{IsWithinLimits, board_opening};
+ghost use Rattle.like_live.specs.Service.{AreGone, AreItsSeats, IsClosed};
+
+mod back;
+mod boundary;
+mod turns;
+
+use self::back::give_back;
+use self::boundary::read_boundary;
+use self::turns::act;
+use crate::driver_answer::DriverAnswer;
+use crate::hint::Hint;
+use crate::live_seat::LiveSeat;
+use crate::opening::Opening;
+use like_board::{Board, CoordSeat, SharedPost, WorkerSeat};
+use like_seat::Lead;
+use std::alloc::{AllocError, Global};
+use std::marker::Model;
+use std::sync::Arc;
+
+/// What leads the phases of a service: it ends a phase once the host says so, and releases the next once every seat has
+/// answered.
+///
+/// It owns its board with the seats. No call of it waits or takes memory.
+#[derive(Drop)]
+pub struct Driver {
+    board: Arc<Board, Global>,
+    lead: Lead,
+    /// Whether something would be split in a split phase: a page is marked, or pages can be hot.
+    splits: bool,
+    /// How many pages there are.
+    pages: u32,
+    hint: Hint,
+    /// Room for the workers' seats that are given back at the end.
+    back: Vec<WorkerSeat>,
+}
+
+impl Model for Driver {
+    ghost use Rattle.std.specs.Arc.{arc_value};
+    ghost use Rattle.like_board.specs.Seats.{board_id};
+    ghost use Rattle.like_seat.specs.Lead.{LeadView};
+    ghost use Rattle.like_live.specs.Driver.{HasRoom, IsKept};
+
+    ghost Value = { LeadView };
+
+    ghost view = { λ d. d.lead };
+
+    ghost invariant = { λ d. IsKept (board_id (arc_value d.board)) d.splits d.pages d.lead
+        × HasRoom d.back d.lead };
+}
+
+impl Driver {
+    /// The driver of a new board. All its room is made here.
+    pub(crate) fn new(
+        alloc: Global,
+        opening: &Opening,
+        board: Arc<Board, Global>,
+        coord: CoordSeat,
+        hint: Hint,
+    ) -> Result<Driver, AllocError>
+        requires within { IsWithinLimits opening.now }
+        requires here { coord_board coord ≡ board_id (arc_value board) }
+        requires new { coord_view coord ≡ opened_coord (board_opening opening.now) }
+        ensures { IfOk result (λ driver. driver ≡ new_driver opening.now (board_id (arc_value board))) }
+    {
+        let back = Vec::with_capacity(alloc, opening.seats as usize)?;
+        match Lead::new(alloc, coord, opening.hot, &opening.counts) {
+            Ok(lead) => Ok(Driver {
+                board,
+                lead,
+                splits: opening.splits_some(),
+                pages: opening.counts.len() as u32,
+                hint,
+                back,
+            }),
+            Err(_) => Err(AllocError),
+        }
+    }
+
+    /// Makes one look at the phase word, and does at most one thing. It announces the end of the phase where `may_end`
+    /// is set, or earlier where a seat's ring is half full. A joined phase goes on where nothing would be split next.
+    pub fn turn(&mut self, may_end: bool) -> DriverAnswer
+        ensures case { DriverTurns self.old may_end result self.new }
+        ensures keeps { IsService self.new }
+        ensures same { IsSameDriver self.old self.new }
+    {
+        act(
+            &mut self.lead,
+            &self.board,
+            &self.hint,
+            self.splits,
+            may_end,
+        )
+    }
+
+    /// Writes all pages' counts, where a joined phase is ending and every seat has answered it or is gone: before the
+    /// split phase that comes next is released. They are the counts of one moment, the boundary of the two phases, and
+    /// the answer is the phase that ends there. Else it writes nothing, and answers none.
+    pub fn snapshot(&mut self, counts: &mut [u64]) -> Option<u64>
+        requires places { length counts.old ≡ length self.old.seat.opening.counts }
+        ensures case { TakesSnapshot self.old counts.old result self.new counts.new }
+        ensures keeps { IsService self.new }
+        ensures same { IsSameDriver self.old self.new }
+    {
+        read_boundary(&mut self.lead, &self.board, counts)
+    }
+
+    /// Ends the board, where all seats are given back and are gone, and writes each page's last count.
+    pub(crate) fn finish(self, seats: Vec<LiveSeat<SharedPost>>, counts: &mut [u64])
+        requires whole { AreItsSeats self seats.items }
+        requires gone { AreGone seats.items }
+        requires places { length counts.old ≡ length self.seat.opening.counts }
+        ensures { IsClosed self seats.items counts.new }
+    {
+        let Driver {
+            board,
+            lead,
+            mut back,
+            ..
+        } = self;
+        give_back(seats, &mut back);
+        board.last_counts(lead.finish(), back, counts);
+    }
+
+    /// The present phase.
+    pub fn phase(&self) -> u64
+        ensures { result ≡ self.now.seat.phase }
+    {
+        self.lead.phase()
+    }
+
+    /// How many pages there are.
+    pub fn pages(&self) -> u32
+        ensures { result ≡ length self.now.seat.opening.counts }
+    {
+        self.pages
+    }
+}

@@ -1,0 +1,66 @@
+ghost use Rattle.std.specs.Prelude.{◌≡◌, ◌≤◌};
+ghost use Rattle.like_board.specs.Seats.{board_id};
+ghost use Rattle.like_core.specs.OpeningLimits.{service_limits};
+ghost use Rattle.like_core.specs.views.Views.{SawAllIn};
+ghost use Rattle.like_live.specs.Driver.{DriverTurns, ReleasesNext, may_be_ended, splits_some};
+
+use crate::driver_answer::DriverAnswer;
+use crate::hint::Hint;
+use like_board::Board;
+use like_seat::Lead;
+
+/// The last phase of a service.
+const LAST_PHASE: u64 = u64::MAX - 1;
+
+// Looks, and does what the sight asks for. `splits` says whether something would be split in a split phase.
+pub(crate) fn act(
+    lead: &mut Lead,
+    board: &Board,
+    hint: &Hint,
+    splits: bool,
+    may_end: bool,
+) -> DriverAnswer
+    requires here { lead.old.board ≡ board_id board.now }
+    requires limits { lead.old.seat.opening.limits ≡ service_limits }
+    requires splits { splits ≡ splits_some lead.old }
+    ensures { DriverTurns lead.old may_end result lead.new }
+{
+    let sight = lead.look(board);
+    if sight.all_gone {
+        return DriverAnswer::Ended;
+    }
+    if sight.ending && sight.all_in {
+        release(lead, board);
+        hint.clear();
+        return DriverAnswer::Released;
+    }
+    if sight.ending {
+        return DriverAnswer::Waiting;
+    }
+    if may_be_ended(lead.phase(), splits) && (may_end || hint.is_asked()) {
+        lead.announce(board);
+        return DriverAnswer::Announced;
+    }
+    DriverAnswer::Running
+}
+
+// Whether a phase of a service may be ended.
+fn may_be_ended(phase: u64, splits: bool) -> bool
+    requires within { phase ≤ service_limits.last_phase }
+    ensures { result ≡ may_be_ended phase splits }
+{
+    phase < LAST_PHASE && (phase % 2 == 1 || splits)
+}
+
+// Releases the next phase; before a split one it chooses that phase's hot pages, and publishes their mask.
+fn release(lead: &mut Lead, board: &Board)
+    requires here { lead.old.board ≡ board_id board.now }
+    requires saw { SawAllIn lead.old.seat }
+    ensures { ReleasesNext lead.old lead.new }
+{
+    if lead.is_joined() {
+        let mask = lead.choose(board);
+        lead.publish(board, mask);
+    }
+    lead.release(board);
+}

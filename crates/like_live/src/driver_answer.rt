@@ -1,0 +1,14 @@
+/// What a driver did in a turn.
+#[derive(Clone, Copy, Debug, PartialEq, Eq)]
+pub enum DriverAnswer {
+    /// It announced the end of the phase.
+    Announced,
+    /// The phase is ending, and some seat has not answered.
+    Waiting,
+    /// It released the next phase.
+    Released,
+    /// The phase goes on.
+    Running,
+    /// All seats are gone.
+    Ended,
+}

@@ -1,0 +1,20 @@
+use thiserror::Error;
+
+/// Why a service was not opened. Of several wrong numbers the first is told, in this order.
+#[derive(Clone, Copy, Debug, PartialEq, Eq, Error)]
+pub enum OpenError {
+    #[error("between 1 and 1,024 pages")]
+    Pages,
+    #[error("one mark for each page")]
+    Marks,
+    #[error("first counts of at most 10^18")]
+    Counts,
+    #[error("between 1 and 16 seats")]
+    Seats,
+    #[error("at least one user")]
+    Users,
+    #[error("room for 1 to 4,096 looks")]
+    Room,
+    #[error("out of memory")]
+    Memory,
+}

@@ -1,0 +1,65 @@
+ghost use Rattle.std.specs.Prelude.{◌≡◌, MatchResult};
+ghost use Rattle.std.specs.List.{list_any};
+ghost use Rattle.like_live.specs.Opening.{IsFirstWrong, IsWithinLimits, splits_by};
+
+use crate::open_error::OpenError;
+use like_requests::{MAX_COUNT, MAX_PAGES, MAX_STASH, MAX_WORKERS};
+
+/// What a service is opened with.
+#[derive(Debug, Drop)]
+pub struct Opening {
+    /// Each page's first count: 1 to 1,024 pages, each count at most 10^18.
+    pub counts: Vec<u64>,
+    /// Whether each page is split in every split phase.
+    pub marks: Vec<bool>,
+    /// How many seats there are: 1 to 16.
+    pub seats: u32,
+    /// How many users there are, at least one. User `u` belongs to seat `u mod seats`.
+    pub users: u32,
+    /// How many looks a seat has room for, those that wait and those that were found together: 1 to 4,096.
+    pub room: u32,
+    /// How many likes since the last choice make one of the first 64 pages hot, if any do.
+    pub hot: Option<u32>,
+}
+
+impl Opening {
+    /// Tests every number, in the order of `OpenError`, whose `Memory` it never answers.
+    pub fn check(&self) -> Result<(), OpenError>
+        ensures { MatchResult result (λ _. IsWithinLimits self.now) (IsFirstWrong self.now) }
+    {
+        let pages = self.counts.len();
+        if pages < 1 || pages > MAX_PAGES as usize {
+            return Err(OpenError::Pages);
+        }
+        if self.marks.len() != pages {
+            return Err(OpenError::Marks);
+        }
+        if !self.counts.iter().all(|count| *count <= MAX_COUNT) {
+            return Err(OpenError::Counts);
+        }
+        if self.seats < 1 || self.seats > MAX_WORKERS {
+            return Err(OpenError::Seats);
+        }
+        if self.users < 1 {
+            return Err(OpenError::Users);
+        }
+        if self.room < 1 || self.room > MAX_STASH {
+            return Err(OpenError::Room);
+        }
+        Ok(())
+    }
+
+    /// Whether something would be split in a split phase: a page is marked, or pages can be hot.
+    pub(crate) fn splits_some(&self) -> bool
+        ensures { result ≡ splits_by self.now.marks.items self.now.hot }
+    {
+        any_marked(&self.marks) || self.hot.is_some()
+    }
+}
+
+// Whether a page is marked.
+fn any_marked(marks: &[bool]) -> bool
+    ensures { result ≡ list_any (λ mark. mark) marks.now }
+{
+    marks.iter().any(|mark| *mark)
+}

@@ -1,0 +1,60 @@
+ghost use Rattle.std.specs.Prelude.{◌≡◌, IfErr, IfOk, OnOk, length};
+ghost use Rattle.like_live.specs.Opening.{IsRefused};
+ghost use Rattle.like_live.specs.Service.{AreGone, AreItsSeats, IsClosed, IsOpened};
+
+mod parts;
+
+use self::parts::{are_gone, new_service};
+use crate::driver::Driver;
+use crate::live_seat::LiveSeat;
+use crate::open_error::OpenError;
+use crate::opening::Opening;
+use like_board::SharedPost;
+use std::alloc::{AllocError, Global};
+
+/// A board with its driver and its seats. A host takes it apart, and hands each to a thread.
+#[derive(Drop)]
+pub struct Service {
+    pub driver: Driver,
+    /// Seat `u mod seats` is that of user `u`.
+    pub seats: Vec<LiveSeat<SharedPost>>,
+}
+
+/// Some seat is not gone. The service that was passed comes back.
+#[derive(Drop)]
+pub struct NotAllGone {
+    pub service: Service,
+}
+
+impl Service {
+    /// A service in phase 0, a joined one. Each number of the opening is tested, and nothing takes memory after this.
+    pub fn open(alloc: Global, opening: &Opening) -> Result<Service, OpenError>
+        ensures opened { IfOk result (IsOpened opening.now) }
+        ensures refused { IfErr result (IsRefused opening.now) }
+    {
+        opening.check()?;
+        match new_service(alloc, opening) {
+            Ok(service) => Ok(service),
+            Err(AllocError) => Err(OpenError::Memory),
+        }
+    }
+
+    /// Ends the service, once all its seats are gone, and writes each page's last count: its first count and the
+    /// tallies of all seats.
+    pub fn close(self, counts: &mut [u64]) -> Result<(), NotAllGone>
+        requires whole { AreItsSeats self.driver self.seats.items }
+        requires places { length counts.old ≡ length self.driver.seat.opening.counts }
+        ensures gone { OnOk result (AreGone self.seats.items) }
+        ensures closed { OnOk result (IsClosed self.driver self.seats.items counts.new) }
+        ensures back { IfErr result (λ refused. refused.service ≡ self) }
+        ensures some { IfErr result (λ _. ¬ AreGone self.seats.items) }
+        ensures unchanged { IfErr result (λ _. counts.new ≡ counts.old) }
+    {
+        if !are_gone(&self.seats) {
+            return Err(NotAllGone { service: self });
+        }
+        let Service { driver, seats } = self;
+        driver.finish(seats, counts);
+        Ok(())
+    }
+}
