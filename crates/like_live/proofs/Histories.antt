@@ -1,6 +1,6 @@
 -- The law of histories.
 use Rattle.std.proofs.Common.{◌≡◌, ◌≢◌, ℕ, ◌+◌, ◌<◌, ◌==◌, Bool, true, false, cond, List, [], ◌∷◌, ◌++◌, length, map, drop, get_or, replicate, Option, Some, None, refl, ap, sym, ◌∙◌, subst, arith, append-nil, append_assoc}
-use Rattle.std.specs.List.{flat_map, last_or, slice_get, sum_by}
+use Rattle.std.specs.List.{last_or, slice_get, sum_by}
 use Rattle.std.proofs.lemmas.List.{length-replicate, length-set, map-append}
 use Rattle.std.proofs.lemmas.List.Sums.{sum_by-cons}
 use Rattle.like_core.specs.declared.worker_state.WorkerState.TheVariants as state
@@ -11,6 +11,7 @@ use Rattle.like_seat.specs.Steps.{holding}
 use Rattle.like_seat.proofs.MergedLikes.{same_everywhere}
 use Rattle.like_tables.specs.UserTable.{UserTable, last_of}
 use Rattle.like_tables.specs.Waiting.{Waiting}
+use Rattle.like_live.specs.declared.answer.GlanceAnswer.{GlanceAnswer}
 use Rattle.like_live.specs.declared.answer.LikeAnswer.{LikeAnswer}
 use Rattle.like_live.specs.declared.answer.LookAnswer.{LookAnswer}
 use Rattle.like_live.specs.declared.answer.LookAnswer.TheVariants.{Waits}
@@ -19,10 +20,10 @@ use Rattle.like_live.specs.declared.asked.Asked.{Asked}
 use Rattle.like_live.specs.declared.asked.Found.{Found}
 use Rattle.like_live.specs.LiveView.{LiveView, tally, waiting, with_seat}
 use Rattle.like_live.specs.Calls as calls
-use Rattle.like_live.specs.Calls.{LikeCase, LikesNow, LookCase, LooksNow, RetireCase, RetiresNow, TakesFound, asked_now, left}
-use Rattle.like_live.specs.History.{AreCounted, Ask, Does, HasDone, HistoriesAreCounted, IsUnused, Told, ask_of, ask_taken, ask_told, asks_taken, asks_told, like, like_told, likes_told, look, page_liked, pages_liked, retire, take_found, turn}
+use Rattle.like_live.specs.Calls.{GlanceCase, GlancesNow, LikeCase, LikesNow, LookCase, LooksNow, RetireCase, RetiresNow, TakesFound, asked_now, left}
+use Rattle.like_live.specs.History.{AreCounted, Ask, Does, HasDone, HistoriesAreCounted, IsUnused, Told, ask_of, ask_taken, ask_told, asks_taken, asks_told, glance, like, like_told, likes_told, look, page_liked, pages_liked, retire, take_found, turn}
 use Rattle.like_live.proofs.Calling.{LikesNow-tallies}
-use Rattle.like_live.proofs.Telling.{IsQuiet, IsQuiet-moves, IsQuiet-same, IsTold, IsTold-after, IsTold-quiet, IsWhole, TellsNothing, ask_waiting, asks_of, is_counted, last-more, merged-asks, user_there}
+use Rattle.like_live.proofs.Telling.{IsQuiet, IsQuiet-both, IsQuiet-moves, IsQuiet-same, IsTold, IsTold-after, IsTold-quiet, IsWhole, TellsNothing, ask_waiting, asks_of, is_counted, last-more, merged-asks, user_there}
 
 -- a like at a seat that runs a phase
 told-like : (v after : LiveView) (user page : ℕ) (answer : LikeAnswer) → IsWhole v → LikesNow v user page answer after → IsTold v after (like user page answer)
@@ -82,6 +83,28 @@ told-look v after user page tag answer whole (calls.waits accepted split room a 
     gone-plain : (post : PostView) (page : ℕ) → post.state ≡ state.Gone → slices post page ≡ true → ⊥
     gone-plain post page gone split = let e : slices post page ≡ false = ap (λ s. slices (record post { state = s }) page) gone in absurd (cc (sym e ∙ split))
 
+-- a glance at a seat that runs a phase
+quiet-glance : (v after : LiveView) (user page : ℕ) (answer : GlanceAnswer) → IsWhole v → GlancesNow v user page answer after → IsQuiet v after
+quiet-glance v after user page answer whole (calls.refused fails a is) = subst (IsQuiet v) (sym is) (IsQuiet-same v whole)
+quiet-glance v after user page answer whole (calls.plain shown s accepted plain a reads is) =
+    subst (IsQuiet v) (sym (is ∙ ap (with_seat v) reads.read)) (record {
+      whole = record { sized = whole.sized; table = whole.table; empty = whole.empty };
+      tallies = λ p. refl;
+      last = refl;
+      asks = refl;
+    })
+quiet-glance v after user page answer whole (calls.split shown s accepted split a glances is) =
+    subst (IsQuiet v) (sym (is ∙ ap (with_seat v) glances.glanced)) (record {
+      whole = record { sized = whole.sized; table = whole.table; empty = whole.empty };
+      tallies = λ p. refl;
+      last = refl;
+      asks = refl;
+    })
+
+told-glance : (v after : LiveView) (user page : ℕ) (answer : GlanceAnswer) → IsQuiet v after → IsTold v after (glance user page answer)
+told-glance v after user page answer q =
+    IsTold-quiet v after (glance user page answer) q (record { likes = λ p. refl; pages = λ u. refl; taken = refl; told = refl })
+
 -- a retirement at a seat that runs a phase
 told-retire : (v after : LiveView) (answer : TurnAnswer) → IsWhole v → RetiresNow v answer after → IsTold v after (retire answer)
 told-retire v after answer whole (calls.retires joined none a is) =
@@ -137,6 +160,14 @@ told-does (look user page tag answer) v after whole d = by_case d
     by_case (calls.runs now m l) =
         let q = IsQuiet-moves v now _ whole m in
         IsTold-after v now after (look user page tag answer) q (told-look now after user page tag answer q.whole l)
+told-does (glance user page answer) v after whole d = told-glance v after user page answer (by_case d)
+  where
+    by_case : GlanceCase v user page answer after → IsQuiet v after
+    by_case (calls.gone m a) = IsQuiet-moves v after _ whole m
+    by_case (calls.between m a) = IsQuiet-moves v after _ whole m
+    by_case (calls.runs now m l) =
+        let q = IsQuiet-moves v now _ whole m in
+        IsQuiet-both v now after q (quiet-glance now after user page answer q.whole l)
 told-does (take_found taken) v after whole d = told-take v after taken whole d
 told-does (retire answer) v after whole d = by_case d
   where

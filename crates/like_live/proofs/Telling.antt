@@ -81,6 +81,14 @@ IsTold-after v now after t q s = record {
 pub IsQuiet-same : (v : LiveView) → IsWhole v → IsQuiet v v
 IsQuiet-same v whole = record { whole = whole; tallies = λ page. refl; last = refl; asks = refl }
 
+pub IsQuiet-both : (v now after : LiveView) → IsQuiet v now → IsQuiet now after → IsQuiet v after
+IsQuiet-both v now after a b = record {
+  whole = b.whole;
+  tallies = λ page. b.tallies page ∙ a.tallies page;
+  last = b.last ∙ a.last;
+  asks = b.asks ∙ a.asks;
+}
+
 -- a look leaves a worker that is there
 seen-there : (s : WorkerState) (sight : Sight) → s ≢ state.Gone → seen s sight ≢ state.Gone
 seen-there (state.Runs k) sight there = λ e. absurd (cc e)

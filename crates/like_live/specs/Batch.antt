@@ -1,5 +1,6 @@
 -- A batch of calls.
 use Rattle.std.specs.Prelude.{◌≡◌, ◌≢◌, ◌⊎◌, ℕ, List, [], ◌∷◌, length, slice_get, take, Option, Some, MatchOption}
+use Rattle.like_live.specs.declared.answer.GlanceAnswer.TheVariants as glanced
 use Rattle.like_live.specs.declared.answer.LikeAnswer.TheVariants as liked
 use Rattle.like_live.specs.declared.answer.LookAnswer.TheVariants as looked
 use Rattle.like_live.specs.declared.call.Answer.{Answer}
@@ -7,14 +8,15 @@ use Rattle.like_live.specs.declared.call.Answer.TheVariants as answer
 use Rattle.like_live.specs.declared.call.Call.{Call}
 use Rattle.like_live.specs.declared.call.Call.TheVariants as call
 use Rattle.like_live.specs.LiveView.{LiveView}
-use Rattle.like_live.specs.Calls.{LikeCase, LookCase}
-use Rattle.like_live.specs.History.{Does, HasDone, Told, like, look}
+use Rattle.like_live.specs.Calls.{GlanceCase, LikeCase, LookCase}
+use Rattle.like_live.specs.History.{Does, HasDone, Told, glance, like, look}
 
 -- the call was told this, which is not that it has to wait
 abbrev pub WasTold : Call → Answer → Told → Type 0
 WasTold (call.Like user page) (answer.Like a) told = (a ≢ liked.Between) × (told ≡ like user page a)
 WasTold (call.Look user page tag) (answer.Look a) told =
     (a ≢ looked.Between) × (a ≢ looked.NoRoom) × (told ≡ look user page tag a)
+WasTold (call.Glance user page) (answer.Glance a) told = (a ≢ glanced.Between) × (told ≡ glance user page a)
 WasTold c a told = ⊥
 
 -- the calls were told this, one by one
@@ -28,6 +30,7 @@ abbrev pub MustWait : LiveView → Call → LiveView → Type 0
 MustWait v (call.Like user page) after = LikeCase v user page liked.Between after
 MustWait v (call.Look user page tag) after =
     LookCase v user page tag looked.Between after ⊎ LookCase v user page tag looked.NoRoom after
+MustWait v (call.Glance user page) after = GlanceCase v user page glanced.Between after
 
 -- the first calls of a batch are made, so many, and have these answers
 pub record HasRun (v : LiveView) (calls : List Call) (answers : List Answer) (done : ℕ) (after : LiveView) : Type 0 where

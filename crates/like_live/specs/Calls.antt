@@ -11,8 +11,10 @@ use Rattle.like_requests.specs.Verdict.{verdict_of}
 use Rattle.like_seat.specs.declared.seen.Seen.{Seen}
 use Rattle.like_seat.specs.SeatView.{SeatView, phase_at}
 use Rattle.like_seat.specs.SeatView.{likes_of}
-use Rattle.like_seat.specs.Steps.{CountsLike, Reads, holding}
+use Rattle.like_seat.specs.Steps.{CountsLike, Glances, Reads, holding}
 use Rattle.like_tables.specs.UserTable.{UserTable, with_last}
+use Rattle.like_live.specs.declared.answer.GlanceAnswer.{GlanceAnswer}
+use Rattle.like_live.specs.declared.answer.GlanceAnswer.TheVariants as glance
 use Rattle.like_live.specs.declared.answer.LikeAnswer.{LikeAnswer}
 use Rattle.like_live.specs.declared.answer.LikeAnswer.TheVariants as like
 use Rattle.like_live.specs.declared.answer.LookAnswer.{LookAnswer}
@@ -80,6 +82,27 @@ pub data LookCase (v : LiveView) (user page tag : ℕ) (answer : LookAnswer) (af
   between : Moves v turn.Between after → answer ≡ look.Between → LookCase v user page tag answer after
   runs : (now : LiveView) → Moves v turn.Runs now → LooksNow now user page tag answer after
       → LookCase v user page tag answer after
+
+-- what a glance does at a seat that runs a phase: of a page that is not split it is a read; of one that is split, the
+-- count is that on the board and the seat's own slice
+pub data GlancesNow (v : LiveView) (user page : ℕ) (answer : GlanceAnswer) (after : LiveView) : Type 0 where
+  refused : verdict_at v.seat user page ≢ Accepted
+      → answer ≡ glance.Refused (verdict_at v.seat user page) → after ≡ v → GlancesNow v user page answer after
+  plain : (shown : Seen) (s : SeatView Asked)
+      → verdict_at v.seat user page ≡ Accepted → slices v.seat.post page ≡ false
+      → answer ≡ glance.Seen shown → Reads v.seat user page shown s → after ≡ with_seat v s
+      → GlancesNow v user page answer after
+  split : (shown : Seen) (s : SeatView Asked)
+      → verdict_at v.seat user page ≡ Accepted → slices v.seat.post page ≡ true
+      → answer ≡ glance.Seen shown → Glances v.seat user page shown s → after ≡ with_seat v s
+      → GlancesNow v user page answer after
+
+-- glance case: the answer to a glance, and the seat after; the phase work comes first
+pub data GlanceCase (v : LiveView) (user page : ℕ) (answer : GlanceAnswer) (after : LiveView) : Type 0 where
+  gone : Moves v turn.Gone after → answer ≡ glance.Gone → GlanceCase v user page answer after
+  between : Moves v turn.Between after → answer ≡ glance.Between → GlanceCase v user page answer after
+  runs : (now : LiveView) → Moves v turn.Runs now → GlancesNow now user page answer after
+      → GlanceCase v user page answer after
 
 -- the seat after it retired
 abbrev pub left : LiveView → LiveView

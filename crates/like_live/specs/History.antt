@@ -5,6 +5,7 @@ use Rattle.like_core.specs.declared.worker_state.WorkerState.TheVariants.{Gone}
 use Rattle.like_core.specs.Post.{IsFresh, PostView}
 use Rattle.like_tables.specs.Share.{Share}
 use Rattle.like_tables.specs.UserTable.{last_of, table_without_likes}
+use Rattle.like_live.specs.declared.answer.GlanceAnswer.{GlanceAnswer}
 use Rattle.like_live.specs.declared.answer.LikeAnswer.{LikeAnswer}
 use Rattle.like_live.specs.declared.answer.LikeAnswer.TheVariants.{Liked}
 use Rattle.like_live.specs.declared.answer.LookAnswer.{LookAnswer}
@@ -13,13 +14,14 @@ use Rattle.like_live.specs.declared.answer.TurnAnswer.{TurnAnswer}
 use Rattle.like_live.specs.declared.asked.Found.{Found}
 use Rattle.like_live.specs.LiveView.{LiveView, IsNewLive, tally}
 use Rattle.like_live.specs.Moves.{Moves}
-use Rattle.like_live.specs.Calls.{LikeCase, LookCase, RetireCase, TakesFound, told_of}
+use Rattle.like_live.specs.Calls.{GlanceCase, LikeCase, LookCase, RetireCase, TakesFound, told_of}
 
 -- a call of a seat, with its answer
 pub data Told : Type 0 where
   turn : TurnAnswer → Told
   like : (user page : ℕ) → LikeAnswer → Told
   look : (user page tag : ℕ) → LookAnswer → Told
+  glance : (user page : ℕ) → GlanceAnswer → Told
   take_found : Option Found → Told
   retire : TurnAnswer → Told
 
@@ -28,6 +30,7 @@ abbrev pub Does : LiveView → Told → LiveView → Type 0
 Does v (turn answer) after = Moves v answer after
 Does v (like user page answer) after = LikeCase v user page answer after
 Does v (look user page tag answer) after = LookCase v user page tag answer after
+Does v (glance user page answer) after = GlanceCase v user page answer after
 Does v (take_found taken) after = TakesFound v taken after
 Does v (retire answer) after = RetireCase v answer after
 
@@ -45,7 +48,7 @@ page_liked user told = []
 abbrev pub pages_liked : ℕ → List Told → List ℕ
 pages_liked user told = flat_map (page_liked user) told
 
--- whether
+-- how many likes of a page this tells: one, if it is a like of the page that was told `Liked`
 abbrev pub like_told : ℕ → Told → ℕ
 like_told page (like user other answer) = told_of other page answer
 like_told page told = 0

@@ -43,3 +43,16 @@ pub enum LookAnswer {
     /// The seat has retired. Nothing was done.
     Gone,
 }
+
+/// What a glance is told.
+#[derive(Clone, Copy, Debug, PartialEq, Eq)]
+pub enum GlanceAnswer {
+    /// The user's last like, and the page's count with the seat's own likes.
+    Seen(Seen),
+    /// The seat is between two phases. Nothing was done: call again.
+    Between,
+    /// As of a like. Nothing was done.
+    Refused(Verdict),
+    /// The seat has retired. Nothing was done.
+    Gone,
+}

@@ -16,7 +16,7 @@ mod open_error;
 mod opening;
 mod service;
 
-pub use answer::{LikeAnswer, LookAnswer, TurnAnswer};
+pub use answer::{GlanceAnswer, LikeAnswer, LookAnswer, TurnAnswer};
 pub use asked::{Asked, Found};
 pub use call::{Answer, Call};
 pub use driver::Driver;

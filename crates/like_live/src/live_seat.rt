@@ -7,13 +7,13 @@ ghost use Rattle.like_core.specs.WorkerState.{IsRunning};
 ghost use Rattle.like_requests.specs.Limits.{max_stash};
 ghost use Rattle.like_live.specs.LiveView.{IsLive, IsNewLive, IsSameSeat, KeepsTallies, tally};
 ghost use Rattle.like_live.specs.Moves.{Moves};
-ghost use Rattle.like_live.specs.Calls.{LikeCase, LookCase, RetireCase, TakesFound, TalliesLike, last_after};
+ghost use Rattle.like_live.specs.Calls.{GlanceCase, LikeCase, LookCase, RetireCase, TakesFound, TalliesLike, last_after};
 
 mod batch;
 mod moves;
 mod requests;
 
-use crate::answer::{LikeAnswer, LookAnswer, TurnAnswer};
+use crate::answer::{GlanceAnswer, LikeAnswer, LookAnswer, TurnAnswer};
 use crate::asked::{Asked, Found};
 use crate::hint::Hint;
 use like_core::Post;
@@ -129,6 +129,22 @@ impl<P: Post> LiveSeat<P> {
             TurnAnswer::Runs => self.look_now(user, page, tag),
             TurnAnswer::Between => LookAnswer::Between,
             TurnAnswer::Gone => LookAnswer::Gone,
+        }
+    }
+
+    /// Looks for a user at a page, and never waits. Of a page that is split now, the count lacks the likes of this phase
+    /// of other seats.
+    pub fn glance(&mut self, user: u32, page: u32) -> GlanceAnswer
+        ensures case { GlanceCase self.old user page result self.new }
+        ensures keeps { IsLive self.new }
+        ensures same { IsSameSeat self.old self.new }
+        ensures tallies { KeepsTallies self.old self.new }
+        ensures last { self.new.seat.last ≡ self.old.seat.last }
+    {
+        match self.turn() {
+            TurnAnswer::Runs => self.glance_now(user, page),
+            TurnAnswer::Between => GlanceAnswer::Between,
+            TurnAnswer::Gone => GlanceAnswer::Gone,
         }
     }
 

@@ -2,7 +2,7 @@ ghost use Rattle.std.specs.Prelude.{◌≤◌, length};
 ghost use Rattle.like_live.specs.Batch.{AnswersCall, RunCase};
 ghost use Rattle.like_live.specs.LiveView.{IsLive, IsSameSeat};
 
-use crate::answer::{LikeAnswer, LookAnswer};
+use crate::answer::{GlanceAnswer, LikeAnswer, LookAnswer};
 use crate::call::{Answer, Call};
 use crate::live_seat::LiveSeat;
 use like_core::Post;
@@ -40,6 +40,10 @@ impl<P: Post> LiveSeat<P> {
             Call::Look { user, page, tag } => match self.look(user, page, tag) {
                 LookAnswer::Between | LookAnswer::NoRoom => None,
                 answer => Some(Answer::Look(answer)),
+            },
+            Call::Glance { user, page } => match self.glance(user, page) {
+                GlanceAnswer::Between => None,
+                answer => Some(Answer::Glance(answer)),
             },
         }
     }

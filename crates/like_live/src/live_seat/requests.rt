@@ -4,10 +4,10 @@ ghost use Rattle.like_core.specs.WorkerState.{IsRunning, RunsSplit};
 ghost use Rattle.like_seat.specs.SeatView.{phase_at};
 ghost use Rattle.like_seat.specs.Steps.{holding};
 ghost use Rattle.like_tables.specs.Share.{owns};
-ghost use Rattle.like_live.specs.LiveView.{IsLive, IsOwn, room_of, waiting, with_seat};
-ghost use Rattle.like_live.specs.Calls.{LikesNow, LooksNow, RetiresNow, verdict_at};
+ghost use Rattle.like_live.specs.LiveView.{IsLive, IsOwn, IsSameSeat, KeepsTallies, room_of, waiting, with_seat};
+ghost use Rattle.like_live.specs.Calls.{GlancesNow, LikesNow, LooksNow, RetiresNow, verdict_at};
 
-use crate::answer::{LikeAnswer, LookAnswer, TurnAnswer};
+use crate::answer::{GlanceAnswer, LikeAnswer, LookAnswer, TurnAnswer};
 use crate::asked::Asked;
 use crate::live_seat::LiveSeat;
 use like_core::Post;
@@ -94,6 +94,25 @@ impl<P: Post> LiveSeat<P> {
         if self.room <= self.half && !self.hint.is_asked() {
             self.hint.ask();
         }
+    }
+
+    // A glance, of a seat that runs a phase.
+    pub(crate) fn glance_now(&mut self, user: u32, page: u32) -> GlanceAnswer
+        requires { IsRunning self.old.seat.post.state }
+        ensures case { GlancesNow self.old user page result self.new }
+        ensures keeps { IsLive self.new }
+        ensures same { IsSameSeat self.old self.new }
+        ensures tallies { KeepsTallies self.old self.new }
+        ensures last { self.new.seat.last ≡ self.old.seat.last }
+    {
+        match self.verdict(user, page) {
+            Verdict::Accepted => {}
+            refused => return GlanceAnswer::Refused(refused),
+        }
+        if self.seat.is_sliced(page) {
+            return GlanceAnswer::Seen(self.seat.glance(user, page));
+        }
+        GlanceAnswer::Seen(self.seat.read_for(user, page))
     }
 
     // Retires, of a seat that runs a phase, where that is joined.

@@ -1,9 +1,9 @@
 use Rattle.std.proofs.Common.{inl, inr, refl, sym, subst}
 use Rattle.like_live.specs.Batch.{IsAnswered, MustWait}
-use Rattle.like_live.specs.declared.call.Answer.TheVariants.{Like, Look}
+use Rattle.like_live.specs.declared.call.Answer.TheVariants.{Glance, Like, Look}
 use Rattle.like_live.specs.declared.answer.LookAnswer.{LookAnswer}
 use Rattle.like_live.specs.Calls.{LookCase}
-use Rattle.like_live.specs.History.{like, look}
+use Rattle.like_live.specs.History.{glance, like, look}
 use Rattle.like_live.proofs.live_seat.LiveSeat.answer.Goals as goal
 
 pub returns-in-Between-clause-case : goal.returns-in-Between-clause-case
@@ -35,4 +35,17 @@ returns-in_default-look g c = record {
       (look c.in-Look.user c.in-Look.page c.in-Look.tag c.look.result, ((c.in_default-look.not-Between, c.in_default-look.not-NoRoom, refl), c.look.ensures.case));
   keeps = c.look.ensures.keeps;
   same = c.look.ensures.same;
+}
+
+pub returns-in-Between-glance-clause-case : goal.returns-in-Between-glance-clause-case
+returns-in-Between-glance-clause-case g c =
+    subst (λ x. MustWait c.args.self.now x c.glance.new.self) (sym c.in-Glance.is) c.in-Between-glance.ensures.case
+
+pub returns-in_default-glance : goal.returns-in_default-glance
+returns-in_default-glance g c = record {
+  case =
+      subst (λ x. IsAnswered c.args.self.now x (Glance c.glance.result) c.glance.new.self) (sym c.in-Glance.is)
+      (glance c.in-Glance.user c.in-Glance.page c.glance.result, ((c.in_default-glance.not-Between, refl), c.glance.ensures.case));
+  keeps = c.glance.ensures.keeps;
+  same = c.glance.ensures.same;
 }
