@@ -3,7 +3,7 @@ use Rattle.std.specs.Prelude.{◌≡◌, ◌≤◌, List, length, map, All}
 use Rattle.like_requests.specs.Limits.{max_submitters}
 use Rattle.like_requests.specs.declared.request.Request.{Request}
 use Rattle.like_queue.specs.Line.{LineId, Sender, Taker}
-use Rattle.like_run.specs.declared.threads.lines.Lines.{Lines}
+use Rattle.like_lines.specs.declared.lines.Lines.{Lines}
 
 -- the pass or end of a line that sends, when nothing was sent
 abbrev pub new_sender : LineId → Sender

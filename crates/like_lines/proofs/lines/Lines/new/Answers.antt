@@ -5,10 +5,14 @@ use Rattle.std.proofs.lemmas.List.{map-id, map_push}
 use Rattle.like_requests.specs.Limits.{max_requests}
 use Rattle.like_requests.specs.declared.request.Request.{Request}
 use Rattle.like_queue.specs.Line.{LineId, Sender, Taker}
-use Rattle.like_crew.specs.Asked.{lists_of}
-use Rattle.like_crew.proofs.Asked.{requests_of}
-use Rattle.like_run.specs.Lines.{new_ends, new_sender, new_taker}
-use Rattle.like_run.proofs.threads.lines.Lines.new.Goals as goal
+use Rattle.like_lines.specs.Lines.{new_ends, new_sender, new_taker}
+use Rattle.like_lines.proofs.lines.Lines.new.Goals as goal
+
+abbrev requests_of : Vec Request Global → List Request
+requests_of plan = plan.items
+
+abbrev lists_of : List (Vec Request Global) → List (List Request)
+lists_of plans = map requests_of plans
 
 abbrev plan_of : LineId → List Request
 plan_of line = line.plan

@@ -4,7 +4,7 @@ use Rattle.like_requests.specs.declared.request.Request.{Request}
 use Rattle.like_queue.specs.Line.{Pushes, Sender, next_of, one_sent}
 use Rattle.like_queue.specs.declared.refused.PushRefused.{PushRefused}
 use Rattle.like_queue.specs.declared.refused.PushRefused.TheVariants.{Ended, Full}
-use Rattle.like_run.proofs.threads.submitter.send.Goals as goal
+use Rattle.like_lines.proofs.submitter.send.Goals as goal
 
 -- a push sends one request, and none where it is refused
 sent : (v w : Sender) (request : Request) (r : Result ℕ PushRefused) → Pushes v request r w → is_ok r ≡ true → w ≡ one_sent v

@@ -1,8 +1,8 @@
 ghost use Rattle.std.specs.Prelude.{◌≡◌, None, Some};
 ghost use Rattle.like_queue.specs.Line.{HasSentEnd, next_of, one_sent};
 
-use crate::threads::parkers::Parkers;
-use crate::threads::signal::hear;
+use crate::parkers::Parkers;
+use crate::signal::hear;
 use like_queue::{BATCH, SendEnd};
 use like_requests::Request;
 use like_roles::Gate;

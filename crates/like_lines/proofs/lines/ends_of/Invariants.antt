@@ -1,5 +1,5 @@
 use Rattle.std.proofs.Common.{◌≡◌, map}
-use Rattle.like_run.proofs.threads.lines.ends_of.Given as goal
+use Rattle.like_lines.proofs.lines.ends_of.Given as goal
 
 abbrev pub invariant-loop-send : goal.invariant-loop-send
 invariant-loop-send l = record {

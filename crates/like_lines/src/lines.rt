@@ -1,7 +1,6 @@
 ghost use Rattle.std.specs.Prelude.{◌≡◌, ◌≤◌, All, IfOk, length, map};
 ghost use Rattle.like_requests.specs.Limits.{max_requests};
-ghost use Rattle.like_crew.specs.Asked.{lists_of};
-ghost use Rattle.like_run.specs.Lines.{AreLines, new_ends, new_sender, new_taker};
+ghost use Rattle.like_lines.specs.Lines.{AreLines, new_ends, new_sender, new_taker};
 
 use like_queue::{Line, SendEnd, SendPass, TakeEnd, TakePass};
 use like_requests::Request;
@@ -18,7 +17,7 @@ impl Lines {
     /// The lines of these plans, through which nothing went.
     pub fn new(alloc: Global, plans: Vec<Vec<Request>>) -> Result<Lines, AllocError>
         requires { All (λ plan. length plan.items ≤ max_requests) plans.items }
-        ensures { IfOk result (AreLines (lists_of plans.items)) }
+        ensures { IfOk result (AreLines (map (λ plan. plan.items) plans.items)) }
     {
         let mut lines = Vec::new(alloc);
         let mut passes = Vec::new(alloc);

@@ -4,8 +4,8 @@ use Rattle.std.proofs.lemmas.Simd.{map-map}
 use Rattle.std.proofs.lemmas.Iterator.Adapters.{YieldsList-from_vec}
 use Rattle.std.proofs.lemmas.Iterator.Consumers.{YieldsList-end}
 use Rattle.like_queue.specs.Line.{Sender, Taker}
-use Rattle.like_run.specs.Lines.{new_ends}
-use Rattle.like_run.proofs.threads.lines.ends_of.Goals as goal
+use Rattle.like_lines.specs.Lines.{new_ends}
+use Rattle.like_lines.proofs.lines.ends_of.Goals as goal
 
 -- an end more, of a line more
 ends-more : {A : Type 0} (end_of : Sender × Taker → A) (ends now : List A) (end : A) (passes : List (Sender × Taker)) (pass : Sender × Taker) → now ≡ ends ++ end ∷ [] → ends ≡ map end_of passes → end ≡ end_of pass
