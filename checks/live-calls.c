@@ -191,7 +191,7 @@ static void empty_handles(void) {
     IS(likes_retire(&seat), LIKES_EMPTY);
     IS(likes_seat_phase(&seat), 0);
     IS(likes_driver_turn(&driver, true), LIKES_EMPTY);
-    IS(likes_snapshot(&driver, true, counts, 1), LIKES_EMPTY);
+    IS(likes_snapshot(&driver, counts, 1), LIKES_EMPTY);
     IS(likes_phase(&driver), 0);
     IS(likes_close(&driver, counts, 1), LIKES_EMPTY);
     likes_free_seat(&seat);
@@ -308,26 +308,37 @@ static void driving(void) {
     uint64_t now[2] = {0};
     likes_answer answer;
     opened it = open_service((likes_options){.seats = 1, .users = 1, .room = 2, .hot = 3}, counts, 2, NULL);
+    likes_seat *seat = &it.seats[0];
     IS(likes_driver_turn(&it.driver, false), LIKES_RUNNING);
-    IS(likes_driver_turn(&it.driver, true), LIKES_RUNNING); /* nothing would be split */
-    IS(likes_snapshot(&it.driver, true, now, 1), LIKES_WRONG_LENGTH);
-    IS(likes_snapshot(&it.driver, true, now, 3), LIKES_WRONG_LENGTH);
+    IS(likes_snapshot(&it.driver, now, 1), LIKES_WRONG_LENGTH);
+    IS(likes_snapshot(&it.driver, now, 3), LIKES_WRONG_LENGTH);
+    IS(likes_snapshot(&it.driver, now, 2), LIKES_WAITING);
     for (int i = 0; i < 3; i++)
-        IS(likes_like(&it.seats[0], 0, 1), LIKES_LIKED);
-    IS(likes_driver_turn(&it.driver, false), LIKES_RUNNING);
-    change_phase(&it, 1);
-    IS(likes_like(&it.seats[0], 0, 0), LIKES_LIKED);
-    IS(likes_like(&it.seats[0], 0, 1), LIKES_LIKED);
-    IS(likes_look(&it.seats[0], 0, 0, 1, &answer), LIKES_SEEN); /* page 0 isn't hot */
-    IS(answer.count, 6);
-    IS(likes_look(&it.seats[0], 0, 1, 1, &answer), LIKES_WAITS);
-    /* The seat's room is half taken: the phase ends early. */
-    IS(likes_snapshot(&it.driver, false, now, 2), LIKES_ANNOUNCED);
-    IS(likes_snapshot(&it.driver, false, now, 2), LIKES_WAITING);
-    IS(likes_turn(&it.seats[0]), LIKES_BETWEEN);
-    IS(likes_snapshot(&it.driver, false, now, 2), LIKES_COUNTED);
+        IS(likes_like(seat, 0, 1), LIKES_LIKED);
+    IS(likes_like(seat, 0, 0), LIKES_LIKED);
+    IS(likes_driver_turn(&it.driver, true), LIKES_ANNOUNCED);
+    IS(likes_snapshot(&it.driver, now, 2), LIKES_WAITING);
+    IS(likes_turn(seat), LIKES_BETWEEN);
+    IS(likes_snapshot(&it.driver, now, 2), LIKES_COUNTED);
+    IS(likes_phase(&it.driver), 0);
     IS(now[0], 6);
-    IS(now[1], 9);
+    IS(now[1], 8);
+    IS(likes_driver_turn(&it.driver, false), LIKES_RELEASED);
+    IS(likes_phase(&it.driver), 1);
+    IS(likes_look(seat, 0, 0, 1, &answer), LIKES_SEEN); /* page 0 isn't hot */
+    IS(answer.count, 6);
+    IS(likes_look(seat, 0, 1, 1, &answer), LIKES_WAITS);
+    /* The seat's room is half taken: the phase ends early. No counts are given at the end of a split phase. */
+    IS(likes_driver_turn(&it.driver, false), LIKES_ANNOUNCED);
+    IS(likes_driver_turn(&it.driver, false), LIKES_WAITING);
+    IS(likes_turn(seat), LIKES_BETWEEN);
+    IS(likes_snapshot(&it.driver, now, 2), LIKES_WAITING);
+    IS(likes_driver_turn(&it.driver, false), LIKES_RELEASED);
+    IS(likes_driver_turn(&it.driver, false), LIKES_RUNNING);
+    free_service(&it);
+    /* Where nothing can be split, the first phase goes on. */
+    it = open_service((likes_options){.seats = 1, .users = 1, .room = 2, .hot = 0}, counts, 2, NULL);
+    IS(likes_driver_turn(&it.driver, true), LIKES_RUNNING);
     free_service(&it);
 }
 

@@ -240,18 +240,15 @@ static void drive(game *it) {
     uint64_t due = 0;
     for (;;) {
         uint64_t now = likes_clock();
-        uint32_t status;
         if (it->taken < MOMENTS && below(&random, 4) == 0) {
             moment *next = &it->moments[it->taken];
             next->phase = likes_phase(&it->driver);
-            status = likes_snapshot(&it->driver, now >= due, next->counts, it->pages);
-            it->taken += status == LIKES_COUNTED;
-        } else {
-            status = likes_driver_turn(&it->driver, now >= due);
+            it->taken += likes_snapshot(&it->driver, next->counts, it->pages) == LIKES_COUNTED;
         }
+        uint32_t status = likes_driver_turn(&it->driver, now >= due);
         if (status == LIKES_ENDED)
             return;
-        if (status == LIKES_RELEASED || status == LIKES_COUNTED)
+        if (status == LIKES_RELEASED)
             due = now + (below(&random, 3) == 0 ? 0 : below(&random, 1000 * (uint64_t)it->longest + 1));
         for (uint32_t i = 0; i < it->options.seats; i++) {
             if (pthread_mutex_trylock(&it->locks[i]) == 0) {

@@ -51,7 +51,7 @@ typedef struct likes_options {
     uint32_t seats; /* 1 to 16 */
     uint32_t users; /* 1 to 2^32 - 1. Users are numbered from 0, and take 4 bytes each. */
     uint32_t room;  /* how many looks a seat keeps, waiting and found ones together: 1 to 4,096 */
-    uint32_t hot;   /* so many likes since the last choice make one of the first 64 pages hot; 0: none gets hot */
+    uint32_t hot;   /* before a split phase, the first 64 pages with so many likes since the last one get hot; 0: none */
 } likes_options;
 
 /* What calls answer. */
@@ -64,7 +64,7 @@ enum likes_status {
     LIKES_WAITS = 3,        /* the look will be found later, with its tag, by likes_take_found */
     LIKES_RUNS = 4,         /* the seat runs a phase */
     LIKES_BETWEEN = 5,      /* nothing was done: the seat is between two phases. Try again, or do other work first. */
-    LIKES_NO_ROOM = 6,      /* nothing was done: the page is split, and no more looks may wait. Take found looks. */
+    LIKES_NO_ROOM = 6,      /* nothing was done: the page is split, and no more looks may wait. Take found ones. */
     LIKES_UNKNOWN_USER = 7, /* nothing was done, here and below */
     LIKES_OTHER_SEAT = 8,   /* the user belongs to another seat */
     LIKES_UNKNOWN_PAGE = 9,
@@ -77,7 +77,7 @@ enum likes_status {
     LIKES_ANNOUNCED = 14, /* the end of the phase was announced */
     LIKES_WAITING = 15,   /* the phase is ending, and a seat has yet to answer */
     LIKES_RELEASED = 16,  /* the next phase has begun */
-    LIKES_COUNTED = 17,   /* the same, and the counts of all pages were written */
+    LIKES_COUNTED = 17,   /* the counts of all pages were written */
     LIKES_ENDED = 18,     /* all seats are gone */
 
     /* nothing was done */
@@ -87,12 +87,12 @@ enum likes_status {
     LIKES_NOT_ENDED = 22,    /* a seat isn't gone yet */
     LIKES_WRONG_LENGTH = 23, /* the row of counts has not as many entries as there are pages */
     LIKES_NO_MEMORY = 24,
-    LIKES_WRONG_SEATS = 25,
-    LIKES_WRONG_USERS = 26,
-    LIKES_WRONG_ROOM = 27,
-    LIKES_WRONG_PAGES = 28, /* there are no pages, or more than 1,024 */
-    LIKES_WRONG_COUNT = 29, /* an initial count is over 10^18 */
-    LIKES_WRONG_MARKS = 30  /* there are marks, but not one for each page */
+    LIKES_WRONG_PAGES = 25, /* there are no pages, or more than 1,024 */
+    LIKES_WRONG_MARKS = 26, /* there are marks, but not one for each page */
+    LIKES_WRONG_COUNT = 27, /* an initial count is over 10^18 */
+    LIKES_WRONG_SEATS = 28,
+    LIKES_WRONG_USERS = 29,
+    LIKES_WRONG_ROOM = 30
 };
 
 /* What is asked for in a row of likes_run. */
@@ -127,8 +127,8 @@ typedef struct likes_found {
 /* Opens a service.
  *
  * counts has the initial count of each page, marks says which pages are split in every split phase. No marks at all
- * (marks_len 0) mark no page. LIKES_OK fills the driver. Else it stays empty, and the answer is LIKES_IN_USE,
- * LIKES_NO_MEMORY or one of LIKES_WRONG_.. . */
+ * (marks_len 0) mark no page. LIKES_OK fills the driver. Else it stays empty, and the answer is LIKES_IN_USE, the first
+ * of LIKES_WRONG_.. that is right, or LIKES_NO_MEMORY. */
 uint32_t likes_open(const likes_options *options, const uint64_t *counts, size_t pages, const bool *marks,
                     size_t marks_len, likes_driver *driver);
 
@@ -171,13 +171,14 @@ uint32_t likes_retire(likes_seat *seat);
 uint64_t likes_seat_phase(const likes_seat *seat);
 
 /* Does at most one thing for the phases: LIKES_ANNOUNCED, WAITING, RELEASED, RUNNING, ENDED or EMPTY. It ends a phase
- * only where may_end is true, or where a seat's room is half taken. A joined phase after which no page would be split
- * goes on. */
+ * only where may_end is true, or where a seat's room is half taken. Where no page is marked and none can get hot, the
+ * first phase goes on for ever. */
 uint32_t likes_driver_turn(likes_driver *driver, bool may_end);
 
-/* The same. But where it releases the phase after a split one, it first writes the counts of all pages, which are those
- * of one moment, between the two phases. The answer then is LIKES_COUNTED. Or LIKES_WRONG_LENGTH. */
-uint32_t likes_snapshot(likes_driver *driver, bool may_end, uint64_t *counts, size_t pages);
+/* Writes the counts of all pages at one moment, where a joined phase is ending and every seat has answered it:
+ * LIKES_COUNTED. They have all likes of that phase and of those before it. Else nothing is written: LIKES_WAITING,
+ * WRONG_LENGTH or EMPTY. The phase ends by a turn later. */
+uint32_t likes_snapshot(likes_driver *driver, uint64_t *counts, size_t pages);
 
 /* The present phase. Phases with odd numbers are split. */
 uint64_t likes_phase(const likes_driver *driver);

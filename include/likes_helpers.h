@@ -67,7 +67,7 @@ static inline const char *likes_status_name(uint32_t status) {
         /* 0 */ "ok", "liked", "seen", "waits", "runs", "between", "no room", "unknown user", "other seat",
         /* 9 */ "unknown page", "unknown op", "full", "gone", "running", "announced", "waiting", "released",
         /* 17 */ "counted", "ended", "empty", "in use", "no seat", "not ended", "wrong length", "no memory",
-        /* 25 */ "wrong seats", "wrong users", "wrong room", "wrong pages", "wrong count", "wrong marks", "no thread",
+        /* 25 */ "wrong pages", "wrong marks", "wrong count", "wrong seats", "wrong users", "wrong room", "no thread",
     };
     return status < sizeof names / sizeof *names ? names[status] : "unknown status";
 }
@@ -309,19 +309,22 @@ static inline uint32_t likes_service_look(likes_service *service, uint32_t user,
     return answer->status;
 }
 
-/* The counts of all pages at one moment, the end of a split phase: LIKES_COUNTED. Or LIKES_RUNNING, where no page would
- * be split and so no phase ends, or LIKES_WRONG_LENGTH. It takes up to some phases. The calling thread holds no seat. */
+/* The counts of all pages at one moment, the end of a joined phase: LIKES_COUNTED. Or LIKES_RUNNING, where no page can be
+ * split and so no phase ends, or LIKES_WRONG_LENGTH. It takes up to two phases. The calling thread holds no seat. */
 static inline uint32_t likes_service_counts(likes_service *service, uint64_t *counts, size_t pages) {
+    uint32_t status, turn = LIKES_RELEASED;
     pthread_mutex_lock(&service->driving);
-    uint32_t status = likes_snapshot(&service->driver, true, counts, pages);
-    while (status == LIKES_ANNOUNCED || status == LIKES_WAITING || status == LIKES_RELEASED) {
+    while ((status = likes_snapshot(&service->driver, counts, pages)) == LIKES_WAITING && turn != LIKES_RUNNING) {
+        /* Where a joined phase is ending, a turn could release the next one unseen. */
+        bool is_ending = turn == LIKES_ANNOUNCED || turn == LIKES_WAITING;
+        if (!is_ending || likes_phase(&service->driver) % 2 == 1)
+            turn = likes_driver_turn(&service->driver, true);
         likes_service_turns(service);
         sched_yield();
-        status = likes_snapshot(&service->driver, true, counts, pages);
     }
     service->due = likes_clock();
     pthread_mutex_unlock(&service->driving);
-    return status;
+    return status == LIKES_WAITING ? LIKES_RUNNING : status;
 }
 
 /* Ends the driver's thread, and has all seats retire. No thread holds a seat, and no call of the service is begun any
