@@ -222,7 +222,8 @@ static void wrong_numbers(void) {
         IS(answers[0].status, statuses[i]);
         IS(answers[1].status, LIKES_LIKED);
     }
-    likes_request row[] = {{.user = 1, .op = 3}, {.user = 1, .op = UINT32_MAX}, {.user = 1, .page = 1, .op = LIKES_LOOK}};
+    likes_request row[] = {
+        {.user = 1, .op = 3}, {.user = 1, .op = UINT32_MAX}, {.user = 1, .page = 1, .op = LIKES_LOOK}};
     IS(likes_run(seat, row, 3, answers, 8), 3);
     IS(answers[0].status, LIKES_UNKNOWN_OP);
     IS(answers[1].status, LIKES_UNKNOWN_OP);
@@ -239,7 +240,8 @@ static void rows(void) {
     const uint64_t counts[] = {0};
     const bool marks[] = {true};
     likes_answer answers[4];
-    likes_request row[4] = {{.tag = 1, .op = LIKES_LOOK}, {.op = LIKES_LIKE}, {.op = LIKES_GLANCE}, {.tag = 2, .op = LIKES_LOOK}};
+    likes_request row[4] = {
+        {.tag = 1, .op = LIKES_LOOK}, {.op = LIKES_LIKE}, {.op = LIKES_GLANCE}, {.tag = 2, .op = LIKES_LOOK}};
     opened it = open_service((likes_options){.seats = 1, .users = 1, .room = 1, .hot = 0}, counts, 1, marks);
     change_phase(&it, 1);
     IS(likes_run(&it.seats[0], row, 4, answers, 4), 3);

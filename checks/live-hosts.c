@@ -122,7 +122,8 @@ static likes_request draw(const game *it, uint32_t number, uint64_t *random, uin
 static bool answered(game *it, uint32_t number, likes_request request, likes_answer answer) {
     const likes_options *options = &it->options;
     uint64_t phase = likes_seat_phase(&it->seats[number]);
-    bool is_known = request.user < options->users && request.user % options->seats == number && request.page < it->pages;
+    bool is_own = request.user < options->users && request.user % options->seats == number;
+    bool is_known = is_own && request.page < it->pages;
     event made = {.user = request.user, .page = request.page, .phase = phase};
     made.last = answer.last;
     made.count = answer.count;
@@ -385,7 +386,7 @@ static void check(game *it) {
     for (size_t n = 0; n < it->taken; n++)
         for (uint32_t page = 0; page < it->pages; page++)
             if (it->moments[n].counts[page] != it->counts[page] + row_of(of.all, &of, it->moments[n].phase)[page])
-                fail(it, "the counts after phase %llu are wrong at page %u", (unsigned long long)it->moments[n].phase, page);
+                fail(it, "the counts after phase %llu are wrong", (unsigned long long)it->moments[n].phase);
     for (uint32_t i = 0; i < it->options.seats; i++) {
         check_seen(it, &of, i);
         check_found(it, &of, i);

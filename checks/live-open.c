@@ -1,6 +1,6 @@
-/* Opens a service with each of its allocations refused in turn, alone and with all that follow it. Each such opening has
- * to answer that there is no memory, to leave the driver empty, and to give back what it took. Beside that, only
- * likes_open allocates.
+/* Opens a service with each of its allocations refused in turn, alone and with all that follow it. Each such opening
+ * has to answer that there is no memory, to leave the driver empty, and to give back what it took. No call but
+ * likes_open may allocate.
  *
  * It stands in for malloc, by way of the names under which the GNU C library has it too. */
 #include "likes.h"

@@ -51,7 +51,7 @@ typedef struct likes_options {
     uint32_t seats; /* 1 to 16 */
     uint32_t users; /* 1 to 2^32 - 1. Users are numbered from 0, and take 4 bytes each. */
     uint32_t room;  /* how many looks a seat keeps, waiting and found ones together: 1 to 4,096 */
-    uint32_t hot;   /* before a split phase, the first 64 pages with so many likes since the last one get hot; 0: none */
+    uint32_t hot;   /* of the first 64 pages, those with so many likes since the last choice get hot; 0: none does */
 } likes_options;
 
 /* What calls answer. */

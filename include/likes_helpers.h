@@ -40,23 +40,25 @@ typedef struct likes_wait {
     bool is_found;
 } likes_wait;
 
-/* A seat behind its lock. */
+/* A seat behind its lock. Rooms of 128 bytes keep what one thread writes out of the cache lines of others. */
 typedef struct likes_place {
     pthread_mutex_t lock;
     pthread_cond_t found;
-    likes_seat seat;
     likes_wait *first, **last; /* the looks of likes_service_look that wait, in the order of asking */
-    char apart[128];           /* so that no line of the cache has parts of two places */
+    char apart[128];
+    likes_seat seat;
+    char apart_too[128];
 } likes_place;
 
 typedef struct likes_service {
     likes_place places[LIKES_MAX_SEATS];
     uint32_t seats;
     size_t pages;
+    uint64_t period; /* the length of a split phase, in nanoseconds */
+    uint64_t due;    /* when the phase may end, by likes_clock; atomic */
+    char apart[128];
     pthread_mutex_t driving;
-    likes_driver driver; /* this and the next are used under `driving` */
-    uint64_t due;        /* when the phase may end, in nanoseconds */
-    uint64_t period;     /* the length of a split phase, in nanoseconds */
+    likes_driver driver; /* used under `driving` */
     pthread_t thread;
     bool has_thread, is_stopping;
 } likes_service;
@@ -84,21 +86,28 @@ static inline void likes_sleep(uint64_t nanoseconds) {
     nanosleep(&length, NULL);
 }
 
-/* The driver's turn, with `driving` held. A split phase lasts a period, and a joined one no longer than it has to. Where
- * nothing would be split, the driver asks again after a period. */
+static inline void likes_service_set_due(likes_service *service, uint64_t due) {
+    __atomic_store_n(&service->due, due, __ATOMIC_SEQ_CST);
+}
+
+static inline bool likes_service_is_due(const likes_service *service, uint64_t now) {
+    return now >= __atomic_load_n(&service->due, __ATOMIC_SEQ_CST);
+}
+
+/* The driver's turn, with `driving` held. A split phase lasts a period, and a joined one no longer than it has to.
+ * Where nothing can be split, the driver asks again after a period. */
 static inline uint32_t likes_service_turn(likes_service *service) {
     uint64_t now = likes_clock();
-    bool may_end = now >= service->due;
+    bool may_end = likes_service_is_due(service, now);
     uint32_t status = likes_driver_turn(&service->driver, may_end);
     if (status == LIKES_RELEASED)
-        service->due = likes_phase(&service->driver) % 2 == 1 ? now + service->period : now;
+        likes_service_set_due(service, likes_phase(&service->driver) % 2 == 1 ? now + service->period : now);
     else if (status == LIKES_RUNNING && may_end)
-        service->due = now + service->period;
+        likes_service_set_due(service, now + service->period);
     return status;
 }
 
-/* Makes a turn of the driver, unless another thread is making one. A busy thread may call it once in some 256
- * requests: then no phase waits until the driver's thread gets a processor. */
+/* Makes a turn of the driver, unless another thread is making one. */
 static inline uint32_t likes_service_drive(likes_service *service) {
     if (pthread_mutex_trylock(&service->driving) != 0)
         return LIKES_WAITING;
@@ -107,9 +116,17 @@ static inline uint32_t likes_service_drive(likes_service *service) {
     return status;
 }
 
+/* The same, but only if the phase may end by now. A busy thread may call it once in some 256 requests: then no phase
+ * waits until the driver's thread gets a processor. */
+static inline void likes_service_tick(likes_service *service) {
+    if (likes_service_is_due(service, likes_clock()))
+        likes_service_drive(service);
+}
+
 /* Passes a moment between two tries. */
 static inline void likes_service_pause(likes_service *service, unsigned tries) {
-    likes_service_drive(service);
+    if (tries % 8 == 0)
+        likes_service_drive(service);
     if (tries % LIKES_SPINS == LIKES_SPINS - 1)
         sched_yield();
 }
@@ -259,7 +276,8 @@ static inline uint32_t likes_service_like(likes_service *service, uint32_t user,
 }
 
 /* Looks at once: an answer of likes_glance, but never LIKES_BETWEEN. Any thread may call it. */
-static inline uint32_t likes_service_glance(likes_service *service, uint32_t user, uint32_t page, likes_answer *answer) {
+static inline uint32_t likes_service_glance(likes_service *service, uint32_t user, uint32_t page,
+                                            likes_answer *answer) {
     uint32_t number = likes_seat_of(user, service->seats);
     likes_seat *seat = likes_service_wake(service, number);
     uint32_t status = likes_glance(seat, user, page, answer);
@@ -309,8 +327,8 @@ static inline uint32_t likes_service_look(likes_service *service, uint32_t user,
     return answer->status;
 }
 
-/* The counts of all pages at one moment, the end of a joined phase: LIKES_COUNTED. Or LIKES_RUNNING, where no page can be
- * split and so no phase ends, or LIKES_WRONG_LENGTH. It takes up to two phases. The calling thread holds no seat. */
+/* The counts of all pages at one moment, the end of a joined phase: LIKES_COUNTED. Or LIKES_RUNNING, where no page can
+ * be split and so no phase ends, or LIKES_WRONG_LENGTH. It takes up to two phases. The calling thread holds no seat. */
 static inline uint32_t likes_service_counts(likes_service *service, uint64_t *counts, size_t pages) {
     uint32_t status, turn = LIKES_RELEASED;
     pthread_mutex_lock(&service->driving);
@@ -322,9 +340,11 @@ static inline uint32_t likes_service_counts(likes_service *service, uint64_t *co
         likes_service_turns(service);
         sched_yield();
     }
-    service->due = likes_clock();
+    likes_service_set_due(service, likes_clock());
     pthread_mutex_unlock(&service->driving);
-    return status == LIKES_WAITING ? LIKES_RUNNING : status;
+    if (status == LIKES_WAITING)
+        return LIKES_RUNNING;
+    return status;
 }
 
 /* Ends the driver's thread, and has all seats retire. No thread holds a seat, and no call of the service is begun any

@@ -34,7 +34,8 @@ public:
     Seat &operator=(const Seat &) = delete;
 
     // Runs a row of requests, and gives how many were done: all, or those before a look without room.
-    std::size_t run(const std::vector<likes_request> &requests, std::vector<likes_answer> &answers, std::size_t from = 0) {
+    std::size_t run(const std::vector<likes_request> &requests, std::vector<likes_answer> &answers,
+                    std::size_t from = 0) {
         answers.resize(requests.size());
         return from + likes_service_run(service_, number_, requests.data() + from, requests.size() - from,
                                         answers.data() + from);
@@ -71,7 +72,9 @@ public:
     Service(const Service &) = delete;
     Service &operator=(const Service &) = delete;
 
-    void like(std::uint32_t user, std::uint32_t page) { check(likes_service_like(service_.get(), user, page), LIKES_LIKED); }
+    void like(std::uint32_t user, std::uint32_t page) {
+        check(likes_service_like(service_.get(), user, page), LIKES_LIKED);
+    }
 
     // The exact count. It may wait for about a phase.
     Seen look(std::uint32_t user, std::uint32_t page) {

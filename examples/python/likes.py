@@ -85,7 +85,8 @@ class Row:
     def go_on(self, library, seat):
         """Runs what is left at a seat that this thread holds, and takes what was found. Whether all is answered."""
         left, begun = self.length - self.done, self.done
-        rows, answers = (byref(it, begun * ctypes.sizeof(it) // max(1, self.length)) for it in (self.rows, self.answers))
+        rows = byref(self.rows, begun * ctypes.sizeof(Request))
+        answers = byref(self.answers, begun * ctypes.sizeof(Answer))
         self.done += library.likes_run(seat, rows, left, answers, left)
         for at in range(begun, self.done):
             answer = self.answers[at]
