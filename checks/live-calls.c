@@ -148,7 +148,7 @@ static void openings(void) {
     wrong_one = right;                                                        \
     wrong_one.field = (value);                                                \
     IS(likes_open(&wrong_one, counts, 1, marks, 0, &driver), status);         \
-    IS(driver.at == NULL, true)
+    IS(driver.is_full, false)
     REFUSED(seats, 0, LIKES_WRONG_SEATS);
     REFUSED(seats, 17, LIKES_WRONG_SEATS);
     REFUSED(seats, UINT32_MAX, LIKES_WRONG_SEATS);
@@ -168,7 +168,7 @@ static void openings(void) {
     IS(likes_open(&right, counts, LIKES_MAX_PAGES, marks, LIKES_MAX_PAGES, &driver), LIKES_OK);
     IS(likes_open(&right, counts, 1, marks, 0, &driver), LIKES_IN_USE);
     likes_free_driver(&driver);
-    IS(driver.at == NULL, true);
+    IS(driver.is_full, false);
 }
 
 /* Every call with an empty handle, and a seat too many. */
@@ -300,7 +300,7 @@ static void after_gone(void) {
     IS(likes_close(&it.driver, last, 2), LIKES_OK);
     IS(last[0], 11);
     IS(last[1], 20);
-    IS(it.driver.at == NULL, true);
+    IS(it.driver.is_full, false);
     free_service(&it);
 }
 

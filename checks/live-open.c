@@ -88,7 +88,7 @@ int main(void) {
     for (size_t number = 1; number <= allocations; number++) {
         for (int all = 0; all < 2; all++) {
             uint32_t status = open_service(&driver, number, all ? SIZE_MAX : number);
-            if (status != LIKES_NO_MEMORY || driver.at != NULL || blocks != 0) {
+            if (status != LIKES_NO_MEMORY || driver.is_full || blocks != 0) {
                 printf("allocation %zu refused: status %u, %zu blocks left\n", number, status, blocks);
                 return 1;
             }

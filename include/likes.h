@@ -9,7 +9,8 @@
  *     too.
  *   - One call at a time on each driver and on each seat, from any thread. Two calls on the same object are ordered by
  *     a lock, by a thread's start or join, or by a sequentially consistent atomic.
- *   - A handle begins as {0}. Only these calls read or change it. After a copy, only one of the two is used.
+ *   - A handle, likes_driver or likes_seat, begins as {0}, which is empty. Only these calls change it. After a copy,
+ *     only one of the two is used.
  *   - No call is made from a signal handler, or in the child of a fork.
  *   - Every seat is called at least once while a phase is ending, by likes_turn if there is nothing else to do. A seat
  *     that isn't called holds up all others.
@@ -29,14 +30,16 @@
 extern "C" {
 #endif
 
-/* The coordinator of a service: it ends and releases phases. */
+/* The coordinator of a service: it ends and releases phases. Its fields are the library's. */
 typedef struct likes_driver {
     void *at;
+    bool is_full;
 } likes_driver;
 
-/* A worker of a service. */
+/* A worker of a service. Its fields are the library's. */
 typedef struct likes_seat {
     void *at;
+    bool is_full;
 } likes_seat;
 
 #define LIKES_MAX_SEATS 16u

@@ -19,7 +19,7 @@ NO_PAGE = 2**32 - 1
 
 
 class Handle(Structure):
-    _fields_ = [("at", c_void_p)]
+    _fields_ = [("at", c_void_p), ("is_full", c_bool)]
 
 
 class Options(Structure):
@@ -181,7 +181,7 @@ class Likes:
 
     def close(self):
         """Ends the service, and gives the final counts. All threads are done with it."""
-        if not self.driver.at:
+        if not self.driver.is_full:
             return None
         gone = 0
         while gone < len(self.seats):
