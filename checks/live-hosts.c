@@ -278,7 +278,7 @@ static uint64_t before(uint32_t *counts, const tally *it, uint64_t phase, uint32
     return phase == 0 ? 0 : row_of(counts, it, phase - 1)[page];
 }
 
-static tally counted(const game *it) {
+static tally counted(game *it) {
     tally made = {.phases = likes_phase(&it->driver) + 1, .pages = it->pages};
     made.all = (uint32_t *)calloc(made.phases * made.pages, sizeof *made.all);
     for (uint32_t i = 0; i < it->options.seats; i++) {

@@ -171,7 +171,7 @@ uint32_t likes_turn(likes_seat *seat);
 uint32_t likes_retire(likes_seat *seat);
 
 /* The phase that the seat runs or has answered last, and 0 once it is gone. Phases with odd numbers are split. */
-uint64_t likes_seat_phase(const likes_seat *seat);
+uint64_t likes_seat_phase(likes_seat *seat);
 
 /* Does at most one thing for the phases: LIKES_ANNOUNCED, WAITING, RELEASED, RUNNING, ENDED or EMPTY. It ends a phase
  * only where may_end is true, or where a seat's room is half taken. Where no page is marked and none can get hot, the
@@ -184,7 +184,7 @@ uint32_t likes_driver_turn(likes_driver *driver, bool may_end);
 uint32_t likes_snapshot(likes_driver *driver, uint64_t *counts, size_t pages);
 
 /* The present phase. Phases with odd numbers are split. */
-uint64_t likes_phase(const likes_driver *driver);
+uint64_t likes_phase(likes_driver *driver);
 
 /* The final counts, when all seats are gone: LIKES_OK, which leaves the driver empty, LIKES_NOT_ENDED,
  * LIKES_WRONG_LENGTH or LIKES_EMPTY. */
