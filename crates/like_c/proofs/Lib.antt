@@ -1,0 +1,2 @@
+pub mod DriverAsBox
+pub mod SeatAsBox

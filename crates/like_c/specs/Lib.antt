@@ -1,0 +1,2 @@
+pub mod HeldDriver
+pub mod HeldSeat
