@@ -20,9 +20,7 @@ fn opened(rt: &impl Abort, alloc: Global, seats: u32, room: u32) -> Result<Servi
         room,
         hot: None,
     };
-    Ok(Service::open(alloc, &opening)
-        .ok()
-        .expect(rt, "a service"))
+    Ok(Service::open(alloc, &opening).ok().expect(rt, "a service"))
 }
 
 fn last_seat(rt: &impl Abort, service: &mut Service) -> LiveSeat<SharedPost> {
@@ -46,7 +44,14 @@ fn likes(rt: &impl Abort, seat: &mut LiveSeat<SharedPost>, user: u32, page: u32)
     assert_eq!(rt; seat.like(user, page), LikeAnswer::Liked);
 }
 
-fn sees(rt: &impl Abort, seat: &mut LiveSeat<SharedPost>, user: u32, page: u32, last: u32, count: u64) {
+fn sees(
+    rt: &impl Abort,
+    seat: &mut LiveSeat<SharedPost>,
+    user: u32,
+    page: u32,
+    last: u32,
+    count: u64,
+) {
     let seen = Seen {
         last: Some(last),
         count,
@@ -178,7 +183,10 @@ fn live_batch(rt: HostRuntime) -> Result<(), Fail> {
         count: 11,
     };
     assert_eq!(rt; answers[0], Answer::Like(LikeAnswer::Liked));
-    assert_eq!(rt; answers[1], Answer::Like(LikeAnswer::Refused(Verdict::OtherHome)));
+    assert_eq!(rt;
+        answers[1],
+        Answer::Like(LikeAnswer::Refused(Verdict::OtherHome))
+    );
     assert_eq!(rt; answers[2], Answer::Glance(GlanceAnswer::Seen(seen)));
     assert_eq!(rt; answers[3], Answer::Look(LookAnswer::Waits));
     assert_eq!(rt; answers[4], Answer::Like(LikeAnswer::Gone));
