@@ -1,5 +1,5 @@
 -- What a driver's turn keeps.
-use Rattle.std.proofs.Common.{Vec, Global, vec_capacity, ◌≡◌, ◌≤◌, length, ℕ, Bool, true, false, List, Option, Some, ap, sym, ◌∙◌, subst, refl}
+use Rattle.std.proofs.Common.{Vec, Global, vec_capacity, ◌≡◌, ◌≤◌, length, ℕ, Bool, true, false, List, Option, Some, None, ap, sym, ◌∙◌, subst, refl}
 use Rattle.std.specs.Prelude.{IsSomeAnd}
 use Rattle.like_board.specs.Seats.{BoardId}
 use Rattle.like_board.specs.declared.worker_seat.WorkerSeat.{WorkerSeat}
@@ -12,7 +12,7 @@ use Rattle.like_seat.specs.Lead.{ChoosesRisen, LeadView, Sees, counted_from, non
 use Rattle.like_seat.proofs.Leading.{counted-is}
 use Rattle.like_live.specs.declared.driver_answer.DriverAnswer.{DriverAnswer}
 use Rattle.like_live.specs.Opening.{splits_by}
-use Rattle.like_live.specs.Driver.{DriverCase, DriverTurns, HasRoom, IsKept, IsSameDriver, IsService, ReleasesNext, SnapshotCase, TakesSnapshot, announces, ended, not_now, releases, releases_joined, releases_split, running, taken, waiting}
+use Rattle.like_live.specs.Driver.{DriverCase, DriverTurns, EndsGone, HasRoom, IsKept, IsSameDriver, IsService, LooksForGone, ReleasesNext, SnapshotCase, TakesLast, TakesSnapshot, announces, announces_end, ended, ending, counted, is_last, not_at_end, not_gone, some_left, not_now, releases, releases_joined, releases_split, running, taken, waiting}
 
 same-on : (u v w : LeadView) → IsSameDriver u v → IsSameDriver v w → IsSameDriver u w
 same-on u v w a b = record { board = b.board ∙ a.board; opening = b.opening ∙ a.opening; hot = b.hot ∙ a.hot }
@@ -125,6 +125,29 @@ snapshot-stays v w old counts phase takes =
     let looked = look-keeps v takes.seen takes.sight takes.sees in
     let acted = snapshot-case-stays takes.seen w takes.sight old counts phase takes.case in
     record { same = same-on v takes.seen w looked.same acted.same; gone = λ before. acted.gone (looked.gone ∙ before) }
+
+ends-stays : (v w : LeadView) (sight : CoordSight) (is_gone : Bool) → EndsGone v sight is_gone w → Stays v w
+ends-stays v w sight is_gone (not_gone _ _ is) = unchanged v w is
+ends-stays v w sight is_gone (ending _ _ _ is) = unchanged v w is
+ends-stays v w sight is_gone (is_last _ _ _ _ is) = unchanged v w is
+ends-stays v w sight is_gone (announces_end _ _ _ _ is) = record {
+  same = record { board = ap (λ (l : LeadView). l.board) is; opening = ap (λ (l : LeadView). l.seat.opening) is; hot = ap (λ (l : LeadView). l.hot) is };
+  gone = λ before. ap (λ (l : LeadView). l.seat.gone) is ∙ before;
+}
+
+pub gone-stays : (v w : LeadView) (is_gone : Bool) → LooksForGone v is_gone w → Stays v w
+gone-stays v w is_gone looks =
+    let looked = look-keeps v looks.seen looks.sight looks.sees in
+    let acted = ends-stays looks.seen w looks.sight is_gone looks.case in
+    record { same = same-on v looks.seen w looked.same acted.same; gone = λ before. acted.gone (looked.gone ∙ before) }
+
+stays-on : (u v w : LeadView) → Stays u v → Stays v w → Stays u w
+stays-on u v w a b = record { same = same-on u v w a.same b.same; gone = λ before. b.gone (a.gone before) }
+
+pub last-stays : (v w : LeadView) (old counts : List ℕ) (is_done : Bool) → TakesLast v old is_done w counts → Stays v w
+last-stays v w old counts is_done (some_left looks _ _) = gone-stays v w false looks
+last-stays v w old counts is_done (not_at_end now looks takes _) = stays-on v now w (gone-stays v now true looks) (snapshot-stays now w old counts None takes)
+last-stays v w old counts is_done (counted now phase looks takes _) = stays-on v now w (gone-stays v now true looks) (snapshot-stays now w old counts (Some phase) takes)
 
 -- a driver that stays so is kept
 pub stays-service : (v w : LeadView) → Stays v w → IsService v → IsService w

@@ -81,6 +81,32 @@ pub record TakesSnapshot (v : LeadView) (old : List ℕ) (phase : Option ℕ) (a
   pub sees : Sees v sight seen
   pub case : SnapshotCase seen sight old phase after counts
 
+-- what it does where a look showed this: where all seats are gone, and nobody announced the end of the phase, it announces
+-- it, but not that of the last phase
+pub data EndsGone (v : LeadView) (sight : CoordSight) (is_gone : Bool) (after : LeadView) : Type 0 where
+  not_gone : sight.all_gone ≡ false → is_gone ≡ false → after ≡ v → EndsGone v sight is_gone after
+  ending : sight.all_gone ≡ true → sight.ending ≡ true → is_gone ≡ true → after ≡ v → EndsGone v sight is_gone after
+  is_last : sight.all_gone ≡ true → sight.ending ≡ false → nat_lt v.seat.phase service_limits.last_phase ≡ false
+      → is_gone ≡ true → after ≡ v → EndsGone v sight is_gone after
+  announces_end : sight.all_gone ≡ true → sight.ending ≡ false → nat_lt v.seat.phase service_limits.last_phase ≡ true
+      → is_gone ≡ true → after ≡ announced v → EndsGone v sight is_gone after
+
+-- it looks whether all seats are gone, and ends the phase then
+pub record LooksForGone (v : LeadView) (is_gone : Bool) (after : LeadView) : Type 0 where
+  pub sight : CoordSight
+  pub seen : LeadView
+  pub sees : Sees v sight seen
+  pub case : EndsGone seen sight is_gone after
+
+-- the last counts, with no seats given back: where it saw all seats gone they are those of a snapshot, and nobody adds to
+-- them any more
+pub data TakesLast (v : LeadView) (old : List ℕ) (is_done : Bool) (after : LeadView) (counts : List ℕ) : Type 0 where
+  some_left : LooksForGone v false after → is_done ≡ false → counts ≡ old → TakesLast v old is_done after counts
+  not_at_end : (now : LeadView) → LooksForGone v true now → TakesSnapshot now old None after counts
+      → is_done ≡ false → TakesLast v old is_done after counts
+  counted : (now : LeadView) (phase : ℕ) → LooksForGone v true now → TakesSnapshot now old (Some phase) after counts
+      → is_done ≡ true → TakesLast v old is_done after counts
+
 -- what is true of every driver: its board has at most 1,024 pages and the limits of a service, and no phase was released
 -- after all seats were gone
 pub record IsService (v : LeadView) : Type 0 where

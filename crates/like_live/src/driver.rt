@@ -2,16 +2,18 @@ ghost use Rattle.std.specs.Prelude.{◌≡◌, IfOk, length};
 ghost use Rattle.std.specs.Arc.{arc_value};
 ghost use Rattle.like_board.specs.Rule.{opened_coord};
 ghost use Rattle.like_board.specs.Seats.{board_id, coord_board, coord_view};
-ghost use Rattle.like_live.specs.Driver.{DriverTurns, IsSameDriver, IsService, TakesSnapshot, new_driver};
+ghost use Rattle.like_live.specs.Driver.{DriverTurns, IsSameDriver, IsService, TakesLast, TakesSnapshot, new_driver};
 ghost use Rattle.like_live.specs.Opening.{IsWithinLimits, board_opening};
 ghost use Rattle.like_live.specs.Service.{AreGone, AreItsSeats, IsClosed};
 
 mod back;
 mod boundary;
+mod last;
 mod turns;
 
 use self::back::give_back;
 use self::boundary::read_boundary;
+use self::last::read_last;
 use self::turns::act;
 use crate::driver_answer::DriverAnswer;
 use crate::hint::Hint;
@@ -108,6 +110,17 @@ impl Driver {
         ensures same { IsSameDriver self.old self.new }
     {
         read_boundary(&mut self.lead, &self.board, counts)
+    }
+
+    /// Writes all pages' last counts, once all seats are gone, and says whether it did. It takes no seats, and so serves a
+    /// host that cannot show whose they are. Where nobody ended the phase it ends it, but for the last one of a service.
+    pub fn last_counts(&mut self, counts: &mut [u64]) -> bool
+        requires places { length counts.old ≡ length self.old.seat.opening.counts }
+        ensures case { TakesLast self.old counts.old result self.new counts.new }
+        ensures keeps { IsService self.new }
+        ensures same { IsSameDriver self.old self.new }
+    {
+        read_last(&mut self.lead, &self.board, counts)
     }
 
     /// Ends the board, where all seats are given back and are gone, and writes each page's last count.

@@ -5,6 +5,7 @@ ghost use Rattle.like_core.specs.OpeningLimits.{service_limits};
 ghost use Rattle.like_core.specs.Post.{IsFresh, additions_of, pages_of};
 ghost use Rattle.like_core.specs.WorkerState.{IsRunning};
 ghost use Rattle.like_requests.specs.Limits.{max_stash};
+ghost use Rattle.like_seat.specs.SeatView.{phase_at};
 ghost use Rattle.like_live.specs.LiveView.{IsLive, IsNewLive, IsSameSeat, KeepsTallies, tally};
 ghost use Rattle.like_live.specs.Moves.{Moves};
 ghost use Rattle.like_live.specs.Calls.{GlanceCase, LikeCase, LookCase, RetireCase, TakesFound, TalliesLike, last_after};
@@ -178,6 +179,13 @@ impl<P: Post> LiveSeat<P> {
         ensures { IsTrue result ↔ (self.now.seat.post.state ≡ Gone) }
     {
         self.seat.is_gone()
+    }
+
+    /// The phase that it runs or has answered last, and 0 once it is gone.
+    pub fn phase(&self) -> u64
+        ensures { result ≡ phase_at self.now.seat }
+    {
+        self.seat.phase()
     }
 
     /// Its users, with their last likes.
