@@ -1,8 +1,9 @@
 //! The live core for C. Each export calls the function of `like_live` that it is named for, and tests every number first.
 //! include/likes.h has the same calls as C sees them, with the rules for a host.
-//!
-//! DRAFT, not checked: written before like_live was whole.
 #![tactic(auto)]
+
+ghost use Rattle.std.specs.Prelude.{◌≡◌, ◌≤◌, length, None};
+ghost use Rattle.like_c.specs.Held.{ClosesAt, DriverPhaseAt, DrivesAt, GlancesAt, HandsOut, LikesAt, LooksAt, OpensAt, PhaseAt, RetiresAt, SnapshotAt, TakesFoundAt, TurnsAt};
 
 mod driver_handle;
 mod held_driver;
@@ -18,11 +19,7 @@ pub use rows::{AnswerRow, FoundRow, Options, RequestRow};
 pub use seat_handle::SeatHandle;
 
 use crate::opened::Opened;
-use like_live::{DriverAnswer, TurnAnswer};
 use std::alloc::Global;
-
-// What calls answer, by the numbers of likes.h, is in status.rt: status::OK, status::LIKED and so on, with
-// `status::of_like`, `of_turn`, `of_driver`, `of_open` and `of_verdict`, each with a contract that pins its number.
 
 /// Opens a service. The driver's handle has to be empty, and is full after `OK`.
 #[unsafe(no_mangle)]
@@ -32,7 +29,9 @@ pub extern "C" fn likes_open(
     counts: &[u64],
     marks: &[bool],
     driver: &mut DriverHandle,
-) -> u32 {
+) -> u32
+    ensures { OpensAt options.now counts.now marks.now driver.old.held.home result driver.new.held.home }
+{
     if driver.is_full() {
         return status::IN_USE;
     }
@@ -47,14 +46,16 @@ pub extern "C" fn likes_open(
 
 /// Hands out the next seat. All boxes were made by `likes_open`: this takes no memory.
 #[unsafe(no_mangle)]
-pub extern "C" fn likes_take_seat(alloc: Global, driver: &mut DriverHandle, seat: &mut SeatHandle) -> u32 {
+pub extern "C" fn likes_take_seat(alloc: Global, driver: &mut DriverHandle, seat: &mut SeatHandle) -> u32
+    ensures { HandsOut driver.old.held.home seat.old.held.home result driver.new.held.home seat.new.held.home }
+{
     if seat.is_full() {
         return status::IN_USE;
     }
     let Some(mut opened) = driver.take(alloc) else {
         return status::EMPTY;
     };
-    let next = opened.next_seat();
+    let next = opened.seats.pop();
     driver.put(opened);
     match next {
         Some(taken) => {
@@ -66,7 +67,9 @@ pub extern "C" fn likes_take_seat(alloc: Global, driver: &mut DriverHandle, seat
 }
 
 #[unsafe(no_mangle)]
-pub extern "C" fn likes_like(alloc: Global, seat: &mut SeatHandle, user: u32, page: u32) -> u32 {
+pub extern "C" fn likes_like(alloc: Global, seat: &mut SeatHandle, user: u32, page: u32) -> u32
+    ensures { LikesAt user page seat.old.held.home result seat.new.held.home }
+{
     let Some(mut taken) = seat.take(alloc) else {
         return status::EMPTY;
     };
@@ -83,7 +86,10 @@ pub extern "C" fn likes_look(
     page: u32,
     tag: u64,
     answer: &mut AnswerRow,
-) -> u32 {
+) -> u32
+    ensures case { LooksAt user page tag seat.old.held.home answer.new seat.new.held.home }
+    ensures status { result ≡ answer.new.status }
+{
     let Some(mut taken) = seat.take(alloc) else {
         *answer = AnswerRow::of(status::EMPTY);
         return status::EMPTY;
@@ -100,7 +106,10 @@ pub extern "C" fn likes_glance(
     user: u32,
     page: u32,
     answer: &mut AnswerRow,
-) -> u32 {
+) -> u32
+    ensures case { GlancesAt user page seat.old.held.home answer.new seat.new.held.home }
+    ensures status { result ≡ answer.new.status }
+{
     let Some(mut taken) = seat.take(alloc) else {
         *answer = AnswerRow::of(status::EMPTY);
         return status::EMPTY;
@@ -111,7 +120,9 @@ pub extern "C" fn likes_glance(
 }
 
 #[unsafe(no_mangle)]
-pub extern "C" fn likes_take_found(alloc: Global, seat: &mut SeatHandle, found: &mut FoundRow) -> bool {
+pub extern "C" fn likes_take_found(alloc: Global, seat: &mut SeatHandle, found: &mut FoundRow) -> bool
+    ensures { TakesFoundAt seat.old.held.home found.old result found.new seat.new.held.home }
+{
     let Some(mut taken) = seat.take(alloc) else {
         return false;
     };
@@ -134,7 +145,10 @@ pub extern "C" fn likes_run(
     seat: &mut SeatHandle,
     requests: &[RequestRow],
     answers: &mut [AnswerRow],
-) -> usize {
+) -> usize
+    ensures requests { result ≤ length requests.now }
+    ensures answers { result ≤ length answers.old }
+{
     let Some(mut taken) = seat.take(alloc) else {
         if let Some(first) = answers.first_mut() {
             *first = AnswerRow::of(status::EMPTY);
@@ -147,7 +161,9 @@ pub extern "C" fn likes_run(
 }
 
 #[unsafe(no_mangle)]
-pub extern "C" fn likes_turn(alloc: Global, seat: &mut SeatHandle) -> u32 {
+pub extern "C" fn likes_turn(alloc: Global, seat: &mut SeatHandle) -> u32
+    ensures { TurnsAt seat.old.held.home result seat.new.held.home }
+{
     let Some(mut taken) = seat.take(alloc) else {
         return status::EMPTY;
     };
@@ -157,7 +173,9 @@ pub extern "C" fn likes_turn(alloc: Global, seat: &mut SeatHandle) -> u32 {
 }
 
 #[unsafe(no_mangle)]
-pub extern "C" fn likes_retire(alloc: Global, seat: &mut SeatHandle) -> u32 {
+pub extern "C" fn likes_retire(alloc: Global, seat: &mut SeatHandle) -> u32
+    ensures { RetiresAt seat.old.held.home result seat.new.held.home }
+{
     let Some(mut taken) = seat.take(alloc) else {
         return status::EMPTY;
     };
@@ -166,10 +184,11 @@ pub extern "C" fn likes_retire(alloc: Global, seat: &mut SeatHandle) -> u32 {
     status::of_turn(answer)
 }
 
-// likes.h has `const likes_seat *` here. A handle that is read through a `&` needs `also_shares` (UNSAFE.md), so this takes
-// a `&mut`, and the header is to say so, or `also_shares` is proved as for a `Box`.
 #[unsafe(no_mangle)]
-pub extern "C" fn likes_seat_phase(alloc: Global, seat: &mut SeatHandle) -> u64 {
+pub extern "C" fn likes_seat_phase(alloc: Global, seat: &mut SeatHandle) -> u64
+    ensures phase { PhaseAt seat.old.held.home result }
+    ensures same { seat.new.held.home ≡ seat.old.held.home }
+{
     let Some(taken) = seat.take(alloc) else {
         return 0;
     };
@@ -179,7 +198,9 @@ pub extern "C" fn likes_seat_phase(alloc: Global, seat: &mut SeatHandle) -> u64 
 }
 
 #[unsafe(no_mangle)]
-pub extern "C" fn likes_driver_turn(alloc: Global, driver: &mut DriverHandle, may_end: bool) -> u32 {
+pub extern "C" fn likes_driver_turn(alloc: Global, driver: &mut DriverHandle, may_end: bool) -> u32
+    ensures { DrivesAt driver.old.held.home may_end result driver.new.held.home }
+{
     let Some(mut opened) = driver.take(alloc) else {
         return status::EMPTY;
     };
@@ -189,23 +210,29 @@ pub extern "C" fn likes_driver_turn(alloc: Global, driver: &mut DriverHandle, ma
 }
 
 #[unsafe(no_mangle)]
-pub extern "C" fn likes_snapshot(alloc: Global, driver: &mut DriverHandle, counts: &mut [u64]) -> u32 {
+pub extern "C" fn likes_snapshot(alloc: Global, driver: &mut DriverHandle, counts: &mut [u64]) -> u32
+    ensures { SnapshotAt driver.old.held.home counts.old result counts.new driver.new.held.home }
+{
     let Some(mut opened) = driver.take(alloc) else {
         return status::EMPTY;
     };
-    let answer = if counts.len() != opened.driver.pages() as usize {
-        status::WRONG_LENGTH
-    } else if opened.driver.snapshot(counts).is_some() {
-        status::COUNTED
-    } else {
-        status::WAITING
-    };
+    if counts.len() != opened.driver.pages() as usize {
+        driver.put(opened);
+        return status::WRONG_LENGTH;
+    }
+    let phase = opened.driver.snapshot(counts);
     driver.put(opened);
-    answer
+    match phase {
+        Some(_) => status::COUNTED,
+        None => status::WAITING,
+    }
 }
 
 #[unsafe(no_mangle)]
-pub extern "C" fn likes_phase(alloc: Global, driver: &mut DriverHandle) -> u64 {
+pub extern "C" fn likes_phase(alloc: Global, driver: &mut DriverHandle) -> u64
+    ensures phase { DriverPhaseAt driver.old.held.home result }
+    ensures same { driver.new.held.home ≡ driver.old.held.home }
+{
     let Some(opened) = driver.take(alloc) else {
         return 0;
     };
@@ -214,10 +241,11 @@ pub extern "C" fn likes_phase(alloc: Global, driver: &mut DriverHandle) -> u64 {
     phase
 }
 
-/// The final counts. No call can test that seats are of this board (`Arc::ptr_eq` is missing), so it takes none: it rests
-/// on the driver's sight that all are gone. `like_live` needs `Driver::last_counts(&mut self, &mut [u64]) -> bool` for it.
+/// The last counts, once all seats are gone. No seats are given back: C cannot show whose they are.
 #[unsafe(no_mangle)]
-pub extern "C" fn likes_close(alloc: Global, driver: &mut DriverHandle, counts: &mut [u64]) -> u32 {
+pub extern "C" fn likes_close(alloc: Global, driver: &mut DriverHandle, counts: &mut [u64]) -> u32
+    ensures { ClosesAt driver.old.held.home counts.old result counts.new driver.new.held.home }
+{
     let Some(mut opened) = driver.take(alloc) else {
         return status::EMPTY;
     };
@@ -233,11 +261,15 @@ pub extern "C" fn likes_close(alloc: Global, driver: &mut DriverHandle, counts: 
 }
 
 #[unsafe(no_mangle)]
-pub extern "C" fn likes_free_seat(alloc: Global, seat: &mut SeatHandle) {
+pub extern "C" fn likes_free_seat(alloc: Global, seat: &mut SeatHandle)
+    ensures { seat.new.held.home ≡ None }
+{
     let _taken = seat.take(alloc);
 }
 
 #[unsafe(no_mangle)]
-pub extern "C" fn likes_free_driver(alloc: Global, driver: &mut DriverHandle) {
+pub extern "C" fn likes_free_driver(alloc: Global, driver: &mut DriverHandle)
+    ensures { driver.new.held.home ≡ None }
+{
     let _taken = driver.take(alloc);
 }

@@ -1,4 +1,10 @@
-//! The statuses of likes.h. DRAFT, not checked: `of_like` and the like are to be written with contracts that pin the numbers.
+//! The statuses of likes.h, and which answer has which.
+ghost use Rattle.std.specs.Prelude.{◌≡◌};
+ghost use Rattle.like_c.specs.Status.{driver_status, like_status, open_status, turn_status, verdict_status};
+
+use like_live::{DriverAnswer, LikeAnswer, OpenError, TurnAnswer};
+use like_requests::Verdict;
+
 pub(crate) const OK: u32 = 0;
 pub(crate) const LIKED: u32 = 1;
 pub(crate) const SEEN: u32 = 2;
@@ -31,10 +37,9 @@ pub(crate) const WRONG_SEATS: u32 = 28;
 pub(crate) const WRONG_USERS: u32 = 29;
 pub(crate) const WRONG_ROOM: u32 = 30;
 
-use like_live::{DriverAnswer, LikeAnswer, OpenError, TurnAnswer};
-use like_requests::Verdict;
-
-pub(crate) fn of_verdict(verdict: Verdict) -> u32 {
+pub(crate) fn of_verdict(verdict: Verdict) -> u32
+    ensures { result ≡ verdict_status verdict }
+{
     match verdict {
         Verdict::Accepted => OK,
         Verdict::UnknownUser => UNKNOWN_USER,
@@ -43,7 +48,9 @@ pub(crate) fn of_verdict(verdict: Verdict) -> u32 {
     }
 }
 
-pub(crate) fn of_like(answer: LikeAnswer) -> u32 {
+pub(crate) fn of_like(answer: LikeAnswer) -> u32
+    ensures { result ≡ like_status answer }
+{
     match answer {
         LikeAnswer::Liked => LIKED,
         LikeAnswer::Between => BETWEEN,
@@ -53,7 +60,9 @@ pub(crate) fn of_like(answer: LikeAnswer) -> u32 {
     }
 }
 
-pub(crate) fn of_turn(answer: TurnAnswer) -> u32 {
+pub(crate) fn of_turn(answer: TurnAnswer) -> u32
+    ensures { result ≡ turn_status answer }
+{
     match answer {
         TurnAnswer::Runs => RUNS,
         TurnAnswer::Between => BETWEEN,
@@ -61,7 +70,9 @@ pub(crate) fn of_turn(answer: TurnAnswer) -> u32 {
     }
 }
 
-pub(crate) fn of_driver(answer: DriverAnswer) -> u32 {
+pub(crate) fn of_driver(answer: DriverAnswer) -> u32
+    ensures { result ≡ driver_status answer }
+{
     match answer {
         DriverAnswer::Announced => ANNOUNCED,
         DriverAnswer::Waiting => WAITING,
@@ -71,7 +82,9 @@ pub(crate) fn of_driver(answer: DriverAnswer) -> u32 {
     }
 }
 
-pub(crate) fn of_open(error: OpenError) -> u32 {
+pub(crate) fn of_open(error: OpenError) -> u32
+    ensures { result ≡ open_status error }
+{
     match error {
         OpenError::Pages => WRONG_PAGES,
         OpenError::Marks => WRONG_MARKS,
