@@ -1,5 +1,5 @@
 -- A call of what a handle holds, and what likes.h tells of it.
-use Rattle.std.specs.Prelude.{◌≡◌, ◌≢◌, ◌≤◌, ℕ, Bool, true, false, length, List, [], ◌∷◌, ◌++◌, Option, Some, None, vec_len}
+use Rattle.std.specs.Prelude.{◌≡◌, ◌≢◌, ◌⊎◌, ℕ, ◌+◌, ◌≤◌, Bool, true, false, length, min, slice_get, take, List, [], ◌∷◌, ◌++◌, Option, Some, None, vec_len}
 use Rattle.std.specs.Global.{Global}
 use Rattle.std_alloc.specs.declared.boxed.Box.{Box}
 use Rattle.like_live.specs.LiveView.{LiveView}
@@ -129,3 +129,26 @@ pub data OpensAt (options : Options) (counts : List ℕ) (marks : List Bool) (at
       → OpensAt options counts marks at status after
   refused : (error : OpenError) → at ≡ None → status ≡ open_status error → after ≡ None
       → OpensAt options counts marks at status after
+
+-- these requests are answered one by one, each in its row
+abbrev pub RowsAnswered : LiveView → List RequestRow → List AnswerRow → LiveView → Type 0
+RowsAnswered v [] [] after = after ≡ v
+RowsAnswered v (request ∷ requests) (row ∷ rows) after =
+    (now : LiveView) × (AnswersRow v request row now × RowsAnswered now requests rows after)
+RowsAnswered v requests rows after = ⊥
+
+-- rows are run: all up to the end of the shorter, or up to one that is told to wait, whose row tells so and is not counted
+pub data RunsRows (v : LiveView) (requests : List RequestRow) (rows : List AnswerRow) (done : ℕ) (after : LiveView)
+    : Type 0 where
+  all_rows : done ≡ min (length requests) (length rows) → RowsAnswered v (take done requests) (take done rows) after
+      → RunsRows v requests rows done after
+  stops_at : (row : AnswerRow) → slice_get rows done ≡ Some row → (row.status ≡ 5) ⊎ (row.status ≡ 6)
+      → RowsAnswered v (take (done + 1) requests) (take (done + 1) rows) after
+      → RunsRows v requests rows done after
+
+-- rows are run at a handle; an empty one does none
+pub data RunsAt (at : Option Seated) (requests : List RequestRow) (rows : List AnswerRow) (done : ℕ)
+    (after : Option Seated) : Type 0 where
+  empty_run : at ≡ None → done ≡ 0 → after ≡ None → RunsAt at requests rows done after
+  runs : (s t : Seated) → at ≡ Some s → RunsRows s.seat requests rows done t.seat → after ≡ Some t
+      → RunsAt at requests rows done after

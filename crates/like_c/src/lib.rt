@@ -3,7 +3,7 @@
 #![tactic(auto)]
 
 ghost use Rattle.std.specs.Prelude.{◌≡◌, ◌≤◌, length, None};
-ghost use Rattle.like_c.specs.Held.{ClosesAt, DriverPhaseAt, DrivesAt, GlancesAt, HandsOut, LikesAt, LooksAt, OpensAt, PhaseAt, RetiresAt, SnapshotAt, TakesFoundAt, TurnsAt};
+ghost use Rattle.like_c.specs.Held.{ClosesAt, DriverPhaseAt, DrivesAt, GlancesAt, HandsOut, LikesAt, LooksAt, OpensAt, PhaseAt, RetiresAt, RunsAt, SnapshotAt, TakesFoundAt, TurnsAt};
 
 mod driver_handle;
 mod held_driver;
@@ -146,6 +146,7 @@ pub extern "C" fn likes_run(
     requests: &[RequestRow],
     answers: &mut [AnswerRow],
 ) -> usize
+    ensures rows { RunsAt seat.old.held.home requests.now answers.new result seat.new.held.home }
     ensures requests { result ≤ length requests.now }
     ensures answers { result ≤ length answers.old }
 {

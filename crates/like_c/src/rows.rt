@@ -1,6 +1,6 @@
 //! The rows that cross between C and Rattle.
 ghost use Rattle.std.specs.Prelude.{◌≡◌, ◌≤◌, length};
-ghost use Rattle.like_c.specs.Held.{AnswersRow};
+ghost use Rattle.like_c.specs.Held.{AnswersRow, RunsRows};
 ghost use Rattle.like_c.specs.Rows.{found_row, glance_row, look_row, page_or_none, seen_row, status_row};
 
 use crate::status;
@@ -139,6 +139,7 @@ fn answer(seat: &mut LiveSeat<SharedPost>, request: RequestRow) -> AnswerRow
 /// Answers rows up to the first that is `BETWEEN` or `NO_ROOM`, and to the end of the shorter of the two. Says how many
 /// were done.
 pub(crate) fn run(seat: &mut LiveSeat<SharedPost>, requests: &[RequestRow], answers: &mut [AnswerRow]) -> usize
+    ensures rows { RunsRows seat.old requests.now answers.new result seat.new }
     ensures requests { result ≤ length requests.now }
     ensures answers { result ≤ length answers.old }
     ensures len { length answers.new ≡ length answers.old }
