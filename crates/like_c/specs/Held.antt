@@ -130,21 +130,26 @@ pub data OpensAt (options : Options) (counts : List ℕ) (marks : List Bool) (at
   refused : (error : OpenError) → at ≡ None → status ≡ open_status error → after ≡ None
       → OpensAt options counts marks at status after
 
--- these requests are answered one by one, each in its row
+-- a row that tells its request to wait
+abbrev pub IsToWait : AnswerRow → Type 0
+IsToWait row = (row.status ≡ 5) ⊎ (row.status ≡ 6)
+
+-- these requests are answered one by one, each in its row, and none is to wait
 abbrev pub RowsAnswered : LiveView → List RequestRow → List AnswerRow → LiveView → Type 0
 RowsAnswered v [] [] after = after ≡ v
 RowsAnswered v (request ∷ requests) (row ∷ rows) after =
-    (now : LiveView) × (AnswersRow v request row now × RowsAnswered now requests rows after)
+    (now : LiveView) × (AnswersRow v request row now × (¬ IsToWait row) × RowsAnswered now requests rows after)
 RowsAnswered v requests rows after = ⊥
 
--- rows are run: all up to the end of the shorter, or up to one that is told to wait, whose row tells so and is not counted
+-- rows are run: all up to the end of the shorter, or up to one that is to wait, whose row tells so and is not counted
 pub data RunsRows (v : LiveView) (requests : List RequestRow) (rows : List AnswerRow) (done : ℕ) (after : LiveView)
     : Type 0 where
   all_rows : done ≡ min (length requests) (length rows) → RowsAnswered v (take done requests) (take done rows) after
       → RunsRows v requests rows done after
-  stops_at : (row : AnswerRow) → slice_get rows done ≡ Some row → (row.status ≡ 5) ⊎ (row.status ≡ 6)
-      → RowsAnswered v (take (done + 1) requests) (take (done + 1) rows) after
-      → RunsRows v requests rows done after
+  stops_at : (now : LiveView) (request : RequestRow) (row : AnswerRow)
+      → RowsAnswered v (take done requests) (take done rows) now
+      → slice_get requests done ≡ Some request → slice_get rows done ≡ Some row
+      → AnswersRow now request row after → IsToWait row → RunsRows v requests rows done after
 
 -- rows are run at a handle; an empty one does none
 pub data RunsAt (at : Option Seated) (requests : List RequestRow) (rows : List AnswerRow) (done : ℕ)
