@@ -1,0 +1,3 @@
+pub mod Answering
+pub mod DriverAsBox
+pub mod SeatAsBox

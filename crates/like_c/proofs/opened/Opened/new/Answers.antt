@@ -1,0 +1,13 @@
+use Rattle.std.proofs.Common.{length, ap, ◌∙◌}
+use Rattle.like_c.specs.declared.opened.Opened.{Opened}
+use Rattle.like_c.proofs.opened.Opened.new.Goals as goal
+
+pub returns-in-Ok : goal.returns-in-Ok
+returns-in-Ok c = record {
+  opening = c.in_ok-opening.opening;
+  asked = c.in_ok-opening.ensures;
+  service = c.in_ok-driver.field-0;
+  opened = c.in_ok-driver.ensures.opened;
+  driver = ap (λ (o : Opened). o.driver) c.in-Ok.ensures.ok;
+  seats = ap (λ (o : Opened). length o.seats.items) c.in-Ok.ensures.ok ∙ c.in_ok-seats.ensures;
+}

@@ -1,0 +1,51 @@
+-- The rows that cross to C.
+use Rattle.std.specs.Prelude.{◌≡◌, ℕ, Option, Some, None}
+use Rattle.like_tables.specs.LastLike.{no_page}
+use Rattle.like_seat.specs.declared.seen.Seen.{Seen}
+use Rattle.like_live.specs.declared.answer.GlanceAnswer.{GlanceAnswer}
+use Rattle.like_live.specs.declared.answer.GlanceAnswer.TheVariants as glance
+use Rattle.like_live.specs.declared.answer.LookAnswer.{LookAnswer}
+use Rattle.like_live.specs.declared.answer.LookAnswer.TheVariants as look
+use Rattle.like_live.specs.declared.asked.Found.{Found}
+use Rattle.like_c.specs.declared.rows.AnswerRow.{AnswerRow}
+use Rattle.like_c.specs.declared.rows.FoundRow.{FoundRow}
+use Rattle.like_c.specs.Status.{verdict_status}
+
+-- a page, or the number that stands for none
+abbrev pub page_or_none : Option ℕ → ℕ
+page_or_none (Some page) = page
+page_or_none None = no_page
+
+-- a status alone
+abbrev pub status_row : ℕ → AnswerRow
+status_row status = record { count = 0; last = 0; status = status }
+
+-- what was seen
+abbrev pub seen_row : Seen → AnswerRow
+seen_row seen = record { count = seen.count; last = page_or_none seen.last; status = 2 }
+
+abbrev pub look_row : LookAnswer → AnswerRow
+look_row (look.Seen seen) = seen_row seen
+look_row look.Waits = status_row 3
+look_row look.Between = status_row 5
+look_row look.NoRoom = status_row 6
+look_row (look.Refused verdict) = status_row (verdict_status verdict)
+look_row look.Gone = status_row 12
+
+abbrev pub glance_row : GlanceAnswer → AnswerRow
+glance_row (glance.Seen seen) = seen_row seen
+glance_row glance.Between = status_row 5
+glance_row (glance.Refused verdict) = status_row (verdict_status verdict)
+glance_row glance.Gone = status_row 12
+
+abbrev pub found_row : Found → FoundRow
+found_row found = record {
+  tag = found.asked.tag;
+  count = found.count;
+  asked = found.asked.phase;
+  ran = found.phase;
+  user = found.asked.user;
+  page = found.asked.page;
+  last = page_or_none found.last;
+  unused = 0;
+}

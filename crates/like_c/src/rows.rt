@@ -1,0 +1,156 @@
+//! The rows that cross between C and Rattle.
+ghost use Rattle.std.specs.Prelude.{◌≡◌, ◌≤◌, length};
+ghost use Rattle.like_c.specs.Held.{AnswersRow, RunsRows};
+ghost use Rattle.like_c.specs.Rows.{found_row, glance_row, look_row, page_or_none, seen_row, status_row};
+
+use crate::status;
+use like_board::SharedPost;
+use like_live::{Found, GlanceAnswer, LiveSeat, LookAnswer};
+use like_seat::Seen;
+
+/// In the place of a page: the user has liked none.
+const NO_PAGE: u32 = u32::MAX;
+
+#[repr(C)]
+#[derive(Clone, Copy)]
+pub struct Options {
+    pub seats: u32,
+    pub users: u32,
+    pub room: u32,
+    pub hot: u32,
+}
+
+#[repr(C)]
+#[derive(Clone, Copy)]
+pub struct RequestRow {
+    pub tag: u64,
+    pub user: u32,
+    pub page: u32,
+    pub op: u32,
+    pub unused: u32,
+}
+
+#[repr(C)]
+#[derive(Clone, Copy)]
+pub struct AnswerRow {
+    pub count: u64,
+    pub last: u32,
+    pub status: u32,
+}
+
+#[repr(C)]
+#[derive(Clone, Copy)]
+pub struct FoundRow {
+    pub tag: u64,
+    pub count: u64,
+    pub asked: u64,
+    pub ran: u64,
+    pub user: u32,
+    pub page: u32,
+    pub last: u32,
+    pub unused: u32,
+}
+
+fn page_or_none(page: Option<u32>) -> u32
+    ensures { result ≡ page_or_none page }
+{
+    match page {
+        Some(page) => page,
+        None => NO_PAGE,
+    }
+}
+
+impl AnswerRow {
+    /// A status alone.
+    pub(crate) fn of(status: u32) -> AnswerRow
+        ensures { result ≡ status_row status }
+    {
+        AnswerRow {
+            count: 0,
+            last: 0,
+            status,
+        }
+    }
+
+    fn of_seen(seen: Seen) -> AnswerRow
+        ensures { result ≡ seen_row seen }
+    {
+        AnswerRow {
+            count: seen.count,
+            last: page_or_none(seen.last),
+            status: status::SEEN,
+        }
+    }
+
+    pub(crate) fn of_look(answer: LookAnswer) -> AnswerRow
+        ensures { result ≡ look_row answer }
+    {
+        match answer {
+            LookAnswer::Seen(seen) => AnswerRow::of_seen(seen),
+            LookAnswer::Waits => AnswerRow::of(status::WAITS),
+            LookAnswer::NoRoom => AnswerRow::of(status::NO_ROOM),
+            LookAnswer::Between => AnswerRow::of(status::BETWEEN),
+            LookAnswer::Refused(verdict) => AnswerRow::of(status::of_verdict(verdict)),
+            LookAnswer::Gone => AnswerRow::of(status::GONE),
+        }
+    }
+
+    pub(crate) fn of_glance(answer: GlanceAnswer) -> AnswerRow
+        ensures { result ≡ glance_row answer }
+    {
+        match answer {
+            GlanceAnswer::Seen(seen) => AnswerRow::of_seen(seen),
+            GlanceAnswer::Between => AnswerRow::of(status::BETWEEN),
+            GlanceAnswer::Refused(verdict) => AnswerRow::of(status::of_verdict(verdict)),
+            GlanceAnswer::Gone => AnswerRow::of(status::GONE),
+        }
+    }
+}
+
+impl FoundRow {
+    pub(crate) fn of(found: Found) -> FoundRow
+        ensures { result ≡ found_row found }
+    {
+        FoundRow {
+            tag: found.asked.tag,
+            count: found.count,
+            asked: found.asked.phase,
+            ran: found.phase,
+            user: found.asked.user,
+            page: found.asked.page,
+            last: page_or_none(found.last),
+            unused: 0,
+        }
+    }
+}
+
+// Answers one row. An operation that is none has a status of its own.
+fn answer(seat: &mut LiveSeat<SharedPost>, request: RequestRow) -> AnswerRow
+    ensures { AnswersRow seat.old request result seat.new }
+{
+    match request.op {
+        0 => AnswerRow::of(status::of_like(seat.like(request.user, request.page))),
+        1 => AnswerRow::of_look(seat.look(request.user, request.page, request.tag)),
+        2 => AnswerRow::of_glance(seat.glance(request.user, request.page)),
+        _ => AnswerRow::of(status::UNKNOWN_OP),
+    }
+}
+
+/// Answers rows up to the first that is `BETWEEN` or `NO_ROOM`, and to the end of the shorter of the two. Says how many
+/// were done.
+pub(crate) fn run(seat: &mut LiveSeat<SharedPost>, requests: &[RequestRow], answers: &mut [AnswerRow]) -> usize
+    ensures rows { RunsRows seat.old requests.now answers.new result seat.new }
+    ensures requests { result ≤ length requests.now }
+    ensures answers { result ≤ length answers.old }
+    ensures len { length answers.new ≡ length answers.old }
+{
+    let rows = requests.len().min(answers.len());
+    for done in 0..rows {
+        let row = answer(seat, requests[done]);
+        answers[done] = row;
+        if row.status == status::BETWEEN || row.status == status::NO_ROOM {
+            return done;
+        }
+    }
+    rows
+}

@@ -1,0 +1,97 @@
+//! The statuses of likes.h, and which answer has which.
+ghost use Rattle.std.specs.Prelude.{◌≡◌};
+ghost use Rattle.like_c.specs.Status.{driver_status, like_status, open_status, turn_status, verdict_status};
+
+use like_live::{DriverAnswer, LikeAnswer, OpenError, TurnAnswer};
+use like_requests::Verdict;
+
+pub(crate) const OK: u32 = 0;
+pub(crate) const LIKED: u32 = 1;
+pub(crate) const SEEN: u32 = 2;
+pub(crate) const WAITS: u32 = 3;
+pub(crate) const RUNS: u32 = 4;
+pub(crate) const BETWEEN: u32 = 5;
+pub(crate) const NO_ROOM: u32 = 6;
+pub(crate) const UNKNOWN_USER: u32 = 7;
+pub(crate) const OTHER_SEAT: u32 = 8;
+pub(crate) const UNKNOWN_PAGE: u32 = 9;
+pub(crate) const UNKNOWN_OP: u32 = 10;
+pub(crate) const FULL: u32 = 11;
+pub(crate) const GONE: u32 = 12;
+pub(crate) const RUNNING: u32 = 13;
+pub(crate) const ANNOUNCED: u32 = 14;
+pub(crate) const WAITING: u32 = 15;
+pub(crate) const RELEASED: u32 = 16;
+pub(crate) const COUNTED: u32 = 17;
+pub(crate) const ENDED: u32 = 18;
+pub(crate) const EMPTY: u32 = 19;
+pub(crate) const IN_USE: u32 = 20;
+pub(crate) const NO_SEAT: u32 = 21;
+pub(crate) const NOT_ENDED: u32 = 22;
+pub(crate) const WRONG_LENGTH: u32 = 23;
+pub(crate) const NO_MEMORY: u32 = 24;
+pub(crate) const WRONG_PAGES: u32 = 25;
+pub(crate) const WRONG_MARKS: u32 = 26;
+pub(crate) const WRONG_COUNT: u32 = 27;
+pub(crate) const WRONG_SEATS: u32 = 28;
+pub(crate) const WRONG_USERS: u32 = 29;
+pub(crate) const WRONG_ROOM: u32 = 30;
+
+pub(crate) fn of_verdict(verdict: Verdict) -> u32
+    ensures { result ≡ verdict_status verdict }
+{
+    match verdict {
+        Verdict::Accepted => OK,
+        Verdict::UnknownUser => UNKNOWN_USER,
+        Verdict::OtherHome => OTHER_SEAT,
+        Verdict::UnknownPage => UNKNOWN_PAGE,
+    }
+}
+
+pub(crate) fn of_like(answer: LikeAnswer) -> u32
+    ensures { result ≡ like_status answer }
+{
+    match answer {
+        LikeAnswer::Liked => LIKED,
+        LikeAnswer::Between => BETWEEN,
+        LikeAnswer::Refused(verdict) => of_verdict(verdict),
+        LikeAnswer::Full => FULL,
+        LikeAnswer::Gone => GONE,
+    }
+}
+
+pub(crate) fn of_turn(answer: TurnAnswer) -> u32
+    ensures { result ≡ turn_status answer }
+{
+    match answer {
+        TurnAnswer::Runs => RUNS,
+        TurnAnswer::Between => BETWEEN,
+        TurnAnswer::Gone => GONE,
+    }
+}
+
+pub(crate) fn of_driver(answer: DriverAnswer) -> u32
+    ensures { result ≡ driver_status answer }
+{
+    match answer {
+        DriverAnswer::Announced => ANNOUNCED,
+        DriverAnswer::Waiting => WAITING,
+        DriverAnswer::Released => RELEASED,
+        DriverAnswer::Running => RUNNING,
+        DriverAnswer::Ended => ENDED,
+    }
+}
+
+pub(crate) fn of_open(error: OpenError) -> u32
+    ensures { result ≡ open_status error }
+{
+    match error {
+        OpenError::Pages => WRONG_PAGES,
+        OpenError::Marks => WRONG_MARKS,
+        OpenError::Counts => WRONG_COUNT,
+        OpenError::Seats => WRONG_SEATS,
+        OpenError::Users => WRONG_USERS,
+        OpenError::Room => WRONG_ROOM,
+        OpenError::Memory => NO_MEMORY,
+    }
+}

@@ -1,0 +1,122 @@
+// The live core as C++17 classes. Nothing here is proved: it calls likes.h and likes_helpers.h.
+#pragma once
+
+#include <likes_helpers.h>
+
+#include <cstdint>
+#include <memory>
+#include <optional>
+#include <stdexcept>
+#include <vector>
+
+namespace likes {
+
+struct Error : std::runtime_error {
+    explicit Error(std::uint32_t status) : std::runtime_error(likes_status_name(status)), status(status) {}
+    std::uint32_t status;
+};
+
+// What a look shows: the page of the user's last like, if there is one, and the count of the page looked at.
+struct Seen {
+    std::optional<std::uint32_t> last;
+    std::uint64_t count;
+};
+
+class Service;
+
+// A seat that this thread holds, until the end of the scope. It waits for nothing meanwhile.
+class Seat {
+public:
+    Seat(likes_service *service, std::uint32_t number)
+        : service_(service), number_(number), seat_(likes_service_wake(service, number)) {}
+    ~Seat() { likes_service_rest(service_, number_); }
+    Seat(const Seat &) = delete;
+    Seat &operator=(const Seat &) = delete;
+
+    // Runs a row of requests, and gives how many were done: all, or those before a look without room.
+    std::size_t run(const std::vector<likes_request> &requests, std::vector<likes_answer> &answers,
+                    std::size_t from = 0) {
+        answers.resize(requests.size());
+        return from + likes_service_run(service_, number_, requests.data() + from, requests.size() - from,
+                                        answers.data() + from);
+    }
+
+    std::optional<likes_found> take_found() {
+        likes_found found;
+        if (!likes_take_found(seat_, &found))
+            return std::nullopt;
+        return found;
+    }
+
+    // Lets a phase end that is due, so that there is room again.
+    void drive() { likes_service_drive(service_); }
+
+private:
+    likes_service *service_;
+    std::uint32_t number_;
+    likes_seat *seat_;
+};
+
+// A service with its driver's thread. Threads share it; the destructor ends it.
+class Service {
+public:
+    Service(likes_options options, const std::vector<std::uint64_t> &counts, std::uint32_t period = 1000)
+        : service_(new likes_service), pages_(counts.size()) {
+        check(likes_service_start(service_.get(), &options, counts.data(), pages_, nullptr, period), LIKES_OK);
+        runs_ = true;
+    }
+    ~Service() {
+        if (runs_)
+            stop();
+    }
+    Service(const Service &) = delete;
+    Service &operator=(const Service &) = delete;
+
+    void like(std::uint32_t user, std::uint32_t page) {
+        check(likes_service_like(service_.get(), user, page), LIKES_LIKED);
+    }
+
+    // The exact count. It may wait for about a phase.
+    Seen look(std::uint32_t user, std::uint32_t page) {
+        likes_answer answer;
+        check(likes_service_look(service_.get(), user, page, &answer), LIKES_SEEN);
+        return seen(answer);
+    }
+
+    // A count at once, which may lack other seats' likes of the present phase.
+    Seen glance(std::uint32_t user, std::uint32_t page) {
+        likes_answer answer;
+        check(likes_service_glance(service_.get(), user, page, &answer), LIKES_SEEN);
+        return seen(answer);
+    }
+
+    std::uint32_t seats() const { return service_->seats; }
+
+    Seat hold(std::uint32_t number) { return Seat(service_.get(), number); }
+
+    // Ends the service, and gives the final counts. All threads are done with it.
+    std::vector<std::uint64_t> stop() {
+        std::vector<std::uint64_t> totals(pages_);
+        runs_ = false;
+        check(likes_service_stop(service_.get(), totals.data(), pages_), LIKES_OK);
+        return totals;
+    }
+
+private:
+    static void check(std::uint32_t status, std::uint32_t wanted) {
+        if (status != wanted)
+            throw Error(status);
+    }
+
+    static Seen seen(const likes_answer &answer) {
+        if (answer.last == LIKES_NO_PAGE)
+            return {std::nullopt, answer.count};
+        return {answer.last, answer.count};
+    }
+
+    std::unique_ptr<likes_service> service_;
+    std::size_t pages_;
+    bool runs_ = false;
+};
+
+} // namespace likes

@@ -1,0 +1,239 @@
+// Package likes is the live core for Go, by cgo. Nothing here is proved.
+//
+// A goroutine for each seat collects what other goroutines ask for, and hands it over in rows of up to 64 requests. So
+// one call into C serves many requests, and no goroutine waits in C for a phase.
+package likes
+
+/*
+#cgo pkg-config: likes
+#include <likes_helpers.h>
+
+// Runs a row at a seat, and takes found looks. The seat is awake no longer than that.
+static size_t run_row(likes_service *service, uint32_t number, const likes_request *requests, size_t length,
+                      likes_answer *answers, likes_found *found, size_t room, size_t *taken) {
+	likes_seat *seat = likes_service_wake(service, number);
+	size_t done = likes_service_run(service, number, requests, length, answers);
+	if (done < length)
+		likes_service_drive(service); // a look has no room: let the phase end
+	likes_turn(seat);
+	*taken = likes_take_all_found(seat, found, room);
+	likes_service_rest(service, number);
+	return done;
+}
+*/
+import "C"
+
+import (
+	"errors"
+	"sync"
+	"time"
+	"unsafe"
+)
+
+const row = 64
+
+// How often a seat with waiting looks is asked for found ones while nobody asks for anything else.
+const poll = 200 * time.Microsecond
+
+// NoPage stands in place of the last like of a user who has liked nothing.
+const NoPage = C.LIKES_NO_PAGE
+
+// Options of a service, as in likes.h, with the length of a split phase.
+type Options struct {
+	Seats, Users, Room, Hot uint32
+	Period                  time.Duration
+}
+
+// Seen is what a look shows: the page of the user's last like, and the count of the page looked at.
+type Seen struct {
+	Last  uint32
+	Count uint64
+}
+
+// Service is a service with its seats and its driver's thread. Any goroutine may call it.
+type Service struct {
+	c     *C.likes_service
+	pages int
+	calls []chan call
+	seats sync.WaitGroup
+}
+
+type call struct {
+	request C.likes_request
+	reply   chan<- C.likes_answer
+}
+
+// Open opens a service with these initial counts. No page is marked as split.
+func Open(options Options, counts []uint64) (*Service, error) {
+	if len(counts) == 0 {
+		return nil, status(C.LIKES_WRONG_PAGES)
+	}
+	service := &Service{c: (*C.likes_service)(C.calloc(1, C.sizeof_likes_service)), pages: len(counts)}
+	if service.c == nil {
+		return nil, status(C.LIKES_NO_MEMORY)
+	}
+	numbers := C.likes_options{
+		seats: C.uint32_t(options.Seats),
+		users: C.uint32_t(options.Users),
+		room:  C.uint32_t(options.Room),
+		hot:   C.uint32_t(options.Hot),
+	}
+	first := (*C.uint64_t)(unsafe.Pointer(&counts[0]))
+	period := C.uint32_t(options.Period.Microseconds())
+	told := C.likes_service_start(service.c, &numbers, first, C.size_t(len(counts)), nil, period)
+	if told != C.LIKES_OK {
+		C.free(unsafe.Pointer(service.c))
+		return nil, status(told)
+	}
+	for number := uint32(0); number < options.Seats; number++ {
+		calls := make(chan call, 4*row)
+		service.calls = append(service.calls, calls)
+		service.seats.Add(1)
+		go service.serve(number, calls)
+	}
+	return service, nil
+}
+
+// Like adds one like.
+func (s *Service) Like(user, page uint32) error {
+	answer := s.ask(C.LIKES_LIKE, user, page)
+	if answer.status != C.LIKES_LIKED {
+		return status(answer.status)
+	}
+	return nil
+}
+
+// Look gives the exact count. It may take about a phase.
+func (s *Service) Look(user, page uint32) (Seen, error) {
+	return s.see(C.LIKES_LOOK, user, page)
+}
+
+// Glance gives a count at once, which may lack other seats' likes of the present phase.
+func (s *Service) Glance(user, page uint32) (Seen, error) {
+	return s.see(C.LIKES_GLANCE, user, page)
+}
+
+// Counts gives the counts of all pages at one moment, or nil where no page is split and so no phase ends.
+func (s *Service) Counts() []uint64 {
+	counts := make([]uint64, s.pages)
+	first := (*C.uint64_t)(unsafe.Pointer(&counts[0]))
+	if C.likes_service_counts(s.c, first, C.size_t(s.pages)) != C.LIKES_COUNTED {
+		return nil
+	}
+	return counts
+}
+
+// Close ends the service and gives the final counts. No goroutine calls it any more.
+func (s *Service) Close() []uint64 {
+	for _, calls := range s.calls {
+		close(calls)
+	}
+	s.seats.Wait()
+	totals := make([]uint64, s.pages)
+	C.likes_service_stop(s.c, (*C.uint64_t)(unsafe.Pointer(&totals[0])), C.size_t(s.pages))
+	C.free(unsafe.Pointer(s.c))
+	return totals
+}
+
+func (s *Service) see(op, user, page uint32) (Seen, error) {
+	answer := s.ask(op, user, page)
+	if answer.status != C.LIKES_SEEN {
+		return Seen{}, status(answer.status)
+	}
+	return Seen{Last: uint32(answer.last), Count: uint64(answer.count)}, nil
+}
+
+// ask hands a request to the goroutine of its user's seat, and waits for the answer.
+func (s *Service) ask(op, user, page uint32) C.likes_answer {
+	reply := make(chan C.likes_answer, 1)
+	request := C.likes_request{user: C.uint32_t(user), page: C.uint32_t(page), op: C.uint32_t(op)}
+	s.calls[int(user)%len(s.calls)] <- call{request, reply}
+	return <-reply
+}
+
+// seat is what the goroutine of a seat keeps: the row that it runs, and the looks that wait, by tag.
+type seat struct {
+	calls    <-chan call
+	replies  []chan<- C.likes_answer
+	requests []C.likes_request
+	answers  [row]C.likes_answer
+	found    [row]C.likes_found
+	waits    map[uint64]chan<- C.likes_answer
+	tag      uint64
+	isClosed bool
+}
+
+// serve is the goroutine of a seat.
+func (s *Service) serve(number uint32, calls <-chan call) {
+	defer s.seats.Done()
+	it := &seat{calls: calls, waits: map[uint64]chan<- C.likes_answer{}}
+	for it.collect() {
+		var first *C.likes_request
+		if len(it.requests) > 0 {
+			first = &it.requests[0]
+		} else {
+			first = new(C.likes_request)
+		}
+		var taken C.size_t
+		done := C.run_row(s.c, C.uint32_t(number), first, C.size_t(len(it.requests)), &it.answers[0], &it.found[0], row, &taken)
+		it.tell(int(done), int(taken))
+	}
+}
+
+// collect fills the row: it waits for a request, or for a moment where looks wait, and takes what is there. It is false
+// where there is nothing left to do.
+func (it *seat) collect() bool {
+	if len(it.requests) == 0 && !it.isClosed {
+		if len(it.waits) == 0 {
+			it.put(<-it.calls)
+		} else {
+			select {
+			case next := <-it.calls:
+				it.put(next)
+			case <-time.After(poll):
+			}
+		}
+	}
+	for len(it.requests) < row && !it.isClosed {
+		select {
+		case next := <-it.calls:
+			it.put(next)
+		default:
+			return true
+		}
+	}
+	return !it.isClosed || len(it.requests) > 0 || len(it.waits) > 0
+}
+
+// put adds a request to the row. One without a reply says that the channel is closed.
+func (it *seat) put(next call) {
+	if next.reply == nil {
+		it.isClosed = true
+		return
+	}
+	it.tag++
+	next.request.tag = C.uint64_t(it.tag)
+	it.requests = append(it.requests, next.request)
+	it.replies = append(it.replies, next.reply)
+}
+
+// tell hands out the answers, and keeps what was not done for the next row.
+func (it *seat) tell(done, taken int) {
+	for i := 0; i < done; i++ {
+		if it.answers[i].status == C.LIKES_WAITS {
+			it.waits[uint64(it.requests[i].tag)] = it.replies[i]
+		} else {
+			it.replies[i] <- it.answers[i]
+		}
+	}
+	it.requests = append(it.requests[:0], it.requests[done:]...)
+	it.replies = append(it.replies[:0], it.replies[done:]...)
+	for _, found := range it.found[:taken] {
+		it.waits[uint64(found.tag)] <- C.likes_answer{count: found.count, last: found.last, status: C.LIKES_SEEN}
+		delete(it.waits, uint64(found.tag))
+	}
+}
+
+func status(told C.uint32_t) error {
+	return errors.New(C.GoString(C.likes_status_name(told)))
+}

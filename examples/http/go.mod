@@ -1,0 +1,7 @@
+module likeserver
+
+go 1.19
+
+require likes v0.0.0
+
+replace likes => ../go

@@ -1,0 +1,153 @@
+// A load for the server: clients that like and look. Each has users of its own, so it knows what a look has to show of
+// them. In the end the server's counts have to be what they were and the likes that were made.
+package main
+
+import (
+	"encoding/json"
+	"flag"
+	"fmt"
+	"io"
+	"math/rand"
+	"net/http"
+	"net/url"
+	"os"
+	"sort"
+	"strconv"
+	"sync"
+	"time"
+)
+
+var (
+	at       = flag.String("url", "http://127.0.0.1:8080", "where the server is")
+	clients  = flag.Int("clients", 16, "how many clients")
+	requests = flag.Int("requests", 100000, "how many requests in all, the same for each client")
+	users    = flag.Int("users", 1000, "how many users like and look, those with the lowest numbers")
+)
+
+// client is what a client has done.
+type client struct {
+	number int
+	liked  map[string]uint64
+	last   map[int]string
+}
+
+// get reads an answer in JSON.
+func get(web *http.Client, from string, into any) error {
+	answer, err := web.Get(from)
+	if err != nil {
+		return err
+	}
+	defer answer.Body.Close()
+	if answer.StatusCode != http.StatusOK {
+		return fmt.Errorf("%s: %s", from, answer.Status)
+	}
+	return json.NewDecoder(answer.Body).Decode(into)
+}
+
+func (c *client) like(web *http.Client, user int, page string) error {
+	answer, err := web.PostForm(*at+"/like", url.Values{"user": {strconv.Itoa(user)}, "page": {page}})
+	if err != nil {
+		return err
+	}
+	defer answer.Body.Close()
+	io.Copy(io.Discard, answer.Body)
+	if answer.StatusCode != http.StatusNoContent {
+		return fmt.Errorf("a like: %s", answer.Status)
+	}
+	c.liked[page]++
+	c.last[user] = page
+	return nil
+}
+
+func (c *client) look(web *http.Client, user int, page string) error {
+	var seen struct {
+		Count uint64
+		Last  string
+	}
+	if err := get(web, fmt.Sprintf("%s/page/%s?user=%d", *at, page, user), &seen); err != nil {
+		return err
+	}
+	if last, isKnown := c.last[user]; isKnown && seen.Last != last {
+		return fmt.Errorf("user %d last liked %s, and not %s", user, last, seen.Last)
+	}
+	if seen.Count < c.liked[page] {
+		return fmt.Errorf("page %s has %d likes, of %d and more", page, seen.Count, c.liked[page])
+	}
+	return nil
+}
+
+// run makes a client's requests: a quarter are looks, and low pages are more popular.
+func (c *client) run(web *http.Client, pages []string, each int) error {
+	random := rand.New(rand.NewSource(int64(c.number)))
+	popular := rand.NewZipf(random, 1.4, 1, uint64(len(pages)-1))
+	for i := 0; i < each; i++ {
+		user := c.number + *clients*random.Intn(*users / *clients)
+		page := pages[popular.Uint64()]
+		act := c.like
+		if random.Intn(4) == 0 {
+			act = c.look
+		}
+		if err := act(web, user, page); err != nil {
+			return err
+		}
+	}
+	return nil
+}
+
+func load() error {
+	flag.Parse()
+	transport := http.DefaultTransport.(*http.Transport).Clone()
+	transport.MaxIdleConnsPerHost = *clients
+	web := &http.Client{Transport: transport}
+	before, after := map[string]uint64{}, map[string]uint64{}
+	if err := get(web, *at+"/pages", &before); err != nil {
+		return err
+	}
+	each := *requests / *clients
+	var pages []string
+	for page := range before {
+		pages = append(pages, page)
+	}
+	sort.Strings(pages)
+	began := time.Now()
+	errs, all := make(chan error, *clients), make([]*client, *clients)
+	var done sync.WaitGroup
+	for number := range all {
+		all[number] = &client{number, map[string]uint64{}, map[int]string{}}
+		done.Add(1)
+		go func(c *client) {
+			defer done.Done()
+			if err := c.run(web, pages, each); err != nil {
+				errs <- err
+			}
+		}(all[number])
+	}
+	done.Wait()
+	took := time.Since(began).Seconds()
+	close(errs)
+	for err := range errs {
+		return err
+	}
+	if err := get(web, *at+"/pages", &after); err != nil {
+		return err
+	}
+	var liked uint64
+	for page, count := range after {
+		for _, c := range all {
+			count -= c.liked[page]
+			liked += c.liked[page]
+		}
+		if count != before[page] {
+			return fmt.Errorf("the count of %s is wrong", page)
+		}
+	}
+	fmt.Printf("%d requests, %d of them likes, %.0f a second: all counts are exact\n", each**clients, liked, float64(each**clients)/took)
+	return nil
+}
+
+func main() {
+	if err := load(); err != nil {
+		fmt.Fprintln(os.Stderr, err)
+		os.Exit(1)
+	}
+}
