@@ -90,6 +90,6 @@ Leaves-works v after ending answer sized (reports s split e a merges is) = subst
 
 pub Leaves-moves : (v after : LiveView) (answer : TurnAnswer) → IsSized v → Moves v answer after → Leaves v after
 Leaves-moves v after answer sized (is_gone gone a is) = subst (Leaves v) (sym is) (Leaves-all v)
-Leaves-moves v after answer sized (waits sight mask there w a is) = subst (Leaves v) (sym is) (Leaves-looked v sight mask)
-Leaves-moves v after answer sized (works sight mask there w does) =
+Leaves-moves v after answer sized (waits sight mask can w a is) = subst (Leaves v) (sym is) (Leaves-looked v sight mask)
+Leaves-moves v after answer sized (works sight mask can w does) =
     Leaves-both v (looked v sight mask) after (Leaves-looked v sight mask) (Leaves-works (looked v sight mask) after sight.ending answer sized does)

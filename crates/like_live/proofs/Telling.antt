@@ -6,7 +6,8 @@ use Rattle.std.proofs.lemmas.List.{get_or-set_other, get_or-set_same, length-set
 use Rattle.like_core.specs.declared.sight.Sight.{Sight}
 use Rattle.like_core.specs.declared.worker_state.WorkerState.{WorkerState}
 use Rattle.like_core.specs.declared.worker_state.WorkerState.TheVariants as state
-use Rattle.like_core.specs.WorkerState.{RunsSplit, seen}
+use Rattle.like_core.specs.WorkerState.{IsSightWithin, RunsSplit, seen}
+use Rattle.like_core.specs.declared.limits.Limits.{Limits}
 use Rattle.like_requests.specs.declared.verdict.Verdict.TheVariants.{Accepted, UnknownUser}
 use Rattle.like_requests.specs.declared.verdict.Verdict.{Verdict}
 use Rattle.like_seat.specs.SeatView.{SeatView}
@@ -85,14 +86,14 @@ IsQuiet-both v now after a b = record {
 }
 
 -- a look leaves a worker that is there
-seen-there : (s : WorkerState) (sight : Sight) → s ≢ state.Gone → seen s sight ≢ state.Gone
-seen-there (state.Runs k) sight there = λ e. absurd (cc e)
-seen-there (state.Answered k) sight there = by_test sight.waits
+seen-there : (l : Limits) (s : WorkerState) (sight : Sight) → IsSightWithin l s sight → seen s sight ≢ state.Gone
+seen-there l (state.Runs k) sight can = λ e. absurd (cc e)
+seen-there l (state.Answered k) sight can = by_test sight.waits
   where
     by_test : (b : Bool) → cond b (state.Answered k) (state.Runs (k + 1)) ≢ state.Gone
     by_test true = λ e. absurd (cc e)
     by_test false = λ e. absurd (cc e)
-seen-there state.Gone sight there = absurd (there refl)
+seen-there l state.Gone sight can = absurd can
 
 -- who runs a split phase is there
 split-there : (s : WorkerState) → RunsSplit s → s ≢ state.Gone
@@ -113,9 +114,9 @@ empty-works v after ending answer (moves.reports s split e a merges is) =
 
 empty-moves : (v after : LiveView) (answer : TurnAnswer) → IsEmpty v → Moves v answer after → IsEmpty after
 empty-moves v after answer empty (moves.is_gone gone a is) = subst IsEmpty (sym is) empty
-empty-moves v after answer empty (moves.waits sight mask there w a is) =
-    subst IsEmpty (sym is) (λ gone. absurd (seen-there v.seat.post.state sight there gone))
-empty-moves v after answer empty (moves.works sight mask there w does) = empty-works (looked v sight mask) after sight.ending answer does
+empty-moves v after answer empty (moves.waits sight mask can w a is) =
+    subst IsEmpty (sym is) (λ gone. absurd (seen-there v.seat.post.limits v.seat.post.state sight can gone))
+empty-moves v after answer empty (moves.works sight mask can w does) = empty-works (looked v sight mask) after sight.ending answer does
 
 -- a found look is the one that waited
 asks-found : (fs : List Found) → map ask_of fs ≡ map ask_waiting (map (λ f. f.asked) fs)
@@ -141,8 +142,8 @@ works-asks v after ending answer (moves.reports s split e a merges is) =
 
 moves-asks : (v after : LiveView) (answer : TurnAnswer) → Moves v answer after → asks_of after ≡ asks_of v
 moves-asks v after answer (moves.is_gone gone a is) = ap asks_of is
-moves-asks v after answer (moves.waits sight mask there w a is) = ap asks_of is
-moves-asks v after answer (moves.works sight mask there w does) = works-asks (looked v sight mask) after sight.ending answer does
+moves-asks v after answer (moves.waits sight mask can w a is) = ap asks_of is
+moves-asks v after answer (moves.works sight mask can w does) = works-asks (looked v sight mask) after sight.ending answer does
 
 -- phase work is quiet
 pub IsQuiet-moves : (v after : LiveView) (answer : TurnAnswer) → IsWhole v → Moves v answer after → IsQuiet v after

@@ -1,11 +1,11 @@
 -- The phase work of a live seat: what a look at the phase word makes it do.
-use Rattle.std.specs.Prelude.{◌≡◌, ◌≢◌, ℕ, ◌≤◌, Bool, true, false, List, [], ◌++◌, length, map, All}
+use Rattle.std.specs.Prelude.{◌≡◌, ℕ, ◌≤◌, Bool, true, false, List, [], ◌++◌, length, map, All}
 use Rattle.like_core.specs.declared.sight.Sight.{Sight}
 use Rattle.like_core.specs.declared.view.PageRead.{PageRead}
 use Rattle.like_core.specs.declared.worker_state.WorkerState.TheVariants.{Gone}
 use Rattle.like_core.specs.Additions.{page_read}
 use Rattle.like_core.specs.Post.{additions_of, answered}
-use Rattle.like_core.specs.WorkerState.{RunsJoined, RunsSplit}
+use Rattle.like_core.specs.WorkerState.{IsSightWithin, RunsJoined, RunsSplit}
 use Rattle.like_seat.specs.Merge.{MergesAndReports}
 use Rattle.like_seat.specs.SeatView.{SeatView, phase_at}
 use Rattle.like_seat.specs.Steps.{saw}
@@ -67,11 +67,16 @@ pub data Works (v : LiveView) (ending : Bool) (answer : TurnAnswer) (after : Liv
   reports : (s : SeatView Asked) → RunsSplit v.seat.post.state → ending ≡ true
       → answer ≡ turn.Between → MergesAndReports v.seat s → after ≡ with_seat v s → Works v ending answer after
 
+-- what a seat can see by a look at the phase word: the phase that it runs; or the one that it has answered, and then it
+-- waits; or the next one. A seat that is gone sees nothing
+abbrev pub CanSee : LiveView → Sight → Type 0
+CanSee v sight = IsSightWithin v.seat.post.limits v.seat.post.state sight
+
 -- the phase work of a seat: it is gone; or it has answered a phase and waits, since the next is not released yet; or it
 -- runs the phase that it looked at, which it enters by that look where it is the next one
 pub data Moves (v : LiveView) (answer : TurnAnswer) (after : LiveView) : Type 0 where
   is_gone : v.seat.post.state ≡ Gone → answer ≡ turn.Gone → after ≡ v → Moves v answer after
-  waits : (sight : Sight) (mask : ℕ) → v.seat.post.state ≢ Gone → sight.waits ≡ true
+  waits : (sight : Sight) (mask : ℕ) → CanSee v sight → sight.waits ≡ true
       → answer ≡ turn.Between → after ≡ looked v sight mask → Moves v answer after
-  works : (sight : Sight) (mask : ℕ) → v.seat.post.state ≢ Gone → sight.waits ≡ false
+  works : (sight : Sight) (mask : ℕ) → CanSee v sight → sight.waits ≡ false
       → Works (looked v sight mask) sight.ending answer after → Moves v answer after

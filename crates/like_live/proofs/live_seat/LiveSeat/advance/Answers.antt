@@ -1,5 +1,4 @@
 use Rattle.std.proofs.Common.{refl, subst}
-use Rattle.std.proofs.lemmas.Bool.{both_ways}
 use Rattle.like_live.specs.declared.answer.TurnAnswer.TheVariants.{Between}
 use Rattle.like_live.specs.LiveView.{LiveView, live_of}
 use Rattle.like_live.specs.Moves.{Moves, Works, waits, works}
@@ -8,7 +7,7 @@ use Rattle.like_live.proofs.live_seat.LiveSeat.advance.Goals as goal
 pub returns-then-sight-clause-moves : goal.returns-then-sight-clause-moves
 returns-then-sight-clause-moves g c =
     subst (λ (v : LiveView). Moves v Between (live_of c.look-sight.new.self c.self.inside.found)) c.self.view_is
-    (waits c.look-sight.result c.look-sight.ensures.looks.0 (λ gone. both_ways _ c.if-is_gone.false (c.is_gone.ensures.1 gone)) c.if-sight.true refl (λ m. live_of (c.look-sight.ensures.looks.1 m) c.self.inside.found))
+    (waits c.look-sight.result c.look-sight.ensures.looks.0 c.look-sight.ensures.sight c.if-sight.true refl (λ m. live_of (c.look-sight.ensures.looks.1 m) c.self.inside.found))
 
 pub returns-clause-moves : goal.returns-clause-moves
 returns-clause-moves g c =
@@ -17,5 +16,5 @@ returns-clause-moves g c =
     let sight = c.look-sight.result in
     let looks = c.look-sight.ensures.looks in
     subst (λ (u : LiveView). Moves u c.work.result after) c.self.view_is
-    (works sight looks.0 (λ gone. both_ways _ c.if-is_gone.false (c.is_gone.ensures.1 gone)) c.if-sight.false
+    (works sight looks.0 c.look-sight.ensures.sight c.if-sight.false
     (subst (λ (u : LiveView). Works u sight.ending c.work.result after) (λ m. live_of (looks.1 m) c.self.inside.found) c.work.ensures.works))
