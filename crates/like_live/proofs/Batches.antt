@@ -24,6 +24,14 @@ WereTold-push (suc i) (x ∷ calls) (y ∷ answers) [] c a t at there were was =
 WereTold-push (suc i) (x ∷ calls) (y ∷ answers) (z ∷ told) c a t at there were was =
     (were.0, WereTold-push i calls answers told c a t at (omega arith) were.1 was)
 
+-- to set an element leaves those behind it
+pub slice_get-set_other : {A : Type 0} → (xs : List A) (i k : ℕ) (x : A) → i < k → slice_get (set xs i x) k ≡ slice_get xs k
+slice_get-set_other [] i k x below = refl
+slice_get-set_other (y ∷ xs) zero zero x below = absurd (omega arith)
+slice_get-set_other (y ∷ xs) (suc i) zero x below = absurd (omega arith)
+slice_get-set_other (y ∷ xs) zero (suc k) x below = refl
+slice_get-set_other (y ∷ xs) (suc i) (suc k) x below = slice_get-set_other xs i k x (omega arith)
+
 -- no call is made at first
 pub HasRun-start : (v : LiveView) (calls : List Call) (answers : List Answer) → HasRun v calls answers 0 v
 HasRun-start v calls answers = record { told = []; history = refl; were = tt }

@@ -19,9 +19,9 @@ use Rattle.like_live.specs.declared.asked.Found.{Found}
 use Rattle.like_live.specs.LiveView.{LiveView, tally, waiting, with_seat}
 use Rattle.like_live.specs.Calls as calls
 use Rattle.like_live.specs.Calls.{GlanceCase, GlancesNow, LikeCase, LikesNow, LookCase, LooksNow, RetireCase, RetiresNow, TakesFound, asked_now, left}
-use Rattle.like_live.specs.History.{Ask, Does, HasDone, HistoriesAreCounted, Told, ask_of, ask_taken, ask_told, asks_taken, asks_told, glance, like, like_told, likes_told, look, page_liked, pages_liked, retire, take_found, turn}
+use Rattle.like_live.specs.History.{Ask, Does, HasDone, HistoriesAreCounted, IsUnused, NoneWaitsOnceGone, Told, ask_of, ask_taken, ask_told, ask_waiting, asks_left, asks_taken, asks_told, glance, like, like_told, likes_told, look, page_liked, pages_liked, retire, take_found, turn}
 use Rattle.like_live.proofs.Calling.{LikesNow-tallies}
-use Rattle.like_live.proofs.Telling.{IsQuiet, IsQuiet-both, IsQuiet-moves, IsQuiet-same, IsTold, IsTold-after, IsTold-quiet, IsWhole, TellsNothing, ask_waiting, asks_of, is_counted, last-more, merged-asks, user_there}
+use Rattle.like_live.proofs.Telling.{IsQuiet, IsQuiet-both, IsQuiet-moves, IsQuiet-same, IsTold, IsTold-after, IsTold-quiet, IsWhole, TellsNothing, is_counted, last-more, merged-asks, user_there}
 
 -- a like at a seat that runs a phase
 told-like : (v after : LiveView) (user page : ℕ) (answer : LikeAnswer) → IsWhole v → LikesNow v user page answer after → IsTold v after (like user page answer)
@@ -46,7 +46,7 @@ told-like v after user page answer whole (calls.liked old s accepted few a count
           ap (λ (w : LiveView). last_of w.seat.last other) is ∙ ap (λ (t : UserTable). last_of t other) c.last
           ∙ last-more v.seat.last user page other there
           ∙ sym (ap (λ x. last_or (last_of v.seat.last other) (page_liked other (like user page x))) a);
-      asks = ap asks_of is ∙ merged-asks v s c.held ∙ sym (append-nil (asks_of v));
+      asks = ap asks_left is ∙ merged-asks v s c.held ∙ sym (append-nil (asks_left v));
     }
 
 -- a look at a seat that runs a phase
@@ -128,7 +128,7 @@ told-take v after taken whole takes = subst (λ w. IsTold v w (take_found taken)
   whole = record { sized = whole.sized; table = whole.table; empty = whole.empty };
   tallies = λ p. omega arith;
   last = λ u. refl;
-  asks = takes-asks v.found (map ask_waiting (waiting v)) taken takes.0 ∙ sym (append-nil (asks_of v));
+  asks = takes-asks v.found (map ask_waiting (waiting v)) taken takes.0 ∙ sym (append-nil (asks_left v));
 })
 
 -- each call tells what it does
@@ -181,7 +181,7 @@ record AreTold (v after : LiveView) (told : List Told) : Type 0 where
   whole : IsWhole after
   tallies : (page : ℕ) → tally after page ≡ tally v page + likes_told page told
   last : (user : ℕ) → last_of after.seat.last user ≡ last_or (last_of v.seat.last user) (pages_liked user told)
-  asks : asks_taken told ++ asks_of after ≡ asks_of v ++ asks_told told
+  asks : asks_taken told ++ asks_left after ≡ asks_left v ++ asks_told told
 
 last_or-append : (o : Option ℕ) (xs ys : List ℕ) → last_or o (xs ++ ys) ≡ last_or (last_or o xs) ys
 last_or-append o [] ys = refl
@@ -192,7 +192,7 @@ are_told [] v after whole is = subst (λ w. AreTold v w []) (sym is) (record {
   whole = whole;
   tallies = λ page. omega arith;
   last = λ user. refl;
-  asks = sym (append-nil (asks_of v));
+  asks = sym (append-nil (asks_left v));
 })
 are_told (t ∷ told) v after whole d =
     let now = d.0 in
@@ -205,24 +205,30 @@ are_told (t ∷ told) v after whole d =
           rest.last user ∙ ap (λ (o : Option ℕ). last_or o (pages_liked user told)) (first.last user)
           ∙ sym (last_or-append (last_of v.seat.last user) (page_liked user t) (pages_liked user told));
       asks =
-          append_assoc (ask_taken t) (asks_taken told) (asks_of after)
+          append_assoc (ask_taken t) (asks_taken told) (asks_left after)
           ∙ ap (λ xs. ask_taken t ++ xs) rest.asks
-          ∙ sym (append_assoc (ask_taken t) (asks_of now) (asks_told told))
+          ∙ sym (append_assoc (ask_taken t) (asks_left now) (asks_told told))
           ∙ ap (λ xs. xs ++ asks_told told) first.asks
-          ∙ append_assoc (asks_of v) (ask_told t) (asks_told told);
+          ∙ append_assoc (asks_left v) (ask_told t) (asks_told told);
     }
 
-pub histories_are_counted : HistoriesAreCounted
-histories_are_counted v after told unused done gone none =
+whole_at_first : (v : LiveView) → IsUnused v → IsWhole v
+whole_at_first v unused =
     let new = unused.new in
-    let whole : IsWhole v = record {
+    record {
       sized = ap length new.slice ∙ length-replicate {A = ℕ} _ 0 ∙ ap (λ (p : PostView). length p.marks) (sym new.at_post);
       table = ap (λ (t : UserTable). length t.last) new.last ∙ length-replicate {A = Option ℕ} _ None ∙ ap (λ (t : UserTable). t.share.users) (sym new.last);
       empty = λ e. ap (λ (w : Waiting Asked). w.held) new.held;
-    } in
-    let t = are_told told v after whole done in
-    let nothing : asks_of v ≡ [] = λ m. map ask_of (new.found m) ++ map ask_waiting ((new.held m).held) in
-    let all_taken : asks_of after ≡ [] = λ m. map ask_of (none m) ++ map ask_waiting (t.whole.empty gone m) in
+    }
+
+pub none_waits_once_gone : NoneWaitsOnceGone
+none_waits_once_gone v after told unused done gone = (are_told told v after (whole_at_first v unused) done).whole.empty gone
+
+pub histories_are_counted : HistoriesAreCounted
+histories_are_counted v after told unused done =
+    let new = unused.new in
+    let t = are_told told v after (whole_at_first v unused) done in
+    let nothing : asks_left v ≡ [] = λ m. map ask_of (new.found m) ++ map ask_waiting ((new.held m).held) in
     record {
       tallies = λ page.
           let added : added_to page v.seat.post.additions ≡ 0 = ap (λ (p : PostView). added_to page p.additions) new.at_post ∙ ap (added_to page) unused.fresh.added_nothing in
@@ -231,7 +237,5 @@ histories_are_counted v after told unused done gone none =
           omega arith;
       last = λ user.
           t.last user ∙ ap (λ (o : Option ℕ). last_or o (pages_liked user told)) (ap (λ (u : UserTable). last_of u user) new.last ∙ same_everywhere _ user None);
-      taken =
-          sym (append-nil (asks_taken told)) ∙ ap (λ xs. asks_taken told ++ xs) (sym all_taken) ∙ t.asks
-          ∙ ap (λ xs. xs ++ asks_told told) nothing;
+      taken = t.asks ∙ ap (λ xs. xs ++ asks_told told) nothing;
     }

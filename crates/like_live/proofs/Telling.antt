@@ -20,16 +20,8 @@ use Rattle.like_live.specs.LiveView.{KeepsTallies, LiveView, tally, waiting, wit
 use Rattle.like_live.specs.Moves as moves
 use Rattle.like_live.specs.Moves.{FindsAll, Moves, Works, looked, stopped, with_found}
 use Rattle.like_live.specs.Calls.{verdict_at}
-use Rattle.like_live.specs.History.{Ask, Told, ask_of, ask_taken, ask_told, like_told, page_liked}
+use Rattle.like_live.specs.History.{Told, ask_of, ask_taken, ask_told, ask_waiting, asks_left, like_told, page_liked}
 use Rattle.like_live.proofs.Moving.{IsSized, Leaves-moves}
-
--- a look that waits
-abbrev pub ask_waiting : Asked → Ask
-ask_waiting a = record { tag = a.tag; user = a.user; page = a.page }
-
--- the looks that were found and not taken yet, and those that wait
-abbrev pub asks_of : LiveView → List Ask
-asks_of v = map ask_of v.found ++ map ask_waiting (waiting v)
 
 -- a seat with a number for each page and an entry for each user, at which nothing waits once it is gone
 pub record IsWhole (v : LiveView) : Type 0 where
@@ -42,14 +34,14 @@ pub record IsQuiet (v after : LiveView) : Type 0 where
   pub whole : IsWhole after
   pub tallies : KeepsTallies v after
   pub last : after.seat.last ≡ v.seat.last
-  pub asks : asks_of after ≡ asks_of v
+  pub asks : asks_left after ≡ asks_left v
 
 -- what a call tells is what it does
 pub record IsTold (v after : LiveView) (t : Told) : Type 0 where
   pub whole : IsWhole after
   pub tallies : (page : ℕ) → tally after page ≡ tally v page + like_told page t
   pub last : (user : ℕ) → last_of after.seat.last user ≡ last_or (last_of v.seat.last user) (page_liked user t)
-  pub asks : ask_taken t ++ asks_of after ≡ asks_of v ++ ask_told t
+  pub asks : ask_taken t ++ asks_left after ≡ asks_left v ++ ask_told t
 
 -- it tells of nothing that a history counts
 pub record TellsNothing (t : Told) : Type 0 where
@@ -63,7 +55,7 @@ IsTold-quiet v after t q none = record {
   whole = q.whole;
   tallies = λ page. let a = q.tallies page in let b = none.likes page in omega arith;
   last = λ user. ap (λ (x : UserTable). last_of x user) q.last ∙ sym (ap (last_or (last_of v.seat.last user)) (none.pages user));
-  asks = ap (λ xs. xs ++ asks_of after) none.taken ∙ q.asks ∙ sym (append-nil (asks_of v)) ∙ ap (λ xs. asks_of v ++ xs) (sym none.told);
+  asks = ap (λ xs. xs ++ asks_left after) none.taken ∙ q.asks ∙ sym (append-nil (asks_left v)) ∙ ap (λ xs. asks_left v ++ xs) (sym none.told);
 }
 
 pub IsTold-after : (v now after : LiveView) (t : Told) → IsQuiet v now → IsTold now after t → IsTold v after t
@@ -123,26 +115,26 @@ asks-found : (fs : List Found) → map ask_of fs ≡ map ask_waiting (map (λ f.
 asks-found [] = refl
 asks-found (f ∷ fs) = ap (λ xs. ask_of f ∷ xs) (asks-found fs)
 
-finds-asks : (v after : LiveView) → FindsAll v after → asks_of after ≡ asks_of v
+finds-asks : (v after : LiveView) → FindsAll v after → asks_left after ≡ asks_left v
 finds-asks v after f =
-    ap asks_of f.rest
+    ap asks_left f.rest
     ∙ append-nil (map ask_of (v.found ++ f.found))
     ∙ map-append ask_of v.found f.found
     ∙ ap (λ xs. map ask_of v.found ++ xs) (asks-found f.found ∙ ap (map ask_waiting) f.order)
 
-pub merged-asks : (v : LiveView) (s : SeatView Asked) → s.held ≡ v.seat.held → asks_of (with_seat v s) ≡ asks_of v
+pub merged-asks : (v : LiveView) (s : SeatView Asked) → s.held ≡ v.seat.held → asks_left (with_seat v s) ≡ asks_left v
 merged-asks v s held = ap (λ h. map ask_of v.found ++ map ask_waiting h.held) held
 
-works-asks : (v after : LiveView) (ending : Bool) (answer : TurnAnswer) → Works v ending answer after → asks_of after ≡ asks_of v
+works-asks : (v after : LiveView) (ending : Bool) (answer : TurnAnswer) → Works v ending answer after → asks_left after ≡ asks_left v
 works-asks v after ending answer (moves.runs_joined joined e a found) = finds-asks v after found
-works-asks v after ending answer (moves.acknowledges now joined e a found is) = ap asks_of is ∙ finds-asks v now found
-works-asks v after ending answer (moves.runs_split split e a is) = ap asks_of is
+works-asks v after ending answer (moves.acknowledges now joined e a found is) = ap asks_left is ∙ finds-asks v now found
+works-asks v after ending answer (moves.runs_split split e a is) = ap asks_left is
 works-asks v after ending answer (moves.reports s split e a merges is) =
-    ap asks_of is ∙ merged-asks v s (ap (λ (t : SeatView Asked). t.held) merges.1.1 ∙ ap (λ (t : SeatView Asked). t.held) merges.1.0.1.1)
+    ap asks_left is ∙ merged-asks v s (ap (λ (t : SeatView Asked). t.held) merges.1.1 ∙ ap (λ (t : SeatView Asked). t.held) merges.1.0.1.1)
 
-moves-asks : (v after : LiveView) (answer : TurnAnswer) → Moves v answer after → asks_of after ≡ asks_of v
-moves-asks v after answer (moves.is_gone gone a is) = ap asks_of is
-moves-asks v after answer (moves.waits sight mask can w a is) = ap asks_of is
+moves-asks : (v after : LiveView) (answer : TurnAnswer) → Moves v answer after → asks_left after ≡ asks_left v
+moves-asks v after answer (moves.is_gone gone a is) = ap asks_left is
+moves-asks v after answer (moves.waits sight mask can w a is) = ap asks_left is
 moves-asks v after answer (moves.works sight mask can w does) = works-asks (looked v sight mask) after sight.ending answer does
 
 -- phase work is quiet

@@ -96,7 +96,7 @@ unchanged v w is = record {
 case-stays : (v w : LeadView) (sight : CoordSight) (may_end : Bool) (answer : DriverAnswer) → v.seat.last ≡ Some sight → DriverCase v sight may_end answer w → Stays v w
 case-stays v w sight may_end answer last (ended _ _ is) = unchanged v w is
 case-stays v w sight may_end answer last (running _ _ _ _ is) = unchanged v w is
-case-stays v w sight may_end answer last (announces _ _ _ _ is) = record {
+case-stays v w sight may_end answer last (announces _ _ _ _ _ is) = record {
   same = record { board = ap (λ (l : LeadView). l.board) is; opening = ap (λ (l : LeadView). l.seat.opening) is; hot = ap (λ (l : LeadView). l.hot) is };
   gone = λ before. ap (λ (l : LeadView). l.seat.gone) is ∙ before;
 }

@@ -1,5 +1,5 @@
 -- What a driver does in its calls. A driver is seen as its lead.
-use Rattle.std.specs.Prelude.{◌≡◌, ℕ, ◌%◌, ◌==◌, ◌&&◌, ◌||◌, ◌≤◌, nat_lt, Bool, true, false, List, [], length, Vec, vec_capacity, Option, Some, None}
+use Rattle.std.specs.Prelude.{◌≡◌, ℕ, ◌%◌, ◌==◌, ◌&&◌, ◌||◌, ◌≤◌, ◌⊎◌, nat_lt, Bool, true, false, List, [], length, Vec, vec_capacity, Option, Some, None}
 use Rattle.std.specs.declared.alloc.Global.{Global}
 use Rattle.like_board.specs.Rule.{opened_coord}
 use Rattle.like_board.specs.Seats.{BoardId}
@@ -24,7 +24,7 @@ abbrev pub may_be_ended : ℕ → Bool → Bool
 may_be_ended phase splits =
     nat_lt phase service_limits.last_phase && ((phase % 2 == 1) || splits)
 
--- whether its phase may be
+-- whether the driver's phase may be ended
 abbrev pub can_end : LeadView → Bool
 can_end v = may_be_ended v.seat.phase (splits_some v)
 
@@ -34,15 +34,19 @@ pub data ReleasesNext (v after : LeadView) : Type 0 where
   releases_split : IsJoined v.seat.phase → (m : ℕ) (chosen : LeadView) → ChoosesRisen v m chosen
       → after ≡ released (published chosen m) → ReleasesNext v after
 
+-- the end of its phase is asked for: by `may_end`; or, in a split phase, by a hint of a seat
+abbrev pub IsDue : LeadView → Bool → Type 0
+IsDue v may_end = (may_end ≡ true) ⊎ IsSplit v.seat.phase
+
 -- the five cases of a turn whose look showed this: at most one thing is done. A phase goes on where its end is not asked
--- for or may not be; it may be asked for by `may_end`, or by a hint of a seat
+-- for, or may not be
 pub data DriverCase (v : LeadView) (sight : CoordSight) (may_end : Bool)
     (answer : DriverAnswer) (after : LeadView) : Type 0 where
   ended : sight.all_gone ≡ true → answer ≡ Ended → after ≡ v
       → DriverCase v sight may_end answer after
   running : sight.all_gone ≡ false → sight.ending ≡ false → (may_end ≡ true → can_end v ≡ false)
       → answer ≡ Running → after ≡ v → DriverCase v sight may_end answer after
-  announces : sight.all_gone ≡ false → sight.ending ≡ false → can_end v ≡ true
+  announces : sight.all_gone ≡ false → sight.ending ≡ false → can_end v ≡ true → IsDue v may_end
       → answer ≡ Announced → after ≡ announced v → DriverCase v sight may_end answer after
   waiting : sight.all_gone ≡ false → sight.ending ≡ true → sight.all_in ≡ false
       → answer ≡ Waiting → after ≡ v → DriverCase v sight may_end answer after
@@ -99,7 +103,7 @@ pub record LooksForGone (v : LeadView) (is_gone : Bool) (after : LeadView) : Typ
   pub case : EndsGone seen sight is_gone after
 
 -- the last counts, with no seats given back: where it saw all seats gone they are those of a snapshot, and nobody adds to
--- them any more
+-- them any more; in the last phase, whose end is never announced, there is none
 pub data TakesLast (v : LeadView) (old : List ℕ) (is_done : Bool) (after : LeadView) (counts : List ℕ) : Type 0 where
   some_left : LooksForGone v false after → is_done ≡ false → counts ≡ old → TakesLast v old is_done after counts
   not_at_end : (now : LeadView) → LooksForGone v true now → TakesSnapshot now old None after counts

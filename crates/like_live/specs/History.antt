@@ -1,5 +1,5 @@
 -- What a live seat's calls were told, from its first call on.
-use Rattle.std.specs.Prelude.{◌≡◌, ℕ, ◌==◌, if◌then◌else◌, List, [], ◌∷◌, Option, Some, None, flat_map, sum_by}
+use Rattle.std.specs.Prelude.{◌≡◌, ℕ, ◌==◌, if◌then◌else◌, List, [], ◌∷◌, ◌++◌, map, Option, Some, None, flat_map, sum_by}
 use Rattle.std.specs.List.{last_or}
 use Rattle.like_core.specs.declared.worker_state.WorkerState.TheVariants.{Gone}
 use Rattle.like_core.specs.Post.{IsFresh, PostView}
@@ -11,8 +11,9 @@ use Rattle.like_live.specs.declared.answer.LikeAnswer.TheVariants.{Liked}
 use Rattle.like_live.specs.declared.answer.LookAnswer.{LookAnswer}
 use Rattle.like_live.specs.declared.answer.LookAnswer.TheVariants.{Waits}
 use Rattle.like_live.specs.declared.answer.TurnAnswer.{TurnAnswer}
+use Rattle.like_live.specs.declared.asked.Asked.{Asked}
 use Rattle.like_live.specs.declared.asked.Found.{Found}
-use Rattle.like_live.specs.LiveView.{LiveView, IsNewLive, tally}
+use Rattle.like_live.specs.LiveView.{LiveView, IsNewLive, tally, waiting}
 use Rattle.like_live.specs.Moves.{Moves}
 use Rattle.like_live.specs.Calls.{GlanceCase, LikeCase, LookCase, RetireCase, TakesFound, told_of}
 
@@ -85,6 +86,14 @@ asks_told told = flat_map ask_told told
 abbrev pub asks_taken : List Told → List Ask
 asks_taken told = flat_map ask_taken told
 
+-- a look that waits
+abbrev pub ask_waiting : Asked → Ask
+ask_waiting a = record { tag = a.tag; user = a.user; page = a.page }
+
+-- the looks that were found and not taken yet, and those that wait, in order
+abbrev pub asks_left : LiveView → List Ask
+asks_left v = map ask_of v.found ++ map ask_waiting (waiting v)
+
 -- a seat that has done nothing yet, in whose table no user has liked a page
 pub record IsUnused (v : LiveView) : Type 0 where
   pub post : PostView
@@ -94,15 +103,21 @@ pub record IsUnused (v : LiveView) : Type 0 where
   pub new : IsNewLive post room (table_without_likes share) v
 
 -- what is true of calls and a seat after them: a page's tally is the number of its likes that were told `Liked`; a
--- user's last like is the page of the user's last one; and the found looks that were taken are those that were told
--- `Waits`, each once and in order
+-- user's last like is the page of the user's last one; and the found looks that were taken, with those that are left, are
+-- the looks that were told `Waits`, each once and in order
 pub record AreCounted (told : List Told) (after : LiveView) : Type 0 where
   pub tallies : (page : ℕ) → tally after page ≡ likes_told page told
   pub last : (user : ℕ) → last_of after.seat.last user ≡ last_or None (pages_liked user told)
-  pub taken : asks_taken told ≡ asks_told told
+  pub taken : asks_taken told ++ asks_left after ≡ asks_told told
 
--- the law of histories: whatever calls a fresh seat is asked, until it is gone and all found looks are taken
+-- the law of histories: whatever calls a fresh seat is asked. Of a seat that is gone none waits, so once its found looks
+-- are taken none is left
 abbrev pub HistoriesAreCounted : Type 0
 HistoriesAreCounted =
+    (v after : LiveView) (told : List Told) → IsUnused v → HasDone v told after → AreCounted told after
+
+-- nothing waits at a seat that is gone, whatever calls it was asked
+abbrev pub NoneWaitsOnceGone : Type 0
+NoneWaitsOnceGone =
     (v after : LiveView) (told : List Told) → IsUnused v → HasDone v told after
-    → after.seat.post.state ≡ Gone → after.found ≡ [] → AreCounted told after
+    → after.seat.post.state ≡ Gone → waiting after ≡ []

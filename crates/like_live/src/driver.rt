@@ -85,7 +85,8 @@ impl Driver {
     }
 
     /// Makes one look at the phase word, and does at most one thing. It announces the end of the phase where `may_end`
-    /// is set, or earlier where a seat's ring is half full. A joined phase goes on where nothing would be split next.
+    /// is set, and of a split phase also where a seat's room for looks is half taken. A joined phase goes on where no page
+    /// is marked and none can be hot.
     pub fn turn(&mut self, may_end: bool) -> DriverAnswer
         ensures case { DriverTurns self.old may_end result self.new }
         ensures keeps { IsService self.new }

@@ -1,4 +1,4 @@
-ghost use Rattle.std.specs.Prelude.{◌≡◌, MatchResult};
+ghost use Rattle.std.specs.Prelude.{◌≡◌, ◌%◌, ◌≤◌, MatchResult};
 ghost use Rattle.std.specs.List.{list_any};
 ghost use Rattle.like_live.specs.Opening.{IsFirstWrong, IsWithinLimits, splits_by};
 
@@ -23,7 +23,7 @@ pub struct Opening {
 }
 
 impl Opening {
-    /// Tests every number, in the order of `OpenError`, whose `Memory` it never answers.
+    /// Tests every number but `hot`, which may be any, in the order of `OpenError`, whose `Memory` it never answers.
     pub fn check(&self) -> Result<(), OpenError>
         ensures { MatchResult result (λ _. IsWithinLimits self.now) (IsFirstWrong self.now) }
     {
@@ -47,6 +47,14 @@ impl Opening {
             return Err(OpenError::Room);
         }
         Ok(())
+    }
+
+    /// The seat of a user.
+    pub fn seat_of(&self, user: u32) -> u32
+        requires { 1 ≤ self.now.seats }
+        ensures { result ≡ user % self.now.seats }
+    {
+        user % self.seats
     }
 
     /// Whether something would be split in a split phase: a page is marked, or pages can be hot.

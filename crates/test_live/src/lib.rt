@@ -3,3 +3,5 @@
 
 #[cfg(test)]
 mod seats;
+#[cfg(test)]
+mod services;

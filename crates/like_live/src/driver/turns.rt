@@ -1,8 +1,8 @@
-ghost use Rattle.std.specs.Prelude.{◌≡◌, ◌≤◌};
+ghost use Rattle.std.specs.Prelude.{◌≡◌, ◌≤◌, true};
 ghost use Rattle.like_board.specs.Seats.{board_id};
 ghost use Rattle.like_core.specs.OpeningLimits.{service_limits};
 ghost use Rattle.like_core.specs.views.Views.{SawAllIn};
-ghost use Rattle.like_live.specs.Driver.{DriverTurns, ReleasesNext, may_be_ended, splits_some};
+ghost use Rattle.like_live.specs.Driver.{DriverTurns, IsDue, ReleasesNext, may_be_ended, splits_some};
 
 use crate::driver_answer::DriverAnswer;
 use crate::hint::Hint;
@@ -30,18 +30,26 @@ pub(crate) fn act(
         return DriverAnswer::Ended;
     }
     if sight.ending && sight.all_in {
-        release(lead, board);
         hint.clear();
+        release(lead, board);
         return DriverAnswer::Released;
     }
     if sight.ending {
         return DriverAnswer::Waiting;
     }
-    if may_be_ended(lead.phase(), splits) && (may_end || hint.is_asked()) {
+    if may_be_ended(lead.phase(), splits) && is_due(lead, hint, may_end) {
         lead.announce(board);
         return DriverAnswer::Announced;
     }
     DriverAnswer::Running
+}
+
+// Whether the end of the phase is asked for. A hint counts in split phases alone, since looks wait in these alone.
+fn is_due(lead: &Lead, hint: &Hint, may_end: bool) -> bool
+    ensures due { result ≡ true → IsDue lead.now may_end }
+    ensures told { may_end ≡ true → result ≡ true }
+{
+    may_end || (!lead.is_joined() && hint.is_asked())
 }
 
 // Whether a phase of a service may be ended.

@@ -1,4 +1,4 @@
-ghost use Rattle.std.specs.Prelude.{◌≤◌, length};
+ghost use Rattle.std.specs.Prelude.{◌≡◌, ◌≤◌, ℕ, length, slice_get};
 ghost use Rattle.like_live.specs.Batch.{AnswersCall, RunCase};
 ghost use Rattle.like_live.specs.LiveView.{IsLive, IsSameSeat};
 
@@ -9,10 +9,11 @@ use like_core::Post;
 
 impl<P: Post> LiveSeat<P> {
     /// Makes calls one by one, up to the first that is told `Between` or `NoRoom`, and writes their answers. Says how many
-    /// were done; that one was not, and is to be called again.
+    /// were done; that one was not, and is to be called again. The answers behind are left as they were.
     pub fn run(&mut self, calls: &[Call], answers: &mut [Answer]) -> usize
         requires { length calls.now ≤ length answers.old }
         ensures case { RunCase self.old calls.now answers.new result self.new }
+        ensures rest { (i : ℕ) → result ≤ i → slice_get answers.new i ≡ slice_get answers.old i }
         ensures keeps { IsLive self.new }
         ensures same { IsSameSeat self.old self.new }
     {

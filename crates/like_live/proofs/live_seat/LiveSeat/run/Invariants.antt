@@ -1,3 +1,4 @@
+use Rattle.std.specs.Prelude.{◌≡◌, ◌≤◌, ℕ, slice_get}
 use Rattle.like_live.specs.Batch.{HasRun}
 use Rattle.like_live.specs.LiveView.{IsLive, IsSameSeat}
 use Rattle.like_live.proofs.live_seat.LiveSeat.run.Given as goal
@@ -5,6 +6,7 @@ use Rattle.like_live.proofs.live_seat.LiveSeat.run.Given as goal
 abbrev pub invariant-loop-done : goal.invariant-loop-done
 invariant-loop-done g l = record {
   ran : HasRun l.initial.self l.calls l.answers l.done l.self;
+  rest : (i : ℕ) → l.done ≤ i → slice_get l.answers i ≡ slice_get l.initial.answers i;
   live : IsLive l.self;
   same : IsSameSeat l.initial.self l.self;
 }
