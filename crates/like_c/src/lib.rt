@@ -1,5 +1,5 @@
-//! The live core for C. Each export calls the function of `like_live` that it is named for, and tests every number first.
-//! include/likes.h has the same calls as C sees them, with the rules for a host.
+//! The live core for C. Each export calls the function of `like_live` that it is named for, and tests every number
+//! first. include/likes.h has the same calls as C sees them, with the rules for a host.
 #![tactic(auto)]
 
 ghost use Rattle.std.specs.Prelude.{◌≡◌, ◌≤◌, length, None};
