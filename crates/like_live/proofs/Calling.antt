@@ -1,5 +1,5 @@
 -- What a like does to tallies.
-use Rattle.std.proofs.Common.{◌≡◌, ℕ, zero, suc, ◌+◌, ◌<◌, ◌==◌, Bool, true, false, not, cond, nat_lt, List, [], ◌∷◌, ◌++◌, length, get_or, set, Option, Some, None, refl, ap, sym, ◌∙◌, subst, inl, inr, arith}
+use Rattle.std.proofs.Common.{◌≡◌, ℕ, ◌+◌, ◌<◌, ◌==◌, Bool, true, false, not, cond, nat_lt, List, [], ◌∷◌, ◌++◌, length, get_or, set, Option, Some, None, refl, ap, sym, ◌∙◌, subst, inl, inr, arith}
 use Rattle.std.proofs.lemmas.Bool.{cases_eq, eq-eqb, ltb-true, ne_eqb}
 use Rattle.std.proofs.lemmas.List.{get_or-set_other, get_or-set_same}
 use Rattle.std.proofs.lemmas.List.Sums.{sum_by-append, sum_by-cons}
@@ -8,7 +8,6 @@ use Rattle.like_core.specs.Additions.{addition, added_to}
 use Rattle.like_core.specs.Post.{pages_of}
 use Rattle.like_core.specs.WorkerState.{phase_of}
 use Rattle.like_requests.specs.declared.request.PageRef.TheVariants.{Known, Unknown}
-use Rattle.like_requests.specs.declared.verdict.Verdict.{Verdict}
 use Rattle.like_requests.specs.declared.verdict.Verdict.TheVariants.{Accepted, UnknownUser, OtherHome, UnknownPage}
 use Rattle.like_requests.specs.Verdict.{is_known}
 use Rattle.like_seat.specs.SeatView.{SeatView, tally_of}
@@ -16,7 +15,7 @@ use Rattle.like_seat.specs.Steps.{CountsLike}
 use Rattle.like_live.specs.declared.answer.LikeAnswer.{LikeAnswer}
 use Rattle.like_live.specs.declared.asked.Asked.{Asked}
 use Rattle.like_live.specs.LiveView.{LiveView, tally}
-use Rattle.like_live.specs.Calls.{LikesNow, TalliesLike, full, liked, page_ref, refused, told_of, verdict_at}
+use Rattle.like_live.specs.Calls.{LikesNow, TalliesLike, full, liked, refused, told_of, verdict_at}
 use Rattle.like_live.proofs.Moving.{IsSized}
 
 -- a request that is accepted has passed the last test

@@ -1,7 +1,7 @@
 -- How the looks that wait are found, one after the other.
-use Rattle.std.proofs.Common.{◌≡◌, ℕ, ◌+◌, ◌%◌, ◌<◌, ◌≤◌, ◌||◌, Bool, true, false, List, [], ◌∷◌, ◌++◌, length, map, drop, Option, Some, None, refl, ap, sym, ◌∙◌, subst, arith, append-nil, append_assoc, length-append, IsTrue}
+use Rattle.std.proofs.Common.{◌≡◌, ℕ, ◌+◌, ◌%◌, ◌<◌, ◌≤◌, ◌||◌, Bool, false, List, [], ◌∷◌, ◌++◌, length, map, drop, Some, None, refl, ap, sym, ◌∙◌, subst, arith, append-nil, append_assoc, length-append, IsTrue}
 use Rattle.std.specs.List.{All, slice_get}
-use Rattle.std.proofs.lemmas.Bool.{eq-eqb, ne_eqb, and_left}
+use Rattle.std.proofs.lemmas.Bool.{ne_eqb, and_left}
 use Rattle.std.proofs.lemmas.List.{map-append, length-map}
 use Rattle.std.proofs.lemmas.List.Elements.{All-nil, All-push, All-head, All-drop}
 use Rattle.like_core.specs.declared.view.Addition.{Addition}
@@ -10,7 +10,7 @@ use Rattle.like_core.specs.Additions.{added_to, page_read}
 use Rattle.like_core.specs.declared.worker_state.WorkerState.{WorkerState}
 use Rattle.like_core.specs.declared.worker_state.WorkerState.TheVariants as state
 use Rattle.like_core.specs.Post.{PostView, has_read, slices}
-use Rattle.like_core.specs.Phase.{IsJoined, is_hot, is_marked, split}
+use Rattle.like_core.specs.Phase.{IsJoined, is_hot, is_marked}
 use Rattle.like_core.specs.PhaseMasks.{mask_of}
 use Rattle.like_core.specs.WorkerState.{IsRunning, RunsJoined, RunsSplit, phase_of}
 use Rattle.like_tables.specs.Share.{owns}
@@ -20,9 +20,8 @@ use Rattle.like_seat.specs.SeatView.{SeatView, phase_at}
 use Rattle.like_seat.specs.Steps.{Reads, without_first}
 use Rattle.like_live.specs.declared.asked.Asked.{Asked}
 use Rattle.like_live.specs.declared.asked.Found.{Found}
-use Rattle.like_live.specs.LiveView.{LiveView, IsOwn, live_of, waiting}
-use Rattle.like_live.specs.Kept.{HasLooked}
-use Rattle.like_live.specs.Moves.{FindsAll, IsFoundAt, read_for, with_found}
+use Rattle.like_live.specs.LiveView.{LiveView, IsOwn, waiting}
+use Rattle.like_live.specs.Moves.{FindsAll, IsFoundAt, read_for}
 
 -- a list with a first element
 pub first_of : {X : Type 0} (xs : List X) (x : X) → slice_get xs 0 ≡ Some x → xs ≡ x ∷ drop 1 xs

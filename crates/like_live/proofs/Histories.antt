@@ -1,13 +1,11 @@
 -- The law of histories.
-use Rattle.std.proofs.Common.{◌≡◌, ◌≢◌, ℕ, ◌+◌, ◌<◌, ◌==◌, Bool, true, false, cond, List, [], ◌∷◌, ◌++◌, length, map, drop, get_or, replicate, Option, Some, None, refl, ap, sym, ◌∙◌, subst, arith, append-nil, append_assoc}
-use Rattle.std.specs.List.{last_or, slice_get, sum_by}
+use Rattle.std.proofs.Common.{◌≡◌, ℕ, ◌+◌, ◌<◌, true, false, List, [], ◌∷◌, ◌++◌, length, map, drop, get_or, Option, Some, None, refl, ap, sym, ◌∙◌, subst, arith, append-nil, append_assoc}
+use Rattle.std.specs.List.{last_or, slice_get}
 use Rattle.std.proofs.lemmas.List.{length-replicate, length-set, map-append}
 use Rattle.std.proofs.lemmas.List.Sums.{sum_by-cons}
 use Rattle.like_core.specs.declared.worker_state.WorkerState.TheVariants as state
 use Rattle.like_core.specs.Additions.{added_to}
 use Rattle.like_core.specs.Post.{PostView, slices}
-use Rattle.like_seat.specs.SeatView.{SeatView}
-use Rattle.like_seat.specs.Steps.{holding}
 use Rattle.like_seat.proofs.MergedLikes.{same_everywhere}
 use Rattle.like_tables.specs.UserTable.{UserTable, last_of}
 use Rattle.like_tables.specs.Waiting.{Waiting}
@@ -21,7 +19,7 @@ use Rattle.like_live.specs.declared.asked.Found.{Found}
 use Rattle.like_live.specs.LiveView.{LiveView, tally, waiting, with_seat}
 use Rattle.like_live.specs.Calls as calls
 use Rattle.like_live.specs.Calls.{GlanceCase, GlancesNow, LikeCase, LikesNow, LookCase, LooksNow, RetireCase, RetiresNow, TakesFound, asked_now, left}
-use Rattle.like_live.specs.History.{AreCounted, Ask, Does, HasDone, HistoriesAreCounted, IsUnused, Told, ask_of, ask_taken, ask_told, asks_taken, asks_told, glance, like, like_told, likes_told, look, page_liked, pages_liked, retire, take_found, turn}
+use Rattle.like_live.specs.History.{Ask, Does, HasDone, HistoriesAreCounted, Told, ask_of, ask_taken, ask_told, asks_taken, asks_told, glance, like, like_told, likes_told, look, page_liked, pages_liked, retire, take_found, turn}
 use Rattle.like_live.proofs.Calling.{LikesNow-tallies}
 use Rattle.like_live.proofs.Telling.{IsQuiet, IsQuiet-both, IsQuiet-moves, IsQuiet-same, IsTold, IsTold-after, IsTold-quiet, IsWhole, TellsNothing, ask_waiting, asks_of, is_counted, last-more, merged-asks, user_there}
 

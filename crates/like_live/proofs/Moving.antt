@@ -1,5 +1,5 @@
 -- What phase work leaves as it is.
-use Rattle.std.proofs.Common.{◌≡◌, ℕ, Bool, List, length, replicate, refl, ap, sym, ◌∙◌, subst}
+use Rattle.std.proofs.Common.{◌≡◌, ℕ, Bool, length, refl, ap, sym, ◌∙◌, subst}
 use Rattle.std.proofs.lemmas.List.{length-replicate}
 use Rattle.like_core.specs.declared.sight.Sight.{Sight}
 use Rattle.like_core.specs.Post.{answered, pages_of}
@@ -8,8 +8,8 @@ use Rattle.like_seat.specs.SeatView.{SeatView}
 use Rattle.like_seat.proofs.MergedLikes.{merged-tally}
 use Rattle.like_live.specs.declared.answer.TurnAnswer.{TurnAnswer}
 use Rattle.like_live.specs.declared.asked.Asked.{Asked}
-use Rattle.like_live.specs.LiveView.{IsSameSeat, KeepsTallies, LiveView, tally, with_seat}
-use Rattle.like_live.specs.Moves.{FindsAll, Moves, Works, is_gone, looked, stopped, waits, works, runs_joined, acknowledges, runs_split, reports, with_found}
+use Rattle.like_live.specs.LiveView.{IsSameSeat, KeepsTallies, LiveView, with_seat}
+use Rattle.like_live.specs.Moves.{FindsAll, Moves, Works, is_gone, looked, stopped, waits, works, runs_joined, acknowledges, runs_split, reports}
 
 -- the slice has a number for each page
 abbrev pub IsSized : LiveView → Type 0

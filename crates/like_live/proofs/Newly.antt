@@ -1,8 +1,21 @@
--- The seats of a new service, one by one.
-use Rattle.std.proofs.Common.{◌≡◌, ℕ, List, [], ◌∷◌, ◌++◌, length, slice_get, Some, ap, sym, ◌∙◌, subst, arith, inl, inr}
-use Rattle.std.proofs.lemmas.Bool.{cases_lt}
+-- The seats of a new service, one by one, and that they stay all its seats.
+use Rattle.std.proofs.Common.{◌≡◌, ℕ, zero, suc, ◌<◌, ◌==◌, cond, List, [], ◌∷◌, ◌++◌, length, map, get_or, slice_get, Some, refl, ap, sym, ◌∙◌, subst, arith, inl, inr}
+use Rattle.std.specs.List.{All, AllZip, count_by}
+use Rattle.std.proofs.lemmas.Bool.{cases_lt, cond-false, cond-true, eq-eqb, ne_eqb}
 use Rattle.std.proofs.lemmas.List.{get_or_append_left, get_or_push, length_push}
 use Rattle.std.proofs.lemmas.Option.{get_or_from_slice_get, slice_get-get_or, slice_get_within}
+use mathlib.Core.Option.{some, some-injective, some-ne-none}
+use lib.ListN.{get_elem?}
+use Rattle.like_board.specs.Seats.{BoardId, board_numbers}
+use Rattle.like_core.specs.declared.opening.Opening.{Opening as CoreOpening}
+use Rattle.like_core.proofs.views.ViewLists.{sum_lone}
+use Rattle.like_seat.specs.Lead.{LeadView}
+use Rattle.like_live.specs.declared.opening.Opening.{Opening}
+use Rattle.like_live.specs.declared.service.Service.{Service}
+use Rattle.like_live.specs.Driver.{IsSameDriver}
+use Rattle.like_live.specs.LiveView.{IsSameSeat, LiveView}
+use Rattle.like_live.specs.Service.{AreItsSeats, CallsKeepSeats, IsOpened}
+use Rattle.like_live.proofs.Closing.{all-alike, sum-alike}
 
 -- one more, at the next place
 pub each-pushed : {A : Type 0} (P : ℕ → A → Type 0) (xs : List A) (y : A) → ((i : ℕ) (x : A) → slice_get xs i ≡ Some x → P i x) → P (length xs) y
@@ -13,3 +26,68 @@ each-pushed P xs y each last i x at = elim (cases_lt i (length xs)) [
       let is : length xs ≡ i = omega (arith, past, slice_get_within (xs ++ y ∷ []) i x at, length_push xs y) in
       subst (λ n. P n x) is (subst (P (length xs)) (sym (get_or_push xs y y i is) ∙ get_or_from_slice_get (xs ++ y ∷ []) i x y at) last)
 ]
+
+-- a list has an element at each place within it
+element : {A : Type 0} (xs : List A) (i : ℕ) → i < length xs → ((x : A) × (get_elem? xs i ≡ some x))
+element [] i below = absurd (omega arith)
+element (x ∷ xs) zero below = (x, refl)
+element (x ∷ xs) (suc i) below = element xs i (omega arith)
+
+-- an element at a place, in std's words
+std-element : {A : Type 0} (xs : List A) (i : ℕ) (x : A) → get_elem? xs i ≡ some x → slice_get xs i ≡ Some x
+std-element [] i x at = absurd (some-ne-none x (sym at))
+std-element (y ∷ ys) zero x at = λ m. Some (some-injective y x at m)
+std-element (y ∷ ys) (suc i) x at = std-element ys i x at
+
+-- seats that stand in order of their numbers have each number once
+pub once-in-order : (seats : List LiveView) (n : ℕ) → length seats ≡ n → ((k : ℕ) (s : LiveView) → slice_get seats k ≡ Some s → s.seat.post.worker ≡ k)
+    → (i : ℕ) → i < n → count_by (λ s. s.seat.post.worker == i) seats ≡ 1
+once-in-order seats n sized each i below =
+    let here = element seats i (omega arith) in
+    let f : LiveView → ℕ = λ s. cond (s.seat.post.worker == i) 1 0 in
+    let own : here.0.seat.post.worker ≡ i = each i here.0 (std-element seats i here.0 here.1) in
+    let one : f here.0 ≡ 1 = cond-true (here.0.seat.post.worker == i) 1 0 (eq-eqb here.0.seat.post.worker i own) in
+    sum_lone f seats i here.0 here.1
+    (λ j s other at.
+    cond-false (s.seat.post.worker == i) 1 0
+    (ne_eqb s.seat.post.worker i (λ same. other (sym (each j s (std-element seats j s at)) ∙ same)))) ∙
+    one
+
+-- a service that was opened has all its seats
+pub opened-whole : (o : Opening) (s : Service) → IsOpened o s → AreItsSeats s.driver s.seats.items
+opened-whole o s is =
+    let workers : s.driver.seat.opening.workers ≡ o.seats = ap (λ (l : LeadView). l.seat.opening.workers) is.driver in
+    record {
+      len = is.seats.len ∙ sym workers;
+      here = λ k d below. (is.seats.each k (get_or s.seats.items k d) (slice_get-get_or s.seats.items k d below)).here;
+      all = λ i below.
+          once-in-order s.seats.items o.seats is.seats.len (λ k v at. (is.seats.each k v at).worker) i (subst (λ n. i < n) workers below);
+    }
+
+-- what is the same of each of two lists' elements makes equal lists
+zip-map : {A B : Type 0} (R : A → A → Type 0) (f : A → B) (xs ys : List A) → ((x y : A) → R x y → f y ≡ f x) → AllZip R xs ys → map f ys ≡ map f xs
+zip-map R f [] [] same all = refl
+zip-map R f [] (y ∷ ys) same all = absurd all
+zip-map R f (x ∷ xs) [] same all = absurd all
+zip-map R f (x ∷ xs) (y ∷ ys) same all = λ i. same x y all.0 i ∷ zip-map R f xs ys same all.1 i
+
+zip-length : {A : Type 0} (R : A → A → Type 0) (xs ys : List A) → AllZip R xs ys → length ys ≡ length xs
+zip-length R [] [] all = refl
+zip-length R [] (y ∷ ys) all = absurd all
+zip-length R (x ∷ xs) [] all = absurd all
+zip-length R (x ∷ xs) (y ∷ ys) all = ap (λ n. suc n) (zip-length R xs ys all.1)
+
+-- the seats stay the driver's, whatever calls are made of them
+pub calls-keep-whole : CallsKeepSeats
+calls-keep-whole v w seats after its driver same =
+    let board_at : LiveView → List ℕ = λ s. s.seat.post.board in
+    let worker_at : LiveView → ℕ = λ s. s.seat.post.worker in
+    record {
+      len = zip-length IsSameSeat seats after same ∙ its.len ∙ sym (ap (λ (z : CoreOpening). z.workers) driver.opening);
+      here = subst (λ (b : BoardId). All (λ s. s.seat.post.board ≡ board_numbers b) after) (sym driver.board)
+          (all-alike (λ (b : List ℕ). b ≡ board_numbers v.board) board_at board_at after seats (zip-map IsSameSeat board_at seats after (λ x y s. s.board) same) its.here);
+      all = λ i below.
+          let one : ℕ → ℕ = λ n. cond (n == i) 1 0 in
+          sum-alike one worker_at worker_at after seats (zip-map IsSameSeat worker_at seats after (λ x y s. s.worker) same)
+          ∙ its.all i (subst (λ n. i < n) (ap (λ (z : CoreOpening). z.workers) driver.opening) below);
+    }

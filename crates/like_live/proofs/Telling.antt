@@ -1,30 +1,25 @@
 -- What each call of a live seat tells.
-use Rattle.std.proofs.Common.{◌≡◌, ◌≢◌, ℕ, ◌+◌, ◌<◌, ◌==◌, Bool, true, false, not, cond, nat_lt, List, [], ◌∷◌, ◌++◌, length, map, drop, get_or, set, Option, Some, None, refl, ap, sym, ◌∙◌, subst, inl, inr, arith, append-nil, append_assoc}
-use Rattle.std.specs.List.{last_or, slice_get}
+use Rattle.std.proofs.Common.{◌≡◌, ◌≢◌, ℕ, ◌+◌, ◌<◌, ◌==◌, Bool, true, false, not, cond, List, [], ◌∷◌, ◌++◌, length, map, Option, Some, None, refl, ap, sym, ◌∙◌, subst, inl, inr, arith, append-nil}
+use Rattle.std.specs.List.{last_or}
 use Rattle.std.proofs.lemmas.Bool.{cases_eq, eq-eqb, ltb-true, ne_eqb}
 use Rattle.std.proofs.lemmas.List.{get_or-set_other, get_or-set_same, length-set, map-append}
 use Rattle.like_core.specs.declared.sight.Sight.{Sight}
 use Rattle.like_core.specs.declared.worker_state.WorkerState.{WorkerState}
 use Rattle.like_core.specs.declared.worker_state.WorkerState.TheVariants as state
-use Rattle.like_core.specs.Post.{pages_of, slices}
-use Rattle.like_core.specs.WorkerState.{RunsJoined, RunsSplit, seen}
+use Rattle.like_core.specs.WorkerState.{RunsSplit, seen}
 use Rattle.like_requests.specs.declared.verdict.Verdict.TheVariants.{Accepted, UnknownUser}
 use Rattle.like_requests.specs.declared.verdict.Verdict.{Verdict}
 use Rattle.like_seat.specs.SeatView.{SeatView}
-use Rattle.like_seat.specs.Steps.{CountsLike, holding}
+use Rattle.like_seat.specs.Steps.{CountsLike}
 use Rattle.like_tables.specs.UserTable.{UserTable, last_of, with_last}
-use Rattle.like_live.specs.declared.answer.LikeAnswer.{LikeAnswer}
-use Rattle.like_live.specs.declared.answer.LookAnswer.{LookAnswer}
 use Rattle.like_live.specs.declared.answer.TurnAnswer.{TurnAnswer}
 use Rattle.like_live.specs.declared.asked.Asked.{Asked}
 use Rattle.like_live.specs.declared.asked.Found.{Found}
 use Rattle.like_live.specs.LiveView.{KeepsTallies, LiveView, tally, waiting, with_seat}
 use Rattle.like_live.specs.Moves as moves
 use Rattle.like_live.specs.Moves.{FindsAll, Moves, Works, looked, stopped, with_found}
-use Rattle.like_live.specs.Calls as calls
-use Rattle.like_live.specs.Calls.{LikeCase, LikesNow, LookCase, LooksNow, RetireCase, RetiresNow, TakesFound, verdict_at}
-use Rattle.like_live.specs.History.{Ask, Does, Told, ask_of, ask_taken, ask_told, like, like_told, look, page_liked, retire, take_found, turn}
-use Rattle.like_live.proofs.Calling.{LikesNow-tallies}
+use Rattle.like_live.specs.Calls.{verdict_at}
+use Rattle.like_live.specs.History.{Ask, Told, ask_of, ask_taken, ask_told, like_told, page_liked}
 use Rattle.like_live.proofs.Moving.{IsSized, Leaves-moves}
 
 -- a look that waits

@@ -1,6 +1,6 @@
 -- What a service is when it is opened, and what is known when it is closed.
 use Rattle.std.specs.Prelude.{◌≡◌, ℕ, ◌+◌, ◌<◌, ◌==◌, All, List, length, map, slice_get, slice_index, Some, count_by}
-use Rattle.std.specs.List.{sum_by}
+use Rattle.std.specs.List.{AllZip, sum_by}
 use Rattle.like_board.specs.Seats.{AreCounted, BoardId, HaveAddedWithin, HaveGlancedBetween, HavePlaces, HaveReadBetween, HaveReadMasks, board_numbers, seat_meaning}
 use Rattle.like_board.specs.declared.worker_seat.WorkerSeat.{WorkerSeat}
 use Rattle.like_core.specs.Post.{IsFresh, additions_of}
@@ -11,8 +11,8 @@ use Rattle.like_tables.specs.Share.{share_of}
 use Rattle.like_tables.specs.UserTable.{table_without_likes}
 use Rattle.like_live.specs.declared.opening.Opening.{Opening}
 use Rattle.like_live.specs.declared.service.Service.{Service}
-use Rattle.like_live.specs.LiveView.{IsNewLive, LiveView, tally}
-use Rattle.like_live.specs.Driver.{new_driver}
+use Rattle.like_live.specs.LiveView.{IsNewLive, IsSameSeat, LiveView, tally}
+use Rattle.like_live.specs.Driver.{IsSameDriver, new_driver}
 use Rattle.like_live.specs.Opening.{IsWithinLimits}
 
 -- a new seat of this number at this board: its users are those that are this number modulo the number of seats
@@ -40,6 +40,12 @@ pub record AreItsSeats (v : LeadView) (seats : List LiveView) : Type 0 where
   pub len : length seats ≡ v.seat.opening.workers
   pub here : All (λ s. s.seat.post.board ≡ board_numbers v.board) seats
   pub all : (i : ℕ) → i < v.seat.opening.workers → count_by (λ s. s.seat.post.worker == i) seats ≡ 1
+
+-- calls of the driver and of its seats keep them so
+abbrev pub CallsKeepSeats : Type 0
+CallsKeepSeats =
+    (v w : LeadView) (seats after : List LiveView)
+    → AreItsSeats v seats → IsSameDriver v w → AllZip IsSameSeat seats after → AreItsSeats w after
 
 -- all seats are gone
 abbrev pub AreGone : List LiveView → Type 0

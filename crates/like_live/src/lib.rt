@@ -25,4 +25,4 @@ pub use laws::histories_are_counted;
 pub use live_seat::{LiveSeat, MAX_LIKES};
 pub use open_error::OpenError;
 pub use opening::Opening;
-pub use service::{NotAllGone, Service};
+pub use service::{NotAllGone, Service, calls_keep_seats};

@@ -1,6 +1,6 @@
 ghost use Rattle.std.specs.Prelude.{◌≡◌, IfErr, IfOk, OnOk, length};
 ghost use Rattle.like_live.specs.Opening.{IsRefused};
-ghost use Rattle.like_live.specs.Service.{AreGone, AreItsSeats, IsClosed, IsOpened};
+ghost use Rattle.like_live.specs.Service.{AreGone, AreItsSeats, CallsKeepSeats, IsClosed, IsOpened};
 
 mod parts;
 
@@ -26,10 +26,17 @@ pub struct NotAllGone {
     pub service: Service,
 }
 
+/// The driver's and the seats' calls leave them one service: `Service::open` gives all seats of a driver, and those are
+/// what `Service::close` takes.
+pub fn calls_keep_seats()
+    ensures { CallsKeepSeats }
+{}
+
 impl Service {
     /// A service in phase 0, a joined one. Each number of the opening is tested, and nothing takes memory after this.
     pub fn open(alloc: Global, opening: &Opening) -> Result<Service, OpenError>
         ensures opened { IfOk result (IsOpened opening.now) }
+        ensures whole { IfOk result (λ s. AreItsSeats s.driver s.seats.items) }
         ensures refused { IfErr result (IsRefused opening.now) }
     {
         opening.check()?;

@@ -1,4 +1,3 @@
-pub mod Lines
 pub mod Room
 pub mod Rounds
 pub mod Threads

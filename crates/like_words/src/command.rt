@@ -80,27 +80,21 @@ fn requests_argument<'a>(alloc: Global) -> Arg<'a>
         .help(help::REQUESTS)
 }
 
-// A subcommand of this name, about which this is said, with the options of runs and replays.
+// A subcommand of this name, about which this is said, with the options of runs and replays. An option is made where it
+// is added, so none has to be dropped where the addition of another is refused.
 fn with_options<'a>(alloc: Global, name: &'a str, about: &'a str) -> Result<Command<'a>, AllocError>
     ensures { IfOk result (IsCommand (fold with_rule (new_app name.entry.now) option_rules)) }
 {
-    let workers = number_option(alloc, "workers", "N", "4", 1, 16).help(help::WORKERS);
-    let users = number_option(alloc, "users", "U", "1000", 1, 1_000_000).help(help::USERS);
-    let stash = number_option(alloc, "stash", "C", "256", 1, 4_096).help(help::STASH);
-    let turns = number_option(alloc, "turns", "T", "1000", 0, 1_000_000).help(help::TURNS);
-    let hot = bounded_option(alloc, "hot", "H", 1, 1_000_000).help(help::HOT);
-    let places = flag(alloc, "places").help(help::PLACES);
-    let summary = flag(alloc, "summary").help(help::SUMMARY);
     Command::new(alloc, name)
         .about(about)
         .after_help(help::REPORT)
-        .arg(workers)?
-        .arg(users)?
-        .arg(stash)?
-        .arg(turns)?
-        .arg(hot)?
-        .arg(places)?
-        .arg(summary)
+        .arg(number_option(alloc, "workers", "N", "4", 1, 16).help(help::WORKERS))?
+        .arg(number_option(alloc, "users", "U", "1000", 1, 1_000_000).help(help::USERS))?
+        .arg(number_option(alloc, "stash", "C", "256", 1, 4_096).help(help::STASH))?
+        .arg(number_option(alloc, "turns", "T", "1000", 0, 1_000_000).help(help::TURNS))?
+        .arg(bounded_option(alloc, "hot", "H", 1, 1_000_000).help(help::HOT))?
+        .arg(flag(alloc, "places").help(help::PLACES))?
+        .arg(flag(alloc, "summary").help(help::SUMMARY))
 }
 
 // The subcommand `run`.

@@ -1,12 +1,14 @@
 //! What the readers of pages, requests and scripts make of files: of whole ones, and of some that are cut short, fail
 //! in mid-stream, have a byte changed or are of another kind.
+ghost use Rattle.std.specs.Prelude.{◌<◌, length};
+
 mod limits;
 mod refused;
 
 use like_devices::{Trickle, csv_cases};
 use like_requests::{Pages, read_pages, read_requests};
 use like_script::read_script;
-use std::alloc::Global;
+use std::alloc::{AllocError, Global};
 use std::fmt::Debug;
 use std::io::Read;
 use std::process::Abort;
@@ -20,17 +22,34 @@ pub fn shown<T: Debug>(rt: &impl Abort, alloc: Global, value: &T) -> String {
 fn pages_shown(rt: &impl Abort, alloc: Global, pages: &Pages) -> String {
     let mut text = String::new(alloc);
     for index in 0..pages.len() {
-        let (name, count, split) = (pages.name(index), pages.count(index), pages.split(index));
-        assert_eq!(rt; pages.find(name.as_bytes()), Some(index));
-        let page = format!(in alloc; "[{name} {count} {split}]").expect(rt, "memory");
-        text.push_str(&page).expect(rt, "memory");
+        assert!(rt; is_found(pages, index));
+        assert!(rt; push_page(&mut text, pages, index).is_ok());
     }
     text
 }
 
+// Whether a page is found by its name.
+fn is_found(pages: &Pages, index: u32) -> bool
+    requires { index < length pages.now }
+{
+    pages.find(pages.name(index).as_bytes()) == Some(index)
+}
+
+fn push_page(text: &mut String, pages: &Pages, index: u32) -> Result<(), AllocError>
+    requires { index < length pages.now }
+{
+    let (name, count, split) = (pages.name(index), pages.count(index), pages.split(index));
+    write!(text, "[{name} {count} {split}]")
+}
+
+// The text of a page, a, that is not marked.
+fn page_a() -> &'static [u8] {
+    b"name,count,split\na,10,no\n"
+}
+
 /// A page, a, that is not marked.
 pub fn one_page(rt: &impl Abort, alloc: Global) -> Pages {
-    read_pages(alloc, b"name,count,split\na,10,no\n".as_slice()).expect(rt, "one page")
+    read_pages(alloc, page_a()).expect(rt, "one page")
 }
 
 fn answer_of_pages<R: Read + Drop>(rt: &impl Abort, alloc: Global, file: R) -> String {
@@ -54,24 +73,32 @@ fn answer<R: Read + Drop>(rt: &impl Abort, alloc: Global, kind: &str, file: R) -
 
 /// The three cells of a case, as a kind, a file and an answer, with `|` between them.
 pub fn cells<'a>(rt: &impl Abort, case: &'a str) -> (&'a str, &'a str, &'a str) {
-    let (kind, rest) = case.split_once('|').expect(rt, "a kind");
-    let (file, answer) = rest.split_once('|').expect(rt, "a file");
+    let (kind, rest) = split(rt, case);
+    let (file, answer) = split(rt, rest);
     (kind, file, answer)
+}
+
+// The first cell of a text, and the rest of it.
+fn split<'a>(rt: &impl Abort, text: &'a str) -> (&'a str, &'a str) {
+    text.split_once('|').expect(rt, "a cell")
 }
 
 // The bytes of the file of a case: `/` is LF, `~` is CR, and `?` is a byte that is no text.
 fn bytes(rt: &impl Abort, alloc: Global, file: &str) -> Vec<u8> {
     let mut bytes = Vec::new(alloc);
     for byte in file.bytes() {
-        let byte = match byte {
-            b'/' => b'\n',
-            b'~' => b'\r',
-            b'?' => 0xff,
-            other => other,
-        };
-        bytes.push(byte).expect(rt, "memory");
+        assert!(rt; bytes.push(byte_of(byte)).is_ok());
     }
     bytes
+}
+
+fn byte_of(byte: u8) -> u8 {
+    match byte {
+        b'/' => b'\n',
+        b'~' => b'\r',
+        b'?' => 0xff,
+        other => other,
+    }
 }
 
 // Files, each with what it is read as. Limits are among them: a count of 10^18, a name of 64 bytes, the greatest user.
@@ -122,18 +149,20 @@ fn reads_files(rt: HostRuntime) {
         let (kind, file, wanted) = cells(&rt, case);
         let file = bytes(&rt, rt.alloc(), file);
         let answer = answer(&rt, rt.alloc(), kind, file.as_slice());
-        assert_eq!(rt; answer.as_str(), wanted, "at {case}");
+        assert!(rt; answer.as_str() == wanted, "at {case}: {answer}");
     }
+}
+
+fn two_pages() -> &'static [u8] {
+    b"name,count,split\na,10,yes\nb,7,no\n"
 }
 
 #[test]
 fn finds_pages_by_their_names(rt: HostRuntime) {
-    let file = b"name,count,split\na,10,yes\nb,7,no\n".as_slice();
-    let pages = read_pages(rt.alloc(), file).expect(&rt, "pages");
-    assert_eq!(rt;
-        (pages.find(b"b"), pages.find(b"B"), pages.find(b"\xff")),
-        (Some(1), None, None)
-    );
+    let pages = read_pages(rt.alloc(), two_pages()).expect(&rt, "pages");
+    assert!(rt; pages.find(b"b") == Some(1));
+    assert!(rt; pages.find(b"B").is_none());
+    assert!(rt; pages.find(b"\xff").is_none());
 }
 
 // What is read of the first 0, 1, 2 .. bytes of a file, or after 0, 1, 2 .. reads of a byte. A number stands before
@@ -142,17 +171,28 @@ fn answers(rt: &impl Abort, alloc: Global, kind: &str, file: &[u8], by_reads: bo
     let mut text = String::new(alloc);
     let mut last = String::new(alloc);
     for number in 0..file.len().saturating_add(2) {
-        let answer = match by_reads {
-            true => answer(rt, alloc, kind, Trickle::new(file, number)),
-            false => answer(rt, alloc, kind, file.get(..number).unwrap_or(file)),
-        };
+        let answer = answer_within(rt, alloc, kind, file, number, by_reads);
         if answer != last {
-            let change = format!(in alloc; "{number}: {answer} ").expect(rt, "memory");
-            text.push_str(&change).expect(rt, "memory");
+            assert!(rt; write!(text, "{number}: {answer} ").is_ok());
             last = answer;
         }
     }
     text
+}
+
+// What is read of the first bytes of a file, or where so many reads of a byte succeed.
+fn answer_within(
+    rt: &impl Abort,
+    alloc: Global,
+    kind: &str,
+    file: &[u8],
+    number: usize,
+    by_reads: bool,
+) -> String {
+    if by_reads {
+        return answer(rt, alloc, kind, Trickle::new(file, number));
+    }
+    answer(rt, alloc, kind, file.get(..number).unwrap_or(file))
 }
 
 fn assert_answers(rt: &impl Abort, alloc: Global, cases: &str, by_reads: bool) {
@@ -160,7 +200,10 @@ fn assert_answers(rt: &impl Abort, alloc: Global, cases: &str, by_reads: bool) {
         let (kind, file, wanted) = cells(rt, case);
         let file = bytes(rt, alloc, file);
         let answers = answers(rt, alloc, kind, &file, by_reads);
-        assert_eq!(rt; answers.as_str().trim_end(), wanted, "at {case}");
+        assert!(rt;
+            answers.as_str().trim_end() == wanted,
+            "at {case}: {answers}"
+        );
     }
 }
 
@@ -201,7 +244,7 @@ fn replaced(rt: &impl Abort, alloc: Global, file: &[u8], place: usize, byte: u8)
 fn answer_both_ways(rt: &impl Abort, alloc: Global, kind: &str, file: &[u8]) -> String {
     let whole = answer(rt, alloc, kind, file);
     let bytewise = answer(rt, alloc, kind, Trickle::new(file, 1_000));
-    assert_eq!(rt; bytewise, whole);
+    assert!(rt; bytewise == whole);
     whole
 }
 
@@ -210,11 +253,25 @@ fn assert_each_replaced(rt: &impl Abort, alloc: Global, case: &str) {
     let (kind, file, wanted) = cells(rt, case);
     let file = bytes(rt, alloc, file);
     for place in 0..file.len() {
-        for byte in 0..=255 {
-            let replaced = replaced(rt, alloc, &file, place, byte);
-            let answer = answer_both_ways(rt, alloc, kind, &replaced);
-            assert!(rt; replaced != file || answer.as_str() == wanted, "at {place}");
-        }
+        assert_replaced(rt, alloc, kind, &file, place, wanted);
+    }
+}
+
+fn assert_replaced(
+    rt: &impl Abort,
+    alloc: Global,
+    kind: &str,
+    file: &[u8],
+    place: usize,
+    wanted: &str,
+) {
+    for byte in 0..=255 {
+        let replaced = replaced(rt, alloc, file, place, byte);
+        let answer = answer_both_ways(rt, alloc, kind, &replaced);
+        assert!(rt;
+            replaced.as_slice() != file || answer.as_str() == wanted,
+            "at {place}"
+        );
     }
 }
 
@@ -240,13 +297,22 @@ fn a_byte_that_is_changed_in_a_script(rt: HostRuntime) {
 #[test]
 fn a_file_of_another_kind(rt: HostRuntime) {
     for (text, _) in csv_cases() {
-        for (kind, wanted) in [
-            ("pages", "Err(Header)"),
-            ("requests", "Err(Header)"),
-            ("script", "Err(Line { row: 0 })"),
-        ] {
-            let answer = answer(&rt, rt.alloc(), kind, text.as_bytes());
-            assert_eq!(rt; answer.as_str(), wanted, "{kind} at {text}");
-        }
+        let file = text.as_bytes();
+        assert!(rt;
+            is_answered(&rt, rt.alloc(), "pages", file, "Err(Header)"),
+            "at {text}"
+        );
+        assert!(rt;
+            is_answered(&rt, rt.alloc(), "requests", file, "Err(Header)"),
+            "at {text}"
+        );
+        assert!(rt;
+            is_answered(&rt, rt.alloc(), "script", file, "Err(Line { row: 0 })"),
+            "at {text}"
+        );
     }
+}
+
+fn is_answered(rt: &impl Abort, alloc: Global, kind: &str, file: &[u8], wanted: &str) -> bool {
+    answer(rt, alloc, kind, file).as_str() == wanted
 }

@@ -1,7 +1,7 @@
 //! Settings and what is said of them, scripts that fit a run, and the verdict of a request.
 use crate::files::{cells, one_page, shown};
 use like_requests::{
-    Op, PageRef, Request, SettingsFault, Setup, check_setup, judge, read_requests,
+    Op, PageRef, Request, SettingsFault, Setup, Verdict, check_setup, judge, read_requests,
 };
 use like_script::{Turned, check_script};
 use std::alloc::Global;
@@ -11,16 +11,18 @@ use std::process::Abort;
 fn likes(rt: &impl Abort, alloc: Global, submitters: u32, each: usize) -> Vec<Vec<Request>> {
     let mut plans = Vec::new(alloc);
     for page in 0..submitters {
-        let page = PageRef::Known(page);
-        let like = Request {
-            op: Op::Like,
-            user: 0,
-            page,
-        };
-        let plan = vec![in alloc; like; each].expect(rt, "memory");
-        plans.push(plan).expect(rt, "memory");
+        let plan = vec![in alloc; like_of(page); each].expect(rt, "memory");
+        assert!(rt; plans.push(plan).is_ok());
     }
     plans
+}
+
+fn like_of(page: u32) -> Request {
+    Request {
+        op: Op::Like,
+        user: 0,
+        page: PageRef::Known(page),
+    }
 }
 
 // Workers, users, places of the stash, turns, submitters and how many likes each of these has; likes of a hot page, if
@@ -73,38 +75,45 @@ fn setup(rt: &impl Abort, alloc: Global, numbers: &[u32; 6], hot: &str) -> Setup
 fn checks_the_settings(rt: HostRuntime) {
     for case in SETTINGS.lines() {
         let (text, hot, wanted) = cells(&rt, case);
-        let numbers = numbers(&rt, text);
-        let setup = setup(&rt, rt.alloc(), &numbers, hot);
-        let plans = likes(&rt, rt.alloc(), numbers[4], numbers[5] as usize);
-        let answer = shown(&rt, rt.alloc(), &check_setup(&setup, &plans));
-        assert_eq!(rt; answer.as_str(), wanted, "at {case}");
+        let answer = checked(&rt, rt.alloc(), &numbers(&rt, text), hot);
+        assert!(rt; answer.as_str() == wanted, "at {case}: {answer}");
     }
+}
+
+// What is said of the settings of a case.
+fn checked(rt: &impl Abort, alloc: Global, numbers: &[u32; 6], hot: &str) -> String {
+    let setup = setup(rt, alloc, numbers, hot);
+    let plans = likes(rt, alloc, numbers[4], numbers[5] as usize);
+    shown(rt, alloc, &check_setup(&setup, &plans))
 }
 
 #[test]
 fn judges_in_order(rt: HostRuntime) {
-    let file = "op,user,page\nlike,2,a\nlook,1,a\nlike,0,zz\nlike,3,zz\nlike,0,a\n";
     let pages = one_page(&rt, rt.alloc());
-    let requests = read_requests(rt.alloc(), file.as_bytes(), &pages).expect(&rt, "requests");
-    let mut verdicts = Vec::new(rt.alloc());
-    for request in &requests {
-        verdicts.push(judge(request, 0, 2, 2)).expect(&rt, "memory");
+    let requests = read_requests(rt.alloc(), judged(), &pages).expect(&rt, "requests");
+    let verdicts = verdicts(&rt, rt.alloc(), &requests);
+    let shown = shown(&rt, rt.alloc(), &verdicts);
+    assert!(rt; shown.as_str() == "[UnknownUser, OtherHome, UnknownPage, UnknownUser, Accepted]");
+}
+
+fn judged() -> &'static [u8] {
+    b"op,user,page\nlike,2,a\nlook,1,a\nlike,0,zz\nlike,3,zz\nlike,0,a\n"
+}
+
+fn verdicts(rt: &impl Abort, alloc: Global, requests: &[Request]) -> Vec<Verdict> {
+    let mut verdicts = Vec::new(alloc);
+    for request in requests {
+        assert!(rt; verdicts.push(judge(request, 0, 2, 2)).is_ok());
     }
-    assert_eq!(rt;
-        shown(&rt, rt.alloc(), &verdicts).as_str(),
-        "[UnknownUser, OtherHome, UnknownPage, UnknownUser, Accepted]"
-    );
+    verdicts
 }
 
 #[test]
 fn names_the_first_entry_that_is_away(rt: HostRuntime) {
     let script = [Turned::OpenOne(4), Turned::Worker(2), Turned::Coordinator];
-    let rows = [
-        (3, 5, Ok(())),
-        (2, 5, Err(SettingsFault::Script { at: 1 })),
-        (3, 4, Err(SettingsFault::Script { at: 0 })),
-    ];
-    for (workers, submitters, wanted) in rows {
-        assert_eq!(rt; check_script(&script, workers, submitters), wanted);
-    }
+    assert!(rt; check_script(&script, 3, 5).is_ok());
+    let fault = check_script(&script, 2, 5).err();
+    assert!(rt; fault == Some(SettingsFault::Script { at: 1 }));
+    let fault = check_script(&script, 3, 4).err();
+    assert!(rt; fault == Some(SettingsFault::Script { at: 0 }));
 }

@@ -125,10 +125,15 @@ fn cuts_of(file: File, most: usize) -> Cuts {
 }
 
 // What a replay writes.
-fn replayed(alloc: Global, case: &Case, places: bool, cuts: Cuts) -> Result<Vec<u8>, DriverFault> {
-    let memory = |_| DriverFault::Memory;
-    let options = options_of(alloc, case, places).map_err(memory)?;
-    let files = bytes(alloc, case.requests, cuts.requests).map_err(memory)?;
+fn replayed(
+    rt: &impl Abort,
+    alloc: Global,
+    case: &Case,
+    places: bool,
+    cuts: Cuts,
+) -> Result<Vec<u8>, DriverFault> {
+    let options = options_of(alloc, case, places).expect(rt, "memory");
+    let files = bytes(alloc, case.requests, cuts.requests).expect(rt, "memory");
     let script = match case.script {
         None => None,
         Some(text) => Some(cut(text, cuts.script)),
@@ -170,8 +175,15 @@ fn is_of(fault: DriverFault, file: File) -> bool {
 }
 
 // Whether a file of this kind, of which an end is missing, is replayed, or is at fault itself.
-fn is_harmless(alloc: Global, case: &Case, places: bool, file: File, most: usize) -> bool {
-    match replayed(alloc, case, places, cuts_of(file, most)) {
+fn is_harmless(
+    rt: &impl Abort,
+    alloc: Global,
+    case: &Case,
+    places: bool,
+    file: File,
+    most: usize,
+) -> bool {
+    match replayed(rt, alloc, case, places, cuts_of(file, most)) {
         Ok(_) => true,
         Err(fault) => is_of(fault, file),
     }
@@ -181,7 +193,7 @@ fn is_harmless(alloc: Global, case: &Case, places: bool, file: File, most: usize
 fn assert_prefixes(rt: &impl Abort, alloc: Global, case: &Case, places: bool, file: File) {
     for most in 0..length_of(case, file) {
         assert!(rt;
-            is_harmless(alloc, case, places, file, most),
+            is_harmless(rt, alloc, case, places, file, most),
             "{file:?} of {most} bytes"
         );
     }
@@ -189,18 +201,17 @@ fn assert_prefixes(rt: &impl Abort, alloc: Global, case: &Case, places: bool, fi
 
 // Asserts that a replay writes the header row and these.
 fn assert_rows(rt: &impl Abort, alloc: Global, case: &Case, places: bool, rows: &str) {
-    let Ok(text) = replayed(alloc, case, places, WHOLE) else {
-        panic!(rt; "no report");
-    };
+    let text = replayed(rt, alloc, case, places, WHOLE).expect(rt, "a report");
     let want = format!(in alloc; "row,id,number,phase,answer,page,count\n{rows}");
-    assert_eq!(rt; text.as_slice(), want.expect(rt, "memory").as_bytes());
+    let want = want.expect(rt, "memory");
+    assert!(rt; text.as_slice() == want.as_bytes());
 }
 
 // Asserts that a replay writes the header row and these, and that a file that is cut short does no harm.
 fn assert_report(rt: &impl Abort, alloc: Global, case: &Case, places: bool, rows: &str) {
-    for file in [File::Pages, File::Requests, File::Script] {
-        assert_prefixes(rt, alloc, case, places, file);
-    }
+    assert_prefixes(rt, alloc, case, places, File::Pages);
+    assert_prefixes(rt, alloc, case, places, File::Requests);
+    assert_prefixes(rt, alloc, case, places, File::Script);
     assert_rows(rt, alloc, case, places, rows);
 }
 

@@ -5,9 +5,8 @@ use like_files::DriverFault;
 use like_requests::{PagesFault, RequestsFault, SettingsFault};
 use like_run::ScriptFault;
 use like_words::Options;
-use std::alloc::{AllocError, Global};
+use std::alloc::Global;
 use std::process::Abort;
-use std::test::Fail;
 
 // What the lines say of a pages file.
 const OF_PAGES: &[(PagesFault, &str)] = &[
@@ -83,7 +82,7 @@ fn of_script() -> &'static [(DriverFault, &'static str)] {
 fn assert_text(rt: &impl Abort, alloc: Global, options: &Options, fault: DriverFault, want: &str) {
     let mut line = Vec::new(alloc);
     assert!(rt; fault.line(options, &mut line));
-    assert_eq!(rt; line.as_slice(), want.as_bytes());
+    assert!(rt; line.as_slice() == want.as_bytes());
 }
 
 // Whether a fault's line is written where so many writes of one byte succeed.
@@ -94,7 +93,7 @@ fn is_written(options: &Options, fault: DriverFault, writes: usize) -> bool {
 // Asserts that a line of so many bytes that can't be written is told.
 fn assert_written(rt: &impl Abort, options: &Options, fault: DriverFault, length: usize) {
     for writes in 0..=length {
-        assert_eq!(rt; is_written(options, fault, writes), writes == length);
+        assert!(rt; is_written(options, fault, writes) == (writes == length));
     }
 }
 
@@ -113,10 +112,25 @@ fn assert_line(
 }
 
 // Two request files and a script.
-fn scripted(alloc: Global) -> Result<Options, AllocError> {
-    let mut options = options(alloc, 2, 2)?;
-    options.script = Some(String::from_str(alloc, "s.csv")?);
-    Ok(options)
+fn scripted(rt: &impl Abort, alloc: Global) -> Options {
+    let mut options = options(alloc, 2, 2).expect(rt, "memory");
+    options.script = Some(String::from_str(alloc, "s.csv").expect(rt, "memory"));
+    options
+}
+
+// Asserts what the lines say of the pages file.
+fn assert_pages(rt: &impl Abort, alloc: Global, options: &Options) {
+    for (fault, text) in of_pages() {
+        let fault = DriverFault::Pages(*fault);
+        assert_line(rt, alloc, options, fault, "p.csv", text);
+    }
+}
+
+// Asserts what they say of the script.
+fn assert_scripts(rt: &impl Abort, alloc: Global, options: &Options) {
+    for (fault, text) in of_script() {
+        assert_line(rt, alloc, options, *fault, "s.csv", text);
+    }
 }
 
 // Asserts what the lines say of the request file of a submitter.
@@ -131,33 +145,20 @@ fn assert_requests(rt: &impl Abort, alloc: Global, options: &Options, submitter:
 }
 
 #[test]
-fn of_files(rt: HostRuntime) -> Result<(), Fail> {
-    let options = scripted(rt.alloc())?;
-    for (fault, text) in of_pages() {
-        assert_line(
-            &rt,
-            rt.alloc(),
-            &options,
-            DriverFault::Pages(*fault),
-            "p.csv",
-            text,
-        );
-    }
-    for (submitter, file) in [(0, "r0.csv"), (1, "r1.csv"), (2, "")] {
-        assert_requests(&rt, rt.alloc(), &options, submitter, file);
-    }
-    for (fault, text) in of_script() {
-        assert_line(&rt, rt.alloc(), &options, *fault, "s.csv", text);
-    }
-    Ok(())
+fn of_files(rt: HostRuntime) {
+    let options = scripted(&rt, rt.alloc());
+    assert_pages(&rt, rt.alloc(), &options);
+    assert_requests(&rt, rt.alloc(), &options, 0, "r0.csv");
+    assert_requests(&rt, rt.alloc(), &options, 1, "r1.csv");
+    assert_requests(&rt, rt.alloc(), &options, 2, "");
+    assert_scripts(&rt, rt.alloc(), &options);
 }
 
 #[test]
-fn of_no_file(rt: HostRuntime) -> Result<(), Fail> {
-    let options = options(rt.alloc(), 2, 1)?;
+fn of_no_file(rt: HostRuntime) {
+    let options = options(rt.alloc(), 2, 1).expect(&rt, "memory");
     let fault = DriverFault::Script(ScriptFault::Read);
     assert_line(&rt, rt.alloc(), &options, fault, "", "read failed");
     let want = "likes: not finished after 1000000 rounds\n";
     assert_text(&rt, rt.alloc(), &options, DriverFault::Unfinished, want);
-    Ok(())
 }

@@ -2,14 +2,13 @@
 use super::examples::cases::LATE_WORKER;
 use crate::program::serve_words;
 use like_devices::Narrow;
-use std::alloc::{AllocError, Global};
+use std::alloc::Global;
 use std::fs;
 use std::fs::Files;
 use std::io::Read;
 use std::process::Abort;
 use std::rt::Clock;
 use std::sync::Wait;
-use std::test::Fail;
 use std::thread::Threads;
 
 // What the program writes to a stream: a text, or one that begins or ends with it.
@@ -176,12 +175,13 @@ fn starts() -> &'static [Start] {
 }
 
 // The words of a text, each a text of its own.
-fn texts(alloc: Global, text: &str) -> Result<Vec<String>, AllocError> {
+fn texts(rt: &impl Abort, alloc: Global, text: &str) -> Vec<String> {
     let mut texts = Vec::new(alloc);
     for word in text.split_whitespace() {
-        texts.push(String::from_str(alloc, word)?)?;
+        let word = String::from_str(alloc, word).expect(rt, "memory");
+        assert!(rt; texts.push(word).is_ok());
     }
-    Ok(texts)
+    texts
 }
 
 // What words end in: the status, and what stands on the output and the errors.
@@ -199,26 +199,24 @@ where
 }
 
 // Writes the files of a start.
-fn write_files(files: &impl Files, start: &Start) -> Result<(), Fail> {
+fn write_files(rt: &(impl Files + Abort), start: &Start) {
     for (name, text) in start.files {
-        fs::write(files, *name, *text)?;
+        assert!(rt; fs::write(rt, *name, *text).is_ok());
     }
-    Ok(())
 }
 
 // Removes the files of a start.
-fn remove_files(files: &impl Files, start: &Start) -> Result<(), Fail> {
+fn remove_files(rt: &(impl Files + Abort), start: &Start) {
     for (name, _) in start.files {
-        fs::remove_file(files, *name)?;
+        assert!(rt; fs::remove_file(rt, *name).is_ok());
     }
-    Ok(())
 }
 
 // Asserts what a start ends in.
 fn assert_end(rt: &impl Abort, start: &Start, status: u8, out: &[u8], errors: &[u8]) {
     assert!(rt; start.errors.fits(errors), "{}: {errors:?}", start.words);
     assert!(rt; start.out.fits(out), "{}: {out:?}", start.words);
-    assert_eq!(rt; status, start.status, "{}", start.words);
+    assert!(rt; status == start.status, "{}: {status}", start.words);
 }
 
 // Asserts what a start ends in with its files.
@@ -226,15 +224,15 @@ fn assert_start<R: Files + Threads + Wait + Abort + Clock + Sync>(
     rt: &R,
     alloc: Global,
     start: &Start,
-) -> Result<(), Fail>
+)
 where
     R::File: Read + Drop + Send,
 {
-    write_files(rt, start)?;
-    let words = texts(alloc, start.words)?;
+    write_files(rt, start);
+    let words = texts(rt, alloc, start.words);
     let (status, out, errors) = served(rt, alloc, words.as_slice());
     assert_end(rt, start, status, out.as_slice(), errors.as_slice());
-    remove_files(rt, start)
+    remove_files(rt, start);
 }
 
 // Asserts what the starts of a test end in.
@@ -242,7 +240,7 @@ fn assert_starts<R: Files + Threads + Wait + Abort + Clock + Sync>(
     rt: &R,
     alloc: Global,
     test: &str,
-) -> Result<(), Fail>
+)
 where
     R::File: Read + Drop + Send,
 {
@@ -250,51 +248,50 @@ where
     for start in starts() {
         if start.test == test {
             is_known = true;
-            assert_start(rt, alloc, start)?;
+            assert_start(rt, alloc, start);
         }
     }
     assert!(rt; is_known, "{test}");
-    Ok(())
 }
 
 #[test]
-fn replays_files(rt: HostRuntime) -> Result<(), Fail> {
-    assert_starts(&rt, rt.alloc(), "replays_files")
+fn replays_files(rt: HostRuntime) {
+    assert_starts(&rt, rt.alloc(), "replays_files");
 }
 
 // The files of `late-worker` with a request of a user who is not there, by the options and the script that are named:
 // with other numbers, in another order or without the script, the requests would run in other phases.
 #[test]
-fn replays_by_the_options(rt: HostRuntime) -> Result<(), Fail> {
-    assert_starts(&rt, rt.alloc(), "replays_by_the_options")
+fn replays_by_the_options(rt: HostRuntime) {
+    assert_starts(&rt, rt.alloc(), "replays_by_the_options");
 }
 
 // The phases in which requests run may differ from run to run.
 #[test]
-fn runs_files(rt: HostRuntime) -> Result<(), Fail> {
-    assert_starts(&rt, rt.alloc(), "runs_files")
+fn runs_files(rt: HostRuntime) {
+    assert_starts(&rt, rt.alloc(), "runs_files");
 }
 
 // Each number but the seconds.
 #[test]
-fn writes_a_summary(rt: HostRuntime) -> Result<(), Fail> {
-    assert_starts(&rt, rt.alloc(), "writes_a_summary")
+fn writes_a_summary(rt: HostRuntime) {
+    assert_starts(&rt, rt.alloc(), "writes_a_summary");
 }
 
 // All files are opened before one is read, and the first that can't be opened is told.
 #[test]
-fn opens_in_order(rt: HostRuntime) -> Result<(), Fail> {
-    assert_starts(&rt, rt.alloc(), "opens_in_order")
+fn opens_in_order(rt: HostRuntime) {
+    assert_starts(&rt, rt.alloc(), "opens_in_order");
 }
 
 #[test]
-fn shows_help(rt: HostRuntime) -> Result<(), Fail> {
-    assert_starts(&rt, rt.alloc(), "shows_help")
+fn shows_help(rt: HostRuntime) {
+    assert_starts(&rt, rt.alloc(), "shows_help");
 }
 
 #[test]
-fn tells_wrong_words(rt: HostRuntime) -> Result<(), Fail> {
-    assert_starts(&rt, rt.alloc(), "tells_wrong_words")
+fn tells_wrong_words(rt: HostRuntime) {
+    assert_starts(&rt, rt.alloc(), "tells_wrong_words");
 }
 
 // What words end in on an output of one byte a write, of which so many succeed: the status and the line.
@@ -327,21 +324,33 @@ where
     let want = "likes: standard output: write failed\n";
     for writes in 0..=length {
         let (status, errors) = served_onto(rt, alloc, words, writes, writes < length);
-        assert_eq!(rt; errors.as_slice(), want.as_bytes());
-        assert_eq!(rt; status, 3, "after {writes} writes");
+        assert!(rt; errors.as_slice() == want.as_bytes());
+        assert!(rt; status == 3, "after {writes} writes");
     }
+}
+
+// Asserts that words tell of an output that fails at any write or at its flush, and that one of as many writes is enough.
+fn assert_needs_its_output<R: Files + Threads + Wait + Abort + Clock + Sync>(
+    rt: &R,
+    alloc: Global,
+    words: &[String],
+)
+where
+    R::File: Read + Drop + Send,
+{
+    let (_, out, _) = served(rt, alloc, words);
+    let length = out.len();
+    assert_output_fails(rt, alloc, words, length);
+    let (status, errors) = served_onto(rt, alloc, words, length, true);
+    assert!(rt; errors.is_empty());
+    assert!(rt; status == 0);
 }
 
 // Of the stored example, and of help.
 #[test]
-fn tells_that_its_output_failed(rt: HostRuntime) -> Result<(), Fail> {
+fn tells_that_its_output_failed(rt: HostRuntime) {
     for text in ["", "--help"] {
-        let words = texts(rt.alloc(), text)?;
-        let (_, out, _) = served(&rt, rt.alloc(), words.as_slice());
-        assert_output_fails(&rt, rt.alloc(), words.as_slice(), out.len());
-        let (status, errors) = served_onto(&rt, rt.alloc(), words.as_slice(), out.len(), true);
-        assert!(rt; errors.is_empty());
-        assert_eq!(rt; status, 0);
+        let words = texts(&rt, rt.alloc(), text);
+        assert_needs_its_output(&rt, rt.alloc(), words.as_slice());
     }
-    Ok(())
 }

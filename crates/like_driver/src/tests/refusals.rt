@@ -1,5 +1,5 @@
 //! What `replay_files` refuses, and that nothing is written then.
-ghost use Rattle.std.specs.Prelude.{◌≡◌, is_some, length};
+ghost use Rattle.std.specs.Prelude.{◌≡◌, None, length};
 
 use super::examples::{copies, options};
 use like_devices::{Narrow, Trickle};
@@ -7,9 +7,8 @@ use like_files::{DriverFault, replay_files};
 use like_requests::{PagesFault, RequestsFault, SettingsFault};
 use like_run::ScriptFault;
 use like_words::Options;
-use std::alloc::{AllocError, Global};
+use std::alloc::Global;
 use std::process::Abort;
-use std::test::Fail;
 
 const PAGES: &str = "name,count,split\na,10,no\n";
 
@@ -23,58 +22,72 @@ fn of_requests(fault: RequestsFault) -> DriverFault {
     }
 }
 
+// The plain example's files. A test that takes them from here has none of their text in its proof.
+fn plain_files() -> (&'static str, &'static str) {
+    (PAGES, REQUESTS)
+}
+
+// The options of the plain example.
+fn plain_options(rt: &impl Abort, alloc: Global) -> Options
+    ensures named { length result.requests.items ≡ 1 }
+    ensures unscripted { result.script ≡ None }
+{
+    options(alloc, 2, 1).expect(rt, "memory")
+}
+
 // The fault of the plain example's files, which fail after so many reads.
 fn slow_fault(
+    rt: &impl Abort,
     alloc: Global,
-    pages: usize,
-    requests: usize,
-) -> Result<Option<DriverFault>, AllocError> {
-    let options = options(alloc, 2, 1)?;
-    let mut files = Vec::new(alloc);
-    files.push(Trickle::new(REQUESTS.as_bytes(), requests))?;
-    let pages = Trickle::new(PAGES.as_bytes(), pages);
-    let mut out = Vec::new(alloc);
-    Ok(replay_files(alloc, &options, pages, files, None, &mut out).err())
+    pages_reads: usize,
+    requests_reads: usize,
+) -> Option<DriverFault> {
+    let (pages, requests) = plain_files();
+    let pages = Trickle::new(pages.as_bytes(), pages_reads);
+    let requests = Trickle::new(requests.as_bytes(), requests_reads);
+    let files = vec![in alloc; requests].expect(rt, "memory");
+    let options = plain_options(rt, alloc);
+    replay_files(alloc, &options, pages, files, None, &mut Vec::new(alloc)).err()
 }
 
 #[test]
-fn failing_reads(rt: HostRuntime) -> Result<(), Fail> {
-    for reads in 0..PAGES.len() + 1 {
-        let fault = slow_fault(rt.alloc(), reads, usize::MAX)?;
-        let want = DriverFault::Pages(PagesFault::Read);
-        assert_eq!(rt; fault, Some(want), "after {reads} reads");
+fn failing_reads(rt: HostRuntime) {
+    let (pages, requests) = plain_files();
+    let want = Some(DriverFault::Pages(PagesFault::Read));
+    for reads in 0..=pages.len() {
+        let fault = slow_fault(&rt, rt.alloc(), reads, usize::MAX);
+        assert!(rt; fault == want, "after {reads} reads");
     }
-    for reads in 0..REQUESTS.len() + 1 {
-        let fault = slow_fault(rt.alloc(), usize::MAX, reads)?;
-        let want = of_requests(RequestsFault::Read);
-        assert_eq!(rt; fault, Some(want), "after {reads} reads");
+    let want = Some(of_requests(RequestsFault::Read));
+    for reads in 0..=requests.len() {
+        let fault = slow_fault(&rt, rt.alloc(), usize::MAX, reads);
+        assert!(rt; fault == want, "after {reads} reads");
     }
-    assert_eq!(rt; slow_fault(rt.alloc(), usize::MAX, usize::MAX)?, None);
-    Ok(())
+    assert!(rt; slow_fault(&rt, rt.alloc(), usize::MAX, usize::MAX).is_none());
 }
 
 // The fault of the plain example onto a writer of one byte a write, of which so many succeed.
 fn write_fault(
+    rt: &impl Abort,
     alloc: Global,
     writes: usize,
     flushes: bool,
-) -> Result<Option<DriverFault>, AllocError> {
-    let options = options(alloc, 2, 1)?;
-    let mut files = Vec::new(alloc);
-    files.push(REQUESTS.as_bytes())?;
+) -> Option<DriverFault> {
+    let (pages, requests) = plain_files();
+    let files = vec![in alloc; requests.as_bytes()].expect(rt, "memory");
+    let options = plain_options(rt, alloc);
     let mut out = Narrow::new(1, writes, flushes);
-    Ok(replay_files(alloc, &options, PAGES.as_bytes(), files, None, &mut out).err())
+    replay_files(alloc, &options, pages.as_bytes(), files, None, &mut out).err()
 }
 
 // The report has 139 bytes. Then it is flushed.
 #[test]
-fn failing_writes(rt: HostRuntime) -> Result<(), Fail> {
+fn failing_writes(rt: HostRuntime) {
     for writes in 0..=139 {
-        let fault = write_fault(rt.alloc(), writes, writes < 139)?;
-        assert_eq!(rt; fault, Some(DriverFault::Write), "after {writes} writes");
+        let fault = write_fault(&rt, rt.alloc(), writes, writes < 139);
+        assert!(rt; fault == Some(DriverFault::Write), "after {writes} writes");
     }
-    assert_eq!(rt; write_fault(rt.alloc(), 139, true)?, None);
-    Ok(())
+    assert!(rt; write_fault(&rt, rt.alloc(), 139, true).is_none());
 }
 
 // The files of a replay, and its fault.
@@ -101,11 +114,12 @@ fn plain() -> Case {
 // The fault of a replay with these options, as many request files and a script where they name one, and whether nothing
 // was written.
 fn fault_of(
+    rt: &impl Abort,
     alloc: Global,
     options: &Options,
     case: &Case,
-) -> Result<(Option<DriverFault>, bool), AllocError> {
-    let files = copies(alloc, case.requests, options.requests.len())?;
+) -> (Option<DriverFault>, bool) {
+    let files = copies(alloc, case.requests, options.requests.len()).expect(rt, "memory");
     let script = match options.script {
         Some(_) => Some(case.script.as_bytes()),
         None => None,
@@ -113,33 +127,21 @@ fn fault_of(
     let mut out = Vec::new(alloc);
     let pages = case.pages.as_bytes();
     let fault = replay_files(alloc, options, pages, files, script, &mut out).err();
-    Ok((fault, out.is_empty()))
+    (fault, out.is_empty())
 }
 
 // Asserts what a replay with these options ends in, and that nothing is written just where it has a fault.
-fn assert_fault(
-    rt: &impl Abort,
-    alloc: Global,
-    options: &Options,
-    case: &Case,
-) -> Result<(), Fail> {
-    let (fault, is_untouched) = fault_of(alloc, options, case)?;
-    assert_eq!(rt; fault, case.fault);
-    assert_eq!(rt; is_untouched, case.fault.is_some());
-    Ok(())
+fn assert_fault(rt: &impl Abort, alloc: Global, options: &Options, case: &Case) {
+    let (fault, is_untouched) = fault_of(rt, alloc, options, case);
+    assert!(rt; fault == case.fault);
+    assert!(rt; is_untouched == case.fault.is_some());
 }
 
 // Asserts what replays with these options end in.
-fn assert_faults(
-    rt: &impl Abort,
-    alloc: Global,
-    options: &Options,
-    cases: &[Case],
-) -> Result<(), Fail> {
+fn assert_faults(rt: &impl Abort, alloc: Global, options: &Options, cases: &[Case]) {
     for case in cases {
-        assert_fault(rt, alloc, options, case)?;
+        assert_fault(rt, alloc, options, case);
     }
-    Ok(())
 }
 
 // The settings of a replay, how many request files it has, and its fault.
@@ -231,32 +233,31 @@ fn all_settings() -> &'static [Numbers] {
 }
 
 // The options with these settings.
-fn options_with(alloc: Global, numbers: &Numbers) -> Result<Options, AllocError> {
-    let mut options = options(alloc, numbers.users, numbers.files)?;
+fn options_with(rt: &impl Abort, alloc: Global, numbers: &Numbers) -> Options {
+    let mut options = options(alloc, numbers.users, numbers.files).expect(rt, "memory");
     options.workers = numbers.workers;
     options.stash = numbers.stash;
     options.turns = numbers.turns;
     options.hot = numbers.hot;
-    Ok(options)
+    options
 }
 
 #[test]
-fn settings(rt: HostRuntime) -> Result<(), Fail> {
+fn settings(rt: HostRuntime) {
     let mut case = plain();
     for numbers in all_settings() {
-        let options = options_with(rt.alloc(), numbers)?;
+        let options = options_with(&rt, rt.alloc(), numbers);
         case.fault = numbers.fault.map(DriverFault::Settings);
-        assert_fault(&rt, rt.alloc(), &options, &case)?;
+        assert_fault(&rt, rt.alloc(), &options, &case);
     }
-    Ok(())
 }
 
 // Two request files, so many workers and a script.
-fn scripted(alloc: Global, workers: u32) -> Result<Options, AllocError> {
-    let mut options = options(alloc, 2, 2)?;
+fn scripted(rt: &impl Abort, alloc: Global, workers: u32) -> Options {
+    let mut options = options(alloc, 2, 2).expect(rt, "memory");
     options.workers = workers;
-    options.script = Some(String::from_str(alloc, "s.csv")?);
-    Ok(options)
+    options.script = Some(String::from_str(alloc, "s.csv").expect(rt, "memory"));
+    options
 }
 
 // Scripts that are refused: as files, and by the run.
@@ -287,13 +288,12 @@ fn wrong_scripts() -> &'static [Case] {
 }
 
 #[test]
-fn scripts(rt: HostRuntime) -> Result<(), Fail> {
-    let options = scripted(rt.alloc(), 2)?;
-    assert_faults(&rt, rt.alloc(), &options, wrong_scripts())?;
+fn scripts(rt: HostRuntime) {
+    let options = scripted(&rt, rt.alloc(), 2);
+    assert_faults(&rt, rt.alloc(), &options, wrong_scripts());
     for case in wrong_scripts() {
-        assert_eq!(rt; case.fault.map(|fault| fault.status()), Some(3));
+        assert!(rt; case.fault.map(|fault| fault.status()) == Some(3));
     }
-    Ok(())
 }
 
 // What stands where every file and the settings are at fault, and then as each fault in turn is mended.
@@ -335,12 +335,12 @@ fn wrong_in_turn() -> (&'static [Case], Case) {
 }
 
 #[test]
-fn faults_in_order(rt: HostRuntime) -> Result<(), Fail> {
+fn faults_in_order(rt: HostRuntime) {
     let (cases, mended) = wrong_in_turn();
-    let mut options = scripted(rt.alloc(), 0)?;
-    assert_faults(&rt, rt.alloc(), &options, cases)?;
+    let mut options = scripted(&rt, rt.alloc(), 0);
+    assert_faults(&rt, rt.alloc(), &options, cases);
     options.workers = 1;
-    assert_fault(&rt, rt.alloc(), &options, &mended)
+    assert_fault(&rt, rt.alloc(), &options, &mended);
 }
 
 // Pages files that are refused.
@@ -382,19 +382,18 @@ fn wrong_requests() -> &'static [(&'static str, RequestsFault)] {
 }
 
 #[test]
-fn reader_faults(rt: HostRuntime) -> Result<(), Fail> {
-    let options = options(rt.alloc(), 2, 1)?;
+fn reader_faults(rt: HostRuntime) {
+    let options = plain_options(&rt, rt.alloc());
     let mut case = plain();
     for (requests, fault) in wrong_requests() {
         case.requests = requests;
         case.fault = Some(of_requests(*fault));
-        assert_fault(&rt, rt.alloc(), &options, &case)?;
+        assert_fault(&rt, rt.alloc(), &options, &case);
     }
     case.requests = "";
     for (pages, fault) in wrong_pages() {
         case.pages = pages;
         case.fault = Some(DriverFault::Pages(*fault));
-        assert_fault(&rt, rt.alloc(), &options, &case)?;
+        assert_fault(&rt, rt.alloc(), &options, &case);
     }
-    Ok(())
 }

@@ -5,23 +5,32 @@ use like_files::{DriverFault, run_files};
 use like_words::Options;
 use std::alloc::{AllocError, Global};
 use std::io::Write;
+use std::process::Abort;
 use std::sync::Wait;
-use std::test::Fail;
 use std::thread::Threads;
 
 const PAGES: &str = "name,count,split\na,10,no\n";
 
-// A request file of so many likes of the page by user 0.
-fn likes(alloc: Global, count: u32) -> Result<String, AllocError> {
-    let mut text = String::from_str(alloc, "op,user,page\n")?;
+fn pages() -> &'static str {
+    PAGES
+}
+
+// A request file that has these rows so many times.
+fn requests(rt: &impl Abort, alloc: Global, rows: &str, count: usize) -> String {
+    let mut text = String::from_str(alloc, "op,user,page\n").expect(rt, "memory");
     for _ in 0..count {
-        text.push_str("like,0,a\n")?;
+        assert!(rt; text.push_str(rows).is_ok());
     }
-    Ok(text)
+    text
+}
+
+// One worker and one request file.
+fn lone(rt: &impl Abort, alloc: Global) -> Options {
+    options(alloc, 1, 1).expect(rt, "memory")
 }
 
 // Runs files onto a writer.
-fn run_onto<T: Threads + Wait + Sync, W: Write>(
+fn run_onto<T: Threads + Wait + Abort + Sync, W: Write>(
     rt: &T,
     alloc: Global,
     options: &Options,
@@ -29,73 +38,93 @@ fn run_onto<T: Threads + Wait + Sync, W: Write>(
     requests: &str,
     out: &mut W,
 ) -> Result<(), DriverFault> {
-    let Ok(files) = copies(alloc, requests, options.requests.len()) else {
-        return Err(DriverFault::Memory);
-    };
+    let files = copies(alloc, requests, options.requests.len()).expect(rt, "memory");
     run_files(rt, alloc, options, pages.as_bytes(), files, out)
 }
 
 // What a run writes.
-fn ran<T: Threads + Wait + Sync>(
+fn ran<T: Threads + Wait + Abort + Sync>(
     rt: &T,
     alloc: Global,
     options: &Options,
     pages: &str,
     requests: &str,
-) -> Result<Vec<u8>, DriverFault> {
+) -> Vec<u8> {
     let mut out = Vec::new(alloc);
-    run_onto(rt, alloc, options, pages, requests, &mut out)?;
-    Ok(out)
+    let done = run_onto(rt, alloc, options, pages, requests, &mut out);
+    assert!(rt; done.is_ok());
+    out
+}
+
+// The fault of a run of no requests onto a writer of one byte a write, of which so many succeed.
+fn write_fault<T: Threads + Wait + Abort + Sync>(
+    rt: &T,
+    alloc: Global,
+    options: &Options,
+    writes: usize,
+    flushes: bool,
+) -> Option<DriverFault> {
+    let mut out = Narrow::new(1, writes, flushes);
+    run_onto(rt, alloc, options, pages(), "op,user,page\n", &mut out).err()
 }
 
 // The report has 53 bytes. Then it is flushed.
 #[test]
-fn tells_a_write_that_fails(rt: HostRuntime) -> Result<(), Fail> {
-    let options = options(rt.alloc(), 1, 1)?;
+fn tells_a_write_that_fails(rt: HostRuntime) {
+    let options = lone(&rt, rt.alloc());
     for writes in 0..=53 {
-        let mut out = Narrow::new(1, writes, writes < 53);
-        let done = run_onto(&rt, rt.alloc(), &options, PAGES, "op,user,page\n", &mut out);
-        assert_eq!(rt; done, Err(DriverFault::Write), "after {writes} writes");
+        let fault = write_fault(&rt, rt.alloc(), &options, writes, writes < 53);
+        assert!(rt; fault == Some(DriverFault::Write), "after {writes} writes");
     }
-    Ok(())
+}
+
+// Asserts how the report of a run of so many likes of the page by user 0 ends.
+fn assert_ends<T: Threads + Wait + Abort + Sync>(
+    rt: &T,
+    alloc: Global,
+    options: &Options,
+    likes: usize,
+    end: &str,
+) {
+    let requests = requests(rt, alloc, "like,0,a\n", likes);
+    let out = ran(rt, alloc, options, pages(), requests.as_str());
+    assert!(rt; out.as_slice().ends_with(end.as_bytes()));
 }
 
 // A replay would be `Unfinished`: a worker runs one request a round.
 #[test]
-fn runs_a_million_likes(rt: HostRuntime) -> Result<(), Fail> {
-    let options = options(rt.alloc(), 1, 1)?;
-    let requests = likes(rt.alloc(), 1_000_000)?;
-    let out = ran(&rt, rt.alloc(), &options, PAGES, requests.as_str())?;
-    assert!(rt; out.ends_with(b"page,0,,,,a,1000010\nuser,0,,,,a,\n"));
-    Ok(())
+fn runs_a_million_likes(rt: HostRuntime) {
+    let options = lone(&rt, rt.alloc());
+    let end = "page,0,,,,a,1000010\nuser,0,,,,a,\n";
+    assert_ends(&rt, rt.alloc(), &options, 1_000_000, end);
 }
 
 // The likes are done long before the coordinator has counted a million turns, so no phase ends before them. Were it fewer
 // turns, one of ten runs would show it.
 #[test]
-fn keeps_to_the_turns(rt: HostRuntime) -> Result<(), Fail> {
-    let mut options = options(rt.alloc(), 1, 1)?;
+fn keeps_to_the_turns(rt: HostRuntime) {
+    let mut options = lone(&rt, rt.alloc());
     options.turns = 1_000_000;
-    let requests = likes(rt.alloc(), 2_000)?;
+    let end = "reply,0,2000,0,liked,,\npage,0,,,,a,2010\nuser,0,,,,a,\n";
     for _ in 0..10 {
-        let out = ran(&rt, rt.alloc(), &options, PAGES, requests.as_str())?;
-        assert!(rt; out.ends_with(b"reply,0,2000,0,liked,,\npage,0,,,,a,2010\nuser,0,,,,a,\n"));
+        assert_ends(&rt, rt.alloc(), &options, 2_000, end);
     }
-    Ok(())
 }
 
 // All likes are done before the coordinator has counted a million turns, so in phase 0.
 #[test]
-fn runs_with_places(rt: HostRuntime) -> Result<(), Fail> {
-    let mut options = options(rt.alloc(), 1, 1)?;
+fn runs_with_places(rt: HostRuntime) {
+    let mut options = lone(&rt, rt.alloc());
     options.turns = 1_000_000;
     options.places = true;
-    let requests = likes(rt.alloc(), 2)?;
-    let out = ran(&rt, rt.alloc(), &options, PAGES, requests.as_str())?;
-    assert!(rt;
-        out.ends_with(b"page,0,,,,a,12\nuser,0,,,,a,\nplace,0,0,0,10,a,1\nplace,0,0,0,11,a,1\n")
-    );
-    Ok(())
+    let end = "page,0,,,,a,12\nuser,0,,,,a,\nplace,0,0,0,10,a,1\nplace,0,0,0,11,a,1\n";
+    assert_ends(&rt, rt.alloc(), &options, 2, end);
+}
+
+// The phase of a row of a reply.
+fn phase(row: &str) -> u32 {
+    let phase = row.split(',').nth(3).and_then(|field| field.parse().ok());
+    phase.unwrap_or(0)
 }
 
 // The phase of each reply, by number.
@@ -103,8 +132,7 @@ fn phases(alloc: Global, report: &str) -> Result<Vec<u32>, AllocError> {
     let mut phases = Vec::new(alloc);
     for row in report.lines() {
         if row.starts_with("reply,") {
-            let phase = row.split(',').nth(3).and_then(|field| field.parse().ok());
-            phases.push(phase.unwrap_or(0))?;
+            phases.push(phase(row))?;
         }
     }
     Ok(phases)
@@ -133,19 +161,23 @@ fn most_overtaken(phases: &[u32]) -> u32 {
 // whatever the threads do. With a larger stash it would overtake as many as a split phase has time for, and with a smaller
 // one none. Phases of 16 turns have time for many, and come often.
 #[test]
-fn keeps_to_the_stash(rt: HostRuntime) -> Result<(), Fail> {
-    let mut options = options(rt.alloc(), 1, 1)?;
+fn keeps_to_the_stash(rt: HostRuntime) {
+    let mut options = lone(&rt, rt.alloc());
     options.stash = 2;
     options.turns = 16;
-    let mut requests = String::from_str(rt.alloc(), "op,user,page\n")?;
-    for _ in 0..20_000 {
-        requests.push_str("look,0,a\nlike,0,b\n")?;
-    }
-    let pages = "name,count,split\na,0,yes\nb,0,no\n";
-    let out = ran(&rt, rt.alloc(), &options, pages, requests.as_str())?;
-    let report = str::from_utf8(out.as_slice()).map_err(|_| Fail::new("no text"))?;
-    let phases = phases(rt.alloc(), report)?;
-    assert_eq!(rt; phases.len(), 40_000);
-    assert_eq!(rt; most_overtaken(&phases), 1);
-    Ok(())
+    let requests = requests(&rt, rt.alloc(), "look,0,a\nlike,0,b\n", 20_000);
+    let out = ran(&rt, rt.alloc(), &options, two_pages(), requests.as_str());
+    assert_overtaken_by_one(&rt, rt.alloc(), out.as_slice());
+}
+
+fn two_pages() -> &'static str {
+    "name,count,split\na,0,yes\nb,0,no\n"
+}
+
+// Asserts that a report has 40,000 replies, and that likes overtake one look in a phase at most.
+fn assert_overtaken_by_one(rt: &impl Abort, alloc: Global, report: &[u8]) {
+    let report = str::from_utf8(report).expect(rt, "a text");
+    let phases = phases(alloc, report).expect(rt, "memory");
+    assert!(rt; phases.len() == 40_000);
+    assert!(rt; most_overtaken(&phases) == 1);
 }

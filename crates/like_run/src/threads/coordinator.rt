@@ -3,10 +3,10 @@ ghost use Rattle.like_roles.specs.coordinator.CoordTurns.{HasEndedJoined};
 ghost use Rattle.like_crew.specs.Crew.{CaptainGoesOn};
 ghost use Rattle.like_crew.specs.Ended.{HaveLeft};
 
-use crate::threads::parkers::Parkers;
 use crate::threads::worker::{Owes, Served};
 use like_board::WorkerSeat;
 use like_crew::Captain;
+use like_lines::Parkers;
 use like_roles::{CoordTurn, WorkerLog};
 use std::sync::{OnceToken, Wait};
 use std::thread::{PromisedHandle, Threads};

@@ -1,8 +1,7 @@
 ghost use Rattle.std.specs.Prelude.{◌≡◌, ◌≤◌, true, [], length, vec_capacity};
-ghost use Rattle.like_run.specs.Lines.{AreNewEnds};
+ghost use Rattle.like_lines.specs.Lines.{AreNewEnds};
 
-use crate::threads::parkers::Parkers;
-use crate::threads::submitter::submit;
+use like_lines::{Parkers, submit};
 use like_queue::SendEnd;
 use like_roles::Gate;
 use std::sync::{OnceLock, Wait};

@@ -3,11 +3,10 @@ ghost use Rattle.like_core.specs.declared.worker_state.WorkerState.TheVariants.{
 ghost use Rattle.like_crew.specs.Server.{ServerGoesOn};
 ghost use Rattle.like_run.specs.Threads.{Keeps};
 
-use crate::threads::parkers::Parkers;
-use crate::threads::signal::hear;
 use like_board::{BoardPost, WorkerSeat};
 use like_core::Post;
 use like_crew::Server;
+use like_lines::{Parkers, hear};
 use like_queue::{TakeEnd, TakeWith};
 use like_roles::{Gate, Turn, WorkerLog};
 use std::snapshot::Snapshot;

@@ -1,10 +1,10 @@
 ghost use Rattle.std.specs.Prelude.{◌≡◌, ◌≤◌, true, [], All, length, map, vec_capacity};
 ghost use Rattle.like_run.specs.Threads.{Keeps};
 
-use crate::threads::parkers::Parkers;
 use crate::threads::worker::{Owes, Served, serve};
 use like_board::BoardPost;
 use like_crew::Server;
+use like_lines::Parkers;
 use like_queue::TakeEnd;
 use like_roles::Gate;
 use std::snapshot::Snapshot;

@@ -14,20 +14,9 @@ fn number(rt: &impl Abort, word: &str) -> u32 {
 // waited for phase 2, where it saw 7.
 fn entry(rt: &impl Abort, word: &str) -> Ran {
     let stashed = word.ends_with('+');
-    let (submitter, request) = word
-        .trim_end_matches('+')
-        .split_once('.')
-        .expect(rt, "an entry");
-    let (phase, reply) = match stashed {
-        true => (
-            2,
-            Reply::Seen {
-                last: None,
-                count: 7,
-            },
-        ),
-        false => (1, Reply::Liked),
-    };
+    let numbers = word.trim_end_matches('+');
+    let (submitter, request) = numbers.split_once('.').expect(rt, "an entry");
+    let (phase, reply) = if stashed { SEEN } else { (1, Reply::Liked) };
     Ran {
         phase,
         submitter: number(rt, submitter),
@@ -37,11 +26,20 @@ fn entry(rt: &impl Abort, word: &str) -> Ran {
     }
 }
 
+// The phase and the reply of a look that waited.
+const SEEN: (u32, Reply) = (
+    2,
+    Reply::Seen {
+        last: None,
+        count: 7,
+    },
+);
+
 // The log of a worker with these entries.
 fn log(rt: &impl Abort, alloc: Global, words: &str) -> WorkerLog {
     let mut ran = Vec::new(alloc);
     for word in words.split_whitespace() {
-        ran.push(entry(rt, word)).expect(rt, "memory");
+        assert!(rt; ran.push(entry(rt, word)).is_ok());
     }
     log_of(alloc, &ran, &[]).expect(rt, "memory")
 }
@@ -50,7 +48,7 @@ fn log(rt: &impl Abort, alloc: Global, words: &str) -> WorkerLog {
 fn logs(rt: &impl Abort, alloc: Global, text: &str) -> Vec<WorkerLog> {
     let mut logs = Vec::new(alloc);
     for words in text.split(',') {
-        logs.push(log(rt, alloc, words)).expect(rt, "memory");
+        assert!(rt; logs.push(log(rt, alloc, words)).is_ok());
     }
     logs
 }
@@ -59,7 +57,7 @@ fn logs(rt: &impl Abort, alloc: Global, text: &str) -> Vec<WorkerLog> {
 fn sizes(rt: &impl Abort, alloc: Global, text: &str) -> Vec<u32> {
     let mut sizes = Vec::new(alloc);
     for word in text.split_whitespace() {
-        sizes.push(number(rt, word)).expect(rt, "memory");
+        assert!(rt; sizes.push(number(rt, word)).is_ok());
     }
     sizes
 }
@@ -99,26 +97,23 @@ fn entries_and_faults(rt: HostRuntime) {
         let (sizes, logs, wanted) = cells(&rt, case);
         let replies = collected(&rt, rt.alloc(), sizes, logs);
         let answer = shown(&rt, rt.alloc(), &replies);
-        assert_eq!(rt; answer.as_str(), wanted, "at {case}");
+        assert!(rt; answer.as_str() == wanted, "at {case}: {answer}");
     }
 }
 
-// A request of each of so many submitters: the sizes and the words of a log.
-fn one_each(alloc: Global, submitters: u32) -> Result<(String, String), AllocError> {
-    let mut sizes = String::new(alloc);
+// The words of a log with a request of each of so many submitters.
+fn one_each(alloc: Global, submitters: u32) -> Result<String, AllocError> {
     let mut words = String::new(alloc);
     for submitter in 0..submitters {
-        sizes.push_str("1 ")?;
-        let word = format!(in alloc; "{submitter}.1 ")?;
-        words.push_str(&word)?;
+        write!(words, "{submitter}.1 ")?;
     }
-    words.push(',')?;
-    Ok((sizes, words))
+    Ok(words)
 }
 
 #[test]
 fn as_many_submitters_as_there_may_be(rt: HostRuntime) {
-    let (sizes, words) = one_each(rt.alloc(), 64).expect(&rt, "memory");
+    let sizes = "1 ".repeat(rt.alloc(), 64).expect(&rt, "memory");
+    let words = one_each(rt.alloc(), 64).expect(&rt, "memory");
     let replies = collected(&rt, rt.alloc(), &sizes, &words).expect(&rt, "replies");
-    assert_eq!(rt; replies.rows.len(), 64);
+    assert!(rt; replies.rows.len() == 64);
 }

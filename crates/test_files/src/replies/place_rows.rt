@@ -55,5 +55,5 @@ fn appends_places(rt: HostRuntime) {
     let text = b"before\nplace,0,0,1,0,a,1\n";
     let mut out = Vec::from_slice(rt.alloc(), b"before\n").expect(&rt, "memory");
     write_places(rt.alloc(), &report, &pages, &mut out).expect(&rt, "written");
-    assert_eq!(rt; out.as_slice(), text.as_slice());
+    assert!(rt; out.as_slice() == text.as_slice());
 }

@@ -51,13 +51,11 @@ Place { worker: 0, phase: 1, old: 12, n: 1 }, Place { worker: 1, phase: 1, old: 
 fn places_by_page_and_count(rt: HostRuntime) {
     let first = [added(0, 12, 1), added(1, 5, 2), added(0, 10, 1)];
     let second = [added(0, 11, 1), added(0, 12, 3)];
-    assert_eq!(rt;
-        placed(&rt, rt.alloc(), 3, &first, &second).as_str(),
-        PLACES
-    );
+    let placed = placed(&rt, rt.alloc(), 3, &first, &second);
+    assert!(rt; placed.as_str() == PLACES, "{placed}");
 }
 
 #[test]
 fn no_additions(rt: HostRuntime) {
-    assert_eq!(rt; placed(&rt, rt.alloc(), 1, &[], &[]).as_str(), "Ok([[]])");
+    assert!(rt; placed(&rt, rt.alloc(), 1, &[], &[]).as_str() == "Ok([[]])");
 }

@@ -120,18 +120,29 @@ pub fn assert_writes<F: Fn(&mut &mut [u8]) -> Result<(), WriteFault>>(
     requires { F.IsAlwaysCallable write }
 {
     for bytes in 0..text.len() {
-        let mut room = vec![in alloc; 0; bytes].expect(rt, "memory");
-        let mut out = room.as_mut_slice();
-        assert_eq!(rt;
-            write(&mut out),
-            Err(WriteFault::Write),
+        assert!(rt;
+            fails_within(rt, alloc, bytes, &write),
             "where {bytes} bytes fit"
         );
     }
     let mut room = vec![in alloc; 0; text.len()].expect(rt, "memory");
     let mut out = room.as_mut_slice();
-    assert_eq!(rt; write(&mut out), Ok(()));
-    assert_eq!(rt; room.as_slice(), text.as_bytes());
+    assert!(rt; write(&mut out).is_ok());
+    assert!(rt; room.as_slice() == text.as_bytes());
+}
+
+// Whether a write fails where there is room for so many bytes.
+fn fails_within<F: Fn(&mut &mut [u8]) -> Result<(), WriteFault>>(
+    rt: &impl Abort,
+    alloc: Global,
+    bytes: usize,
+    write: &F,
+) -> bool
+    requires { F.IsAlwaysCallable write.now }
+{
+    let mut room = vec![in alloc; 0; bytes].expect(rt, "memory");
+    let mut out = room.as_mut_slice();
+    matches!(write(&mut out), Err(WriteFault::Write))
 }
 
 // Asserts that a report on the page of a file is written as the header row and these.
@@ -200,5 +211,5 @@ fn appends(rt: HostRuntime) {
     let mut out = Vec::from_slice(rt.alloc(), b"before\n").expect(&rt, "memory");
     let report = like_report(&rt, rt.alloc(), 0, 0, Vec::new(rt.alloc()));
     write_report(rt.alloc(), &report, &pages, &mut out).expect(&rt, "written");
-    assert_eq!(rt; out.as_slice(), text.as_bytes());
+    assert!(rt; out.as_slice() == text.as_bytes());
 }

@@ -38,19 +38,17 @@ fn report_of_likes(rt: &impl Abort, alloc: Global, count: usize) -> Report
 }
 
 // The rows of so many requests.
-fn push_requests(alloc: Global, text: &mut String, count: usize) -> Result<(), AllocError> {
+fn push_requests(text: &mut String, count: usize) -> Result<(), AllocError> {
     for number in 1..=count {
-        let row = format!(in alloc; "reply,0,{number},0,liked,,\n")?;
-        text.push_str(&row)?;
+        write!(text, "reply,0,{number},0,liked,,\n")?;
     }
     Ok(())
 }
 
 // The rows of so many users.
-fn push_users(alloc: Global, text: &mut String, count: usize) -> Result<(), AllocError> {
+fn push_users(text: &mut String, count: usize) -> Result<(), AllocError> {
     for user in 0..count {
-        let row = format!(in alloc; "user,{user},,,,a,\n")?;
-        text.push_str(&row)?;
+        write!(text, "user,{user},,,,a,\n")?;
     }
     Ok(())
 }
@@ -66,11 +64,15 @@ fn push_places(text: &mut String, count: usize) -> Result<(), AllocError> {
 // Its text, with so many places.
 fn text_of_likes(alloc: Global, count: usize, places: usize) -> Result<String, AllocError> {
     let mut text = String::from_str(alloc, HEADER)?;
-    push_requests(alloc, &mut text, count)?;
-    text.push_str("page,0,,,,a,7\n")?;
-    push_users(alloc, &mut text, count)?;
-    push_places(&mut text, places)?;
+    push_rows(&mut text, count, places)?;
     Ok(text)
+}
+
+fn push_rows(text: &mut String, count: usize, places: usize) -> Result<(), AllocError> {
+    push_requests(text, count)?;
+    text.push_str("page,0,,,,a,7\n")?;
+    push_users(text, count)?;
+    push_places(text, places)
 }
 
 // Stops the test unless this is written of so many likes, with their places where they are asked for.

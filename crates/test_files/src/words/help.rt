@@ -38,21 +38,28 @@ const WORDS: &str = "run,replay,0,2,3,4,5";
 const HEADERS_AND_DEFAULTS: &str =
     "name,count,split;op,user,page;row,id,number,phase,answer,page,count;[default: 4];[default: 1000];[default: 256]";
 
+// Words, a list, what stands between its items, and whether the help of the words explains each item.
+const EXPLAINED: &[(&str, &str, char, bool)] = &[
+    ("run --help", COLUMNS, ',', true),
+    ("replay -h", COLUMNS, ',', true),
+    ("replay p.csv --help", COLUMNS, ',', true),
+    ("replay --help", SCRIPT, ';', true),
+    ("run --help", SCRIPT, ';', false),
+    ("--help", WORDS, ',', true),
+];
+
+// A test that takes them from here has none of their texts in its proof, as it would with a constant.
+fn all_explained() -> &'static [(&'static str, &'static str, char, bool)] {
+    EXPLAINED
+}
+
 #[test]
 fn explains_each_word(rt: HostRuntime) {
-    for (words, list, separator, is_explained) in [
-        ("run --help", COLUMNS, ',', true),
-        ("replay -h", COLUMNS, ',', true),
-        ("replay p.csv --help", COLUMNS, ',', true),
-        ("replay --help", SCRIPT, ';', true),
-        ("run --help", SCRIPT, ';', false),
-        ("--help", WORDS, ',', true),
-    ] {
+    for (words, list, separator, is_explained) in all_explained() {
         let text = help(&rt, rt.alloc(), words);
-        for what in list.split(separator) {
-            assert_eq!(rt;
-                explains(text.as_str(), what),
-                is_explained,
+        for what in list.split(*separator) {
+            assert!(rt;
+                explains(text.as_str(), what) == *is_explained,
                 "{words}: {what}"
             );
         }

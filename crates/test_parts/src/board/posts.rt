@@ -107,6 +107,17 @@ fn learns<P: Post>(rt: &impl Abort, post: &mut P, phase: u32)
     assert_eq!(rt; post.hot(), 0);
 }
 
+// Glances at the first page in phase 1, in which it is split. Its count is this.
+fn glances<P: Post>(rt: &impl Abort, post: &mut P, count: u64)
+    requires state { (P.view post.old).state ≡ Runs 1 }
+    requires page { 0 < pages_of (P.view post.old) }
+    requires split { is_marked (P.view post.old).marks 0 ≡ true }
+    ensures state { (P.view post.new).state ≡ Runs 1 }
+    ensures board { KeepsBoard (P.view post.old) (P.view post.new) }
+{
+    assert_eq!(rt; post.glance(0), count);
+}
+
 // Retires from a joined phase.
 fn leaves<P: Post>(post: &mut P, phase: u32)
     requires state { (P.view post.old).state ≡ Runs phase }
@@ -187,6 +198,7 @@ fn go_through_split_phase<P: Post>(
     ensures pages { pages_of (P.view first.new) ≡ pages_of (P.view first.old) }
 {
     learns(rt, first, 1);
+    glances(rt, first, 10);
     announces(rt, coord, board, 1);
     merges(rt, first, 3, 10);
     answers(rt, first, 1);

@@ -1,4 +1,4 @@
-use Rattle.std.proofs.Common.{◌≡◌, refl, ap, sym, ◌∙◌, subst}
+use Rattle.std.proofs.Common.{refl, subst}
 use Rattle.std.proofs.lemmas.Bool.{both_ways}
 use Rattle.like_live.specs.declared.answer.TurnAnswer.TheVariants.{Between}
 use Rattle.like_live.specs.LiveView.{LiveView, live_of}

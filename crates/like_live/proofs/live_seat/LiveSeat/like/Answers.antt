@@ -1,6 +1,5 @@
-use Rattle.std.proofs.Common.{◌≡◌, ℕ, ◌+◌, refl, arith}
-use Rattle.like_live.specs.Calls.{between, runs, told_of}
-use Rattle.like_live.specs.LiveView.{tally}
+use Rattle.std.proofs.Common.{refl, arith}
+use Rattle.like_live.specs.Calls.{between, runs}
 use Rattle.like_live.proofs.Calling.{LikesNow-tallies}
 use Rattle.like_live.proofs.live_seat.LiveSeat.like.Goals as goal
 

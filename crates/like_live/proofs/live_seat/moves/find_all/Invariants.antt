@@ -1,5 +1,5 @@
 use Rattle.std.proofs.Common.{◌≡◌, length}
-use Rattle.like_seat.specs.SeatView.{IsSeat, phase_at}
+use Rattle.like_seat.specs.SeatView.{IsSeat}
 use Rattle.like_live.specs.LiveView.{live_of}
 use Rattle.like_live.proofs.Finding.{Finding}
 use Rattle.like_live.proofs.live_seat.moves.find_all.Given as goal

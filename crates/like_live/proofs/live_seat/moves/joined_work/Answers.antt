@@ -1,5 +1,4 @@
 use Rattle.std.proofs.Common.{refl}
-use Rattle.std.proofs.lemmas.Bool.{not-false}
 use Rattle.like_live.specs.LiveView.{live_of}
 use Rattle.like_live.specs.Moves.{acknowledges}
 use Rattle.like_live.proofs.live_seat.moves.joined_work.Goals as goal

@@ -1,0 +1,51 @@
+ghost use Rattle.std.specs.Prelude.{◌≡◌, ◌≤◌, All, IfOk, length, map};
+ghost use Rattle.like_requests.specs.Limits.{max_requests};
+ghost use Rattle.like_lines.specs.Lines.{AreLines, new_ends, new_sender, new_taker};
+
+use like_queue::{Line, SendEnd, SendPass, TakeEnd, TakePass};
+use like_requests::Request;
+use std::alloc::{AllocError, Global};
+
+/// A line for each submitter, in order, with the passes of its two ends.
+#[derive(Drop)]
+pub struct Lines {
+    pub lines: Vec<Line>,
+    pub passes: Vec<(SendPass, TakePass)>,
+}
+
+impl Lines {
+    /// The lines of these plans, through which nothing went.
+    pub fn new(alloc: Global, plans: Vec<Vec<Request>>) -> Result<Lines, AllocError>
+        requires { All (λ plan. length plan.items ≤ max_requests) plans.items }
+        ensures { IfOk result (AreLines (map (λ plan. plan.items) plans.items)) }
+    {
+        let mut lines = Vec::new(alloc);
+        let mut passes = Vec::new(alloc);
+        for plan in plans {
+            let (line, send, take) = Line::new(alloc, plan)?;
+            lines.push(line)?;
+            passes.push((send, take))?;
+        }
+        Ok(Lines { lines, passes })
+    }
+}
+
+/// Their ends, at which the submitters send and the workers take.
+pub fn ends_of<'a>(
+    alloc: Global,
+    lines: &'a [Line],
+    passes: Vec<(SendPass, TakePass)>,
+) -> Result<(Vec<SendEnd<'a>>, Vec<TakeEnd<'a>>), AllocError>
+    requires { passes.items ≡ map new_ends lines.now }
+    ensures sends { IfOk result (λ ends. ends.0.items ≡ map new_sender lines.now) }
+    ensures takes { IfOk result (λ ends. ends.1.items ≡ map new_taker lines.now) }
+{
+    let mut sends = Vec::new(alloc);
+    let mut takes = Vec::new(alloc);
+    for (send, take) in passes {
+        let line = &lines[sends.len()];
+        sends.push(send.at(line))?;
+        takes.push(take.at(line))?;
+    }
+    Ok((sends, takes))
+}
