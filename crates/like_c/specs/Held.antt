@@ -1,5 +1,5 @@
 -- A call of what a handle holds, and what likes.h tells of it.
-use Rattle.std.specs.Prelude.{◌≡◌, ◌≢◌, ◌⊎◌, ℕ, ◌+◌, ◌≤◌, Bool, true, false, length, min, slice_get, take, List, [], ◌∷◌, ◌++◌, Option, Some, None, vec_len}
+use Rattle.std.specs.Prelude.{◌≡◌, ◌≢◌, ◌⊎◌, ℕ, ◌≤◌, Bool, true, false, length, min, slice_get, take, List, [], ◌∷◌, ◌++◌, Option, Some, None, vec_len}
 use Rattle.std.specs.Global.{Global}
 use Rattle.std_alloc.specs.declared.boxed.Box.{Box}
 use Rattle.like_live.specs.LiveView.{LiveView}
@@ -81,24 +81,30 @@ abbrev pub pages_at : Opened → ℕ
 pages_at o = length o.driver.seat.opening.counts
 
 -- a snapshot is asked for, with room for so many counts
-pub data SnapshotAt (at : Option Opened) (old : List ℕ) (status : ℕ) (counts : List ℕ) (after : Option Opened) : Type 0 where
+pub data SnapshotAt (at : Option Opened) (old : List ℕ) (status : ℕ) (counts : List ℕ)
+    (after : Option Opened) : Type 0 where
   empty_snapshot : at ≡ None → status ≡ 19 → counts ≡ old → after ≡ None → SnapshotAt at old status counts after
-  snapshot_length : (o : Opened) → at ≡ Some o → ¬ (length old ≡ pages_at o) → status ≡ 23 → counts ≡ old → after ≡ Some o
+  snapshot_length : (o : Opened) → at ≡ Some o → ¬ (length old ≡ pages_at o) → status ≡ 23 → counts ≡ old
+      → after ≡ Some o
       → SnapshotAt at old status counts after
-  snapshot_waits : (o p : Opened) → at ≡ Some o → length old ≡ pages_at o → TakesSnapshot o.driver old None p.driver counts
+  snapshot_waits : (o p : Opened) → at ≡ Some o → length old ≡ pages_at o
+      → TakesSnapshot o.driver old None p.driver counts
       → status ≡ 15 → p.seats ≡ o.seats → after ≡ Some p → SnapshotAt at old status counts after
   snapshot_counts : (o p : Opened) (phase : ℕ) → at ≡ Some o → length old ≡ pages_at o
       → TakesSnapshot o.driver old (Some phase) p.driver counts
       → status ≡ 17 → p.seats ≡ o.seats → after ≡ Some p → SnapshotAt at old status counts after
 
 -- the last counts are asked for: where they are written the handle is left empty
-pub data ClosesAt (at : Option Opened) (old : List ℕ) (status : ℕ) (counts : List ℕ) (after : Option Opened) : Type 0 where
+pub data ClosesAt (at : Option Opened) (old : List ℕ) (status : ℕ) (counts : List ℕ)
+    (after : Option Opened) : Type 0 where
   empty_close : at ≡ None → status ≡ 19 → counts ≡ old → after ≡ None → ClosesAt at old status counts after
-  close_length : (o : Opened) → at ≡ Some o → ¬ (length old ≡ pages_at o) → status ≡ 23 → counts ≡ old → after ≡ Some o
+  close_length : (o : Opened) → at ≡ Some o → ¬ (length old ≡ pages_at o) → status ≡ 23 → counts ≡ old
+      → after ≡ Some o
       → ClosesAt at old status counts after
   not_ended : (o p : Opened) → at ≡ Some o → length old ≡ pages_at o → TakesLast o.driver old false p.driver counts
       → status ≡ 22 → p.seats ≡ o.seats → after ≡ Some p → ClosesAt at old status counts after
-  closes : (o : Opened) (now : LeadView) → at ≡ Some o → length old ≡ pages_at o → TakesLast o.driver old true now counts
+  closes : (o : Opened) (now : LeadView) → at ≡ Some o → length old ≡ pages_at o
+      → TakesLast o.driver old true now counts
       → status ≡ 0 → after ≡ None → ClosesAt at old status counts after
 
 -- a phase is asked for
@@ -115,7 +121,8 @@ pub data HandsOut (from : Option Opened) (to : Option Seated) (status : ℕ) (le
     (after : Option Seated) : Type 0 where
   hand_in_use : to ≢ None → status ≡ 20 → left ≡ from → after ≡ to → HandsOut from to status left after
   hand_empty : to ≡ None → from ≡ None → status ≡ 19 → left ≡ None → after ≡ None → HandsOut from to status left after
-  hand_none : (o p : Opened) → to ≡ None → from ≡ Some o → vec_len o.seats ≡ 0 → p.driver ≡ o.driver → vec_len p.seats ≡ 0
+  hand_none : (o p : Opened) → to ≡ None → from ≡ Some o → vec_len o.seats ≡ 0 → p.driver ≡ o.driver
+      → vec_len p.seats ≡ 0
       → status ≡ 21 → left ≡ Some p → after ≡ None → HandsOut from to status left after
   hands : (o p : Opened) (s : Seated) (b : Box Seated Global) → to ≡ None → from ≡ Some o → p.driver ≡ o.driver
       → o.seats.items ≡ p.seats.items ++ b ∷ [] → b.value ≡ s

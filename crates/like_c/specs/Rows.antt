@@ -1,5 +1,5 @@
 -- The rows that cross to C.
-use Rattle.std.specs.Prelude.{◌≡◌, ℕ, Option, Some, None}
+use Rattle.std.specs.Prelude.{ℕ, Option, Some, None}
 use Rattle.like_tables.specs.LastLike.{no_page}
 use Rattle.like_seat.specs.declared.seen.Seen.{Seen}
 use Rattle.like_live.specs.declared.answer.GlanceAnswer.{GlanceAnswer}

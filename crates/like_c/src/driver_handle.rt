@@ -2,8 +2,8 @@ ghost use Rattle.std.specs.Prelude.{◌≡◌, ◌≢◌, ◌↔◌, IsTrue, IfS
 ghost use Rattle.like_c.specs.declared.opened.Opened.{Opened};
 
 use crate::held_driver::HeldDriver;
-use crate::parts::Parts;
 use crate::opened::Opened;
+use crate::parts::Parts;
 use std::alloc::Global;
 
 /// A driver, or none, as C holds it.

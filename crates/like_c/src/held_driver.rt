@@ -2,8 +2,8 @@ ghost use Rattle.std.specs.Prelude.{◌≡◌, ◌≢◌, Option, Some, None};
 ghost use Rattle.like_c.specs.declared.opened.Opened.{Opened};
 ghost use Rattle.like_c.specs.HeldDriver.{held_coded, held_owns};
 
-use crate::parts::Parts;
 use crate::opened::Opened;
+use crate::parts::Parts;
 use std::alloc::Global;
 use std::marker::Model;
 
@@ -25,7 +25,10 @@ impl HeldDriver {
         ensures { result.home ≡ Some parts.value }
     {
         let Parts { ptr, alloc } = parts;
-        HeldDriver { ptr: ptr as *mut u8, alloc }
+        HeldDriver {
+            ptr: ptr as *mut u8,
+            alloc,
+        }
     }
 
     pub(crate) fn into_parts(self) -> Parts<Opened, Global>
@@ -33,7 +36,10 @@ impl HeldDriver {
         ensures { Some result.value ≡ self.home }
     {
         let HeldDriver { ptr, alloc } = self;
-        Parts { ptr: ptr as *mut Opened, alloc }
+        Parts {
+            ptr: ptr as *mut Opened,
+            alloc,
+        }
     }
 
     pub(crate) fn empty(alloc: Global) -> HeldDriver

@@ -2,8 +2,8 @@ ghost use Rattle.std.specs.Prelude.{◌≡◌, ◌≢◌, Option, Some, None};
 ghost use Rattle.like_c.specs.declared.opened.Seated.{Seated};
 ghost use Rattle.like_c.specs.HeldSeat.{held_coded, held_owns};
 
-use crate::parts::Parts;
 use crate::opened::Seated;
+use crate::parts::Parts;
 use std::alloc::Global;
 use std::marker::Model;
 
@@ -25,7 +25,10 @@ impl HeldSeat {
         ensures { result.home ≡ Some parts.value }
     {
         let Parts { ptr, alloc } = parts;
-        HeldSeat { ptr: ptr as *mut u8, alloc }
+        HeldSeat {
+            ptr: ptr as *mut u8,
+            alloc,
+        }
     }
 
     pub(crate) fn into_parts(self) -> Parts<Seated, Global>
@@ -33,7 +36,10 @@ impl HeldSeat {
         ensures { Some result.value ≡ self.home }
     {
         let HeldSeat { ptr, alloc } = self;
-        Parts { ptr: ptr as *mut Seated, alloc }
+        Parts {
+            ptr: ptr as *mut Seated,
+            alloc,
+        }
     }
 
     pub(crate) fn empty(alloc: Global) -> HeldSeat

@@ -1,5 +1,5 @@
-//! The live core for C. Each export calls the function of `like_live` that it is named for, and tests every number first.
-//! include/likes.h has the same calls as C sees them, with the rules for a host.
+//! The live core for C. Each export calls the function of `like_live` that it is named for, and tests every number
+//! first. include/likes.h has the same calls as C sees them, with the rules for a host.
 #![tactic(auto)]
 
 ghost use Rattle.std.specs.Prelude.{◌≡◌, ◌≤◌, length, None};
@@ -14,11 +14,10 @@ mod rows;
 mod seat_handle;
 mod status;
 
+use crate::opened::Opened;
 pub use driver_handle::DriverHandle;
 pub use rows::{AnswerRow, FoundRow, Options, RequestRow};
 pub use seat_handle::SeatHandle;
-
-use crate::opened::Opened;
 use std::alloc::Global;
 
 /// Opens a service. The driver's handle has to be empty, and is full after `OK`.
@@ -46,7 +45,11 @@ pub extern "C" fn likes_open(
 
 /// Hands out the next seat. All boxes were made by `likes_open`: this takes no memory.
 #[unsafe(no_mangle)]
-pub extern "C" fn likes_take_seat(alloc: Global, driver: &mut DriverHandle, seat: &mut SeatHandle) -> u32
+pub extern "C" fn likes_take_seat(
+    alloc: Global,
+    driver: &mut DriverHandle,
+    seat: &mut SeatHandle,
+) -> u32
     ensures { HandsOut driver.old.held.home seat.old.held.home result driver.new.held.home seat.new.held.home }
 {
     if seat.is_full() {
@@ -120,7 +123,11 @@ pub extern "C" fn likes_glance(
 }
 
 #[unsafe(no_mangle)]
-pub extern "C" fn likes_take_found(alloc: Global, seat: &mut SeatHandle, found: &mut FoundRow) -> bool
+pub extern "C" fn likes_take_found(
+    alloc: Global,
+    seat: &mut SeatHandle,
+    found: &mut FoundRow,
+) -> bool
     ensures { TakesFoundAt seat.old.held.home found.old result found.new seat.new.held.home }
 {
     let Some(mut taken) = seat.take(alloc) else {
@@ -211,7 +218,11 @@ pub extern "C" fn likes_driver_turn(alloc: Global, driver: &mut DriverHandle, ma
 }
 
 #[unsafe(no_mangle)]
-pub extern "C" fn likes_snapshot(alloc: Global, driver: &mut DriverHandle, counts: &mut [u64]) -> u32
+pub extern "C" fn likes_snapshot(
+    alloc: Global,
+    driver: &mut DriverHandle,
+    counts: &mut [u64],
+) -> u32
     ensures { SnapshotAt driver.old.held.home counts.old result counts.new driver.new.held.home }
 {
     let Some(mut opened) = driver.take(alloc) else {

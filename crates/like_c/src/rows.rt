@@ -138,7 +138,11 @@ fn answer(seat: &mut LiveSeat<SharedPost>, request: RequestRow) -> AnswerRow
 
 /// Answers rows up to the first that is `BETWEEN` or `NO_ROOM`, and to the end of the shorter of the two. Says how many
 /// were done.
-pub(crate) fn run(seat: &mut LiveSeat<SharedPost>, requests: &[RequestRow], answers: &mut [AnswerRow]) -> usize
+pub(crate) fn run(
+    seat: &mut LiveSeat<SharedPost>,
+    requests: &[RequestRow],
+    answers: &mut [AnswerRow],
+) -> usize
     ensures rows { RunsRows seat.old requests.now answers.new result seat.new }
     ensures requests { result ≤ length requests.now }
     ensures answers { result ≤ length answers.old }

@@ -2,8 +2,8 @@ ghost use Rattle.std.specs.Prelude.{◌≡◌, ◌≢◌, ◌↔◌, IsTrue, IfS
 ghost use Rattle.like_c.specs.declared.opened.Seated.{Seated};
 
 use crate::held_seat::HeldSeat;
-use crate::parts::Parts;
 use crate::opened::Seated;
+use crate::parts::Parts;
 use std::alloc::Global;
 
 /// A seat, or none, as C holds it.

@@ -6,35 +6,65 @@ use like_live::{DriverAnswer, LikeAnswer, OpenError, TurnAnswer};
 use like_requests::Verdict;
 
 pub(crate) const OK: u32 = 0;
+
 pub(crate) const LIKED: u32 = 1;
+
 pub(crate) const SEEN: u32 = 2;
+
 pub(crate) const WAITS: u32 = 3;
+
 pub(crate) const RUNS: u32 = 4;
+
 pub(crate) const BETWEEN: u32 = 5;
+
 pub(crate) const NO_ROOM: u32 = 6;
+
 pub(crate) const UNKNOWN_USER: u32 = 7;
+
 pub(crate) const OTHER_SEAT: u32 = 8;
+
 pub(crate) const UNKNOWN_PAGE: u32 = 9;
+
 pub(crate) const UNKNOWN_OP: u32 = 10;
+
 pub(crate) const FULL: u32 = 11;
+
 pub(crate) const GONE: u32 = 12;
+
 pub(crate) const RUNNING: u32 = 13;
+
 pub(crate) const ANNOUNCED: u32 = 14;
+
 pub(crate) const WAITING: u32 = 15;
+
 pub(crate) const RELEASED: u32 = 16;
+
 pub(crate) const COUNTED: u32 = 17;
+
 pub(crate) const ENDED: u32 = 18;
+
 pub(crate) const EMPTY: u32 = 19;
+
 pub(crate) const IN_USE: u32 = 20;
+
 pub(crate) const NO_SEAT: u32 = 21;
+
 pub(crate) const NOT_ENDED: u32 = 22;
+
 pub(crate) const WRONG_LENGTH: u32 = 23;
+
 pub(crate) const NO_MEMORY: u32 = 24;
+
 pub(crate) const WRONG_PAGES: u32 = 25;
+
 pub(crate) const WRONG_MARKS: u32 = 26;
+
 pub(crate) const WRONG_COUNT: u32 = 27;
+
 pub(crate) const WRONG_SEATS: u32 = 28;
+
 pub(crate) const WRONG_USERS: u32 = 29;
+
 pub(crate) const WRONG_ROOM: u32 = 30;
 
 pub(crate) fn of_verdict(verdict: Verdict) -> u32

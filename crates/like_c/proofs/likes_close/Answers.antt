@@ -5,7 +5,7 @@ use Rattle.like_c.proofs.likes_close.Goals as goal
 pub returns-then-counts-pages : goal.returns-then-counts-pages
 returns-then-counts-pages c =
     close_length c.in-Some.opened.value c.in-Some.ensures.taken
-        (λ is. c.if-counts-pages.true (is ∙ sym (c.pages.ensures ∙ ap pages_at c.deref.ensures))) refl refl c.put.ensures
+    (λ is. c.if-counts-pages.true (is ∙ sym (c.pages.ensures ∙ ap pages_at c.deref.ensures))) refl refl c.put.ensures
 
 pub returns-then-not-last_counts : goal.returns-then-not-last_counts
 returns-then-not-last_counts c =

@@ -5,7 +5,7 @@ use Rattle.like_c.proofs.likes_snapshot.Goals as goal
 pub returns-then-counts-pages : goal.returns-then-counts-pages
 returns-then-counts-pages c =
     snapshot_length c.in-Some.opened.value c.in-Some.ensures.taken
-        (λ is. c.if-counts-pages.true (is ∙ sym (c.pages.ensures ∙ ap pages_at c.deref.ensures))) refl refl c.put.ensures
+    (λ is. c.if-counts-pages.true (is ∙ sym (c.pages.ensures ∙ ap pages_at c.deref.ensures))) refl refl c.put.ensures
 
 pub returns-in-Some-phase : goal.returns-in-Some-phase
 returns-in-Some-phase c =

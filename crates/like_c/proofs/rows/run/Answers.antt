@@ -16,11 +16,11 @@ returns-then-row-eq-BETWEEN-clause-rows c =
     let row = c.answer-row.result in
     stops_at c.loop-done.seat (get_or requests i none) row
     (subst (λ (rows : List AnswerRow). RowsAnswered c.args.seat.now (take i requests) rows c.loop-done.seat)
-        (sym (take-before i c.loop-done.answers row)) c.loop-done.invariant.ran)
+    (sym (take-before i c.loop-done.answers row)) c.loop-done.invariant.ran)
     (slice_get-get_or requests i none (omega (arith, c.loop-done-test.true, c.min-rows.ensures)))
     (set-there i c.loop-done.answers row (omega (arith, c.loop-done-test.true, c.min-rows.ensures, c.loop-done.auto.answers)))
     c.answer-row.ensures
-    (elim c.then-row-eq-BETWEEN.either [ | inl between ↦ inl between | inr no_room ↦ inr no_room.1 ])
+    (elim c.then-row-eq-BETWEEN.either [ inl between ↦ inl between | inr no_room ↦ inr no_room.1 ])
 
 pub loop-done-preserved : goal.loop-done-preserved
 loop-done-preserved c =
@@ -31,5 +31,5 @@ loop-done-preserved c =
           (slice_get-get_or requests i none (omega (arith, c.loop-done-test.true, c.min-rows.ensures)))
           (omega (arith, c.loop-done-test.true, c.min-rows.ensures, c.loop-done.auto.answers))
           c.loop-done.invariant.ran c.answer-row.ensures
-          (λ wait. elim wait [ | inl between ↦ c.if-row-eq-BETWEEN.false between | inr no_room ↦ c.if-row-eq-NO_ROOM.false no_room ]);
+          (λ wait. elim wait [ inl between ↦ c.if-row-eq-BETWEEN.false between | inr no_room ↦ c.if-row-eq-NO_ROOM.false no_room ]);
     }

@@ -3,7 +3,7 @@ use mathlib.Core.Path.{refl, sym, subst}
 use Rattle.std.specs.Prelude.{None}
 use mathlib.Core.List.{List, [], ◌∷◌, ◌++◌}
 use seplogic.Ra.Ura.{Ura}
-use mathlib.Core.Bool.{Bool, true, ◌&&◌}
+use mathlib.Core.Bool.{true, ◌&&◌}
 use lib.Dec.{T, lit<}
 use mir.Val.{Val, vstruct, vcons, vnil, has_ty, WT}
 use base.Logic.{SProp, ent, emp, id⊢}
@@ -16,28 +16,24 @@ use contract.Monad.{Fun}
 use contract.Running.{tables, tables_of}
 use sound.WpLaws.{WpFn-mono}
 use types.Kit.{Item, ‵, raw, ◌⊛◌, ◌$◌, ◌∵◌, !, qed, by, move, drop, use1, join, split, fsplit, fjoin, fpack, feq_i, suffices, done}
-use types.Part.{whole, sub, agg}
-use types.Run.{lit, stop, fld, no_more, and_then, of_opd, returns, enter}
-use types.ByLocal.{alloc_all, pass_all, free_all, look_at, get, get_in, sets}
+use types.Part.{agg}
+use types.Run.{lit, no_more, and_then, of_opd, returns, enter}
+use types.ByLocal.{alloc_all, pass_all, free_all, look_at, get, sets}
 use denote.Exit.{yes}
 use denote.Signature.{type_at}
 use denote.Steps.{nothing}
 use denote.Triple.Spec.{triple_of}
 use denote.Triple.Table.{entered}
 use denote.Triple.Walked.{says, Stays, stay_dropped, walk_of, ends_at, Goes-dropped, walk_Meets}
-use Rattle.std_alloc.proofs.BoxSteps.Form.{D, B, word, box_typed}
-use Rattle.std_alloc.proofs.BoxSteps.Steps.{box_out, box_in}
 use denote.RawPtr.{RawPtr, null_ptr, ptr_val}
 use denote.RattleType.{Valss}
 use denote.Param.{layout}
 use denote.Struct.Struct.{within}
-use denote.Struct.Owning.{shape}
 use denote.Signature.{Slot, plain}
 use Rattle.std.proofs.alloc.Calls.{handle_tells}
 use Rattle.std_alloc.proofs.ResultValues.{and_tt}
 use Rattle.std_heap.specs.contracts.Global as Heap
 use Rattle.like_c.proofs.SeatAsBox.{E}
-use Rattle.like_c.specs.contracts.held_seat.HeldSeat as held
 use Rattle.like_c.specs.contracts.held_seat.HeldSeat.empty as F
 use Rattle.like_c.specs.contracts.held_seat.HeldSeat.empty.Key.{name as #self}
 use Rattle.like_c.proofs.held_seat.HeldSeat.empty.Statement as stated
