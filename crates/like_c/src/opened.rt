@@ -1,6 +1,6 @@
 //! What stands behind the two handles.
-ghost use Rattle.std.specs.Prelude.{◌≡◌, ◌≤◌, IfOk, IfSome, length, vec_capacity};
-ghost use Rattle.like_c.specs.Opened.{IsAsked, IsOpenedAs};
+ghost use Rattle.std.specs.Prelude.{◌≡◌, IfOk, map, reverse};
+ghost use Rattle.like_c.specs.Opened.{IsAsked, IsOpenedAs, seat_in};
 
 use crate::rows::Options;
 use like_board::SharedPost;
@@ -48,7 +48,7 @@ fn boxed(
     alloc: Global,
     mut seats: Vec<LiveSeat<SharedPost>>,
 ) -> Result<Vec<Box<Seated, Global>>, OpenError>
-    ensures { IfOk result (λ boxed. length boxed.items ≡ length seats.items) }
+    ensures { IfOk result (λ boxed. reverse (map seat_in boxed.items) ≡ seats.items) }
 {
     let mut boxed = match Vec::with_capacity(alloc, seats.len()) {
         Ok(boxed) => boxed,

@@ -1,5 +1,7 @@
 //! A service as a whole: what it may be opened with, its phases, and its end.
-use like_live::{DriverAnswer, LikeAnswer, OpenError, Opening, Service, TurnAnswer};
+ghost use Rattle.like_live.specs.Service.{AreItsSeats};
+
+use like_live::{Driver, DriverAnswer, LikeAnswer, OpenError, Opening, Service, TurnAnswer};
 use std::alloc::{AllocError, Global};
 use std::process::Abort;
 use std::test::Fail;
@@ -54,6 +56,16 @@ fn opened(rt: &impl Abort, alloc: Global, seats: u32) -> Result<Service, Fail> {
     Ok(Service::open(alloc, &opening).ok().expect(rt, "a service"))
 }
 
+fn snapshot(rt: &impl Abort, driver: &mut Driver, counts: &mut [u64]) -> Option<u64> {
+    assert!(rt; driver.pages() as usize == counts.len());
+    driver.snapshot(counts)
+}
+
+fn last_counts(rt: &impl Abort, driver: &mut Driver, counts: &mut [u64]) -> bool {
+    assert!(rt; driver.pages() as usize == counts.len());
+    driver.last_counts(counts)
+}
+
 // The counts of a snapshot are those of the boundary of phases 0 and 1.
 #[test]
 fn takes_a_snapshot(rt: HostRuntime) -> Result<(), Fail> {
@@ -63,10 +75,10 @@ fn takes_a_snapshot(rt: HostRuntime) -> Result<(), Fail> {
     assert!(rt; seat.like(0, 0) == LikeAnswer::Liked);
     assert!(rt; service.driver.turn(false) == DriverAnswer::Running);
     assert!(rt; service.driver.turn(true) == DriverAnswer::Announced);
-    assert!(rt; service.driver.snapshot(&mut counts).is_none());
+    assert!(rt; snapshot(&rt, &mut service.driver, &mut counts).is_none());
     assert!(rt; service.driver.turn(true) == DriverAnswer::Waiting);
     assert!(rt; seat.turn() == TurnAnswer::Between);
-    assert!(rt; service.driver.snapshot(&mut counts) == Some(0));
+    assert!(rt; snapshot(&rt, &mut service.driver, &mut counts) == Some(0));
     assert!(rt; counts[0] == 11);
     assert!(rt; counts[1] == 20);
     assert!(rt; service.driver.turn(true) == DriverAnswer::Released);
@@ -87,22 +99,42 @@ fn tells_the_last_counts(rt: HostRuntime) -> Result<(), Fail> {
     for user in [0, 1, 0] {
         assert!(rt; seat.like(user, 0) == LikeAnswer::Liked);
     }
-    assert!(rt; !service.driver.last_counts(&mut counts));
+    assert!(rt; !last_counts(&rt, &mut service.driver, &mut counts));
     assert!(rt; seat.retire() == TurnAnswer::Gone);
     assert!(rt; service.driver.turn(true) == DriverAnswer::Ended);
-    assert!(rt; service.driver.last_counts(&mut counts));
+    assert!(rt; last_counts(&rt, &mut service.driver, &mut counts));
     assert!(rt; counts[0] == 13);
     assert!(rt; counts[1] == 20);
     Ok(())
 }
 
-// A service is not closed while a seat is there.
-#[test]
-fn closes_no_running_service(rt: HostRuntime) -> Result<(), Fail> {
-    let service = opened(&rt, rt.alloc(), 2)?;
+fn is_not_closed(rt: &impl Abort, service: Service)
+    requires { AreItsSeats service.driver service.seats.items }
+{
     let mut counts = [0, 0];
+    assert!(rt; service.driver.pages() == 2);
     let refused = service.close(&mut counts).err();
     assert!(rt; refused.is_some());
     assert!(rt; counts[0] == 0);
+}
+
+// A service is not closed while a seat is there.
+#[test]
+fn closes_no_running_service(rt: HostRuntime) -> Result<(), Fail> {
+    let opening = opening_of(rt.alloc(), 2, 4, 2)?;
+    match Service::open(rt.alloc(), &opening) {
+        Ok(service) => is_not_closed(&rt, service),
+        Err(_) => assert!(rt; false),
+    }
+    Ok(())
+}
+
+// User 3 of two seats belongs to seat 1.
+#[test]
+fn tells_the_seat_of_a_user(rt: HostRuntime) -> Result<(), Fail> {
+    let mut opening = opening_of(rt.alloc(), 2, 4, 2)?;
+    opening.seats = 2;
+    assert!(rt; opening.seat_of(3) == 1);
+    assert!(rt; opening.seat_of(2) == 0);
     Ok(())
 }

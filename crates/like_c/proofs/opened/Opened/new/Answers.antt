@@ -1,4 +1,6 @@
-use Rattle.std.proofs.Common.{length, ap, ◌∙◌}
+use Rattle.std.proofs.Common.{map, ap, ◌∙◌}
+use Rattle.std.specs.Prelude.{reverse}
+use Rattle.like_c.specs.Opened.{seat_in}
 use Rattle.like_c.specs.declared.opened.Opened.{Opened}
 use Rattle.like_c.proofs.opened.Opened.new.Goals as goal
 
@@ -9,5 +11,5 @@ returns-in-Ok c = record {
   service = c.in_ok-driver.field-0;
   opened = c.in_ok-driver.ensures.opened;
   driver = ap (λ (o : Opened). o.driver) c.in-Ok.ensures.ok;
-  seats = ap (λ (o : Opened). length o.seats.items) c.in-Ok.ensures.ok ∙ c.in_ok-seats.ensures;
+  seats = ap (λ (o : Opened). reverse (map seat_in o.seats.items)) c.in-Ok.ensures.ok ∙ c.in_ok-seats.ensures;
 }
