@@ -17,6 +17,7 @@ impl<P: Post> LiveSeat<P> {
         ensures keeps { IsLive self.new }
         ensures same { IsSameSeat self.old self.new }
     {
+        // Opens the seat: an empty batch leaves it live, too.
         let _ = &self.seat;
         for (done, call) in calls.iter().enumerate() {
             match self.answer(*call) {
