@@ -4,7 +4,7 @@ use Rattle.std.specs.List.{slice_get}
 use Rattle.like_live.specs.declared.call.Answer.{Answer}
 use Rattle.like_live.specs.declared.call.Call.{Call}
 use Rattle.like_live.specs.LiveView.{LiveView}
-use Rattle.like_live.specs.Batch.{HasRun, IsAnswered, WasTold, WereTold}
+use Rattle.like_live.specs.Batch.{HasRun, IsDone, WasTold, WereTold}
 use Rattle.like_live.specs.History.{Does, HasDone, Told}
 
 -- one call more
@@ -38,7 +38,7 @@ HasRun-start v calls answers = record { told = []; history = refl; were = tt }
 
 -- one call more of a batch
 pub HasRun-more : (v now after : LiveView) (calls : List Call) (answers : List Answer) (i : ℕ) (c : Call) (a : Answer) → HasRun v calls answers i now
-    → slice_get calls i ≡ Some c → i < length answers → IsAnswered now c a after → HasRun v calls (set answers i a) (i + 1) after
+    → slice_get calls i ≡ Some c → i < length answers → IsDone now c a after → HasRun v calls (set answers i a) (i + 1) after
 HasRun-more v now after calls answers i c a r at there answered = record {
   told = r.told ++ answered.0 ∷ [];
   history = HasDone-push r.told v now after answered.0 r.history answered.1.1;

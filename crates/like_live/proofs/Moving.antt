@@ -9,7 +9,7 @@ use Rattle.like_seat.proofs.MergedLikes.{merged-tally}
 use Rattle.like_live.specs.declared.answer.TurnAnswer.{TurnAnswer}
 use Rattle.like_live.specs.declared.asked.Asked.{Asked}
 use Rattle.like_live.specs.LiveView.{IsSameSeat, KeepsTallies, LiveView, with_seat}
-use Rattle.like_live.specs.Moves.{FindsAll, Moves, Works, is_gone, looked, stopped, waits, works, runs_joined, acknowledges, runs_split, reports}
+use Rattle.like_live.specs.Moves.{FindsAll, Moves, Works, is_gone, looked, acknowledged, waits, works, runs_joined, acknowledges, runs_split, reports}
 
 -- the slice has a number for each page
 abbrev pub IsSized : LiveView → Type 0
@@ -52,8 +52,8 @@ Leaves-looked v sight mask = record {
   sized = refl;
 }
 
-Leaves-stopped : (v : LiveView) → Leaves v (stopped v)
-Leaves-stopped v = record {
+Leaves-acknowledged : (v : LiveView) → Leaves v (acknowledged v)
+Leaves-acknowledged v = record {
   same = record { board = refl; worker = refl; marks = refl; share = refl };
   tallies = λ page. refl;
   last = refl;
@@ -84,7 +84,7 @@ Leaves-merged v s sized m =
 pub Leaves-works : (v after : LiveView) (ending : Bool) (answer : TurnAnswer) → IsSized v → Works v ending answer after → Leaves v after
 Leaves-works v after ending answer sized (runs_joined joined e a found) = Leaves-found v after found
 Leaves-works v after ending answer sized (acknowledges now joined e a found is) =
-    subst (Leaves v) (sym is) (Leaves-both v now (stopped now) (Leaves-found v now found) (Leaves-stopped now))
+    subst (Leaves v) (sym is) (Leaves-both v now (acknowledged now) (Leaves-found v now found) (Leaves-acknowledged now))
 Leaves-works v after ending answer sized (runs_split split e a is) = subst (Leaves v) (sym is) (Leaves-all v)
 Leaves-works v after ending answer sized (reports s split e a merges is) = subst (Leaves v) (sym is) (Leaves-merged v s sized merges)
 

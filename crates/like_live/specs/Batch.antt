@@ -26,11 +26,11 @@ WereTold (c ∷ calls) (a ∷ answers) (t ∷ told) = WasTold c a t × WereTold 
 WereTold calls answers told = ⊥
 
 -- the call is told `Between` or `NoRoom`, and is to be called again
-abbrev pub MustWait : LiveView → Call → LiveView → Type 0
-MustWait v (call.Like user page) after = LikeCase v user page liked.Between after
-MustWait v (call.Look user page tag) after =
+abbrev pub IsPutOff : LiveView → Call → LiveView → Type 0
+IsPutOff v (call.Like user page) after = LikeCase v user page liked.Between after
+IsPutOff v (call.Look user page tag) after =
     LookCase v user page tag looked.Between after ⊎ LookCase v user page tag looked.NoRoom after
-MustWait v (call.Glance user page) after = GlanceCase v user page glanced.Between after
+IsPutOff v (call.Glance user page) after = GlanceCase v user page glanced.Between after
 
 -- the first calls of a batch are made, so many, and have these answers
 pub record HasRun (v : LiveView) (calls : List Call) (answers : List Answer) (done : ℕ) (after : LiveView) : Type 0 where
@@ -42,13 +42,13 @@ pub record HasRun (v : LiveView) (calls : List Call) (answers : List Answer) (do
 pub data RunCase (v : LiveView) (calls : List Call) (answers : List Answer) (done : ℕ) (after : LiveView) : Type 0 where
   all : done ≡ length calls → HasRun v calls answers done after → RunCase v calls answers done after
   stops : (now : LiveView) (next : Call) → slice_get calls done ≡ Some next
-      → HasRun v calls answers done now → MustWait now next after → RunCase v calls answers done after
+      → HasRun v calls answers done now → IsPutOff now next after → RunCase v calls answers done after
 
 -- one call of a batch is made, and has this answer
-abbrev pub IsAnswered : LiveView → Call → Answer → LiveView → Type 0
-IsAnswered v call answer after = (told : Told) × (WasTold call answer told × Does v told after)
+abbrev pub IsDone : LiveView → Call → Answer → LiveView → Type 0
+IsDone v call answer after = (told : Told) × (WasTold call answer told × Does v told after)
 
 -- one call of a batch has this answer, or must wait
 abbrev pub AnswersCall : LiveView → Call → Option Answer → LiveView → Type 0
 AnswersCall v call answer after =
-    MatchOption answer (MustWait v call after) (λ given. IsAnswered v call given after)
+    MatchOption answer (IsPutOff v call after) (λ given. IsDone v call given after)

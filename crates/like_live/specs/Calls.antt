@@ -9,8 +9,7 @@ use Rattle.like_requests.specs.declared.verdict.Verdict.{Verdict}
 use Rattle.like_requests.specs.declared.verdict.Verdict.TheVariants.{Accepted}
 use Rattle.like_requests.specs.Verdict.{verdict_of}
 use Rattle.like_seat.specs.declared.seen.Seen.{Seen}
-use Rattle.like_seat.specs.SeatView.{SeatView, phase_at}
-use Rattle.like_seat.specs.SeatView.{likes_of}
+use Rattle.like_seat.specs.SeatView.{SeatView, likes_of, phase_at}
 use Rattle.like_seat.specs.Steps.{CountsLike, Glances, Reads, holding}
 use Rattle.like_tables.specs.UserTable.{UserTable, with_last}
 use Rattle.like_live.specs.declared.answer.GlanceAnswer.{GlanceAnswer}
@@ -105,13 +104,13 @@ pub data GlanceCase (v : LiveView) (user page : ℕ) (answer : GlanceAnswer) (af
       → GlanceCase v user page answer after
 
 -- the seat after it retired
-abbrev pub left : LiveView → LiveView
-left v = record v { seat = record v.seat { post = retired v.seat.post } }
+abbrev pub retired_seat : LiveView → LiveView
+retired_seat v = record v { seat = record v.seat { post = retired v.seat.post } }
 
 -- what it does to a seat that runs a phase to retire: in a joined one, in which nothing waits, it is gone
 pub data RetiresNow (v : LiveView) (answer : TurnAnswer) (after : LiveView) : Type 0 where
   retires : RunsJoined v.seat.post.state → waiting v ≡ []
-      → answer ≡ turn.Gone → after ≡ left v → RetiresNow v answer after
+      → answer ≡ turn.Gone → after ≡ retired_seat v → RetiresNow v answer after
   runs : RunsSplit v.seat.post.state → answer ≡ turn.Runs → after ≡ v → RetiresNow v answer after
 
 -- retire case: the answer, and the seat after; the phase work comes first, and where the seat does not run a phase after

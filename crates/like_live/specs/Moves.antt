@@ -21,8 +21,8 @@ abbrev pub looked : LiveView → Sight → ℕ → LiveView
 looked v sight mask = with_seat v (saw v.seat sight mask)
 
 -- the seat after it acknowledged its phase
-abbrev pub stopped : LiveView → LiveView
-stopped v = with_seat v (record v.seat { post = answered v.seat.post })
+abbrev pub acknowledged : LiveView → LiveView
+acknowledged v = with_seat v (record v.seat { post = answered v.seat.post })
 
 -- the look is shown its user's last like, and a count of its page that has all that the seat added, in the phase that
 -- the seat runs
@@ -61,7 +61,7 @@ pub data Works (v : LiveView) (ending : Bool) (answer : TurnAnswer) (after : Liv
   runs_joined : RunsJoined v.seat.post.state → ending ≡ false
       → answer ≡ turn.Runs → FindsAll v after → Works v ending answer after
   acknowledges : (now : LiveView) → RunsJoined v.seat.post.state → ending ≡ true
-      → answer ≡ turn.Between → FindsAll v now → after ≡ stopped now → Works v ending answer after
+      → answer ≡ turn.Between → FindsAll v now → after ≡ acknowledged now → Works v ending answer after
   runs_split : RunsSplit v.seat.post.state → ending ≡ false
       → answer ≡ turn.Runs → after ≡ v → Works v ending answer after
   reports : (s : SeatView Asked) → RunsSplit v.seat.post.state → ending ≡ true

@@ -26,7 +26,7 @@ use std::marker::Model;
 use std::sync::Arc;
 
 /// What leads the phases of a service: it ends a phase once the host says so, and releases the next once every seat has
-/// answered.
+/// answered or is gone.
 ///
 /// It owns its board with the seats. No call of it waits or takes memory.
 #[derive(Drop)]

@@ -3,7 +3,7 @@
 pub enum DriverAnswer {
     /// It announced the end of the phase.
     Announced,
-    /// The phase is ending, and some seat has not answered.
+    /// The phase is ending, and some seat has neither answered it nor gone.
     Waiting,
     /// It released the next phase.
     Released,
