@@ -6,7 +6,7 @@
  *
  * Rules for the host
  *   - Every pointer is valid and not NULL, and a row has as many entries as is said. This holds for rows of no entries
- *     too.
+ *     too. What two pointers of one call point to doesn't overlap.
  *   - One call at a time on each driver and on each seat, from any thread. Two calls on the same object are ordered by
  *     a lock, by a thread's start or join, or by a sequentially consistent atomic.
  *   - A handle, likes_driver or likes_seat, begins as {0}, which is empty. Only these calls change it. After a copy,
@@ -16,7 +16,7 @@
  *     that isn't called holds up all others.
  *
  * What the library does
- *   - It tests every number. A wrong one gets a status of its own, and nothing is changed.
+ *   - It tests every number but hot, which may be any. A wrong one gets a status of its own, and nothing is changed.
  *   - No call waits, sleeps or takes a lock. Only likes_open takes memory, by malloc.
  */
 #ifndef LIKES_H
@@ -66,9 +66,9 @@ enum likes_status {
     LIKES_SEEN = 2,         /* the look was answered */
     LIKES_WAITS = 3,        /* the look will be found later, with its tag, by likes_take_found */
     LIKES_RUNS = 4,         /* the seat runs a phase */
-    LIKES_BETWEEN = 5,      /* nothing was done: the seat is between two phases. Try again, or do other work first. */
-    LIKES_NO_ROOM = 6,      /* nothing was done: the page is split, and no more looks may wait. Take found ones. */
-    LIKES_UNKNOWN_USER = 7, /* nothing was done, here and below */
+    LIKES_BETWEEN = 5,      /* not run: the seat is between two phases. Try again, or do other work first. */
+    LIKES_NO_ROOM = 6,      /* not run: the page is split, and no more looks may wait. Take found ones. */
+    LIKES_UNKNOWN_USER = 7, /* not run, here and below */
     LIKES_OTHER_SEAT = 8,   /* the user belongs to another seat */
     LIKES_UNKNOWN_PAGE = 9,
     LIKES_UNKNOWN_OP = 10,

@@ -4,7 +4,7 @@ use std::sync::atomic::{AtomicU64, Ordering};
 
 /// A wish that the phase ends soon, which a service's seats and its driver share. A seat whose ring is half full asks.
 ///
-/// It only makes the driver announce earlier, so no contract speaks of it.
+/// It only makes the driver end a split phase earlier.
 #[derive(Drop)]
 pub(crate) struct Hint {
     asked: Arc<AtomicU64, Global>,
