@@ -21,6 +21,7 @@ pub is_fresh : (board : List ℕ) (v : PostView) → IsFresh v → IsFresh (at_b
 is_fresh board v f = record {
   runs = f.runs;
   never_looked = f.never_looked;
+  no_looks = f.no_looks;
   added_nothing = f.added_nothing;
   read_nothing = f.read_nothing;
   glanced_nothing = f.glanced_nothing;

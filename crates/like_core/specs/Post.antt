@@ -13,8 +13,9 @@ use Rattle.like_core.specs.PhaseMasks.{mask_of, HasMask}
 use Rattle.like_core.specs.WorkerState.{IsRunning, SawEnding, phase_of, seen}
 
 -- what a post means: at which board it stands, as numbers that tell boards apart; whose it is; for each page of its board,
--- whether it is marked as split; the limits of its board; the worker's state and its last sight, if it looked; what it has
--- added to pages, what it read of pages that were not sliced, and of others at a glance, in order; and the masks of hot pages that it read, the latest first
+-- whether it is marked as split; the limits of its board; the worker's state, its last sight, if it looked, and how many
+-- looks it made; what it has added to pages, what it read of pages that were not sliced, and of others at a glance, in
+-- order; and the masks of hot pages that it read, the latest first
 pub record PostView : Type 0 where
   pub board : List ℕ
   pub worker : ℕ
@@ -22,6 +23,7 @@ pub record PostView : Type 0 where
   pub limits : Limits
   pub state : WorkerState
   pub last : Option Sight
+  pub looks : ℕ
   pub additions : List Addition
   pub reads : List PageRead
   pub glances : List PageRead
@@ -43,6 +45,7 @@ additions_in v phase page = added_in phase page v.additions
 pub record IsFresh (v : PostView) : Type 0 where
   pub runs : v.state ≡ Runs 0
   pub never_looked : v.last ≡ None
+  pub no_looks : v.looks ≡ 0
   pub added_nothing : v.additions ≡ []
   pub read_nothing : v.reads ≡ []
   pub glanced_nothing : v.glances ≡ []
@@ -59,9 +62,10 @@ KnowsSlices v page =
     IsSplit (phase_of v.state) → is_marked v.marks page ≡ false → page < hot_pages
     → HasMask (phase_of v.state) v.masks
 
--- the post after a look
+-- the post after a look, which is counted
 abbrev pub looked_at : PostView → Sight → PostView
-looked_at v sight = record v { state = seen v.state sight; last = Some sight }
+looked_at v sight =
+    record v { state = seen v.state sight; last = Some sight; looks = v.looks + 1 }
 
 -- the post after an acknowledgement or a report
 abbrev pub answered : PostView → PostView

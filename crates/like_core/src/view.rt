@@ -42,6 +42,8 @@ pub struct WorkerSeatView {
     pub state: WorkerState,
     /// Its last sight, if it looked.
     pub last: Option<Sight>,
+    /// How many looks it made.
+    pub looks: u64,
     pub additions: LinkedList<Addition>,
     pub reads: LinkedList<PageRead>,
     /// The counts of sliced pages that it read.
@@ -59,6 +61,8 @@ pub struct CoordSeatView {
     pub ending: bool,
     /// The sight of its last look, where it announced and released nothing since.
     pub last: Option<CoordSight>,
+    /// How many looks it made.
+    pub looks: u64,
     /// The phase word that it saw last.
     pub word: u64,
     /// Whether a sight of this phase showed all workers in.

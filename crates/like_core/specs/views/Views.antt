@@ -22,6 +22,7 @@ fresh z worker = record {
   worker = worker;
   state = Runs 0;
   last = None;
+  looks = 0;
   additions = [];
   reads = [];
   glances = [];
@@ -36,6 +37,7 @@ fresh_coord z word = record {
   phase = 0;
   ending = false;
   last = None;
+  looks = 0;
   word = word;
   all_in = false;
   gone = false;
@@ -45,9 +47,10 @@ fresh_coord z word = record {
   joined = [];
 }
 
--- a worker's view after a look
+-- a worker's view after a look, which is counted
 abbrev pub looked_view : WorkerSeatView → Sight → WorkerSeatView
-looked_view v sight = record v { state = seen v.state sight; last = Some sight }
+looked_view v sight =
+    record v { state = seen v.state sight; last = Some sight; looks = v.looks + 1 }
 
 -- a worker's view after an acknowledgement or a report
 abbrev pub answered_view : WorkerSeatView → WorkerSeatView
@@ -86,6 +89,7 @@ post_of v = record {
   limits = v.opening.limits;
   state = v.state;
   last = v.last;
+  looks = v.looks;
   additions = v.additions;
   reads = v.reads;
   glances = v.glances;
@@ -100,10 +104,15 @@ likes_merged v page n = (if slices (post_of v) page then replicate n (Like v.wor
 abbrev pub adding : WorkerSeatView → ℕ → Event
 adding v page = (if slices (post_of v) page then Merge v.worker page else Like v.worker page)
 
--- the coordinator's view after a look at a word
+-- the coordinator's view after a look at a word, which is counted
 abbrev pub looked_coord : CoordSeatView → ℕ → CoordSight → CoordSeatView
-looked_coord c word sight =
-    record c { last = Some sight; word = word; all_in = sight.all_in; published = None }
+looked_coord c word sight = record c {
+  last = Some sight;
+  looks = c.looks + 1;
+  word = word;
+  all_in = sight.all_in;
+  published = None;
+}
 
 -- the coordinator's view after an announcement
 abbrev pub announced_coord : CoordSeatView → CoordSeatView
