@@ -18,6 +18,7 @@ const STRIDE: usize = 16;
 const APART: u32 = 64;
 
 /// The place of a page's word.
+#[inline(always)]
 pub(crate) fn word_of(page: u32) -> usize
     ensures { result ≡ word_of page }
 {

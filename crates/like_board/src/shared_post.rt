@@ -39,6 +39,7 @@ impl Post for SharedPost {
 
     ghost view = { shared_meaning };
 
+    #[inline(always)]
     fn look(&mut self) -> Sight
         requires { (shared_meaning self.old).state ≢ Gone }
         ensures sight { let v = shared_meaning self.old in IsSightWithin v.limits v.state result }
@@ -88,6 +89,7 @@ impl Post for SharedPost {
         self.seat.retire(board);
     }
 
+    #[inline(always)]
     fn add(&mut self, page: u32, n: u64) -> u64
         requires { MayAdd (shared_meaning self.old) page n }
         ensures view { shared_meaning self.new ≡ added (shared_meaning self.old) page result n }
@@ -100,6 +102,7 @@ impl Post for SharedPost {
         self.seat.add(board, page, n)
     }
 
+    #[inline(always)]
     fn read(&mut self, page: u32) -> u64
         requires { MayRead (shared_meaning self.old) page }
         ensures view { shared_meaning self.new ≡ has_read (shared_meaning self.old) page result }
@@ -112,6 +115,7 @@ impl Post for SharedPost {
         self.seat.read(board, page)
     }
 
+    #[inline(always)]
     fn glance(&mut self, page: u32) -> u64
         requires { MayGlance (shared_meaning self.old) page }
         ensures view { shared_meaning self.new ≡ has_glanced (shared_meaning self.old) page result }

@@ -63,6 +63,7 @@ impl WorkerSeat {
         for_any_thread(SharedPost { board, seat: self })
     }
 
+    #[inline(always)]
     pub(crate) fn look(&mut self, board: &Board) -> Sight
         requires here { seat_board self.old ≡ board_id board.now }
         requires there { (seat_view self.old).state ≢ Gone }
@@ -77,7 +78,7 @@ impl WorkerSeat {
             .table
             .shared
             .load::<Looking>(&mut self.seat, PHASE_WORD);
-        PhaseWord::of_packed(word).sight(self.number)
+        PhaseWord::sight_in(word, self.number)
     }
 
     pub(crate) fn acknowledge(&mut self, board: &Board)
@@ -124,6 +125,7 @@ impl WorkerSeat {
             .fetch_or::<Retiring>(&mut self.seat, PHASE_WORD, bit);
     }
 
+    #[inline(always)]
     pub(crate) fn add(&mut self, board: &Board, page: u32, n: u64) -> u64
         requires here { seat_board self.old ≡ board_id board.now }
         requires may { MayAdd (seat_meaning self.old) page n }
@@ -139,6 +141,7 @@ impl WorkerSeat {
             .fetch_add::<Adding>(&mut self.seat, word, n)
     }
 
+    #[inline(always)]
     pub(crate) fn read(&mut self, board: &Board, page: u32) -> u64
         requires here { seat_board self.old ≡ board_id board.now }
         requires may { MayRead (seat_meaning self.old) page }
@@ -151,6 +154,7 @@ impl WorkerSeat {
         board.table.shared.load::<Reading>(&mut self.seat, word)
     }
 
+    #[inline(always)]
     pub(crate) fn glance(&mut self, board: &Board, page: u32) -> u64
         requires here { seat_board self.old ≡ board_id board.now }
         requires may { MayGlance (seat_meaning self.old) page }

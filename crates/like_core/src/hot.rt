@@ -5,6 +5,7 @@ ghost use Rattle.like_core.specs.Phase.{is_hot};
 pub const HOT_PAGES: u32 = 64;
 
 /// Whether a page is hot by a mask: it is one of the first 64, and its bit is set.
+#[inline(always)]
 pub fn is_hot(mask: u64, page: u32) -> bool
     ensures { result ≡ is_hot mask page }
 {

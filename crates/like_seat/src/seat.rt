@@ -72,6 +72,7 @@ impl<P: Post, W: Copy> Seat<P, W> {
     }
 
     /// The phase that it runs or has answered, and 0 once it is gone.
+    #[inline(always)]
     pub fn phase(&self) -> u64
         ensures phase { result ≡ phase_at self.now }
         ensures seat { IsSeat self.now }
@@ -80,6 +81,7 @@ impl<P: Post, W: Copy> Seat<P, W> {
     }
 
     /// Whether it is gone.
+    #[inline(always)]
     pub fn is_gone(&self) -> bool
         ensures { IsTrue result ↔ (self.now.post.state ≡ Gone) }
     {
@@ -87,6 +89,7 @@ impl<P: Post, W: Copy> Seat<P, W> {
     }
 
     /// How many likes it has counted: what it has added on the board, and its slice.
+    #[inline(always)]
     pub fn likes(&self) -> u64
         ensures likes { result ≡ likes_of self.now }
         ensures seat { IsSeat self.now }
@@ -95,6 +98,7 @@ impl<P: Post, W: Copy> Seat<P, W> {
     }
 
     /// Its users, with their last likes.
+    #[inline(always)]
     pub fn users(&self) -> &Users
         ensures { result.now ≡ self.now.last }
     {

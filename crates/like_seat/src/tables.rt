@@ -61,6 +61,8 @@ impl<W: Copy> Tables<W> {
 
 impl<W: Copy> Tables<W> {
     // Runs the phase that was released; of a split one its post reads the mask.
+    #[cold]
+    #[inline(never)]
     pub fn enter<P: Post>(&mut self, post: &mut P, phase: u64)
         requires { (P.view post.old).state ≡ Runs phase }
         ensures post { P.view post.new ≡ record (P.view post.old) {
@@ -75,6 +77,7 @@ impl<W: Copy> Tables<W> {
     }
 
     // The phase that the worker runs or has answered.
+    #[inline(always)]
     pub fn phase(&self) -> u64
         ensures { result ≡ phase_of self.now.state }
     {
@@ -85,6 +88,7 @@ impl<W: Copy> Tables<W> {
     }
 
     // Whether the page is split in that phase.
+    #[inline(always)]
     pub fn is_sliced(&self, page: u32) -> bool
         requires { page < length self.now.marks.items }
         ensures { result ≡ is_split_by self.now page }

@@ -28,6 +28,7 @@ impl LastLike {
         LastLike { number: NO_PAGE }
     }
 
+    #[inline(always)]
     pub fn of(page: u32) -> Self
         requires { page < no_page }
         ensures { result ≡ Some page }
@@ -35,6 +36,7 @@ impl LastLike {
         LastLike { number: page }
     }
 
+    #[inline(always)]
     pub fn page(&self) -> Option<u32>
         ensures { result ≡ self.now }
     {

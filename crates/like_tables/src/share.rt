@@ -75,6 +75,7 @@ impl UserShare {
     }
 
     // How many of the users below this one have their home with this worker.
+    #[inline(always)]
     pub fn owned_below(&self, user: u32) -> u32
         ensures { result ≡ owned_below self.now user }
     {

@@ -38,6 +38,7 @@ impl Slice {
     }
 
     /// Counts a like of the page.
+    #[inline(always)]
     pub fn add(&mut self, page: u32)
         requires there { page < length self.old }
         requires below { sum self.old + 1 < 2 ^ 63 }
@@ -52,6 +53,7 @@ impl Slice {
     }
 
     /// How many likes it has of the page.
+    #[inline(always)]
     pub fn likes(&self, page: u32) -> u64
         requires { page < length self.now }
         ensures { result ≡ slice_index self.now page }

@@ -44,6 +44,7 @@ impl<W: Copy> Stash<W> {
     }
 
     /// Gives and takes out the first, if it holds one.
+    #[inline(always)]
     pub fn pop_front(&mut self) -> Option<W>
         ensures first { result ≡ slice_get self.old.held 0 }
         ensures rest { self.new ≡ record self.old { held = drop 1 self.old.held } }
@@ -57,6 +58,14 @@ impl<W: Copy> Stash<W> {
         ensures within { IsWaiting self.now }
     {
         self.ring.is_full()
+    }
+
+    /// Whether it holds none.
+    #[inline(always)]
+    pub fn is_empty(&self) -> bool
+        ensures { IsTrue result ↔ (length self.now.held ≡ 0) }
+    {
+        self.ring.is_empty()
     }
 
     /// How many it holds.

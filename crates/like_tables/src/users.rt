@@ -63,6 +63,7 @@ impl Users {
     }
 
     /// Which worker it is.
+    #[inline(always)]
     pub fn worker(&self) -> u32
         ensures { result ≡ self.now.share.worker }
     {
@@ -79,6 +80,7 @@ impl Users {
     }
 
     /// Judges a request of `submitter`.
+    #[inline(always)]
     pub fn judge(&self, submitter: u32, request: &Request) -> Verdict
         ensures verdict { result
             ≡ verdict_of self.now.share.users self.now.share.submitters submitter request.now }
@@ -90,6 +92,7 @@ impl Users {
     }
 
     /// The page of the user's last like, if any.
+    #[inline(always)]
     pub fn last(&self, user: u32) -> Option<u32>
         requires { IsTrue (owns self.now.share user) }
         ensures { result ≡ last_of self.now user }
@@ -98,6 +101,7 @@ impl Users {
     }
 
     /// Notes that the user's last like is of this page.
+    #[inline(always)]
     pub fn set(&mut self, user: u32, page: u32)
         requires owned { IsTrue (owns self.old.share user) }
         requires page { page < no_page }

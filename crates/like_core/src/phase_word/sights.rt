@@ -4,7 +4,7 @@ ghost use Rattle.like_core.specs.word.Word.{Fields, packed, IsLawful};
 ghost use Rattle.like_core.specs.word.PhaseWord.{fields_of};
 ghost use Rattle.like_core.specs.views.Sights.{first_fields, sight_of, coord_sight_of};
 
-use super::{Kind, PhaseWord};
+use super::{ANSWERED_AT, Kind, NUMBER_AT, PhaseWord};
 use crate::sight::{CoordSight, Sight};
 
 /// What a look at the phase word shows.
@@ -35,15 +35,16 @@ impl PhaseWord {
         }
     }
 
-    /// What worker `worker` sees.
-    pub fn sight(self, worker: u32) -> Sight
+    /// What worker `worker` sees in the word that a number packs. It reads these three fields, and unpacks no other.
+    #[inline(always)]
+    pub fn sight_in(word: u64, worker: u32) -> Sight
         requires { worker < max_workers }
-        ensures { result ≡ sight_of (fields_of self) worker }
+        ensures { (f : Fields) → IsLawful f → packed f ≡ word → result ≡ sight_of f worker }
     {
         Sight {
-            number: self.number,
-            ending: self.kind.is_ending(),
-            waits: (self.answered >> worker) & 1 == 1,
+            number: (word >> NUMBER_AT) as u32,
+            ending: word & 1 == 1,
+            waits: (word >> (ANSWERED_AT + worker)) & 1 == 1,
         }
     }
 

@@ -11,6 +11,7 @@ use like_core::Post;
 
 impl<P: Post, W: Copy> Seat<P, W> {
     /// Whether a page is split in the phase that it runs.
+    #[inline(always)]
     pub fn is_sliced(&self, page: u32) -> bool
         requires running { IsRunning self.now.post.state }
         requires there { page < pages_of self.now.post }
@@ -21,6 +22,7 @@ impl<P: Post, W: Copy> Seat<P, W> {
 
     /// Counts a user's like of a page, and remembers it as the user's last. Of a sliced page it goes into the slice. Else
     /// it is added to the page's count, and the count before comes back.
+    #[inline(always)]
     pub fn count_like(&mut self, user: u32, page: u32) -> Option<u64>
         requires running { IsRunning self.old.post.state }
         requires there { page < pages_of self.old.post }
@@ -29,9 +31,10 @@ impl<P: Post, W: Copy> Seat<P, W> {
         ensures counts { CountsLike self.old user page result self.new }
         ensures seat { IsSeat self.new }
     {
+        let sliced = self.tables.is_sliced(page);
         self.tables.last.set(user, page);
         self.tables.likes += 1;
-        if self.tables.is_sliced(page) {
+        if sliced {
             self.tables.slice.add(page);
             return None;
         }
@@ -39,6 +42,7 @@ impl<P: Post, W: Copy> Seat<P, W> {
     }
 
     /// Reads a page's count for a user's look.
+    #[inline(always)]
     pub fn read_for(&mut self, user: u32, page: u32) -> Seen
         requires running { IsRunning self.old.post.state }
         requires there { page < pages_of self.old.post }
@@ -55,6 +59,7 @@ impl<P: Post, W: Copy> Seat<P, W> {
 
     /// Shows a user at once what the seat knows of a sliced page: the page's count with the seat's own slice of it. It
     /// lacks what the slices of others have.
+    #[inline(always)]
     pub fn glance(&mut self, user: u32, page: u32) -> Seen
         requires running { IsRunning self.old.post.state }
         requires there { page < pages_of self.old.post }

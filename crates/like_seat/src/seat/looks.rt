@@ -10,6 +10,7 @@ use like_core::{Post, Sight, WorkerState};
 
 impl<P: Post, W: Copy> Seat<P, W> {
     /// Looks at the phase word, and enters the next phase where it was released; of a split one it then reads the mask.
+    #[inline(always)]
     pub fn look(&mut self) -> Sight
         requires { self.old.post.state ≢ Gone }
         ensures sight { IsSightWithin self.old.post.limits self.old.post.state result }
@@ -28,6 +29,8 @@ impl<P: Post, W: Copy> Seat<P, W> {
     }
 
     /// Stops at the end of a joined phase, and waits for the release of the next.
+    #[cold]
+    #[inline(never)]
     pub fn acknowledge(&mut self)
         requires runs { RunsJoined self.old.post.state }
         requires ending { SawEnding self.old.post.last }

@@ -42,6 +42,8 @@ impl<P: Post, W: Copy> Seat<P, W> {
     }
 
     /// Merges its slice, stops at the end of the split phase, and waits for the release of the next.
+    #[cold]
+    #[inline(never)]
     pub fn merge_and_report(&mut self)
         requires split { RunsSplit self.old.post.state }
         requires ending { SawEnding self.old.post.last }

@@ -16,12 +16,21 @@ impl<P: Post, W: Copy> Seat<P, W> {
     }
 
     /// Gives and takes out the first that waits, if one does.
+    #[inline(always)]
     pub fn next_held(&mut self) -> Option<W>
         ensures first { result ≡ slice_get self.old.held.held 0 }
         ensures rest { self.new ≡ without_first self.old }
         ensures seat { IsSeat self.new }
     {
         self.tables.held.pop_front()
+    }
+
+    /// Whether none waits.
+    #[inline(always)]
+    pub fn holds_none(&self) -> bool
+        ensures { IsTrue result ↔ (length self.now.held.held ≡ 0) }
+    {
+        self.tables.held.is_empty()
     }
 
     /// Whether as many wait as there is room for.
