@@ -2,6 +2,7 @@ pub mod Batches
 pub mod Calling
 pub mod Closing
 pub mod Finding
+pub mod Gone
 pub mod Histories
 pub mod Moving
 pub mod Newly

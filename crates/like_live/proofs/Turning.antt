@@ -146,7 +146,7 @@ stays-on u v w a b = record { same = same-on u v w a.same b.same; gone = λ befo
 
 pub last-stays : (v w : LeadView) (old counts : List ℕ) (is_done : Bool) → TakesLast v old is_done w counts → Stays v w
 last-stays v w old counts is_done (some_left looks _ _) = gone-stays v w false looks
-last-stays v w old counts is_done (not_at_end now looks takes _) = stays-on v now w (gone-stays v now true looks) (snapshot-stays now w old counts None takes)
+last-stays v w old counts is_done (not_at_end now looks takes _ _) = stays-on v now w (gone-stays v now true looks) (snapshot-stays now w old counts None takes)
 last-stays v w old counts is_done (counted now phase looks takes _) = stays-on v now w (gone-stays v now true looks) (snapshot-stays now w old counts (Some phase) takes)
 
 -- a driver that stays so is kept

@@ -103,10 +103,11 @@ pub record LooksForGone (v : LeadView) (is_gone : Bool) (after : LeadView) : Typ
   pub case : EndsGone seen sight is_gone after
 
 -- the last counts, with no seats given back: where it saw all seats gone they are those of a snapshot, and nobody adds to
--- them any more; in the last phase, whose end is never announced, there is none
+-- them any more; in the last phase of a service, whose end is never announced, there is none
 pub data TakesLast (v : LeadView) (old : List ℕ) (is_done : Bool) (after : LeadView) (counts : List ℕ) : Type 0 where
   some_left : LooksForGone v false after → is_done ≡ false → counts ≡ old → TakesLast v old is_done after counts
   not_at_end : (now : LeadView) → LooksForGone v true now → TakesSnapshot now old None after counts
+      → now.seat.phase ≡ service_limits.last_phase
       → is_done ≡ false → TakesLast v old is_done after counts
   counted : (now : LeadView) (phase : ℕ) → LooksForGone v true now → TakesSnapshot now old (Some phase) after counts
       → is_done ≡ true → TakesLast v old is_done after counts

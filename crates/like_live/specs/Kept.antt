@@ -1,14 +1,14 @@
 -- How a live seat is kept, between two calls and within one.
 use Rattle.std.specs.Prelude.{◌≡◌, ℕ, ◌+◌, ◌≤◌, length, All}
 use Rattle.like_core.specs.OpeningLimits.{service_limits}
-use Rattle.like_core.specs.Phase.{IsSplit}
+use Rattle.like_core.specs.Phase.{IsJoined, IsSplit}
 use Rattle.like_core.specs.Post.{pages_of}
 use Rattle.like_core.specs.WorkerState.{IsRunning}
 use Rattle.like_seat.specs.SeatView.{IsSeat, SeatView, phase_at}
 use Rattle.like_tables.specs.Waiting.{Waiting}
 use Rattle.like_live.specs.declared.asked.Asked.{Asked}
 use Rattle.like_live.specs.declared.asked.Found.{Found}
-use Rattle.like_live.specs.LiveView.{IsLive, IsOwn, live_of}
+use Rattle.like_live.specs.LiveView.{IsLive, IsOwn, RanNext, live_of}
 
 -- a live seat's parts: a worker's seat and a stash of found looks, the number of its pages, and how many more looks may
 -- wait
@@ -18,8 +18,8 @@ pub record IsKept (s : SeatView Asked) (found : Waiting Found) (pages room : ℕ
   pub pages_are : pages ≡ pages_of s.post
   pub room_is : room + length s.held.held + length found.held ≡ s.held.capacity
 
--- a live seat's parts after a look at the phase word that showed a phase that it runs: in a joined one, looks may wait
--- that were asked in the split phase before
+-- a live seat's parts after a look at the phase word that showed a phase that it runs: what waits was asked in that
+-- phase, where it is split, and else in the one before
 pub record HasLooked (s : SeatView Asked) (found : Waiting Found) : Type 0 where
   pub seat : IsSeat s
   pub runs : IsRunning s.post.state
@@ -27,5 +27,7 @@ pub record HasLooked (s : SeatView Asked) (found : Waiting Found) : Type 0 where
   pub home : s.last.share.submitters ≡ s.last.share.workers
   pub own : All (IsOwn s) s.held.held
   pub asked : IsSplit (phase_at s) → All (λ a. a.phase ≡ phase_at s) s.held.held
+  pub before : IsJoined (phase_at s) → All (λ a. phase_at s ≡ a.phase + 1) s.held.held
+  pub next : All RanNext found.held
   pub capacity : found.capacity ≡ s.held.capacity
   pub room : length s.held.held + length found.held ≤ s.held.capacity

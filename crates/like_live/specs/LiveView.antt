@@ -51,9 +51,13 @@ pub record IsOwn (s : SeatView Asked) (a : Asked) : Type 0 where
   pub there : a.page < pages_of s.post
   pub owned : IsTrue (owns s.last.share a.user)
 
+-- a found look ran in the phase after the one in which it was asked
+abbrev pub RanNext : Found → Type 0
+RanNext f = f.phase ≡ f.asked.phase + 1
+
 -- what is true of every live seat: its board is a service's; it serves the users whose number modulo the number of seats
--- is its own; nothing waits unless it runs or has answered a split phase, and what waits was asked in that phase; and
--- no more looks wait or were found than there is room for
+-- is its own; nothing waits unless it runs or has answered a split phase, and what waits was asked in that phase; what
+-- was found ran in the next phase; and no more looks wait or were found than there is room for
 pub record IsLive (v : LiveView) : Type 0 where
   pub seat : IsSeat v.seat
   pub limits : v.seat.post.limits ≡ service_limits
@@ -61,6 +65,7 @@ pub record IsLive (v : LiveView) : Type 0 where
   pub split : IsJoined (phase_at v.seat) → waiting v ≡ []
   pub own : All (IsOwn v.seat) (waiting v)
   pub asked : All (λ a. a.phase ≡ phase_at v.seat) (waiting v)
+  pub next : All RanNext v.found
   pub room : length (waiting v) + length v.found ≤ room_of v
 
 -- a live seat that has done nothing yet

@@ -7,35 +7,57 @@ use Rattle.like_core.specs.core.State.{opening_with}
 use Rattle.like_core.specs.declared.opening.Opening.{Opening as CoreOpening}
 use Rattle.like_records.specs.First.{FailsFirst}
 use Rattle.like_requests.specs.Limits.{max_stash}
+use Rattle.like_requests.specs.Setup.{IsHotLimit}
 use Rattle.like_live.specs.declared.open_error.OpenError.{OpenError}
-use Rattle.like_live.specs.declared.open_error.OpenError.TheVariants.{Pages, Marks, Counts, Seats, Users, Room, Memory}
+use Rattle.like_live.specs.declared.open_error.OpenError.TheVariants.{Pages, Marks, Counts, Seats, Users, Room, Hot, Memory}
 use Rattle.like_live.specs.declared.opening.Opening.{Opening}
 
+-- what is asked for
+pub record Asking : Type 0 where
+  pub counts : List ℕ
+  pub marks : List Bool
+  pub seats : ℕ
+  pub users : ℕ
+  pub room : ℕ
+  pub hot : Option ℕ
+
+-- what an opening asks for
+abbrev pub asking : Opening → Asking
+asking o = record {
+  counts = o.counts.items;
+  marks = o.marks.items;
+  seats = o.seats;
+  users = o.users;
+  room = o.room;
+  hot = o.hot;
+}
+
 -- what the limit asks that is named by the error of breaking it
-abbrev pub Holds : Opening → OpenError → Type 0
-Holds o Pages = (1 ≤ length o.counts.items) × (length o.counts.items ≤ max_pages)
-Holds o Marks = length o.marks.items ≡ length o.counts.items
-Holds o Counts = All (λ count. count ≤ max_count) o.counts.items
-Holds o Seats = (1 ≤ o.seats) × (o.seats ≤ max_workers)
-Holds o Users = 1 ≤ o.users
-Holds o Room = (1 ≤ o.room) × (o.room ≤ max_stash)
-Holds o Memory = ⊤
+abbrev pub Holds : Asking → OpenError → Type 0
+Holds a Pages = (1 ≤ length a.counts) × (length a.counts ≤ max_pages)
+Holds a Marks = length a.marks ≡ length a.counts
+Holds a Counts = All (λ count. count ≤ max_count) a.counts
+Holds a Seats = (1 ≤ a.seats) × (a.seats ≤ max_workers)
+Holds a Users = 1 ≤ a.users
+Holds a Room = (1 ≤ a.room) × (a.room ≤ max_stash)
+Holds a Hot = IsHotLimit a.hot
+Holds a Memory = ⊤
 
 -- the limits, in the order of their tests
 abbrev pub limits : List OpenError
-limits = Pages ∷ Marks ∷ Counts ∷ Seats ∷ Users ∷ Room ∷ []
+limits = Pages ∷ Marks ∷ Counts ∷ Seats ∷ Users ∷ Room ∷ Hot ∷ []
 
 -- every limit holds
 abbrev pub IsWithinLimits : Opening → Type 0
-IsWithinLimits o = AllByRecursion (Holds o) limits
+IsWithinLimits o = AllByRecursion (Holds (asking o)) limits
 
 -- the first limit that is broken
-abbrev pub IsFirstWrong : Opening → OpenError → Type 0
-IsFirstWrong o error = FailsFirst (Holds o) limits error
+abbrev pub IsFirstWrong : Asking → OpenError → Type 0
+IsFirstWrong a error = FailsFirst (Holds a) limits error
 
 -- why no service was opened: a number is wrong, and this is the first one; or there is no memory
 abbrev pub IsRefused : Opening → OpenError → Type 0
-IsRefused o error = IsFirstWrong o error ⊎ ((error ≡ Memory) × IsWithinLimits o)
+IsRefused o error = IsFirstWrong (asking o) error ⊎ ((error ≡ Memory) × IsWithinLimits o)
 
 -- whether something would be split in a split phase: a page is marked, or pages can be hot
 abbrev pub splits_by : List Bool → Option ℕ → Bool

@@ -1,4 +1,4 @@
-ghost use Rattle.std.specs.Prelude.{◌≡◌, ◌≤◌, ◌↔◌, ℕ, IfOk, IsTrue};
+ghost use Rattle.std.specs.Prelude.{◌≡◌, ◌≤◌, ◌↔◌, ℕ, IfOk, IfSome, IsTrue};
 ghost use Rattle.like_core.specs.declared.worker_state.WorkerState.TheVariants.{Gone};
 ghost use Rattle.like_core.specs.Limits.{max_pages};
 ghost use Rattle.like_core.specs.OpeningLimits.{service_limits};
@@ -6,7 +6,7 @@ ghost use Rattle.like_core.specs.Post.{IsFresh, additions_of, pages_of};
 ghost use Rattle.like_core.specs.WorkerState.{IsRunning};
 ghost use Rattle.like_requests.specs.Limits.{max_stash};
 ghost use Rattle.like_seat.specs.SeatView.{phase_at};
-ghost use Rattle.like_live.specs.LiveView.{IsLive, IsNewLive, IsSameSeat, KeepsTallies, tally};
+ghost use Rattle.like_live.specs.LiveView.{IsLive, IsNewLive, IsSameSeat, KeepsTallies, RanNext, tally};
 ghost use Rattle.like_live.specs.Moves.{Moves};
 ghost use Rattle.like_live.specs.Calls.{GlanceCase, LikeCase, LookCase, RetireCase, TakesFound, TalliesLike, last_after};
 
@@ -166,6 +166,7 @@ impl<P: Post> LiveSeat<P> {
     /// Gives and takes out the first of the found looks, if there is one. It makes no look at the phase word.
     pub fn take_found(&mut self) -> Option<Found>
         ensures takes { TakesFound self.old result self.new }
+        ensures next { IfSome result RanNext }
         ensures keeps { IsLive self.new }
         ensures same { IsSameSeat self.old self.new }
     {

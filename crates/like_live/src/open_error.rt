@@ -15,6 +15,8 @@ pub enum OpenError {
     Users,
     #[error("room for 1 to 4,096 looks")]
     Room,
+    #[error("1 to 1,000,000 likes that make a page hot")]
+    Hot,
     #[error("out of memory")]
     Memory,
 }

@@ -1,9 +1,10 @@
-ghost use Rattle.std.specs.Prelude.{◌≡◌, ◌%◌, ◌≤◌, MatchResult};
+ghost use Rattle.std.specs.Prelude.{◌≡◌, ◌%◌, ◌≤◌, ◌↔◌, IsTrue, MatchResult};
 ghost use Rattle.std.specs.List.{list_any};
-ghost use Rattle.like_live.specs.Opening.{IsFirstWrong, IsWithinLimits, splits_by};
+ghost use Rattle.like_requests.specs.Setup.{IsHotLimit};
+ghost use Rattle.like_live.specs.Opening.{IsFirstWrong, IsWithinLimits, asking, splits_by};
 
 use crate::open_error::OpenError;
-use like_requests::{MAX_COUNT, MAX_PAGES, MAX_STASH, MAX_WORKERS};
+use like_requests::{MAX_COUNT, MAX_HOT, MAX_PAGES, MAX_STASH, MAX_WORKERS};
 
 /// What a service is opened with.
 #[derive(Debug, Drop)]
@@ -18,14 +19,14 @@ pub struct Opening {
     pub users: u32,
     /// How many looks a seat has room for, those that wait and those that were found together: 1 to 4,096.
     pub room: u32,
-    /// How many likes since the last choice make one of the first 64 pages hot, if any do.
+    /// How many likes since the last choice make one of the first 64 pages hot, if any do: 1 to 1,000,000.
     pub hot: Option<u32>,
 }
 
 impl Opening {
-    /// Tests every number but `hot`, which may be any, in the order of `OpenError`, whose `Memory` it never answers.
+    /// Tests every number, in the order of `OpenError`, whose `Memory` it never answers.
     pub fn check(&self) -> Result<(), OpenError>
-        ensures { MatchResult result (λ _. IsWithinLimits self.now) (IsFirstWrong self.now) }
+        ensures { MatchResult result (λ _. IsWithinLimits self.now) (IsFirstWrong (asking self.now)) }
     {
         let pages = self.counts.len();
         if pages < 1 || pages > MAX_PAGES as usize {
@@ -46,6 +47,9 @@ impl Opening {
         if self.room < 1 || self.room > MAX_STASH {
             return Err(OpenError::Room);
         }
+        if !is_hot_limit(self.hot) {
+            return Err(OpenError::Hot);
+        }
         Ok(())
     }
 
@@ -62,6 +66,16 @@ impl Opening {
         ensures { result ≡ splits_by self.now.marks.items self.now.hot }
     {
         any_marked(&self.marks) || self.hot.is_some()
+    }
+}
+
+// Whether so many likes may be asked of a hot page.
+fn is_hot_limit(hot: Option<u32>) -> bool
+    ensures { IsTrue result ↔ IsHotLimit hot }
+{
+    match hot {
+        Some(least) => 1 <= least && least <= MAX_HOT,
+        None => true,
     }
 }
 

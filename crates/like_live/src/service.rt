@@ -33,7 +33,7 @@ pub fn calls_keep_seats()
 {}
 
 impl Service {
-    /// A service in phase 0, a joined one. Each number of the opening but `hot` is tested, and nothing takes memory after this.
+    /// A service in phase 0, a joined one. Each number of the opening is tested, and nothing takes memory after this.
     pub fn open(alloc: Global, opening: &Opening) -> Result<Service, OpenError>
         ensures opened { IfOk result (IsOpened opening.now) }
         ensures whole { IfOk result (λ s. AreItsSeats s.driver s.seats.items) }

@@ -1,4 +1,4 @@
-ghost use Rattle.std.specs.Prelude.{◌≡◌, length};
+ghost use Rattle.std.specs.Prelude.{◌≡◌, false, length};
 ghost use Rattle.like_board.specs.Seats.{board_id};
 ghost use Rattle.like_core.specs.OpeningLimits.{service_limits};
 ghost use Rattle.like_live.specs.Driver.{LooksForGone, TakesLast};
@@ -12,6 +12,7 @@ use like_seat::Lead;
 pub(crate) fn read_last(lead: &mut Lead, board: &Board, counts: &mut [u64]) -> bool
     requires here { lead.old.board ≡ board_id board.now }
     requires limits { lead.old.seat.opening.limits ≡ service_limits }
+    requires before_end { lead.old.seat.gone ≡ false }
     requires places { length counts.old ≡ length lead.old.seat.opening.counts }
     ensures { TakesLast lead.old counts.old result lead.new counts.new }
 {

@@ -1,7 +1,7 @@
-ghost use Rattle.std.specs.Prelude.{◌≡◌, true};
+ghost use Rattle.std.specs.Prelude.{◌≡◌, All, true};
 ghost use Rattle.like_core.specs.WorkerState.{IsRunning, RunsJoined, SawEnding};
 ghost use Rattle.like_seat.specs.SeatView.{IsSeat};
-ghost use Rattle.like_live.specs.LiveView.{IsLive, live_of};
+ghost use Rattle.like_live.specs.LiveView.{IsLive, RanNext, live_of};
 ghost use Rattle.like_live.specs.Kept.{HasLooked};
 ghost use Rattle.like_live.specs.Moves.{FindsAll, Moves, Works};
 
@@ -75,6 +75,7 @@ fn find_all<P: Post>(seat: &mut Seat<P, Asked>, found: &mut Stash<Found>)
     requires looked { HasLooked seat.old found.old }
     requires joined { RunsJoined seat.old.post.state }
     ensures finds { FindsAll (live_of seat.old found.old) (live_of seat.new found.new) }
+    ensures next { All RanNext found.new.held }
     ensures seat { IsSeat seat.new }
     ensures capacity { found.new.capacity ≡ found.old.capacity }
 {

@@ -2,7 +2,7 @@ use Rattle.std.proofs.Common.{ap, sym, ◌∙◌}
 use Rattle.like_tables.specs.Waiting.{Waiting}
 use Rattle.like_live.specs.declared.asked.Found.{Found}
 use Rattle.like_live.specs.LiveView.{live_of}
-use Rattle.like_live.proofs.Finding.{Finding-first, Finding-next}
+use Rattle.like_live.proofs.Finding.{Finding-first, Finding-next, Finding-ran, joined_phase}
 use Rattle.like_live.proofs.live_seat.moves.find_all.Goals as goal
 
 pub read_for-seen-requires-clause-there : goal.read_for-seen-requires-clause-there
@@ -26,3 +26,10 @@ loop-asked-preserved g c =
       seat = c.read_for-seen.ensures.seat;
       capacity = ap (λ (w : Waiting Found). w.capacity) c.push.ensures ∙ c.loop-asked.invariant.capacity;
     }
+
+pub returns-clause-next : goal.returns-clause-next
+returns-clause-next g c =
+    let v = live_of c.args.seat.now c.args.found.now in
+    let now = live_of c.loop-asked.seat c.loop-asked.found in
+    let looked = c.requires.looked in
+    Finding-ran v now c.loop-asked.invariant.finding (looked.before (joined_phase c.args.seat.now.post.state c.requires.joined)) looked.next
