@@ -50,9 +50,9 @@ impl<R: Read> Records<R> {
     /// The records of what `reader` gives, before the first.
     pub fn new(alloc: Global, reader: R) -> Self
         ensures { result ≡ record {
-            left = option_map records_of (R.remaining reader);
-            fields = [];
-            stopped = None;
+          left = option_map records_of (R.remaining reader);
+          fields = [];
+          stopped = None;
         } }
     {
         let reader = ReaderBuilder::new()
