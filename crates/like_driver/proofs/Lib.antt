@@ -1,1 +1,2 @@
+pub mod NamedFiles
 pub mod Serving

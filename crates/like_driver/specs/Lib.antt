@@ -1,2 +1,3 @@
 pub mod Fault
+pub mod Named
 pub mod Program

@@ -3,8 +3,7 @@ ghost use Rattle.std.specs.Io.KnownBytes.{Appends};
 ghost use Rattle.like_files.specs.Faults.{IsBeforeOutput};
 ghost use Rattle.like_driver.specs.Fault.{program_status};
 ghost use Rattle.like_driver.specs.Program.{Ends, HasServed, IsServeFault};
-ghost use Rattle.like_files.specs.Replay.{HasReplayedSome};
-ghost use Rattle.like_files.specs.Run.{HasRunSome};
+ghost use Rattle.like_driver.specs.Named.{HasReplayedNamed, HasRunNamed, IsReplayNamedFault, IsRunNamedFault};
 ghost use Rattle.like_driver.specs.declared.program.fault.ProgramFault.TheVariants as program;
 
 pub mod fault;
@@ -14,7 +13,7 @@ use crate::example::replay_example;
 use crate::program::fault::{ProgramFault, with_options};
 use crate::program::stopwatch::Stopwatch;
 use like_files::{
-    DriverFault, Opened, Progress, open_files, replay_files_summed, run_files_summed,
+    Disk, DriverFault, Opened, Opener, Progress, open_files, replay_files_summed, run_files_summed,
 };
 use like_replies::Summary;
 use like_words::{Asked, Options, parse};
@@ -91,11 +90,11 @@ where
     }
     match parse(alloc, words)? {
         Asked::Run(options) => {
-            let done = run_named(rt, alloc, &options, out, progress);
+            let done = run_named(rt, &Disk { files: rt }, alloc, &options, out, progress);
             with_options(done, options)
         }
         Asked::Replay(options) => {
-            let done = replay_named(rt, alloc, &options, out, progress);
+            let done = replay_named(&Disk { files: rt }, alloc, &options, out, progress);
             with_options(done, options)
         }
         Asked::Help(text) => {
@@ -118,44 +117,51 @@ fn show<W: Write>(text: &str, out: &mut W) -> Result<(), ProgramFault>
 
 /// Opens the files that the options name, and makes the run that they ask for, on threads, onto `out`. Gives the report's
 /// summary where the options ask for one. After `Write` and `Memory` nothing is said of how much was written.
-pub fn run_named<R: Files + Threads + Wait + Sync, W: Write, P: Progress>(
-    rt: &R,
+pub fn run_named<T: Threads + Wait + Sync, O: Opener, W: Write, P: Progress>(
+    rt: &T,
+    opener: &O,
     alloc: Global,
     options: &Options,
     out: &mut W,
     progress: &mut P,
 ) -> Result<Option<Summary>, DriverFault>
 where
-    R::File: Read + Drop + Send,
-    ensures run { IfOk result (HasRunSome options.now (W.contents out.old) (W.contents out.new)) }
+    O::Reader: Read + Drop + Send,
+    ensures run { IfOk result (HasRunNamed (O.opens opener.now) O.Reader.remaining options.now
+        (W.contents out.old) (W.contents out.new)) }
+    ensures fault { IfErr result (IsRunNamedFault (O.opens opener.now) O.Reader.remaining
+        (O.refuses opener.now) options.now) }
     ensures untouched { IfErr result (λ fault. IsBeforeOutput fault → out.new ≡ out.old) }
 {
     let Opened {
         pages,
         requests,
         ..
-    } = open_files(rt, alloc, options)?;
+    } = open_files(opener, alloc, options)?;
     run_files_summed(rt, alloc, options, pages, requests, out, progress)
 }
 
 /// Opens the files that the options name, and replays them onto `out`. Gives the report's summary where the options ask
 /// for one. After `Write` and `Memory` nothing is said of how much was written.
-pub fn replay_named<F: Files, W: Write, P: Progress>(
-    files: &F,
+pub fn replay_named<O: Opener, W: Write, P: Progress>(
+    opener: &O,
     alloc: Global,
     options: &Options,
     out: &mut W,
     progress: &mut P,
 ) -> Result<Option<Summary>, DriverFault>
 where
-    F::File: Read + Drop,
-    ensures replayed { IfOk result (HasReplayedSome options.now (W.contents out.old) (W.contents out.new)) }
+    O::Reader: Read + Drop,
+    ensures replayed { IfOk result (HasReplayedNamed (O.opens opener.now) O.Reader.remaining options.now
+        (W.contents out.old) (W.contents out.new)) }
+    ensures fault { IfErr result (IsReplayNamedFault (O.opens opener.now) O.Reader.remaining
+        (O.refuses opener.now) options.now) }
     ensures untouched { IfErr result (λ fault. IsBeforeOutput fault → out.new ≡ out.old) }
 {
     let Opened {
         pages,
         requests,
         script,
-    } = open_files(files, alloc, options)?;
+    } = open_files(opener, alloc, options)?;
     replay_files_summed(alloc, options, pages, requests, script, out, progress)
 }

@@ -1,4 +1,6 @@
 pub mod Ended
 pub mod Examples
+pub mod FailedReads
+pub mod Named
 pub mod Planned
 pub mod Writable

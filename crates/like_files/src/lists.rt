@@ -1,5 +1,6 @@
-ghost use Rattle.std.specs.Prelude.{MatchResult, map};
+ghost use Rattle.std.specs.Prelude.{IfErr, MatchResult, None, map};
 ghost use Rattle.like_crew.specs.Asked.{lists_of};
+ghost use Rattle.like_files.specs.FailedReads.{TellsRead};
 ghost use Rattle.like_files.specs.Inputs.{GivesLists, RefusesLists};
 
 use crate::fault::DriverFault;
@@ -15,9 +16,10 @@ pub fn read_lists<R: Read + Drop>(
     pages: R,
     requests: Vec<R>,
 ) -> Result<(Pages, Vec<Vec<Request>>), DriverFault>
-    ensures { let files = map R.remaining requests.items in
+    ensures lists { let files = map R.remaining requests.items in
         MatchResult result (λ lists. GivesLists (R.remaining pages) files lists.0 (lists_of lists.1.items))
         (RefusesLists (R.remaining pages) files) }
+    ensures read { IfErr result (TellsRead pages requests.items None) }
 {
     let pages = read_pages(alloc, pages)?;
     let plans = read_plans(alloc, &pages, requests)?;
@@ -31,9 +33,10 @@ pub fn read_lists_at_once<T: Threads + Sync, R: Read + Drop + Send>(
     pages: R,
     requests: Vec<R>,
 ) -> Result<(Pages, Vec<Vec<Request>>), DriverFault>
-    ensures { let files = map R.remaining requests.items in
+    ensures lists { let files = map R.remaining requests.items in
         MatchResult result (λ lists. GivesLists (R.remaining pages) files lists.0 (lists_of lists.1.items))
         (RefusesLists (R.remaining pages) files) }
+    ensures read { IfErr result (TellsRead pages requests.items None) }
 {
     let pages = read_pages(alloc, pages)?;
     let plans = read_plans_at_once(rt, alloc, &pages, requests)?;

@@ -1,12 +1,12 @@
-ghost use Rattle.std.specs.Prelude.{◌≡◌, IfOk, is_some, length};
+ghost use Rattle.std.specs.Prelude.{MatchResult, string_bytes};
+ghost use Rattle.like_files.specs.Opened.{AreNamed, AreOpened, IsUnopened, IsUnopenedRequest};
 
 use crate::fault::DriverFault;
+use crate::opener::Opener;
 use like_requests::{PagesFault, RequestsFault};
 use like_run::ScriptFault;
 use like_words::Options;
 use std::alloc::Global;
-use std::fs;
-use std::fs::Files;
 
 /// The files of a run or a replay, opened and not yet read.
 #[derive(Drop)]
@@ -18,25 +18,23 @@ pub struct Opened<R> {
 
 /// Opens the pages file, the request files in their order and the script file. The first that can't be opened ends it,
 /// with the fault of a read of it that failed.
-pub fn open_files<F: Files>(
-    files: &F,
+pub fn open_files<O: Opener>(
+    opener: &O,
     alloc: Global,
     options: &Options,
-) -> Result<Opened<F::File>, DriverFault>
-where
-    F::File: Drop,
-    ensures requests { IfOk result (λ opened. length opened.requests.items ≡ length options.now.requests.items) }
-    ensures script { IfOk result (λ opened. is_some opened.script ≡ is_some options.now.script) }
+) -> Result<Opened<O::Reader>, DriverFault>
+    ensures { MatchResult result (AreNamed (O.opens opener.now) options.now)
+        (IsUnopened (O.opens opener.now) (O.refuses opener.now) options.now) }
 {
-    let Ok(pages) = fs::open(files, options.pages.as_str()) else {
+    let Some(pages) = opener.open(options.pages.as_str()) else {
         return Err(DriverFault::Pages(PagesFault::Read));
     };
-    let requests = open_requests(files, alloc, &options.requests)?;
+    let requests = open_requests(opener, alloc, &options.requests)?;
     let script = match &options.script {
         None => None,
-        Some(name) => match fs::open(files, name.as_str()) {
-            Ok(file) => Some(file),
-            Err(_) => return Err(DriverFault::Script(ScriptFault::Read)),
+        Some(name) => match opener.open(name.as_str()) {
+            Some(file) => Some(file),
+            None => return Err(DriverFault::Script(ScriptFault::Read)),
         },
     };
     Ok(Opened {
@@ -47,18 +45,17 @@ where
 }
 
 // Opens the request files in their order. Where memory for one more is refused, that is its `Memory`.
-fn open_requests<F: Files>(
-    files: &F,
+fn open_requests<O: Opener>(
+    opener: &O,
     alloc: Global,
     names: &[String],
-) -> Result<Vec<F::File>, DriverFault>
-where
-    F::File: Drop,
-    ensures { IfOk result (λ opened. length opened.items ≡ length names.now) }
+) -> Result<Vec<O::Reader>, DriverFault>
+    ensures { MatchResult result (λ readers. AreOpened (O.opens opener.now) names.now readers.items)
+        (IsUnopenedRequest (O.opens opener.now) (O.refuses opener.now) names.now) }
 {
     let mut opened = Vec::new(alloc);
     for (place, name) in names.iter().enumerate() {
-        let Ok(file) = fs::open(files, name.as_str()) else {
+        let Some(file) = opener.open(name.as_str()) else {
             return Err(DriverFault::of_requests(place, RequestsFault::Read));
         };
         if opened.push(file).is_err() {

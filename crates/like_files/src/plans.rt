@@ -1,4 +1,6 @@
 ghost use Rattle.std.specs.Prelude.{◌≡◌, ◌-◌, ◌<◌, ◌^◌, IfErr, MatchResult, Ok, OnOk, length, map, min};
+ghost use Rattle.like_records.specs.Reading.{ReadFailed};
+ghost use Rattle.like_files.specs.FailedReads.{TellsPlanRead};
 ghost use Rattle.like_files.specs.Inputs.{GivesPlan, ReadsPlans, RefusesPlan};
 ghost use Rattle.like_files.specs.Plans.{AddsPlan, IsFirstStop, Stops};
 
@@ -16,7 +18,8 @@ pub fn read_plans<R: Read + Drop>(
     pages: &Pages,
     requests: Vec<R>,
 ) -> Result<Vec<Vec<Request>>, DriverFault>
-    ensures { ReadsPlans pages.now (map R.remaining requests.items) result }
+    ensures plans { ReadsPlans pages.now (map R.remaining requests.items) result }
+    ensures read { IfErr result (TellsPlanRead requests.items) }
 {
     let mut plans = Vec::new(alloc);
     for reader in requests {
@@ -34,14 +37,16 @@ pub fn read_plans_at_once<T: Threads + Sync, R: Read + Drop + Send>(
     pages: &Pages,
     requests: Vec<R>,
 ) -> Result<Vec<Vec<Request>>, DriverFault>
-    ensures { ReadsPlans pages.now (map R.remaining requests.items) result }
+    ensures plans { ReadsPlans pages.now (map R.remaining requests.items) result }
+    ensures read { IfErr result (TellsPlanRead requests.items) }
 {
     if requests.len() < 2 || requests.len() > MAX_SUBMITTERS {
         return read_plans(alloc, pages, requests);
     }
     let read = |reader: R| -> Result<Vec<Request>, RequestsFault>
-        ensures { MatchResult result (λ plan. GivesPlan pages.entry.now (R.remaining reader) plan.items)
+        ensures plan { MatchResult result (λ plan. GivesPlan pages.entry.now (R.remaining reader) plan.items)
             (RefusesPlan (R.remaining reader)) }
+        ensures read { IfErr result (λ fault. fault ≡ RequestsFault.Read → ReadFailed reader) }
     { read_requests(alloc, reader, pages) };
     match thread::map_vec(rt, requests, &read) {
         Ok(answers) => gather(alloc, answers),

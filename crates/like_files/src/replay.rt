@@ -1,6 +1,8 @@
-ghost use Rattle.std.specs.Prelude.{◌≡◌, ◌≤◌, false, true, IfErr, IfOk, MatchResult, OnOk, Option, is_some, length, option_map};
+ghost use Rattle.std.specs.Prelude.{◌≡◌, ◌≤◌, false, true, IfErr, IfOk, IsSomeAnd, MatchResult, OnOk, Option, is_some, length, option_map};
 ghost use Rattle.like_crew.specs.Asked.{lists_of};
+ghost use Rattle.like_records.specs.Reading.{ReadFailed};
 ghost use Rattle.like_script.specs.Limits.{max_entries};
+ghost use Rattle.like_files.specs.FailedReads.{TellsRead};
 ghost use Rattle.like_files.specs.Faults.{IsBeforeOutput};
 ghost use Rattle.like_files.specs.Inputs.{GivesScript, RefusesScript, inputs_of};
 ghost use Rattle.like_files.specs.Replay.{HasReplayed, HasReplayedLists, IsReplayFilesFault, IsReplayListsFault};
@@ -36,6 +38,7 @@ pub fn replay_files<R: Read + Drop, W: Write>(
         × HasReplayed options.now inputs (W.contents out.old) (W.contents out.new) summary) }
     ensures fault { let inputs = inputs_of R.remaining pages requests.items script in
         IfErr result (IsReplayFilesFault options.now inputs) }
+    ensures read { IfErr result (TellsRead pages requests.items script) }
     ensures untouched { IfErr result (λ fault. IsBeforeOutput fault → out.new ≡ out.old) }
 {
     replay_files_summed(
@@ -66,6 +69,7 @@ pub fn replay_files_summed<R: Read + Drop, W: Write, P: Progress>(
         IfOk result (HasReplayed options.now inputs (W.contents out.old) (W.contents out.new)) }
     ensures fault { let inputs = inputs_of R.remaining pages requests.items script in
         IfErr result (IsReplayFilesFault options.now inputs) }
+    ensures read { IfErr result (TellsRead pages requests.items script) }
     ensures untouched { IfErr result (λ fault. IsBeforeOutput fault → out.new ≡ out.old) }
 {
     let (pages, plans) = read_lists(alloc, pages, requests)?;
@@ -104,6 +108,8 @@ fn read_turns<R: Read + Drop>(alloc: Global, script: Option<R>) -> Result<Vec<Tu
     ensures given { MatchResult result
         (λ entries. GivesScript (option_map R.remaining script) entries.items)
         (RefusesScript (option_map R.remaining script)) }
+    ensures read { IfErr result (λ fault. fault ≡ ScriptFault.Read
+        → IsSomeAnd script (λ reader. ReadFailed reader)) }
 {
     match script {
         None => Ok(Vec::new(alloc)),

@@ -1,5 +1,6 @@
 ghost use Rattle.std.specs.Prelude.{◌≡◌, IfErr, IfOk, None, OnOk, Option, length};
 ghost use Rattle.like_crew.specs.Asked.{lists_of};
+ghost use Rattle.like_files.specs.FailedReads.{TellsRead};
 ghost use Rattle.like_files.specs.Faults.{IsBeforeOutput};
 ghost use Rattle.like_files.specs.Inputs.{inputs_of};
 ghost use Rattle.like_files.specs.Run.{HasRun, HasRunLists, IsRunFilesFault, IsRunListsFault};
@@ -22,7 +23,8 @@ use std::thread::Threads;
 
 /// Reads the pages file and then the request files, each on a thread where one can be had, makes the run that they ask
 /// for, on threads, and writes its report, with its places where the options ask for them. The fault of the first file at
-/// fault stands. After `Write` and `Memory` nothing is said of how much was written.
+/// fault stands, though later request files may have been read by then. Threads take the readers, so they are `Send`. After
+/// `Write` and `Memory` nothing is said of how much was written.
 pub fn run_files<T: Threads + Wait + Sync, R: Read + Drop + Send, W: Write>(
     rt: &T,
     alloc: Global,
@@ -37,6 +39,7 @@ pub fn run_files<T: Threads + Wait + Sync, R: Read + Drop + Send, W: Write>(
         × HasRun options.now inputs (W.contents out.old) (W.contents out.new) summary) }
     ensures fault { let inputs = inputs_of R.remaining pages requests.items None in
         IfErr result (IsRunFilesFault options.now inputs) }
+    ensures read { IfErr result (TellsRead pages requests.items None) }
     ensures untouched { IfErr result (λ fault. IsBeforeOutput fault → out.new ≡ out.old) }
 {
     run_files_summed(rt, alloc, options, pages, requests, out, &mut NoProgress)?;
@@ -58,6 +61,7 @@ pub fn run_files_summed<T: Threads + Wait + Sync, R: Read + Drop + Send, W: Writ
         IfOk result (HasRun options.now inputs (W.contents out.old) (W.contents out.new)) }
     ensures fault { let inputs = inputs_of R.remaining pages requests.items None in
         IfErr result (IsRunFilesFault options.now inputs) }
+    ensures read { IfErr result (TellsRead pages requests.items None) }
     ensures untouched { IfErr result (λ fault. IsBeforeOutput fault → out.new ≡ out.old) }
 {
     let (pages, plans) = read_lists_at_once(rt, alloc, pages, requests)?;

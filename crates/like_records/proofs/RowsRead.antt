@@ -1,14 +1,15 @@
 -- How far the reading of a file's rows has come.
-use Rattle.std.proofs.Common.{◌≡◌, ◌≢◌, ◌⊎◌, ℕ, zero, suc, ◌+◌, ◌<◌, List, [], ◌∷◌, ◌++◌, length, slice_get, Option, Some, refl, sym, ap, ◌∙◌, subst, arith, inl, inr, append_assoc}
+use Rattle.std.proofs.Common.{◌≡◌, ◌≢◌, ◌⊎◌, Result, Ok, Err, IfErr, ℕ, zero, suc, ◌+◌, ◌<◌, List, [], ◌∷◌, ◌++◌, length, slice_get, Option, Some, refl, sym, ap, ◌∙◌, subst, arith, inl, inr, append_assoc}
 use Rattle.std.specs.List.{AllByRecursion}
 use Rattle.std.specs.Option.{ForSome}
 use Rattle.std.proofs.lemmas.List.{append-nil, take-append-le, take_at, length_push}
 use Rattle.std.proofs.lemmas.Option.{slice_get_within, same_Some, get_or_from_slice_get}
 use Rattle.std.proofs.lemmas.Bool.{cases_lt}
 use Rattle.like_records.specs.First.{FailsFirst}
-use Rattle.like_records.specs.Reading.{Reading, TakesRecord}
-use Rattle.like_records.specs.Rows.{Excuses, IsFirstFailed, IsHeadless, PassAll, Record, field}
+use Rattle.like_records.specs.Reading.{ReadFailed, Reading, TakesRecord}
+use Rattle.like_records.specs.Rows.{EndsReading, Excuses, FailsSome, IsFirstFailed, IsHeadless, PassAll, Record, field}
 use Rattle.like_records.specs.declared.fault.RecordsFault.{RecordsFault}
+use Rattle.like_records.specs.declared.fault.RecordsFault.TheVariants as told
 
 -- a field of a record is what a read of it gave
 pub field_at : (r : Record) (i : ℕ) (text : List ℕ) → slice_get r i ≡ Some text → field r i ≡ text
@@ -94,3 +95,37 @@ pub stopped : {T : Type 0} (Says : T → Type 0) (fault_of : RecordsFault → T)
 stopped Says fault_of header headless Failed rows fault excused none failed (inl (why, same)) = subst Says (sym same) (excused why)
 stopped Says fault_of header headless Failed rows fault excused none failed (inr (inl (same, away))) = subst Says (sym same) (none away)
 stopped Says fault_of header headless Failed rows fault excused none failed (inr (inr fails)) = failed fails
+
+-- a reading that stopped shows that a read of its reader failed
+pub shows-failed : {R : Type 0} (reader : R) (end : Reading) → end.stopped ≡ Some told.Read → ReadFailed reader
+unfolding ReadFailed
+shows-failed reader end stopped = (end, stopped)
+
+module _ {T : Type 0} (fault_of : RecordsFault → T) where
+  -- a record could not be had
+  pub ends-told : (Failed : Type 0) (Fails : T → Type 0) (why : RecordsFault) → (why ≡ told.Read → Failed) → EndsReading fault_of Failed Fails (fault_of why)
+  ends-told Failed Fails told.Read failed = inr (inl (refl, failed refl))
+  ends-told Failed Fails told.Memory failed = inl refl
+
+  -- a row could not be taken
+  pub ends-taken : (Failed : Type 0) (Asks : List Record → Record → T → Type 0) (tests : ℕ → List T) (done : List Record) (r : Record) (row : ℕ) (t : T) → row ≡ length done + 1
+      → (t ≡ fault_of told.Memory) ⊎ FailsFirst (Asks done r) (tests row) t → EndsReading fault_of Failed (FailsSome Asks tests) t
+  ends-taken Failed Asks tests done r row t at (inl same) = inl same
+  ends-taken Failed Asks tests done r row t at (inr fails) = inr (inr (done, r, subst (λ n. FailsFirst (Asks done r) (tests n) t) at fails))
+
+  -- why the reading of the rows ended is why that of the file did
+  pub ends-file : {M : Type 0} (Failed Shown : Type 0) (Fails : T → Type 0) (headless : T) (r : Result M T) → (Failed → Shown) → IfErr r (EndsReading fault_of Failed Fails)
+      → IfErr r (λ fault. (fault ≡ headless) ⊎ EndsReading fault_of Shown Fails fault)
+  ends-file Failed Shown Fails headless (Ok made) shown ends = tt
+  ends-file Failed Shown Fails headless (Err fault) shown (inl memory) = inr (inl memory)
+  ends-file Failed Shown Fails headless (Err fault) shown (inr (inl (same, failed))) = inr (inr (inl (same, shown failed)))
+  ends-file Failed Shown Fails headless (Err fault) shown (inr (inr fails)) = inr (inr (inr fails))
+
+  -- a fault that is neither the header's nor memory's nor a test's stands only where a read failed
+  pub only-failed : (Failed : Type 0) (Asks : List Record → Record → T → Type 0) (tests : ℕ → List T) (headless read fault : T) → headless ≢ read → fault_of told.Memory ≢ read
+      → ((row : ℕ) → AllByRecursion (λ t. t ≢ read) (tests row)) → (fault ≡ headless) ⊎ EndsReading fault_of Failed (FailsSome Asks tests) fault → fault ≡ read → Failed
+  only-failed Failed Asks tests headless read fault header memory none (inl same) is = absurd (header (sym same ∙ is))
+  only-failed Failed Asks tests headless read fault header memory none (inr (inl same)) is = absurd (memory (sym same ∙ is))
+  only-failed Failed Asks tests headless read fault header memory none (inr (inr (inl (same, failed)))) is = failed
+  only-failed Failed Asks tests headless read fault header memory none (inr (inr (inr (done, r, fails)))) is =
+      absurd (among (Asks done r) (λ t. t ≢ read) (tests (length done + 1)) fault (none (length done + 1)) fails is)

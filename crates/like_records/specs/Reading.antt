@@ -1,18 +1,26 @@
 -- Where the reading of a file's records stands, and what the next record does to it.
 use Rattle.std.specs.Prelude.{◌≡◌, ◌+◌, ℕ, Bool, true, false, List, [], ◌∷◌, length, Option, Some, None, option_map, Result, Ok, Err}
 use Rattle.std.specs.Option.{ForSome}
-use Rattle.csv.specs.Reading.{default_config, strip_bom, records, records_from, Ready, is_flexible, reader_config, reader_trim}
+use Rattle.csv.specs.Reading.{default_config, has_failed, strip_bom, records, records_from, Ready, is_flexible, reader_config, reader_trim}
 use Rattle.csv.specs.declared.parser.State.{State}
 use Rattle.csv.specs.declared.reader.Reader.{Reader}
 use Rattle.csv.specs.declared.reader.Trim.TheVariants as trim
 use Rattle.like_records.specs.declared.fault.RecordsFault.{RecordsFault}
+use Rattle.like_records.specs.declared.fault.RecordsFault.TheVariants as fault
 use Rattle.like_records.specs.declared.records.Progress.{Progress}
 use Rattle.like_records.specs.declared.records.Progress.TheVariants as progress
 
--- the records still to be read, where the bytes to be read are known, and the fields of the present record
+-- the records still to be read, where the bytes to be read are known, the fields of the present record, and the fault with
+-- which CSV's reader has stopped, if it has
 pub record Reading : Type 0 where
   pub left : Option (List (List (List ℕ)))
   pub fields : List (List ℕ)
+  pub stopped : Option RecordsFault
+
+-- a read of this reader failed, by which a reading of its records stopped. Only an explicit unfolding sees what shows it, so a
+-- fault that no reading told has nothing to show
+unfoldable pub ReadFailed : {R : Type 0} → R → Type 0
+ReadFailed reader = (end : Reading) × (end.stopped ≡ Some fault.Read)
 
 -- all the records of a text: CSV's, with no byte order mark
 abbrev pub records_of : List ℕ → List (List (List ℕ))
@@ -25,9 +33,10 @@ TakesRecord old new =
 
 -- what a reading becomes by the next record: the record, or the end, where no known record was left, or a fault
 abbrev pub NextRecord : Reading → Result Bool RecordsFault → Reading → Type 0
-NextRecord old (Ok true) new = TakesRecord old new
-NextRecord old (Ok false) new = ForSome old.left (λ rows. rows ≡ []) × (new ≡ record { left = Some []; fields = [] })
-NextRecord old (Err fault) new = new ≡ record { left = None; fields = [] }
+NextRecord old (Ok true) new = TakesRecord old new × (new.stopped ≡ None)
+NextRecord old (Ok false) new =
+    ForSome old.left (λ rows. rows ≡ []) × (new ≡ record { left = Some []; fields = []; stopped = None })
+NextRecord old (Err why) new = new ≡ record { left = None; fields = []; stopped = Some why }
 
 -- the records of a text from a state of CSV's machine
 abbrev pub records_from_state : State → List ℕ → List (List (List ℕ))
@@ -37,7 +46,13 @@ records_from_state state text = records_from default_config (length text + 1) st
 abbrev pub records_left : Progress → State → Option (List ℕ) → Option (List (List (List ℕ)))
 records_left progress.Open state unread = option_map (records_from_state state) unread
 records_left progress.Ended state unread = Some []
-records_left (progress.Failed fault) state unread = None
+records_left (progress.Failed why) state unread = None
+
+-- the fault with which a reading has stopped, by how far it is
+abbrev pub stopped_by : Progress → Option RecordsFault
+stopped_by progress.Open = None
+stopped_by progress.Ended = None
+stopped_by (progress.Failed why) = Some why
 
 -- a reader that hands out each record as it stands in the text, the first one too, of however many fields
 pub record GivesEach {R : Type 0} (reader : Reader R) : Type 0 where
@@ -45,9 +60,10 @@ pub record GivesEach {R : Type 0} (reader : Reader R) : Type 0 where
   pub trim : reader_trim reader ≡ trim.None
   pub flexible : is_flexible reader ≡ true
   pub ready : Ready reader
+  pub goes_on : has_failed reader ≡ false
 
--- what holds of the reader while there may be more records, and of the present record after them
+-- what holds of the reader while there may be more records, and of it and the present record after them
 abbrev pub IsKept : {R : Type 0} → Progress → Reader R → List (List ℕ) → Type 0
 IsKept progress.Open reader fields = GivesEach reader
-IsKept progress.Ended reader fields = fields ≡ []
-IsKept (progress.Failed fault) reader fields = fields ≡ []
+IsKept progress.Ended reader fields = (fields ≡ []) × (has_failed reader ≡ false)
+IsKept (progress.Failed why) reader fields = (fields ≡ []) × (has_failed reader ≡ true)

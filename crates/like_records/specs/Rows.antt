@@ -1,8 +1,9 @@
 -- The records of a file: its header, and the rows behind it, numbered from 1, up to the first that fails a test.
-use Rattle.std.specs.Prelude.{◌≡◌, ◌≢◌, ◌+◌, ℕ, List, [], ◌∷◌, take, slice_index_or, slice_get, Some}
+use Rattle.std.specs.Prelude.{◌≡◌, ◌≢◌, ◌⊎◌, ◌+◌, ℕ, List, [], ◌∷◌, length, take, slice_index_or, slice_get, Some}
 use Rattle.std.specs.List.{AllByRecursion}
 use Rattle.like_records.specs.First.{FailsFirst}
 use Rattle.like_records.specs.declared.fault.RecordsFault.{RecordsFault}
+use Rattle.like_records.specs.declared.fault.RecordsFault.TheVariants as fault
 
 -- a record: its fields, each in bytes
 abbrev pub Record : Type 0
@@ -28,6 +29,11 @@ IsHeadless header headless rows t = (t ≡ headless) × ((body : List Record) �
 abbrev pub Excuses : {T : Type 0} → (RecordsFault → T) → T → Type 0
 Excuses fault_of t = (why : RecordsFault) × (t ≡ fault_of why)
 
+-- why a reading ended: memory was refused, or a read failed, or a record failed a test
+abbrev pub EndsReading : {T : Type 0} → (RecordsFault → T) → Type 0 → (T → Type 0) → T → Type 0
+EndsReading fault_of Failed Fails t =
+    (t ≡ fault_of fault.Memory) ⊎ ((t ≡ fault_of fault.Read) × Failed) ⊎ Fails t
+
 -- Asks says what each test asks of a record, given the records before it; tests lists those of a row, in order
 module _ {T : Type 0} (Asks : List Record → Record → T → Type 0) (tests : ℕ → List T) where
   -- every record passes every test of its row
@@ -40,6 +46,10 @@ module _ {T : Type 0} (Asks : List Record → Record → T → Type 0) (tests : 
   IsFirstFailed body t =
       (k : ℕ) × (r : Record) × (slice_get body k ≡ Some r) × PassAll (take k body)
       × FailsFirst (Asks (take k body) r) (tests (k + 1)) t
+
+  -- t is the first test that some record fails
+  abbrev pub FailsSome : T → Type 0
+  FailsSome t = (done : List Record) × (r : Record) × FailsFirst (Asks done r) (tests (length done + 1)) t
 
   -- that holds of some records of which every one passes every test of its row
   abbrev pub MadeOf : (List Record → Type 0) → Type 0

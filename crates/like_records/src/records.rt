@@ -1,5 +1,5 @@
 // The records of a CSV file, one at a time.
-ghost use Rattle.std.specs.Prelude.{◌≡◌, ◌<◌, ◌↔◌, [], IsTrue, Some, length, map, option_map, slice_get};
+ghost use Rattle.std.specs.Prelude.{◌≡◌, ◌<◌, ◌↔◌, [], None, IsTrue, Some, length, map, option_map, slice_get};
 ghost use Rattle.like_records.specs.Reading.{NextRecord, records_of};
 
 use crate::fault::RecordsFault;
@@ -31,7 +31,7 @@ pub struct Records<R: Read> {
 }
 
 impl<R: Read> Model for Records<R> {
-    ghost use Rattle.like_records.specs.Reading.{Reading, records_left, IsKept};
+    ghost use Rattle.like_records.specs.Reading.{Reading, records_left, stopped_by, IsKept};
     ghost use Rattle.csv.specs.Reading.{source_of, reader_state};
     ghost use Rattle.csv.specs.Records.{fields_of};
 
@@ -40,6 +40,7 @@ impl<R: Read> Model for Records<R> {
     ghost view = { λ s. record {
       left = records_left s.progress (reader_state s.reader) (source_of R.remaining s.reader);
       fields = fields_of s.present;
+      stopped = stopped_by s.progress;
     } };
 
     ghost invariant = { λ s. IsKept s.progress s.reader (fields_of s.present) };
@@ -48,8 +49,11 @@ impl<R: Read> Model for Records<R> {
 impl<R: Read> Records<R> {
     /// The records of what `reader` gives, before the first.
     pub fn new(alloc: Global, reader: R) -> Self
-        ensures { result
-            ≡ record { left = option_map records_of (R.remaining reader); fields = [] } }
+        ensures { result ≡ record {
+          left = option_map records_of (R.remaining reader);
+          fields = [];
+          stopped = None;
+        } }
     {
         let reader = ReaderBuilder::new()
             .has_headers(false)

@@ -1,9 +1,9 @@
 // Files of records: a header, and behind it rows that are tested and taken one after another.
-ghost use Rattle.std.specs.Prelude.{◌≡◌, ◌⊎◌, ◌+◌, ◌≤◌, ℕ, List, [], ◌∷◌, ◌++◌, IfOk, MatchResult, OnOk, Some, length, map, option_map};
+ghost use Rattle.std.specs.Prelude.{◌≡◌, ◌⊎◌, ◌+◌, ◌≤◌, ℕ, List, [], ◌∷◌, ◌++◌, IfErr, IfOk, MatchResult, OnOk, Some, length, map, option_map};
 ghost use Rattle.std.specs.List.{AllByRecursion};
 ghost use Rattle.like_records.specs.First.{FailsFirst};
-ghost use Rattle.like_records.specs.Reading.{records_of};
-ghost use Rattle.like_records.specs.Rows.{Behind, Excuses, IsFirstFailed, IsHeadless, MadeOf, PassAll, Record, max_rows};
+ghost use Rattle.like_records.specs.Reading.{ReadFailed, records_of};
+ghost use Rattle.like_records.specs.Rows.{Behind, EndsReading, Excuses, FailsSome, IsFirstFailed, IsHeadless, MadeOf, PassAll, Record, max_rows};
 ghost use Rattle.like_records.specs.declared.fault.RecordsFault.{RecordsFault};
 
 use crate::fault::RecordsFault;
@@ -46,8 +46,8 @@ pub trait FileKind {
             → MatchResult result
             (λ _. AllByRecursion (asks done records.now.fields) (tests row)
             × holds self.now made.new (done ++ records.now.fields ∷ []))
-            (λ fault. Excuses fault_of fault
-            ⊎ FailsFirst (asks done records.now.fields) (tests row) fault) };
+            (λ why. (why ≡ fault_of RecordsFault.Memory)
+            ⊎ FailsFirst (asks done records.now.fields) (tests row) why) };
 }
 
 /// Reads a file of this kind: the header, in whose place another first record is the fault `headless`, and the rows
@@ -69,6 +69,8 @@ pub fn read_file<R: Read + Drop, K: FileKind>(
         (λ body. PassAll K.asks K.tests body × K.holds kind.now made body) rows)
         (λ fault. Excuses K.fault_of fault ⊎ IsHeadless first headless rows fault
         ⊎ Behind first (λ body. IsFirstFailed K.asks K.tests body fault) rows) }
+    ensures ends { IfErr result (λ fault. (fault ≡ headless)
+        ⊎ EndsReading K.fault_of (ReadFailed reader) (FailsSome K.asks K.tests) fault) }
 {
     let mut records = Records::new(alloc, reader);
     match records.read_next() {
@@ -94,6 +96,8 @@ fn read_rows<R: Read, K: FileKind>(
         → MatchResult result
         (λ made. PassAll K.asks K.tests body × K.holds kind.now made body)
         (λ fault. Excuses K.fault_of fault ⊎ IsFirstFailed K.asks K.tests body fault) }
+    ensures ends { IfErr result
+        (EndsReading K.fault_of (records.new.stopped ≡ Some RecordsFault.Read) (FailsSome K.asks K.tests)) }
 {
     for row in 1..MAX_ROWS + 2 {
         match records.read_next() {

@@ -1,11 +1,11 @@
 -- What the reading of its rows says of a pages file.
-use Rattle.std.proofs.Common.{◌≡◌, ◌≢◌, ◌+◌, List, [], ◌∷◌, ◌++◌, Option, Some, None, Result, MatchOption, MatchResult, length, map, take, refl, sym, ap, ◌∙◌, ◌⊎◌}
+use Rattle.std.proofs.Common.{◌≡◌, ◌≢◌, ◌+◌, List, [], ◌∷◌, ◌++◌, Option, Some, None, Result, IfErr, MatchOption, MatchResult, length, map, take, refl, sym, ap, ◌∙◌, ◌⊎◌}
 use Rattle.std.specs.Option.{ok_or}
 use Rattle.std.proofs.lemmas.List.{length-map, map-append}
 use Rattle.like_records.specs.declared.fault.RecordsFault.{RecordsFault}
 use Rattle.like_records.specs.declared.fault.RecordsFault.TheVariants as records
-use Rattle.like_records.specs.Rows.{Behind, Excuses, IsFirstFailed, IsHeadless, PassAll, Record, field}
-use Rattle.like_records.proofs.RowsRead.{among, stopped}
+use Rattle.like_records.specs.Rows.{Behind, EndsReading, Excuses, FailsSome, IsFirstFailed, IsHeadless, PassAll, Record, field}
+use Rattle.like_records.proofs.RowsRead.{among, only-failed, stopped}
 use Rattle.like_requests.specs.Pages.{Page, names}
 use Rattle.like_requests.specs.PagesFile.{AsksPageRecord, IsPagesFault, IsPagesFile, fault_of, page_of, page_tests, pages_header}
 use Rattle.like_requests.specs.declared.pages_file.PagesFault.{PagesFault}
@@ -75,3 +75,13 @@ pages-read rows entries (Some pages) r (body, whole, made) same e =
     rw e (body, whole, (λ none. same.1 (made.1 ∙ ap (λ rows. map page_of rows) none)), made.0, same.0 ∙ made.1)
 pages-read rows entries None r (body, whole, made) none e =
     rw e (whole ∙ ap (λ rows. pages_header ∷ rows) (none_listed body (sym none ∙ made.1)))
+
+-- of the faults of a pages file, that of a failed read stands only where a read failed
+pub pages-only-failed : (Failed : Type 0) (fault : PagesFault) → (fault ≡ Header) ⊎ EndsReading fault_of Failed (FailsSome AsksPageRecord page_tests) fault → fault ≡ Read → Failed
+pages-only-failed Failed fault why =
+    only-failed fault_of Failed AsksPageRecord page_tests Header Read fault (λ e. cc e) (λ e. cc e) (λ row. ((λ e. cc e), ((λ e. cc e), ((λ e. cc e), ((λ e. cc e), ((λ e. cc e), ((λ e. cc e), tt))))))) why
+
+-- and a file with no page is none of a failed read
+pub empty-not-read : (Failed : Type 0) (some : Option (List Page)) (r : Result (List Page) PagesFault) → r ≡ ok_or some Empty → IfErr r (λ fault. fault ≡ Read → Failed)
+empty-not-read Failed (Some pages) r e = rw e tt
+empty-not-read Failed None r e = rw e (λ is. cc is)

@@ -1,9 +1,9 @@
 -- What the reading of its rows says of a requests file.
-use Rattle.std.proofs.Common.{◌≡◌, ◌+◌, List, Vec, Global, Result, Ok, Err, MatchResult, map, take, ◌⊎◌}
+use Rattle.std.proofs.Common.{◌≡◌, ◌+◌, List, Vec, Global, Result, Ok, Err, IfErr, MatchResult, map, take, ◌⊎◌}
 use Rattle.like_records.specs.declared.fault.RecordsFault.{RecordsFault}
 use Rattle.like_records.specs.declared.fault.RecordsFault.TheVariants as records
-use Rattle.like_records.specs.Rows.{Behind, Excuses, IsFirstFailed, IsHeadless, PassAll, Record}
-use Rattle.like_records.proofs.RowsRead.{among, stopped}
+use Rattle.like_records.specs.Rows.{Behind, EndsReading, Excuses, FailsSome, IsFirstFailed, IsHeadless, PassAll, Record}
+use Rattle.like_records.proofs.RowsRead.{among, only-failed, stopped}
 use Rattle.like_requests.specs.Pages.{Page}
 use Rattle.like_requests.specs.RequestsFile.{AsksRequestRecord, IsRequestsFault, IsRequestsFile, fault_of, request_made, request_tests, requests_header}
 use Rattle.like_requests.specs.declared.request.Request.{Request}
@@ -41,3 +41,10 @@ pub requests-read : (pages : List Page) (rows : List Record) (r : Result (Vec Re
 requests-read pages rows (Ok requests) made = (made.0, made.1, made.2.0, made.2.1)
 requests-read pages rows (Err fault) why =
     stopped (IsRequestsFault rows) fault_of requests_header Header (λ why. Behind requests_header (λ body. IsFirstFailed AsksRequestRecord request_tests body why) rows) rows fault (excused rows) (λ none. none) (stops_file rows fault) why
+
+-- of the faults of a requests file, that of a failed read stands only where a read failed
+pub requests-only-failed : (Failed : Type 0) (r : Result (Vec Request Global) RequestsFault) → IfErr r (λ fault. (fault ≡ Header) ⊎ EndsReading fault_of Failed (FailsSome AsksRequestRecord request_tests) fault)
+    → IfErr r (λ fault. fault ≡ Read → Failed)
+requests-only-failed Failed (Ok requests) why = tt
+requests-only-failed Failed (Err fault) why =
+    only-failed fault_of Failed AsksRequestRecord request_tests Header Read fault (λ e. cc e) (λ e. cc e) (λ row. ((λ e. cc e), ((λ e. cc e), ((λ e. cc e), ((λ e. cc e), tt))))) why

@@ -1,6 +1,6 @@
-ghost use Rattle.std.specs.Prelude.{◌≡◌, ◌⊎◌, ◌+◌, ◌<◌, ◌≤◌, ℕ, List, [], ◌∷◌, MatchOption, MatchResult, Some, Ok, Err, bytes_eq, codes, length, map, option_map, string_bytes};
+ghost use Rattle.std.specs.Prelude.{◌≡◌, ◌⊎◌, ◌+◌, ◌<◌, ◌≤◌, ℕ, List, [], ◌∷◌, IfErr, MatchOption, MatchResult, Some, Ok, Err, bytes_eq, codes, length, map, option_map, string_bytes};
 ghost use Rattle.std.specs.List.{AllByRecursion};
-ghost use Rattle.like_records.specs.Reading.{records_of};
+ghost use Rattle.like_records.specs.Reading.{ReadFailed, records_of};
 ghost use Rattle.like_records.specs.First.{FailsFirst};
 ghost use Rattle.like_requests.specs.Pages.{IsName, Page, names};
 ghost use Rattle.like_requests.specs.PagesFile.{AsksPage, AsksPageRecord, IsPagesFault, IsPagesFile, IsSplitMark, fault_of, page_of, page_tests, pages_header};
@@ -91,8 +91,9 @@ impl FileKind for PagesFile {
 /// Reads a pages file: CSV by the default settings, the header `name,count,split`, and a record for each page.
 /// Tests stand in the order of `PagesFault`'s variants for each record, and the first record that fails one ends it.
 pub fn read_pages<R: Read + Drop>(alloc: Global, reader: R) -> Result<Pages, PagesFault>
-    ensures { (rows : List Record) → option_map records_of (R.remaining reader) ≡ Some rows
+    ensures file { (rows : List Record) → option_map records_of (R.remaining reader) ≡ Some rows
         → MatchResult result (IsPagesFile rows) (IsPagesFault rows) }
+    ensures read { IfErr result (λ fault. fault ≡ PagesFault.Read → ReadFailed reader) }
 {
     let entries = read_file(
         alloc,

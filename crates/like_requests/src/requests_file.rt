@@ -1,6 +1,6 @@
-ghost use Rattle.std.specs.Prelude.{◌≡◌, ◌+◌, ◌-◌, ◌<◌, ◌∷◌, List, MatchOption, MatchResult, Some, map, option_map};
+ghost use Rattle.std.specs.Prelude.{◌≡◌, ◌+◌, ◌-◌, ◌<◌, ◌∷◌, List, IfErr, MatchOption, MatchResult, Some, map, option_map};
 ghost use Rattle.std.specs.List.{AllByRecursion};
-ghost use Rattle.like_records.specs.Reading.{records_of};
+ghost use Rattle.like_records.specs.Reading.{ReadFailed, records_of};
 ghost use Rattle.like_records.specs.First.{FailsFirst};
 ghost use Rattle.like_requests.specs.Pages.{number_of};
 ghost use Rattle.like_requests.specs.RequestsFile.{AsksRequest, AsksRequestRecord, IsOp, IsRequestsFault, IsRequestsFile, fault_of, op_of, page_ref, request_made, request_tests, requests_header};
@@ -90,9 +90,10 @@ pub fn read_requests<R: Read + Drop>(
     reader: R,
     pages: &Pages,
 ) -> Result<Vec<Request>, RequestsFault>
-    ensures { (rows : List Record) → option_map records_of (R.remaining reader) ≡ Some rows
+    ensures file { (rows : List Record) → option_map records_of (R.remaining reader) ≡ Some rows
         → MatchResult result
         (λ requests. IsRequestsFile pages.now rows requests.items) (IsRequestsFault rows) }
+    ensures read { IfErr result (λ fault. fault ≡ RequestsFault.Read → ReadFailed reader) }
 {
     read_file(
         alloc,

@@ -1,11 +1,11 @@
 -- What the reading of its rows says of a script file.
-use Rattle.std.proofs.Common.{◌≡◌, ◌≤◌, zero, suc, ◌+◌, List, [], ◌∷◌, Vec, Global, Result, Ok, Err, MatchResult, length, map, take, get_or, sym, ap, ◌∙◌, subst, arith, add-one, ◌⊎◌}
+use Rattle.std.proofs.Common.{◌≡◌, ◌≤◌, zero, suc, ◌+◌, List, [], ◌∷◌, Vec, Global, Result, Ok, Err, IfErr, MatchResult, length, map, take, get_or, sym, ap, ◌∙◌, subst, arith, add-one, ◌⊎◌}
 use Rattle.std.proofs.lemmas.List.{length-map, length-take-le}
 use Rattle.std.proofs.lemmas.Option.{slice_get-get_or}
 use Rattle.like_records.specs.declared.fault.RecordsFault.{RecordsFault}
 use Rattle.like_records.specs.declared.fault.RecordsFault.TheVariants as records
-use Rattle.like_records.specs.Rows.{Behind, Excuses, IsFirstFailed, IsHeadless, MadeOf, PassAll, Record}
-use Rattle.like_records.proofs.RowsRead.{among, stopped}
+use Rattle.like_records.specs.Rows.{Behind, EndsReading, Excuses, FailsSome, IsFirstFailed, IsHeadless, MadeOf, PassAll, Record}
+use Rattle.like_records.proofs.RowsRead.{among, only-failed, stopped}
 use Rattle.like_script.specs.File.{AsksEntryRecord, IsScriptFault, IsScriptFile, fault_of, turned_of, entry_tests, script_header}
 use Rattle.like_script.specs.Limits.{max_entries}
 use Rattle.like_script.specs.declared.turned.Turned.{Turned}
@@ -57,3 +57,9 @@ few-entries entries made =
     let few = few-records made.0 made.1 in
     let size : length entries ≡ length made.0 = ap (λ (es : List Turned). length es) made.2 ∙ length-map made.0 turned_of in
     omega (arith, few, size)
+
+-- of the faults of a script file, that of a failed read stands only where a read failed
+pub script-only-failed : (Failed : Type 0) (r : Result (Vec Turned Global) ScriptFault) → IfErr r (λ fault. (fault ≡ Line 0) ⊎ EndsReading fault_of Failed (FailsSome AsksEntryRecord entry_tests) fault)
+    → IfErr r (λ fault. fault ≡ Read → Failed)
+script-only-failed Failed (Ok entries) why = tt
+script-only-failed Failed (Err fault) why = only-failed fault_of Failed AsksEntryRecord entry_tests (Line 0) Read fault (λ e. cc e) (λ e. cc e) (λ row. ((λ e. cc e), ((λ e. cc e), tt))) why

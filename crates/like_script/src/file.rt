@@ -1,7 +1,7 @@
-ghost use Rattle.std.specs.Prelude.{◌≡◌, ◌-◌, ◌<◌, ◌≤◌, ◌∷◌, IfOk, List, MatchOption, MatchResult, Some, length, map, option_map};
+ghost use Rattle.std.specs.Prelude.{◌≡◌, ◌-◌, ◌<◌, ◌≤◌, ◌∷◌, IfErr, IfOk, List, MatchOption, MatchResult, Some, length, map, option_map};
 ghost use Rattle.std.specs.List.{AllByRecursion};
 ghost use Rattle.like_records.specs.Decimal.{decimal_value};
-ghost use Rattle.like_records.specs.Reading.{records_of};
+ghost use Rattle.like_records.specs.Reading.{ReadFailed, records_of};
 ghost use Rattle.like_records.specs.First.{FailsFirst};
 ghost use Rattle.like_records.specs.Rows.{PassAll, Record};
 ghost use Rattle.like_script.specs.Limits.{max_entries};
@@ -82,6 +82,7 @@ pub fn read_script<R: Read + Drop>(alloc: Global, reader: R) -> Result<Vec<Turne
     ensures few { IfOk result (λ entries. length entries.items ≤ max_entries) }
     ensures file { (rows : List Record) → option_map records_of (R.remaining reader) ≡ Some rows
         → MatchResult result (λ entries. IsScriptFile rows entries.items) (IsScriptFault rows) }
+    ensures read { IfErr result (λ fault. fault ≡ ScriptFault.Read → ReadFailed reader) }
 {
     read_file(
         alloc,

@@ -1,32 +1,24 @@
-use Rattle.std.proofs.Common.{◌≡◌, ◌∙◌, ℕ, List, Option, None, Some, length, option_map, refl}
-use Rattle.std.specs.Prelude.{is_some}
-use Rattle.std.proofs.lemmas.List.{length-map}
-use Rattle.std.proofs.lemmas.Result.{IfOk-weaker}
-use Rattle.like_files.specs.Inputs.{inputs_of}
-use Rattle.like_files.specs.Replay.{HasReplayed, HasReplayedSome}
-use Rattle.like_replies.specs.declared.summary.Summary.{Summary}
-use Rattle.like_words.specs.declared.options.Options.{Options}
+use Rattle.std.proofs.Common.{inl}
+use Rattle.std.proofs.lemmas.Result.{IfOk-weaker, err_from_is_err_and}
+use Rattle.like_driver.proofs.NamedFiles.{named-requests, named-script, replay-refused}
 use Rattle.like_driver.proofs.program.replay_named.Goals as goal
 
--- what a reader tells is there just where the reader is
-told-where-there : {R A : Type 0} (f : R → A) (reader : Option R) → is_some (option_map f reader) ≡ is_some reader
-told-where-there f None = refl
-told-where-there f (Some reader) = refl
-
--- readers were replayed, as many as the options name
-has_replayed : {R : Type 0} (left : R → Option (List ℕ)) (options : Options) (pages : R) (requests : List R) (script : Option R) (old new : Option (List ℕ)) (summary : Option Summary)
-    → length requests ≡ length options.requests.items → is_some script ≡ is_some options.script → HasReplayed options (inputs_of left pages requests script) old new summary
-    → HasReplayedSome options old new summary
-has_replayed left options pages requests script old new summary all scripted replayed = record {
-  inputs = inputs_of left pages requests script;
-  all_requests = length-map requests left ∙ all;
-  scripted = told-where-there left script ∙ scripted;
-  replayed = replayed;
+pub replay_files_summed-requires : goal.replay_files_summed-requires
+replay_files_summed-requires g c = record {
+  request_names = named-requests (g.O.Opener.opens c.args.opener.now) g.O-Reader.Read.remaining c.args.options.now c.in_ok-pages.field-0 c.in_ok-pages.ensures;
+  script_name = named-script (g.O.Opener.opens c.args.opener.now) g.O-Reader.Read.remaining c.args.options.now c.in_ok-pages.field-0 c.in_ok-pages.ensures;
 }
+
+pub returns-in_err-pages-clause-fault : goal.returns-in_err-pages-clause-fault
+returns-in_err-pages-clause-fault g c =
+    let p = err_from_is_err_and c.from_residual.result c.from_residual.ensures.1 in
+    rw (p.1, p.2) (inl c.in_err-pages.ensures)
 
 pub returns-clause-replayed : goal.returns-clause-replayed
 returns-clause-replayed g c =
-    IfOk-weaker c.replay_files_summed.result _ _
-    (λ summary. has_replayed g.F.File.Read.remaining c.args.options.now c.in_ok-pages.field-0.pages c.in_ok-pages.field-0.requests.items c.in_ok-pages.field-0.script _ _ summary
-    c.in_ok-pages.ensures.requests c.in_ok-pages.ensures.script)
-    c.replay_files_summed.ensures.replayed
+    IfOk-weaker c.replay_files_summed.result _ _ (λ summary done. record { opened = c.in_ok-pages.field-0; named = c.in_ok-pages.ensures; replayed = done }) c.replay_files_summed.ensures.replayed
+
+pub returns-clause-fault : goal.returns-clause-fault
+returns-clause-fault g c =
+    replay-refused (g.O.Opener.opens c.args.opener.now) g.O-Reader.Read.remaining c.args.options.now c.in_ok-pages.field-0 c.in_ok-pages.ensures (g.O.Opener.refuses c.args.opener.now) c.replay_files_summed.result
+    c.replay_files_summed.ensures.fault c.replay_files_summed.ensures.read

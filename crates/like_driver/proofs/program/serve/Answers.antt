@@ -1,8 +1,9 @@
 use Rattle.std.proofs.Common.{None, inl, inr, map, refl, string_bytes, ◌∙◌, sym}
-use Rattle.std.proofs.lemmas.Result.{err_from_is_err_and}
+use Rattle.std.proofs.lemmas.Result.{IfOk-weaker, err_from_is_err_and}
 use Rattle.like_words.specs.Asked.{Words}
 use Rattle.like_words.specs.declared.asked.Asked.TheVariants.{Run, Replay, Help}
 use Rattle.like_driver.specs.declared.program.fault.ProgramFault.TheVariants as program
+use Rattle.like_driver.proofs.NamedFiles.{some-replay, some-run}
 use Rattle.like_driver.proofs.Serving.{files-fault, files-served, not_served, served, some-words}
 use Rattle.like_driver.proofs.program.serve.Goals as goal
 
@@ -18,7 +19,8 @@ returns-in-Run-clause-served g c =
     let words : Words = map string_bytes c.args.words.now in
     let some = some-words string_bytes c.args.words.now (sym c.is_empty.ensures ∙ c.if-is_empty.false) in
     let asks = rw c.in-Run.is at c.in_ok-options.ensures.asked in
-    rw c.with_options.ensures (files-served words _ _ c.in-Run.options (Run c.in-Run.options) c.run_named-done.result some asks c.run_named-done.ensures.run)
+    rw c.with_options.ensures (files-served words _ _ c.in-Run.options (Run c.in-Run.options) c.run_named-done.result some asks
+    (IfOk-weaker c.run_named-done.result _ _ (λ summary done. some-run _ _ c.in-Run.options _ _ summary done) c.run_named-done.ensures.run))
 
 pub returns-in-Run-clause-fault : goal.returns-in-Run-clause-fault
 returns-in-Run-clause-fault g c =
@@ -32,7 +34,8 @@ returns-in-Replay-clause-served g c =
     let words : Words = map string_bytes c.args.words.now in
     let some = some-words string_bytes c.args.words.now (sym c.is_empty.ensures ∙ c.if-is_empty.false) in
     let asks = rw c.in-Replay.is at c.in_ok-options.ensures.asked in
-    rw c.with_options-in-Replay.ensures (files-served words _ _ c.in-Replay.options (Replay c.in-Replay.options) c.replay_named-done.result some asks c.replay_named-done.ensures.replayed)
+    rw c.with_options-in-Replay.ensures (files-served words _ _ c.in-Replay.options (Replay c.in-Replay.options) c.replay_named-done.result some asks
+    (IfOk-weaker c.replay_named-done.result _ _ (λ summary done. some-replay _ _ c.in-Replay.options _ _ summary done) c.replay_named-done.ensures.replayed))
 
 pub returns-in-Replay-clause-fault : goal.returns-in-Replay-clause-fault
 returns-in-Replay-clause-fault g c =

@@ -9,6 +9,7 @@ use Rattle.like_files.specs.declared.fault.DriverFault.{DriverFault}
 use Rattle.like_files.specs.Inputs.{GivesLists, Inputs, inputs_of, setup_of}
 use Rattle.like_files.specs.Run.{HasRun, HasRunLists, IsRunFilesFault, IsRunListsFault}
 use Rattle.like_files.proofs.Ended.{run-fault, run-unread}
+use Rattle.like_files.proofs.FailedReads.{run-told}
 use Rattle.like_files.proofs.run.run_files_summed.Goals as goal
 
 -- what was run of these values was run of the files
@@ -26,14 +27,22 @@ refused options inputs pages plans (Err fault) given why = run-fault options inp
 pub returns-in_err-pages-clause-fault : goal.returns-in_err-pages-clause-fault
 returns-in_err-pages-clause-fault g c =
     let p = err_from_is_err_and c.from_residual.result c.from_residual.ensures.1 in
-    rw (p.1, p.2) (run-unread c.args.options.now (inputs_of g.R.Read.remaining c.args.pages c.args.requests.items None) c.in_err-pages.field-0.0 c.in_err-pages.ensures)
+    rw (p.1, p.2) (run-unread c.args.options.now (inputs_of g.R.Read.remaining c.args.pages c.args.requests.items None) c.in_err-pages.field-0.0 c.in_err-pages.ensures.lists)
 
 pub returns-clause-run : goal.returns-clause-run
 returns-clause-run g c =
     let inputs : Inputs = inputs_of g.R.Read.remaining c.args.pages c.args.requests.items None in
-    was-run c.args.options.now inputs c.in_ok-pages.pages (lists_of c.in_ok-pages.plans.items) _ _ c.run_lists.result c.in_ok-pages.ensures (rw c.with_pages-setup.ensures at c.run_lists.ensures.run)
+    was-run c.args.options.now inputs c.in_ok-pages.pages (lists_of c.in_ok-pages.plans.items) _ _ c.run_lists.result c.in_ok-pages.ensures.lists (rw c.with_pages-setup.ensures at c.run_lists.ensures.run)
 
 pub returns-clause-fault : goal.returns-clause-fault
 returns-clause-fault g c =
     let inputs : Inputs = inputs_of g.R.Read.remaining c.args.pages c.args.requests.items None in
-    refused c.args.options.now inputs c.in_ok-pages.pages (lists_of c.in_ok-pages.plans.items) c.run_lists.result c.in_ok-pages.ensures (rw c.with_pages-setup.ensures at c.run_lists.ensures.fault)
+    refused c.args.options.now inputs c.in_ok-pages.pages (lists_of c.in_ok-pages.plans.items) c.run_lists.result c.in_ok-pages.ensures.lists (rw c.with_pages-setup.ensures at c.run_lists.ensures.fault)
+
+pub returns-in_err-pages-clause-read : goal.returns-in_err-pages-clause-read
+returns-in_err-pages-clause-read g c =
+    let p = err_from_is_err_and c.from_residual.result c.from_residual.ensures.1 in
+    rw (p.1, p.2) c.in_err-pages.ensures.read
+
+pub returns-clause-read : goal.returns-clause-read
+returns-clause-read g c = run-told c.args.pages c.args.requests.items c.with_pages-setup.result (lists_of c.in_ok-pages.plans.items) c.run_lists.result c.run_lists.ensures.fault

@@ -1,10 +1,11 @@
 use Rattle.std.proofs.Common.{IfOk, Vec, Global, Result, Ok, Err, ◌≡◌, ◌≤◌, length, map}
 use Rattle.like_records.specs.Rows.{MadeOf}
+use Rattle.like_records.specs.Reading.{ReadFailed}
 use Rattle.like_script.specs.File.{AsksEntryRecord, turned_of, entry_tests}
 use Rattle.like_script.specs.Limits.{max_entries}
 use Rattle.like_script.specs.declared.turned.Turned.{Turned}
 use Rattle.like_script.specs.declared.file.ScriptFault.{ScriptFault}
-use Rattle.like_script.proofs.ScriptRead.{few-entries, script-read}
+use Rattle.like_script.proofs.ScriptRead.{few-entries, script-only-failed, script-read}
 use Rattle.like_script.proofs.file.read_script.Goals as goal
 
 -- where entries were read, they are not too many
@@ -16,4 +17,5 @@ pub returns : goal.returns
 returns g c = record {
   few = few c.read_file.result c.read_file.ensures.made;
   file = λ rows known. script-read rows c.read_file.result (c.read_file.ensures.file rows known);
+  read = script-only-failed (ReadFailed c.args.reader) c.read_file.result c.read_file.ensures.ends;
 }

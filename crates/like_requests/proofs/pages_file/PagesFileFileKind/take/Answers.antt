@@ -2,7 +2,6 @@ use Rattle.std.proofs.Common.{Result, Ok, Err, MatchResult, OnOk, inl, inr, refl
 use Rattle.std.specs.Result.{result_or}
 use Rattle.std.specs.declared.alloc.AllocError.{AllocError}
 use Rattle.std.proofs.lemmas.Result.{err_from_is_err_and}
-use Rattle.like_records.specs.declared.fault.RecordsFault.TheVariants as records
 use Rattle.like_requests.specs.declared.pages_file.PagesFault.{PagesFault}
 use Rattle.like_requests.specs.declared.pages_file.PagesFault.TheVariants.{Memory}
 use Rattle.like_requests.proofs.PagesRead.{names-listed, page-listed}
@@ -22,4 +21,4 @@ pub returns-clause-row : goal.returns-clause-row
 returns-clause-row g c = λ done same at.
     rw c.or.ensures (or-memory _ c.add-added.result c.add-added.ensures.added
     (λ added. (rw (names-listed c.args.entries.now done same) at c.in_ok-name.ensures.0, page-listed c.add-added.new.self c.args.entries.now done c.args.records.now.fields _ same c.in_ok-name.ensures.1 added))
-    (inl (records.Memory, refl)))
+    (inl refl))

@@ -1,0 +1,26 @@
+-- Which file a fault names whose read failed.
+use Rattle.std.specs.Prelude.{◌≡◌, ◌-◌, ◌^◌, ℕ, List, min, slice_get, Option, IsSomeAnd, ⊤}
+use Rattle.like_records.specs.Reading.{ReadFailed}
+use Rattle.like_requests.specs.declared.pages_file.PagesFault.TheVariants as pages_fault
+use Rattle.like_requests.specs.declared.requests_file.RequestsFault.TheVariants as requests_fault
+use Rattle.like_script.specs.declared.file.ScriptFault.TheVariants as script_fault
+use Rattle.like_files.specs.declared.fault.DriverFault.{DriverFault}
+use Rattle.like_files.specs.declared.fault.DriverFault.TheVariants.{Pages, Requests, Script}
+
+-- a read of this submitter's request file failed; a submitter's number stops at the last of a u32
+abbrev pub FailedAt : {R : Type 0} → List R → ℕ → Type 0
+FailedAt requests submitter =
+    (place : ℕ) × (submitter ≡ min place (2 ^ 32 - 1))
+    × IsSomeAnd (slice_get requests place) (λ reader. ReadFailed reader)
+
+-- where the fault is a failed read of a request file, a read of the file that it names failed
+abbrev pub TellsPlanRead : {R : Type 0} → List R → DriverFault → Type 0
+TellsPlanRead requests (Requests submitter fault) = fault ≡ requests_fault.Read → FailedAt requests submitter
+TellsPlanRead requests fault = ⊤
+
+-- where the fault is a failed read of a file, a read of the file that it names failed
+abbrev pub TellsRead : {R : Type 0} → R → List R → Option R → DriverFault → Type 0
+TellsRead pages requests script (Pages fault) = fault ≡ pages_fault.Read → ReadFailed pages
+TellsRead pages requests script (Script fault) =
+    fault ≡ script_fault.Read → IsSomeAnd script (λ reader. ReadFailed reader)
+TellsRead pages requests script fault = TellsPlanRead requests fault

@@ -1,0 +1,41 @@
+ghost use Rattle.std.specs.Prelude.{ℕ, List, MatchOption};
+
+use std::fs;
+use std::fs::Files;
+use std::io::Read;
+
+/// Opens files by their names.
+pub trait Opener {
+    /// Reads an open file.
+    type Reader: Read + Drop;
+
+    // The file of this name was opened, and this reads it.
+    ghost opens: { Self → List ℕ → Self.Reader → Type 0 };
+
+    // The file of this name can't be opened.
+    ghost refuses: { Self → List ℕ → Type 0 };
+
+    /// Opens the file of this name to read it, if it can be opened.
+    fn open(&self, name: &str) -> Option<Self::Reader>
+        ensures { MatchOption result (refuses self.now name.now) (opens self.now name.now) };
+}
+
+/// Opens the files of the system. The kit says nothing of what an opened file has, so neither do the facts of this opener.
+#[derive(Drop)]
+pub struct Disk<'a, F: Files> {
+    pub files: &'a F,
+}
+
+impl<F: Files> Opener for Disk<'_, F> {
+    ghost use Rattle.std.specs.Prelude.{⊤};
+
+    type Reader = F::File;
+
+    ghost opens = { λ _ _ _. ⊤ };
+
+    ghost refuses = { λ _ _. ⊤ };
+
+    fn open(&self, name: &str) -> Option<F::File> {
+        fs::open(self.files, name).ok()
+    }
+}
