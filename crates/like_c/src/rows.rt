@@ -51,6 +51,7 @@ pub struct FoundRow {
     pub unused: u32,
 }
 
+#[inline(always)]
 fn page_or_none(page: Option<u32>) -> u32
     ensures { result ≡ page_or_none page }
 {
@@ -72,6 +73,7 @@ impl AnswerRow {
         }
     }
 
+    #[inline(always)]
     fn of_seen(seen: Seen) -> AnswerRow
         ensures { result ≡ seen_row seen }
     {
@@ -82,6 +84,7 @@ impl AnswerRow {
         }
     }
 
+    #[inline(always)]
     pub(crate) fn of_look(answer: LookAnswer) -> AnswerRow
         ensures { result ≡ look_row answer }
     {
@@ -95,6 +98,7 @@ impl AnswerRow {
         }
     }
 
+    #[inline(always)]
     pub(crate) fn of_glance(answer: GlanceAnswer) -> AnswerRow
         ensures { result ≡ glance_row answer }
     {
@@ -125,6 +129,7 @@ impl FoundRow {
 }
 
 // Answers one row. An operation that is none has a status of its own.
+#[inline(always)]
 fn answer(seat: &mut LiveSeat<SharedPost>, request: RequestRow) -> AnswerRow
     ensures { AnswersRow seat.old request result seat.new }
 {

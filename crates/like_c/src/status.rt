@@ -67,6 +67,7 @@ pub(crate) const WRONG_USERS: u32 = 29;
 
 pub(crate) const WRONG_ROOM: u32 = 30;
 
+#[inline(always)]
 pub(crate) fn of_verdict(verdict: Verdict) -> u32
     ensures { result ≡ verdict_status verdict }
 {
@@ -78,6 +79,7 @@ pub(crate) fn of_verdict(verdict: Verdict) -> u32
     }
 }
 
+#[inline(always)]
 pub(crate) fn of_like(answer: LikeAnswer) -> u32
     ensures { result ≡ like_status answer }
 {

@@ -34,6 +34,11 @@ pub none_first : {X : Type 0} (xs : List X) → slice_get xs 0 ≡ None → xs �
 none_first [] h = refl
 none_first (y ∷ ys) h = cc
 
+-- a list of no length
+pub none_long : {X : Type 0} (xs : List X) → length xs ≡ 0 → xs ≡ []
+none_long [] h = refl
+none_long (x ∷ xs) h = absurd (omega arith)
+
 -- who runs a joined phase runs a phase
 pub running : (s : WorkerState) → RunsJoined s → IsRunning s
 running (state.Runs k) h = tt

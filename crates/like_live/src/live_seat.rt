@@ -92,6 +92,7 @@ impl<P: Post + Drop> LiveSeat<P> {
 
 impl<P: Post> LiveSeat<P> {
     /// Looks at the phase word and does the phase work that it asks for, for a thread that has nothing else to do.
+    #[inline(always)]
     pub fn turn(&mut self) -> TurnAnswer
         ensures case { Moves self.old result self.new }
         ensures keeps { IsLive self.new }
@@ -104,6 +105,7 @@ impl<P: Post> LiveSeat<P> {
     }
 
     /// Counts a user's like of a page, which is then the user's last.
+    #[inline(always)]
     pub fn like(&mut self, user: u32, page: u32) -> LikeAnswer
         ensures case { LikeCase self.old user page result self.new }
         ensures keeps { IsLive self.new }
@@ -119,6 +121,7 @@ impl<P: Post> LiveSeat<P> {
     }
 
     /// Looks for a user at a page. A look that waits is found later, with its tag.
+    #[inline(always)]
     pub fn look(&mut self, user: u32, page: u32, tag: u64) -> LookAnswer
         ensures case { LookCase self.old user page tag result self.new }
         ensures keeps { IsLive self.new }
@@ -135,6 +138,7 @@ impl<P: Post> LiveSeat<P> {
 
     /// Looks for a user at a page, and never waits. Of a page that is split now, the count lacks the likes of this phase
     /// of other seats.
+    #[inline(always)]
     pub fn glance(&mut self, user: u32, page: u32) -> GlanceAnswer
         ensures case { GlanceCase self.old user page result self.new }
         ensures keeps { IsLive self.new }

@@ -14,6 +14,7 @@ use like_tables::Stash;
 
 impl<P: Post> LiveSeat<P> {
     // Looks at the phase word, and does the phase work that it asks for.
+    #[inline(always)]
     pub(crate) fn advance(&mut self) -> TurnAnswer
         ensures moves { Moves self.old result self.new }
         ensures keeps { IsLive self.new }
@@ -32,6 +33,7 @@ impl<P: Post> LiveSeat<P> {
 }
 
 // The phase work of a seat that runs a phase.
+#[inline(always)]
 fn work<P: Post>(seat: &mut Seat<P, Asked>, found: &mut Stash<Found>, ending: bool) -> TurnAnswer
     requires looked { HasLooked seat.old found.old }
     requires ending { ending ≡ true → SawEnding seat.old.post.last }
@@ -50,6 +52,7 @@ fn work<P: Post>(seat: &mut Seat<P, Asked>, found: &mut Stash<Found>, ending: bo
 }
 
 // Of a joined phase: all that waits runs first.
+#[inline(always)]
 fn joined_work<P: Post>(
     seat: &mut Seat<P, Asked>,
     found: &mut Stash<Found>,
@@ -70,8 +73,26 @@ fn joined_work<P: Post>(
     TurnAnswer::Between
 }
 
-// Runs all that waits, in order.
+// Runs all that waits, in order. Mostly none does.
+#[inline(always)]
 fn find_all<P: Post>(seat: &mut Seat<P, Asked>, found: &mut Stash<Found>)
+    requires looked { HasLooked seat.old found.old }
+    requires joined { RunsJoined seat.old.post.state }
+    ensures finds { FindsAll (live_of seat.old found.old) (live_of seat.new found.new) }
+    ensures next { All RanNext found.new.held }
+    ensures seat { IsSeat seat.new }
+    ensures capacity { found.new.capacity ≡ found.old.capacity }
+{
+    if seat.holds_none() {
+        return;
+    }
+    find_each(seat, found);
+}
+
+// Runs what waits, one after the other.
+#[cold]
+#[inline(never)]
+fn find_each<P: Post>(seat: &mut Seat<P, Asked>, found: &mut Stash<Found>)
     requires looked { HasLooked seat.old found.old }
     requires joined { RunsJoined seat.old.post.state }
     ensures finds { FindsAll (live_of seat.old found.old) (live_of seat.new found.new) }

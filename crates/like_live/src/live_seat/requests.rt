@@ -18,6 +18,7 @@ pub const MAX_LIKES: u64 = 1 << 56;
 
 impl<P: Post> LiveSeat<P> {
     // Judges a request of a user for a page.
+    #[inline(always)]
     fn verdict(&self, user: u32, page: u32) -> Verdict
         ensures verdict { result ≡ verdict_at self.now.seat user page }
         ensures there { result ≡ Verdict.Accepted → page < pages_of self.now.seat.post }
@@ -38,6 +39,7 @@ impl<P: Post> LiveSeat<P> {
     }
 
     // A like, of a seat that runs a phase.
+    #[inline(always)]
     pub(crate) fn like_now(&mut self, user: u32, page: u32) -> LikeAnswer
         requires { IsRunning self.old.seat.post.state }
         ensures case { LikesNow self.old user page result self.new }
@@ -55,6 +57,7 @@ impl<P: Post> LiveSeat<P> {
     }
 
     // A look, of a seat that runs a phase.
+    #[inline(always)]
     pub(crate) fn look_now(&mut self, user: u32, page: u32, tag: u64) -> LookAnswer
         requires { IsRunning self.old.seat.post.state }
         ensures case { LooksNow self.old user page tag result self.new }
@@ -81,6 +84,7 @@ impl<P: Post> LiveSeat<P> {
     }
 
     // Puts a look at a split page by until the next joined phase.
+    #[inline(never)]
     fn wait(&mut self, asked: Asked)
         requires split { RunsSplit self.old.seat.post.state }
         requires own { IsOwn self.old.seat asked }
@@ -97,6 +101,7 @@ impl<P: Post> LiveSeat<P> {
     }
 
     // A glance, of a seat that runs a phase.
+    #[inline(always)]
     pub(crate) fn glance_now(&mut self, user: u32, page: u32) -> GlanceAnswer
         requires { IsRunning self.old.seat.post.state }
         ensures case { GlancesNow self.old user page result self.new }
