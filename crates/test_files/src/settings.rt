@@ -7,11 +7,18 @@ use like_script::{Turned, check_script};
 use std::alloc::Global;
 use std::process::Abort;
 
-// For so many submitters so many likes each, of the page of the submitter's number.
-fn likes(rt: &impl Abort, alloc: Global, submitters: u32, each: usize) -> Vec<Vec<Request>> {
+// For so many submitters so many likes each: submitter 0 of this page, and each other one of the page after.
+fn likes(
+    rt: &impl Abort,
+    alloc: Global,
+    submitters: u32,
+    each: usize,
+    first: u32,
+) -> Vec<Vec<Request>> {
     let mut plans = Vec::new(alloc);
-    for page in 0..submitters {
-        let plan = vec![in alloc; like_of(page); each].expect(rt, "memory");
+    for submitter in 0..submitters {
+        let like = like_of(first.saturating_add(submitter));
+        let plan = vec![in alloc; like; each].expect(rt, "memory");
         assert!(rt; plans.push(plan).is_ok());
     }
     plans
@@ -25,33 +32,35 @@ fn like_of(page: u32) -> Request {
     }
 }
 
-// Workers, users, places of the stash, turns, submitters and how many likes each of these has; likes of a hot page, if
-// pages are chosen; and the answer. There is one page, so a like of submitter 1 is at fault.
+// Workers, users, places of the stash, turns, submitters, how many likes each of these has, and the page of those of
+// submitter 0; likes of a hot page, if pages are chosen; and the answer. There is one page, so a like of another is at
+// fault.
 const SETTINGS: &str = "\
-1 2 256 1000 1 1||Ok(())
-1 2 256 1000 2 1||Err(Plan { submitter: 1 })
-1 1 1 0 64 0||Ok(())
-16 1000000 4096 1000000 64 0||Ok(())
-0 1 1 0 64 0||Err(Workers)
-17 1 1 0 64 0||Err(Workers)
-1 0 1 0 64 0||Err(Users)
-1 1000001 1 0 64 0||Err(Users)
-1 1 0 0 64 0||Err(Stash)
-1 1 4097 0 64 0||Err(Stash)
-1 1 1 1000001 64 0||Err(Turns)
-1 1 1 0 1 0|0|Err(Hot)
-1 1 1 0 1 0|1|Ok(())
-1 1 1 0 1 0|1000000|Ok(())
-1 1 1 0 1 0|1000001|Err(Hot)
-1 1 1 0 0 0||Err(Submitters)
-1 1 1 0 1 0||Ok(())
-1 1 1 0 65 0||Err(Submitters)
-1 1 1 0 1 1000000||Ok(())
-1 1 1 0 1 1000001||Err(Plan { submitter: 0 })";
+1 2 256 1000 1 1 0||Ok(())
+1 2 256 1000 2 1 0||Err(Plan { submitter: 1 })
+1 2 256 1000 1 1 1||Err(Plan { submitter: 0 })
+1 1 1 0 64 0 0||Ok(())
+16 1000000 4096 1000000 64 0 0||Ok(())
+0 1 1 0 64 0 0||Err(Workers)
+17 1 1 0 64 0 0||Err(Workers)
+1 0 1 0 64 0 0||Err(Users)
+1 1000001 1 0 64 0 0||Err(Users)
+1 1 0 0 64 0 0||Err(Stash)
+1 1 4097 0 64 0 0||Err(Stash)
+1 1 1 1000001 64 0 0||Err(Turns)
+1 1 1 0 1 0 0|0|Err(Hot)
+1 1 1 0 1 0 0|1|Ok(())
+1 1 1 0 1 0 0|1000000|Ok(())
+1 1 1 0 1 0 0|1000001|Err(Hot)
+1 1 1 0 0 0 0||Err(Submitters)
+1 1 1 0 1 0 0||Ok(())
+1 1 1 0 65 0 0||Err(Submitters)
+1 1 1 0 1 1000000 0||Ok(())
+1 1 1 0 1 1000001 0||Err(Plan { submitter: 0 })";
 
-// The six numbers of a text.
-fn numbers(rt: &impl Abort, text: &str) -> [u32; 6] {
-    let mut numbers = [0; 6];
+// The seven numbers of a text.
+fn numbers(rt: &impl Abort, text: &str) -> [u32; 7] {
+    let mut numbers = [0; 7];
     for (number, word) in numbers.iter_mut().zip(text.split(' ')) {
         *number = word.parse().expect(rt, "a number");
     }
@@ -59,8 +68,8 @@ fn numbers(rt: &impl Abort, text: &str) -> [u32; 6] {
 }
 
 // The settings of a case.
-fn setup(rt: &impl Abort, alloc: Global, numbers: &[u32; 6], hot: &str) -> Setup {
-    let [workers, users, stash, turns, _, _] = *numbers;
+fn setup(rt: &impl Abort, alloc: Global, numbers: &[u32; 7], hot: &str) -> Setup {
+    let [workers, users, stash, turns, _, _, _] = *numbers;
     Setup {
         workers,
         users,
@@ -81,9 +90,9 @@ fn checks_the_settings(rt: HostRuntime) {
 }
 
 // What is said of the settings of a case.
-fn checked(rt: &impl Abort, alloc: Global, numbers: &[u32; 6], hot: &str) -> String {
+fn checked(rt: &impl Abort, alloc: Global, numbers: &[u32; 7], hot: &str) -> String {
     let setup = setup(rt, alloc, numbers, hot);
-    let plans = likes(rt, alloc, numbers[4], numbers[5] as usize);
+    let plans = likes(rt, alloc, numbers[4], numbers[5] as usize, numbers[6]);
     shown(rt, alloc, &check_setup(&setup, &plans))
 }
 

@@ -1,7 +1,7 @@
 //! Cases of the worked examples.
-use super::watch::Watch;
 use like_replies::Report;
 use like_requests::{Op, PageRef, Pages, Request, Setup, read_pages, read_requests};
+use like_roles::Gate;
 use like_run::{MAX_ENTRIES, ReplayFault, RunFault, Turned, replay, run};
 use std::alloc::Global;
 use std::process::Abort;
@@ -73,7 +73,7 @@ impl Case {
         rt: &(impl Abort + Threads + Wait + Sync),
         alloc: Global,
         plans: Vec<Vec<Request>>,
-        gate: &Watch,
+        gate: &impl Gate,
     ) -> Result<Report, RunFault> {
         run(rt, alloc, &self.setup(rt, alloc), plans, gate)
     }
@@ -84,7 +84,7 @@ impl Case {
         rt: &(impl Abort + Threads + Wait + Sync),
         alloc: Global,
         plans: Vec<Vec<Request>>,
-        gate: &Watch,
+        gate: &impl Gate,
     ) -> Report {
         self.run(rt, alloc, plans, gate).expect(rt, "a report")
     }
@@ -208,6 +208,13 @@ pub const FULL_STASH: Case = Case {
     stash: 1,
     requests: &["look,0,a\nlook,0,a\n"],
     script: "o0 o0 c0 w0 c0 w0 w0 c0 w0 c0 w0 w0",
+    ..SMALL
+};
+
+pub const UNSPLIT: Case = Case {
+    pages: "a,7,no\n",
+    requests: &["like,0,a\nlook,0,a\n"],
+    script: "o0 o0 c0 w0 c0 w0 w0",
     ..SMALL
 };
 

@@ -5,7 +5,11 @@
 #[cfg(test)]
 mod cases;
 #[cfg(test)]
+mod count;
+#[cfg(test)]
 mod drawn;
+#[cfg(test)]
+mod ledger;
 #[cfg(test)]
 mod mixed;
 #[cfg(test)]

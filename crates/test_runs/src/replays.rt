@@ -1,12 +1,27 @@
 //! Replays of scripts: what the workers took and ran, refused scripts, and how long a replay may last.
 use super::cases::{
-    Case, FULL_STASH, LATE_WORKER, SMALL, SPLIT_AND_STASH, STASH_THEN_LIKE, TWO_SLICES, likes,
+    Case, FULL_STASH, IDLE_WORKERS, LATE_WORKER, PLAIN_LIKES, SMALL, SPLIT_AND_STASH,
+    STASH_THEN_LIKE, TWO_SLICES, UNSPLIT, likes,
 };
 use like_replies::Report;
 use like_roles::{Chosen, Ran, Took};
 use like_run::ReplayFault;
 use std::alloc::{AllocError, Global};
 use std::process::Abort;
+
+// Example `hot-choice`: the page is hot in phase 3, so the look that is taken there waits for phase 4.
+const HOT_CHOICE: Case = Case {
+    hot: Some(2),
+    pages: "a,0,no\n",
+    requests: &["like,0,a\nlike,0,a\nlook,0,a\n"],
+    ..SMALL
+};
+
+// The same where the page is never hot.
+const COOL_CHOICE: Case = Case {
+    hot: Some(3),
+    ..HOT_CHOICE
+};
 
 // A case, a worker of it, what that takes, and in which order it runs it. `1.0.2` is request 2 of submitter 0 in phase 1,
 // and `2.0.2+` one that was stashed.
@@ -16,8 +31,12 @@ const LOGS: &[(&Case, usize, &str, &str)] = &[
     (&LATE_WORKER, 1, "1.1.1 1.1.2 ", "2.1.1+ 2.1.2+ "),
     (&STASH_THEN_LIKE, 0, "1.0.1 1.0.2 ", "1.0.2 2.0.1+ "),
     (&FULL_STASH, 0, "1.0.1 2.0.2 ", "2.0.1+ 2.0.2 "),
+    (&UNSPLIT, 0, "1.0.1 1.0.2 ", "1.0.1 1.0.2 "),
     (&TWO_SLICES, 0, "1.0.1 1.0.2 ", "1.0.1 2.0.2+ "),
     (&TWO_SLICES, 1, "1.1.1 ", "1.1.1 "),
+    (&IDLE_WORKERS, 0, "1.0.1 ", "1.0.1 "),
+    (&HOT_CHOICE, 0, "1.0.1 2.0.2 3.0.3 ", "1.0.1 2.0.2 4.0.3+ "),
+    (&COOL_CHOICE, 0, "1.0.1 2.0.2 3.0.3 ", "1.0.1 2.0.2 3.0.3 "),
 ];
 
 // A test that takes them from here has none of their texts in its proof, as it would with a constant.
@@ -92,29 +111,38 @@ fn assert_end(rt: &impl Abort, alloc: Global, replayed: &Result<Report, ReplayFa
     assert_text(rt, end_text(alloc, replayed), end);
 }
 
-// Example `hot-choice`: the page is hot in phase 3, so the look that is taken there waits for phase 4.
-const HOT_CHOICE: Case = Case {
-    hot: Some(2),
-    pages: "a,0,no\n",
-    requests: &["like,0,a\nlike,0,a\nlook,0,a\n"],
+const AWAY: Case = Case {
+    workers: 2,
+    requests: &["like,0,a\n"],
+    script: "w0 w5",
     ..SMALL
 };
 
+// A case, and what its replay ends in.
+const ENDS: &[(&Case, &str)] = &[
+    (&PLAIN_LIKES, "[] [13] 0"),
+    (&SPLIT_AND_STASH, "[] [11] 4"),
+    (&LATE_WORKER, "[] [0] 4"),
+    (&STASH_THEN_LIKE, "[] [5, 1] 4"),
+    (&FULL_STASH, "[] [0] 4"),
+    (&UNSPLIT, "[] [8] 2"),
+    (&TWO_SLICES, "[] [102] 4"),
+    (&IDLE_WORKERS, "[] [1] 2"),
+    (&HOT_CHOICE, "[Chosen { phase: 3, mask: 1 }] [2] 6"),
+    (&COOL_CHOICE, "[] [2] 4"),
+    (&AWAY, "Settings(Script { at: 1 })"),
+];
+
+// A test that takes them from here has none of their texts in its proof, as it would with a constant.
+fn all_ends() -> &'static [(&'static Case, &'static str)] {
+    ENDS
+}
+
 #[test]
-fn chooses_hot_pages(rt: HostRuntime) {
-    let alloc = rt.alloc();
-    let replayed = HOT_CHOICE.replay(&rt, alloc);
-    assert_end(
-        &rt,
-        alloc,
-        &replayed,
-        "[Chosen { phase: 3, mask: 1 }] [2] 6",
-    );
-    let case = Case {
-        hot: Some(3),
-        ..HOT_CHOICE
-    };
-    assert_end(&rt, alloc, &case.replay(&rt, alloc), "[] [2] 4");
+fn ends_of_scripts(rt: HostRuntime) {
+    for (case, end) in all_ends() {
+        assert_end(&rt, rt.alloc(), &case.replay(&rt, rt.alloc()), end);
+    }
 }
 
 // Whether entry n of a log ran in phase n and is number n, from 1 on.
@@ -159,18 +187,6 @@ fn chooses_in_1024_phases_at_most(rt: HostRuntime) {
     let plans = likes(&rt, rt.alloc(), 1, 2_060);
     let report = case.replay_plans(&rt, rt.alloc(), plans);
     assert_hot_in_1024_phases(&rt, &report.expect(&rt, "a report"));
-}
-
-#[test]
-fn names_the_entry_that_is_not_there(rt: HostRuntime) {
-    let case = Case {
-        workers: 2,
-        requests: &["like,0,a\n"],
-        script: "w0 w5",
-        ..SMALL
-    };
-    let replayed = case.replay(&rt, rt.alloc());
-    assert_end(&rt, rt.alloc(), &replayed, "Settings(Script { at: 1 })");
 }
 
 #[test]

@@ -1,5 +1,6 @@
 //! Runs on threads. What is asserted of them is the same on every schedule.
 use super::cases::{Case, ONE_PAGE, PLAIN_LIKES, likes};
+use super::ledger::Ledger;
 use super::watch::{Held, Watch};
 use like_replies::{Answer, Report};
 use like_requests::{Request, SettingsFault};
@@ -63,18 +64,29 @@ fn runs_many_submitters(rt: HostRuntime) {
     }
 }
 
-// Submitter 0 has two requests, submitter 1 three.
+// Asserts where the first two additions to the page of a report stand: worker 1's stands behind one of worker 0.
+fn assert_second_is_of_worker_1(rt: &impl Abort, report: &Report) {
+    let places = report.places.first().expect(rt, "a page");
+    let [first, second, ..] = places.as_slice() else {
+        panic!(rt; "few places");
+    };
+    assert!(rt; (first.worker, first.old) == (0, 0));
+    assert!(rt; (second.worker, second.old) == (1, 1));
+}
+
+// Each submitter has more likes than 16 bits can number, and those of submitter 2 are refused. All of it is in phase 0.
 #[test]
-fn tells_the_gate_who_pushes(rt: HostRuntime) {
+fn tells_the_gate_of_each_call(rt: HostRuntime) {
     let case = Case {
-        requests: &["like,0,a\nlike,0,a\n", "like,1,a\nlike,1,a\nlike,1,a\n"],
+        turns: 1_000_000,
         ..ONE_PAGE
     };
-    let plans = case.plans(&rt, rt.alloc());
-    let gate = Watch::idle();
-    let report = case.report(&rt, rt.alloc(), plans, &gate);
-    assert!(rt; report.counts.as_slice() == [5].as_slice());
-    assert!(rt; gate.sums() == (1 + 2, 1 + 2 + 3));
+    let gate = Ledger::new();
+    let report = case.report(&rt, rt.alloc(), likes(&rt, rt.alloc(), 3, 70_000), &gate);
+    assert!(rt; gate.is_right());
+    assert!(rt; gate.has_all(70_000));
+    assert!(rt; report.counts.as_slice() == [140_000].as_slice());
+    assert_second_is_of_worker_1(&rt, &report);
 }
 
 // Asserts that a run with a gate that holds calls ends with two likes, that both calls were made, and that none waited

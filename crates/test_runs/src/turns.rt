@@ -9,7 +9,7 @@ ghost use Rattle.like_run.specs.Rounds.{CanMake};
 
 use super::cases::{
     Case, FULL_STASH, IDLE_WORKERS, LATE_WORKER, PLAIN_LIKES, SPLIT_AND_STASH, STASH_THEN_LIKE,
-    TWO_SLICES, turns,
+    TWO_SLICES, UNSPLIT, turns,
 };
 use like_crew::{Crew, Site};
 use like_queue::ListInbox;
@@ -162,6 +162,7 @@ const ANSWERS: &[(&Case, &str)] = &[
         &FULL_STASH,
         "Announced Acknowledged Released Stashed Idle Announced Reported Released Ran Ran",
     ),
+    (&UNSPLIT, "Announced Acknowledged Released Ran Ran"),
     (&TWO_SLICES, SLICES),
     (&IDLE_TURNS, IDLE),
 ];

@@ -1,6 +1,6 @@
 //! A gate that counts its calls and holds some of them.
+use super::count::Count;
 use like_roles::Gate;
-use std::sync::atomic::{AtomicU32, Ordering};
 use std::thread::yield_now;
 
 /// Which calls of a gate wait, and for what.
@@ -17,32 +17,6 @@ pub enum Held {
     SecondRequest,
 }
 
-// A number that threads count.
-#[derive(Drop)]
-struct Count {
-    number: AtomicU32,
-}
-
-impl Count {
-    fn none() -> Count {
-        Count {
-            number: AtomicU32::new(0),
-        }
-    }
-
-    fn get(&self) -> u32 {
-        self.number.load(Ordering::SeqCst)
-    }
-
-    fn add(&self, number: u32) {
-        self.number.fetch_add(number, Ordering::SeqCst);
-    }
-
-    fn raise(&self, number: u32) {
-        self.number.fetch_max(number, Ordering::SeqCst);
-    }
-}
-
 /// A gate at which calls wait, each for so many looks at most.
 #[derive(Drop)]
 pub struct Watch {
@@ -52,9 +26,6 @@ pub struct Watch {
     made: Count,
     given_up: Count,
     pushed: Count,
-    // The sums of the numbers that submitters 0 and 1 pushed.
-    sum_0: Count,
-    sum_1: Count,
     ran: Count,
     // One more than the greatest phase that a worker entered.
     entered: Count,
@@ -68,8 +39,6 @@ impl Watch {
             made: Count::none(),
             given_up: Count::none(),
             pushed: Count::none(),
-            sum_0: Count::none(),
-            sum_1: Count::none(),
             ran: Count::none(),
             entered: Count::none(),
         }
@@ -83,11 +52,6 @@ impl Watch {
     /// How many requests were pushed, and how many ran.
     pub fn calls(&self) -> (u32, u32) {
         (self.pushed.get(), self.ran.get())
-    }
-
-    /// The sums of the numbers of the requests that submitters 0 and 1 pushed.
-    pub fn sums(&self) -> (u32, u32) {
-        (self.sum_0.get(), self.sum_1.get())
     }
 
     /// How many phases were entered, from phase 0 on.
@@ -122,13 +86,8 @@ impl Watch {
 }
 
 impl Gate for Watch {
-    fn push(&self, s: u32, n: u32) {
+    fn push(&self, _s: u32, n: u32) {
         self.pushed.add(1);
-        match s {
-            0 => self.sum_0.add(n),
-            1 => self.sum_1.add(n),
-            _ => {}
-        }
         match (self.held, n) {
             (Held::Submitters, 1) => {
                 self.note();

@@ -112,6 +112,69 @@ fn through<R: Threads + Wait + Sync>(rt: &R, alloc: Global, plan: Vec<Request>) 
     )
 }
 
+// How many requests a line was given and gave.
+#[derive(Clone, Copy)]
+struct Passed {
+    sent: u32,
+    taken: u32,
+}
+
+impl Passed {
+    // What a push of the next one answers.
+    fn push(&mut self) -> Result<u32, PushRefused> {
+        if self.sent.saturating_sub(self.taken) >= 64 {
+            return Err(PushRefused::Full(LIKE));
+        }
+        self.sent = self.sent.saturating_add(1);
+        Ok(self.sent)
+    }
+
+    // What a take of the next one gives.
+    fn take(&mut self) -> Taken {
+        if self.taken == self.sent {
+            return Taken::Nothing;
+        }
+        self.taken = self.taken.saturating_add(1);
+        Taken::Ask(Numbered {
+            number: self.taken,
+            request: LIKE,
+        })
+    }
+}
+
+// Asserts the answers of so many pushes, where a request is left.
+fn assert_pushes<R: Wait + Abort>(rt: &R, end: &mut SendEnd<'_>, passed: &mut Passed, count: u32) {
+    for _ in 0..count {
+        if end.next().is_some() {
+            assert_push(rt, end, passed.push());
+        }
+    }
+}
+
+// Asserts the answers of so many takes.
+fn assert_takes<R: Wait + Abort>(rt: &R, end: &mut TakeEnd<'_>, passed: &mut Passed, count: u32) {
+    for _ in 0..count {
+        assert_eq!(rt; end.take(rt), passed.take());
+    }
+}
+
+// On one thread a line is full with 64 requests and at no other time, and empty with none: here by 20,000 requests, some
+// pushes and some takes at a time.
+#[test]
+fn is_full_and_empty_in_its_time(rt: HostRuntime) -> Result<(), Fail> {
+    let (line, send, take) = Line::new(rt.alloc(), Vec::from_elem(rt.alloc(), LIKE, 20_000)?)?;
+    let (mut send, mut take) = (send.at(&line), take.at(&line));
+    let mut passed = Passed { sent: 0, taken: 0 };
+    for step in 0..2_000_u32 {
+        assert_pushes(&rt, &mut send, &mut passed, step.wrapping_mul(37) % 71);
+        assert_takes(&rt, &mut take, &mut passed, step.wrapping_mul(53) % 73);
+    }
+    assert_eq!(rt; passed.taken, 20_000);
+    assert_end(&rt, &mut send, Ok(()));
+    assert_eq!(rt; take.take(&rt), Taken::End);
+    Ok(())
+}
+
 #[test]
 fn holds_sixty_four(rt: HostRuntime) -> Result<(), Fail> {
     let (line, send, take) = Line::new(rt.alloc(), Vec::from_elem(rt.alloc(), LIKE, 66)?)?;
