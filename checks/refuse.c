@@ -1,9 +1,10 @@
 /* Refuses calls of the program that it is loaded before (LD_PRELOAD), as a machine does that has no more to give.
  *
- * REFUSE_COUNTS names a file of KINDS numbers of 64 bits, in which the calls of each kind are counted. REFUSE is "KIND
- * FIRST LAST": of that kind the calls from FIRST to LAST are refused, counted from 1; without it none is.
+ * REFUSE_COUNTS names a file of numbers of 64 bits, a struct of counts. In it the calls of each kind are counted, and of
+ * each thread the growths that it makes. REFUSE is "KIND FIRST LAST": of that kind the calls from FIRST to LAST are
+ * refused, counted from 1; without it none is.
  * With REFUSE_AGAIN the program does what it does once more in the same process, with nothing refused. Between the two
- * it writes AGAIN on both outputs, and the status of the first as one more number to the file of REFUSE_COUNTS.
+ * it writes AGAIN on both outputs. The file then has the status of the first, and how many blocks of memory each kept.
  */
 #define _GNU_SOURCE
 #include <dlfcn.h>
@@ -22,13 +23,34 @@ enum kind { GROWTH, START, OPEN, READ, WRITE, KINDS };
 
 #define AGAIN "\n-- again --\n"
 
-static unsigned long *counts;
+/* Starts and joins of threads that are noted, at most. */
+#define NOTED 1000
+
+static struct counts {
+    unsigned long of[KINDS];
+    unsigned long status;
+    /* How many blocks each of two passes has not given back. */
+    unsigned long kept[2];
+    /* The growths of each thread but the main one, by its number. */
+    unsigned long bodies[NOTED];
+    /* The starts and joins of the main thread: how many growths it made until then, and the started thread's number. */
+    unsigned long noted;
+    struct { unsigned long growths, thread; } events[NOTED];
+} *counts;
+
 static unsigned long kind, first, last;
 static int is_again;
 
+/* The blocks in use, and how many there were before a pass. */
+static long blocks, before;
+
+/* The number of this thread, from 1, and 0 for the main thread; how many growths it made; whether it starts another. */
+static __thread unsigned long number, growths;
+static __thread int is_starting;
+
 __attribute__((constructor)) static void begin(void) {
     int file = open(getenv("REFUSE_COUNTS"), O_RDWR);
-    counts = mmap(NULL, (KINDS + 1) * sizeof *counts, PROT_READ | PROT_WRITE, MAP_SHARED, file, 0);
+    counts = mmap(NULL, sizeof *counts, PROT_READ | PROT_WRITE, MAP_SHARED, file, 0);
     if (counts == MAP_FAILED)
         abort();
     close(file);
@@ -41,8 +63,8 @@ __attribute__((constructor)) static void begin(void) {
 static int is_refused(enum kind of) {
     if (counts == NULL || counts == MAP_FAILED || is_again)
         return 0;
-    unsigned long number = __atomic_add_fetch(&counts[of], 1, __ATOMIC_SEQ_CST);
-    return of == kind && first <= number && number <= last;
+    unsigned long call = __atomic_add_fetch(&counts->of[of], 1, __ATOMIC_SEQ_CST);
+    return of == kind && first <= call && call <= last;
 }
 
 static int refuses(enum kind of, int why) {
@@ -54,16 +76,122 @@ static int refuses(enum kind of, int why) {
 
 #define NEXT(name) ((__typeof__(&name))dlsym(RTLD_NEXT, #name))
 
+/* A block of the program, with a mark before it by which it is known. What the C library takes where it starts a thread
+ * has none, since it keeps that for the threads that follow. */
+struct head {
+    unsigned long mark, unused;
+};
+
+#define MARK 0x9e3779b97f4a7c15
+
+void *__libc_malloc(size_t);
+void *__libc_calloc(size_t, size_t);
+void *__libc_realloc(void *, size_t);
+void __libc_free(void *);
+
+static void *marked(struct head *head) {
+    if (head == NULL)
+        return NULL;
+    head->mark = (unsigned long)(head + 1) ^ MARK;
+    return head + 1;
+}
+
+static struct head *head_of(void *block) {
+    struct head *head = (struct head *)block - 1;
+    return block && head->mark == ((unsigned long)block ^ MARK) ? head : NULL;
+}
+
+static void *counted(struct head *head) {
+    if (head)
+        __atomic_add_fetch(&blocks, 1, __ATOMIC_SEQ_CST);
+    growths++;
+    return marked(head);
+}
+
 void *malloc(size_t size) {
-    return refuses(GROWTH, ENOMEM) ? NULL : NEXT(malloc)(size);
+    if (refuses(GROWTH, ENOMEM))
+        return NULL;
+    return is_starting ? __libc_malloc(size) : counted(__libc_malloc(sizeof(struct head) + size));
+}
+
+void *calloc(size_t count, size_t size) {
+    return is_starting ? __libc_calloc(count, size) : counted(__libc_calloc(1, sizeof(struct head) + count * size));
 }
 
 void *realloc(void *block, size_t size) {
-    return refuses(GROWTH, ENOMEM) ? NULL : NEXT(realloc)(block, size);
+    struct head *head = head_of(block);
+    if (block && !head)
+        return __libc_realloc(block, size);
+    if (!head)
+        return malloc(size);
+    growths++;
+    return refuses(GROWTH, ENOMEM) ? NULL : marked(__libc_realloc(head, sizeof(struct head) + size));
 }
 
-int pthread_create(pthread_t *thread, const pthread_attr_t *how, void *(*body)(void *), void *value) {
-    return is_refused(START) ? EAGAIN : NEXT(pthread_create)(thread, how, body, value);
+void free(void *block) {
+    struct head *head = head_of(block);
+    if (!head) {
+        __libc_free(block);
+        return;
+    }
+    head->mark = 0;
+    __atomic_sub_fetch(&blocks, 1, __ATOMIC_SEQ_CST);
+    __libc_free(head);
+}
+
+/* A thread's body with its value. */
+struct body {
+    void *(*call)(void *);
+    void *value;
+    unsigned long number;
+};
+
+static struct body bodies[NOTED];
+
+/* How many threads were started, and how many of them run. */
+static unsigned long started, running;
+
+static void *run_body(void *value) {
+    struct body *body = value;
+    number = body->number;
+    void *ended = body->call(body->value);
+    if (!is_again)
+        counts->bodies[number] = growths;
+    __atomic_sub_fetch(&running, 1, __ATOMIC_SEQ_CST);
+    return ended;
+}
+
+/* Notes a start of the main thread, or a join with the number 0. */
+static void note(unsigned long thread) {
+    if (number || is_again || counts->noted == NOTED)
+        return;
+    counts->events[counts->noted].growths = growths;
+    counts->events[counts->noted++].thread = thread;
+}
+
+int pthread_create(pthread_t *thread, const pthread_attr_t *how, void *(*call)(void *), void *value) {
+    if (is_refused(START))
+        return EAGAIN;
+    unsigned long of = __atomic_add_fetch(&started, 1, __ATOMIC_SEQ_CST);
+    if (of < NOTED) {
+        bodies[of] = (struct body){call, value, of};
+        call = run_body;
+        value = &bodies[of];
+        __atomic_add_fetch(&running, 1, __ATOMIC_SEQ_CST);
+    }
+    is_starting = 1;
+    int failed = NEXT(pthread_create)(thread, how, call, value);
+    is_starting = 0;
+    if (failed && of < NOTED)
+        __atomic_sub_fetch(&running, 1, __ATOMIC_SEQ_CST);
+    if (!failed)
+        note(of);
+    return failed;
+}
+
+int pthread_join(pthread_t thread, void **value) {
+    note(0);
+    return NEXT(pthread_join)(thread, value);
 }
 
 int open(const char *name, int flags, ...) {
@@ -94,7 +222,13 @@ static pthread_t caller;
 
 /* What ends the process ends the first of two passes in place of it. */
 static void end_pass(int status) {
-    if (the_main && !is_again && pthread_equal(pthread_self(), caller))
+    if (!the_main || !pthread_equal(pthread_self(), caller))
+        return;
+    /* A thread that nobody joins gives its block back when it ends. */
+    for (int looks = 0; looks < 1000 && __atomic_load_n(&running, __ATOMIC_SEQ_CST); looks++)
+        usleep(1000);
+    counts->kept[is_again] = blocks - before;
+    if (!is_again)
         longjmp(ended, status + 1);
 }
 
@@ -112,14 +246,17 @@ void _exit(int status) {
 
 static int main_twice(int count, char **words, char **settings) {
     caller = pthread_self();
+    before = blocks;
     int jumped = setjmp(ended);
-    int status = jumped ? jumped - 1 : the_main(count, words, settings);
-    counts[KINDS] = status;
+    if (!jumped)
+        _exit(the_main(count, words, settings));
+    counts->status = jumped - 1;
     is_again = 1;
     for (int out = 1; out <= 2; out++)
         if (write(out, AGAIN, sizeof AGAIN - 1) < 0)
             return 1;
-    return the_main(count, words, settings);
+    before = blocks;
+    _exit(the_main(count, words, settings));
 }
 
 int __libc_start_main(entry *main, int count, char **words, void (*init)(void), void (*fini)(void),
