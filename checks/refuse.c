@@ -147,13 +147,17 @@ struct body {
 };
 
 static struct body bodies[NOTED];
-static unsigned long started;
+
+/* How many threads were started, and how many of them run. */
+static unsigned long started, running;
 
 static void *run_body(void *value) {
     struct body *body = value;
     number = body->number;
     void *ended = body->call(body->value);
-    counts->bodies[number] = growths;
+    if (!is_again)
+        counts->bodies[number] = growths;
+    __atomic_sub_fetch(&running, 1, __ATOMIC_SEQ_CST);
     return ended;
 }
 
@@ -169,12 +173,17 @@ int pthread_create(pthread_t *thread, const pthread_attr_t *how, void *(*call)(v
     if (is_refused(START))
         return EAGAIN;
     unsigned long of = __atomic_add_fetch(&started, 1, __ATOMIC_SEQ_CST);
-    int is_noted = of < NOTED && !is_again;
-    if (is_noted)
+    if (of < NOTED) {
         bodies[of] = (struct body){call, value, of};
+        call = run_body;
+        value = &bodies[of];
+        __atomic_add_fetch(&running, 1, __ATOMIC_SEQ_CST);
+    }
     is_starting = 1;
-    int failed = NEXT(pthread_create)(thread, how, is_noted ? run_body : call, is_noted ? &bodies[of] : value);
+    int failed = NEXT(pthread_create)(thread, how, call, value);
     is_starting = 0;
+    if (failed && of < NOTED)
+        __atomic_sub_fetch(&running, 1, __ATOMIC_SEQ_CST);
     if (!failed)
         note(of);
     return failed;
@@ -215,6 +224,9 @@ static pthread_t caller;
 static void end_pass(int status) {
     if (!the_main || !pthread_equal(pthread_self(), caller))
         return;
+    /* A thread that nobody joins gives its block back when it ends. */
+    for (int looks = 0; looks < 1000 && __atomic_load_n(&running, __ATOMIC_SEQ_CST); looks++)
+        usleep(1000);
     counts->kept[is_again] = blocks - before;
     if (!is_again)
         longjmp(ended, status + 1);
