@@ -143,7 +143,7 @@ static void openings(void) {
     uint64_t counts[LIKES_MAX_PAGES + 1] = {0};
     bool marks[LIKES_MAX_PAGES + 1] = {false};
     likes_driver driver = {0};
-    likes_options right = {.seats = 16, .users = 1, .room = 4096, .hot = UINT32_MAX}, wrong_one;
+    likes_options right = {.seats = 16, .users = 1, .room = 4096, .hot = 1000000}, wrong_one;
 #define REFUSED(field, value, status)                                         \
     wrong_one = right;                                                        \
     wrong_one.field = (value);                                                \
@@ -156,6 +156,8 @@ static void openings(void) {
     REFUSED(room, 0, LIKES_WRONG_ROOM);
     REFUSED(room, 4097, LIKES_WRONG_ROOM);
     REFUSED(room, UINT32_MAX, LIKES_WRONG_ROOM);
+    REFUSED(hot, 1000001, LIKES_WRONG_HOT);
+    REFUSED(hot, UINT32_MAX, LIKES_WRONG_HOT);
     IS(likes_open(&right, counts, 0, marks, 0, &driver), LIKES_WRONG_PAGES);
     IS(likes_open(&right, counts, LIKES_MAX_PAGES + 1, marks, 0, &driver), LIKES_WRONG_PAGES);
     IS(likes_open(&right, counts, 2, marks, 1, &driver), LIKES_WRONG_MARKS);

@@ -16,7 +16,7 @@
  *     that isn't called holds up all others.
  *
  * What the library does
- *   - It tests every number but hot, which may be any. A wrong one gets a status of its own, and nothing is changed.
+ *   - It tests every number. A wrong one gets a status of its own, and nothing is changed.
  *   - No call waits, sleeps or takes a lock. Only likes_open takes memory, by malloc.
  */
 #ifndef LIKES_H
@@ -54,7 +54,8 @@ typedef struct likes_options {
     uint32_t seats; /* 1 to 16 */
     uint32_t users; /* 1 to 2^32 - 1. Users are numbered from 0, and take 4 bytes each. */
     uint32_t room;  /* how many looks a seat keeps, waiting and found ones together: 1 to 4,096 */
-    uint32_t hot;   /* of the first 64 pages, those with so many likes since the last choice get hot; 0: none does */
+    uint32_t hot;   /* 1 to 1,000,000: of the first 64 pages, those with so many likes since the last choice get hot;
+                       0: none does */
 } likes_options;
 
 /* What calls answer. */
@@ -95,7 +96,8 @@ enum likes_status {
     LIKES_WRONG_COUNT = 27, /* an initial count is over 10^18 */
     LIKES_WRONG_SEATS = 28,
     LIKES_WRONG_USERS = 29,
-    LIKES_WRONG_ROOM = 30
+    LIKES_WRONG_ROOM = 30,
+    LIKES_WRONG_HOT = 31 /* over 1,000,000 */
 };
 
 /* What is asked for in a row of likes_run. */

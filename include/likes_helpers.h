@@ -28,7 +28,7 @@ extern "C" {
 #endif
 
 /* The driver's thread can't be started: one status more of likes_service_start. */
-#define LIKES_NO_THREAD 31u
+#define LIKES_NO_THREAD 32u
 
 /* So often a call tries again at once while its seat is between phases, before it yields the processor. */
 #define LIKES_SPINS 64u
@@ -69,7 +69,8 @@ static inline const char *likes_status_name(uint32_t status) {
         /* 0 */ "ok", "liked", "seen", "waits", "runs", "between", "no room", "unknown user", "other seat",
         /* 9 */ "unknown page", "unknown op", "full", "gone", "running", "announced", "waiting", "released",
         /* 17 */ "counted", "ended", "empty", "in use", "no seat", "not ended", "wrong length", "no memory",
-        /* 25 */ "wrong pages", "wrong marks", "wrong count", "wrong seats", "wrong users", "wrong room", "no thread",
+        /* 25 */ "wrong pages", "wrong marks", "wrong count", "wrong seats", "wrong users", "wrong room", "wrong hot",
+        /* 32 */ "no thread",
     };
     return status < sizeof names / sizeof *names ? names[status] : "unknown status";
 }

@@ -1,8 +1,8 @@
 -- A call of what a handle holds, and what likes.h tells of it.
-use Rattle.std.specs.Prelude.{◌≡◌, ◌≢◌, ◌⊎◌, ℕ, ◌≤◌, Bool, true, false, length, min, slice_get, take, List, [], ◌∷◌, ◌++◌, Option, Some, None, vec_len}
+use Rattle.std.specs.Prelude.{◌≡◌, ◌≢◌, ◌⊎◌, ℕ, ◌≤◌, Bool, true, false, length, min, slice_get, take, List, [], ◌∷◌, ◌++◌, Option, Some, None}
 use Rattle.std.specs.Global.{Global}
 use Rattle.std_alloc.specs.declared.boxed.Box.{Box}
-use Rattle.like_live.specs.LiveView.{LiveView}
+use Rattle.like_live.specs.LiveView.{LiveView, RanNext}
 use Rattle.like_live.specs.declared.answer.GlanceAnswer.{GlanceAnswer}
 use Rattle.like_live.specs.declared.answer.LikeAnswer.{LikeAnswer}
 use Rattle.like_live.specs.declared.answer.LookAnswer.{LookAnswer}
@@ -20,9 +20,9 @@ use Rattle.like_c.specs.declared.rows.AnswerRow.{AnswerRow}
 use Rattle.like_c.specs.declared.rows.FoundRow.{FoundRow}
 use Rattle.like_c.specs.declared.rows.RequestRow.{RequestRow}
 use Rattle.like_c.specs.Rows.{found_row, glance_row, look_row, status_row}
-use Rattle.like_c.specs.declared.rows.Options.{Options}
 use Rattle.like_live.specs.declared.open_error.OpenError.{OpenError}
-use Rattle.like_c.specs.Opened.{IsOpenedAs}
+use Rattle.like_live.specs.Opening.{Asking}
+use Rattle.like_c.specs.Opened.{IsOpenedAs, IsRefusedAs}
 use Rattle.like_c.specs.Status.{open_status, driver_status, like_status, turn_status}
 
 -- a seat is called: an empty handle stays empty and answers EMPTY
@@ -61,13 +61,14 @@ pub data AnswersRow (v : LiveView) (request : RequestRow) (row : AnswerRow) (aft
       → row ≡ glance_row answer → AnswersRow v request row after
   row_unknown : 3 ≤ request.op → row ≡ status_row 10 → after ≡ v → AnswersRow v request row after
 
--- a found look is taken, and its row is written; else the row stays as it was
+-- a found look is taken, and its row is written: it ran in the phase after that of its asking; else the row stays as it
+-- was
 pub data TakesFoundAt (at : Option Seated) (old : FoundRow) (is_found : Bool) (row : FoundRow)
     (after : Option Seated) : Type 0 where
   empty_found : at ≡ None → is_found ≡ false → row ≡ old → after ≡ None → TakesFoundAt at old is_found row after
   none_found : (s t : Seated) → at ≡ Some s → TakesFound s.seat None t.seat
       → is_found ≡ false → row ≡ old → after ≡ Some t → TakesFoundAt at old is_found row after
-  takes_found : (s t : Seated) (found : Found) → at ≡ Some s → TakesFound s.seat (Some found) t.seat
+  takes_found : (s t : Seated) (found : Found) → at ≡ Some s → TakesFound s.seat (Some found) t.seat → RanNext found
       → is_found ≡ true → row ≡ found_row found → after ≡ Some t → TakesFoundAt at old is_found row after
 
 -- a driver takes a turn, and its seats that were not taken yet stay
@@ -121,21 +122,20 @@ pub data HandsOut (from : Option Opened) (to : Option Seated) (status : ℕ) (le
     (after : Option Seated) : Type 0 where
   hand_in_use : to ≢ None → status ≡ 20 → left ≡ from → after ≡ to → HandsOut from to status left after
   hand_empty : to ≡ None → from ≡ None → status ≡ 19 → left ≡ None → after ≡ None → HandsOut from to status left after
-  hand_none : (o p : Opened) → to ≡ None → from ≡ Some o → vec_len o.seats ≡ 0 → p.driver ≡ o.driver
-      → vec_len p.seats ≡ 0
+  hand_none : (o p : Opened) → to ≡ None → from ≡ Some o → o.seats.items ≡ [] → p.driver ≡ o.driver
+      → p.seats.items ≡ []
       → status ≡ 21 → left ≡ Some p → after ≡ None → HandsOut from to status left after
   hands : (o p : Opened) (s : Seated) (b : Box Seated Global) → to ≡ None → from ≡ Some o → p.driver ≡ o.driver
       → o.seats.items ≡ p.seats.items ++ b ∷ [] → b.value ≡ s
       → status ≡ 0 → left ≡ Some p → after ≡ Some s → HandsOut from to status left after
 
--- a service is opened, into a handle that is empty
-pub data OpensAt (options : Options) (counts : List ℕ) (marks : List Bool) (at : Option Opened) (status : ℕ)
-    (after : Option Opened) : Type 0 where
-  open_in_use : at ≢ None → status ≡ 20 → after ≡ at → OpensAt options counts marks at status after
-  opens : (o : Opened) → at ≡ None → IsOpenedAs options counts marks o → status ≡ 0 → after ≡ Some o
-      → OpensAt options counts marks at status after
-  refused : (error : OpenError) → at ≡ None → status ≡ open_status error → after ≡ None
-      → OpensAt options counts marks at status after
+-- a service is opened as is asked for, into a handle that is empty; or the first wrong number is told; or that there is no
+-- memory
+pub data OpensAt (asked : Asking) (at : Option Opened) (status : ℕ) (after : Option Opened) : Type 0 where
+  open_in_use : at ≢ None → status ≡ 20 → after ≡ at → OpensAt asked at status after
+  opens : (o : Opened) → at ≡ None → IsOpenedAs asked o → status ≡ 0 → after ≡ Some o → OpensAt asked at status after
+  refused : (error : OpenError) → at ≡ None → IsRefusedAs asked error → status ≡ open_status error → after ≡ None
+      → OpensAt asked at status after
 
 -- a row that tells its request to wait
 abbrev pub IsToWait : AnswerRow → Type 0
@@ -158,9 +158,14 @@ pub data RunsRows (v : LiveView) (requests : List RequestRow) (rows : List Answe
       → slice_get requests done ≡ Some request → slice_get rows done ≡ Some row
       → AnswersRow now request row after → IsToWait row → RunsRows v requests rows done after
 
--- rows are run at a handle; an empty one does none
-pub data RunsAt (at : Option Seated) (requests : List RequestRow) (rows : List AnswerRow) (done : ℕ)
+-- the first answer, if there is one, tells that the handle is empty
+abbrev pub with_empty : List AnswerRow → List AnswerRow
+with_empty [] = []
+with_empty (row ∷ rows) = status_row 19 ∷ rows
+
+-- rows are run at a handle; an empty one does none, and tells so in the first answer
+pub data RunsAt (at : Option Seated) (requests : List RequestRow) (old rows : List AnswerRow) (done : ℕ)
     (after : Option Seated) : Type 0 where
-  empty_run : at ≡ None → done ≡ 0 → after ≡ None → RunsAt at requests rows done after
+  empty_run : at ≡ None → done ≡ 0 → rows ≡ with_empty old → after ≡ None → RunsAt at requests old rows done after
   runs : (s t : Seated) → at ≡ Some s → RunsRows s.seat requests rows done t.seat → after ≡ Some t
-      → RunsAt at requests rows done after
+      → RunsAt at requests old rows done after

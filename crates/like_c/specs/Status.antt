@@ -44,3 +44,4 @@ open_status open_error.Counts = 27
 open_status open_error.Seats = 28
 open_status open_error.Users = 29
 open_status open_error.Room = 30
+open_status open_error.Hot = 31

@@ -4,6 +4,7 @@
 
 ghost use Rattle.std.specs.Prelude.{◌≡◌, ◌≤◌, length, None};
 ghost use Rattle.like_c.specs.Held.{ClosesAt, DriverPhaseAt, DrivesAt, GlancesAt, HandsOut, LikesAt, LooksAt, OpensAt, PhaseAt, RetiresAt, RunsAt, SnapshotAt, TakesFoundAt, TurnsAt};
+ghost use Rattle.like_c.specs.Opened.{asked_of};
 
 mod driver_handle;
 mod held_driver;
@@ -29,7 +30,7 @@ pub extern "C" fn likes_open(
     marks: &[bool],
     driver: &mut DriverHandle,
 ) -> u32
-    ensures { OpensAt options.now counts.now marks.now driver.old.held.home result driver.new.held.home }
+    ensures { OpensAt (asked_of options.now counts.now marks.now) driver.old.held.home result driver.new.held.home }
 {
     if driver.is_full() {
         return status::IN_USE;
@@ -153,7 +154,7 @@ pub extern "C" fn likes_run(
     requests: &[RequestRow],
     answers: &mut [AnswerRow],
 ) -> usize
-    ensures rows { RunsAt seat.old.held.home requests.now answers.new result seat.new.held.home }
+    ensures rows { RunsAt seat.old.held.home requests.now answers.old answers.new result seat.new.held.home }
     ensures requests { result ≤ length requests.now }
     ensures answers { result ≤ length answers.old }
 {

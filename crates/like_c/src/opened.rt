@@ -1,11 +1,12 @@
 //! What stands behind the two handles.
-ghost use Rattle.std.specs.Prelude.{◌≡◌, IfOk, map, reverse};
-ghost use Rattle.like_c.specs.Opened.{IsAsked, IsOpenedAs, seat_in};
+ghost use Rattle.std.specs.Prelude.{◌≡◌, IfErr, IfOk, map, reverse};
+ghost use Rattle.like_live.specs.Opening.{asking};
+ghost use Rattle.like_c.specs.Opened.{IsOpenedAs, IsRefusedAs, asked_of, hot_of, marks_of, seat_in};
 
 use crate::rows::Options;
 use like_board::SharedPost;
 use like_live::{Driver, LiveSeat, OpenError, Opening, Service};
-use std::alloc::Global;
+use std::alloc::{AllocError, Global};
 
 /// The most pages that a service may have.
 const MAX_PAGES: usize = 1024;
@@ -31,7 +32,8 @@ impl Opened {
         counts: &[u64],
         marks: &[bool],
     ) -> Result<Box<Opened, Global>, OpenError>
-        ensures { IfOk result (λ b. IsOpenedAs options.now counts.now marks.now b.value) }
+        ensures opened { IfOk result (λ b. IsOpenedAs (asked_of options.now counts.now marks.now) b.value) }
+        ensures refused { IfErr result (IsRefusedAs (asked_of options.now counts.now marks.now)) }
     {
         let opening = opening_of(alloc, options, counts, marks)?;
         let Service { driver, seats } = Service::open(alloc, &opening)?;
@@ -48,7 +50,8 @@ fn boxed(
     alloc: Global,
     mut seats: Vec<LiveSeat<SharedPost>>,
 ) -> Result<Vec<Box<Seated, Global>>, OpenError>
-    ensures { IfOk result (λ boxed. reverse (map seat_in boxed.items) ≡ seats.items) }
+    ensures boxed { IfOk result (λ boxed. reverse (map seat_in boxed.items) ≡ seats.items) }
+    ensures refused { IfErr result (λ error. error ≡ OpenError.Memory) }
 {
     let mut boxed = match Vec::with_capacity(alloc, seats.len()) {
         Ok(boxed) => boxed,
@@ -63,15 +66,15 @@ fn boxed(
     Ok(boxed)
 }
 
-// The opening that C asks for. No marks mark no page, and `hot` 0 is none. A length beyond the limits is told before
-// anything is copied.
+// The opening that C asks for. A length beyond the limits is told before anything is copied.
 fn opening_of(
     alloc: Global,
     options: &Options,
     counts: &[u64],
     marks: &[bool],
 ) -> Result<Opening, OpenError>
-    ensures { IfOk result (IsAsked options.now counts.now marks.now) }
+    ensures asks { IfOk result (λ opening. asking opening ≡ asked_of options.now counts.now marks.now) }
+    ensures refused { IfErr result (IsRefusedAs (asked_of options.now counts.now marks.now)) }
 {
     if counts.len() < 1 || counts.len() > MAX_PAGES {
         return Err(OpenError::Pages);
@@ -79,21 +82,11 @@ fn opening_of(
     if marks.len() != 0 && marks.len() != counts.len() {
         return Err(OpenError::Marks);
     }
-    let marked = if marks.len() == 0 {
-        Vec::from_elem(alloc, false, counts.len())
-    } else {
-        Vec::from_slice(alloc, marks)
-    };
-    let Ok(marks) = marked else {
+    let Ok(marks) = marks_of(alloc, counts.len(), marks) else {
         return Err(OpenError::Memory);
     };
     let Ok(counts) = Vec::from_slice(alloc, counts) else {
         return Err(OpenError::Memory);
-    };
-    let hot = if options.hot == 0 {
-        None
-    } else {
-        Some(options.hot)
     };
     Ok(Opening {
         counts,
@@ -101,6 +94,23 @@ fn opening_of(
         seats: options.seats,
         users: options.users,
         room: options.room,
-        hot,
+        hot: hot_of(options.hot),
     })
+}
+
+// The marks of so many pages.
+fn marks_of(alloc: Global, pages: usize, marks: &[bool]) -> Result<Vec<bool>, AllocError>
+    ensures { IfOk result (λ given. given.items ≡ marks_of pages marks.now) }
+{
+    if marks.len() == 0 {
+        return Vec::from_elem(alloc, false, pages);
+    }
+    Vec::from_slice(alloc, marks)
+}
+
+// How many likes make a page hot, if any do.
+fn hot_of(hot: u32) -> Option<u32>
+    ensures { result ≡ hot_of hot }
+{
+    if hot == 0 { None } else { Some(hot) }
 }

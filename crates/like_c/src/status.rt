@@ -67,6 +67,8 @@ pub(crate) const WRONG_USERS: u32 = 29;
 
 pub(crate) const WRONG_ROOM: u32 = 30;
 
+pub(crate) const WRONG_HOT: u32 = 31;
+
 #[inline(always)]
 pub(crate) fn of_verdict(verdict: Verdict) -> u32
     ensures { result ≡ verdict_status verdict }
@@ -124,6 +126,7 @@ pub(crate) fn of_open(error: OpenError) -> u32
         OpenError::Seats => WRONG_SEATS,
         OpenError::Users => WRONG_USERS,
         OpenError::Room => WRONG_ROOM,
+        OpenError::Hot => WRONG_HOT,
         OpenError::Memory => NO_MEMORY,
     }
 }

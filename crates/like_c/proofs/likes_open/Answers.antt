@@ -4,8 +4,8 @@ use Rattle.like_c.proofs.likes_open.Goals as goal
 
 pub returns-in-Ok : goal.returns-in-Ok
 returns-in-Ok c =
-    opens c.in-Ok.opened.value (search rules) c.in-Ok.ensures refl c.put.ensures
+    opens c.in-Ok.opened.value (search rules) c.in-Ok.ensures.opened refl c.put.ensures
 
 pub returns-in-Err : goal.returns-in-Err
 returns-in-Err c =
-    refused c.in-Err.error (search rules) c.of_open.ensures (search rules)
+    refused c.in-Err.error (search rules) c.in-Err.ensures.refused c.of_open.ensures (search rules)
