@@ -11,7 +11,7 @@ use Rattle.like_roles.specs.declared.log.Took.{Took}
 use Rattle.like_roles.specs.coordinator.Choice.{likes_counted, total_before}
 use Rattle.like_roles.specs.service.HotPages.{chosen_below, hot_by, liked_pages, likes_lately, max_chosen}
 use Rattle.like_roles.specs.service.Likes.{likes_among, likes_below}
-use Rattle.like_roles.specs.service.Order.{Entry, block, entry_in, is_due, is_prompt, order, phases_of, took_to_wait}
+use Rattle.like_roles.specs.service.Order.{Entry, block, entry_in, is_due, is_prompt, order, phases_of, stashed_in, took_to_wait}
 use Rattle.like_roles.specs.service.Service.{Service}
 use Rattle.like_roles.proofs.counts.Tallied.{likes_among-append}
 
@@ -131,17 +131,23 @@ filter-same p q (x ∷ xs) all =
     ap (λ b. cond b (x ∷ filter p xs) (filter p xs)) (all 0 x (omega arith))
     ∙ ap (λ ys. cond (q x) (x ∷ ys) ys) (filter-same p q xs (λ k d h. all (suc k) d (omega (arith, h))))
 
--- the run order goes by the hot pages of the phases of taking alone
-pub order-same : (service : Service) (hot other : ℕ → ℕ) (phases : ℕ) (taken : List Took) → ((k : ℕ) → k ≤ phases → hot k ≡ other k) → All (λ t. t.phase ≤ phases) taken
-    → order (record service { hot = hot }) taken ≡ order (record service { hot = other }) taken
-order-same service hot other phases taken same all = ap (λ (f : ℕ → List Entry). flat_map f (range_with_len 0 (phases_of taken + 1))) (λ i k. blocks k i)
-  where
-    waits-same : All (λ t. took_to_wait (record service { hot = hot }) t ≡ took_to_wait (record service { hot = other }) t) taken
-    waits-same k d h = ap (λ (m : ℕ). took_to_wait (record service { hot = λ _. m }) (get_or taken k d)) (same (get_or taken k d).phase (all k d h))
+module _ (service : Service) (hot other : ℕ → ℕ) (phases : ℕ) (taken : List Took) (same : (k : ℕ) → k ≤ phases → hot k ≡ other k) (all : All (λ t. t.phase ≤ phases) taken) where
+  waits-same : All (λ t. took_to_wait (record service { hot = hot }) t ≡ took_to_wait (record service { hot = other }) t) taken
+  waits-same k d h = ap (λ (m : ℕ). took_to_wait (record service { hot = λ _. m }) (get_or taken k d)) (same (get_or taken k d).phase (all k d h))
 
-    blocks : (k : ℕ) → block (record service { hot = hot }) taken k ≡ block (record service { hot = other }) taken k
-    blocks k =
-        ap (λ xs. map (entry_in k true) xs ++ map (entry_in k false) (filter (is_prompt (record service { hot = hot }) k) taken))
-        (filter-same (is_due (record service { hot = hot }) k) (is_due (record service { hot = other }) k) taken (λ i d h. ap (λ b. eqb ((get_or taken i d).phase + 1) k && b) (waits-same i d h)))
-        ∙ ap (λ xs. map (entry_in k true) (filter (is_due (record service { hot = other }) k) taken) ++ map (entry_in k false) xs)
-        (filter-same (is_prompt (record service { hot = hot }) k) (is_prompt (record service { hot = other }) k) taken (λ i d h. ap (λ b. eqb (get_or taken i d).phase k && not b) (waits-same i d h)))
+  due-same : (k : ℕ) → filter (is_due (record service { hot = hot }) k) taken ≡ filter (is_due (record service { hot = other }) k) taken
+  due-same k = filter-same (is_due (record service { hot = hot }) k) (is_due (record service { hot = other }) k) taken (λ i d h. ap (λ b. eqb ((get_or taken i d).phase + 1) k && b) (waits-same i d h))
+
+  blocks : (k : ℕ) → block (record service { hot = hot }) taken k ≡ block (record service { hot = other }) taken k
+  blocks k =
+      ap (λ xs. map (entry_in k true) xs ++ map (entry_in k false) (filter (is_prompt (record service { hot = hot }) k) taken)) (due-same k)
+      ∙ ap (λ xs. map (entry_in k true) (filter (is_due (record service { hot = other }) k) taken) ++ map (entry_in k false) xs)
+      (filter-same (is_prompt (record service { hot = hot }) k) (is_prompt (record service { hot = other }) k) taken (λ i d h. ap (λ b. eqb (get_or taken i d).phase k && not b) (waits-same i d h)))
+
+  -- the run order goes by the hot pages of the phases of taking alone
+  pub order-same : order (record service { hot = hot }) taken ≡ order (record service { hot = other }) taken
+  order-same = ap (λ (f : ℕ → List Entry). flat_map f (range_with_len 0 (phases_of taken + 1))) (λ i k. blocks k i)
+
+  -- and so does what comes out of the stash
+  pub stashed-same : (k : ℕ) → stashed_in (record service { hot = hot }) k taken ≡ stashed_in (record service { hot = other }) k taken
+  stashed-same k = ap length (due-same k)

@@ -64,14 +64,14 @@ inboxes-for setup sizes worker inboxes own some sized none good is = record {
 pub is-server : (setup : Setup) (sizes : List ℕ) (worker : ℕ) (inboxes own : List InboxView) (post : PostView) (board : List ℕ) (notes : Bool) (s : ServerView) → sizes ≡ map length (plans_of inboxes)
     → own ≡ dealt setup.workers worker inboxes → IsPostOf worker setup.pages post → post.board ≡ board → s.worker.last.share ≡ share_of setup.users (length sizes) setup.workers worker
     → s.worker.post ≡ post → s.worker.notes ≡ notes
-    → ((service : Service) → IsServiceOf setup.users setup.pages sizes service → AreOwnPlans service setup.workers worker own → WorksFor service s)
+    → ((service : Service) → IsServiceOf setup sizes service → AreOwnPlans service setup.workers worker own → WorksFor service s)
     → IsServer (service_of setup (plans_of inboxes)) setup.workers board notes worker s
 is-server setup sizes worker inboxes own post board notes s sized is fresh here share at noting works = record {
   share = share ∙ ap (λ n. share_of setup.users n setup.workers worker) (ap (λ (xs : List ℕ). length xs) sized ∙ length-map (plans_of inboxes) length);
   whose = ap (λ (p : PostView). p.worker) at ∙ fresh.is_his;
   board_is = ap (λ (p : PostView). p.board) at ∙ here;
   notes_are = noting;
-  works = λ hot. works (record (service_of setup (plans_of inboxes)) { hot = hot }) (record { users_are = refl; pages_are = refl; sizes_are = sym sized }) (own-plans setup worker inboxes own is);
+  works = λ hot. works (record (service_of setup (plans_of inboxes)) { hot = hot }) (record { users_are = refl; pages_are = refl; stash_is = refl; sizes_are = sym sized }) (own-plans setup worker inboxes own is);
 }
 
 -- one server more

@@ -1,5 +1,5 @@
 -- What a run that has ended reports, end to end.
-use Rattle.std.proofs.Common.{◌≡◌, ℕ, zero, suc, ◌+◌, ◌<◌, ◌≤◌, ◌&&◌, nat_lt, cond, eqb, ltb, List, [], ◌∷◌, ◌++◌, append-nil, length, map, get_or, slice_get, Option, Some, None, option_map, IfSome, refl, sym, ap, ◌∙◌, subst, arith, inl, inr, zero-add}
+use Rattle.std.proofs.Common.{◌≡◌, ℕ, false, zero, suc, ◌+◌, ◌<◌, ◌≤◌, ◌&&◌, nat_lt, cond, eqb, ltb, List, [], ◌∷◌, ◌++◌, append-nil, length, map, get_or, slice_get, Option, Some, None, option_map, IfSome, refl, sym, ap, ◌∙◌, subst, arith, inl, inr, zero-add}
 use Rattle.std.specs.List.{All, AllZip, filter, range_with_len, sum_by}
 use Rattle.std.specs.Option.{option_map_or, unwrap_or}
 use Rattle.std.proofs.Math.Nat.{mod-lt}
@@ -48,7 +48,7 @@ use Rattle.like_crew.specs.Asked.{asked, service_of}
 use Rattle.like_crew.specs.Ended.{IsEnded, IsSeatOf}
 use Rattle.like_crew.specs.Site.{opening_of}
 use Rattle.like_crew.specs.Servers.{IsServer}
-use Rattle.like_crew.proofs.Hot.{hot-same, order-same, total}
+use Rattle.like_crew.proofs.Hot.{hot-same, order-same, stashed-same, total}
 use Rattle.like_crew.proofs.Counted.{count-in-all, in_range}
 use Rattle.like_crew.proofs.lists.Pairs.{pairs-at, pairs-length, pairs-sum}
 use Rattle.like_crew.proofs.lists.Sums.{sum-of-map}
@@ -132,6 +132,13 @@ module _ (setup : Setup) (plans : List (List Request)) (site : Site) (e : Ended)
       let s = left-at IsLogOf h.servers e.logs.items worker log h.logs at in
       let is = server-at worker s.0 s.1.0 in
       subst (λ (x : Share). IsLog known x.workers x.worker log) is.share (s.1.1.log_is known (is.works hot_known, right-at-server masks worker s.0 s.1.0))
+
+  -- where no additions are noted, no log has any
+  pub none-noted : site.notes ≡ false → All (λ log. log.adds.items ≡ []) e.logs.items
+  none-noted unasked = λ worker d within.
+      let at = slice_get-get_or e.logs.items worker d within in
+      let s = left-at IsLogOf h.servers e.logs.items worker (get_or e.logs.items worker d) h.logs at in
+      s.1.1.unnoted ((server-at worker s.0 s.1.0).notes_are ∙ unasked)
 
   pub tables : AreTables known.users (submitters known) e.logs.items
   tables worker log at =
@@ -262,6 +269,7 @@ module _ (setup : Setup) (plans : List (List Request)) (site : Site) (e : Ended)
           taken = it.taken;
           rising = it.rising;
           ran = it.ran ∙ order-same (service_of setup plans) hot_known served.hot e.phases log.taken.items (masks-known masks counted) within;
+          stashed = λ phase. rw (sym (stashed-same (service_of setup plans) hot_known served.hot e.phases log.taken.items (masks-known masks counted) within phase)) (it.stashed phase);
           answers = it.answers;
           last = it.last;
         },

@@ -1,4 +1,5 @@
 -- Lists: sums, pairs, and dealing out.
 pub mod Pairs
+pub mod Stepped
 pub mod Sums
 pub mod Deals

@@ -2,8 +2,10 @@
 pub mod Shares
 pub mod Numbers
 pub mod Posts
+pub mod Unnoted
 pub mod Sights
 pub mod Agreeing
 pub mod Later
+pub mod Opened
 pub mod Finishing
 pub mod Leaving

@@ -7,10 +7,10 @@ use Rattle.like_roles.specs.declared.log.Ran.{Ran}
 use Rattle.like_roles.specs.service.HotPages.{hot_in}
 use Rattle.like_roles.specs.service.Service.{Service}
 
--- the run of these users and pages, and of these lists of requests, in which no page is hot
+-- the run of these users, pages and stash, and of these lists of requests, in which no page is hot
 abbrev pub service_of : Setup → List (List Request) → Service
 service_of setup plans =
-    record { users = setup.users; pages = setup.pages; hot = λ _. 0; plans = plans }
+    record { users = setup.users; pages = setup.pages; stash = setup.stash; hot = λ _. 0; plans = plans }
 
 -- the requests of plans
 abbrev pub lists_of : List (Vec Request Global) → List (List Request)

@@ -5,6 +5,8 @@ pub mod Ended
 pub mod Gathered
 pub mod Log
 pub mod Server
+pub mod ServerTurns
 pub mod Servers
 pub mod Site
+pub mod Steps
 pub mod Tiling

@@ -8,7 +8,7 @@ use Rattle.like_tables.specs.UserTable.{last_of}
 use Rattle.like_roles.specs.declared.log.Took.{Took}
 use Rattle.like_roles.specs.declared.log.WorkerLog.{WorkerLog}
 use Rattle.like_roles.specs.service.Likes.{last_like}
-use Rattle.like_roles.specs.service.Order.{entry_of, order}
+use Rattle.like_roles.specs.service.Order.{entry_of, order, stashed_in}
 use Rattle.like_roles.specs.service.Replies.{HasRightAnswers}
 use Rattle.like_roles.specs.service.Service.{Service}
 
@@ -36,10 +36,11 @@ NoneAbove None taken = taken ≡ []
 NoneAbove (Some sight) taken = All (λ t. t.phase ≤ sight.number) taken
 
 -- the log of a worker that is gone: it took its submitters' plans, in phases that never fall, and ran what it took in run
--- order; each reply is right, save that nothing is said of counts; and its table has the last like of each user
+-- order, no more out of its stash in a phase than that has room for; each reply is right, save that nothing is said of counts; and its table has the last like of each user
 pub record IsLog (service : Service) (workers worker : ℕ) (log : WorkerLog) : Type 0 where
   pub taken : TakesPlans service workers worker log.taken.items
   pub rising : IsRising log.taken.items
   pub ran : map entry_of log.ran.items ≡ order service log.taken.items
+  pub stashed : (phase : ℕ) → stashed_in service phase log.taken.items ≤ service.stash
   pub answers : HasRightAnswers service log.ran.items
   pub last : (user : ℕ) → last_of log.last user ≡ last_like service user log.ran.items

@@ -1,5 +1,5 @@
 -- A worker with the inboxes of its submitters.
-use Rattle.std.specs.Prelude.{◌≡◌, ◌≢◌, ℕ, ◌+◌, ◌<◌, min, nat_lt, if◌then◌else◌, true, List, [], length, map, slice_get, slice_index, slice_index_or, All, IfSome, Some}
+use Rattle.std.specs.Prelude.{◌≡◌, ◌≢◌, ℕ, ◌+◌, ◌<◌, min, nat_lt, if◌then◌else◌, false, true, List, [], length, map, slice_get, slice_index, slice_index_or, All, IfSome, Some}
 use Rattle.std.specs.List.{range_with_len}
 use Rattle.std.specs.Option.{option_map_or}
 use Rattle.like_requests.specs.Setup.{IsPlan, IsThere}
@@ -18,10 +18,11 @@ use Rattle.like_roles.specs.service.Service.{Service}
 use Rattle.like_roles.specs.worker.WorkerView.{WorkerView, phase_at}
 use Rattle.like_crew.specs.Log.{IsLog, IsRising, NoneAbove, numbers_taken}
 
--- the worker, and the inboxes of its submitters by place
+-- the worker, the inboxes of its submitters by place, and how many items of each are open to it
 pub record ServerView : Type 0 where
   pub worker : WorkerView
   pub inboxes : List InboxView
+  pub opened : List ℕ
 
 -- the plans of inboxes
 abbrev pub plans_of : List InboxView → List (List Request)
@@ -69,7 +70,8 @@ pub record WorksFor (service : Service) (s : ServerView) : Type 0 where
   pub follows : ReadMasksOf service s → Follows service s.worker
 
 -- a worker and its inboxes agree: it took from each submitter what the inbox handed over; and the phases in which it took
--- never fell, and none is above the phase that it saw last, which is the one that it runs or has answered
+-- never fell, and none is above the phase that it saw last, which is the one that it runs or has answered; and it has
+-- noted no addition that it does not note
 pub record Agree (v : WorkerView) (inboxes : List InboxView) : Type 0 where
   pub is_worker : v.last.share.worker < v.last.share.workers
   pub lefts : length v.left ≡ length inboxes
@@ -79,6 +81,7 @@ pub record Agree (v : WorkerView) (inboxes : List InboxView) : Type 0 where
   pub rising : IsRising v.taken
   pub above : NoneAbove v.post.last v.taken
   pub present : v.post.state ≢ Gone → IfSome v.post.last (λ sight. sight.number ≡ phase_at v)
+  pub unnoted : v.notes ≡ false → v.adds ≡ []
 
 -- untouched inboxes for a worker's submitters, whose numbers of requests these are
 pub record AreInboxesFor (s : Setup) (sizes : List ℕ) (worker : ℕ) (inboxes : List InboxView) : Type 0 where
@@ -114,5 +117,6 @@ pub record IsLogOf (s : ServerView) (log : WorkerLog) : Type 0 where
   pub above : NoneAbove s.worker.post.last log.taken.items
   pub ran : log.ran.items ≡ s.worker.ran
   pub adds : log.adds.items ≡ s.worker.adds
+  pub unnoted : s.worker.notes ≡ false → log.adds.items ≡ []
   pub noted : s.worker.notes ≡ true
       → (service : Service) → HasWorkedFor service s → AreNoted service s.worker

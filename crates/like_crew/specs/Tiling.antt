@@ -51,6 +51,6 @@ pub record ArePlacesTiled (service : Service) (r : Report) : Type 0 where
 abbrev pub HasRightPlaces : Setup → List (List Request) → Report → Type 0
 HasRightPlaces setup plans r = ArePlacesTiled (asked setup plans (runs_of r.logs.items)) r
 
--- a report has no places
+-- a report has no places, and no addition is noted
 abbrev pub HasNoPlaces : Report → Type 0
-HasNoPlaces r = r.places.items ≡ []
+HasNoPlaces r = (r.places.items ≡ []) × All (λ log. log.adds.items ≡ []) r.logs.items

@@ -1,11 +1,14 @@
 ghost use Rattle.std.specs.Prelude.{◌≡◌, ◌<◌, IfOk, length, map, true};
 ghost use Rattle.like_requests.specs.Setup.{IsWithinLimits};
-ghost use Rattle.like_roles.specs.coordinator.CoordTurns.{HasEndedJoined};
+ghost use Rattle.std.specs.List.{AllZip};
+ghost use Rattle.like_roles.specs.coordinator.CoordTurns.{CoordTurns, HasEndedJoined};
 ghost use Rattle.like_crew.specs.Asked.{lists_of};
 ghost use Rattle.like_crew.specs.Crew.{AreGone, GoesOn, HasInbox, IsCrew};
 ghost use Rattle.like_crew.specs.Ended.{HasEnded};
 ghost use Rattle.like_crew.specs.Server.{AreUntouched, plans_of};
+ghost use Rattle.like_crew.specs.ServerTurns.{OpensAll, ServerTurns};
 ghost use Rattle.like_crew.specs.Site.{AreSeats, IsSite};
+ghost use Rattle.like_crew.specs.Steps.{AtServer, IsRound, OpensMore};
 
 use crate::crew::lists::list_inboxes;
 use crate::crew::new_servers::servers_of;
@@ -105,6 +108,7 @@ impl<'a> Crew<'a, ListInbox> {
 
     /// Makes one turn of the coordinator and one of each worker, in order, and says whether the run ended with it.
     pub fn round(&mut self) -> bool
+        ensures round { IsRound self.old self.new }
         ensures goes_on { GoesOn self.old self.new }
         ensures ended { result ≡ true → HasEndedJoined self.new.captain }
         ensures gone { result ≡ true → AreGone self.new.servers.items }
@@ -116,7 +120,9 @@ impl<'a> Crew<'a, ListInbox> {
 
     /// Makes one turn of the coordinator.
     pub fn turn(&mut self) -> CoordTurn
-        ensures { GoesOn self.old self.new }
+        ensures case { CoordTurns self.old.captain result self.new.captain }
+        ensures rest { self.new.servers ≡ self.old.servers }
+        ensures goes_on { GoesOn self.old self.new }
     {
         self.captain.turn()
     }
@@ -124,7 +130,9 @@ impl<'a> Crew<'a, ListInbox> {
     /// Makes one turn of a worker.
     pub fn turn_of(&mut self, worker: u32) -> Turn
         requires { worker < length self.old.servers.items }
-        ensures { GoesOn self.old self.new }
+        ensures case { AtServer worker (ServerTurns result) self.old.servers.items self.new.servers.items }
+        ensures rest { self.new.captain ≡ self.old.captain }
+        ensures goes_on { GoesOn self.old self.new }
     {
         turn_of(&mut self.servers, worker)
     }
@@ -132,14 +140,18 @@ impl<'a> Crew<'a, ListInbox> {
     /// Opens one item more of a submitter's list.
     pub fn open_one(&mut self, submitter: u32)
         requires { HasInbox self.old.servers.items submitter }
-        ensures { GoesOn self.old self.new }
+        ensures opens { OpensMore submitter self.old.servers.items self.new.servers.items }
+        ensures rest { self.new.captain ≡ self.old.captain }
+        ensures goes_on { GoesOn self.old self.new }
     {
         open_one(&mut self.servers, submitter);
     }
 
     /// Opens all lists.
     pub fn open_all(&mut self)
-        ensures { GoesOn self.old self.new }
+        ensures opens { AllZip OpensAll self.old.servers.items self.new.servers.items }
+        ensures rest { self.new.captain ≡ self.old.captain }
+        ensures goes_on { GoesOn self.old self.new }
     {
         open_all(&mut self.servers);
     }

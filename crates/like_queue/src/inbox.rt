@@ -1,3 +1,4 @@
+ghost use Rattle.std.specs.Prelude.{◌≡◌, ℕ};
 ghost use Rattle.like_queue.specs.Inbox.{HandsOver, InboxView};
 
 use like_requests::Taken;
@@ -5,11 +6,15 @@ use like_requests::Taken;
 /// Where a worker takes the items of a submitter's plan: its requests, numbered from 1, and then the end mark.
 pub trait Inbox: Drop {
     ghost view: { Self → InboxView };
+
+    /// How many of its items are open to the worker, as far as a list of them says so: all of a line's are.
+    ghost opened: { Self → ℕ };
 }
 
 /// An inbox from which is taken with a runtime of type `R`.
 pub trait TakeWith<R>: Inbox {
     /// Takes the next item, where one is there; after the end mark, that again.
     fn take_with(&mut self, rt: &R) -> Taken
-        ensures { HandsOver (Self.view self.old) result (Self.view self.new) };
+        ensures handed { HandsOver (Self.view self.old) result (Self.view self.new) }
+        ensures opened { Self.opened self.new ≡ Self.opened self.old };
 }

@@ -88,6 +88,8 @@ impl Inbox for ListInbox {
     ghost use Rattle.like_queue.specs.Inbox.{view_of};
 
     ghost view = { view_of };
+
+    ghost opened = { λ i. i.opened };
 }
 
 impl<R> TakeWith<R> for ListInbox {

@@ -1,7 +1,7 @@
 -- Each turn leads a worker that follows the plans to one that does.
 use Rattle.std.proofs.Common.{◌≡◌, ◌≢◌, ℕ, ◌+◌, ◌%◌, ◌≤◌, ◌==◌, ◌&&◌, not, Bool, true, false, cond, List, [], ◌∷◌, ◌++◌, length, map, get_or, set, Some, None, refl, ap, sym, ◌∙◌, inl, inr, arith, subst, append-nil, append_assoc}
 use Rattle.std.proofs.lemmas.Bool.{cases_eq}
-use Rattle.std.proofs.lemmas.List.{map-append, length-replicate}
+use Rattle.std.proofs.lemmas.List.{map-append, length-map, length-replicate}
 use Rattle.std.proofs.lemmas.List.Elements.{All-head, All-tail, All-push}
 use Rattle.std.specs.List.{All}
 use Rattle.std.specs.Option.{option_map_or}
@@ -22,8 +22,8 @@ use Rattle.like_core.specs.Post.{additions_in, answered, looked_at, pages_of, sl
 use Rattle.like_tables.specs.declared.held.Held.{Held}
 use Rattle.like_roles.specs.declared.log.Took.{Took}
 use Rattle.like_roles.specs.declared.turn.Turn.{Turn}
-use Rattle.like_roles.specs.worker.Follows.{Follows, IsAsked, IsAskedBy, IsInBlocks, IsNoted, IsServed, IsSized, IsTallied, IsUnmerged, Stands, entry_held, next_joined}
-use Rattle.like_roles.specs.service.Order.{block, entry_of, is_look_at_sliced, order_below, took_to_wait, waits}
+use Rattle.like_roles.specs.worker.Follows.{FitsStash, Follows, IsAsked, IsAskedBy, IsInBlocks, IsNoted, IsServed, IsSized, IsTallied, IsUnmerged, Stands, entry_held, next_joined}
+use Rattle.like_roles.specs.service.Order.{block, entry_of, is_look_at_sliced, order_below, stashed_in, took_to_wait, waits}
 use Rattle.like_roles.specs.service.Replies.{page_looked_at}
 use Rattle.like_roles.specs.worker.Serve.{Runs, ran_now, verdict_at}
 use Rattle.like_roles.specs.service.Service.{Service, is_split_in, marks, request_at, submitters}
@@ -33,7 +33,7 @@ use Rattle.like_requests.specs.Setup.{IsThere}
 use Rattle.like_roles.specs.worker.WorkerView.{WorkerView, has_to_wait, phase_at, seat_of, submitter_at}
 use Rattle.like_seat.specs.Merge.{Merges}
 use Rattle.like_seat.specs.SeatView.{HasPhaseMask, IsSliceInSplit}
-use Rattle.like_roles.proofs.order.Blocks.{block-after_joined, block-later, order_below-more, block-next-prompt, block-next-waits, order_below-prompt, order_below-waits, waits-joined}
+use Rattle.like_roles.proofs.order.Blocks.{block-after_joined, block-later, order_below-more, block-next-prompt, block-next-waits, order_below-prompt, order_below-waits, stashed-block, stashed-other, stashed-prompt, waits-joined}
 use Rattle.like_roles.proofs.Effects.{HasRunOne, Runs-effects}
 use Rattle.like_roles.proofs.order.InBlocks.{before-next, blocks-of_running, order-of_blocks, parity, running-of_blocks, runs-phase, runs-weaker}
 use Rattle.like_roles.proofs.Keeps.{runs-keeps, works-keeps}
@@ -48,14 +48,15 @@ use Rattle.like_roles.proofs.counts.Tallied.{GivesReply-tallied, accepted-true}
 
 -- a worker that runs a phase and is in its blocks follows the plans
 follows-running : (service : Service) (v : WorkerView) → IsRunning v.post.state → IsServed service v → IsSized v → IsTallied service v → (v.notes ≡ true → IsNoted service v.post.additions v.post.reads v.adds v.ran) → (v.notes ≡ true → IsUnmerged service v.adds v.ran v.post.state) → All (IsAsked service) v.held.held
-    → IsInBlocks service v (phase_at v) → ((place : ℕ) → v.pending ≡ Some place → RunsJoined v.post.state → v.held.held ≡ []) → Follows service v
-follows-running service v run served sized t noted unmerged held b trying = record {
+    → FitsStash service v.taken → IsInBlocks service v (phase_at v) → ((place : ℕ) → v.pending ≡ Some place → RunsJoined v.post.state → v.held.held ≡ []) → Follows service v
+follows-running service v run served sized t noted unmerged held fits b trying = record {
   served = served;
   sized = sized;
   tallied = t;
   noted = noted;
   unmerged = unmerged;
   in_order = order-of_blocks service v (phase_at v) refl b;
+  fits = fits;
   held = held;
   stands = running-of_blocks service v (λ _. Unit {0}) v.post.state run b;
   trying = λ place e. (run, trying place e);
@@ -69,15 +70,15 @@ slices-alike service v s run has page =
 
 -- what a run does to a worker that follows the plans, where the blocks after it are known
 follows-run : (service : Service) (v after : WorkerView) (h : Held) (stashed : Bool) → Runs v h stashed after → IsRunning v.post.state → v.pending ≡ None → IsServed service v → IsSized v → IsTallied service v
-    → (v.notes ≡ true → IsNoted service v.post.additions v.post.reads v.adds v.ran) → (v.notes ≡ true → IsUnmerged service v.adds v.ran v.post.state) → HasPhaseMask v.post → IsAsked service h → ((page : ℕ) → verdict_at v h.submitter h.ask.request ≡ Accepted → page_looked_at h.ask.request.op h.ask.request.page ≡ Some page → get_or v.slice page 0 ≡ 0) → All (IsAsked service) v.held.held → ((e : HasRunOne v h stashed after) → IsInBlocks service (record v { ran = after.ran }) (phase_at v)) → Follows service after
-follows-run service v after h stashed run here none served sized t was un has asked clear held blocks =
+    → (v.notes ≡ true → IsNoted service v.post.additions v.post.reads v.adds v.ran) → (v.notes ≡ true → IsUnmerged service v.adds v.ran v.post.state) → HasPhaseMask v.post → IsAsked service h → ((page : ℕ) → verdict_at v h.submitter h.ask.request ≡ Accepted → page_looked_at h.ask.request.op h.ask.request.page ≡ Some page → get_or v.slice page 0 ≡ 0) → All (IsAsked service) v.held.held → FitsStash service v.taken → ((e : HasRunOne v h stashed after) → IsInBlocks service (record v { ran = after.ran }) (phase_at v)) → Follows service after
+follows-run service v after h stashed run here none served sized t was un has asked clear held fits blocks =
     let e = Runs-effects v h stashed after run in
     let done = GivesReply-tallied service v h stashed run.reply run.served served sized t asked clear run.serves in
     let stays = (runs-keeps v h stashed after run).notes in
     let marked = λ (notes : v.notes ≡ true). GivesReply-noted service v h stashed run.reply run.served served notes (was notes) (unmerged-running service v.adds v.ran (λ _. Unit {0}) v.post.state here (un notes)) asked (slices-alike service v served here has) run.serves in
     let all : IsServed service after × IsSized after × IsTallied service after × (v.notes ≡ true → IsNoted service after.post.additions after.post.reads after.adds after.ran × IsUnmerged service after.adds after.ran (state.Runs (phase_at v))) =
     subst (λ x. IsServed service x × IsSized x × IsTallied service x × (v.notes ≡ true → IsNoted service x.post.additions x.post.reads x.adds x.ran × IsUnmerged service x.adds x.ran (state.Runs (phase_at v)))) (sym run.noted) (
-      record { users = done.0.users; submitters_alike = done.0.submitters_alike; marks_alike = done.0.marks_alike; hot_alike = done.0.hot_alike },
+      record { users = done.0.users; submitters_alike = done.0.submitters_alike; marks_alike = done.0.marks_alike; hot_alike = done.0.hot_alike; stash_alike = done.0.stash_alike },
       record { slice = done.1.slice; users = done.1.users },
       done.2,
       marked,
@@ -92,7 +93,7 @@ follows-run service v after h stashed run here none served sized t was un has as
       split_held = λ s. ap (λ xs. block service xs (phase_at v + 1)) e.taken ∙ b.split_held s ∙ ap (λ w. map (entry_held (phase_at v + 1)) w.held) (sym e.held);
     } in
     follows-running service after runs all.0 all.1 all.2 (λ notes. (all.3 (sym stays ∙ notes)).0)
-    (λ notes. running-unmerged service after.adds after.ran (λ _. Unit {0}) after.post.state runs (subst (λ (k : ℕ). IsUnmerged service after.adds after.ran (state.Runs k)) phase (all.3 (sym stays ∙ notes)).1)) (subst (λ w. All (IsAsked service) w.held) (sym e.held) held)
+    (λ notes. running-unmerged service after.adds after.ran (λ _. Unit {0}) after.post.state runs (subst (λ (k : ℕ). IsUnmerged service after.adds after.ran (state.Runs k)) phase (all.3 (sym stays ∙ notes)).1)) (subst (λ w. All (IsAsked service) w.held) (sym e.held) held) (subst (FitsStash service) (sym e.taken) fits)
     (subst (λ k. IsInBlocks service after k) phase b') (λ place p. absurd (cc (e.pending, none, p)))
 
 -- the blocks of a worker that enters the next phase
@@ -171,12 +172,13 @@ saw-kept slice sight state.Gone splits here phase page = absurd (here refl)
 -- a look
 follows-saw : (service : Service) (v : WorkerView) (sight : Sight) (masks : List PhaseMask) → AreMasksOf service.hot masks → Follows service v → IsSliceInSplit v.post v.slice → v.post.state ≢ state.Gone → v.pending ≡ None → Follows service (looking v sight masks)
 follows-saw service v sight masks right f kept here none = record {
-  served = record { users = f.served.users; submitters_alike = f.served.submitters_alike; marks_alike = f.served.marks_alike; hot_alike = right };
+  served = record { users = f.served.users; submitters_alike = f.served.submitters_alike; marks_alike = f.served.marks_alike; hot_alike = right; stash_alike = f.served.stash_alike };
   sized = record { slice = f.sized.slice; users = f.sized.users };
   tallied = record { likes = f.tallied.likes; by_phase = λ phase page. f.tallied.by_phase phase page ∙ ap (λ n. additions_in v.post phase page + n) (saw-kept v.slice sight v.post.state (λ p some. (kept p some).0) here phase page); looks = f.tallied.looks; after = f.tallied.after; replies = f.tallied.replies; last = f.tallied.last };
   noted = f.noted;
   unmerged = λ notes. unmerged-seen service v.adds v.ran sight v.post.state (f.unmerged notes);
   in_order = ap (λ zs. map entry_of v.ran ++ zs) (saw-next service v sight v.post.state f.stands here) ∙ f.in_order;
+  fits = f.fits;
   held = f.held;
   stands = saw-stands service v sight masks v.post.state f.stands here;
   trying = λ place e. absurd (cc (none, e));
@@ -191,11 +193,11 @@ follows-held service v first rest after none f kept j e run =
     let all : All (IsAsked service) (first ∷ rest) = subst (All (IsAsked service)) e f.held in
     let k = phase_at v in
     follows-run service (without_first v rest) after first true run (runs-weaker IsJoined (λ _. Unit {0}) v.post.state (λ _ _. tt) j) none
-    (record { users = f.served.users; submitters_alike = f.served.submitters_alike; marks_alike = f.served.marks_alike; hot_alike = f.served.hot_alike })
+    (record { users = f.served.users; submitters_alike = f.served.submitters_alike; marks_alike = f.served.marks_alike; hot_alike = f.served.hot_alike; stash_alike = f.served.stash_alike })
     (record { slice = f.sized.slice; users = f.sized.users })
     (record { likes = f.tallied.likes; by_phase = f.tallied.by_phase; looks = f.tallied.looks; after = f.tallied.after; replies = f.tallied.replies; last = f.tallied.last })
     f.noted f.unmerged (λ odd. absurd (not-split v.post.state j odd))
-    (All-head (IsAsked service) first rest all) (λ page _ _. empty-unsplit v.post.state v.slice (λ p some. (kept p some).0) (not-split v.post.state j) page) (All-tail (IsAsked service) first rest all)
+    (All-head (IsAsked service) first rest all) (λ page _ _. empty-unsplit v.post.state v.slice (λ p some. (kept p some).0) (not-split v.post.state j) page) (All-tail (IsAsked service) first rest all) f.fits
     (λ r. record {
       within = b.within;
       joined = λ _. b.joined even ∙ ap (λ hs. map entry_of v.ran ++ map (entry_held k) hs) e
@@ -210,22 +212,23 @@ follows-trying : (service : Service) (v : WorkerView) (place : ℕ) → Follows 
 follows-trying service v place f run empty =
     let b = blocks-of_running service v (λ _. Unit {0}) v.post.state run f.stands in
     follows-running service (trying v place) run
-    (record { users = f.served.users; submitters_alike = f.served.submitters_alike; marks_alike = f.served.marks_alike; hot_alike = f.served.hot_alike })
+    (record { users = f.served.users; submitters_alike = f.served.submitters_alike; marks_alike = f.served.marks_alike; hot_alike = f.served.hot_alike; stash_alike = f.served.stash_alike })
     (record { slice = f.sized.slice; users = f.sized.users })
     (record { likes = f.tallied.likes; by_phase = f.tallied.by_phase; looks = f.tallied.looks; after = f.tallied.after; replies = f.tallied.replies; last = f.tallied.last })
-    f.noted f.unmerged f.held (record { within = b.within; joined = b.joined; split_ran = b.split_ran; split_held = b.split_held }) (λ _ _. empty)
+    f.noted f.unmerged f.held f.fits (record { within = b.within; joined = b.joined; split_ran = b.split_ran; split_held = b.split_held }) (λ _ _. empty)
 
 -- the worker answers its phase; in a joined one it holds nothing
 follows-answered : (service : Service) (v : WorkerView) (P : ℕ → Type 0) → Follows service v → RunsSome P v.post.state → v.pending ≡ None → (IsJoined (phase_at v) → v.held.held ≡ []) → Follows service (record v { post = answered v.post })
 follows-answered service v P f run none empty =
     let b = blocks-of_running service v P v.post.state run f.stands in
     record {
-      served = record { users = f.served.users; submitters_alike = f.served.submitters_alike; marks_alike = f.served.marks_alike; hot_alike = f.served.hot_alike };
+      served = record { users = f.served.users; submitters_alike = f.served.submitters_alike; marks_alike = f.served.marks_alike; hot_alike = f.served.hot_alike; stash_alike = f.served.stash_alike };
       sized = record { slice = f.sized.slice; users = f.sized.users };
       tallied = record { likes = f.tallied.likes; by_phase = f.tallied.by_phase; looks = f.tallied.looks; after = f.tallied.after; replies = f.tallied.replies; last = f.tallied.last };
       noted = f.noted;
       unmerged = λ notes. (let u = unmerged-running service v.adds v.ran P v.post.state run (f.unmerged notes) in (u.0, u.2));
       in_order = f.in_order;
+      fits = f.fits;
       held = f.held;
       stands = (record { within = b.within; joined = b.joined; split_ran = b.split_ran; split_held = b.split_held }, empty);
       trying = λ place e. absurd (cc (none, e));
@@ -242,7 +245,7 @@ follows-reported service v adds merges f run none kept has =
     (slices-alike service v f.served here has)
     in
     record {
-      served = record { users = f.served.users; submitters_alike = f.served.submitters_alike; marks_alike = f.served.marks_alike; hot_alike = f.served.hot_alike };
+      served = record { users = f.served.users; submitters_alike = f.served.submitters_alike; marks_alike = f.served.marks_alike; hot_alike = f.served.hot_alike; stash_alike = f.served.stash_alike };
       sized = record { slice = length-replicate (pages_of v.post) 0; users = f.sized.users };
       tallied = record {
         likes = λ page. f.tallied.likes page ∙ sym (merge.merged-tally (seat_of v) adds merges f.sized.slice page);
@@ -255,6 +258,7 @@ follows-reported service v adds merges f run none kept has =
       noted = λ notes. (noted notes).0;
       unmerged = λ notes. (noted notes).1;
       in_order = f.in_order;
+      fits = f.fits;
       held = f.held;
       stands = (record { within = b.within; joined = b.joined; split_ran = b.split_ran; split_held = b.split_held }, λ even. absurd (omega arith));
       trying = λ place e. absurd (cc (none, e));
@@ -270,12 +274,13 @@ follows-works service v ending answer after none f kept has (turns.retires j e e
     λ phase page. zero_at (phase_at v == phase) page ∙ sym (zero_at (0 == phase) page)
     in
     subst (Follows service) (sym x) (record {
-      served = record { users = f.served.users; submitters_alike = f.served.submitters_alike; marks_alike = f.served.marks_alike; hot_alike = f.served.hot_alike };
+      served = record { users = f.served.users; submitters_alike = f.served.submitters_alike; marks_alike = f.served.marks_alike; hot_alike = f.served.hot_alike; stash_alike = f.served.stash_alike };
       sized = record { slice = f.sized.slice; users = f.sized.users };
       tallied = record { likes = f.tallied.likes; by_phase = λ phase page. f.tallied.by_phase phase page ∙ ap (λ n. additions_in v.post phase page + n) (empties phase page); looks = f.tallied.looks; after = f.tallied.after; replies = f.tallied.replies; last = f.tallied.last };
       noted = f.noted;
       unmerged = λ notes. tt;
       in_order = ap (λ hs. map entry_of v.ran ++ map (entry_held 0) hs) e ∙ ap (λ hs. map entry_of v.ran ++ map (entry_held (next_joined v)) hs) (sym e) ∙ f.in_order;
+      fits = f.fits;
       held = f.held;
       stands = (e, ended);
       trying = λ place p. absurd (cc (none, p));
@@ -317,12 +322,13 @@ runs-joined state.Gone r j = absurd r
 -- nothing is tried any more
 follows-settled : (service : Service) (v : WorkerView) → Follows service v → Follows service (settled v)
 follows-settled service v f = record {
-  served = record { users = f.served.users; submitters_alike = f.served.submitters_alike; marks_alike = f.served.marks_alike; hot_alike = f.served.hot_alike };
+  served = record { users = f.served.users; submitters_alike = f.served.submitters_alike; marks_alike = f.served.marks_alike; hot_alike = f.served.hot_alike; stash_alike = f.served.stash_alike };
   sized = record { slice = f.sized.slice; users = f.sized.users };
   tallied = record { likes = f.tallied.likes; by_phase = f.tallied.by_phase; looks = f.tallied.looks; after = f.tallied.after; replies = f.tallied.replies; last = f.tallied.last };
   noted = f.noted;
   unmerged = f.unmerged;
   in_order = f.in_order;
+  fits = f.fits;
   held = f.held;
   stands = settled-stands service v v.post.state f.stands;
   trying = λ place e. absurd (cc e);
@@ -349,11 +355,22 @@ clear-prompt v submitter r page kept prompt accepted look = elim (cases_eq (get_
       absurd (cc (waiting, prompt))
 ]
 
+-- no more comes out of the stash in a phase where what is taken runs at once
+fits-prompt : (service : Service) (xs : List Took) (t : Took) → took_to_wait service t ≡ false → FitsStash service xs → FitsStash service (xs ++ t ∷ [])
+fits-prompt service xs t w fits k = rw (stashed-prompt service xs t k w) (fits k)
+
+-- and where it waits, all that waits with it has room
+fits-waits : (service : Service) (xs : List Took) (t : Took) → FitsStash service xs → length (block service (xs ++ t ∷ []) (t.phase + 1)) ≤ service.stash → FitsStash service (xs ++ t ∷ [])
+fits-waits service xs t fits few k = elim (cases_eq (t.phase + 1) k) [
+  | inl same ↦ subst (λ j. stashed_in service j (xs ++ t ∷ []) ≤ service.stash) same (omega (arith, few, stashed-block service (xs ++ t ∷ []) (t.phase + 1)))
+  | inr other ↦ rw (stashed-other service xs t k other) (fits k)
+]
+
 -- a request that is taken from the submitter at a place
 follows-takes : (service : Service) (v : WorkerView) (place : ℕ) (ask : Numbered) (answer : Turn) (after : WorkerView) → v.pending ≡ None → Follows service v → IsSliceInSplit v.post v.slice → HasPhaseMask v.post → IsRunning v.post.state
     → (RunsJoined v.post.state → v.held.held ≡ []) → request_at service (submitter_at v place) ask.number ≡ Some ask.request → IsThere (length (marks service)) ask.request.page
-    → TakesAsk v place ask answer after → Follows service after
-follows-takes service v place ask answer after none f kept has run empty asked there (turns.stashes w a x) =
+    → length after.held.held ≤ after.held.capacity → TakesAsk v place ask answer after → Follows service after
+follows-takes service v place ask answer after none f kept has run empty asked there room (turns.stashes w a x) =
     let b = blocks-of_running service v (λ _. Unit {0}) v.post.state run f.stands in
     let t : Took = record { phase = phase_at v; submitter = submitter_at v place; number = ask.number } in
     let h : Held = held_from v place ask in
@@ -361,21 +378,29 @@ follows-takes service v place ask answer after none f kept has run empty asked t
     let to_wait : took_to_wait service t ≡ true = ap (λ o. option_map_or (waits service (phase_at v) (submitter_at v place)) o false) asked ∙ waiting in
     let not_even : IsJoined (phase_at v) → ⊥ = λ j. cc (waiting, waits-joined service (phase_at v) (submitter_at v place) ask.request j) in
     let p = phase_at v in
+    let odd : IsSplit p = elim (parity p) [
+      | inl even ↦ absurd (not_even even)
+      | inr odd ↦ odd
+    ] in
+    let held_is : IsSplit p → block service (v.taken ++ t ∷ []) (p + 1) ≡ map (entry_held (p + 1)) (v.held.held ++ h ∷ []) =
+    λ s. block-next-waits service v.taken t to_wait (before-next v.taken p b.within)
+    ∙ ap (λ zs. zs ++ entry_held (p + 1) h ∷ []) (b.split_held s) ∙ sym (map-append (entry_held (p + 1)) v.held.held (h ∷ [])) in
+    let enough : length (v.held.held ++ h ∷ []) ≤ v.held.capacity = subst (λ (w : WorkerView). length w.held.held ≤ w.held.capacity) x room in
     subst (Follows service) (sym x) (follows-running service (with_stashed (with_taken v place ask) h) run
-    (record { users = f.served.users; submitters_alike = f.served.submitters_alike; marks_alike = f.served.marks_alike; hot_alike = f.served.hot_alike })
+    (record { users = f.served.users; submitters_alike = f.served.submitters_alike; marks_alike = f.served.marks_alike; hot_alike = f.served.hot_alike; stash_alike = f.served.stash_alike })
     (record { slice = f.sized.slice; users = f.sized.users })
     (record { likes = f.tallied.likes; by_phase = f.tallied.by_phase; looks = f.tallied.looks; after = f.tallied.after; replies = f.tallied.replies; last = f.tallied.last })
     f.noted f.unmerged
     (All-push (IsAsked service) v.held.held h f.held (record { asked = asked; there = there }))
+    (fits-waits service v.taken t f.fits (omega (arith, enough, f.served.stash_alike, ap length (held_is odd), length-map (v.held.held ++ h ∷ []) (entry_held (p + 1)))))
     (record {
       within = All-push (λ u. u.phase ≤ p) v.taken t b.within (omega arith);
       joined = λ j. absurd (not_even j);
       split_ran = λ s. order_below-waits service v.taken t to_wait ∙ b.split_ran s;
-      split_held = λ s. block-next-waits service v.taken t to_wait (before-next v.taken p b.within)
-          ∙ ap (λ zs. zs ++ entry_held (p + 1) h ∷ []) (b.split_held s) ∙ sym (map-append (entry_held (p + 1)) v.held.held (h ∷ []));
+      split_held = held_is;
     })
     (λ k e. absurd (cc (none, e))))
-follows-takes service v place ask answer after none f kept has run empty asked there (turns.runs w a r) =
+follows-takes service v place ask answer after none f kept has run empty asked there room (turns.runs w a r) =
     let b = blocks-of_running service v (λ _. Unit {0}) v.post.state run f.stands in
     let t : Took = record { phase = phase_at v; submitter = submitter_at v place; number = ask.number } in
     let h : Held = held_from v place ask in
@@ -384,11 +409,11 @@ follows-takes service v place ask answer after none f kept has run empty asked t
     let at_once : took_to_wait service t ≡ false = ap (λ o. option_map_or (waits service p (submitter_at v place)) o false) asked ∙ prompt in
     let none_held : IsJoined p → v.held.held ≡ [] = λ j. empty (runs-joined v.post.state run j) in
     follows-run service (with_taken v place ask) after h false r run none
-    (record { users = f.served.users; submitters_alike = f.served.submitters_alike; marks_alike = f.served.marks_alike; hot_alike = f.served.hot_alike })
+    (record { users = f.served.users; submitters_alike = f.served.submitters_alike; marks_alike = f.served.marks_alike; hot_alike = f.served.hot_alike; stash_alike = f.served.stash_alike })
     (record { slice = f.sized.slice; users = f.sized.users })
     (record { likes = f.tallied.likes; by_phase = f.tallied.by_phase; looks = f.tallied.looks; after = f.tallied.after; replies = f.tallied.replies; last = f.tallied.last })
     f.noted f.unmerged has
-    (record { asked = asked; there = there }) (λ page a look. clear-prompt v (submitter_at v place) ask.request page kept w a look) f.held
+    (record { asked = asked; there = there }) (λ page a look. clear-prompt v (submitter_at v place) ask.request page kept w a look) f.held (fits-prompt service v.taken t at_once f.fits)
     (λ e.
     let ran : map entry_of v.ran ++ entry_of (ran_now (with_taken v place ask) h false e.reply) ∷ [] ≡ map entry_of after.ran =
     sym (ap (map entry_of) e.ran ∙ map-append entry_of v.ran (ran_now (with_taken v place ask) h false e.reply ∷ [])) in
@@ -403,22 +428,22 @@ follows-takes service v place ask answer after none f kept has run empty asked t
     })
 
 -- what is given
-pub follows-give : (service : Service) (v : WorkerView) (took : Taken) (answer : Turn) (after : WorkerView) → CanGive v took → IsAskedBy service v took → IsSliceInSplit v.post v.slice → HasPhaseMask v.post → Gives v took answer after → Follows service v
+pub follows-give : (service : Service) (v : WorkerView) (took : Taken) (answer : Turn) (after : WorkerView) → CanGive v took → IsAskedBy service v took → IsSliceInSplit v.post v.slice → HasPhaseMask v.post → length after.held.held ≤ after.held.capacity → Gives v took answer after → Follows service v
     → Follows service after
-follows-give service v took answer after can asked kept has (turns.nothing t a x) f = subst (Follows service) (sym x) (follows-settled service v f)
-follows-give service v took answer after can asked kept has (turns.ends place p t a x) f =
+follows-give service v took answer after can asked kept has room (turns.nothing t a x) f = subst (Follows service) (sym x) (follows-settled service v f)
+follows-give service v took answer after can asked kept has room (turns.ends place p t a x) f =
     let run = (f.trying place p).0 in
     let s = follows-settled service v f in
     let b = blocks-of_running service (settled v) (λ _. Unit {0}) v.post.state run s.stands in
     subst (Follows service) (sym x) (follows-running service (record (settled v) { ended = set v.ended place true }) run
-    (record { users = f.served.users; submitters_alike = f.served.submitters_alike; marks_alike = f.served.marks_alike; hot_alike = f.served.hot_alike })
+    (record { users = f.served.users; submitters_alike = f.served.submitters_alike; marks_alike = f.served.marks_alike; hot_alike = f.served.hot_alike; stash_alike = f.served.stash_alike })
     (record { slice = f.sized.slice; users = f.sized.users })
     (record { likes = f.tallied.likes; by_phase = f.tallied.by_phase; looks = f.tallied.looks; after = f.tallied.after; replies = f.tallied.replies; last = f.tallied.last })
-    f.noted f.unmerged f.held (record { within = b.within; joined = b.joined; split_ran = b.split_ran; split_held = b.split_held }) (λ k e. absurd (cc e)))
-follows-give service v took answer after can asked kept has (turns.asks place ask p t x) f =
+    f.noted f.unmerged f.held f.fits (record { within = b.within; joined = b.joined; split_ran = b.split_ran; split_held = b.split_held }) (λ k e. absurd (cc e)))
+follows-give service v took answer after can asked kept has room (turns.asks place ask p t x) f =
     let run = f.trying place p in
     let by_plan = (subst (λ y. IsAskedBy service v y) t asked) place p in
     let next = (subst (λ y. CanGive v y) t can) place p in
     let P : ℕ → Type 0 = λ n. IsThere n ask.request.page in
     let there = subst P (ap length (sym f.served.marks_alike)) next.there in
-    follows-takes service (settled v) place ask answer after refl (follows-settled service v f) kept has run.0 run.1 by_plan there x
+    follows-takes service (settled v) place ask answer after refl (follows-settled service v f) kept has run.0 run.1 by_plan there room x

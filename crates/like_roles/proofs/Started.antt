@@ -30,7 +30,7 @@ use Rattle.like_roles.proofs.notes.NotedMerge.{noted-nothing, one-of_likes}
 
 -- a new worker follows the plans
 pub follows-new : (s : Setup) (sizes : List ℕ) (worker : ℕ) (post : PostView) (notes : Bool) (v : WorkerView) (service : Service) → IsPostOf worker s.pages post → IsNew s sizes worker post notes v
-    → IsServiceOf s.users s.pages sizes service → Follows service v
+    → IsServiceOf s sizes service → Follows service v
 follows-new s sizes worker post notes v service p new same =
     let marks_are : v.post.marks ≡ marks service = ap (λ x. x.marks) new.at_post ∙ p.marks ∙ ap (map (λ q. q.split)) (sym same.pages_are) in
     let pages : pages_of v.post ≡ length s.pages = ap length (ap (λ x. x.marks) new.at_post ∙ p.marks) ∙ length-map s.pages (λ q. q.split) in
@@ -53,6 +53,7 @@ follows-new s sizes worker post notes v service p new same =
         submitters_alike = sym (length-map service.plans length) ∙ ap length same.sizes_are ∙ sym (ap (λ x. x.share.submitters) new.last);
         marks_alike = sym marks_are;
         hot_alike = subst (AreMasksOf service.hot) (sym masks) (All-nil (λ m. m.mask ≡ service.hot m.phase));
+        stash_alike = same.stash_is ∙ sym (ap (λ x. x.capacity) new.held);
       };
       sized = record {
         slice = ap length new.slice ∙ length-replicate (length s.pages) 0 ∙ sym pages;
@@ -80,6 +81,7 @@ follows-new s sizes worker post notes v service p new same =
         λ i d inside. absurd (omega (arith, ap length new.ran)),
       );
       in_order = rw (new.taken, new.ran, held) refl;
+      fits = λ phase. rw new.taken (omega arith);
       held = λ i h k. absurd (omega (arith, ap length held));
       stands = subst (λ x. Stands service v x) (sym state_is) blocks;
       trying = λ place e. absurd (cc (new.pending, e));
@@ -108,6 +110,7 @@ follows-done service v f gone s =
     in
     record {
       in_order = sym (append-nil _) ∙ ap (λ hs. map entry_of v.ran ++ map (entry_held (next_joined v)) hs) (sym stands.0) ∙ f.in_order;
+      fits = f.fits;
       likes = λ page. f.tallied.likes page ∙ omega (arith, empty-gone v gone s page);
       by_phase = in_phase;
       looks = f.tallied.looks;

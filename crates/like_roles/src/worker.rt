@@ -107,7 +107,7 @@ impl<P: Post> Worker<P> {
         ensures new { IfOk result (IsNew setup.now sizes.now worker (P.view post) true) }
         ensures follows { IfOk result
             (λ worker. (service : Service)
-            → IsServiceOf setup.now.users setup.now.pages sizes.now service
+            → IsServiceOf setup.now sizes.now service
             → Follows service worker) }
         ensures post { IfErr result (λ refused. refused.post ≡ post) }
     {
@@ -129,7 +129,7 @@ impl<P: Post> Worker<P> {
         ensures new { IfOk result (IsNew setup.now sizes.now worker (P.view post) notes) }
         ensures follows { IfOk result
             (λ worker. (service : Service)
-            → IsServiceOf setup.now.users setup.now.pages sizes.now service
+            → IsServiceOf setup.now sizes.now service
             → Follows service worker) }
         ensures post { IfErr result (λ refused. refused.post ≡ post) }
     {

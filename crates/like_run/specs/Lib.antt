@@ -1,3 +1,4 @@
 pub mod Room
 pub mod Rounds
+pub mod Script
 pub mod Threads

@@ -1,4 +1,4 @@
-ghost use Rattle.std.specs.Prelude.{◌≡◌, ◌≤◌, All, IfErr, IfOk, OnOk, length, false, true};
+ghost use Rattle.std.specs.Prelude.{◌≡◌, ◌≤◌, ℕ, All, IfErr, IfOk, OnOk, length, false, true};
 ghost use Rattle.like_requests.specs.Setup.{IsWithinLimits};
 ghost use Rattle.like_roles.specs.coordinator.CoordTurns.{HasEndedJoined};
 ghost use Rattle.like_script.specs.Fit.{IsInRun};
@@ -9,6 +9,7 @@ ghost use Rattle.like_crew.specs.EndToEnd.{IsRightReport};
 ghost use Rattle.like_crew.specs.Ended.{HasEnded};
 ghost use Rattle.like_crew.specs.Tiling.{HasNoPlaces, HasRightPlaces};
 ghost use Rattle.like_run.specs.Rounds.{CanMake, CanReplayScript, IsReplayFaultUnderWay, IsReplayFault};
+ghost use Rattle.like_run.specs.Script.{FollowsScript, Makes, MakesAll, MakesRounds};
 
 use like_collection::Report;
 use like_crew::{Crew, Ended, Site, report_of};
@@ -90,6 +91,7 @@ fn replay_within(
 // Makes a script's entries in their order, opens all lists, makes rounds until the run ended, and takes the crew apart.
 fn play(alloc: Global, crew: Crew<'_, ListInbox>, script: &[Turned]) -> Result<Ended, ReplayFault>
     requires { All (CanMake crew.servers.items) script.now }
+    ensures script { IfOk result (FollowsScript script.now crew.entry) }
     ensures ended { IfOk result (HasEnded crew.entry) }
     ensures fault { IfErr result IsReplayFaultUnderWay }
 {
@@ -103,7 +105,8 @@ fn play(alloc: Global, crew: Crew<'_, ListInbox>, script: &[Turned]) -> Result<E
 // Makes a script's entries in their order.
 fn make_all(crew: &mut Crew<'_, ListInbox>, script: &[Turned])
     requires { All (CanMake crew.old.servers.items) script.now }
-    ensures { GoesOn crew.old crew.new }
+    ensures makes { MakesAll script.now crew.old crew.new }
+    ensures goes_on { GoesOn crew.old crew.new }
 {
     for entry in script {
         make(crew, entry);
@@ -113,7 +116,8 @@ fn make_all(crew: &mut Crew<'_, ListInbox>, script: &[Turned])
 // Makes one entry of a script.
 fn make(crew: &mut Crew<'_, ListInbox>, entry: &Turned)
     requires { CanMake crew.old.servers.items entry.now }
-    ensures { GoesOn crew.old crew.new }
+    ensures makes { Makes entry.now crew.old crew.new }
+    ensures goes_on { GoesOn crew.old crew.new }
 {
     match *entry {
         Turned::OpenOne(submitter) => crew.open_one(submitter),
@@ -128,6 +132,7 @@ fn make(crew: &mut Crew<'_, ListInbox>, entry: &Turned)
 
 // Makes rounds until the run ended.
 fn make_rounds(crew: &mut Crew<'_, ListInbox>) -> Result<(), ReplayFault>
+    ensures rounds { OnOk result ((n : ℕ) × MakesRounds n crew.old crew.new) }
     ensures goes_on { GoesOn crew.old crew.new }
     ensures ended { OnOk result (HasEndedJoined crew.new.captain) }
     ensures gone { OnOk result (AreGone crew.new.servers.items) }

@@ -1,5 +1,5 @@
 -- Two lists that match place by place.
-use Rattle.std.proofs.Common.{◌≡◌, ℕ, zero, suc, ◌+◌, List, [], ◌∷◌, ◌++◌, length, slice_get, Some, refl, sym, ap, subst, arith, add-zero, add-one}
+use Rattle.std.proofs.Common.{◌≡◌, ℕ, zero, suc, ◌+◌, ◌<◌, List, [], ◌∷◌, ◌++◌, length, get_or, slice_get, Some, refl, sym, ap, subst, arith, add-zero, add-one}
 use Rattle.std.specs.List.{AllZip, range_with_len, sum_by}
 use Rattle.std.proofs.lemmas.List.Sums.{sum_by-cons}
 
@@ -43,3 +43,10 @@ pairs-sum R f g [] [] same h = refl
 pairs-sum R f g [] (y ∷ ys) same h = absurd h
 pairs-sum R f g (x ∷ xs) [] same h = absurd h
 pairs-sum R f g (x ∷ xs) (y ∷ ys) same h = omega (arith, sum_by-cons f x xs, sum_by-cons g y ys, same x y h.0, pairs-sum R f g xs ys same h.1)
+
+-- lists of one length match where they do place by place
+pub pairs-from : {A B : Type 0} (R : A → B → Type 0) (xs : List A) (ys : List B) → length ys ≡ length xs → ((k : ℕ) (d : A) (e : B) → k < length xs → R (get_or xs k d) (get_or ys k e)) → AllZip R xs ys
+pairs-from R [] [] same h = tt
+pairs-from R [] (y ∷ ys) same h = absurd (omega (arith, same))
+pairs-from R (x ∷ xs) [] same h = absurd (omega (arith, same))
+pairs-from R (x ∷ xs) (y ∷ ys) same h = (h zero x y (omega arith), pairs-from R xs ys (omega (arith, same)) (λ k d e below. h (suc k) d e (omega (arith, below))))

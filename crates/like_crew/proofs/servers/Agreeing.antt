@@ -1,5 +1,5 @@
 -- A worker and its inboxes go on to agree.
-use Rattle.std.proofs.Common.{◌≡◌, ℕ, ◌+◌, ◌-◌, ◌<◌, ◌≤◌, Bool, true, false, ltb, List, length, get_or, set, slice_get, Some, None, refl, sym, ap, ◌∙◌, subst, arith, inl, inr, add-one, option_map, option_and_then}
+use Rattle.std.proofs.Common.{◌≡◌, ℕ, ◌+◌, ◌-◌, ◌<◌, ◌≤◌, Bool, true, false, ltb, List, [], length, get_or, set, slice_get, Some, None, refl, sym, ap, ◌∙◌, subst, arith, inl, inr, add-one, option_map, option_and_then}
 use Rattle.std.specs.List.{All, range_with_len}
 use Rattle.std.proofs.lemmas.Bool.{cases_eq, le-ltb, lt-ltb, ltb-false}
 use Rattle.std.proofs.lemmas.List.{get_or-set_same, get_or-set_other, length-set, set-get_or}
@@ -24,8 +24,10 @@ use Rattle.like_requests.specs.Setup.{IsThere}
 use Rattle.like_roles.specs.worker.WorkerView.{WorkerView, phase_at, submitter_at}
 use Rattle.like_crew.specs.Log.{IsRising, numbers_taken}
 use Rattle.like_crew.specs.Server.{Agree, AgreesAt, AreOwnPlans, WorksFor, numbers_given, plans_of, requests_taken}
-use Rattle.like_crew.proofs.servers.Numbers.{count-taken, given-own, numbers-next, numbers-same, slice_get-set_other, slice_get-set_same}
+use Rattle.like_crew.proofs.lists.Stepped.{slice_get-set_other, slice_get-set_same}
+use Rattle.like_crew.proofs.servers.Numbers.{count-taken, given-own, numbers-next, numbers-same}
 use Rattle.like_crew.proofs.servers.Shares.{plan-at}
+use Rattle.like_crew.proofs.servers.Unnoted.{gives-adds, turns-adds}
 use Rattle.like_crew.proofs.servers.Sights.{HasSeen, IsTrying, gives-seen, taken-rising, turns-seen}
 
 -- a turn that takes nothing
@@ -47,20 +49,21 @@ agree-turn v w inboxes answer turns k a =
       rising = subst IsRising (sym k.taken) a.rising;
       above = seen.0;
       present = seen.1;
+      unnoted = λ n. let was : v.notes ≡ false = sym k.notes ∙ n in turns-adds v answer w was turns ∙ a.unnoted was;
     }
 
 -- a worker of the same run, with inboxes of the same plans, that follows the plans too
 serves-on : (service : Service) (v w : WorkerView) (before after : List InboxView) → w.last.share ≡ v.last.share → plans_of after ≡ plans_of before → (AreMasksOf service.hot w.post.masks → Follows service w)
-    → WorksFor service (record { worker = v; inboxes = before }) → WorksFor service (record { worker = w; inboxes = after })
-serves-on service v w before after share plans follows h = record {
+    → (opened more : List ℕ) → WorksFor service (record { worker = v; inboxes = before; opened = opened }) → WorksFor service (record { worker = w; inboxes = after; opened = more })
+serves-on service v w before after share plans follows opened more h = record {
   plans = plans ∙ h.plans ∙ ap (λ (s : Share). dealt s.workers s.worker service.plans) (sym share);
   follows = follows;
 }
 
-pub serves-turn : (service : Service) (v w : WorkerView) (inboxes : List InboxView) → TakesNothing v w → (AreMasksOf service.hot w.post.masks → Follows service v → Follows service w)
-    → WorksFor service (record { worker = v; inboxes = inboxes }) → WorksFor service (record { worker = w; inboxes = inboxes })
-serves-turn service v w inboxes k follows h =
-    serves-on service v w inboxes inboxes k.share refl (λ right. follows right (h.follows (masks-before service.hot v.post.masks w.post.masks k.masks right))) h
+pub serves-turn : (service : Service) (v w : WorkerView) (inboxes : List InboxView) (opened : List ℕ) → TakesNothing v w → (AreMasksOf service.hot w.post.masks → Follows service v → Follows service w)
+    → WorksFor service (record { worker = v; inboxes = inboxes; opened = opened }) → WorksFor service (record { worker = w; inboxes = inboxes; opened = opened })
+serves-turn service v w inboxes opened k follows h =
+    serves-on service v w inboxes inboxes k.share refl (λ right. follows right (h.follows (masks-before service.hot v.post.masks w.post.masks k.masks right))) opened opened h
 
 -- what was taken from the inbox at a place, in the worker's own words
 record Changes (v w : WorkerView) (place left : ℕ) (ended : Bool) : Type 0 where
@@ -78,9 +81,9 @@ module _ (v w : WorkerView) (inboxes : List InboxView) (place n : ℕ) (i : Inbo
   within = slice_get_within inboxes place i here
 
   agree-changed : (left : ℕ) (ended : Bool) → Changes v w place left ended → left + requests_taken (taken_to i n) ≡ length i.plan → ended ≡ ltb (length i.plan) n
-      → ((s : ℕ) → numbers_taken s w.taken ≡ numbers_given v.last.share (set inboxes place (taken_to i n)) s) → IsRising w.taken → HasSeen w
+      → ((s : ℕ) → numbers_taken s w.taken ≡ numbers_given v.last.share (set inboxes place (taken_to i n)) s) → IsRising w.taken → HasSeen w → (w.notes ≡ false → w.adds ≡ [])
       → Agree w (set inboxes place (taken_to i n))
-  agree-changed left ended c lefts ends numbers rising seen = record {
+  agree-changed left ended c lefts ends numbers rising seen unnoted = record {
     is_worker = subst (λ (s : Share). s.worker < s.workers) (sym c.share) a.is_worker;
     lefts = ap (λ (xs : List ℕ). length xs) c.left_is ∙ length-set v.left place left ∙ a.lefts ∙ sym (length-set inboxes place (taken_to i n));
     places = ap (λ (xs : List Bool). length xs) c.ended_is ∙ length-set v.ended place ended ∙ a.places ∙ sym (length-set inboxes place (taken_to i n));
@@ -105,6 +108,7 @@ module _ (v w : WorkerView) (inboxes : List InboxView) (place n : ℕ) (i : Inbo
     rising = rising;
     above = seen.0;
     present = seen.1;
+    unnoted = unnoted;
   }
 
 -- what is given leaves the run as it is
@@ -169,6 +173,12 @@ module _ (v : WorkerView) (inboxes : List InboxView) (place : ℕ) (i j : InboxV
 
   -- and is, and they agree again
   module _ (w : WorkerView) (looked : IsTrying v) (answer : Turn) where
+    -- where the worker notes no additions, it noted none
+    none-noted : (took : Taken) → Gives v took answer w → HasTaken v took w → w.notes ≡ false → w.adds ≡ []
+    none-noted took gives has n =
+        let was : v.notes ≡ false = sym (notes-given v w place took trying has) ∙ n in
+        gives-adds v took answer w was gives ∙ a.unnoted was
+
     within_here : place < length inboxes
     within_here = slice_get_within inboxes place i here
 
@@ -187,7 +197,7 @@ module _ (v : WorkerView) (inboxes : List InboxView) (place : ℕ) (i j : InboxV
         (omega (arith, some, left)) (sym (le-ltb (length i.plan) (i.taken + 1) (omega (arith, some))))
         (λ s. ap (numbers_taken s) k.taken
         ∙ numbers-next v.last.share a.is_worker inboxes v.taken place i next within_here here a.taken one refl (t.1 ∙ omega (arith, not_over)) more s)
-        (subst IsRising (sym k.taken) (taken-rising v place ask looked (a.above, a.present) a.rising)) seen)
+        (subst IsRising (sym k.taken) (taken-rising v place ask looked (a.above, a.present) a.rising)) seen (none-noted (taken.Ask ask) gives has))
     agree-give taken.End t gives has =
         let k : TakesNothing (record v { ended = set v.ended place true }) w = has place trying in
         let seen : HasSeen w = gives-seen v taken.End answer w gives looked (a.above, a.present) in
@@ -199,7 +209,7 @@ module _ (v : WorkerView) (inboxes : List InboxView) (place : ℕ) (i j : InboxV
         (record { share = k.share; marks = k.marks; left_is = k.left ∙ sym (set-get_or v.left place 0); ended_is = k.ended })
         (omega (arith, left, all)) (sym (lt-ltb (length i.plan) (length i.plan + 1) (omega arith)))
         (λ s. ap (numbers_taken s) k.taken ∙ numbers-same v.last.share a.is_worker inboxes v.taken place i (record i { taken = item_count i.plan }) within_here here a.taken same s)
-        (subst IsRising (sym k.taken) a.rising) seen)
+        (subst IsRising (sym k.taken) a.rising) seen (none-noted taken.End gives has))
     agree-give taken.Nothing t gives has =
         let k : TakesNothing v w = has in
         let seen : HasSeen w = gives-seen v taken.Nothing answer w gives looked (a.above, a.present) in
@@ -209,16 +219,16 @@ module _ (v : WorkerView) (inboxes : List InboxView) (place : ℕ) (i j : InboxV
         (record { share = k.share; marks = k.marks; left_is = k.left ∙ sym (set-get_or v.left place 0); ended_is = k.ended ∙ sym (set-get_or v.ended place true) ∙ ap (set v.ended place) open_yet })
         left (sym (le-ltb (length i.plan) i.taken not_over))
         (λ s. ap (numbers_taken s) k.taken ∙ numbers-same v.last.share a.is_worker inboxes v.taken place i i within_here here a.taken refl s)
-        (subst IsRising (sym k.taken) a.rising) seen)
+        (subst IsRising (sym k.taken) a.rising) seen (none-noted taken.Nothing gives has))
 
   -- and the worker follows the plans on
   pub serves-give : (service : Service) (w : WorkerView) (took : Taken) → HandsOver i took j → HasTaken v took w → (IsAskedBy service v took → Follows service v → Follows service w)
-      → WorksFor service (record { worker = v; inboxes = inboxes }) → WorksFor service (record { worker = w; inboxes = set inboxes place j })
-  serves-give service w took t has follows h =
+      → (opened more : List ℕ) → WorksFor service (record { worker = v; inboxes = inboxes; opened = opened }) → WorksFor service (record { worker = w; inboxes = set inboxes place j; opened = more })
+  serves-give service w took t has follows opened more h =
       let plans : plans_of (set inboxes place j) ≡ plans_of inboxes =
       map-set_same (λ (x : InboxView). x.plan) inboxes place j i (plan-taken i j took t ∙ ap (λ (x : InboxView). x.plan) (sym (get_or_from_slice_get inboxes place i i here))) in
       serves-on service v w inboxes (set inboxes place j) (share-given v w place took trying has) plans
-      (λ right. follows (asks took t) (h.follows (masks-before service.hot v.post.masks w.post.masks (masks-given v w place took trying has) right))) h where
+      (λ right. follows (asks took t) (h.follows (masks-before service.hot v.post.masks w.post.masks (masks-given v w place took trying has) right))) opened more h where
         asks : (x : Taken) → HandsOver i x j → IsAskedBy service v x
         asks (taken.Ask ask) u = λ p e.
             subst (λ q. request_at service (submitter_at v q) ask.number ≡ Some ask.request) (same_Some _ _ (sym trying ∙ e)) (asked service v inboxes place i ask here u.0 u.1 (omega (arith, a.is_worker)) h.plans)

@@ -63,6 +63,7 @@ log-is service s log a h done taken ran last = record {
   taken = rw taken (takes-plans service s a h done);
   rising = rw taken a.rising;
   ran = rw (taken, ran) done.in_order;
+  stashed = rw taken done.fits;
   answers = rw ran done.replies;
   last = rw (ran, last) done.last;
 }
@@ -108,6 +109,7 @@ agree-new s sizes number post notes v inboxes is_worker fresh i new =
       taken = λ submitter. ap (numbers_taken submitter) new.taken ∙ sym (by_test s inboxes i.untouched v.last.share submitter (serves v.last.share submitter));
       rising = λ a b d before within. absurd (omega (arith, within, ap (λ (xs : List Took). length xs) new.taken));
       above = subst (λ l. NoneAbove l v.taken) (sym (ap (λ (x : PostView). x.last) new.at_post ∙ fresh.fresh.never_looked)) new.taken;
+      unnoted = λ _. new.adds;
       present = λ _. subst (λ l. IfSome l (λ sight. sight.number ≡ phase_at v)) (sym (ap (λ (x : PostView). x.last) new.at_post ∙ fresh.fresh.never_looked)) tt;
     } where
       by_test : (s : Setup) (inboxes : List InboxView) → All (λ i. i.taken ≡ 0) inboxes → (share : Share) (submitter : ℕ) (b : Bool)

@@ -1,11 +1,12 @@
 ghost use Rattle.std.specs.Prelude.{◌≡◌, ◌<◌, ℕ, IfOk, IfErr, length, map};
 ghost use Rattle.like_core.specs.declared.worker_state.WorkerState.TheVariants.{Gone};
-ghost use Rattle.like_tables.specs.Share.{place_of, share_of};
+ghost use Rattle.like_tables.specs.Share.{share_of};
 ghost use Rattle.like_requests.specs.Setup.{IsWithin};
 ghost use Rattle.like_roles.specs.worker.New.{IsPostOf};
 ghost use Rattle.like_roles.specs.service.Service.{Service};
 ghost use Rattle.like_roles.specs.worker.Follows.{IsServiceOf};
 ghost use Rattle.like_crew.specs.Server.{AreInboxesFor, AreOwnPlans, IsLogOf, ServerGoesOn, WorksFor};
+ghost use Rattle.like_crew.specs.ServerTurns.{OpensAll, OpensOne, OpensWhole, ServerTurns, place_at};
 
 use like_core::Post;
 use like_queue::{Inbox, ListInbox, TakeWith};
@@ -30,7 +31,8 @@ impl<P: Post, I: Inbox> Model for Server<P, I> {
 
     ghost Value = { ServerView };
 
-    ghost view = { λ s. record { worker = s.worker; inboxes = map I.view s.inboxes.items } };
+    ghost view = { λ s. let inboxes = s.inboxes.items in
+        record { worker = s.worker; inboxes = map I.view inboxes; opened = map I.opened inboxes } };
 
     ghost invariant = { λ s. (s.worker.pending ≡ None)
         × (s.workers ≡ s.worker.last.share.workers) × Agree s.worker (map I.view s.inboxes.items) };
@@ -57,7 +59,7 @@ impl<P: Post, I: Inbox> Server<P, I> {
         ensures at_post { IfOk result (λ server. server.worker.post ≡ P.view post) }
         ensures notes { IfOk result (λ server. server.worker.notes ≡ notes) }
         ensures works { IfOk result (λ server. (service : Service)
-            → IsServiceOf setup.now.users setup.now.pages sizes.now service
+            → IsServiceOf setup.now sizes.now service
             → AreOwnPlans service setup.now.workers number (map I.view inboxes.items) → WorksFor service server) }
         ensures post { IfErr result (λ refused. refused.post ≡ post) }
     {
@@ -80,6 +82,7 @@ impl<P: Post, I: Inbox> Server<P, I> {
     pub fn turn<G: Gate, R>(&mut self, rt: &R, gate: &G) -> Turn
     where
         I: TakeWith<R>,
+        ensures case { ServerTurns result self.old self.new }
         ensures goes_on { ServerGoesOn self.old self.new }
         ensures retired { result ≡ Turn.Retired → self.new.worker.post.state ≡ Gone }
     {
@@ -113,8 +116,9 @@ impl<P: Post, I: Inbox> Server<P, I> {
 impl<P: Post> Server<P, ListInbox> {
     /// Opens one item more of a submitter's list.
     pub fn open_one(&mut self, submitter: u32)
-        requires { place_of self.old.worker.last.share.workers submitter < length self.old.inboxes }
-        ensures { ServerGoesOn self.old self.new }
+        requires { place_at self.old submitter < length self.old.inboxes }
+        ensures opens { OpensOne submitter self.old self.new }
+        ensures goes_on { ServerGoesOn self.old self.new }
     {
         let place = (submitter / self.workers) as usize;
         self.inboxes[place].open_one();
@@ -122,7 +126,8 @@ impl<P: Post> Server<P, ListInbox> {
 
     /// Opens all lists.
     pub fn open_all(&mut self)
-        ensures { ServerGoesOn self.old self.new }
+        ensures opens { OpensAll self.old self.new }
+        ensures goes_on { ServerGoesOn self.old self.new }
     {
         let places = self.inboxes.len();
         for place in 0..places {
@@ -133,7 +138,8 @@ impl<P: Post> Server<P, ListInbox> {
     // Opens the list at a place.
     fn open_whole(&mut self, place: usize)
         requires { place < length self.old.inboxes }
-        ensures { ServerGoesOn self.old self.new }
+        ensures opens { OpensWhole place self.old self.new }
+        ensures goes_on { ServerGoesOn self.old self.new }
     {
         self.inboxes[place].open_all();
     }

@@ -3,6 +3,8 @@ ghost use Rattle.std.specs.List.{AllZip};
 ghost use Rattle.like_core.specs.declared.worker_state.WorkerState.TheVariants.{Gone};
 ghost use Rattle.like_crew.specs.Crew.{AreGone, HasInbox};
 ghost use Rattle.like_crew.specs.Server.{IsLogOf, ServerGoesOn};
+ghost use Rattle.like_crew.specs.ServerTurns.{MakesTurn, OpensAll, ServerTurns};
+ghost use Rattle.like_crew.specs.Steps.{AtServer, OpensMore};
 ghost use Rattle.like_crew.specs.Ended.{IsSeatOf};
 
 use crate::crew::server::Server;
@@ -14,6 +16,7 @@ use std::alloc::{AllocError, Global};
 
 /// Makes one turn of each worker, in order, and says whether all are gone.
 pub fn turns<P: Post>(servers: &mut Vec<Server<P, ListInbox>>) -> bool
+    ensures turns { AllZip MakesTurn servers.old.items servers.new.items }
     ensures go_on { AllZip ServerGoesOn servers.old.items servers.new.items }
     ensures gone { result ≡ true → AreGone servers.new.items }
 {
@@ -27,6 +30,7 @@ pub fn turns<P: Post>(servers: &mut Vec<Server<P, ListInbox>>) -> bool
 
 // Makes one turn of a worker, and says whether it is gone.
 fn retires<P: Post>(server: &mut Server<P, ListInbox>) -> bool
+    ensures turns { MakesTurn server.old server.new }
     ensures goes_on { ServerGoesOn server.old server.new }
     ensures gone { result ≡ true → server.new.worker.post.state ≡ Gone }
 {
@@ -39,7 +43,8 @@ fn retires<P: Post>(server: &mut Server<P, ListInbox>) -> bool
 /// Makes one turn of a worker.
 pub fn turn_of<P: Post>(servers: &mut Vec<Server<P, ListInbox>>, worker: u32) -> Turn
     requires { worker < length servers.old.items }
-    ensures { AllZip ServerGoesOn servers.old.items servers.new.items }
+    ensures case { AtServer worker (ServerTurns result) servers.old.items servers.new.items }
+    ensures go_on { AllZip ServerGoesOn servers.old.items servers.new.items }
 {
     servers[worker as usize].turn(&(), &NoGate)
 }
@@ -47,7 +52,8 @@ pub fn turn_of<P: Post>(servers: &mut Vec<Server<P, ListInbox>>, worker: u32) ->
 /// Opens one item more of a submitter's list.
 pub fn open_one<P: Post>(servers: &mut Vec<Server<P, ListInbox>>, submitter: u32)
     requires { HasInbox servers.old.items submitter }
-    ensures { AllZip ServerGoesOn servers.old.items servers.new.items }
+    ensures opens { OpensMore submitter servers.old.items servers.new.items }
+    ensures go_on { AllZip ServerGoesOn servers.old.items servers.new.items }
 {
     let worker = submitter as usize % servers.len();
     servers[worker].open_one(submitter);
@@ -55,7 +61,8 @@ pub fn open_one<P: Post>(servers: &mut Vec<Server<P, ListInbox>>, submitter: u32
 
 /// Opens all lists.
 pub fn open_all<P: Post>(servers: &mut Vec<Server<P, ListInbox>>)
-    ensures { AllZip ServerGoesOn servers.old.items servers.new.items }
+    ensures opens { AllZip OpensAll servers.old.items servers.new.items }
+    ensures go_on { AllZip ServerGoesOn servers.old.items servers.new.items }
 {
     for worker in 0..servers.len() {
         servers[worker].open_all();

@@ -198,13 +198,14 @@ counted-sized v page old s =
 
 counted-served : (service : Service) (v : WorkerView) (page old : ℕ) → IsServed service v → IsServed service (counted v page old)
 counted-served service v page old s =
-    let same : (w : WorkerView) → w.last ≡ v.last → w.post.marks ≡ v.post.marks → w.post.masks ≡ v.post.masks → IsServed service w = λ w last marks masks. record {
+    let same : (w : WorkerView) → w.last ≡ v.last → w.post.marks ≡ v.post.marks → w.post.masks ≡ v.post.masks → w.held ≡ v.held → IsServed service w = λ w last marks masks held. record {
       users = s.users ∙ ap (λ x. x.share.users) (sym last);
       submitters_alike = s.submitters_alike ∙ ap (λ x. x.share.submitters) (sym last);
       marks_alike = s.marks_alike ∙ sym marks;
       hot_alike = subst (AreMasksOf service.hot) (sym masks) s.hot_alike;
+      stash_alike = s.stash_alike ∙ ap (λ x. x.capacity) (sym held);
     } in
-    counted_by (IsServed service) v page old (same _ refl refl refl) (same _ refl refl refl)
+    counted_by (IsServed service) v page old (same _ refl refl refl refl) (same _ refl refl refl refl)
 
 -- one more entry that ran no like changes no number of a phase
 pub within-none : (service : Service) (ran : List Ran) (e : Ran) (page phase : ℕ) → like_ran service e ≡ None → likes_within service page (ran ++ e ∷ []) phase ≡ likes_within service page ran phase
@@ -247,7 +248,7 @@ unchanged : (service : Service) (v : WorkerView) (h : Held) (stashed : Bool) (an
 unchanged service v h stashed answer reads served sized t none right shows later =
     let e = ran_now v h stashed answer in
     let same : likes_ran service (v.ran ++ e ∷ []) ≡ likes_ran service v.ran = likes_ran-push service v.ran e None none ∙ append-nil _ in (
-      record { users = served.users; submitters_alike = served.submitters_alike; marks_alike = served.marks_alike; hot_alike = served.hot_alike },
+      record { users = served.users; submitters_alike = served.submitters_alike; marks_alike = served.marks_alike; hot_alike = served.hot_alike; stash_alike = served.stash_alike },
       record { slice = sized.slice; users = sized.users },
       record {
         likes = λ page. ap (page_likes page) same ∙ t.likes page;
@@ -273,7 +274,7 @@ one_like service v h stashed page old served sized t like no_look right in_pages
     let in_table : user < length v.last.last = omega (arith, sized.users) in
     let s = counted-served service v page old served in
     let z = counted-sized v page old sized in (
-      record { users = served.users; submitters_alike = served.submitters_alike; marks_alike = s.marks_alike; hot_alike = s.hot_alike },
+      record { users = served.users; submitters_alike = served.submitters_alike; marks_alike = s.marks_alike; hot_alike = s.hot_alike; stash_alike = s.stash_alike },
       record { slice = z.slice; users = length-set v.last.last user (Some page) ∙ sized.users },
       record {
         likes = λ other. ap (page_likes other) more ∙ page_likes-push other (likes_ran service v.ran) l ∙ ap (λ n. n + cond (eqb page other) 1 0) (t.likes other)

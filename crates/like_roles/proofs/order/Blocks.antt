@@ -1,15 +1,15 @@
 -- How the blocks of run order grow.
-use Rattle.std.proofs.Common.{◌≡◌, ◌≢◌, ℕ, zero, suc, ◌+◌, ◌-◌, ◌<◌, ◌≤◌, ◌%◌, Bool, true, false, eqb, ◌&&◌, List, [], ◌∷◌, ◌++◌, Option, Some, None, refl, ap, sym, ◌∙◌, arith, add-one, append-nil, append_assoc}
+use Rattle.std.proofs.Common.{◌≡◌, ◌≢◌, ℕ, zero, suc, ◌+◌, ◌-◌, ◌<◌, ◌≤◌, ◌%◌, Bool, true, false, eqb, ◌&&◌, List, [], ◌∷◌, ◌++◌, length, Option, Some, None, refl, ap, sym, ◌∙◌, arith, add-one, append-nil, append_assoc}
 use Rattle.std.proofs.lemmas.Bool.{eqb-true, ne_eqb, eq-eqb}
 use Rattle.std.proofs.lemmas.Grind.{flat_map-append}
-use Rattle.std.proofs.lemmas.List.{map-append}
+use Rattle.std.proofs.lemmas.List.{length-append, length-map, map-append}
 use Rattle.std.proofs.lemmas.List.Elements.{filter-append}
 use Rattle.std.specs.List.{AllByRecursion, filter, flat_map, range_with_len}
 use Rattle.std.specs.Option.{option_map_or}
 use Rattle.like_requests.specs.Verdict.{is_accepted}
 use Rattle.like_requests.specs.declared.request.Request.{Request}
 use Rattle.like_roles.specs.declared.log.Took.{Took}
-use Rattle.like_roles.specs.service.Order.{block, entry_in, is_due, is_prompt, order, order_below, phases_of, took_to_wait, waits}
+use Rattle.like_roles.specs.service.Order.{block, entry_in, is_due, is_prompt, order, order_below, phases_of, stashed_in, took_to_wait, waits}
 use Rattle.like_roles.specs.service.Replies.{page_looked_at}
 use Rattle.like_roles.specs.service.Service.{Service, is_split_in, request_at}
 
@@ -147,6 +147,18 @@ pub block-next-waits : (service : Service) (xs : List Took) (t : Took) → took_
 block-next-waits service xs t w all =
     let due : is_due service (t.phase + 1) t ≡ true = rw (eq-eqb (t.phase + 1) (t.phase + 1) refl, w) refl in
     block-due service xs t (t.phase + 1) due (not_prompt-waits service t (t.phase + 1) w) (nothing_prompt service xs (t.phase + 1) (t.phase + 1) all (omega arith))
+
+-- what runs in the phase of taking adds nothing to what comes out of the stash
+pub stashed-prompt : (service : Service) (xs : List Took) (t : Took) (k : ℕ) → took_to_wait service t ≡ false → stashed_in service k (xs ++ t ∷ []) ≡ stashed_in service k xs
+stashed-prompt service xs t k w = let due : is_due service k t ≡ false = rw w (and-false (eqb (t.phase + 1) k)) in simp (filter-append, due, append-nil)
+
+-- and what was taken in a phase adds to the next one alone
+pub stashed-other : (service : Service) (xs : List Took) (t : Took) (k : ℕ) → t.phase + 1 ≢ k → stashed_in service k (xs ++ t ∷ []) ≡ stashed_in service k xs
+stashed-other service xs t k h = let due : is_due service k t ≡ false = rw (ne_eqb (t.phase + 1) k h) refl in simp (filter-append, due, append-nil)
+
+-- what comes out of the stash in a phase is in its block
+pub stashed-block : (service : Service) (xs : List Took) (k : ℕ) → stashed_in service k xs ≤ length (block service xs k)
+stashed-block service xs k = simp (length-append, length-map) (omega arith)
 
 -- each phase of taking is below the number of phases
 phases_of-bounds : (xs : List Took) (n : ℕ) → phases_of xs ≤ n → AllByRecursion (λ t. t.phase + 1 ≤ n) xs

@@ -1,5 +1,5 @@
 -- In which order a worker runs what it has taken.
-use Rattle.std.specs.Prelude.{ℕ, ◌+◌, ◌==◌, Bool, true, false, ◌&&◌, not, max, List, [], ◌∷◌, ◌++◌, map, filter}
+use Rattle.std.specs.Prelude.{ℕ, ◌+◌, ◌==◌, Bool, true, false, ◌&&◌, not, max, List, [], ◌∷◌, ◌++◌, length, map, filter}
 use Rattle.std.specs.List.{flat_map, range_with_len}
 use Rattle.std.specs.Option.{option_map_or}
 use Rattle.like_requests.specs.Verdict.{is_accepted}
@@ -46,6 +46,10 @@ entry_in phase stashed t =
 -- taken in the phase before this one, to wait
 abbrev pub is_due : Service → ℕ → Took → Bool
 is_due service phase t = (t.phase + 1 == phase) && took_to_wait service t
+
+-- how many of what was taken come out of the stash in a phase
+abbrev pub stashed_in : Service → ℕ → List Took → ℕ
+stashed_in service phase taken = length (filter (is_due service phase) taken)
 
 -- taken in this phase, to run at once
 abbrev pub is_prompt : Service → ℕ → Took → Bool

@@ -5,11 +5,12 @@ use Rattle.like_requests.specs.declared.request.Request.{Request}
 use Rattle.like_core.specs.Phase.{is_marked, split}
 use Rattle.like_roles.specs.declared.log.Ran.{Ran}
 
--- so many users, these pages, the mask of each phase's hot pages, and the plan of each submitter: its requests in their
--- order
+-- so many users, these pages, room for so many looks that wait at each worker, the mask of each phase's hot pages, and the
+-- plan of each submitter: its requests in their order
 pub record Service : Type 0 where
   pub users : ℕ
   pub pages : List Page
+  pub stash : ℕ
   pub hot : ℕ → ℕ
   pub plans : List (List Request)
 

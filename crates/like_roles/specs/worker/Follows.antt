@@ -1,6 +1,6 @@
 -- What a worker has done, as the plans of its submitters say it should.
 use Rattle.std.specs.Prelude.{◌≡◌, ℕ, ◌+◌, ◌%◌, ◌≤◌, ◌==◌, if◌then◌else◌, true, false, List, [], ◌++◌, length, map, slice_index, All, Some, ⊤}
-use Rattle.like_requests.specs.Pages.{Page}
+use Rattle.like_requests.specs.declared.setup.Setup.{Setup}
 use Rattle.like_requests.specs.declared.request.Taken.{Taken}
 use Rattle.like_requests.specs.declared.request.Taken.TheVariants as taken
 use Rattle.like_core.specs.declared.view.Addition.{Addition}
@@ -15,21 +15,24 @@ use Rattle.like_tables.specs.UserTable.{last_of}
 use Rattle.like_tables.specs.declared.held.Held.{Held}
 use Rattle.like_roles.specs.declared.log.Added.{Added}
 use Rattle.like_roles.specs.declared.log.Ran.{Ran}
+use Rattle.like_roles.specs.declared.log.Took.{Took}
 use Rattle.like_roles.specs.service.Adds.{IsOfLikes, AreOfLikes, addition_of, adds_at, adds_before_looks, adds_to, likes_at}
 use Rattle.like_roles.specs.service.Likes.{last_like, likes_among, likes_within}
 use Rattle.like_roles.specs.service.Looks.{shown_by, shown_in}
-use Rattle.like_roles.specs.service.Order.{Entry, block, entry_of, order, order_below}
+use Rattle.like_roles.specs.service.Order.{Entry, block, entry_of, order, order_below, stashed_in}
 use Rattle.like_roles.specs.service.Replies.{HasRightAnswers}
 use Rattle.like_roles.specs.service.Service.{Service, is_split_in, marks, request_at, submitters}
 use Rattle.like_requests.specs.Setup.{IsThere}
 use Rattle.like_roles.specs.worker.WorkerView.{WorkerView, TookAllEnds, phase_at, submitter_at}
 
--- the service is the one that the worker serves, and the masks that its post read are the service's
+-- the service is the one that the worker serves, with as much room for looks that wait, and the masks that its post read
+-- are the service's
 pub record IsServed (service : Service) (v : WorkerView) : Type 0 where
   pub users : service.users ≡ v.last.share.users
   pub submitters_alike : submitters service ≡ v.last.share.submitters
   pub marks_alike : marks service ≡ v.post.marks
   pub hot_alike : AreMasksOf service.hot v.post.masks
+  pub stash_alike : service.stash ≡ v.held.capacity
 
 -- the worker has a place for each page, and for each user
 pub record IsSized (v : WorkerView) : Type 0 where
@@ -113,6 +116,10 @@ Stands service v (Runs phase) = IsInBlocks service v phase
 Stands service v (Answered phase) = IsInBlocks service v phase × (IsJoined phase → v.held.held ≡ [])
 Stands service v Gone = (v.held.held ≡ []) × TookAllEnds v
 
+-- in no phase do more come out of the stash than it has room for
+abbrev pub FitsStash : Service → List Took → Type 0
+FitsStash service taken = (phase : ℕ) → stashed_in service phase taken ≤ service.stash
+
 -- all of this, of a worker whose requests are those of the service's plans
 pub record Follows (service : Service) (v : WorkerView) : Type 0 where
   pub served : IsServed service v
@@ -121,6 +128,7 @@ pub record Follows (service : Service) (v : WorkerView) : Type 0 where
   pub noted : v.notes ≡ true → IsNoted service v.post.additions v.post.reads v.adds v.ran
   pub unmerged : v.notes ≡ true → IsUnmerged service v.adds v.ran v.post.state
   pub in_order : IsInOrder service v
+  pub fits : FitsStash service v.taken
   pub held : All (IsAsked service) v.held.held
   pub stands : Stands service v v.post.state
   pub trying : (place : ℕ) → v.pending ≡ Some place
@@ -134,11 +142,11 @@ IsAskedBy service v (taken.Ask ask) =
 IsAskedBy service v taken.End = ⊤
 IsAskedBy service v taken.Nothing = ⊤
 
--- the service has these users and pages, and plans of these sizes
-pub record IsServiceOf (users : ℕ) (pages : List Page) (sizes : List ℕ) (service : Service)
-    : Type 0 where
-  pub users_are : service.users ≡ users
-  pub pages_are : service.pages ≡ pages
+-- the service has the users, the pages and the stash of these settings, and plans of these sizes
+pub record IsServiceOf (s : Setup) (sizes : List ℕ) (service : Service) : Type 0 where
+  pub users_are : service.users ≡ s.users
+  pub pages_are : service.pages ≡ s.pages
+  pub stash_is : service.stash ≡ s.stash
   pub sizes_are : map length service.plans ≡ sizes
 
 -- the additions of a worker that is gone are noted: they are its post's, in order; each is of its likes; and as many came
@@ -148,12 +156,14 @@ pub record AreNoted (service : Service) (v : WorkerView) : Type 0 where
   pub adds : AreOfLikes service v.ran v.adds
   pub reads : map (λ r. r.after) v.post.reads ≡ adds_before_looks service v.adds v.ran
 
--- what a worker that is gone has done: it ran what it took in run order; its post's additions are the accepted likes
+-- what a worker that is gone has done: it ran what it took in run order, no more out of its stash in a phase than that has
+-- room for; its post's additions are the accepted likes
 -- that it ran, in each phase, and its post's reads the accepted looks; its additions are noted, where it notes them; each
 -- reply is right, save that nothing is said of counts; its table has each user's last like; and the end mark of each of
 -- its submitters was taken
 pub record IsDone (service : Service) (v : WorkerView) : Type 0 where
   pub in_order : map entry_of v.ran ≡ order service v.taken
+  pub fits : FitsStash service v.taken
   pub likes : (page : ℕ) → likes_among service page v.ran ≡ additions_of v.post page
   pub by_phase : (phase page : ℕ)
       → likes_within service page v.ran phase ≡ additions_in v.post phase page

@@ -15,7 +15,7 @@ use Rattle.like_crew.specs.Asked.{asked, lists_of}
 use Rattle.like_crew.specs.Gathered.{AreTables, RunsOnce}
 use Rattle.like_crew.specs.EndToEnd.{runs_of}
 use Rattle.like_crew.proofs.additions.Tiled.{all-there, of-likes, placed-are, tiles-are}
-use Rattle.like_crew.proofs.Whole.{all-gone, all-here, are-all, chosen-are, counts-are, known, last-likes-are, log-at, logs-are, logs-size, runs-once, seen-counts, tables}
+use Rattle.like_crew.proofs.Whole.{all-gone, none-noted, all-here, are-all, chosen-are, counts-are, known, last-likes-are, log-at, logs-are, logs-size, runs-once, seen-counts, tables}
 use Rattle.like_crew.proofs.report.report_of.Goals as goal
 
 pub final_counts-counts-requires-clause-left : goal.final_counts-counts-requires-clause-left
@@ -122,4 +122,6 @@ returns-clause-places c notes =
     }
 
 pub returns-clause-none : goal.returns-clause-none
-returns-clause-none c unasked = c.in_ok-places.ensures.none unasked
+returns-clause-none c unasked =
+    let h = c.requires.ended in
+    (c.in_ok-places.ensures.none unasked, none-noted c.args.setup.now (lists_of c.args.plans.now.value.items) c.args.site c.args.ended h unasked)

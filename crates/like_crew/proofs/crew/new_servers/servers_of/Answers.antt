@@ -47,7 +47,7 @@ inboxes-at setup sizes number k inboxes own same within sized none is =
 server-at : (setup : Setup) (sizes : List ℕ) (number k : ℕ) (inboxes own : List InboxView) (post : PostView) (board : List ℕ) (notes : Bool) (s : ServerView) → number ≡ k → sizes ≡ map length (plans_of inboxes)
     → own ≡ dealt setup.workers k inboxes → IsPostOf k setup.pages post → post.board ≡ board → s.worker.last.share ≡ share_of setup.users (length sizes) setup.workers number
     → s.worker.post ≡ post → s.worker.notes ≡ notes
-    → ((service : Service) → IsServiceOf setup.users setup.pages sizes service → AreOwnPlans service setup.workers number own → WorksFor service s)
+    → ((service : Service) → IsServiceOf setup sizes service → AreOwnPlans service setup.workers number own → WorksFor service s)
     → IsServer (service_of setup (plans_of inboxes)) setup.workers board notes k s
 server-at setup sizes number k inboxes own post board notes s same sized is fresh here share at noting works =
     is-server setup sizes k inboxes own post board notes s sized is fresh here (share ∙ ap (λ n. share_of setup.users (length sizes) setup.workers n) same) at noting

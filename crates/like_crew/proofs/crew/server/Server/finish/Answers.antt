@@ -1,4 +1,4 @@
-use Rattle.std.proofs.Common.{◌≡◌, List, map, sym, ap, subst}
+use Rattle.std.proofs.Common.{◌≡◌, ◌∙◌, List, map, sym, ap, subst}
 use Rattle.like_tables.specs.UserTable.{UserTable}
 use Rattle.like_roles.specs.declared.log.Ran.{Ran}
 use Rattle.like_roles.specs.declared.log.Took.{Took}
@@ -12,7 +12,8 @@ use Rattle.like_crew.proofs.crew.server.Server.finish.Goals as goal
 
 pub returns-clause-log : goal.returns-clause-log
 returns-clause-log g c =
-    let s : ServerView = record { worker = c.self.inside.worker; inboxes = map g.I.Inbox.view c.self.inside.inboxes.items } in
+    let items = c.self.inside.inboxes.items in
+    let s : ServerView = record { worker = c.self.inside.worker; inboxes = map g.I.Inbox.view items; opened = map g.I.Inbox.opened items } in
     subst (λ (x : ServerView). IsLogOf x c.finish.result.0) c.self.view_is (record {
       share = ap (λ (t : UserTable). t.share) c.finish.ensures.last;
       log_is = λ service here.
@@ -26,5 +27,6 @@ returns-clause-log g c =
       above = subst (λ (taken : List Took). NoneAbove s.worker.post.last taken) (sym c.finish.ensures.taken) c.self.invariant.2.above;
       ran = c.finish.ensures.ran;
       adds = c.finish.ensures.adds;
+      unnoted = λ notes. c.finish.ensures.adds ∙ c.self.invariant.2.unnoted notes;
       noted = λ notes service here. (c.finish.ensures.done service (here.0.follows here.1)).noted notes;
     })

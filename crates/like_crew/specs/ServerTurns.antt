@@ -1,0 +1,53 @@
+-- What a turn does to a server, and what it does to open the lists of its submitters.
+use Rattle.std.specs.Prelude.{◌≡◌, ◌≢◌, ℕ, ◌+◌, min, slice_get, slice_index, slice_set, Some, None}
+use Rattle.like_requests.specs.declared.request.Taken.{Taken}
+use Rattle.like_queue.specs.Inbox.{HandsOver, InboxView, item_count}
+use Rattle.like_tables.specs.Share.{place_of}
+use Rattle.like_roles.specs.declared.turn.Turn.{Turn}
+use Rattle.like_roles.specs.declared.turn.Turn.TheVariants.{Try}
+use Rattle.like_roles.specs.worker.Turns.{Gives, Turns}
+use Rattle.like_roles.specs.worker.WorkerView.{WorkerView}
+use Rattle.like_crew.specs.Server.{ServerView}
+
+-- the place of a submitter's inbox
+abbrev pub place_at : ServerView → ℕ → ℕ
+place_at s submitter = place_of s.worker.last.share.workers submitter
+
+-- a whole turn of a server: its worker's turn; and where that tries a submitter, what the inbox of that one hands over is
+-- given to it
+pub data ServerTurns (answer : Turn) (s t : ServerView) : Type 0 where
+  tries_none : Turns s.worker answer t.worker → t.worker.pending ≡ None
+      → t ≡ record s { worker = t.worker } → ServerTurns answer s t
+  tries : (submitter : ℕ) (tried : WorkerView) (i j : InboxView) (took : Taken)
+      → Turns s.worker (Try submitter) tried
+      → slice_get s.inboxes (place_at s submitter) ≡ Some i → HandsOver i took j
+      → Gives tried took answer t.worker
+      → t ≡ record s { worker = t.worker; inboxes = slice_set s.inboxes (place_at s submitter) j }
+      → ServerTurns answer s t
+
+-- some whole turn of a server
+abbrev pub MakesTurn : ServerView → ServerView → Type 0
+MakesTurn s t = (answer : Turn) × ServerTurns answer s t
+
+-- one item more of a submitter's list is open, where not all were
+pub record OpensOne (submitter : ℕ) (s t : ServerView) : Type 0 where
+  pub inbox : InboxView
+  pub here : slice_get s.inboxes (place_at s submitter) ≡ Some inbox
+  pub more : let open_now = slice_index s.opened (place_at s submitter) in
+      t ≡ record s {
+        opened = slice_set s.opened (place_at s submitter) (min (open_now + 1) (item_count inbox.plan));
+      }
+
+-- all items of the list at a place are open, and of no other list more
+pub record OpensWhole (place : ℕ) (s t : ServerView) : Type 0 where
+  pub inbox : InboxView
+  pub here : slice_get s.inboxes place ≡ Some inbox
+  pub all : slice_get t.opened place ≡ Some (item_count inbox.plan)
+  pub others : (other : ℕ) → other ≢ place → slice_get t.opened other ≡ slice_get s.opened other
+  pub rest : t ≡ record s { opened = t.opened }
+
+-- all items of its lists are open
+pub record OpensAll (s t : ServerView) : Type 0 where
+  pub all : (place : ℕ) (inbox : InboxView) → slice_get s.inboxes place ≡ Some inbox
+      → slice_get t.opened place ≡ Some (item_count inbox.plan)
+  pub rest : t ≡ record s { opened = t.opened }

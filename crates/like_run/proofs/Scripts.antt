@@ -1,0 +1,17 @@
+-- Entries and rounds that are made one after the other.
+use Rattle.std.proofs.Common.{◌≡◌, ℕ, zero, suc, ◌+◌, ◌<◌, List, [], ◌∷◌, ◌++◌, length, get_or, take, refl, sym, ap, ◌∙◌, subst, arith}
+use Rattle.std.proofs.lemmas.List.{take_more}
+use Rattle.like_script.specs.declared.turned.Turned.{Turned}
+use Rattle.like_crew.specs.declared.crew.Crew.{Crew}
+use Rattle.like_crew.specs.Steps.{IsRound}
+use Rattle.like_run.specs.Script.{Makes, MakesAll, MakesRounds}
+
+-- one entry more is made
+pub makes-more : {I : Type 0} (script : List Turned) (entry : Turned) (b c d : Crew I) → MakesAll script b c → Makes entry c d → MakesAll (script ++ entry ∷ []) b d
+makes-more [] entry b c d same step = (d, (subst (λ x. Makes entry x d) same step, refl))
+makes-more (first ∷ script) entry b c d made step = (made.0, (made.1.0, makes-more script entry made.0 c d made.1.1 step))
+
+-- one round more
+pub rounds-more : {I : Type 0} (n : ℕ) (b c d : Crew I) → MakesRounds n b c → IsRound c d → MakesRounds (suc n) b d
+rounds-more zero b c d same round = (d, (subst (λ x. IsRound x d) same round, refl))
+rounds-more (suc n) b c d made round = (made.0, (made.1.0, rounds-more n made.0 c d made.1.1 round))
