@@ -206,6 +206,7 @@ closes z words views place v c seats shows at_view back =
             same_parts (λ (s : WorkerSeat). added_before (c.phase + 1) page (seat_view s).additions) (λ (s : WorkerSeat). added_to page (seat_view s).additions)
             (λ s. sum_less (λ (a : Addition). cond (nat_lt a.phase (c.phase + 1) && (a.page == page)) a.likes 0) (λ (a : Addition). cond (a.page == page) a.likes 0) (counts_before (c.phase + 1) page) (seat_view s).additions)
             seats (past page) k seat below);
+        stand = λ k seat below. (between k seat below).2;
         reads = λ k seat below. (between k seat below).0;
         glances = λ k seat below. (between k seat below).1;
         counted = closed_counted z words views place d (seats_before seats) shows at back.made each added;

@@ -22,7 +22,7 @@ use Rattle.like_core.specs.word.ShownWord.{mask, has_answered, is_gone, shown_fi
 use Rattle.like_core.specs.views.Sights.{first_fields}
 use Rattle.like_core.specs.views.Views.{fresh_coord}
 use Rattle.like_core.specs.views.Reads.{all_before, IsCounted, HasReads, ReadsFit}
-use Rattle.like_core.specs.views.Layout.{word_of}
+use Rattle.like_core.specs.views.Layout.{mask_place, word_of}
 use Rattle.like_core.specs.views.Shows.{IsOpening, ShowsSome, Fits, FitsCoord}
 use Rattle.like_core.proofs.views.KeptPlaces.{places_open}
 use Rattle.like_core.proofs.core.Reached.{start_reached}
@@ -46,8 +46,8 @@ start_fields z =
     λ m. record { kind = 0; workers = z.workers; answered = answered m; retired = retired m; number = zero-mod z.limits.modulus m }
 
 -- a new board shows the core's start
-pub opens : (z : Opening) (words : List ℕ) → IsOpening z → length words ≡ word_of (length z.counts) → get_or words 0 0 ≡ packed (first_fields z.workers) → ((page : ℕ) → page < length z.counts → get_or words (word_of page) 0 ≡ get_or z.counts page 0) → ShowsSome z words (Coord (fresh_coord z (packed (first_fields z.workers))) ∷ [])
-opens z words opening width word pages =
+pub opens : (z : Opening) (words : List ℕ) → IsOpening z → length words ≡ word_of (length z.counts) → get_or words 0 0 ≡ packed (first_fields z.workers) → ((page : ℕ) → page < length z.counts → get_or words (word_of page) 0 ≡ get_or z.counts page 0) → get_or words mask_place 0 ≡ 0 → ShowsSome z words (Coord (fresh_coord z (packed (first_fields z.workers))) ∷ [])
+opens z words opening width word pages mask_word =
     let c : CoordSeatView = fresh_coord z (packed (first_fields z.workers)) in
     let fits : FitsCoord z (start z) c =
     record {
@@ -75,7 +75,7 @@ opens z words opening width word pages =
         width = width;
         word = word ∙ ap packed (sym (start_fields z));
         pages = λ page below. pages page below ∙ sym (add-zero (get_or z.counts page 0));
-        mask = λ odd. absurd (omega arith);
+        mask = λ _. mask_word;
         merged = λ i. refl;
         coord = c;
         first = refl;
@@ -106,12 +106,13 @@ opens z words opening width word pages =
         subst (HasReads z.counts (all_before (Coord c ∷ [])) 0) (some-injective (Coord c) v at) has
     no_reads z c none (suc place) v at = absurd (some-ne-none v (sym at))
 
--- the words of a new board: the phase word and the counts at their places
+-- the words of a new board: the phase word, the counts at their places, and no mask
 abbrev pub AreFirst : List ℕ → ℕ → List ℕ → Type 0
 AreFirst words word counts =
     (length words ≡ word_of (length counts))
     × (get_or words 0 0 ≡ word)
     × ((page : ℕ) → page < length counts → get_or words (word_of page) 0 ≡ get_or counts page 0)
+    × (get_or words mask_place 0 ≡ 0)
 
 -- a table that is made with these words starts by the rule
 pub opens_key : (key : Key) (counts : List ℕ) (marks : List Bool) (word : ℕ) (items words : List ℕ) → key.counts.items ≡ counts → key.marks.items ≡ marks → word ≡ packed (first_fields key.workers) → words ≡ items → AreFirst items word counts → 1 ≤ key.workers → key.workers ≤ max_workers → length marks ≡ length counts → length counts ≤ max_pages → All (λ n. n ≤ max_count) counts → AreLimits key.limits → ShowsSome (opening_of key) words (first_view key ∷ [])
@@ -130,4 +131,4 @@ opens_key key counts marks word items words counts_are marks_are word_is words_a
     in
     let here : AreFirst items word key.counts.items = subst (AreFirst items word) (sym counts_are) first in
     subst (λ (ws : List ℕ). ShowsSome z ws (first_view key ∷ [])) (sym words_are)
-    (opens z items opening here.0 (here.1 ∙ word_is) here.2)
+    (opens z items opening here.0 (here.1 ∙ word_is) here.2 here.3)

@@ -8,7 +8,7 @@ use Rattle.like_core.specs.WorkerState.{SawNoLater}
 use Rattle.like_core.specs.views.Views.{gathered_all}
 use Rattle.like_core.specs.views.Layout.{word_of}
 use Rattle.like_board.specs.declared.worker_seat.WorkerSeat.{WorkerSeat}
-use Rattle.like_board.specs.Seats.{seat_view, seat_meaning, AreAll, last_count, HaveAddedWithin, HaveReadBetween, HaveGlancedBetween, AreCounted, HaveReadMasks, HavePlaces}
+use Rattle.like_board.specs.Seats.{seat_view, seat_meaning, AreAll, last_count, HaveAddedBetween, HaveAddedWithin, HaveReadBetween, HaveGlancedBetween, AreCounted, HaveReadMasks, HavePlaces}
 
 -- the coordinator's view, after each worker's seat was given back to it
 pub record HasAllBack (v : View) (c : CoordSeatView) (seats : List WorkerSeat) : Type 0 where
@@ -23,6 +23,7 @@ pub record IsClosed (c : CoordSeatView) (seats : List WorkerSeat) : Type 0 where
   pub few_pages : length c.opening.counts ≤ max_pages
   pub phases : All (λ seat. SawNoLater c.phase (seat_meaning seat).last) seats
   pub added : HaveAddedWithin c.phase seats
+  pub stand : HaveAddedBetween c.opening c.phase seats
   pub reads : HaveReadBetween c.opening c.phase seats
   pub glances : HaveGlancedBetween c.opening c.phase seats
   pub counted : AreCounted c seats

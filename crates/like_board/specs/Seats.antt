@@ -13,7 +13,7 @@ use Rattle.like_board.specs.declared.shared_post.SharedPost.{SharedPost}
 use Rattle.like_core.specs.Additions.{added_before}
 use Rattle.like_core.specs.Post.{PostView, IsFresh, additions_of}
 use Rattle.like_core.specs.views.Views.{fresh, post_of}
-use Rattle.like_core.specs.views.Reads.{AreBetween, IsCounted}
+use Rattle.like_core.specs.views.Reads.{AreBetween, IsCounted, StandBetween}
 use Rattle.like_core.specs.views.Places.{Counting, AreTiles, ArePlaced}
 use Rattle.like_core.specs.PhaseMasks.{mask_of, AreMasksOf}
 use Rattle.like_board.specs.Known.{worker_view_of, coord_view_of}
@@ -105,6 +105,11 @@ abbrev pub HaveReadBetween : Opening → ℕ → List WorkerSeat → Type 0
 HaveReadBetween z phase seats =
     All (λ seat. let post = seat_meaning seat in
     AreBetween z.counts (seats_before seats) phase post.additions post.reads) seats
+
+-- the additions of the workers of these seats stand between what they all have added before their phases and up to them
+abbrev pub HaveAddedBetween : Opening → ℕ → List WorkerSeat → Type 0
+HaveAddedBetween z phase seats =
+    All (λ seat. StandBetween z.counts (seats_before seats) phase (seat_meaning seat).additions) seats
 
 -- and so does each count at which it glanced
 abbrev pub HaveGlancedBetween : Opening → ℕ → List WorkerSeat → Type 0

@@ -9,7 +9,7 @@ ghost use Rattle.like_core.specs.views.Layout.{word_of};
 ghost use Rattle.like_core.specs.views.Views.{gathered_all};
 ghost use Rattle.like_board.specs.declared.worker_seat.WorkerSeat.{WorkerSeat};
 ghost use Rattle.like_board.specs.Known.{coord_view_of};
-ghost use Rattle.like_board.specs.Seats.{board_id, coord_board, coord_view, seat_board, seat_view, seat_meaning, AreAll, last_count, HaveAddedWithin, HaveReadBetween, HaveGlancedBetween, HaveReadMasks, HavePlaces, AreCounted};
+ghost use Rattle.like_board.specs.Seats.{board_id, coord_board, coord_view, seat_board, seat_view, seat_meaning, AreAll, last_count, HaveAddedBetween, HaveAddedWithin, HaveReadBetween, HaveGlancedBetween, HaveReadMasks, HavePlaces, AreCounted};
 ghost use Rattle.like_board.specs.Closed.{HasAllBack};
 
 use crate::board::Board;
@@ -64,6 +64,7 @@ impl Board {
             slice_index counts.new page ≡ last_count (coord_view coord).opening seats.items page }
         ensures phases { All (λ seat. SawNoLater (coord_view coord).phase (seat_meaning seat).last) seats.items }
         ensures added { HaveAddedWithin (coord_view coord).phase seats.items }
+        ensures stand { HaveAddedBetween (coord_view coord).opening (coord_view coord).phase seats.items }
         ensures reads { HaveReadBetween (coord_view coord).opening (coord_view coord).phase seats.items }
         ensures glances { HaveGlancedBetween (coord_view coord).opening (coord_view coord).phase seats.items }
         ensures counted { AreCounted (coord_view coord) seats.items }
@@ -98,6 +99,7 @@ impl Board {
             slice_index counts.new page ≡ last_count (coord_view coord).opening seats.items page }
         ensures phases { All (λ seat. SawNoLater (coord_view coord).phase (seat_meaning seat).last) seats.items }
         ensures added { HaveAddedWithin (coord_view coord).phase seats.items }
+        ensures stand { HaveAddedBetween (coord_view coord).opening (coord_view coord).phase seats.items }
         ensures reads { HaveReadBetween (coord_view coord).opening (coord_view coord).phase seats.items }
         ensures glances { HaveGlancedBetween (coord_view coord).opening (coord_view coord).phase seats.items }
         ensures counted { AreCounted (coord_view coord) seats.items }

@@ -1,7 +1,7 @@
 //! Where the words of a board stand in its table.
 ghost use Rattle.std.specs.Prelude.{◌≡◌, ℕ, ◌<◌, ◌≤◌, length, slice_index, IfOk};
 ghost use Rattle.like_core.specs.Limits.{max_pages};
-ghost use Rattle.like_core.specs.views.Layout.{phase_place, word_of};
+ghost use Rattle.like_core.specs.views.Layout.{mask_place, phase_place, word_of};
 
 use std::alloc::{AllocError, Global};
 
@@ -38,6 +38,7 @@ pub(crate) fn first_words(
     requires few_pages { length counts.now ≤ max_pages }
     ensures len { IfOk result (λ words. length words.items ≡ word_of (length counts.now)) }
     ensures phase_word { IfOk result (λ words. slice_index words.items phase_place ≡ phase_word) }
+    ensures mask_word { IfOk result (λ words. slice_index words.items mask_place ≡ 0) }
     ensures counts { IfOk result (λ words. (page : ℕ) → page < length counts.now →
         slice_index words.items (word_of page) ≡ slice_index counts.now page) }
 {

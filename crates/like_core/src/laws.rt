@@ -1,7 +1,7 @@
 //! Laws of the core's states, of the views of seats and of the places of a board's words. Each is the contract of a
 //! function that does nothing.
 ghost use Rattle.like_core.specs.core.Exclusive.{ReachableIsExclusive};
-ghost use Rattle.like_core.specs.core.Likes.{LikesStayReachable};
+ghost use Rattle.like_core.specs.core.Likes.{LikesStayReachable, NoneHoldsWhileJoined};
 ghost use Rattle.like_core.specs.views.Layout.{WordsStandApart};
 ghost use Rattle.like_core.specs.word.KindTells.{KindTellsPhase};
 ghost use Rattle.like_core.specs.views.Places.{AdditionKeepsPlaces, ReadKeepsPlaces, GlanceKeepsPlaces, JoinKeepsPlaces};
@@ -16,6 +16,11 @@ pub fn reachable_is_exclusive()
 /// state that can be reached holds of the board's state and all slices together.
 pub fn likes_stay_reachable()
     ensures { LikesStayReachable }
+{}
+
+/// In every interleaving, no worker runs joined work while another holds an unmerged slice: the two laws above, together.
+pub fn none_holds_while_joined()
+    ensures { NoneHoldsWhileJoined }
 {}
 
 /// A worker that has answered phase j tells j from j + 1 by the kind of the phase word. It is in no other phase, so it

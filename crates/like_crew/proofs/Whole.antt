@@ -213,7 +213,7 @@ module _ (setup : Setup) (plans : List (List Request)) (site : Site) (e : Ended)
   }
 
   -- what all seats have added before a phase are the accepted likes that all workers ran before it
-  all-before : HaveReadMasks (coord_view e.coord).masks e.seats.items → (phase page : ℕ) → seats_before e.seats.items phase page ≡ likes_below known page (runs_of e.logs.items) phase
+  pub all-before : HaveReadMasks (coord_view e.coord).masks e.seats.items → (phase page : ℕ) → seats_before e.seats.items phase page ≡ likes_below known page (runs_of e.logs.items) phase
   all-before masks phase page =
       sym (pairs-sum IsSeatOf (λ (s : ServerView). added_before phase page s.worker.post.additions) (λ (seat : WorkerSeat). added_before phase page (seat_meaning seat).additions) h.servers e.seats.items
       (λ s seat m. ap (λ (p : PostView). added_before phase page p.additions) (sym m)) h.seats)

@@ -6,9 +6,10 @@ use Rattle.like_requests.specs.declared.setup.Setup.{Setup}
 use Rattle.like_core.specs.declared.view.Addition.{Addition}
 use Rattle.like_core.specs.declared.view.PageRead.{PageRead}
 use Rattle.like_core.specs.views.Places.{ArePlaced, AreTiles, Counting}
+use Rattle.like_roles.specs.declared.log.Ran.{Ran}
 use Rattle.like_roles.specs.declared.log.WorkerLog.{WorkerLog}
 use Rattle.like_roles.specs.service.Adds.{AreOfLikes, addition_of, adds_before_looks}
-use Rattle.like_roles.specs.service.Likes.{initial_count}
+use Rattle.like_roles.specs.service.Likes.{Between, initial_count}
 use Rattle.like_roles.specs.service.Looks.{ShownCount, shown_in}
 use Rattle.like_roles.specs.service.Service.{Service}
 use Rattle.like_collection.specs.declared.report.Report.{Report}
@@ -35,16 +36,22 @@ reads_shown service log =
     map read_after (zip (shown_in service log.ran.items)
     (adds_before_looks service log.adds.items log.ran.items))
 
+-- the additions of a log stand in the order of phases: each behind all likes of earlier phases, and before those of later
+-- ones
+abbrev pub StandsInTime : Service → List (List Ran) → WorkerLog → Type 0
+StandsInTime service runs log = All (λ a. Between service runs a.phase a.page a.old 0 a.n) log.adds.items
+
 -- places tile: each log's additions are its accepted likes; the stretches of all logs' additions tile each page's
 -- counts, from the initial one to the final one; each count that a look was shown is the initial one or the end of a
--- stretch, and each worker's additions and looks at a page are in the order of these counts; and the report has the places
--- of all additions by page
+-- stretch, and each worker's additions and looks at a page are in the order of these counts; all additions stand in the
+-- order of their phases; and the report has the places of all additions by page
 pub record ArePlacesTiled (service : Service) (r : Report) : Type 0 where
   pub likes : All (λ log. AreOfLikes service log.ran.items log.adds.items) r.logs.items
   pub tiles : AreTiles (initial_count service.pages) (slice_index r.counts.items)
       (logs_passing r.logs.items)
   pub placed : All (λ log. ArePlaced (initial_count service.pages) (logs_passing r.logs.items)
       (additions_noted log) (reads_shown service log)) r.logs.items
+  pub in_time : All (StandsInTime service (runs_of r.logs.items)) r.logs.items
   pub rows : ArePlaces (length service.pages) r.logs.items (lists_in r.places.items)
 
 -- the places of a report of settings and plans are right, with the hot pages that its own run lists tell

@@ -1,6 +1,6 @@
 ghost use Rattle.std.specs.Prelude.{◌≡◌, ◌<◌, ◌≤◌, ℕ, false, true, All, IfOk, IfSome, length, slice_index};
 ghost use Rattle.like_requests.specs.Setup.{IsWithinLimits};
-ghost use Rattle.like_board.specs.Seats.{AreCounted, board_id, coord_view, last_count, seat_meaning, HavePlaces, HaveReadBetween, HaveReadMasks};
+ghost use Rattle.like_board.specs.Seats.{AreCounted, board_id, coord_view, last_count, seat_meaning, HaveAddedBetween, HavePlaces, HaveReadBetween, HaveReadMasks};
 ghost use Rattle.like_crew.specs.Asked.{lists_of};
 ghost use Rattle.like_crew.specs.EndToEnd.{IsRightReport};
 ghost use Rattle.like_crew.specs.Ended.{AreLeft, IsEnded};
@@ -75,6 +75,7 @@ fn final_counts(
         → slice_index result.items page ≡ last_count (coord_view coord).opening seats.items page }
     ensures phases { All (λ seat. IfSome (seat_meaning seat).last (λ sight. sight.number ≤ (coord_view coord).phase))
         seats.items }
+    ensures stand { HaveAddedBetween (coord_view coord).opening (coord_view coord).phase seats.items }
     ensures reads { HaveReadBetween (coord_view coord).opening (coord_view coord).phase seats.items }
     ensures masks { HaveReadMasks (coord_view coord).masks seats.items }
     ensures counted { AreCounted (coord_view coord) seats.items }

@@ -1,5 +1,5 @@
 -- The coordinator's reads of counts and its masks, before a release: each keeps what the board shows.
-use Rattle.std.proofs.Common.{◌≡◌, ℕ, ◌+◌, ◌^◌, ◌<◌, ◌≤◌, List, length, get_or, slice_index, set, subst, ap, sym, ◌∙◌, refl, arith}
+use Rattle.std.proofs.Common.{◌≡◌, ℕ, ◌+◌, ◌^◌, ◌<◌, ◌≤◌, inl, inr, List, length, get_or, slice_index, set, subst, ap, sym, ◌∙◌, refl, arith}
 use Rattle.std.proofs.lemmas.List.{set-get_or, get_or-set_same, get_or-set_other}
 use Rattle.std.proofs.lemmas.List.Elements.{All-cons}
 use mathlib.Core.Option.{some}
@@ -111,6 +111,7 @@ publishes z words views place c mask some_state at may =
     let d : CoordSeatView = published_coord c mask in
     let old : FitsCoord z s c = sh.each place (Coord c) at in
     let even : IsJoined s.phase = subst IsJoined old.phase may.1 in
+    let now : AllAreIn z s c = saw_all_in z s c old may.0 in
     let known = of_coord z s words views place c sh at in
     let last : ℕ = mask_place in
     let wide = sh.width in
@@ -140,7 +141,10 @@ publishes z words views place c mask some_state at may =
           leads z s words views place c d s.phase s.ending s.hot last mask sh at refl refl (omega arith)
           (get_or-set_other words last 0 mask 0 (λ eq. absurd (omega arith)) ∙ sh.word)
           (λ page below. get_or-set_other words last (word_of page) mask 0 (λ eq. let far = word_of-past page in absurd (omega arith)))
-          (λ odd. absurd (omega arith))
+          (λ fixed. elim fixed [
+            | inl odd ↦ absurd (omega arith)
+            | inr first ↦ let clash = first.1 in absurd (cc now.ending)
+          ])
           (get_or-set_same words last mask 0 (omega arith))
           known.1
           fits

@@ -169,7 +169,10 @@ announces z words views place c some_state at may =
     let after_it : Shows z t (set words 0 word) (set views place (Coord d)) =
     leads_word z s words views place c d s.phase true s.hot word sh at refl refl refl (omega arith)
     (ap (λ n. (n + 1) % 2 ^ 64) sh.word ∙ word_announced z s lawful running)
-    sh.mask
+    (λ fixed. elim fixed [
+      | inl odd ↦ sh.mask (inl odd)
+      | inr first ↦ let clash = first.1 in absurd (cc)
+    ])
     (of_coord z s words views place c sh at).0
     fits
     workers
@@ -316,10 +319,13 @@ releases z words views place c modulus seen modulus_is some_state at may seen_la
     let after_it : Shows z t (set words 0 (packed (released_modulo modulus seen))) (set views place (Coord d)) =
     leads_word z s words views place c d (s.phase + 1) false hot (packed (released_modulo modulus seen)) sh at refl refl refl (omega arith)
     ((λ m. packed (released_modulo (modulus_is m) (same m))) ∙ ap packed (sym (fields_released z s now.ending now.all_in)))
-    (λ odd.
-    let phase = old.phase in
-    let even : IsJoined c.phase = omega arith in
-    is.word_is even ∙ sym (update-same s.hot (s.phase + 1) mask))
+    (λ fixed. elim fixed [
+      | inl odd ↦
+          let phase = old.phase in
+          let even : IsJoined c.phase = omega arith in
+          is.word_is even ∙ sym (update-same s.hot (s.phase + 1) mask)
+      | inr first ↦ let none = first.0 in absurd (omega arith)
+    ])
     published.0
     fits
     workers

@@ -10,20 +10,20 @@ use mathlib.Core.Option.{some}
 use lib.ListN.{get_elem?}
 use Rattle.atomic_table.proofs.Lists.{at_set, at_snoc, at_longer, set_here}
 use Rattle.like_core.specs.declared.opening.Opening.{Opening}
+use Rattle.like_core.specs.declared.view.Addition.{Addition}
 use Rattle.like_core.specs.declared.view.PageRead.{PageRead}
 use Rattle.like_core.specs.declared.view.PhaseMask.{PhaseMask}
 use Rattle.like_core.specs.declared.view.WorkerSeatView.{WorkerSeatView}
 use Rattle.like_core.specs.declared.view.CoordSeatView.{CoordSeatView}
 use Rattle.like_core.specs.declared.view.View.{View}
 use Rattle.like_core.specs.declared.view.View.TheVariants.{Coord, Worker, Spent}
-use Rattle.like_core.specs.Phase.{IsSplit}
 use Rattle.like_core.specs.core.State.{CoreState}
 use Rattle.like_core.specs.word.ShownWord.{shown_word}
 use Rattle.like_core.specs.Additions.{added_before}
 use Rattle.like_core.specs.views.Views.{fresh, made_coord, seats_of}
-use Rattle.like_core.specs.views.Reads.{before_in, all_before, IsBetween, HaveBetween, IsCounted}
+use Rattle.like_core.specs.views.Reads.{before_in, all_before, IsBetween, HaveBetween, IsCounted, StandsBetween}
 use Rattle.like_core.specs.views.Layout.{mask_place, word_of}
-use Rattle.like_core.specs.views.Shows.{Shows, Fits, FitsWorker, FitsCoord}
+use Rattle.like_core.specs.views.Shows.{Shows, Fits, FitsWorker, FitsCoord, FixesMask}
 use Rattle.like_core.proofs.views.Apart.{word_of-past}
 use Rattle.like_core.proofs.views.ViewLists.{within, sum_set}
 use Rattle.like_core.proofs.views.KeptReads.{reads_same, reads_push, counted_on, counted_same}
@@ -48,7 +48,7 @@ of_coord z s words views place c sh at =
 
 -- after the coordinator led to this phase, with a new view of its own that fits, the words, of which one was written, and
 -- the views show the state after, where the words do and all workers' views fit that too
-pub leads : (z : Opening) (s : CoreState) (words : List ℕ) (views : List View) (place : ℕ) (c d : CoordSeatView) (phase : ℕ) (ending : Bool) (hot : ℕ → ℕ) (changed word : ℕ) → Shows z s words views → get_elem? views place ≡ some (Coord c) → d.made ≡ c.made → d.joined ≡ c.joined → s.phase ≤ phase → get_or (set words changed word) 0 0 ≡ shown_word z (phased s phase ending hot) → ((page : ℕ) → page < length z.counts → get_or (set words changed word) (word_of page) 0 ≡ get_or words (word_of page) 0) → (IsSplit phase → get_or (set words changed word) mask_place 0 ≡ hot phase) → IfSome d.published (λ mask. get_or (set words changed word) mask_place 0 ≡ mask) → All (IsCounted z.counts (all_before views)) d.counted → FitsCoord z (phased s phase ending hot) d → ((v : WorkerSeatView) → FitsWorker z s v → FitsWorker z (phased s phase ending hot) v) → Shows z (phased s phase ending hot) (set words changed word) (set views place (Coord d))
+pub leads : (z : Opening) (s : CoreState) (words : List ℕ) (views : List View) (place : ℕ) (c d : CoordSeatView) (phase : ℕ) (ending : Bool) (hot : ℕ → ℕ) (changed word : ℕ) → Shows z s words views → get_elem? views place ≡ some (Coord c) → d.made ≡ c.made → d.joined ≡ c.joined → s.phase ≤ phase → get_or (set words changed word) 0 0 ≡ shown_word z (phased s phase ending hot) → ((page : ℕ) → page < length z.counts → get_or (set words changed word) (word_of page) 0 ≡ get_or words (word_of page) 0) → (FixesMask phase ending → get_or (set words changed word) mask_place 0 ≡ hot phase) → IfSome d.published (λ mask. get_or (set words changed word) mask_place 0 ≡ mask) → All (IsCounted z.counts (all_before views)) d.counted → FitsCoord z (phased s phase ending hot) d → ((v : WorkerSeatView) → FitsWorker z s v → FitsWorker z (phased s phase ending hot) v) → Shows z (phased s phase ending hot) (set words changed word) (set views place (Coord d))
 leads z s words views place c d phase ending hot changed word sh at made joined on word_is pages_are mask_is published_is counted_are fits workers =
     let t : CoreState = phased s phase ending hot in
     let is = same_coord z s words views place c sh at in
@@ -95,7 +95,7 @@ leads z s words views place c d phase ending hot changed word sh at made joined 
     }
 
 -- the same of a step on the phase word
-pub leads_word : (z : Opening) (s : CoreState) (words : List ℕ) (views : List View) (place : ℕ) (c d : CoordSeatView) (phase : ℕ) (ending : Bool) (hot : ℕ → ℕ) (word : ℕ) → Shows z s words views → get_elem? views place ≡ some (Coord c) → d.made ≡ c.made → d.joined ≡ c.joined → d.counted ≡ c.counted → s.phase ≤ phase → word ≡ shown_word z (phased s phase ending hot) → (IsSplit phase → get_or words mask_place 0 ≡ hot phase) → IfSome d.published (λ mask. get_or words mask_place 0 ≡ mask) → FitsCoord z (phased s phase ending hot) d → ((v : WorkerSeatView) → FitsWorker z s v → FitsWorker z (phased s phase ending hot) v) → Shows z (phased s phase ending hot) (set words 0 word) (set views place (Coord d))
+pub leads_word : (z : Opening) (s : CoreState) (words : List ℕ) (views : List View) (place : ℕ) (c d : CoordSeatView) (phase : ℕ) (ending : Bool) (hot : ℕ → ℕ) (word : ℕ) → Shows z s words views → get_elem? views place ≡ some (Coord c) → d.made ≡ c.made → d.joined ≡ c.joined → d.counted ≡ c.counted → s.phase ≤ phase → word ≡ shown_word z (phased s phase ending hot) → (FixesMask phase ending → get_or words mask_place 0 ≡ hot phase) → IfSome d.published (λ mask. get_or words mask_place 0 ≡ mask) → FitsCoord z (phased s phase ending hot) d → ((v : WorkerSeatView) → FitsWorker z s v → FitsWorker z (phased s phase ending hot) v) → Shows z (phased s phase ending hot) (set words 0 word) (set views place (Coord d))
 leads_word z s words views place c d phase ending hot word sh at made joined counted on word_is mask_is published_is fits workers =
     let wide = sh.width in
     let past = word_of-past (length z.counts) in
@@ -199,7 +199,7 @@ splits z s words views place c sh at room =
           (sh.once i ∙ ap (λ (e : CoordSeatView). cond (nat_lt i e.made) 1 0) is.1)) ∙
           one_more i c.made);
       reads = λ j u found.
-          reads_push z.counts s.phase changed (Worker new) (λ k p. refl) (λ f. let none = All-nil (λ (r : PageRead). (r.phase ≤ s.phase) × IsBetween z.counts f [] r) in (none, none))
+          reads_push z.counts s.phase changed (Worker new) (λ k p. refl) (λ f. let none = All-nil (λ (r : PageRead). (r.phase ≤ s.phase) × IsBetween z.counts f [] r) in (none, none, All-nil (λ (a : Addition). (a.phase ≤ s.phase) × StandsBetween z.counts f a)))
           (reads_same z.counts s.phase s.phase views place (Coord c) (Coord d) (omega arith) at (λ k p. refl) (λ f has. has) sh.reads)
           j u
           (at_snoc changed (Worker new) u j found);

@@ -211,6 +211,10 @@ adds z words views place v page n some_state at may =
     let t : CoreState = with_applied s a.rest page (replicate n (label i s.phase)) in
     let word : ℕ = (get_or words (word_of page) 0 + n) % 2 ^ 64 in
     let count : ℕ = get_or words (word_of page) 0 in
+    let past = some_state.tallied.past (s.phase + 1) page (omega arith) in
+    let all_found : count ≡ get_or z.counts page 0 + all_before views (s.phase + 1) page = omega arith in
+    let begins : count ≡ get_or z.counts page 0 + all_before views (phase_of v.state + 1) page =
+    subst (λ (now : ℕ). count ≡ get_or z.counts page 0 + all_before views (now + 1) page) (sym present) all_found in
     let w : WorkerSeatView = added_view v page count n in
     let long = applied_here s i page n in
     let word_is : word ≡ get_or z.counts page 0 + length (applied_by s i page n page) = omega arith in
@@ -221,7 +225,7 @@ adds z words views place v page n some_state at may =
     (others_keep s i page n)
     (fits_added z s v page count n a.rest old present)
     (subst (λ (now : ℕ). ReadsFit z.counts now (set views place (Worker w))) present
-    (addition_keeps_reads z.counts views place v page count n at (subst (λ (now : ℕ). ReadsFit z.counts now views) (sym present) sh.reads)))
+    (addition_keeps_reads z.counts views place v page count n at begins (subst (λ (now : ℕ). ReadsFit z.counts now views) (sym present) sh.reads)))
     (counted_added z s words views place v page count n sh at (here ∙ ap Runs now) present)
     in
     let last : CoreState = after z (after_all z s (likes_merged v page n)) (adding v page) in

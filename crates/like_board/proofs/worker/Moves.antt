@@ -24,7 +24,7 @@ use Rattle.like_core.specs.Additions.{added_before}
 use Rattle.like_core.specs.views.Views.{seats_of}
 use Rattle.like_core.specs.views.Reads.{all_before, HaveBetween, IsCounted, ReadsFit}
 use Rattle.like_core.specs.views.Layout.{mask_place, word_of}
-use Rattle.like_core.specs.views.Shows.{Shows, Fits, FitsWorker, FitsCoord}
+use Rattle.like_core.specs.views.Shows.{Shows, Fits, FitsWorker, FitsCoord, FixesMask}
 use Rattle.like_core.proofs.Updates.{update-same, update-other, update_cases}
 use Rattle.like_core.proofs.word.ShownEvents.{moved}
 use Rattle.like_core.proofs.views.KeptReads.{reads_same, counted_same}
@@ -159,7 +159,7 @@ same_coord z s words views place c sh at =
 
 -- after a worker's step, with a new view of its own that fits, the words and the views show the state after, where the
 -- words do and each view fits it that is no seat of the worker's
-pub worker_steps : (z : Opening) (s t : CoreState) (words later : List ℕ) (views : List View) (place : ℕ) (v w : WorkerSeatView) → (sh : Shows z s words views) → get_elem? views place ≡ some (Worker v) → w.worker ≡ v.worker → length later ≡ length words → get_or later 0 0 ≡ shown_word z t → ((page : ℕ) → page < length z.counts → get_or later (word_of page) 0 ≡ get_or z.counts page 0 + length (t.applied page)) → get_or later mask_place 0 ≡ get_or words mask_place 0 → (IsSplit t.phase → get_or words mask_place 0 ≡ t.hot t.phase) → ((i : ℕ) → t.unmerged i ≡ []) → FitsWorker z t w → ((u : View) → seats_of v.worker u ≡ 0 → ((c : CoordSeatView) → u ≡ Coord c → v.worker < c.made) → Fits z s u → Fits z t u) → ReadsFit z.counts t.phase (set views place (Worker w)) → All (IsCounted z.counts (all_before (set views place (Worker w)))) sh.coord.counted → Shows z t later (set views place (Worker w))
+pub worker_steps : (z : Opening) (s t : CoreState) (words later : List ℕ) (views : List View) (place : ℕ) (v w : WorkerSeatView) → (sh : Shows z s words views) → get_elem? views place ≡ some (Worker v) → w.worker ≡ v.worker → length later ≡ length words → get_or later 0 0 ≡ shown_word z t → ((page : ℕ) → page < length z.counts → get_or later (word_of page) 0 ≡ get_or z.counts page 0 + length (t.applied page)) → get_or later mask_place 0 ≡ get_or words mask_place 0 → (FixesMask t.phase t.ending → get_or words mask_place 0 ≡ t.hot t.phase) → ((i : ℕ) → t.unmerged i ≡ []) → FitsWorker z t w → ((u : View) → seats_of v.worker u ≡ 0 → ((c : CoordSeatView) → u ≡ Coord c → v.worker < c.made) → Fits z s u → Fits z t u) → ReadsFit z.counts t.phase (set views place (Worker w)) → All (IsCounted z.counts (all_before (set views place (Worker w)))) sh.coord.counted → Shows z t later (set views place (Worker w))
 worker_steps z s t words later views place v w sh at number width word pages same_mask mask merged fits others reads counted =
     let seated = has_seat z s words views place v sh at in
     let not_first : place ≢ 0 = λ zeroth.

@@ -1,5 +1,5 @@
 -- A worker's read of a page's word, or of the mask word, is the event, and keeps what the board shows.
-use Rattle.std.proofs.Common.{◌≡◌, ℕ, ◌+◌, ◌<◌, ◌≤◌, List, length, get_or, slice_index, set, subst, ap, sym, ◌∙◌, refl, arith}
+use Rattle.std.proofs.Common.{◌≡◌, ℕ, ◌+◌, ◌<◌, ◌≤◌, inl, List, length, get_or, slice_index, set, subst, ap, sym, ◌∙◌, refl, arith}
 use Rattle.std.proofs.Math.ListN.{length-set}
 use Rattle.std.proofs.lemmas.List.{get_or-set_same, get_or-set_other}
 use Rattle.std.proofs.lemmas.List.Elements.{All-cons}
@@ -164,7 +164,7 @@ reads_mask z words views place v some_state at split_phase =
     let now : runs.0 ≡ s.phase = (reached_in_phase z s some_state.reachable).runs i runs.0 here in
     let present : phase_of v.state ≡ s.phase = ap phase_of runs.1 ∙ now in
     let odd : IsSplit s.phase = subst IsSplit now runs.2 in
-    let found_is : found ≡ s.hot s.phase = sh.mask odd in
+    let found_is : found ≡ s.hot s.phase = sh.mask (inl odd) in
     let wide = sh.width in
     let past = word_of-past (length z.counts) in
     let P : PhaseMask → Type 0 = λ m. (m.phase ≤ s.phase) × (m.mask ≡ s.hot m.phase) in

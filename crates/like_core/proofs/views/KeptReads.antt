@@ -1,7 +1,7 @@
 -- What stands of the counts that workers read is kept by each step.
 use Rattle.std.proofs.Common.{◌≡◌, ◌≢◌, ℕ, zero, suc, ◌+◌, ◌≤◌, ◌==◌, nat_lt, Bool, ◌&&◌, cond, ◌⊎◌, inl, inr, List, [], ◌∷◌, ◌++◌, All, length, get_or, slice_index, drop, set, subst, ap, sym, ◌∙◌, refl, arith}
 use Rattle.std.proofs.Math.Seq.{take-length}
-use Rattle.std.proofs.lemmas.Bool.{le-ltb}
+use Rattle.std.proofs.lemmas.Bool.{eq-eqb, le-ltb, lt-ltb}
 use Rattle.std.proofs.lemmas.List.{take-append-le, drop-append-le, drop_all, length-append}
 use Rattle.std.proofs.lemmas.List.Elements.{All-nil, All-cons, All-append}
 use Rattle.std.proofs.lemmas.List.Sums.{sum_by-cons, sum_by_push}
@@ -17,7 +17,7 @@ use Rattle.like_core.specs.declared.view.View.TheVariants.{Coord, Worker, Spent}
 use Rattle.like_core.specs.Additions.{addition, added_in, added_before, page_read}
 use Rattle.like_core.specs.WorkerState.{phase_of}
 use Rattle.like_core.specs.views.Views.{added_view, read_view, glanced_view, gathered_coord}
-use Rattle.like_core.specs.views.Reads.{before_in, all_before, IsBetween, AreBetween, IsCounted, HaveBetween, HasReads, ReadsFit, AdditionKeepsReads, ReadKeepsReads, GlanceKeepsReads, JoinKeepsReads}
+use Rattle.like_core.specs.views.Reads.{before_in, all_before, IsBetween, AreBetween, IsCounted, HaveBetween, StandBetween, StandsBetween, HasReads, ReadsFit, AdditionKeepsReads, ReadKeepsReads, GlanceKeepsReads, JoinKeepsReads}
 use Rattle.like_core.proofs.core.Labels.{added_in-push, added_before-push, added_before-next, one_before-next}
 use Rattle.like_core.proofs.views.ViewLists.{sum_mono, sum_more, sum_swap, sum_gathered, replaced, kept}
 
@@ -34,11 +34,25 @@ between_on counts f g phase later own reads on no_more no_less each = λ i d ins
     let most = b.most in
     (omega arith, record { after = b.after; least = omega arith; most = omega arith })
 
+-- additions stand between as before, in the same way
+pub stand_on : (counts : List ℕ) (f g : ℕ → ℕ → ℕ) (phase later : ℕ) (additions : List Addition) → phase ≤ later → ((k p : ℕ) → k ≤ phase → g k p ≤ f k p) → ((k p : ℕ) → f k p ≤ g k p) → StandBetween counts f phase additions → StandBetween counts g later additions
+stand_on counts f g phase later additions on no_more no_less each = λ i d inside.
+    let old = each i d inside in
+    let a : Addition = get_or additions i d in
+    let b : StandsBetween counts f a = old.1 in
+    let within = old.0 in
+    let low = no_more a.phase a.page within in
+    let high = no_less (a.phase + 1) a.page in
+    let least = b.least in
+    let most = b.most in
+    (omega arith, record { least = omega arith; most = omega arith })
+
 -- and glances with them
 pub both_between_on : (counts : List ℕ) (f g : ℕ → ℕ → ℕ) (phase later : ℕ) (v : WorkerSeatView) → phase ≤ later → ((k p : ℕ) → k ≤ phase → g k p ≤ f k p) → ((k p : ℕ) → f k p ≤ g k p) → HaveBetween counts f phase v → HaveBetween counts g later v
 both_between_on counts f g phase later v on no_more no_less h = (
   between_on counts f g phase later v.additions v.reads on no_more no_less h.0,
   between_on counts f g phase later v.additions v.glances on no_more no_less h.1,
+  stand_on counts f g phase later v.additions on no_more no_less h.2,
 )
 
 -- and those that a view has
@@ -115,9 +129,17 @@ counted_same counts views place a b rs at same =
     counted_on counts (all_before views) (all_before (set views place b)) rs
     (λ i d inside. let r : PageCount = get_or rs i d in same_before views place a b at same (r.phase + 1) r.page)
 
+-- what a view has added before a phase is in what it has added before the next
+before_in-next : (phase page : ℕ) (u : View) → before_in phase page u ≤ before_in (phase + 1) page u
+before_in-next phase page (Coord c) =
+    sum_mono (λ (v : WorkerSeatView). added_before phase page v.additions) (λ (v : WorkerSeatView). added_before (phase + 1) page v.additions) c.joined
+    (λ v. (let e = added_before-next v.additions phase page in omega arith))
+before_in-next phase page (Worker v) = let e = added_before-next v.additions phase page in omega arith
+before_in-next phase page Spent = omega arith
+
 -- one addition of the present phase
 pub addition_keeps_reads : AdditionKeepsReads
-addition_keeps_reads counts views place v page old n at fit =
+addition_keeps_reads counts views place v page old n at begins fit =
     let now : ℕ = phase_of v.state in
     let w : WorkerSeatView = added_view v page old n in
     let later : List View = set views place (Worker w) in
@@ -154,15 +176,20 @@ addition_keeps_reads counts views place v page old n at fit =
     (within, record { after = omega arith; least = omega arith; most = omega arith })
     in
     let mine : HaveBetween counts f now v = fit place (Worker v) at in
-    reads_set counts now now views place (Worker w) (omega arith) no_more no_less (has v.reads mine.0, has v.glances mine.1) fit
-
--- what a view has added before a phase is in what it has added before the next
-before_in-next : (phase page : ℕ) (u : View) → before_in phase page u ≤ before_in (phase + 1) page u
-before_in-next phase page (Coord c) =
-    sum_mono (λ (v : WorkerSeatView). added_before phase page v.additions) (λ (v : WorkerSeatView). added_before (phase + 1) page v.additions) c.joined
-    (λ v. (let e = added_before-next v.additions phase page in omega arith))
-before_in-next phase page (Worker v) = let e = added_before-next v.additions phase page in omega arith
-before_in-next phase page Spent = omega arith
+    let a : Addition = addition now page old n in
+    let P : Addition → Type 0 = λ x. (x.phase ≤ now) × StandsBetween counts g x in
+    let part =
+    sum_more (before_in now page) (before_in (now + 1) page) views place (Worker v) (added_in now page v.additions)
+    (before_in-next now page) at (let own = added_before-next v.additions now page in omega arith)
+    in
+    let low = no_more now page (omega arith) in
+    let high = more (now + 1) page in
+    let whole : one (now + 1) page ≡ n = ap (λ (b : Bool). cond {A = ℕ} (b && (page == page)) n 0) (lt-ltb now (now + 1) (omega arith)) ∙ ap (λ (b : Bool). cond {A = ℕ} b n 0) (eq-eqb page page refl) in
+    let new : P a = (omega arith, record { least = omega arith; most = omega arith }) in
+    let stand : StandBetween counts g now w.additions =
+    All-append P v.additions (a ∷ []) (stand_on counts f g now now v.additions (omega arith) no_more no_less mine.2) (All-cons P a [] new (All-nil P))
+    in
+    reads_set counts now now views place (Worker w) (omega arith) no_more no_less (has v.reads mine.0, has v.glances mine.1, stand) fit
 
 -- one read or glance in the present phase, which the view after has behind those before
 one_read : (counts : List ℕ) (views : List View) (place : ℕ) (v w : WorkerSeatView) (page count : ℕ) → get_elem? views place ≡ some (Worker v) → count ≡ slice_index counts page + all_before views (phase_of v.state + 1) page → w.additions ≡ v.additions → ((P : PageRead → Type 0) → P (page_read (phase_of v.state) page count (length v.additions)) → All P v.reads × All P v.glances → All P w.reads × All P w.glances) → ReadsFit counts (phase_of v.state) views → ReadsFit counts (phase_of v.state) (set views place (Worker w))
@@ -188,9 +215,9 @@ one_read counts views place v w page count at is same_additions with_read fit =
     let new : IsBetween counts g v.additions r = record { after = omega arith; least = omega arith; most = omega arith } in
     let P : PageRead → Type 0 = λ x. (x.phase ≤ now) × IsBetween counts g v.additions x in
     let old : HaveBetween counts g now v = both_between_on counts (all_before views) g now now v (omega arith) no_more no_less (fit place (Worker v) at) in
-    let has : All P w.reads × All P w.glances = with_read P (omega arith, new) old in
+    let has : All P w.reads × All P w.glances = with_read P (omega arith, new) (old.0, old.1) in
     reads_set counts now now views place (Worker w) (omega arith) no_more no_less
-    (subst (λ (own : List Addition). AreBetween counts g now own w.reads × AreBetween counts g now own w.glances) (sym same_additions) has)
+    (subst (λ (own : List Addition). AreBetween counts g now own w.reads × AreBetween counts g now own w.glances × StandBetween counts g now own) (sym same_additions) (has.0, has.1, old.2))
     fit
 
 -- what holds of the reads before and of the new one

@@ -3,8 +3,10 @@ use Rattle.like_core.specs.declared.worker_state.WorkerState.TheVariants.{Runs}
 use Rattle.like_core.specs.declared.opening.Opening.{Opening}
 use Rattle.like_core.specs.Limits.{total_bound}
 use Rattle.like_core.specs.Functions.{times}
+use Rattle.like_core.specs.Phase.{IsJoined}
 use Rattle.like_core.specs.core.Numbers.{total}
 use Rattle.like_core.specs.core.State.{CoreState, is_split_now, numbers}
+use Rattle.like_core.specs.core.Exclusive.{NoneUnmerged}
 use Rattle.like_core.specs.core.Reachable.{Reachable}
 
 -- each worker has unmerged likes of these pages more
@@ -24,3 +26,9 @@ abbrev pub LikesStayReachable : Type 0
 LikesStayReachable =
     (z : Opening) (s : CoreState) (more : ℕ → List ℕ)
     → Reachable z s → MayLike z s more → Reachable z (given s more)
+
+-- no worker runs joined work while any holds a like: in a state that can be reached, with likes that slices may hold
+abbrev pub NoneHoldsWhileJoined : Type 0
+NoneHoldsWhileJoined =
+    (z : Opening) (s : CoreState) (more : ℕ → List ℕ) → Reachable z s → MayLike z s more
+    → (i phase : ℕ) → s.state i ≡ Runs phase → IsJoined phase → NoneUnmerged (given s more)

@@ -35,16 +35,27 @@ pub record IsBetween (counts : List ℕ) (before : ℕ → ℕ → ℕ) (own : L
   pub most : r.count + added_in r.phase r.page (drop r.after own)
       ≤ slice_index counts r.page + before (r.phase + 1) r.page
 
+-- the stretch of an addition stands between, too: behind all additions of earlier phases, and before those of later ones
+pub record StandsBetween (counts : List ℕ) (before : ℕ → ℕ → ℕ) (a : Addition) : Type 0 where
+  pub least : slice_index counts a.page + before a.phase a.page ≤ a.old
+  pub most : a.old + a.likes ≤ slice_index counts a.page + before (a.phase + 1) a.page
+
+-- each of a worker's additions does, and none is of a later phase than this
+abbrev pub StandBetween : List ℕ → (ℕ → ℕ → ℕ) → ℕ → List Addition → Type 0
+StandBetween counts before phase additions =
+    All (λ a. (a.phase ≤ phase) × StandsBetween counts before a) additions
+
 -- each of a worker's reads is, and none is of a later phase than this
 abbrev pub AreBetween : List ℕ → (ℕ → ℕ → ℕ) → ℕ → List Addition → List PageRead → Type 0
 AreBetween counts before phase own reads =
     All (λ r. (r.phase ≤ phase) × IsBetween counts before own r) reads
 
--- each of a worker's reads and glances is
+-- each of a worker's reads and glances is, and its additions stand so
 abbrev pub HaveBetween : List ℕ → (ℕ → ℕ → ℕ) → ℕ → WorkerSeatView → Type 0
 HaveBetween counts before phase v =
     AreBetween counts before phase v.additions v.reads
     × AreBetween counts before phase v.additions v.glances
+    × StandBetween counts before phase v.additions
 
 -- those of a view are, and those of the views of seats that were given back
 abbrev pub HasReads : List ℕ → (ℕ → ℕ → ℕ) → ℕ → View → Type 0
@@ -54,7 +65,7 @@ HasReads counts before phase (Coord c) =
 HasReads counts before phase (Worker v) = HaveBetween counts before phase v
 HasReads counts before phase Spent = Unit {0}
 
--- in a phase, with these counts at the start, the reads of all views lie between what all views have added
+-- in a phase, with these counts at the start, the reads and additions of all views lie between what all views have added
 abbrev pub ReadsFit : List ℕ → ℕ → List View → Type 0
 ReadsFit counts phase views =
     (place : ℕ) (view : View) → get_elem? views place ≡ some view
@@ -64,11 +75,12 @@ ReadsFit counts phase views =
 abbrev pub IsCounted : List ℕ → (ℕ → ℕ → ℕ) → PageCount → Type 0
 IsCounted counts before r = r.count ≡ slice_index counts r.page + before (r.phase + 1) r.page
 
--- an addition in the phase keeps it so
+-- an addition in the phase keeps it so, where it begins at the count at the start and all that was added up to that phase
 abbrev pub AdditionKeepsReads : Type 0
 AdditionKeepsReads =
     (counts : List ℕ) (views : List View) (place : ℕ) (v : WorkerSeatView) (page old n : ℕ)
     → get_elem? views place ≡ some (Worker v)
+    → old ≡ slice_index counts page + all_before views (phase_of v.state + 1) page
     → ReadsFit counts (phase_of v.state) views
     → ReadsFit counts (phase_of v.state) (slice_set views place (Worker (added_view v page old n)))
 

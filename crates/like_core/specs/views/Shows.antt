@@ -1,4 +1,4 @@
-use Rattle.std.specs.Prelude.{◌≡◌, ℕ, ◌+◌, ◌^◌, ◌<◌, ◌≤◌, All, nat_lt, true, if◌then◌else◌, List, [], length, slice_index, slice_set, IfSome}
+use Rattle.std.specs.Prelude.{◌≡◌, ◌⊎◌, ℕ, Bool, false, ◌+◌, ◌^◌, ◌<◌, ◌≤◌, All, nat_lt, true, if◌then◌else◌, List, [], length, slice_index, slice_set, IfSome}
 use Rattle.std.specs.List.{sum_by}
 use mathlib.Core.Option.{some}
 use lib.ListN.{get_elem?}
@@ -81,8 +81,13 @@ Fits z s (Coord c) = FitsCoord z s c
 Fits z s (Worker v) = FitsWorker z s v
 Fits z s Spent = Unit {0}
 
+-- the mask word is the phase's mask: in a split phase, and, as none was published yet, in phase 0 before its end is
+-- announced
+abbrev pub FixesMask : ℕ → Bool → Type 0
+FixesMask phase ending = IsSplit phase ⊎ ((phase ≡ 0) × (ending ≡ false))
+
 -- the words and the views of all seats show the state: the phase word is the state's, each page's word is its count,
--- and the mask word is the mask of a split phase, and the one that the coordinator published since its last look; any
+-- and the mask word is the phase's mask where that is fixed, and the one that the coordinator published since its last look; any
 -- other word may be anything; no likes are unmerged; the first seat is the coordinator's, and no other is; each worker
 -- that has a seat has one; each count that a worker read lies between what the views have added; and each that the
 -- coordinator read is what they had added up to its phase
@@ -92,7 +97,7 @@ pub record Shows (z : Opening) (s : CoreState) (words : List ℕ) (views : List 
   pub word : slice_index words phase_place ≡ shown_word z s
   pub pages : (page : ℕ) → page < length z.counts
       → slice_index words (word_of page) ≡ slice_index z.counts page + length (s.applied page)
-  pub mask : IsSplit s.phase → slice_index words mask_place ≡ s.hot s.phase
+  pub mask : FixesMask s.phase s.ending → slice_index words mask_place ≡ s.hot s.phase
   pub merged : (i : ℕ) → s.unmerged i ≡ []
   pub coord : CoordSeatView
   pub first : get_elem? views 0 ≡ some (Coord coord)

@@ -1,5 +1,5 @@
 -- The places of the additions of a run that has ended.
-use Rattle.std.proofs.Common.{◌≡◌, ℕ, suc, ◌<◌, ◌≤◌, Bool, true, List, [], ◌∷◌, length, map, get_or, slice_get, count_by, Some, IfSome, refl, sym, ap, ◌∙◌, subst, arith, inl, inr}
+use Rattle.std.proofs.Common.{◌≡◌, ℕ, suc, ◌+◌, ◌<◌, ◌≤◌, Bool, true, List, [], ◌∷◌, length, map, get_or, slice_get, count_by, Some, IfSome, refl, sym, ap, ◌∙◌, subst, arith, inl, inr}
 use Rattle.std.specs.List.{All, AllZip}
 use Rattle.std.proofs.lemmas.Bool.{cases_lt}
 use Rattle.std.proofs.lemmas.List.{get_or_past, length-map}
@@ -11,27 +11,32 @@ use Rattle.like_requests.specs.declared.setup.Setup.{Setup}
 use Rattle.like_core.specs.declared.opening.Opening.{Opening}
 use Rattle.like_core.specs.declared.view.Addition.{Addition}
 use Rattle.like_core.specs.declared.view.PageRead.{PageRead}
+use Rattle.like_core.specs.views.Reads.{StandBetween, StandsBetween}
 use Rattle.like_core.specs.views.Places.{ArePlaced, AreTiles, Counting}
 use Rattle.like_core.specs.Post.{PostView}
 use Rattle.like_board.specs.declared.worker_seat.WorkerSeat.{WorkerSeat}
-use Rattle.like_board.specs.Seats.{AreCounted, HavePlaces, HaveReadMasks, coord_view, last_count, seat_meaning, seats_passing}
+use Rattle.like_board.specs.Seats.{AreCounted, HaveAddedBetween, HavePlaces, HaveReadMasks, coord_view, last_count, seat_meaning, seats_before, seats_passing}
+use Rattle.like_roles.specs.declared.log.Added.{Added}
 use Rattle.like_roles.specs.declared.log.Ran.{Ran}
 use Rattle.like_roles.specs.declared.log.WorkerLog.{WorkerLog}
 use Rattle.like_roles.specs.service.Adds.{AreOfLikes, addition_of, adds_before_looks}
 use Rattle.like_roles.specs.worker.Follows.{AreNoted}
-use Rattle.like_roles.specs.service.Likes.{initial_count}
+use Rattle.like_roles.specs.service.Likes.{Between, initial_count, likes_below}
+use Rattle.like_roles.specs.service.Service.{Service}
+use Rattle.like_roles.proofs.counts.RightCounts.{likes_up_to-next}
 use Rattle.like_crew.specs.declared.ended.Ended.{Ended}
 use Rattle.like_crew.specs.declared.site.Site.{Site}
 use Rattle.like_crew.specs.Asked.{service_of}
 use Rattle.like_crew.specs.EndToEnd.{runs_of}
 use Rattle.like_crew.specs.Ended.{IsEnded, IsSeatOf}
 use Rattle.like_crew.specs.Server.{HasWorkedFor, IsLogOf, ServerView}
-use Rattle.like_crew.specs.Tiling.{additions_noted, logs_passing, reads_shown}
+use Rattle.like_crew.specs.Tiling.{StandsInTime, additions_noted, logs_passing, reads_shown}
 use Rattle.like_crew.proofs.additions.AddedPages.{adds-there, none-liked}
 use Rattle.like_crew.proofs.additions.AddedPhases.{of-likes-same, ran-within}
+use Rattle.like_crew.proofs.Makings.{all-back}
 use Rattle.like_crew.proofs.lists.Pairs.{pairs-sum}
 use Rattle.like_crew.proofs.additions.ReadsShown.{reads-are}
-use Rattle.like_crew.proofs.Whole.{all-likes, hot_known, initial-at, known, left-at, logs-are, masks-known, right-at, right-at-server, served, server-at, z}
+use Rattle.like_crew.proofs.Whole.{all-before, all-likes, hot_known, initial-at, known, left-at, logs-are, masks-known, right-at, right-at-server, served, server-at, z}
 
 -- what a log has noted, where its worker notes its additions
 pub record HasNoted (setup : Setup) (plans : List (List Request)) (site : Site) (e : Ended) (h : IsEnded setup plans site e) (s : ServerView) (log : WorkerLog) : Type 0 where
@@ -40,6 +45,19 @@ pub record HasNoted (setup : Setup) (plans : List (List Request)) (site : Site) 
   pub additions : s.worker.post.additions ≡ additions_noted log
   pub adds : AreOfLikes (known setup plans site e h) log.ran.items log.adds.items
   pub reads : map (λ r. r.after) s.worker.post.reads ≡ adds_before_looks (known setup plans site e h) log.adds.items log.ran.items
+
+-- additions that stand between what all seats have added stand so between the likes of the run lists
+stand-noted : (service : Service) (runs : List (List Ran)) (counts : List ℕ) (before : ℕ → ℕ → ℕ) (last : ℕ) (adds : List Added) → ((page : ℕ) → get_or counts page 0 ≡ initial_count service.pages page)
+    → ((phase page : ℕ) → before phase page ≡ likes_below service page runs phase) → StandBetween counts before last (map addition_of adds)
+    → All (λ a. Between service runs a.phase a.page a.old 0 a.n) adds
+stand-noted service runs counts before last adds initial below stand k d within =
+    let a : Added = get_or adds k d in
+    let b = (all-back addition_of (λ (x : Addition). (x.phase ≤ last) × StandsBetween counts before x) adds stand k d within).1 in
+    let first = initial a.page in
+    let earlier = below a.phase a.page in
+    let upto = below (a.phase + 1) a.page in
+    let next = likes_up_to-next service a.page runs a.phase in
+    record { lower = omega (arith, b.least); upper = omega (arith, b.most) }
 
 module _ (setup : Setup) (plans : List (List Request)) (site : Site) (e : Ended) (h : IsEnded setup plans site e) (masks : HaveReadMasks (coord_view e.coord).masks e.seats.items)
     (counted : AreCounted (coord_view e.coord) e.seats.items) (notes : site.notes ≡ true) where
@@ -148,3 +166,20 @@ module _ (setup : Setup) (plans : List (List Request)) (site : Site) (e : Ended)
       (subst (λ (f : ℕ → ℕ). ArePlaced f (seats_passing e.seats.items) (additions_noted log) (reads_shown (known setup plans site e h) log)) first
       (subst (λ (rs : List PageRead). ArePlaced (λ page. get_or (coord_view e.coord).opening.counts page 0) (seats_passing e.seats.items) (additions_noted log) rs) (sym reads)
       (subst (λ (made : List Addition). ArePlaced (λ page. get_or (coord_view e.coord).opening.counts page 0) (seats_passing e.seats.items) made n.0.worker.post.reads) n.1.1.additions post)))
+
+  -- their stretches stand in the order of phases
+  pub stand-are : HaveAddedBetween (coord_view e.coord).opening (coord_view e.coord).phase e.seats.items → All (StandsInTime (served setup plans site e h) (runs_of e.logs.items)) e.logs.items
+  stand-are stand worker d within =
+      let log : WorkerLog = get_or e.logs.items worker d in
+      let n = noted-at worker log (slice_get-get_or e.logs.items worker d within) in
+      let seat = right-at IsSeatOf h.servers e.seats.items worker n.0 h.seats n.1.0 in
+      let counts : List ℕ = (coord_view e.coord).opening.counts in
+      let last : ℕ = (coord_view e.coord).phase in
+      let P : List Addition → Type 0 = StandBetween counts (seats_before e.seats.items) last in
+      let own : P (seat_meaning seat.0).additions =
+      subst (λ (x : WorkerSeat). P (seat_meaning x).additions) (get_or_from_slice_get e.seats.items worker seat.0 seat.0 seat.1.0)
+      (stand worker seat.0 (slice_get_within e.seats.items worker seat.0 seat.1.0))
+      in
+      let post : P n.0.worker.post.additions = subst (λ (p : PostView). P p.additions) seat.1.1 own in
+      stand-noted (served setup plans site e h) (runs_of e.logs.items) counts (seats_before e.seats.items) last log.adds.items first-same (all-before setup plans site e h masks)
+      (subst P n.1.1.additions post)

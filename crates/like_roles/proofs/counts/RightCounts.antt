@@ -64,7 +64,7 @@ le_is_lt a b = elim (cases_lt a (b + 1)) [
   | inr past ↦ lt-leb a b (omega arith) ∙ sym (le-ltb a (b + 1) past)
 ]
 
-likes_up_to-next : (service : Service) (page : ℕ) (runs : List (List Ran)) (phase : ℕ) → likes_up_to service page runs phase ≡ likes_below service page runs (phase + 1)
+pub likes_up_to-next : (service : Service) (page : ℕ) (runs : List (List Ran)) (phase : ℕ) → likes_up_to service page runs phase ≡ likes_below service page runs (phase + 1)
 likes_up_to-next service page runs phase =
     λ m. sum_by (λ ran. likes_among service page (filter (λ e. le_is_lt e.phase phase m) ran)) runs
 

@@ -1,7 +1,7 @@
-use Rattle.std.proofs.Common.{length, get_or, ◌∙◌, arith}
+use Rattle.std.proofs.Common.{ℕ, List, rules, length, get_or, ◌∙◌, ap, arith}
 use Rattle.std.proofs.Math.ListN.{length-set}
-use Rattle.std.proofs.lemmas.List.{get_or-set_same, get_or-set_other}
-use Rattle.like_core.specs.views.Layout.{word_of}
+use Rattle.std.proofs.lemmas.List.{get_or-replicate, get_or-set_same, get_or-set_other}
+use Rattle.like_core.specs.views.Layout.{mask_place, word_of}
 use Rattle.like_core.proofs.views.Apart.{word_of-past, word_of-order}
 use Rattle.like_board.proofs.Written.{counts_written}
 use Rattle.like_board.proofs.layout.first_words.Goals as goal
@@ -22,6 +22,8 @@ loop-page-init c =
     record {
       len = length-set words.items 0 c.args.phase_word ∙ omega arith;
       phase_word = get_or-set_same words.items 0 c.args.phase_word 0 (omega arith);
+      mask_word = get_or-set_other words.items 0 mask_place c.args.phase_word 0 (λ eq. absurd (omega (arith, eq)))
+          ∙ ap (λ (xs : List ℕ). get_or xs mask_place 0) (c.in_ok-words.ensures.items_if_clones_equal (λ y same. search rules)) ∙ get_or-replicate c.word_of.result mask_place 0 0 (omega arith);
       counts = λ k none. absurd (omega arith);
     }
 
@@ -41,5 +43,6 @@ loop-page-preserved c =
     rw c.word_of-in-loop-page.ensures record {
       len = length-set words (word_of page) (get_or counts page 0) ∙ c.loop-page.invariant.len;
       phase_word = get_or-set_other words (word_of page) 0 (get_or counts page 0) 0 (λ eq. absurd (omega arith)) ∙ c.loop-page.invariant.phase_word;
+      mask_word = get_or-set_other words (word_of page) mask_place (get_or counts page 0) 0 (λ eq. absurd (omega arith)) ∙ c.loop-page.invariant.mask_word;
       counts = counts_written words counts page c.loop-page.invariant.len c.loop-page-test.true c.loop-page.invariant.counts;
     }

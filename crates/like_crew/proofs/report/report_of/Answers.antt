@@ -14,7 +14,7 @@ use Rattle.like_tables.specs.Share.{worker_of}
 use Rattle.like_crew.specs.Asked.{asked, lists_of}
 use Rattle.like_crew.specs.Gathered.{AreTables, RunsOnce}
 use Rattle.like_crew.specs.EndToEnd.{runs_of}
-use Rattle.like_crew.proofs.additions.Tiled.{all-there, of-likes, placed-are, tiles-are}
+use Rattle.like_crew.proofs.additions.Tiled.{all-there, of-likes, placed-are, stand-are, tiles-are}
 use Rattle.like_crew.proofs.Whole.{all-gone, none-noted, all-here, are-all, chosen-are, counts-are, known, last-likes-are, log-at, logs-are, logs-size, runs-once, seen-counts, tables}
 use Rattle.like_crew.proofs.report.report_of.Goals as goal
 
@@ -118,6 +118,7 @@ returns-clause-places c notes =
       tiles = tiles-are setup plans c.args.site e h counts.ensures.masks counts.ensures.counted notes c.requires.within.there counts.result.items (counts.ensures.len ∙ before)
           (λ page there. counts.ensures.counts page (omega (arith, there, before))) counts.ensures.places;
       placed = placed-are setup plans c.args.site e h counts.ensures.masks counts.ensures.counted notes counts.ensures.places;
+      in_time = stand-are setup plans c.args.site e h counts.ensures.masks counts.ensures.counted notes counts.ensures.stand;
       rows = subst (λ (n : ℕ). P n e.logs.items) c.len-2.ensures.len (subst (P c.len-2.result) c.deref-4.ensures.value (c.in_ok-places.ensures.noted notes));
     }
 

@@ -9,9 +9,9 @@ returns-clause-script c = record {
   opened = c.open_all.new.self;
   opens = c.open_all.ensures.opens;
   waits = c.open_all.ensures.rest;
-  rounds = c.make_rounds.ensures.rounds.0;
+  rounds = c.in_ok-make_rounds.ensures.rounds.0;
   last = c.make_rounds.new.crew;
-  goes_round = c.make_rounds.ensures.rounds.1;
+  goes_round = c.in_ok-make_rounds.ensures.rounds.1;
   ended = c.in_ok-finish.ensures;
 }
 
