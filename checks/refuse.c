@@ -1,9 +1,10 @@
 /* Refuses calls of the program that it is loaded before (LD_PRELOAD), as a machine does that has no more to give.
  *
- * REFUSE_COUNTS names a file of KINDS numbers of 64 bits, in which the calls of each kind are counted. REFUSE is "KIND
- * FIRST LAST": of that kind the calls from FIRST to LAST are refused, counted from 1; without it none is.
+ * REFUSE_COUNTS names a file of numbers of 64 bits, a struct of counts. In it the calls of each kind are counted, and of
+ * each thread the growths that it makes. REFUSE is "KIND FIRST LAST": of that kind the calls from FIRST to LAST are
+ * refused, counted from 1; without it none is.
  * With REFUSE_AGAIN the program does what it does once more in the same process, with nothing refused. Between the two
- * it writes AGAIN on both outputs, and the status of the first as one more number to the file of REFUSE_COUNTS.
+ * it writes AGAIN on both outputs, and the status of the first to the file of REFUSE_COUNTS.
  */
 #define _GNU_SOURCE
 #include <dlfcn.h>
@@ -22,13 +23,29 @@ enum kind { GROWTH, START, OPEN, READ, WRITE, KINDS };
 
 #define AGAIN "\n-- again --\n"
 
-static unsigned long *counts;
+/* Starts and joins of threads that are noted, at most. */
+#define NOTED 1000
+
+static struct counts {
+    unsigned long of[KINDS];
+    unsigned long status;
+    /* The growths of each thread but the main one, by its number. */
+    unsigned long bodies[NOTED];
+    /* The starts and joins of the main thread: how many growths it made until then, and the started thread's number. */
+    unsigned long noted;
+    struct { unsigned long growths, thread; } events[NOTED];
+} *counts;
+
 static unsigned long kind, first, last;
 static int is_again;
 
+/* The number of this thread, from 1, and 0 for the main thread; how many growths it made; whether it starts another. */
+static __thread unsigned long number, growths;
+static __thread int is_starting;
+
 __attribute__((constructor)) static void begin(void) {
     int file = open(getenv("REFUSE_COUNTS"), O_RDWR);
-    counts = mmap(NULL, (KINDS + 1) * sizeof *counts, PROT_READ | PROT_WRITE, MAP_SHARED, file, 0);
+    counts = mmap(NULL, sizeof *counts, PROT_READ | PROT_WRITE, MAP_SHARED, file, 0);
     if (counts == MAP_FAILED)
         abort();
     close(file);
@@ -41,8 +58,8 @@ __attribute__((constructor)) static void begin(void) {
 static int is_refused(enum kind of) {
     if (counts == NULL || counts == MAP_FAILED || is_again)
         return 0;
-    unsigned long number = __atomic_add_fetch(&counts[of], 1, __ATOMIC_SEQ_CST);
-    return of == kind && first <= number && number <= last;
+    unsigned long call = __atomic_add_fetch(&counts->of[of], 1, __ATOMIC_SEQ_CST);
+    return of == kind && first <= call && call <= last;
 }
 
 static int refuses(enum kind of, int why) {
@@ -54,16 +71,63 @@ static int refuses(enum kind of, int why) {
 
 #define NEXT(name) ((__typeof__(&name))dlsym(RTLD_NEXT, #name))
 
+/* What the C library takes where it starts a thread is not the thread's that starts it. */
 void *malloc(size_t size) {
+    growths += !is_starting;
     return refuses(GROWTH, ENOMEM) ? NULL : NEXT(malloc)(size);
 }
 
 void *realloc(void *block, size_t size) {
+    growths += !is_starting;
     return refuses(GROWTH, ENOMEM) ? NULL : NEXT(realloc)(block, size);
 }
 
-int pthread_create(pthread_t *thread, const pthread_attr_t *how, void *(*body)(void *), void *value) {
-    return is_refused(START) ? EAGAIN : NEXT(pthread_create)(thread, how, body, value);
+/* A thread's body with its value. */
+struct body {
+    void *(*call)(void *);
+    void *value;
+    unsigned long number;
+};
+
+static struct body bodies[NOTED];
+static unsigned long started;
+
+static void *run_body(void *value) {
+    struct body *body = value;
+    number = body->number;
+    void *ended = body->call(body->value);
+    counts->bodies[number] = growths;
+    return ended;
+}
+
+/* Notes a start of the main thread, or a join with the number 0. */
+static void note(unsigned long thread) {
+    if (number || is_again || counts->noted == NOTED)
+        return;
+    counts->events[counts->noted].growths = growths;
+    counts->events[counts->noted++].thread = thread;
+}
+
+int pthread_create(pthread_t *thread, const pthread_attr_t *how, void *(*call)(void *), void *value) {
+    if (is_refused(START))
+        return EAGAIN;
+    unsigned long of = __atomic_add_fetch(&started, 1, __ATOMIC_SEQ_CST);
+    if (of < NOTED && !is_again) {
+        bodies[of] = (struct body){call, value, of};
+        call = run_body;
+        value = &bodies[of];
+    }
+    is_starting = 1;
+    int failed = NEXT(pthread_create)(thread, how, call, value);
+    is_starting = 0;
+    if (!failed)
+        note(of);
+    return failed;
+}
+
+int pthread_join(pthread_t thread, void **value) {
+    note(0);
+    return NEXT(pthread_join)(thread, value);
 }
 
 int open(const char *name, int flags, ...) {
@@ -114,7 +178,7 @@ static int main_twice(int count, char **words, char **settings) {
     caller = pthread_self();
     int jumped = setjmp(ended);
     int status = jumped ? jumped - 1 : the_main(count, words, settings);
-    counts[KINDS] = status;
+    counts->status = status;
     is_again = 1;
     for (int out = 1; out <= 2; out++)
         if (write(out, AGAIN, sizeof AGAIN - 1) < 0)
