@@ -1,12 +1,13 @@
 use std::io;
 use std::io::{ErrorKind, Write};
 
-/// A writer that takes a few bytes a write, fails from the write with some number on, and may fail when it is flushed.
+/// A writer that takes a few bytes a write, and fails at a write or a flush with some number, or from that on.
 #[derive(Drop)]
 pub struct Narrow {
     width: usize,
     writes_left: usize,
-    flushes: bool,
+    flushes_left: usize,
+    recovers: bool,
 }
 
 impl Narrow {
@@ -15,7 +16,18 @@ impl Narrow {
         Narrow {
             width,
             writes_left: writes,
-            flushes,
+            flushes_left: if flushes { usize::MAX } else { 0 },
+            recovers: false,
+        }
+    }
+
+    /// A writer of up to `width` bytes a write, of which one write fails after so many, and one flush.
+    pub fn failing_once(width: usize, writes: usize, flushes: usize) -> Self {
+        Narrow {
+            width,
+            writes_left: writes,
+            flushes_left: flushes,
+            recovers: true,
         }
     }
 
@@ -28,6 +40,9 @@ impl Narrow {
 impl Write for Narrow {
     fn write(&mut self, buf: &[u8]) -> io::Result<usize> {
         if self.writes_left == 0 {
+            if self.recovers {
+                self.writes_left = usize::MAX;
+            }
             return Err(io::Error::from(ErrorKind::BrokenPipe));
         }
         self.writes_left -= 1;
@@ -35,10 +50,13 @@ impl Write for Narrow {
     }
 
     fn flush(&mut self) -> io::Result<()> {
-        if self.flushes {
-            Ok(())
-        } else {
-            Err(io::Error::from(ErrorKind::BrokenPipe))
+        if self.flushes_left == 0 {
+            if self.recovers {
+                self.flushes_left = usize::MAX;
+            }
+            return Err(io::Error::from(ErrorKind::BrokenPipe));
         }
+        self.flushes_left -= 1;
+        Ok(())
     }
 }

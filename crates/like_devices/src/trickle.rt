@@ -1,11 +1,12 @@
 use std::io;
 use std::io::{ErrorKind, Read};
 
-/// A reader of a text that hands out one byte a read, and fails from the read with some number on.
+/// A reader of a text that hands out one byte a read, and fails at the read with some number, or from that on.
 #[derive(Drop)]
 pub struct Trickle<'t> {
     text: &'t [u8],
     reads_left: usize,
+    recovers: bool,
 }
 
 impl<'t> Trickle<'t> {
@@ -14,6 +15,16 @@ impl<'t> Trickle<'t> {
         Trickle {
             text,
             reads_left: reads,
+            recovers: false,
+        }
+    }
+
+    /// The same, but of which all reads behind the first that fails succeed again.
+    pub fn failing_once(text: &'t [u8], reads: usize) -> Self {
+        Trickle {
+            text,
+            reads_left: reads,
+            recovers: true,
         }
     }
 }
@@ -21,6 +32,9 @@ impl<'t> Trickle<'t> {
 impl Read for Trickle<'_> {
     fn read(&mut self, buf: &mut [u8]) -> io::Result<usize> {
         if self.reads_left == 0 {
+            if self.recovers {
+                self.reads_left = usize::MAX;
+            }
             return Err(io::Error::from(ErrorKind::BrokenPipe));
         }
         self.reads_left -= 1;

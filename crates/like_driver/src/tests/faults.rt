@@ -1,5 +1,7 @@
-//! The line of each fault. The statuses and the lines that name no file are proved.
+//! The line of each fault, and what the program tells of it.
 use super::examples::options;
+use crate::program::fault::ProgramFault;
+use crate::program::tell;
 use like_devices::Narrow;
 use like_files::DriverFault;
 use like_requests::{PagesFault, RequestsFault, SettingsFault};
@@ -97,7 +99,15 @@ fn assert_written(rt: &impl Abort, options: &Options, fault: DriverFault, length
     }
 }
 
-// Asserts what a fault's line says of the file of this name, and that a line that can't be written is told.
+// Asserts what the program tells of a fault, and with which status.
+fn assert_told(rt: &impl Abort, alloc: Global, fault: &ProgramFault, want: &str, status: u8) {
+    let mut line = Vec::new(alloc);
+    assert!(rt; tell(fault, &mut line) == status, "{want}");
+    assert!(rt; line.as_slice() == want.as_bytes(), "{want}");
+}
+
+// Asserts what a fault's line says of the file of this name, that the program tells it with status 3, and that a line that
+// can't be written is told.
 fn assert_line(
     rt: &impl Abort,
     alloc: Global,
@@ -109,6 +119,8 @@ fn assert_line(
     let want = format!(in alloc; "likes: {file}: {text}\n").expect(rt, "memory");
     assert_text(rt, alloc, options, fault, want.as_str());
     assert_written(rt, options, fault, want.len());
+    let options = scripted(rt, alloc);
+    assert_told(rt, alloc, &ProgramFault::Files { options, fault }, &want, 3);
 }
 
 // Two request files and a script.
@@ -154,11 +166,72 @@ fn of_files(rt: HostRuntime) {
     assert_scripts(&rt, rt.alloc(), &options);
 }
 
+// The faults that have a line of their own, with it and the status.
+const OWN: &[(DriverFault, &str, u8)] = &[
+    (DriverFault::Memory, "likes: out of memory\n", 4),
+    (
+        DriverFault::Pages(PagesFault::Memory),
+        "likes: out of memory\n",
+        4,
+    ),
+    (
+        DriverFault::Requests {
+            submitter: 1,
+            fault: RequestsFault::Memory,
+        },
+        "likes: out of memory\n",
+        4,
+    ),
+    (
+        DriverFault::Script(ScriptFault::Memory),
+        "likes: out of memory\n",
+        4,
+    ),
+    (
+        DriverFault::Start,
+        "likes: a thread could not be started\n",
+        4,
+    ),
+    (
+        DriverFault::Unfinished,
+        "likes: not finished after 1000000 rounds\n",
+        5,
+    ),
+    (
+        DriverFault::Write,
+        "likes: standard output: write failed\n",
+        3,
+    ),
+    (
+        DriverFault::Settings(SettingsFault::Submitters),
+        "likes: between 1 and 64 request files\n",
+        2,
+    ),
+    (
+        DriverFault::Settings(SettingsFault::Workers),
+        "likes: settings\n",
+        2,
+    ),
+];
+
+fn own() -> &'static [(DriverFault, &'static str, u8)] {
+    OWN
+}
+
+// With no file's name, and the status beside it.
 #[test]
 fn of_no_file(rt: HostRuntime) {
+    for (fault, text, status) in own() {
+        let options = options(rt.alloc(), 2, 2).expect(&rt, "memory");
+        let fault = ProgramFault::Files {
+            options,
+            fault: *fault,
+        };
+        assert_told(&rt, rt.alloc(), &fault, text, *status);
+    }
+    let memory = ProgramFault::Memory;
+    assert_told(&rt, rt.alloc(), &memory, "likes: out of memory\n", 4);
     let options = options(rt.alloc(), 2, 1).expect(&rt, "memory");
     let fault = DriverFault::Script(ScriptFault::Read);
-    assert_line(&rt, rt.alloc(), &options, fault, "", "read failed");
-    let want = "likes: not finished after 1000000 rounds\n";
-    assert_text(&rt, rt.alloc(), &options, DriverFault::Unfinished, want);
+    assert_text(&rt, rt.alloc(), &options, fault, "likes: : read failed\n");
 }

@@ -66,11 +66,17 @@ const NOT_THERE: Start = Start {
 const STARTS: &[Start] = &[
     Start {
         test: "replays_files",
-        files: &[("replays-p.csv", PAGES), ("replays-r.csv", REQUESTS)],
-        words: "replay --workers 1 --users 2 replays-p.csv replays-r.csv",
+        files: &[
+            ("replays-p.csv", PAGES),
+            ("replays-0.csv", REQUESTS),
+            ("replays-1.csv", "op,user,page\nlike,1,a\n"),
+            ("replays-2.csv", "op,user,page\nlook,2,a\n"),
+        ],
+        words: "replay --users 3 replays-p.csv replays-0.csv replays-1.csv replays-2.csv",
         out: Written::Whole(
             "row,id,number,phase,answer,page,count\nreply,0,1,0,liked,,\n\
-            reply,0,2,0,unknown-page,,\npage,0,,,,a,11\nuser,0,,,,a,\n",
+            reply,0,2,0,other-home,,\nreply,1,1,0,liked,,\nreply,2,1,0,seen,,12\n\
+            page,0,,,,a,12\nuser,0,,,,a,\nuser,1,,,,a,\n",
         ),
         ..STILL
     },
@@ -91,9 +97,30 @@ const STARTS: &[Start] = &[
     },
     Start {
         test: "runs_files",
-        files: &[("runs-p.csv", PAGES), ("runs-r.csv", REQUESTS)],
-        words: "run --users 2 runs-p.csv runs-r.csv",
-        out: Written::End("page,0,,,,a,11\nuser,0,,,,a,\n"),
+        files: &[
+            ("runs-p.csv", PAGES),
+            ("runs-0.csv", REQUESTS),
+            ("runs-1.csv", "op,user,page\nlike,1,a\n"),
+            ("runs-2.csv", "op,user,page\nlike,2,a\n"),
+        ],
+        words: "run --users 3 runs-p.csv runs-0.csv runs-1.csv runs-2.csv",
+        out: Written::End("page,0,,,,a,13\nuser,0,,,,a,\nuser,1,,,,a,\nuser,2,,,,a,\n"),
+        ..STILL
+    },
+    Start {
+        test: "runs_files",
+        files: &[
+            ("plain-p.csv", PAGES),
+            (
+                "plain-r.csv",
+                "op,user,page\nlike,0,a\nlike,1,a\nlike,0,a\n",
+            ),
+        ],
+        words: "run --workers 1 --users 2 --turns 1000000 plain-p.csv plain-r.csv",
+        out: Written::Whole(
+            "row,id,number,phase,answer,page,count\nreply,0,1,0,liked,,\nreply,0,2,0,liked,,\n\
+            reply,0,3,0,liked,,\npage,0,,,,a,13\nuser,0,,,,a,\nuser,1,,,,a,\n",
+        ),
         ..STILL
     },
     Start {
@@ -266,7 +293,8 @@ fn replays_by_the_options(rt: HostRuntime) {
     assert_starts(&rt, rt.alloc(), "replays_by_the_options");
 }
 
-// The phases in which requests run may differ from run to run.
+// Of three submitters, of whom each has the likes of its own user: in another order, they would be refused. And
+// `plain-likes`, which is done in phase 0 long before the coordinator has counted a million turns.
 #[test]
 fn runs_files(rt: HostRuntime) {
     assert_starts(&rt, rt.alloc(), "runs_files");

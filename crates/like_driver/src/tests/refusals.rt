@@ -35,59 +35,106 @@ fn plain_options(rt: &impl Abort, alloc: Global) -> Options
     options(alloc, 2, 1).expect(rt, "memory")
 }
 
-// The fault of the plain example's files, which fail after so many reads.
-fn slow_fault(
+// The fault of the plain example's files by these readers.
+fn read_fault(
     rt: &impl Abort,
     alloc: Global,
-    pages_reads: usize,
-    requests_reads: usize,
+    pages: Trickle<'static>,
+    requests: Trickle<'static>,
 ) -> Option<DriverFault> {
-    let (pages, requests) = plain_files();
-    let pages = Trickle::new(pages.as_bytes(), pages_reads);
-    let requests = Trickle::new(requests.as_bytes(), requests_reads);
     let files = vec![in alloc; requests].expect(rt, "memory");
     let options = plain_options(rt, alloc);
     replay_files(alloc, &options, pages, files, None, &mut Vec::new(alloc)).err()
 }
 
+// Asserts that a pages file that fails at a read is at fault, whether it fails at all that follow or not.
+fn assert_pages_fail(rt: &impl Abort, alloc: Global, reads: usize) {
+    let (pages, requests) = plain_files();
+    let want = Some(DriverFault::Pages(PagesFault::Read));
+    for pages in [
+        Trickle::new(pages.as_bytes(), reads),
+        Trickle::failing_once(pages.as_bytes(), reads),
+    ] {
+        let requests = Trickle::new(requests.as_bytes(), usize::MAX);
+        let fault = read_fault(rt, alloc, pages, requests);
+        assert!(rt; fault == want, "after {reads} reads");
+    }
+}
+
+// The same of a request file.
+fn assert_requests_fail(rt: &impl Abort, alloc: Global, reads: usize) {
+    let (pages, requests) = plain_files();
+    let want = Some(of_requests(RequestsFault::Read));
+    for requests in [
+        Trickle::new(requests.as_bytes(), reads),
+        Trickle::failing_once(requests.as_bytes(), reads),
+    ] {
+        let pages = Trickle::new(pages.as_bytes(), usize::MAX);
+        let fault = read_fault(rt, alloc, pages, requests);
+        assert!(rt; fault == want, "after {reads} reads");
+    }
+}
+
 #[test]
 fn failing_reads(rt: HostRuntime) {
     let (pages, requests) = plain_files();
-    let want = Some(DriverFault::Pages(PagesFault::Read));
     for reads in 0..=pages.len() {
-        let fault = slow_fault(&rt, rt.alloc(), reads, usize::MAX);
-        assert!(rt; fault == want, "after {reads} reads");
+        assert_pages_fail(&rt, rt.alloc(), reads);
     }
-    let want = Some(of_requests(RequestsFault::Read));
     for reads in 0..=requests.len() {
-        let fault = slow_fault(&rt, rt.alloc(), usize::MAX, reads);
-        assert!(rt; fault == want, "after {reads} reads");
+        assert_requests_fail(&rt, rt.alloc(), reads);
     }
-    assert!(rt; slow_fault(&rt, rt.alloc(), usize::MAX, usize::MAX).is_none());
+    let pages = Trickle::new(pages.as_bytes(), usize::MAX);
+    let requests = Trickle::new(requests.as_bytes(), usize::MAX);
+    assert!(rt; read_fault(&rt, rt.alloc(), pages, requests).is_none());
 }
 
-// The fault of the plain example onto a writer of one byte a write, of which so many succeed.
+// The fault of the plain example, with its places where they are asked for, onto a writer.
 fn write_fault(
     rt: &impl Abort,
     alloc: Global,
-    writes: usize,
-    flushes: bool,
+    places: bool,
+    mut out: Narrow,
 ) -> Option<DriverFault> {
     let (pages, requests) = plain_files();
     let files = vec![in alloc; requests.as_bytes()].expect(rt, "memory");
-    let options = plain_options(rt, alloc);
-    let mut out = Narrow::new(1, writes, flushes);
+    let mut options = plain_options(rt, alloc);
+    options.places = places;
     replay_files(alloc, &options, pages.as_bytes(), files, None, &mut out).err()
 }
 
-// The report has 139 bytes. Then it is flushed.
+// Asserts that a writer of one byte a write is at fault at each of its writes.
+fn assert_writes_fail(rt: &impl Abort, alloc: Global, places: bool, length: usize) {
+    for writes in 0..length {
+        for out in [
+            Narrow::new(1, writes, true),
+            Narrow::failing_once(1, writes, usize::MAX),
+        ] {
+            let fault = write_fault(rt, alloc, places, out);
+            assert!(rt; fault == Some(DriverFault::Write), "after {writes} writes");
+        }
+    }
+    let out = Narrow::new(1, length, true);
+    assert!(rt; write_fault(rt, alloc, places, out).is_none());
+}
+
+// Asserts that a writer is at fault at each of its flushes, of which there are so many.
+fn assert_flushes_fail(rt: &impl Abort, alloc: Global, places: bool, flushes: usize) {
+    for flush in 0..flushes {
+        let out = Narrow::failing_once(1, usize::MAX, flush);
+        let fault = write_fault(rt, alloc, places, out);
+        assert!(rt; fault == Some(DriverFault::Write), "after {flush} flushes");
+    }
+}
+
+// The report has 139 bytes, and its place rows 57 more. It is flushed behind the former and behind the latter.
 #[test]
 fn failing_writes(rt: HostRuntime) {
-    for writes in 0..=139 {
-        let fault = write_fault(&rt, rt.alloc(), writes, writes < 139);
-        assert!(rt; fault == Some(DriverFault::Write), "after {writes} writes");
+    for (places, length, flushes) in [(false, 139, 1), (true, 196, 2)] {
+        assert_writes_fail(&rt, rt.alloc(), places, length);
+        assert_flushes_fail(&rt, rt.alloc(), places, flushes);
     }
-    assert!(rt; write_fault(&rt, rt.alloc(), 139, true).is_none());
+    assert!(rt; DriverFault::Write.status() == 3);
 }
 
 // The files of a replay, and its fault.

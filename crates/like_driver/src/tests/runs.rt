@@ -56,25 +56,50 @@ fn ran<T: Threads + Wait + Abort + Sync>(
     out
 }
 
-// The fault of a run of no requests onto a writer of one byte a write, of which so many succeed.
+// The fault of a run of so many likes of the page by user 0 onto a writer, with places, and how many of its writes are
+// left.
 fn write_fault<T: Threads + Wait + Abort + Sync>(
     rt: &T,
     alloc: Global,
-    options: &Options,
-    writes: usize,
-    flushes: bool,
-) -> Option<DriverFault> {
-    let mut out = Narrow::new(1, writes, flushes);
-    run_onto(rt, alloc, options, pages(), "op,user,page\n", &mut out).err()
+    likes: usize,
+    mut out: Narrow,
+) -> (Option<DriverFault>, usize) {
+    let mut options = lone(rt, alloc);
+    options.places = true;
+    let requests = requests(rt, alloc, "like,0,a\n", likes);
+    let fault = run_onto(rt, alloc, &options, pages(), requests.as_str(), &mut out).err();
+    (fault, out.writes_left())
 }
 
-// The report has 53 bytes. Then it is flushed.
+// Asserts that a writer of so many bytes a write is at fault at each of its writes.
+fn assert_writes_fail<T: Threads + Wait + Abort + Sync>(
+    rt: &T,
+    alloc: Global,
+    likes: usize,
+    width: usize,
+) {
+    let (fault, left) = write_fault(rt, alloc, likes, Narrow::new(width, 1_000, true));
+    assert!(rt; fault.is_none());
+    for writes in 0..1_000 - left.min(1_000) {
+        for out in [
+            Narrow::new(width, writes, true),
+            Narrow::failing_once(width, writes, usize::MAX),
+        ] {
+            let (fault, _) = write_fault(rt, alloc, likes, out);
+            assert!(rt; fault == Some(DriverFault::Write), "after {writes} writes");
+        }
+    }
+}
+
+// The writes of a run without requests have a byte each, and those of a run of 1,000 likes as many as are made at once:
+// more than 20,000 in one of them. It is flushed behind the report and behind its place rows.
 #[test]
 fn tells_a_write_that_fails(rt: HostRuntime) {
-    let options = lone(&rt, rt.alloc());
-    for writes in 0..=53 {
-        let fault = write_fault(&rt, rt.alloc(), &options, writes, writes < 53);
-        assert!(rt; fault == Some(DriverFault::Write), "after {writes} writes");
+    assert_writes_fail(&rt, rt.alloc(), 0, 1);
+    assert_writes_fail(&rt, rt.alloc(), 1_000, usize::MAX);
+    for flush in 0..2 {
+        let (fault, _) = write_fault(&rt, rt.alloc(), 0, Narrow::failing_once(1, 1_000, flush));
+        assert!(rt; fault == Some(DriverFault::Write), "after {flush} flushes");
     }
 }
 
