@@ -4,7 +4,7 @@
  * each thread the growths that it makes. REFUSE is "KIND FIRST LAST": of that kind the calls from FIRST to LAST are
  * refused, counted from 1; without it none is.
  * With REFUSE_AGAIN the program does what it does once more in the same process, with nothing refused. Between the two
- * it writes AGAIN on both outputs. The file then has the status of the first, and how many blocks of memory each kept.
+ * it writes AGAIN on both outputs, and the status of the first to the file of REFUSE_COUNTS.
  */
 #define _GNU_SOURCE
 #include <dlfcn.h>
@@ -29,8 +29,6 @@ enum kind { GROWTH, START, OPEN, READ, WRITE, KINDS };
 static struct counts {
     unsigned long of[KINDS];
     unsigned long status;
-    /* How many blocks each of two passes has not given back. */
-    unsigned long kept[2];
     /* The growths of each thread but the main one, by its number. */
     unsigned long bodies[NOTED];
     /* The starts and joins of the main thread: how many growths it made until then, and the started thread's number. */
@@ -40,9 +38,6 @@ static struct counts {
 
 static unsigned long kind, first, last;
 static int is_again;
-
-/* The blocks in use, and how many there were before a pass. */
-static long blocks, before;
 
 /* The number of this thread, from 1, and 0 for the main thread; how many growths it made; whether it starts another. */
 static __thread unsigned long number, growths;
@@ -76,67 +71,15 @@ static int refuses(enum kind of, int why) {
 
 #define NEXT(name) ((__typeof__(&name))dlsym(RTLD_NEXT, #name))
 
-/* A block of the program, with a mark before it by which it is known. What the C library takes where it starts a thread
- * has none, since it keeps that for the threads that follow. */
-struct head {
-    unsigned long mark, unused;
-};
-
-#define MARK 0x9e3779b97f4a7c15
-
-void *__libc_malloc(size_t);
-void *__libc_calloc(size_t, size_t);
-void *__libc_realloc(void *, size_t);
-void __libc_free(void *);
-
-static void *marked(struct head *head) {
-    if (head == NULL)
-        return NULL;
-    head->mark = (unsigned long)(head + 1) ^ MARK;
-    return head + 1;
-}
-
-static struct head *head_of(void *block) {
-    struct head *head = (struct head *)block - 1;
-    return block && head->mark == ((unsigned long)block ^ MARK) ? head : NULL;
-}
-
-static void *counted(struct head *head) {
-    if (head)
-        __atomic_add_fetch(&blocks, 1, __ATOMIC_SEQ_CST);
-    growths++;
-    return marked(head);
-}
-
+/* What the C library takes where it starts a thread is not the thread's that starts it. */
 void *malloc(size_t size) {
-    if (refuses(GROWTH, ENOMEM))
-        return NULL;
-    return is_starting ? __libc_malloc(size) : counted(__libc_malloc(sizeof(struct head) + size));
-}
-
-void *calloc(size_t count, size_t size) {
-    return is_starting ? __libc_calloc(count, size) : counted(__libc_calloc(1, sizeof(struct head) + count * size));
+    growths += !is_starting;
+    return refuses(GROWTH, ENOMEM) ? NULL : NEXT(malloc)(size);
 }
 
 void *realloc(void *block, size_t size) {
-    struct head *head = head_of(block);
-    if (block && !head)
-        return __libc_realloc(block, size);
-    if (!head)
-        return malloc(size);
-    growths++;
-    return refuses(GROWTH, ENOMEM) ? NULL : marked(__libc_realloc(head, sizeof(struct head) + size));
-}
-
-void free(void *block) {
-    struct head *head = head_of(block);
-    if (!head) {
-        __libc_free(block);
-        return;
-    }
-    head->mark = 0;
-    __atomic_sub_fetch(&blocks, 1, __ATOMIC_SEQ_CST);
-    __libc_free(head);
+    growths += !is_starting;
+    return refuses(GROWTH, ENOMEM) ? NULL : NEXT(realloc)(block, size);
 }
 
 /* A thread's body with its value. */
@@ -147,17 +90,13 @@ struct body {
 };
 
 static struct body bodies[NOTED];
-
-/* How many threads were started, and how many of them run. */
-static unsigned long started, running;
+static unsigned long started;
 
 static void *run_body(void *value) {
     struct body *body = value;
     number = body->number;
     void *ended = body->call(body->value);
-    if (!is_again)
-        counts->bodies[number] = growths;
-    __atomic_sub_fetch(&running, 1, __ATOMIC_SEQ_CST);
+    counts->bodies[number] = growths;
     return ended;
 }
 
@@ -173,17 +112,14 @@ int pthread_create(pthread_t *thread, const pthread_attr_t *how, void *(*call)(v
     if (is_refused(START))
         return EAGAIN;
     unsigned long of = __atomic_add_fetch(&started, 1, __ATOMIC_SEQ_CST);
-    if (of < NOTED) {
+    if (of < NOTED && !is_again) {
         bodies[of] = (struct body){call, value, of};
         call = run_body;
         value = &bodies[of];
-        __atomic_add_fetch(&running, 1, __ATOMIC_SEQ_CST);
     }
     is_starting = 1;
     int failed = NEXT(pthread_create)(thread, how, call, value);
     is_starting = 0;
-    if (failed && of < NOTED)
-        __atomic_sub_fetch(&running, 1, __ATOMIC_SEQ_CST);
     if (!failed)
         note(of);
     return failed;
@@ -222,13 +158,7 @@ static pthread_t caller;
 
 /* What ends the process ends the first of two passes in place of it. */
 static void end_pass(int status) {
-    if (!the_main || !pthread_equal(pthread_self(), caller))
-        return;
-    /* A thread that nobody joins gives its block back when it ends. */
-    for (int looks = 0; looks < 1000 && __atomic_load_n(&running, __ATOMIC_SEQ_CST); looks++)
-        usleep(1000);
-    counts->kept[is_again] = blocks - before;
-    if (!is_again)
+    if (the_main && !is_again && pthread_equal(pthread_self(), caller))
         longjmp(ended, status + 1);
 }
 
@@ -246,17 +176,14 @@ void _exit(int status) {
 
 static int main_twice(int count, char **words, char **settings) {
     caller = pthread_self();
-    before = blocks;
     int jumped = setjmp(ended);
-    if (!jumped)
-        _exit(the_main(count, words, settings));
-    counts->status = jumped - 1;
+    int status = jumped ? jumped - 1 : the_main(count, words, settings);
+    counts->status = status;
     is_again = 1;
     for (int out = 1; out <= 2; out++)
         if (write(out, AGAIN, sizeof AGAIN - 1) < 0)
             return 1;
-    before = blocks;
-    _exit(the_main(count, words, settings));
+    return the_main(count, words, settings);
 }
 
 int __libc_start_main(entry *main, int count, char **words, void (*init)(void), void (*fini)(void),
