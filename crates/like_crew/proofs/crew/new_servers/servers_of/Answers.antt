@@ -56,6 +56,18 @@ server-at setup sizes number k inboxes own post board notes s same sized is fres
 pub new-requires-clause-within : goal.new-requires-clause-within
 new-requires-clause-within g c = subst (IsWithin c.args.setup.now) (sym c.requires.sizes) c.requires.within.numbers
 
+pub new-requires-clause-post : goal.new-requires-clause-post
+new-requires-clause-post g c =
+    let l = c.loop-seat in
+    let k : ℕ = length l.yielded in
+    let from = c.into_iter-seat-iterator.ensures.into_iter_gives in
+    let all = YieldsList-from_vec {s = c.into_iter-seat-iterator.result} c.args.seats.items from.0 (from.1 ∙ c.args.seats.ok.0) in
+    let turn = YieldsList-turn all l.yielded _ l.yielded_by _ c.next.new.self c.in-Some.seat c.in-Some.is c.next.ensures.steps in
+    let fresh = c.requires.seats k c.in-Some.seat (slice_get_read c.args.seats.items (length c.args.seats.items) k c.in-Some.seat refl turn.0 turn.1) in
+    let same : c.len-number.result ≡ k = c.len-number.ensures ∙ l.servers.ok.0 ∙ l.invariant.len in
+    subst (IsPostOf c.len-number.result c.args.setup.now.pages) (sym c.at.ensures.meaning)
+    (subst (λ n. IsPostOf n c.args.setup.now.pages (seat_meaning c.in-Some.seat)) (sym same) fresh.1)
+
 pub new-requires-clause-inboxes : goal.new-requires-clause-inboxes
 new-requires-clause-inboxes g c =
     let l = c.loop-seat in
