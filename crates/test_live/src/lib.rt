@@ -1,7 +1,11 @@
-//! Tests of the live core, by one thread that plays the host's: the worked examples of a live service.
+//! Tests of the live core: the worked examples of a live service, and a host with several threads.
 #![tactic(auto)]
 
+#[cfg(test)]
+mod ends;
 #[cfg(test)]
 mod seats;
 #[cfg(test)]
 mod services;
+#[cfg(test)]
+mod threads;

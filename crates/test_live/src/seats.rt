@@ -11,7 +11,12 @@ use std::process::Abort;
 use std::test::Fail;
 
 // A service of two pages, the first of them marked, with 10 and 20 likes, and of users 0 to 3.
-fn opened(rt: &impl Abort, alloc: Global, seats: u32, room: u32) -> Result<Service, Fail> {
+pub(crate) fn opened(
+    rt: &impl Abort,
+    alloc: Global,
+    seats: u32,
+    room: u32,
+) -> Result<Service, Fail> {
     let opening = Opening {
         counts: Vec::from_slice(alloc, &[10, 20])?,
         marks: Vec::from_slice(alloc, &[true, false])?,
@@ -23,7 +28,7 @@ fn opened(rt: &impl Abort, alloc: Global, seats: u32, room: u32) -> Result<Servi
     Ok(Service::open(alloc, &opening).ok().expect(rt, "a service"))
 }
 
-fn last_seat(rt: &impl Abort, service: &mut Service) -> LiveSeat<SharedPost> {
+pub(crate) fn last_seat(rt: &impl Abort, service: &mut Service) -> LiveSeat<SharedPost> {
     service.seats.pop().expect(rt, "a seat")
 }
 

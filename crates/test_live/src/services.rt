@@ -7,7 +7,12 @@ use std::process::Abort;
 use std::test::Fail;
 
 // Two pages, the first of them marked, with 10 and 20 likes, and users 0 to 3.
-fn opening_of(alloc: Global, seats: u32, users: u32, room: u32) -> Result<Opening, AllocError> {
+pub(crate) fn opening_of(
+    alloc: Global,
+    seats: u32,
+    users: u32,
+    room: u32,
+) -> Result<Opening, AllocError> {
     Ok(Opening {
         counts: Vec::from_slice(alloc, &[10, 20])?,
         marks: Vec::from_slice(alloc, &[true, false])?,
@@ -51,6 +56,16 @@ fn refuses_wrong_pages(rt: HostRuntime) -> Result<(), Fail> {
     Ok(())
 }
 
+#[test]
+fn refuses_wrong_hot(rt: HostRuntime) -> Result<(), Fail> {
+    let mut opening = opening_of(rt.alloc(), 2, 4, 2)?;
+    for hot in [0, 1_000_001] {
+        opening.hot = Some(hot);
+        refuses(&rt, rt.alloc(), &opening, OpenError::Hot);
+    }
+    Ok(())
+}
+
 fn opened(rt: &impl Abort, alloc: Global, seats: u32) -> Result<Service, Fail> {
     let opening = opening_of(alloc, seats, 4, 2)?;
     Ok(Service::open(alloc, &opening).ok().expect(rt, "a service"))
@@ -61,7 +76,7 @@ fn snapshot(rt: &impl Abort, driver: &mut Driver, counts: &mut [u64]) -> Option<
     driver.snapshot(counts)
 }
 
-fn last_counts(rt: &impl Abort, driver: &mut Driver, counts: &mut [u64]) -> bool {
+pub(crate) fn last_counts(rt: &impl Abort, driver: &mut Driver, counts: &mut [u64]) -> bool {
     assert!(rt; driver.pages() as usize == counts.len());
     driver.last_counts(counts)
 }

@@ -1,0 +1,92 @@
+//! The end of a service, with all its seats.
+ghost use Rattle.like_live.specs.Driver.{IsSameDriver};
+ghost use Rattle.like_live.specs.LiveView.{IsSameSeat};
+ghost use Rattle.like_live.specs.Service.{AreItsSeats};
+
+use crate::services::opening_of;
+use like_board::SharedPost;
+use like_live::{Driver, DriverAnswer, LikeAnswer, LiveSeat, Service, TurnAnswer};
+use std::process::Abort;
+use std::test::Fail;
+
+// Ends a phase, which both seats answer, and releases the next.
+fn change(
+    rt: &impl Abort,
+    driver: &mut Driver,
+    first: &mut LiveSeat<SharedPost>,
+    second: &mut LiveSeat<SharedPost>,
+)
+    ensures driver { IsSameDriver driver.old driver.new }
+    ensures first { IsSameSeat first.old first.new }
+    ensures second { IsSameSeat second.old second.new }
+{
+    assert!(rt; driver.turn(true) == DriverAnswer::Announced);
+    assert!(rt; first.turn() == TurnAnswer::Between);
+    assert!(rt; second.turn() == TurnAnswer::Between);
+    assert!(rt; driver.turn(true) == DriverAnswer::Released);
+}
+
+fn likes(rt: &impl Abort, seat: &mut LiveSeat<SharedPost>, user: u32)
+    ensures { IsSameSeat seat.old seat.new }
+{
+    assert!(rt; seat.like(user, 0) == LikeAnswer::Liked);
+}
+
+fn retires(rt: &impl Abort, seat: &mut LiveSeat<SharedPost>)
+    ensures { IsSameSeat seat.old seat.new }
+{
+    assert!(rt; seat.retire() == TurnAnswer::Gone);
+}
+
+// Two split phases with likes of both seats. Then both retire.
+fn plays(
+    rt: &impl Abort,
+    driver: &mut Driver,
+    first: &mut LiveSeat<SharedPost>,
+    second: &mut LiveSeat<SharedPost>,
+)
+    ensures driver { IsSameDriver driver.old driver.new }
+    ensures first { IsSameSeat first.old first.new }
+    ensures second { IsSameSeat second.old second.new }
+{
+    likes(rt, first, 0);
+    change(rt, driver, first, second);
+    likes(rt, first, 2);
+    likes(rt, second, 1);
+    change(rt, driver, first, second);
+    retires(rt, first);
+    retires(rt, second);
+}
+
+// Plays a service, and closes it with its two seats in the other order.
+fn closes(rt: &impl Abort, service: Service) -> Result<(), Fail>
+    requires { AreItsSeats service.driver service.seats.items }
+{
+    let Service {
+        mut driver,
+        mut seats,
+    } = service;
+    let mut second = seats.pop().expect(rt, "a seat");
+    let mut first = seats.pop().expect(rt, "a seat");
+    if !seats.is_empty() {
+        return Err(Fail::new("more than two seats"));
+    }
+    plays(rt, &mut driver, &mut first, &mut second);
+    seats.push(second)?;
+    seats.push(first)?;
+    let mut counts = [0, 0];
+    assert!(rt; driver.pages() == 2);
+    assert!(rt; Service { driver, seats }.close(&mut counts).is_ok());
+    assert!(rt; counts[0] == 13);
+    assert!(rt; counts[1] == 20);
+    Ok(())
+}
+
+#[test]
+fn closes_a_service(rt: HostRuntime) -> Result<(), Fail> {
+    let opening = opening_of(rt.alloc(), 2, 4, 2)?;
+    match Service::open(rt.alloc(), &opening) {
+        Ok(service) => closes(&rt, service),
+        Err(_) => Err(Fail::new("no service")),
+    }
+}

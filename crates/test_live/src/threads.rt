@@ -1,0 +1,110 @@
+//! A service whose seats and driver are each called by a thread. What they end with is the same on every schedule.
+use crate::seats::{last_seat, opened};
+use crate::services::last_counts;
+use like_board::SharedPost;
+use like_live::{Driver, DriverAnswer, LikeAnswer, LiveSeat, LookAnswer, TurnAnswer};
+use std::process::Abort;
+use std::test::Fail;
+use std::thread::{Threads, join};
+
+// How many likes a seat's thread makes.
+const LIKES: u64 = 10_000;
+
+// More calls than any schedule needs.
+const CALLS: u64 = 1 << 40;
+
+// What a seat's thread did: its likes, and how many looks waited and were found. `in_turn` says that each found look
+// had the next tag of those that waited.
+#[derive(Clone, Copy)]
+struct Done {
+    liked: u64,
+    waited: u64,
+    found: u64,
+    in_turn: bool,
+}
+
+impl Done {
+    // A like, and then a look whose tag says how many have waited before.
+    fn like_and_look(&mut self, seat: &mut LiveSeat<SharedPost>, user: u32) {
+        if seat.like(user, 0) != LikeAnswer::Liked {
+            return;
+        }
+        self.liked = self.liked.saturating_add(1);
+        if seat.look(user, 0, self.waited) == LookAnswer::Waits {
+            self.waited = self.waited.saturating_add(1);
+        }
+    }
+
+    // Takes a found look, if there is one.
+    fn take(&mut self, seat: &mut LiveSeat<SharedPost>) {
+        if let Some(found) = seat.take_found() {
+            self.in_turn = self.in_turn && found.asked.tag == self.found;
+            self.found = self.found.saturating_add(1);
+        }
+    }
+}
+
+// A seat's thread.
+fn work(seat: &mut LiveSeat<SharedPost>, user: u32) -> Done {
+    let mut done = Done {
+        liked: 0,
+        waited: 0,
+        found: 0,
+        in_turn: true,
+    };
+    for _ in 0..CALLS {
+        if done.liked < LIKES {
+            done.like_and_look(seat, user);
+        } else if seat.retire() == TurnAnswer::Gone {
+            break;
+        }
+        done.take(seat);
+    }
+    done.take(seat);
+    done.take(seat);
+    done
+}
+
+// The driver's thread.
+fn drive(driver: &mut Driver) {
+    for _ in 0..CALLS {
+        if driver.turn(true) == DriverAnswer::Ended {
+            break;
+        }
+    }
+}
+
+fn has_done_all(rt: &impl Abort, done: Done) {
+    assert!(rt; done.liked == LIKES);
+    assert!(rt; done.found == done.waited);
+    assert!(rt; done.in_turn);
+}
+
+fn in_threads(
+    rt: &(impl Threads + Sync),
+    driver: &mut Driver,
+    first: &mut LiveSeat<SharedPost>,
+    second: &mut LiveSeat<SharedPost>,
+) -> (Done, Done) {
+    let (_, done) = join(
+        rt,
+        || drive(driver),
+        || join(rt, || work(first, 0), || work(second, 1)),
+    );
+    done
+}
+
+#[test]
+fn live_threads(rt: HostRuntime) -> Result<(), Fail> {
+    let mut service = opened(&rt, rt.alloc(), 2, 2)?;
+    let mut second = last_seat(&rt, &mut service);
+    let mut first = last_seat(&rt, &mut service);
+    let done = in_threads(&rt, &mut service.driver, &mut first, &mut second);
+    has_done_all(&rt, done.0);
+    has_done_all(&rt, done.1);
+    let mut counts = [0, 0];
+    assert!(rt; last_counts(&rt, &mut service.driver, &mut counts));
+    assert!(rt; counts[0] == 20_010);
+    assert!(rt; counts[1] == 20);
+    Ok(())
+}
