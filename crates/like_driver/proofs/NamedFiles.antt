@@ -23,12 +23,13 @@ opened_if Opens f None (Some reader) same = absurd same
 opened_if Opens f (Some name) None same = absurd same
 opened_if Opens f (Some name) (Some reader) same = (refl, refl)
 
+-- there are as many readers as names
+pub all_named : {R : Type 0} (Opens : List ℕ → R → Type 0) (options : Options) (opened : Opened R) → AreNamed Opens options opened → length opened.requests.items ≡ length options.requests.items
+all_named Opens options opened named = AllZip-long (λ (name : String Global) reader. Opens (string_bytes name) reader) options.requests.items opened.requests.items named.requests
+
 module _ {R : Type 0} (Opens : List ℕ → R → Type 0) (left : R → Option (List ℕ)) (options : Options) where
   module _ (opened : Opened R) (named : AreNamed Opens options opened) where
-    -- there are as many readers as names
-    pub named-requests : length opened.requests.items ≡ length options.requests.items
-    named-requests = AllZip-long (λ (name : String Global) reader. Opens (string_bytes name) reader) options.requests.items opened.requests.items named.requests
-
+    -- a script was opened just where one is named
     pub named-script : is_some opened.script ≡ is_some options.script
     named-script = (opened_if Opens left options.script opened.script named.script).0
 
@@ -47,14 +48,14 @@ module _ {R : Type 0} (Opens : List ℕ → R → Type 0) (left : R → Option (
   pub some-run : (old new : Option (List ℕ)) (summary : Option Summary) → HasRunNamed Opens left options old new summary → HasRunSome options old new summary
   some-run old new summary done = record {
     inputs = inputs_of left done.opened.pages done.opened.requests.items None;
-    all_requests = length-map done.opened.requests.items left ∙ named-requests done.opened done.named;
+    all_requests = length-map done.opened.requests.items left ∙ all_named Opens options done.opened done.named;
     run = done.run;
   }
 
   pub some-replay : (old new : Option (List ℕ)) (summary : Option Summary) → HasReplayedNamed Opens left options old new summary → HasReplayedSome options old new summary
   some-replay old new summary done = record {
     inputs = inputs_of left done.opened.pages done.opened.requests.items done.opened.script;
-    all_requests = length-map done.opened.requests.items left ∙ named-requests done.opened done.named;
+    all_requests = length-map done.opened.requests.items left ∙ all_named Opens options done.opened done.named;
     scripted = (opened_if Opens left options.script done.opened.script done.named.script).1;
     replayed = done.replayed;
   }

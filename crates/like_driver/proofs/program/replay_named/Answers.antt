@@ -1,12 +1,12 @@
 use Rattle.std.proofs.Common.{inl}
 use Rattle.std.proofs.lemmas.Result.{IfOk-weaker, err_from_is_err_and}
-use Rattle.like_driver.proofs.NamedFiles.{named-requests, named-script, replay-refused}
+use Rattle.like_driver.proofs.NamedFiles.{all_named, named-script, replay-refused}
 use Rattle.like_driver.proofs.program.replay_named.Goals as goal
 
 pub replay_files_summed-requires : goal.replay_files_summed-requires
 replay_files_summed-requires g c = record {
-  request_names = named-requests (g.O.Opener.opens c.args.opener.now) g.O-Reader.Read.remaining c.args.options.now c.in_ok-pages.field-0 c.in_ok-pages.ensures;
-  script_name = named-script (g.O.Opener.opens c.args.opener.now) g.O-Reader.Read.remaining c.args.options.now c.in_ok-pages.field-0 c.in_ok-pages.ensures;
+  request_names = all_named (g.O.Opener.opens c.args.opener.now) c.args.options.now c.in_ok-pages.field-0 c.in_ok-pages.ensures;
+  script_name = named-script (g.O.Opener.opens c.args.opener.now) g.O.Reader.Read.remaining c.args.options.now c.in_ok-pages.field-0 c.in_ok-pages.ensures;
 }
 
 pub returns-in_err-pages-clause-fault : goal.returns-in_err-pages-clause-fault
@@ -20,5 +20,5 @@ returns-clause-replayed g c =
 
 pub returns-clause-fault : goal.returns-clause-fault
 returns-clause-fault g c =
-    replay-refused (g.O.Opener.opens c.args.opener.now) g.O-Reader.Read.remaining c.args.options.now c.in_ok-pages.field-0 c.in_ok-pages.ensures (g.O.Opener.refuses c.args.opener.now) c.replay_files_summed.result
+    replay-refused (g.O.Opener.opens c.args.opener.now) g.O.Reader.Read.remaining c.args.options.now c.in_ok-pages.field-0 c.in_ok-pages.ensures (g.O.Opener.refuses c.args.opener.now) c.replay_files_summed.result
     c.replay_files_summed.ensures.fault c.replay_files_summed.ensures.read

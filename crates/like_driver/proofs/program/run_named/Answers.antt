@@ -1,10 +1,10 @@
 use Rattle.std.proofs.Common.{inl}
 use Rattle.std.proofs.lemmas.Result.{IfOk-weaker, err_from_is_err_and}
-use Rattle.like_driver.proofs.NamedFiles.{named-requests, run-refused}
+use Rattle.like_driver.proofs.NamedFiles.{all_named, run-refused}
 use Rattle.like_driver.proofs.program.run_named.Goals as goal
 
-pub run_files_summed-requires : goal.run_files_summed-requires
-run_files_summed-requires g c = named-requests (g.O.Opener.opens c.args.opener.now) g.O-Reader.Read.remaining c.args.options.now c.in_ok-pages.field-0 c.in_ok-pages.ensures
+pub run_files_summed-requires-after_bounds : goal.run_files_summed-requires-after_bounds
+run_files_summed-requires-after_bounds g c κs within = all_named (g.O.Opener.opens c.args.opener.now) c.args.options.now c.in_ok-pages.field-0 c.in_ok-pages.ensures
 
 pub returns-in_err-pages-clause-fault : goal.returns-in_err-pages-clause-fault
 returns-in_err-pages-clause-fault g c =
@@ -17,5 +17,5 @@ returns-clause-run g c =
 
 pub returns-clause-fault : goal.returns-clause-fault
 returns-clause-fault g c =
-    run-refused (g.O.Opener.opens c.args.opener.now) g.O-Reader.Read.remaining c.args.options.now c.in_ok-pages.field-0 c.in_ok-pages.ensures (g.O.Opener.refuses c.args.opener.now) c.run_files_summed.result
+    run-refused (g.O.Opener.opens c.args.opener.now) g.O.Reader.Read.remaining c.args.options.now c.in_ok-pages.field-0 c.in_ok-pages.ensures (g.O.Opener.refuses c.args.opener.now) c.run_files_summed.result
     c.run_files_summed.ensures.fault c.run_files_summed.ensures.read
