@@ -1,4 +1,3 @@
-pub mod Collected
+pub mod CollectFaults
 pub mod Entries
-pub mod Places
 pub mod Slots

@@ -1,15 +1,14 @@
 ghost use Rattle.std.specs.Prelude.{◌≤◌, MatchResult, length};
 ghost use Rattle.like_requests.specs.Limits.{max_submitters};
-ghost use Rattle.like_collection.specs.Collected.{IsCollectFault, IsCollected, rows_of};
-ghost use Rattle.like_collection.specs.Entries.{entries_in};
+ghost use Rattle.like_collection.specs.CollectFaults.{IsCollectFault};
+ghost use Rattle.like_service.specs.Collected.{IsCollected, rows_of, entries_in};
 
 mod slot_row;
 mod slots;
 
 use self::slots::Slots;
 use crate::collect_fault::CollectFault;
-use crate::replies::Replies;
-use like_roles::WorkerLog;
+use like_service::{Replies, WorkerLog};
 use std::alloc::Global;
 
 /// Collects the answer of each request from the workers' logs, where the submitters have so many requests each.

@@ -7,12 +7,12 @@ use Rattle.std.proofs.lemmas.Bool.Decides.{eqb_tells, leb_tells}
 use Rattle.std.proofs.lemmas.List.Concat.{flat_map-cons}
 use Rattle.std.proofs.lemmas.List.Sums.{sum_by-append, sum_by-cons}
 use Rattle.like_tables.specs.Share.{worker_of}
-use Rattle.like_roles.specs.declared.log.Ran.{Ran}
-use Rattle.like_roles.specs.declared.log.Took.{Took}
-use Rattle.like_roles.specs.declared.log.WorkerLog.{WorkerLog}
-use Rattle.like_roles.specs.service.Order.{Entry, entry_of}
-use Rattle.like_roles.specs.service.Service.{Service}
-use Rattle.like_crew.specs.Log.{IsLog, numbers_taken, plan_of}
+use Rattle.like_service.specs.declared.log.Ran.{Ran}
+use Rattle.like_service.specs.declared.log.Took.{Took}
+use Rattle.like_service.specs.declared.log.WorkerLog.{WorkerLog}
+use Rattle.like_service.specs.Order.{Entry, entry_of}
+use Rattle.like_service.specs.Service.{Service}
+use Rattle.like_service.specs.Log.{IsLog, numbers_taken, plan_of}
 use Rattle.like_crew.proofs.Ordered.{order-weighs}
 
 eqb_swap : (a b : ℕ) → eqb a b ≡ eqb b a

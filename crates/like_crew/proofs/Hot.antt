@@ -6,13 +6,13 @@ use Rattle.std.proofs.lemmas.List.Sums.{sum_by-cons}
 use Rattle.like_core.specs.Limits.{hot_pages}
 use Rattle.like_core.specs.word.ShownWord.{mask}
 use Rattle.like_core.proofs.word.Masks.{mask_same}
-use Rattle.like_roles.specs.declared.log.Ran.{Ran}
-use Rattle.like_roles.specs.declared.log.Took.{Took}
+use Rattle.like_service.specs.declared.log.Ran.{Ran}
+use Rattle.like_service.specs.declared.log.Took.{Took}
 use Rattle.like_roles.specs.coordinator.Choice.{likes_counted, total_before}
-use Rattle.like_roles.specs.service.HotPages.{chosen_below, hot_by, liked_pages, likes_lately, max_chosen}
-use Rattle.like_roles.specs.service.Likes.{likes_among, likes_below}
-use Rattle.like_roles.specs.service.Order.{Entry, block, entry_in, is_due, is_prompt, order, phases_of, stashed_in, took_to_wait}
-use Rattle.like_roles.specs.service.Service.{Service}
+use Rattle.like_service.specs.HotPages.{chosen_below, hot_by, liked_pages, likes_lately, max_chosen}
+use Rattle.like_service.specs.Likes.{likes_among, likes_below}
+use Rattle.like_service.specs.Order.{Entry, block, entry_in, is_due, is_prompt, order, phases_of, stashed_in, took_to_wait}
+use Rattle.like_service.specs.Service.{Service}
 use Rattle.like_roles.proofs.counts.Tallied.{likes_among-append}
 
 -- the two phases before a phase

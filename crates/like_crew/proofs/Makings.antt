@@ -14,10 +14,10 @@ use Rattle.like_queue.specs.Inbox.{InboxView}
 use Rattle.like_tables.specs.Share.{dealt, share_of}
 use Rattle.like_roles.specs.worker.Follows.{IsServiceOf}
 use Rattle.like_roles.specs.worker.New.{IsPostOf}
-use Rattle.like_roles.specs.service.Service.{Service}
+use Rattle.like_service.specs.Service.{Service}
 use Rattle.like_crew.specs.Servers.{IsServer}
 use Rattle.like_crew.specs.Server.{AreInboxesFor, AreOwnPlans, AreUntouched, WorksFor, ServerView, plans_of, untouched}
-use Rattle.like_crew.specs.Asked.{lists_of, service_of}
+use Rattle.like_service.specs.Asked.{lists_of, service_of}
 use Rattle.like_tables.proofs.Dealt.{get-dealt, map-dealt, there-dealt}
 use Rattle.like_crew.proofs.servers.Shares.{plans-untouched}
 use Rattle.like_crew.proofs.lists.Pairs.{pairs-more}

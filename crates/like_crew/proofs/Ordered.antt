@@ -4,10 +4,10 @@ use Rattle.std.specs.List.{sum_by}
 use Rattle.std.proofs.Math.Nat.{le-max_left, le-max_right}
 use Rattle.std.proofs.lemmas.Bool.{cases_eq, cases_lt, eq-eqb, ne_eqb, le-ltb, lt-ltb}
 use Rattle.std.proofs.lemmas.List.Sums.{sum_by-append, sum_by-cons}
-use Rattle.like_roles.specs.declared.log.Took.{Took}
-use Rattle.like_roles.specs.service.Order.{Entry, block, entry_in, is_due, is_prompt, order, order_below, phases_of, took_to_wait}
-use Rattle.like_roles.specs.service.Service.{Service}
-use Rattle.like_roles.proofs.order.Blocks.{order_below-more}
+use Rattle.like_service.specs.declared.log.Took.{Took}
+use Rattle.like_service.specs.Order.{Entry, block, entry_in, is_due, is_prompt, order, order_below, phases_of, took_to_wait}
+use Rattle.like_service.specs.Service.{Service}
+use Rattle.like_service.proofs.Blocks.{order_below-more}
 
 -- h is what a request weighs, by its submitter and its number
 module _ (h : ℕ → ℕ → ℕ) where

@@ -27,24 +27,25 @@ use Rattle.like_board.proofs.Meanings.{same_board}
 use Rattle.like_core.specs.declared.worker_state.WorkerState.TheVariants.{Gone}
 use Rattle.like_tables.specs.Share.{Share, share_of, worker_of}
 use Rattle.like_tables.specs.UserTable.{last_of}
-use Rattle.like_roles.specs.declared.log.Ran.{Ran}
-use Rattle.like_roles.specs.declared.log.Took.{Took}
-use Rattle.like_roles.specs.declared.log.WorkerLog.{WorkerLog}
-use Rattle.like_roles.specs.service.Likes.{initial_count, last_like, likes, likes_among, likes_below}
+use Rattle.like_service.specs.declared.log.Ran.{Ran}
+use Rattle.like_service.specs.declared.log.Took.{Took}
+use Rattle.like_service.specs.declared.log.WorkerLog.{WorkerLog}
+use Rattle.like_service.specs.Likes.{initial_count, last_like, likes, likes_among, likes_below}
 use Rattle.like_roles.proofs.choice.Choosing.{chosen-more}
 use Rattle.like_roles.proofs.choice.Releasing.{none-even}
 use Rattle.like_roles.proofs.counts.RightCounts.{below-is, right-counts}
 use Rattle.like_roles.specs.coordinator.Choice.{AreTotals, likes_counted}
-use Rattle.like_roles.specs.service.HotPages.{chosen_below, hot_by, likes_lately}
-use Rattle.like_roles.specs.service.Service.{Service, submitters}
-use Rattle.like_collection.specs.Entries.{IsRequest, entries_in, entries_of}
+use Rattle.like_service.specs.HotPages.{chosen_below, hot_by, likes_lately}
+use Rattle.like_service.specs.Service.{Service, submitters}
+use Rattle.like_collection.specs.Entries.{IsRequest}
+use Rattle.like_service.specs.Collected.{entries_in, entries_of}
 use Rattle.like_crew.specs.declared.ended.Ended.{Ended}
 use Rattle.like_crew.specs.declared.site.Site.{Site}
-use Rattle.like_crew.specs.EndToEnd.{AreCounts, AreLastLikes, AreLogs, AreRightCounts, run_of, runs_of}
+use Rattle.like_service.specs.EndToEnd.{AreCounts, AreLastLikes, AreLogs, AreRightCounts, run_of, runs_of}
 use Rattle.like_crew.specs.Gathered.{AreTables, RunsOnce}
-use Rattle.like_crew.specs.Log.{IsLog, NoneAbove, plan_of}
-use Rattle.like_crew.specs.Server.{HasWorkedFor, IsLogOf, ReadMasksOf, ServerView}
-use Rattle.like_crew.specs.Asked.{asked, service_of}
+use Rattle.like_service.specs.Log.{IsLog, plan_of}
+use Rattle.like_crew.specs.Server.{NoneAbove, HasWorkedFor, IsLogOf, ReadMasksOf, ServerView}
+use Rattle.like_service.specs.Asked.{asked, service_of}
 use Rattle.like_crew.specs.Ended.{IsEnded, IsSeatOf}
 use Rattle.like_crew.specs.Site.{opening_of}
 use Rattle.like_crew.specs.Servers.{IsServer}

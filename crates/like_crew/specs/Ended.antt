@@ -7,14 +7,14 @@ use Rattle.like_board.specs.declared.coord_seat.CoordSeat.{CoordSeat}
 use Rattle.like_board.specs.declared.worker_seat.WorkerSeat.{WorkerSeat}
 use Rattle.like_board.specs.Seats.{AreAll, BoardId, board_id, board_numbers, coord_board, coord_view, seat_board, seat_meaning}
 use Rattle.like_roles.specs.coordinator.CoordTurns.{ChoseByCounts, CoordinatorView, HasEndedJoined}
-use Rattle.like_roles.specs.declared.log.WorkerLog.{WorkerLog}
+use Rattle.like_service.specs.declared.log.WorkerLog.{WorkerLog}
 use Rattle.like_requests.specs.declared.request.Request.{Request}
 use Rattle.like_requests.specs.declared.setup.Setup.{Setup}
 use Rattle.like_roles.specs.coordinator.Choice.{AreTotals, ChoiceView, HasChosen}
 use Rattle.like_crew.specs.declared.crew.Crew.{Crew}
 use Rattle.like_crew.specs.declared.ended.Ended.{Ended}
 use Rattle.like_crew.specs.declared.site.Site.{Site}
-use Rattle.like_crew.specs.Asked.{service_of}
+use Rattle.like_service.specs.Asked.{service_of}
 use Rattle.like_crew.specs.Site.{opening_of}
 use Rattle.like_crew.specs.Crew.{AreGone, CaptainGoesOn}
 use Rattle.like_crew.specs.Server.{IsLogOf, ServerGoesOn, ServerView}

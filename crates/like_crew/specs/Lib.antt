@@ -1,12 +1,8 @@
-pub mod Asked
 pub mod Crew
-pub mod EndToEnd
 pub mod Ended
 pub mod Gathered
-pub mod Log
 pub mod Server
 pub mod ServerTurns
 pub mod Servers
 pub mod Site
 pub mod Steps
-pub mod Tiling

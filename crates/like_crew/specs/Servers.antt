@@ -2,7 +2,7 @@
 use Rattle.std.specs.Prelude.{◌≡◌, ℕ, Bool, List}
 use Rattle.std.specs.List.{AllZip, range_with_len}
 use Rattle.like_tables.specs.Share.{share_of}
-use Rattle.like_roles.specs.service.Service.{Service, submitters}
+use Rattle.like_service.specs.Service.{Service, submitters}
 use Rattle.like_crew.specs.Server.{ServerView, WorksFor}
 
 -- the server of a worker of the run, at this board, which notes its additions or does not; it works for the run

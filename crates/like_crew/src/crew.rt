@@ -2,7 +2,7 @@ ghost use Rattle.std.specs.Prelude.{◌≡◌, ◌<◌, IfOk, length, map, true}
 ghost use Rattle.like_requests.specs.Setup.{IsWithinLimits};
 ghost use Rattle.std.specs.List.{AllZip};
 ghost use Rattle.like_roles.specs.coordinator.CoordTurns.{CoordTurns, HasEndedJoined};
-ghost use Rattle.like_crew.specs.Asked.{lists_of};
+ghost use Rattle.like_service.specs.Asked.{lists_of};
 ghost use Rattle.like_crew.specs.Crew.{AreGone, GoesOn, HasInbox, IsCrew};
 ghost use Rattle.like_crew.specs.Ended.{HasEnded};
 ghost use Rattle.like_crew.specs.Server.{AreUntouched, plans_of};

@@ -4,7 +4,7 @@ ghost use Rattle.like_crew.specs.Ended.{IsCaptainOf};
 
 use crate::crew::Captain;
 use like_board::{CoordSeat, WorkerSeat};
-use like_roles::{Chosen, WorkerLog};
+use like_service::{Chosen, WorkerLog};
 
 /// What a crew leaves when its run has ended.
 #[derive(Drop)]

@@ -1,18 +1,18 @@
 ghost use Rattle.std.specs.Prelude.{◌≡◌, ◌<◌, ◌≤◌, ℕ, false, true, All, IfOk, IfSome, length, slice_index};
 ghost use Rattle.like_requests.specs.Setup.{IsWithinLimits};
 ghost use Rattle.like_board.specs.Seats.{AreCounted, board_id, coord_view, last_count, seat_meaning, HaveAddedBetween, HavePlaces, HaveReadBetween, HaveReadMasks};
-ghost use Rattle.like_crew.specs.Asked.{lists_of};
-ghost use Rattle.like_crew.specs.EndToEnd.{IsRightReport};
+ghost use Rattle.like_service.specs.Asked.{lists_of};
+ghost use Rattle.like_service.specs.EndToEnd.{IsRightReport};
 ghost use Rattle.like_crew.specs.Ended.{AreLeft, IsEnded};
 ghost use Rattle.like_crew.specs.Site.{IsSite};
-ghost use Rattle.like_crew.specs.Tiling.{HasNoPlaces, HasRightPlaces};
+ghost use Rattle.like_service.specs.places.Tiling.{HasNoPlaces, HasRightPlaces};
 
 use crate::ended::Ended;
 use crate::report::gathered::{last_likes, places_of, replies_of};
 use crate::site::Site;
 use like_board::{Board, CoordSeat, WorkerSeat};
-use like_collection::Report;
 use like_requests::{Request, Setup};
+use like_service::Report;
 use std::alloc::{AllocError, Global};
 use std::snapshot::Snapshot;
 

@@ -5,11 +5,11 @@ use Rattle.std.proofs.lemmas.List.Elements.{All-head, All-tail}
 use Rattle.std.specs.List.{fold}
 use Rattle.std.specs.Io.KnownBytes.{Appends}
 use Rattle.like_requests.specs.declared.setup.Setup.{Setup}
-use Rattle.like_collection.specs.declared.answer.Answer.{Answer}
-use Rattle.like_collection.specs.declared.place.Place.{Place}
-use Rattle.like_collection.specs.declared.report.Report.{Report}
-use Rattle.like_crew.specs.EndToEnd.{IsRightReport}
-use Rattle.like_crew.specs.Tiling.{HasNoPlaces, HasRightPlaces}
+use Rattle.like_service.specs.declared.answer.Answer.{Answer}
+use Rattle.like_service.specs.declared.place.Place.{Place}
+use Rattle.like_service.specs.declared.report.Report.{Report}
+use Rattle.like_service.specs.EndToEnd.{IsRightReport}
+use Rattle.like_service.specs.places.Tiling.{HasNoPlaces, HasRightPlaces}
 use Rattle.like_requests.specs.Limits.{max_requests}
 use Rattle.like_requests.specs.Pages.{Page}
 use Rattle.like_requests.specs.Setup.{IsWithinLimits}
@@ -19,9 +19,9 @@ use Rattle.like_replies.specs.declared.write_fault.WriteFault.TheVariants as wri
 use Rattle.like_run.specs.Rounds as run
 use Rattle.like_run.specs.declared.rounds.fault.ReplayFault.{ReplayFault}
 use Rattle.like_run.specs.declared.rounds.fault.ReplayFault.TheVariants as why
-use Rattle.like_run.specs.Threads as on_threads
-use Rattle.like_run.specs.declared.threads.fault.RunFault.{RunFault}
-use Rattle.like_run.specs.declared.threads.fault.RunFault.TheVariants as threads
+use Rattle.like_service.specs.RunFault as on_threads
+use Rattle.like_service.specs.declared.run_fault.RunFault.{RunFault}
+use Rattle.like_service.specs.declared.run_fault.RunFault.TheVariants as threads
 use Rattle.like_script.specs.declared.turned.Turned.{Turned}
 use Rattle.like_words.specs.declared.options.Options.{Options}
 use Rattle.like_replies.specs.PlaceRows.{text_of}

@@ -6,13 +6,13 @@ use Rattle.like_requests.specs.declared.request.Op.TheVariants.{Like, Look}
 use Rattle.like_requests.specs.declared.request.PageRef.TheVariants.{Known, Unknown}
 use Rattle.like_requests.specs.declared.request.Request.{Request}
 use Rattle.like_requests.specs.declared.verdict.Verdict.TheVariants.{OtherHome, UnknownPage, UnknownUser}
-use Rattle.like_roles.specs.declared.reply.Reply.{Reply}
-use Rattle.like_roles.specs.declared.reply.Reply.TheVariants.{Liked, Seen, Refused}
-use Rattle.like_roles.specs.service.HotPages.{chosen_below, hot_in}
-use Rattle.like_roles.specs.service.Likes.{Between, initial_count, last_like, likes, likes_below, likes_up_to, likes_within}
-use Rattle.like_roles.specs.declared.log.Ran.{Ran}
-use Rattle.like_roles.specs.service.Replies.{IsRightAnswer}
-use Rattle.like_roles.specs.service.Service.{Service}
+use Rattle.like_service.specs.declared.reply.Reply.{Reply}
+use Rattle.like_service.specs.declared.reply.Reply.TheVariants.{Liked, Seen, Refused}
+use Rattle.like_service.specs.HotPages.{chosen_below, hot_in}
+use Rattle.like_service.specs.Likes.{Between, initial_count, last_like, likes, likes_below, likes_up_to, likes_within}
+use Rattle.like_service.specs.declared.log.Ran.{Ran}
+use Rattle.like_service.specs.Replies.{IsRightAnswer}
+use Rattle.like_service.specs.Service.{Service}
 
 abbrev page_a : ℕ → Page
 page_a count = record { name = codes "a"; count = count; split = true }

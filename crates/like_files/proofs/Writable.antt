@@ -15,21 +15,20 @@ use Rattle.like_requests.specs.declared.request.PageRef.TheVariants.{Known, Unkn
 use Rattle.like_requests.specs.declared.request.Request.{Request}
 use Rattle.like_requests.specs.declared.verdict.Verdict.{Verdict}
 use Rattle.like_requests.specs.declared.verdict.Verdict.TheVariants.{Accepted, UnknownUser, OtherHome, UnknownPage}
-use Rattle.like_roles.specs.declared.log.Ran.{Ran}
-use Rattle.like_roles.specs.declared.log.WorkerLog.{WorkerLog}
-use Rattle.like_roles.specs.declared.reply.Reply.{Reply}
-use Rattle.like_roles.specs.declared.reply.Reply.TheVariants.{Liked, Seen, Refused}
-use Rattle.like_roles.specs.service.Likes.{AcceptedLike, accepted_like, last_like, like_of, likes_ran}
-use Rattle.like_roles.specs.service.Replies.{Answers, HasRightAnswers, IsRightAnswer}
-use Rattle.like_roles.specs.service.Service.{Service, numbered_in, request_at, request_of, submitters}
-use Rattle.like_collection.specs.declared.answer.Answer.{Answer}
-use Rattle.like_collection.specs.declared.report.Report.{Report}
-use Rattle.like_collection.specs.Collected.{answer_at, rows_of}
-use Rattle.like_collection.specs.Entries.{answer_of, entries_in, entries_of, is_of}
+use Rattle.like_service.specs.declared.log.Ran.{Ran}
+use Rattle.like_service.specs.declared.log.WorkerLog.{WorkerLog}
+use Rattle.like_service.specs.declared.reply.Reply.{Reply}
+use Rattle.like_service.specs.declared.reply.Reply.TheVariants.{Liked, Seen, Refused}
+use Rattle.like_service.specs.Likes.{AcceptedLike, accepted_like, last_like, like_of, likes_ran}
+use Rattle.like_service.specs.Replies.{Answers, HasRightAnswers, IsRightAnswer}
+use Rattle.like_service.specs.Service.{Service, numbered_in, request_at, request_of, submitters}
+use Rattle.like_service.specs.declared.answer.Answer.{Answer}
+use Rattle.like_service.specs.declared.report.Report.{Report}
+use Rattle.like_service.specs.Collected.{answer_at, rows_of, answer_of, entries_in, entries_of, is_of}
 use Rattle.like_replies.specs.Reported.{reported}
 use Rattle.like_replies.specs.Rows.{IsShowable, IsWritable}
 use Rattle.like_tables.specs.Share.{worker_of}
-use Rattle.like_crew.specs.EndToEnd.{IsEndToEnd, run_of}
+use Rattle.like_service.specs.EndToEnd.{IsEndToEnd, run_of}
 
 -- what holds of each element by its place holds of all
 all_from_get : {X : Type 0} (P : X → Type 0) (xs : List X) → ((i : ℕ) (x : X) → slice_get xs i ≡ Some x → P x) → AllByRecursion P xs

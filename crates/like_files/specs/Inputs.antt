@@ -12,12 +12,12 @@ use Rattle.like_requests.specs.declared.pages_file.PagesFault.{PagesFault}
 use Rattle.like_requests.specs.declared.request.Request.{Request}
 use Rattle.like_requests.specs.declared.requests_file.RequestsFault.{RequestsFault}
 use Rattle.like_requests.specs.declared.setup.Setup.{Setup}
-use Rattle.like_collection.specs.declared.report.Report.{Report}
+use Rattle.like_service.specs.declared.report.Report.{Report}
 use Rattle.like_replies.specs.PlaceRows.{text_of}
 use Rattle.like_replies.specs.Summary.{summary_of}
 use Rattle.like_replies.specs.declared.summary.Summary.{Summary}
-use Rattle.like_crew.specs.EndToEnd.{IsRightReport}
-use Rattle.like_crew.specs.Tiling.{HasNoPlaces, HasRightPlaces}
+use Rattle.like_service.specs.EndToEnd.{IsRightReport}
+use Rattle.like_service.specs.places.Tiling.{HasNoPlaces, HasRightPlaces}
 use Rattle.like_script.specs.File.{IsScriptFault, IsScriptFile}
 use Rattle.like_script.specs.declared.file.ScriptFault.{ScriptFault}
 use Rattle.like_script.specs.declared.turned.Turned.{Turned}

@@ -4,9 +4,9 @@ use Rattle.like_requests.specs.Pages.{Page}
 use Rattle.like_requests.specs.Setup.{IsWithinLimits}
 use Rattle.like_requests.specs.declared.request.Request.{Request}
 use Rattle.like_requests.specs.declared.setup.Setup.{Setup}
-use Rattle.like_run.specs.Threads as run
-use Rattle.like_run.specs.declared.threads.fault.RunFault.{RunFault}
-use Rattle.like_run.specs.declared.threads.fault.RunFault.TheVariants as why
+use Rattle.like_service.specs.RunFault as run
+use Rattle.like_service.specs.declared.run_fault.RunFault.{RunFault}
+use Rattle.like_service.specs.declared.run_fault.RunFault.TheVariants as why
 use Rattle.like_files.specs.Inputs.{GivesLists, Inputs, RefusesLists, WritesReport, setup_of}
 use Rattle.like_replies.specs.declared.summary.Summary.{Summary}
 use Rattle.like_words.specs.declared.options.Options.{Options}

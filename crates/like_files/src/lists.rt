@@ -1,5 +1,5 @@
 ghost use Rattle.std.specs.Prelude.{IfErr, MatchResult, None, map};
-ghost use Rattle.like_crew.specs.Asked.{lists_of};
+ghost use Rattle.like_service.specs.Asked.{lists_of};
 ghost use Rattle.like_files.specs.FailedReads.{TellsRead};
 ghost use Rattle.like_files.specs.Inputs.{GivesLists, RefusesLists};
 

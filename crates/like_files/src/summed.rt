@@ -2,8 +2,8 @@ ghost use Rattle.std.specs.Prelude.{◌≡◌, ◌<◌, ◌^◌};
 ghost use Rattle.like_replies.specs.Summary.{requests_in};
 ghost use Rattle.like_files.specs.Inputs.{asked_summary};
 
-use like_collection::Report;
 use like_replies::Summary;
+use like_service::Report;
 use like_words::Options;
 
 /// The summary of a report, where the options ask for one.

@@ -2,9 +2,9 @@
 use Rattle.std.specs.Prelude.{ℕ, Bool, if◌then◌else◌, List, [], ◌∷◌, ◌++◌, map, codes, decimal}
 use Rattle.std.specs.List.{enumerate_from, flat_map}
 use Rattle.like_requests.specs.Pages.{Page}
-use Rattle.like_collection.specs.declared.place.Place.{Place}
-use Rattle.like_collection.specs.declared.report.Report.{Report}
-use Rattle.like_collection.specs.Places.{lists_in}
+use Rattle.like_service.specs.declared.place.Place.{Place}
+use Rattle.like_service.specs.declared.report.Report.{Report}
+use Rattle.like_service.specs.places.Places.{lists_in}
 use Rattle.like_replies.specs.Reported.{reported}
 use Rattle.like_replies.specs.Rows.{name_of, report_text, rows_text}
 

@@ -1,9 +1,9 @@
 -- What a report's text shows of it, as lists.
 use Rattle.std.specs.Prelude.{ℕ, List, Option}
-use Rattle.like_roles.specs.declared.chosen.Chosen.{Chosen}
-use Rattle.like_collection.specs.declared.answer.Answer.{Answer}
-use Rattle.like_collection.specs.declared.report.Report.{Report}
-use Rattle.like_collection.specs.Collected.{rows_of}
+use Rattle.like_service.specs.declared.chosen.Chosen.{Chosen}
+use Rattle.like_service.specs.declared.answer.Answer.{Answer}
+use Rattle.like_service.specs.declared.report.Report.{Report}
+use Rattle.like_service.specs.Collected.{rows_of}
 
 -- the answers by submitter and number, the final count of each page, the page of each user's last like, and the phases
 -- with hot pages

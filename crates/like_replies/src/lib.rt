@@ -6,7 +6,8 @@ mod report;
 mod summary;
 mod write_fault;
 
-pub use like_collection::{Answer, CollectFault, Place, Replies, Report, collect, places};
+pub use like_collection::{CollectFault, collect, places};
+pub use like_service::{Answer, Place, Replies, Report};
 pub use report::text::{write_places, write_report, write_text, write_text_at_once};
 pub use summary::Summary;
 pub use write_fault::WriteFault;

@@ -20,22 +20,22 @@ use Rattle.like_core.specs.Phase.{IsJoined, IsSplit, split}
 use Rattle.like_core.specs.WorkerState.{IsRunning, RunsJoined, RunsSplit, RunsSome, phase_of, seen}
 use Rattle.like_core.specs.Post.{additions_in, answered, looked_at, pages_of, slices}
 use Rattle.like_tables.specs.declared.held.Held.{Held}
-use Rattle.like_roles.specs.declared.log.Took.{Took}
+use Rattle.like_service.specs.declared.log.Took.{Took}
 use Rattle.like_roles.specs.declared.turn.Turn.{Turn}
 use Rattle.like_roles.specs.worker.Follows.{FitsStash, Follows, IsAsked, IsAskedBy, IsInBlocks, IsNoted, IsServed, IsSized, IsTallied, IsUnmerged, Stands, entry_held, next_joined}
-use Rattle.like_roles.specs.service.Order.{block, entry_of, is_look_at_sliced, order_below, stashed_in, took_to_wait, waits}
-use Rattle.like_roles.specs.service.Replies.{page_looked_at}
+use Rattle.like_service.specs.Order.{block, entry_of, is_look_at_sliced, order_below, stashed_in, took_to_wait, waits}
+use Rattle.like_service.specs.Replies.{page_looked_at}
 use Rattle.like_roles.specs.worker.Serve.{Runs, ran_now, verdict_at}
-use Rattle.like_roles.specs.service.Service.{Service, is_split_in, marks, request_at, submitters}
+use Rattle.like_service.specs.Service.{Service, is_split_in, marks, request_at, submitters}
 use Rattle.like_roles.specs.worker.Turns as turns
 use Rattle.like_roles.specs.worker.Turns.{CanGive, Gives, TakesAsk, Turns, Works, held_from, merged, saw, settled, trying, with_stashed, with_taken, without_first}
 use Rattle.like_requests.specs.Setup.{IsThere}
 use Rattle.like_roles.specs.worker.WorkerView.{WorkerView, has_to_wait, phase_at, seat_of, submitter_at}
 use Rattle.like_seat.specs.Merge.{Merges}
 use Rattle.like_seat.specs.SeatView.{HasPhaseMask, IsSliceInSplit}
-use Rattle.like_roles.proofs.order.Blocks.{block-after_joined, block-later, order_below-more, block-next-prompt, block-next-waits, order_below-prompt, order_below-waits, stashed-block, stashed-other, stashed-prompt, waits-joined}
+use Rattle.like_service.proofs.Blocks.{block-after_joined, block-later, order_below-more, block-next-prompt, block-next-waits, order_below-prompt, order_below-waits, stashed-block, stashed-other, stashed-prompt, waits-joined}
 use Rattle.like_roles.proofs.Effects.{HasRunOne, Runs-effects}
-use Rattle.like_roles.proofs.order.InBlocks.{before-next, blocks-of_running, order-of_blocks, parity, running-of_blocks, runs-phase, runs-weaker}
+use Rattle.like_roles.proofs.InBlocks.{before-next, blocks-of_running, order-of_blocks, parity, running-of_blocks, runs-phase, runs-weaker}
 use Rattle.like_roles.proofs.Keeps.{runs-keeps, works-keeps}
 use Rattle.like_seat.proofs.Looking.{has-after, splits-after}
 use Rattle.like_seat.proofs.MergedLikes as merge

@@ -1,10 +1,9 @@
-pub mod order
+pub mod InBlocks
 pub mod Counting
 pub mod Effects
 pub mod Followed
 pub mod Held
 pub mod Keeps
-pub mod Lists
 pub mod Made
 pub mod Merging
 pub mod Seats

@@ -8,7 +8,7 @@ use Rattle.like_seat.specs.Merge.{Merges}
 use Rattle.like_seat.specs.SeatView.{SeatView, phase_at}
 use Rattle.like_core.specs.Post.{pages_of}
 use Rattle.like_seat.proofs.WholeMerge.{merge_of}
-use Rattle.like_roles.specs.declared.log.Added.{Added}
+use Rattle.like_service.specs.declared.log.Added.{Added}
 use Rattle.like_roles.specs.declared.worker.desk.Desk.{Desk}
 use Rattle.like_roles.specs.worker.Desk.{view_of}
 use Rattle.like_roles.specs.worker.Serve.{noted_at, noted_if}

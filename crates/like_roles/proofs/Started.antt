@@ -13,15 +13,15 @@ use Rattle.like_core.specs.Post.{PostView, additions_in, additions_of, pages_of}
 use Rattle.like_tables.specs.UserTable.{last_of}
 use Rattle.like_roles.specs.declared.turn.Turn.{Turn}
 use Rattle.like_roles.specs.declared.turn.Turn.TheVariants as turn
-use Rattle.like_roles.specs.service.Adds.{adds_to}
-use Rattle.like_roles.specs.service.Likes.{likes_within}
-use Rattle.like_roles.specs.worker.Follows.{Follows, IsDone, IsInBlocks, IsNoted, IsServiceOf, IsUnmerged, Stands, entry_held, next_joined}
+use Rattle.like_service.specs.places.Adds.{adds_to}
+use Rattle.like_service.specs.Likes.{likes_within}
+use Rattle.like_roles.specs.worker.Follows.{Follows, IsDone, IsInBlocks, IsNoted, IsServiceOf, IsUnmerged, Stands, entry_held, next_joined, shown_by}
 use Rattle.like_roles.specs.worker.New.{IsNew, IsPostOf}
-use Rattle.like_roles.specs.service.Order.{entry_of}
-use Rattle.like_roles.specs.service.Service.{Service, marks}
+use Rattle.like_service.specs.Order.{entry_of}
+use Rattle.like_service.specs.Service.{Service, marks}
 use Rattle.like_roles.specs.worker.Turns as turns
 use Rattle.like_roles.specs.worker.Turns.{Pends, Turns, Works}
-use Rattle.like_roles.specs.service.Looks.{shown_by, shown_in}
+use Rattle.like_service.specs.places.Looks.{shown_in}
 use Rattle.like_roles.specs.worker.WorkerView.{WorkerView, phase_at, submitter_at}
 use Rattle.like_seat.specs.SeatView.{IsSliceInSplit}
 use Rattle.like_roles.proofs.Effects.{Runs-effects}

@@ -1,3 +1,2 @@
-pub mod service
 pub mod worker
 pub mod coordinator

@@ -11,11 +11,11 @@ ghost use Rattle.like_roles.specs.coordinator.CoordTurns.{ChoseByCounts, CoordTu
 mod choices;
 
 use self::choices::Choices;
-use crate::chosen::Chosen;
 use crate::coord_turn::CoordTurn;
 use like_board::{Board, CoordSeat};
 use like_core::{CoordSight, LAST_PHASE};
 use like_seat::{Lead, NoLead};
+use like_service::Chosen;
 use std::alloc::Global;
 use std::marker::Model;
 

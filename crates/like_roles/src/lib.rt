@@ -5,20 +5,15 @@
 //! In-Memory Transactions" (OSDI 2014).
 #![tactic(auto)]
 
-mod chosen;
 mod coord_turn;
 mod coordinator;
 mod gate;
-mod log;
-mod reply;
 mod turn;
 mod worker;
 
-pub use chosen::Chosen;
 pub use coord_turn::CoordTurn;
 pub use coordinator::{Coordinator, NoCoordinator};
 pub use gate::{Gate, NoGate};
-pub use log::{Added, Ran, Took, WorkerLog};
-pub use reply::Reply;
+pub use like_service::{Added, Chosen, Ran, Reply, Took, WorkerLog};
 pub use turn::Turn;
 pub use worker::{NoWorker, Worker};

@@ -8,7 +8,7 @@ ghost use Rattle.like_tables.specs.UserTable.{table_without_likes};
 ghost use Rattle.like_roles.specs.worker.Desk.{IsNewDesk};
 ghost use Rattle.like_roles.specs.worker.New.{IsNew, IsPostOf};
 ghost use Rattle.like_roles.specs.worker.Follows.{Follows, IsAskedBy, IsDone, IsServiceOf};
-ghost use Rattle.like_roles.specs.service.Service.{Service};
+ghost use Rattle.like_service.specs.Service.{Service};
 ghost use Rattle.like_roles.specs.worker.Turns.{CanGive, Gives, HasTaken, Pends, TakesNothing, Turns};
 ghost use Rattle.like_seat.specs.SeatView.{IsSliceInSplit};
 
@@ -17,11 +17,11 @@ mod places;
 
 use self::desk::Desk;
 use crate::gate::Gate;
-use crate::log::WorkerLog;
 use crate::turn::Turn;
 use like_core::Post;
 use like_requests::{Setup, Taken};
 use like_seat::Seat;
+use like_service::WorkerLog;
 use like_tables::{Held, Users};
 use std::alloc::{AllocError, Global};
 use std::marker::Model;

@@ -9,7 +9,7 @@ use Rattle.like_script.specs.declared.turned.Turned.TheVariants.{OpenOne, Worker
 use Rattle.like_script.specs.Fit.{IsInRun}
 use Rattle.like_crew.specs.declared.crew.Crew.{Crew}
 use Rattle.like_crew.specs.declared.site.Site.{Site}
-use Rattle.like_crew.specs.Asked.{service_of}
+use Rattle.like_service.specs.Asked.{service_of}
 use Rattle.like_crew.specs.Crew.{IsCrew}
 use Rattle.like_crew.specs.Server.{ServerGoesOn, ServerView}
 use Rattle.like_crew.proofs.Coordinated.{inbox-later}

@@ -1,14 +1,11 @@
--- A run on threads: what the threads of its workers end with, and why it gives no report.
+-- A run on threads: what the threads of its workers end with.
 use Rattle.std.specs.Prelude.{◌≡◌, ◌+◌, ◌≤◌, ℕ, List, length, ⊤, false}
-use Rattle.like_requests.specs.Setup.{IsFirstBroken, IsWithinLimits}
-use Rattle.like_requests.specs.declared.request.Request.{Request}
-use Rattle.like_requests.specs.declared.setup.Setup.{Setup}
 use Rattle.like_crew.specs.declared.crew.Crew.{Crew}
 use Rattle.like_crew.specs.declared.ended.Ended.{Ended}
 use Rattle.like_crew.specs.Ended.{HasEnded, HasLeft, IsSeatOf}
 use Rattle.like_crew.specs.Server.{ServerView}
-use Rattle.like_run.specs.declared.threads.fault.RunFault.{RunFault}
-use Rattle.like_run.specs.declared.threads.fault.RunFault.TheVariants.{Settings, Memory, Start}
+use Rattle.like_service.specs.declared.run_fault.RunFault.{RunFault}
+use Rattle.like_service.specs.declared.run_fault.RunFault.TheVariants.{Settings, Memory, Start}
 use Rattle.like_run.specs.declared.threads.worker.Served.{Served}
 use Rattle.like_run.specs.declared.threads.worker.Served.TheVariants.{Left, Stopped}
 
@@ -29,9 +26,3 @@ abbrev pub IsRunFaultUnderWay : RunFault → Type 0
 IsRunFaultUnderWay (Settings why) = ⊥
 IsRunFaultUnderWay Memory = ⊤
 IsRunFaultUnderWay Start = ⊤
-
--- the first limit that the settings and the lists break; or else memory ran out, or a thread could not be started
-abbrev pub IsRunFault : Setup → List (List Request) → RunFault → Type 0
-IsRunFault setup plans (Settings why) = IsFirstBroken setup plans why
-IsRunFault setup plans Memory = IsWithinLimits setup plans
-IsRunFault setup plans Start = IsWithinLimits setup plans

@@ -5,5 +5,6 @@ mod rounds;
 mod threads;
 
 pub use like_script::{MAX_ENTRIES, MAX_INDEX, ScriptFault, Turned, read_script};
+pub use like_service::RunFault;
 pub use rounds::{MAX_ROUNDS, ReplayFault, replay, replay_noting};
-pub use threads::{RunFault, run, run_limited, run_noting};
+pub use threads::{run, run_limited, run_noting};

@@ -3,19 +3,19 @@ ghost use Rattle.like_requests.specs.Setup.{IsWithinLimits};
 ghost use Rattle.like_roles.specs.coordinator.CoordTurns.{HasEndedJoined};
 ghost use Rattle.like_script.specs.Fit.{IsInRun};
 ghost use Rattle.like_script.specs.Limits.{max_entries};
-ghost use Rattle.like_crew.specs.Asked.{lists_of};
+ghost use Rattle.like_service.specs.Asked.{lists_of};
 ghost use Rattle.like_crew.specs.Crew.{AreGone, GoesOn};
-ghost use Rattle.like_crew.specs.EndToEnd.{IsRightReport};
+ghost use Rattle.like_service.specs.EndToEnd.{IsRightReport};
 ghost use Rattle.like_crew.specs.Ended.{HasEnded};
-ghost use Rattle.like_crew.specs.Tiling.{HasNoPlaces, HasRightPlaces};
+ghost use Rattle.like_service.specs.places.Tiling.{HasNoPlaces, HasRightPlaces};
 ghost use Rattle.like_run.specs.Rounds.{CanMake, CanReplayScript, IsReplayFaultUnderWay, IsReplayFault};
 ghost use Rattle.like_run.specs.Script.{FollowsScript, Makes, MakesAll, MakesRounds};
 
-use like_collection::Report;
 use like_crew::{Crew, Ended, Site, report_of};
 use like_queue::ListInbox;
 use like_requests::{Request, Setup, check_setup};
 use like_script::{Turned, check_script};
+use like_service::Report;
 use std::alloc::Global;
 use std::snapshot::Snapshot;
 

@@ -1,23 +1,24 @@
 ghost use Rattle.std.specs.Prelude.{◌≡◌, ◌+◌, ◌≤◌, false, true, IfErr, IfOk, OnOk, length};
 ghost use Rattle.like_requests.specs.Setup.{IsWithinLimits};
-ghost use Rattle.like_crew.specs.Asked.{lists_of};
-ghost use Rattle.like_crew.specs.EndToEnd.{IsRightReport};
+ghost use Rattle.like_service.specs.Asked.{lists_of};
+ghost use Rattle.like_service.specs.EndToEnd.{IsRightReport};
 ghost use Rattle.like_crew.specs.Ended.{IsEnded};
 ghost use Rattle.like_crew.specs.Site.{AreSeats, IsSite};
-ghost use Rattle.like_crew.specs.Tiling.{HasNoPlaces, HasRightPlaces};
+ghost use Rattle.like_service.specs.places.Tiling.{HasNoPlaces, HasRightPlaces};
 ghost use Rattle.like_lines.specs.Lines.{AreNewEnds};
-ghost use Rattle.like_run.specs.Threads.{HasEndedOn, IsRunFaultUnderWay, IsRunFault};
+ghost use Rattle.like_run.specs.Threads.{HasEndedOn, IsRunFaultUnderWay};
+ghost use Rattle.like_service.specs.RunFault.{IsRunFault};
 
 use crate::threads::coordinator::{coordinate, join_all};
 use crate::threads::room::Room;
 use crate::threads::submitters::start_submitters;
 use crate::threads::workers::start_workers;
-use like_collection::Report;
 use like_crew::{Crew, Ended, Seats, Site, report_of};
 use like_lines::{Lines, Parkers, ends_of, tell};
 use like_queue::{SendEnd, TakeEnd};
 use like_requests::{Request, Setup, check_setup};
 use like_roles::Gate;
+use like_service::{Report, RunFault};
 use std::alloc::Global;
 use std::snapshot::Snapshot;
 use std::sync::{OnceLock, Wait};
@@ -25,13 +26,10 @@ use std::thread;
 use std::thread::{Scope, Threads};
 
 mod coordinator;
-mod fault;
 mod room;
 mod submitters;
 mod worker;
 mod workers;
-
-pub use fault::RunFault;
 
 /// Makes a run: each worker and each submitter has a thread of its own, and the coordinator's turns are made on the
 /// calling thread. A submitter's requests go to its worker through a line. No thread makes a step of its own before all

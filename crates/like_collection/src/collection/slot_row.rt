@@ -1,9 +1,8 @@
 ghost use Rattle.std.specs.Prelude.{◌≡◌, ◌<◌, ◌^◌, [], ◌∷◌, IfOk, MatchResult, Some, None, is_some, length, map, replicate, slice_index_or, slice_set};
 ghost use Rattle.like_collection.specs.Slots.{IsSlotsFault};
 
-use crate::answer::Answer;
 use crate::collect_fault::CollectFault;
-use like_roles::Reply;
+use like_service::{Answer, Reply};
 use std::alloc::{AllocError, Global};
 use std::marker::Model;
 
@@ -23,7 +22,7 @@ pub(crate) struct SlotRow {
 
 impl Model for SlotRow {
     ghost use Rattle.std.specs.Prelude.{◌≡◌, List, Option, length};
-    ghost use Rattle.like_collection.specs.declared.answer.Answer.{Answer};
+    ghost use Rattle.like_service.specs.declared.answer.Answer.{Answer};
     ghost use Rattle.like_collection.specs.Slots.{answers_there};
 
     ghost Value = { List (Option Answer) };

@@ -1,14 +1,13 @@
 ghost use Rattle.std.specs.Prelude.{◌≡◌, ◌<◌, ◌≤◌, ◌^◌, ◌↔◌, ℕ, List, ◌∷◌, [], ◌++◌, All, IfOk, IsTrue, MatchResult, Some, None, length, map, replicate};
 ghost use Rattle.like_requests.specs.Limits.{max_submitters};
-ghost use Rattle.like_roles.specs.declared.log.Ran.{Ran};
-ghost use Rattle.like_collection.specs.Collected.{IsEntryFault, rows_of};
+ghost use Rattle.like_service.specs.declared.log.Ran.{Ran};
+ghost use Rattle.like_collection.specs.CollectFaults.{IsEntryFault};
+ghost use Rattle.like_service.specs.Collected.{rows_of};
 ghost use Rattle.like_collection.specs.Slots.{HoldsAll, IsSlot, IsSlotsFault, Puts, RefusesEntry};
 
-use crate::answer::Answer;
 use crate::collect_fault::CollectFault;
 use crate::collection::slot_row::SlotRow;
-use crate::replies::Replies;
-use like_roles::Ran;
+use like_service::{Answer, Ran, Replies};
 use std::alloc::{AllocError, Global};
 use std::marker::Model;
 
@@ -20,7 +19,7 @@ pub(crate) struct Slots {
 
 impl Model for Slots {
     ghost use Rattle.std.specs.Prelude.{List, Option};
-    ghost use Rattle.like_collection.specs.declared.answer.Answer.{Answer};
+    ghost use Rattle.like_service.specs.declared.answer.Answer.{Answer};
 
     ghost Value = { List (List (Option Answer)) };
 

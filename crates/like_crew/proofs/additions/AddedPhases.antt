@@ -8,15 +8,15 @@ use Rattle.std.proofs.lemmas.List.Elements.{All-append, All-head, All-nil, All-t
 use Rattle.std.proofs.lemmas.Option.{get_or_from_slice_get, slice_get_within}
 use Rattle.like_core.specs.Phase.{IsJoined}
 use Rattle.like_core.proofs.views.KeptPlaces.{counts_one}
-use Rattle.like_roles.specs.declared.log.Added.{Added}
-use Rattle.like_roles.specs.declared.log.Ran.{Ran}
-use Rattle.like_roles.specs.declared.log.Took.{Took}
-use Rattle.like_roles.specs.service.Adds.{AreOfLikes, IsOfLikes, is_add_to, likes_at}
-use Rattle.like_roles.specs.service.Likes.{likes_among, likes_within}
-use Rattle.like_roles.specs.service.Order.{Entry, block, entry_in, entry_of, is_due, is_prompt, order, phases_of}
-use Rattle.like_roles.specs.service.Service.{Service, is_split_in}
-use Rattle.like_roles.proofs.order.Blocks.{block-after_joined, block-later}
-use Rattle.like_roles.proofs.order.InBlocks.{before-next}
+use Rattle.like_service.specs.declared.log.Added.{Added}
+use Rattle.like_service.specs.declared.log.Ran.{Ran}
+use Rattle.like_service.specs.declared.log.Took.{Took}
+use Rattle.like_service.specs.places.Adds.{AreOfLikes, IsOfLikes, is_add_to, likes_at}
+use Rattle.like_service.specs.Likes.{likes_among, likes_within}
+use Rattle.like_service.specs.Order.{Entry, block, entry_in, entry_of, is_due, is_prompt, order, phases_of}
+use Rattle.like_service.specs.Service.{Service, is_split_in}
+use Rattle.like_service.proofs.Blocks.{block-after_joined, block-later}
+use Rattle.like_roles.proofs.InBlocks.{before-next}
 use Rattle.like_roles.proofs.notes.Noted.{count-none}
 use Rattle.like_crew.proofs.Makings.{all-back, all-map}
 

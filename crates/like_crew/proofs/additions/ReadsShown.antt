@@ -2,11 +2,12 @@
 use Rattle.std.proofs.Common.{◌≡◌, List, [], ◌∷◌, map, zip, refl, sym, ap, ◌∙◌}
 use Rattle.like_core.specs.declared.view.Addition.{Addition}
 use Rattle.like_core.specs.declared.view.PageRead.{PageRead}
-use Rattle.like_roles.specs.declared.log.WorkerLog.{WorkerLog}
-use Rattle.like_roles.specs.service.Adds.{adds_before_looks}
-use Rattle.like_roles.specs.service.Looks.{shown_by, shown_in}
-use Rattle.like_roles.specs.service.Service.{Service}
-use Rattle.like_crew.specs.Tiling.{read_after, reads_shown}
+use Rattle.like_service.specs.declared.log.WorkerLog.{WorkerLog}
+use Rattle.like_service.specs.places.Adds.{adds_before_looks}
+use Rattle.like_roles.specs.worker.Follows.{shown_by}
+use Rattle.like_service.specs.places.Looks.{shown_in}
+use Rattle.like_service.specs.Service.{Service}
+use Rattle.like_service.specs.places.Tiling.{read_after, reads_shown}
 
 -- what a read shows, and how many additions were before it, are the read
 again : (additions : List Addition) (reads : List PageRead) → map read_after (zip (map (shown_by additions) reads) (map (λ r. r.after) reads)) ≡ reads

@@ -16,21 +16,21 @@ use Rattle.like_core.specs.views.Places.{ArePlaced, AreTiles, Counting}
 use Rattle.like_core.specs.Post.{PostView}
 use Rattle.like_board.specs.declared.worker_seat.WorkerSeat.{WorkerSeat}
 use Rattle.like_board.specs.Seats.{AreCounted, HaveAddedBetween, HavePlaces, HaveReadMasks, coord_view, last_count, seat_meaning, seats_before, seats_passing}
-use Rattle.like_roles.specs.declared.log.Added.{Added}
-use Rattle.like_roles.specs.declared.log.Ran.{Ran}
-use Rattle.like_roles.specs.declared.log.WorkerLog.{WorkerLog}
-use Rattle.like_roles.specs.service.Adds.{AreOfLikes, addition_of, adds_before_looks}
+use Rattle.like_service.specs.declared.log.Added.{Added}
+use Rattle.like_service.specs.declared.log.Ran.{Ran}
+use Rattle.like_service.specs.declared.log.WorkerLog.{WorkerLog}
+use Rattle.like_service.specs.places.Adds.{AreOfLikes, addition_of, adds_before_looks}
 use Rattle.like_roles.specs.worker.Follows.{AreNoted}
-use Rattle.like_roles.specs.service.Likes.{Between, initial_count, likes_below}
-use Rattle.like_roles.specs.service.Service.{Service}
+use Rattle.like_service.specs.Likes.{Between, initial_count, likes_below}
+use Rattle.like_service.specs.Service.{Service}
 use Rattle.like_roles.proofs.counts.RightCounts.{likes_up_to-next}
 use Rattle.like_crew.specs.declared.ended.Ended.{Ended}
 use Rattle.like_crew.specs.declared.site.Site.{Site}
-use Rattle.like_crew.specs.Asked.{service_of}
-use Rattle.like_crew.specs.EndToEnd.{runs_of}
+use Rattle.like_service.specs.Asked.{service_of}
+use Rattle.like_service.specs.EndToEnd.{runs_of}
 use Rattle.like_crew.specs.Ended.{IsEnded, IsSeatOf}
 use Rattle.like_crew.specs.Server.{HasWorkedFor, IsLogOf, ServerView}
-use Rattle.like_crew.specs.Tiling.{StandsInTime, additions_noted, logs_passing, reads_shown}
+use Rattle.like_service.specs.places.Tiling.{StandsInTime, additions_noted, logs_passing, reads_shown}
 use Rattle.like_crew.proofs.additions.AddedPages.{adds-there, none-liked}
 use Rattle.like_crew.proofs.additions.AddedPhases.{of-likes-same, ran-within}
 use Rattle.like_crew.proofs.Makings.{all-back}

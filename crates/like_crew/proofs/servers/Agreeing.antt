@@ -14,15 +14,15 @@ use Rattle.like_core.specs.Post.{pages_of}
 use Rattle.like_core.proofs.PhaseMasks.{masks-before}
 use Rattle.like_queue.specs.Inbox.{HandsOver, InboxView, item_count}
 use Rattle.like_tables.specs.Share.{Share, dealt}
-use Rattle.like_roles.specs.declared.log.Took.{Took}
+use Rattle.like_service.specs.declared.log.Took.{Took}
 use Rattle.like_roles.specs.declared.turn.Turn.{Turn}
 use Rattle.like_roles.specs.declared.turn.Turn.TheVariants as turn
 use Rattle.like_roles.specs.worker.Follows.{Follows, IsAskedBy}
-use Rattle.like_roles.specs.service.Service.{Service, numbered_in, request_at}
+use Rattle.like_service.specs.Service.{Service, numbered_in, request_at}
 use Rattle.like_roles.specs.worker.Turns.{CanGive, Gives, HasTaken, IsNext, Pends, TakesNothing, Turns, with_taken}
 use Rattle.like_requests.specs.Setup.{IsThere}
 use Rattle.like_roles.specs.worker.WorkerView.{WorkerView, phase_at, submitter_at}
-use Rattle.like_crew.specs.Log.{IsRising, numbers_taken}
+use Rattle.like_service.specs.Log.{IsRising, numbers_taken}
 use Rattle.like_crew.specs.Server.{Agree, AgreesAt, AreOwnPlans, WorksFor, numbers_given, plans_of, requests_taken}
 use Rattle.like_crew.proofs.lists.Stepped.{slice_get-set_other, slice_get-set_same}
 use Rattle.like_crew.proofs.servers.Numbers.{count-taken, given-own, numbers-next, numbers-same}

@@ -5,24 +5,22 @@ use Rattle.std.specs.Option.{option_map_or, unwrap_or}
 use Rattle.std.proofs.lemmas.Bool.{cases_Bool, le-ltb, ltb-true}
 use Rattle.std.proofs.lemmas.List.{get_or-replicate, length-map, length-replicate}
 use Rattle.std.proofs.lemmas.Option.{slice_get-map, slice_get_within, get_or_from_slice_get, unwrap_or-slice_get}
-use Rattle.like_requests.specs.Pages.{Page}
+use Rattle.like_requests.specs.Pages.{Page, marks_of}
 use Rattle.like_requests.specs.Setup.{IsPlan, IsThere}
 use Rattle.like_requests.specs.declared.request.Request.{Request}
 use Rattle.like_requests.specs.declared.setup.Setup.{Setup}
 use Rattle.like_core.specs.Post.{PostView}
 use Rattle.like_tables.specs.UserTable.{UserTable}
-use Rattle.like_tables.specs.Share.{share_of}
-use Rattle.like_roles.specs.declared.log.Took.{Took}
+use Rattle.like_tables.specs.Share.{share_of, Share, place_of, serves}
+use Rattle.like_service.specs.declared.log.Took.{Took}
 use Rattle.like_roles.specs.worker.New.{IsNew, IsPostOf}
-use Rattle.like_requests.specs.Pages.{marks_of}
 use Rattle.like_queue.specs.Inbox.{InboxView}
-use Rattle.like_tables.specs.Share.{Share, place_of, serves}
-use Rattle.like_roles.specs.declared.log.WorkerLog.{WorkerLog}
+use Rattle.like_service.specs.declared.log.WorkerLog.{WorkerLog}
 use Rattle.like_roles.specs.worker.Follows.{IsDone}
-use Rattle.like_roles.specs.service.Service.{Service}
+use Rattle.like_service.specs.Service.{Service}
 use Rattle.like_roles.specs.worker.WorkerView.{WorkerView, phase_at}
-use Rattle.like_crew.specs.Log.{IsLog, NoneAbove, TakesPlans, numbers_taken, plan_of}
-use Rattle.like_crew.specs.Server.{Agree, AreInboxesFor, WorksFor, ServerView, plans_of, requests_taken}
+use Rattle.like_service.specs.Log.{IsLog, TakesPlans, numbers_taken, plan_of}
+use Rattle.like_crew.specs.Server.{NoneAbove, Agree, AreInboxesFor, WorksFor, ServerView, plans_of, requests_taken}
 use Rattle.like_crew.proofs.servers.Shares.{plan-at}
 use Rattle.like_crew.proofs.servers.Numbers.{own-place}
 

@@ -3,7 +3,7 @@ use Rattle.std.proofs.Common.{◌≡◌, ℕ, ◌+◌, ◌*◌, ◌≤◌, List,
 use Rattle.like_requests.specs.declared.request.Request.{Request}
 use Rattle.like_queue.specs.Inbox.{InboxView}
 use Rattle.like_tables.proofs.Dealt.{get-dealt}
-use Rattle.like_roles.specs.service.Service.{Service}
+use Rattle.like_service.specs.Service.{Service}
 use Rattle.like_crew.specs.Server.{AreOwnPlans, plans_of, untouched}
 
 -- the plan at a place

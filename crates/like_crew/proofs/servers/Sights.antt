@@ -14,8 +14,8 @@ use Rattle.like_core.specs.Phase.{IsJoined, IsSplit}
 use Rattle.like_core.specs.WorkerState.{IsSightOf, RunsSome, phase_of, seen}
 use Rattle.like_core.specs.Post.{answered, slices}
 use Rattle.like_tables.specs.declared.held.Held.{Held}
-use Rattle.like_roles.specs.declared.log.Took.{Took}
-use Rattle.like_roles.specs.declared.reply.Reply.{Reply}
+use Rattle.like_service.specs.declared.log.Took.{Took}
+use Rattle.like_service.specs.declared.reply.Reply.{Reply}
 use Rattle.like_roles.specs.declared.turn.Turn.{Turn}
 use Rattle.like_roles.specs.declared.turn.Turn.TheVariants as turn
 use Rattle.like_roles.specs.worker.Serve.{Runs, GivesReply, refuses, likes, looks, with_addition, liked}
@@ -23,7 +23,8 @@ use Rattle.like_roles.specs.worker.Turns as turns
 use Rattle.like_roles.specs.worker.Turns.{Gives, TakesAsk, Turns, Works, merged, saw, settled, with_taken, without_first}
 use Rattle.like_roles.specs.worker.WorkerView.{WorkerView, phase_at, submitter_at}
 use Rattle.like_roles.proofs.Effects.{Runs-effects}
-use Rattle.like_crew.specs.Log.{IsRising, NoneAbove}
+use Rattle.like_service.specs.Log.{IsRising}
+use Rattle.like_crew.specs.Server.{NoneAbove}
 
 -- nothing was taken above the phase that was seen last, and that is the one that the worker runs or has answered
 abbrev pub Seen : WorkerState → Option Sight → List Took → Type 0

@@ -3,7 +3,7 @@ ghost use Rattle.like_core.specs.declared.worker_state.WorkerState.TheVariants.{
 ghost use Rattle.like_tables.specs.Share.{share_of};
 ghost use Rattle.like_requests.specs.Setup.{IsWithin};
 ghost use Rattle.like_roles.specs.worker.New.{IsPostOf};
-ghost use Rattle.like_roles.specs.service.Service.{Service};
+ghost use Rattle.like_service.specs.Service.{Service};
 ghost use Rattle.like_roles.specs.worker.Follows.{IsServiceOf};
 ghost use Rattle.like_crew.specs.Server.{AreInboxesFor, AreOwnPlans, IsLogOf, ServerGoesOn, WorksFor};
 ghost use Rattle.like_crew.specs.ServerTurns.{OpensAll, OpensOne, OpensWhole, ServerTurns, place_at};
@@ -11,7 +11,8 @@ ghost use Rattle.like_crew.specs.ServerTurns.{OpensAll, OpensOne, OpensWhole, Se
 use like_core::Post;
 use like_queue::{Inbox, ListInbox, TakeWith};
 use like_requests::Setup;
-use like_roles::{Gate, NoWorker, Turn, Worker, WorkerLog};
+use like_roles::{Gate, NoWorker, Turn, Worker};
+use like_service::WorkerLog;
 use std::alloc::Global;
 use std::marker::Model;
 

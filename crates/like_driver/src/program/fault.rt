@@ -1,6 +1,5 @@
 ghost use Rattle.std.specs.Prelude.{◌≡◌, IsTrue};
-ghost use Rattle.like_driver.specs.Fault.{of_files, program_status};
-ghost use Rattle.like_driver.specs.Fault.{ShowsProgramLine};
+ghost use Rattle.like_driver.specs.Fault.{of_files, program_status, ShowsProgramLine};
 
 use like_files::{DriverFault, WRITE_FAILED};
 use like_words::{OUT_OF_MEMORY, Options, ParseFault};

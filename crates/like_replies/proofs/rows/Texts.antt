@@ -1,5 +1,5 @@
 -- How the text of rows grows, and what was written of it.
-use Rattle.std.proofs.Common.{◌≡◌, ℕ, ◌+◌, cond, refl, List, [], ◌∷◌, ◌++◌, length, map, Option, sym, ap, ◌∙◌, arith, append_assoc, append-nil, zero-add, get_or, subst, ◌<◌, All}
+use Rattle.std.proofs.Common.{◌≡◌, ℕ, ◌+◌, cond, refl, List, [], ◌∷◌, ◌++◌, length, map, Option, sym, ap, ◌∙◌, arith, append_assoc, append-nil, zero-add, get_or, subst, ◌<◌, All, option_map}
 use Rattle.std.proofs.KnownBytes.{Appends-trans}
 use Rattle.std.proofs.lemmas.Grind.{flat_map-append}
 use Rattle.std.proofs.lemmas.List.{length-map, map-append, map-id}
@@ -8,13 +8,12 @@ use Rattle.std.proofs.Math.ListN.{get_or-map}
 use Rattle.std.proofs.lemmas.List.Elements.{filter-append, filter_map-append}
 use Rattle.std.specs.Io.KnownBytes.{Appends}
 use Rattle.std.specs.List.{enumerate_from, filter, filter_map, flat_map, range_with_len}
-use Rattle.std.proofs.Common.{option_map}
 use Rattle.csv.specs.Writing.{default_writer, row_text}
 use Rattle.like_requests.specs.Pages.{Page}
 use Rattle.like_core.specs.Phase.{is_hot}
-use Rattle.like_roles.specs.declared.chosen.Chosen.{Chosen}
-use Rattle.like_collection.specs.declared.answer.Answer.{Answer}
-use Rattle.like_collection.specs.declared.place.Place.{Place}
+use Rattle.like_service.specs.declared.chosen.Chosen.{Chosen}
+use Rattle.like_service.specs.declared.answer.Answer.{Answer}
+use Rattle.like_service.specs.declared.place.Place.{Place}
 use Rattle.like_collection.proofs.Lists.{enumerate_from-append}
 use Rattle.like_replies.specs.PlaceRows.{page_place_rows, place_rows}
 use Rattle.like_replies.specs.Rows.{answer_rows, hot_row, hot_rows, hot_rows_below, liker_rows, page_row, page_rows, reply_row, reply_rows, rows_text, submitter_rows, user_row}

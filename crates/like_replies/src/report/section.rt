@@ -12,9 +12,8 @@ use crate::report::rows::{
     add_header, add_hot, add_page, add_place, add_reply, add_user, start_reply,
 };
 use crate::report::sheet::Sheet;
-use like_collection::{Answer, Place};
 use like_core::is_hot;
-use like_roles::Chosen;
+use like_service::{Answer, Chosen, Place};
 use std::alloc::{AllocError, Global};
 
 /// A section of rows whose text is made at once.

@@ -1,6 +1,6 @@
 ghost use Rattle.std.specs.Prelude.{◌≡◌, if◌then◌else◌, true, [], OnOk, length};
 ghost use Rattle.std.specs.Io.KnownBytes.{Appends};
-ghost use Rattle.like_collection.specs.Places.{lists_in};
+ghost use Rattle.like_service.specs.places.Places.{lists_in};
 ghost use Rattle.like_replies.specs.PlaceRows.{place_rows, text_of};
 ghost use Rattle.like_replies.specs.Reported.{reported};
 ghost use Rattle.like_replies.specs.Rows.{IsWritable, report_text, rows_text};
@@ -9,8 +9,8 @@ use crate::report::names::Names;
 use crate::report::sections::{place_sections, report_sections};
 use crate::report::sheets::{write_rows, write_rows_at_once};
 use crate::write_fault::WriteFault;
-use like_collection::Report;
 use like_requests::Pages;
+use like_service::Report;
 use std::alloc::Global;
 use std::io::Write;
 use std::thread::Threads;

@@ -19,13 +19,14 @@ use Rattle.like_core.specs.declared.view.PageRead.{PageRead}
 use Rattle.like_core.specs.Additions.{added_in, added_before}
 use Rattle.like_core.specs.views.Reads.{AreBetween, IsBetween}
 use Rattle.like_core.proofs.core.Labels.{added_before-next, one_before-next}
-use Rattle.like_roles.specs.declared.log.Ran.{Ran}
-use Rattle.like_roles.specs.declared.reply.Reply.{Reply}
-use Rattle.like_roles.specs.declared.reply.Reply.TheVariants.{Liked, Seen, Refused}
-use Rattle.like_roles.specs.service.Likes.{Between, accepted_like, initial_count, last_like, like_ran, likes_among, likes_below, likes_up_to, likes_within}
-use Rattle.like_roles.specs.service.Looks.{ShownCount, accepted_look, count_in, look_ran, shown_at, shown_by, shown_in, shown_to}
-use Rattle.like_roles.specs.service.Replies.{Answers, HasRightAnswers, HasRightCounts, IsSeen, page_looked_at}
-use Rattle.like_roles.specs.service.Service.{Service, request_of, submitters}
+use Rattle.like_service.specs.declared.log.Ran.{Ran}
+use Rattle.like_service.specs.declared.reply.Reply.{Reply}
+use Rattle.like_service.specs.declared.reply.Reply.TheVariants.{Liked, Seen, Refused}
+use Rattle.like_service.specs.Likes.{Between, accepted_like, initial_count, last_like, like_ran, likes_among, likes_below, likes_up_to, likes_within}
+use Rattle.like_service.specs.places.Looks.{ShownCount, accepted_look, count_in, look_ran, shown_at, shown_in, shown_to}
+use Rattle.like_roles.specs.worker.Follows.{shown_by}
+use Rattle.like_service.specs.Replies.{Answers, HasRightAnswers, HasRightCounts, IsSeen, page_looked_at}
+use Rattle.like_service.specs.Service.{Service, request_of, submitters}
 use Rattle.like_roles.proofs.counts.Tallied.{accepted-true, likes_among-append, within-none}
 
 -- what a test finds among numbers stands in the list of what it finds

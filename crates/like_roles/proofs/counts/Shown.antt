@@ -8,11 +8,12 @@ use Rattle.std.specs.Prelude.{option_and_then, option_map}
 use Rattle.like_core.specs.declared.view.Addition.{Addition}
 use Rattle.like_core.specs.declared.view.PageRead.{PageRead}
 use Rattle.like_core.specs.Additions.{added_in}
-use Rattle.like_roles.specs.declared.log.Ran.{Ran}
-use Rattle.like_roles.specs.service.Likes.{likes_within}
-use Rattle.like_roles.specs.service.Looks.{look_ran, count_in, shown_to, shown_at, shown_in, shown_by}
-use Rattle.like_roles.specs.service.Service.{Service}
-use Rattle.like_roles.proofs.Lists.{slice_get-at_end, slice_get-before}
+use Rattle.like_service.specs.declared.log.Ran.{Ran}
+use Rattle.like_service.specs.Likes.{likes_within}
+use Rattle.like_service.specs.places.Looks.{look_ran, count_in, shown_to, shown_at, shown_in}
+use Rattle.like_roles.specs.worker.Follows.{shown_by}
+use Rattle.like_service.specs.Service.{Service}
+use Rattle.like_service.proofs.Lists.{slice_get-at_end, slice_get-before}
 
 module _ {Y : Type 0} where
   -- what is put before what is there

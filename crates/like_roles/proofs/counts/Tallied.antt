@@ -22,19 +22,19 @@ use Rattle.like_core.specs.Post.{additions_of, additions_in, pages_of}
 use Rattle.like_core.proofs.core.Labels.{added_to-push, added_in-push}
 use Rattle.like_tables.specs.UserTable.{last_of}
 use Rattle.like_tables.specs.declared.held.Held.{Held}
-use Rattle.like_roles.specs.declared.log.Ran.{Ran}
-use Rattle.like_roles.specs.declared.reply.Reply.{Reply}
-use Rattle.like_roles.specs.declared.reply.Reply.TheVariants as reply
+use Rattle.like_service.specs.declared.log.Ran.{Ran}
+use Rattle.like_service.specs.declared.reply.Reply.{Reply}
+use Rattle.like_service.specs.declared.reply.Reply.TheVariants as reply
 use Rattle.like_core.specs.PhaseMasks.{AreMasksOf}
-use Rattle.like_roles.specs.worker.Follows.{IsAsked, IsServed, IsSized, IsTallied}
-use Rattle.like_roles.specs.service.Likes.{AcceptedLike, accepted_like, last_like, last_page, like_ran, likes_among, likes_ran, likes_within, page_likes}
-use Rattle.like_roles.specs.service.Looks.{ShownCount, accepted_look, look_ran, shown_by, shown_in, shown_to}
-use Rattle.like_roles.specs.service.Replies.{Answers, HasRightAnswers, IsRightAnswer, page_looked_at}
+use Rattle.like_roles.specs.worker.Follows.{IsAsked, IsServed, IsSized, IsTallied, shown_by}
+use Rattle.like_service.specs.Likes.{AcceptedLike, accepted_like, last_like, last_page, like_ran, likes_among, likes_ran, likes_within, page_likes}
+use Rattle.like_service.specs.places.Looks.{ShownCount, accepted_look, look_ran, shown_in, shown_to}
+use Rattle.like_service.specs.Replies.{Answers, HasRightAnswers, IsRightAnswer, page_looked_at}
 use Rattle.like_roles.specs.worker.Serve.{GivesReply, refuses, likes, looks, with_addition, counted, liked, shown, ran_now, verdict_at}
-use Rattle.like_roles.specs.service.Service.{Service, marks, request_of, submitters}
+use Rattle.like_service.specs.Service.{Service, marks, request_of, submitters}
 use Rattle.like_requests.specs.Setup.{IsThere}
 use Rattle.like_roles.specs.worker.WorkerView.{WorkerView, phase_at}
-use Rattle.like_roles.proofs.Lists.{last_in-push, slice_get-at_end, slice_get-before}
+use Rattle.like_service.proofs.Lists.{last_in-push, slice_get-at_end, slice_get-before}
 use Rattle.like_roles.proofs.Served.{counted_by}
 use Rattle.like_seat.proofs.MergedLikes.{cond_same}
 use Rattle.like_roles.proofs.counts.Shown.{after-more, shown_by-more, shown_in-none, shown_in-push}

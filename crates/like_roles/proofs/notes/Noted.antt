@@ -11,16 +11,16 @@ use Rattle.std.specs.Prelude.{option_and_then, option_map}
 use Rattle.like_core.specs.declared.view.Addition.{Addition}
 use Rattle.like_core.specs.declared.view.PageRead.{PageRead}
 use Rattle.like_core.proofs.views.KeptPlaces.{counts_one}
-use Rattle.like_roles.specs.declared.log.Added.{Added}
-use Rattle.like_roles.specs.declared.log.Ran.{Ran}
-use Rattle.like_roles.specs.service.Adds.{IsOfLikes, addition_of, is_add_to, adds_to, adds_at, adds_before, adds_before_look, adds_before_looks, likes_at}
+use Rattle.like_service.specs.declared.log.Added.{Added}
+use Rattle.like_service.specs.declared.log.Ran.{Ran}
+use Rattle.like_service.specs.places.Adds.{IsOfLikes, addition_of, is_add_to, adds_to, adds_at, adds_before, adds_before_look, adds_before_looks, likes_at}
 use Rattle.like_roles.specs.worker.Follows.{IsNoted}
-use Rattle.like_roles.specs.service.Likes.{likes_within}
-use Rattle.like_roles.specs.service.Looks.{look_ran}
+use Rattle.like_service.specs.Likes.{likes_within}
+use Rattle.like_service.specs.places.Looks.{look_ran}
 use Rattle.like_roles.specs.worker.Serve.{noted, noted_at}
-use Rattle.like_roles.specs.service.Service.{Service, is_split_in}
+use Rattle.like_service.specs.Service.{Service, is_split_in}
 use Rattle.like_roles.specs.worker.WorkerView.{WorkerView}
-use Rattle.like_roles.proofs.Lists.{slice_get-at_end, slice_get-before}
+use Rattle.like_service.proofs.Lists.{slice_get-at_end, slice_get-before}
 use Rattle.like_roles.proofs.counts.Shown.{range-more, range-same}
 
 module _ {A : Type 0} where

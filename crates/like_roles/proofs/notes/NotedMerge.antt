@@ -12,13 +12,13 @@ use Rattle.like_core.specs.declared.worker_state.WorkerState.TheVariants as stat
 use Rattle.like_core.specs.Additions.{added_in}
 use Rattle.like_core.specs.Post.{additions_in, pages_of, slices}
 use Rattle.like_core.proofs.core.Labels.{one_before-next}
-use Rattle.like_roles.specs.declared.log.Added.{Added}
-use Rattle.like_roles.specs.declared.log.Ran.{Ran}
-use Rattle.like_roles.specs.service.Adds.{IsOfLikes, addition_of, is_add_to, adds_to}
+use Rattle.like_service.specs.declared.log.Added.{Added}
+use Rattle.like_service.specs.declared.log.Ran.{Ran}
+use Rattle.like_service.specs.places.Adds.{IsOfLikes, addition_of, is_add_to, adds_to}
 use Rattle.like_roles.specs.worker.Follows.{IsNoted, IsTallied, IsUnmerged}
-use Rattle.like_roles.specs.service.Likes.{likes_within}
+use Rattle.like_service.specs.Likes.{likes_within}
 use Rattle.like_roles.specs.worker.Serve.{noted, noted_at}
-use Rattle.like_roles.specs.service.Service.{Service, is_split_in}
+use Rattle.like_service.specs.Service.{Service, is_split_in}
 use Rattle.like_seat.specs.Merge.{Merges, from_zero, merging, slice_addition}
 use Rattle.like_roles.specs.worker.WorkerView.{WorkerView, phase_at}
 use Rattle.like_seat.specs.SeatView.{IsSliceInSplit}

@@ -14,15 +14,15 @@ use Rattle.like_core.specs.declared.worker_state.WorkerState.TheVariants as stat
 use Rattle.like_core.specs.WorkerState.{RunsSome, phase_of, seen}
 use Rattle.like_core.specs.Post.{slices}
 use Rattle.like_tables.specs.declared.held.Held.{Held}
-use Rattle.like_roles.specs.declared.log.Added.{Added}
-use Rattle.like_roles.specs.declared.log.Ran.{Ran}
-use Rattle.like_roles.specs.declared.reply.Reply.{Reply}
-use Rattle.like_roles.specs.service.Adds.{IsOfLikes, addition_of, is_add_to, adds_to, adds_before, adds_before_looks}
+use Rattle.like_service.specs.declared.log.Added.{Added}
+use Rattle.like_service.specs.declared.log.Ran.{Ran}
+use Rattle.like_service.specs.declared.reply.Reply.{Reply}
+use Rattle.like_service.specs.places.Adds.{IsOfLikes, addition_of, is_add_to, adds_to, adds_before, adds_before_looks}
 use Rattle.like_roles.specs.worker.Follows.{IsAsked, IsNoted, IsServed, IsUnmerged}
-use Rattle.like_roles.specs.service.Likes.{AcceptedLike, like_ran, likes_within}
-use Rattle.like_roles.specs.service.Looks.{look_ran}
+use Rattle.like_service.specs.Likes.{AcceptedLike, like_ran, likes_within}
+use Rattle.like_service.specs.places.Looks.{look_ran}
 use Rattle.like_roles.specs.worker.Serve.{GivesReply, refuses, likes, looks, with_addition, counted, noted_at, ran_now}
-use Rattle.like_roles.specs.service.Service.{Service, is_split_in, submitters}
+use Rattle.like_service.specs.Service.{Service, is_split_in, submitters}
 use Rattle.like_roles.specs.worker.WorkerView.{WorkerView, phase_at}
 use Rattle.like_roles.proofs.notes.Noted.{AddsLikes, apart, count-all, count-none, looks-adds, looks-push, no-more, none-passes, noted-each, noted-push}
 use Rattle.like_roles.proofs.counts.Tallied.{accepted-false, accepted-true, like_ran-is, look_ran-is, verdict_at-served, within-none, within-one}

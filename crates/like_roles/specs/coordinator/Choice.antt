@@ -6,9 +6,9 @@ use Rattle.like_core.specs.Limits.{hot_pages}
 use Rattle.like_core.specs.Phase.{IsJoined, IsSplit}
 use Rattle.like_core.specs.PhaseMasks.{mask_of}
 use Rattle.like_core.specs.views.Views.{published_coord, released_coord}
-use Rattle.like_roles.specs.declared.chosen.Chosen.{Chosen}
+use Rattle.like_service.specs.declared.chosen.Chosen.{Chosen}
 use Rattle.like_seat.specs.Lead.{LeadView, counted_from, of_hot_pages, risen}
-use Rattle.like_roles.specs.service.HotPages.{chosen_below, hot_by, max_chosen}
+use Rattle.like_service.specs.HotPages.{chosen_below, hot_by, max_chosen}
 
 -- what the coordinator chooses by: how many likes make a page hot, if any do; the counts at its last choice of the pages
 -- that may be hot; and the choices of some page, in order

@@ -1,5 +1,5 @@
 -- What a worker has done, as the plans of its submitters say it should.
-use Rattle.std.specs.Prelude.{◌≡◌, ℕ, ◌+◌, ◌%◌, ◌≤◌, ◌==◌, if◌then◌else◌, true, false, List, [], ◌++◌, length, map, slice_index, All, Some, ⊤}
+use Rattle.std.specs.Prelude.{◌≡◌, ℕ, ◌+◌, ◌%◌, ◌≤◌, ◌==◌, if◌then◌else◌, true, false, List, [], ◌++◌, length, map, slice_index, take, All, Some, ⊤}
 use Rattle.like_requests.specs.declared.setup.Setup.{Setup}
 use Rattle.like_requests.specs.declared.request.Taken.{Taken}
 use Rattle.like_requests.specs.declared.request.Taken.TheVariants as taken
@@ -8,20 +8,21 @@ use Rattle.like_core.specs.declared.view.PageRead.{PageRead}
 use Rattle.like_core.specs.declared.worker_state.WorkerState.{WorkerState}
 use Rattle.like_core.specs.declared.worker_state.WorkerState.TheVariants.{Runs, Answered, Gone}
 use Rattle.like_core.specs.Phase.{IsJoined, IsSplit}
+use Rattle.like_core.specs.Additions.{added_in}
 use Rattle.like_core.specs.PhaseMasks.{AreMasksOf}
 use Rattle.like_core.specs.WorkerState.{IsRunning, RunsJoined}
 use Rattle.like_core.specs.Post.{additions_of, additions_in, pages_of}
 use Rattle.like_tables.specs.UserTable.{last_of}
 use Rattle.like_tables.specs.declared.held.Held.{Held}
-use Rattle.like_roles.specs.declared.log.Added.{Added}
-use Rattle.like_roles.specs.declared.log.Ran.{Ran}
-use Rattle.like_roles.specs.declared.log.Took.{Took}
-use Rattle.like_roles.specs.service.Adds.{IsOfLikes, AreOfLikes, addition_of, adds_at, adds_before_looks, adds_to, likes_at}
-use Rattle.like_roles.specs.service.Likes.{last_like, likes_among, likes_within}
-use Rattle.like_roles.specs.service.Looks.{shown_by, shown_in}
-use Rattle.like_roles.specs.service.Order.{Entry, block, entry_of, order, order_below, stashed_in}
-use Rattle.like_roles.specs.service.Replies.{HasRightAnswers}
-use Rattle.like_roles.specs.service.Service.{Service, is_split_in, marks, request_at, submitters}
+use Rattle.like_service.specs.declared.log.Added.{Added}
+use Rattle.like_service.specs.declared.log.Ran.{Ran}
+use Rattle.like_service.specs.declared.log.Took.{Took}
+use Rattle.like_service.specs.places.Adds.{IsOfLikes, AreOfLikes, addition_of, adds_at, adds_before_looks, adds_to, likes_at}
+use Rattle.like_service.specs.Likes.{last_like, likes_among, likes_within}
+use Rattle.like_service.specs.places.Looks.{ShownCount, shown_in}
+use Rattle.like_service.specs.Order.{Entry, block, entry_of, order, order_below, stashed_in}
+use Rattle.like_service.specs.Replies.{HasRightAnswers}
+use Rattle.like_service.specs.Service.{Service, is_split_in, marks, request_at, submitters}
 use Rattle.like_requests.specs.Setup.{IsThere}
 use Rattle.like_roles.specs.worker.WorkerView.{WorkerView, TookAllEnds, phase_at, submitter_at}
 
@@ -38,6 +39,15 @@ pub record IsServed (service : Service) (v : WorkerView) : Type 0 where
 pub record IsSized (v : WorkerView) : Type 0 where
   pub slice : length v.slice ≡ pages_of v.post
   pub users : length v.last.last ≡ v.last.share.users
+
+-- what a read of a post with these additions shows
+abbrev pub shown_by : List Addition → PageRead → ShownCount
+shown_by additions r = record {
+  phase = r.phase;
+  page = r.page;
+  count = r.count;
+  before = added_in r.phase r.page (take r.after additions);
+}
 
 -- likes: the accepted likes of each page that it ran are as many as its post's additions and its slice together, and so
 -- are those of each phase, where the slice is of the present one; the accepted looks that it ran are the post's reads, in

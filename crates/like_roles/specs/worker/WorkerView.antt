@@ -8,10 +8,10 @@ use Rattle.like_tables.specs.Share.{submitter_of}
 use Rattle.like_tables.specs.declared.held.Held.{Held}
 use Rattle.like_tables.specs.UserTable.{UserTable}
 use Rattle.like_tables.specs.Waiting.{Waiting}
-use Rattle.like_roles.specs.declared.log.Added.{Added}
-use Rattle.like_roles.specs.declared.log.Ran.{Ran}
-use Rattle.like_roles.specs.declared.log.Took.{Took}
-use Rattle.like_roles.specs.service.Order.{is_look_at_sliced}
+use Rattle.like_service.specs.declared.log.Added.{Added}
+use Rattle.like_service.specs.declared.log.Ran.{Ran}
+use Rattle.like_service.specs.declared.log.Took.{Took}
+use Rattle.like_service.specs.Order.{is_look_at_sliced}
 
 -- its post; the looks that it holds, which are its stash in a split phase and its backlog in a joined one; its slice, a
 -- number for each page; for each of its submitters by place, how many requests of it were not taken yet and whether its

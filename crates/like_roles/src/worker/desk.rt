@@ -9,9 +9,9 @@ mod request;
 mod taken;
 mod turns;
 
-use crate::log::{Added, Ran, Took};
 use like_core::Post;
 use like_seat::Seat;
+use like_service::{Added, Ran, Took};
 use like_tables::Held;
 
 /// What a worker keeps, beside its seat: of its submitters' plans, and of what it has done.

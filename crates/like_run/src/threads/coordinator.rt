@@ -7,7 +7,8 @@ use crate::threads::worker::{Owes, Served};
 use like_board::WorkerSeat;
 use like_crew::Captain;
 use like_lines::Parkers;
-use like_roles::{CoordTurn, WorkerLog};
+use like_roles::CoordTurn;
+use like_service::WorkerLog;
 use std::sync::{OnceToken, Wait};
 use std::thread::{PromisedHandle, Threads};
 

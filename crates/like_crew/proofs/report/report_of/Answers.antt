@@ -5,15 +5,14 @@ use Rattle.like_requests.specs.Verdict.{home}
 use Rattle.like_requests.specs.declared.request.Request.{Request}
 use Rattle.like_requests.specs.declared.setup.Setup.{Setup}
 use Rattle.like_core.specs.declared.opening.Opening.{Opening}
-use Rattle.like_collection.specs.Collected.{IsCollected, rows_of}
-use Rattle.like_collection.specs.Entries.{entries_in}
-use Rattle.like_collection.specs.Places.{ArePlaces, lists_in}
-use Rattle.like_roles.specs.declared.log.Added.{Added}
-use Rattle.like_roles.specs.declared.log.WorkerLog.{WorkerLog}
+use Rattle.like_service.specs.Collected.{IsCollected, rows_of, entries_in}
+use Rattle.like_service.specs.places.Places.{ArePlaces, lists_in}
+use Rattle.like_service.specs.declared.log.Added.{Added}
+use Rattle.like_service.specs.declared.log.WorkerLog.{WorkerLog}
 use Rattle.like_tables.specs.Share.{worker_of}
-use Rattle.like_crew.specs.Asked.{asked, lists_of}
+use Rattle.like_service.specs.Asked.{asked, lists_of}
 use Rattle.like_crew.specs.Gathered.{AreTables, RunsOnce}
-use Rattle.like_crew.specs.EndToEnd.{runs_of}
+use Rattle.like_service.specs.EndToEnd.{runs_of}
 use Rattle.like_crew.proofs.additions.Tiled.{all-there, of-likes, placed-are, stand-are, tiles-are}
 use Rattle.like_crew.proofs.Whole.{all-gone, none-noted, all-here, are-all, chosen-are, counts-are, known, last-likes-are, log-at, logs-are, logs-size, runs-once, seen-counts, tables}
 use Rattle.like_crew.proofs.report.report_of.Goals as goal

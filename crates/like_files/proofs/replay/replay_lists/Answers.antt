@@ -1,7 +1,7 @@
 use Rattle.std.proofs.lemmas.Result.{err_from_is_err_and}
 use Rattle.like_requests.proofs.Planned.{plans-within}
-use Rattle.like_crew.specs.Asked.{asked, lists_of}
-use Rattle.like_crew.specs.EndToEnd.{runs_of}
+use Rattle.like_service.specs.Asked.{asked, lists_of}
+use Rattle.like_service.specs.EndToEnd.{runs_of}
 use Rattle.like_files.proofs.Ended.{few_requests, one_list_a_page, replay-refused, replay-unwritten}
 use Rattle.like_files.proofs.Writable.{IsWritable-end_to_end}
 use Rattle.like_files.proofs.replay.replay_lists.Goals as goal

@@ -2,7 +2,7 @@ use Rattle.std.proofs.Common.{None, Option, Result, Ok, Err, IfErr, IfOk, List, 
 use Rattle.std.proofs.lemmas.Result.{err_from_is_err_and}
 use Rattle.like_requests.specs.Pages.{Page}
 use Rattle.like_requests.specs.declared.request.Request.{Request}
-use Rattle.like_crew.specs.Asked.{lists_of}
+use Rattle.like_service.specs.Asked.{lists_of}
 use Rattle.like_replies.specs.declared.summary.Summary.{Summary}
 use Rattle.like_words.specs.declared.options.Options.{Options}
 use Rattle.like_files.specs.declared.fault.DriverFault.{DriverFault}

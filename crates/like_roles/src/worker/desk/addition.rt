@@ -1,8 +1,8 @@
 ghost use Rattle.std.specs.Prelude.{◌≡◌, ◌<◌, ◌+◌, ◌^◌, [], ◌∷◌, ◌++◌, true, length, vec_len, vec_capacity};
 ghost use Rattle.like_roles.specs.worker.Serve.{noted_if};
 
-use crate::log::Added;
 use crate::worker::desk::Desk;
+use like_service::Added;
 
 impl Desk {
     // Notes an addition of n to a page's count, which was this before, where additions are noted.

@@ -4,16 +4,15 @@ ghost use Rattle.like_core.specs.WorkerState.{IsRunning};
 ghost use Rattle.like_requests.specs.Setup.{IsThere};
 ghost use Rattle.like_tables.specs.Share.{owns};
 ghost use Rattle.like_roles.specs.worker.Desk.{view_of, CanServe, HasRoomForOne, HasRoomToNote, IsJudged, IsSettled};
-ghost use Rattle.like_roles.specs.service.Order.{is_look_at_sliced};
+ghost use Rattle.like_service.specs.Order.{is_look_at_sliced};
 ghost use Rattle.like_roles.specs.worker.Serve.{Likes, Runs, GivesReply};
 
 use crate::gate::Gate;
-use crate::log::Ran;
-use crate::reply::Reply;
 use crate::worker::desk::{Desk, phase_of_run};
 use like_core::Post;
 use like_requests::{Op, PageRef, Verdict};
 use like_seat::Seat;
+use like_service::{Ran, Reply};
 use like_tables::Held;
 
 // Whether a request with this verdict has to wait for the next joined phase: an accepted look at a page that is split in

@@ -4,7 +4,7 @@ use Rattle.std.specs.declared.thread.PromisedHandle.{PromisedHandle}
 use Rattle.like_run.specs.declared.threads.worker.Owes.{Owes}
 use Rattle.like_run.specs.declared.threads.worker.Served.{Served}
 use Rattle.like_board.specs.declared.worker_seat.WorkerSeat.{WorkerSeat}
-use Rattle.like_roles.specs.declared.log.WorkerLog.{WorkerLog}
+use Rattle.like_service.specs.declared.log.WorkerLog.{WorkerLog}
 use Rattle.like_crew.specs.Ended.{HaveLeft}
 use Rattle.like_crew.specs.Server.{ServerView}
 use Rattle.like_run.proofs.threads.in_scope.Goals as goal

@@ -3,10 +3,11 @@ use Rattle.std.proofs.lemmas.Result.{err_from_is_err_and}
 use Rattle.like_requests.specs.Setup.{IsFirstBroken, IsWithinLimits}
 use Rattle.like_requests.specs.declared.request.Request.{Request}
 use Rattle.like_requests.specs.declared.setup.Setup.{Setup}
-use Rattle.like_collection.specs.declared.report.Report.{Report}
-use Rattle.like_run.specs.declared.threads.fault.RunFault.{RunFault}
-use Rattle.like_run.specs.declared.threads.fault.RunFault.TheVariants.{Settings, Memory, Start}
-use Rattle.like_run.specs.Threads.{IsRunFaultUnderWay, IsRunFault}
+use Rattle.like_service.specs.declared.report.Report.{Report}
+use Rattle.like_service.specs.declared.run_fault.RunFault.{RunFault}
+use Rattle.like_service.specs.declared.run_fault.RunFault.TheVariants.{Settings, Memory, Start}
+use Rattle.like_run.specs.Threads.{IsRunFaultUnderWay}
+use Rattle.like_service.specs.RunFault.{IsRunFault}
 use Rattle.like_run.proofs.threads.run_with.Goals as goal
 
 abbrev requests_of : Vec Request Global → List Request

@@ -3,7 +3,7 @@ use Rattle.std.proofs.lemmas.List.{length-map}
 use Rattle.like_requests.specs.Setup.{IsWithinLimits}
 use Rattle.like_requests.specs.declared.request.Request.{Request}
 use Rattle.like_script.specs.Fit.{IsInRun}
-use Rattle.like_crew.specs.Asked.{lists_of}
+use Rattle.like_service.specs.Asked.{lists_of}
 use Rattle.like_crew.proofs.Asked.{requests_of}
 use Rattle.like_run.proofs.Entries.{can-make}
 use Rattle.test_runs.proofs.turns.answers_within.Goals as goal

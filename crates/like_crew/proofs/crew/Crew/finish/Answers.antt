@@ -1,7 +1,7 @@
 use Rattle.std.proofs.Common.{Vec, Global, sym, subst}
 use Rattle.std.specs.List.{AllZip}
 use Rattle.like_board.specs.declared.worker_seat.WorkerSeat.{WorkerSeat}
-use Rattle.like_roles.specs.declared.log.WorkerLog.{WorkerLog}
+use Rattle.like_service.specs.declared.log.WorkerLog.{WorkerLog}
 use Rattle.like_crew.specs.Server.{IsLogOf}
 use Rattle.like_crew.specs.Ended.{IsSeatOf}
 use Rattle.like_crew.proofs.Coordinated.{captain-same}

@@ -11,11 +11,11 @@ use Rattle.like_core.specs.Post.{PostView}
 use Rattle.like_queue.specs.Inbox.{InboxView}
 use Rattle.like_tables.specs.Share.{dealt, share_of}
 use Rattle.like_tables.proofs.Dealt.{map-dealt}
-use Rattle.like_roles.specs.service.Service.{Service}
+use Rattle.like_service.specs.Service.{Service}
 use Rattle.like_roles.specs.worker.Follows.{IsServiceOf}
 use Rattle.like_roles.specs.worker.New.{IsPostOf}
 use Rattle.like_crew.specs.Servers.{IsServer}
-use Rattle.like_crew.specs.Asked.{service_of}
+use Rattle.like_service.specs.Asked.{service_of}
 use Rattle.like_crew.specs.Server.{AreInboxesFor, AreOwnPlans, AreUntouched, ServerView, WorksFor, plans_of}
 use Rattle.like_crew.proofs.Makings.{hand-at, inboxes-for, is-server, one-pushed, remove-drop}
 use Rattle.like_crew.proofs.crew.new_servers.servers_of.Goals as goal

@@ -1,10 +1,9 @@
 use Rattle.std.proofs.Common.{◌≡◌, ◌<◌, refl, ap, sym, subst, ◌∙◌}
-use Rattle.like_seat.specs.SeatView.{SeatView}
+use Rattle.like_seat.specs.SeatView.{SeatView, likes_of}
 use Rattle.like_seat.specs.Steps.{CountsLike}
 use Rattle.like_live.specs.declared.asked.Asked.{Asked}
 use Rattle.like_live.specs.Calls.{liked}
 use Rattle.like_live.specs.LiveView.{LiveView, with_seat}
-use Rattle.like_seat.specs.SeatView.{likes_of}
 use Rattle.like_live.proofs.Requests.{not-full}
 use Rattle.like_live.proofs.live_seat.LiveSeat.like_now.Goals as goal
 

@@ -3,7 +3,7 @@ use Rattle.std.specs.Prelude.{ℕ, zero, suc, Bool, List, length, slice_get, Opt
 use Rattle.like_requests.specs.Pages.{Page, marks_of}
 use Rattle.like_requests.specs.declared.request.Request.{Request}
 use Rattle.like_core.specs.Phase.{is_marked, split}
-use Rattle.like_roles.specs.declared.log.Ran.{Ran}
+use Rattle.like_service.specs.declared.log.Ran.{Ran}
 
 -- so many users, these pages, room for so many looks that wait at each worker, the mask of each phase's hot pages, and the
 -- plan of each submitter: its requests in their order

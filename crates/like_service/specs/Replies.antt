@@ -8,11 +8,11 @@ use Rattle.like_requests.specs.declared.request.PageRef.TheVariants.{Known, Unkn
 use Rattle.like_requests.specs.declared.request.Request.{Request}
 use Rattle.like_requests.specs.declared.verdict.Verdict.{Verdict}
 use Rattle.like_requests.specs.declared.verdict.Verdict.TheVariants.{Accepted, UnknownUser, OtherHome, UnknownPage}
-use Rattle.like_roles.specs.declared.reply.Reply.{Reply}
-use Rattle.like_roles.specs.declared.reply.Reply.TheVariants.{Liked, Seen, Refused}
-use Rattle.like_roles.specs.declared.log.Ran.{Ran}
-use Rattle.like_roles.specs.service.Service.{Service, submitters, request_of}
-use Rattle.like_roles.specs.service.Likes.{Between, last_like, likes_within}
+use Rattle.like_service.specs.declared.reply.Reply.{Reply}
+use Rattle.like_service.specs.declared.reply.Reply.TheVariants.{Liked, Seen, Refused}
+use Rattle.like_service.specs.declared.log.Ran.{Ran}
+use Rattle.like_service.specs.Service.{Service, submitters, request_of}
+use Rattle.like_service.specs.Likes.{Between, last_like, likes_within}
 
 -- the reply is that of a look, and shows a last like and a count of which these facts hold
 abbrev pub IsSeen : Reply → (Option ℕ → Type 0) → (ℕ → Type 0) → Type 0

@@ -5,8 +5,8 @@ use Rattle.like_requests.specs.declared.request.Op.{Op}
 use Rattle.like_requests.specs.declared.request.Op.TheVariants.{Like, Look}
 use Rattle.like_requests.specs.declared.request.PageRef.TheVariants.{Known}
 use Rattle.like_requests.specs.declared.request.Request.{Request}
-use Rattle.like_roles.specs.declared.log.Took.{Took}
-use Rattle.like_roles.specs.service.Order.{Entry, order}
+use Rattle.like_service.specs.declared.log.Took.{Took}
+use Rattle.like_service.specs.Order.{Entry, order}
 
 -- a page without a name
 abbrev page : ℕ → Bool → Page

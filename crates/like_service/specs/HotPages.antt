@@ -3,10 +3,10 @@ use Rattle.std.specs.Prelude.{ℕ, ◌+◌, ◌%◌, ◌==◌, ◌||◌, nat_lt,
 use Rattle.std.specs.List.{range_with_len, sum_by}
 use Rattle.like_core.specs.Limits.{hot_pages}
 use Rattle.like_core.specs.word.ShownWord.{mask}
-use Rattle.like_roles.specs.declared.chosen.Chosen.{Chosen}
-use Rattle.like_roles.specs.declared.log.Ran.{Ran}
-use Rattle.like_roles.specs.service.Likes.{likes_among}
-use Rattle.like_roles.specs.service.Service.{Service}
+use Rattle.like_service.specs.declared.chosen.Chosen.{Chosen}
+use Rattle.like_service.specs.declared.log.Ran.{Ran}
+use Rattle.like_service.specs.Likes.{likes_among}
+use Rattle.like_service.specs.Service.{Service}
 
 -- at most so many phases have hot pages
 abbrev pub max_chosen : ℕ

@@ -1,27 +1,10 @@
--- What the entries of run lists are collected to: the answer of each request, or why there is not one of each.
-use Rattle.std.specs.Prelude.{◌≡◌, ◌≢◌, ℕ, zero, suc, List, [], ◌∷◌, ◌++◌, length, map, slice_get, slice_index_or, Option, None, ⊤}
-use Rattle.std.specs.Option.{option_to_list}
-use Rattle.like_roles.specs.declared.log.Ran.{Ran}
-use Rattle.like_collection.specs.declared.answer.Answer.{Answer}
+-- Why entries of run lists give not one answer for each request.
+use Rattle.std.specs.Prelude.{◌≡◌, ◌≢◌, ℕ, List, [], ◌∷◌, ◌++◌, ⊤}
+use Rattle.like_service.specs.declared.log.Ran.{Ran}
 use Rattle.like_collection.specs.declared.collect_fault.CollectFault.{CollectFault}
 use Rattle.like_collection.specs.declared.collect_fault.CollectFault.TheVariants.{Stranger, Double, Missing, Memory}
-use Rattle.like_collection.specs.declared.replies.Replies.{Replies}
-use Rattle.like_collection.specs.Entries.{AreGood, IsRequest, Precedes, answer_of, entries_of}
-
--- the answers by submitter and number, as lists
-abbrev pub rows_of : Replies → List (List Answer)
-rows_of replies = map (λ row. row.items) replies.rows.items
-
--- the answer of a submitter's request with this number, if there is one
-abbrev pub answer_at : List (List Answer) → ℕ → ℕ → Option Answer
-answer_at rows submitter zero = None
-answer_at rows submitter (suc place) = slice_get (slice_index_or rows submitter []) place
-
--- there is an answer for each request, and that is the answer of its only entry; nothing else has an entry
-pub record IsCollected (sizes : List ℕ) (entries : List Ran) (rows : List (List Answer)) : Type 0 where
-  pub sized : map length rows ≡ sizes
-  pub each : (submitter number : ℕ)
-      → map answer_of (entries_of submitter number entries) ≡ option_to_list (answer_at rows submitter number)
+use Rattle.like_collection.specs.Entries.{AreGood, IsRequest, Precedes}
+use Rattle.like_service.specs.Collected.{entries_of}
 
 -- the first bad entry has this submitter and number: the entries before it are good, and with them the fact makes it bad
 pub record IsFirstBadEntry (sizes : List ℕ) (entries : List Ran) (submitter number : ℕ)

@@ -3,9 +3,9 @@ use Rattle.std.specs.Prelude.{List, Vec, map}
 use Rattle.std.specs.declared.alloc.Global.{Global}
 use Rattle.like_requests.specs.declared.request.Request.{Request}
 use Rattle.like_requests.specs.declared.setup.Setup.{Setup}
-use Rattle.like_roles.specs.declared.log.Ran.{Ran}
-use Rattle.like_roles.specs.service.HotPages.{hot_in}
-use Rattle.like_roles.specs.service.Service.{Service}
+use Rattle.like_service.specs.declared.log.Ran.{Ran}
+use Rattle.like_service.specs.HotPages.{hot_in}
+use Rattle.like_service.specs.Service.{Service}
 
 -- the run of these users, pages and stash, and of these lists of requests, in which no page is hot
 abbrev pub service_of : Setup → List (List Request) → Service

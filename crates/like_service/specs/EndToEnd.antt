@@ -4,19 +4,18 @@ use Rattle.std.specs.Option.{option_map_or}
 use Rattle.like_requests.specs.Verdict.{home}
 use Rattle.like_core.specs.Phase.{IsJoined}
 use Rattle.like_tables.specs.Share.{worker_of}
-use Rattle.like_roles.specs.declared.log.Ran.{Ran}
-use Rattle.like_roles.specs.declared.log.WorkerLog.{WorkerLog}
-use Rattle.like_roles.specs.service.Likes.{initial_count, last_like, likes}
-use Rattle.like_roles.specs.service.Replies.{HasRightCounts}
-use Rattle.like_roles.specs.service.HotPages.{chosen_below}
-use Rattle.like_roles.specs.service.Service.{Service, submitters}
-use Rattle.like_collection.specs.declared.report.Report.{Report}
-use Rattle.like_collection.specs.Collected.{IsCollected, rows_of}
-use Rattle.like_collection.specs.Entries.{entries_in}
+use Rattle.like_service.specs.declared.log.Ran.{Ran}
+use Rattle.like_service.specs.declared.log.WorkerLog.{WorkerLog}
+use Rattle.like_service.specs.Likes.{initial_count, last_like, likes}
+use Rattle.like_service.specs.Replies.{HasRightCounts}
+use Rattle.like_service.specs.HotPages.{chosen_below}
+use Rattle.like_service.specs.Service.{Service, submitters}
+use Rattle.like_service.specs.declared.report.Report.{Report}
+use Rattle.like_service.specs.Collected.{IsCollected, rows_of, entries_in}
 use Rattle.like_requests.specs.declared.request.Request.{Request}
 use Rattle.like_requests.specs.declared.setup.Setup.{Setup}
-use Rattle.like_crew.specs.Asked.{asked}
-use Rattle.like_crew.specs.Log.{IsLog}
+use Rattle.like_service.specs.Asked.{asked}
+use Rattle.like_service.specs.Log.{IsLog}
 
 -- the run lists of all workers
 abbrev pub runs_of : List WorkerLog → List (List Ran)

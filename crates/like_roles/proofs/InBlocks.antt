@@ -5,12 +5,12 @@ use Rattle.std.specs.List.{All, AllByRecursion}
 use Rattle.like_core.specs.declared.worker_state.WorkerState.{WorkerState}
 use Rattle.like_core.specs.declared.worker_state.WorkerState.TheVariants as state
 use Rattle.like_core.specs.WorkerState.{RunsSome, phase_of}
-use Rattle.like_roles.specs.declared.log.Took.{Took}
+use Rattle.like_service.specs.declared.log.Took.{Took}
 use Rattle.like_roles.specs.worker.Follows.{IsInBlocks, IsInOrder, Stands, entry_held, next_joined}
-use Rattle.like_roles.specs.service.Order.{block, entry_of, order, order_below}
-use Rattle.like_roles.specs.service.Service.{Service}
+use Rattle.like_service.specs.Order.{block, entry_of, order, order_below}
+use Rattle.like_service.specs.Service.{Service}
 use Rattle.like_roles.specs.worker.WorkerView.{WorkerView, phase_at}
-use Rattle.like_roles.proofs.order.Blocks.{block-after_joined, order-enough, order_below-more, phases_of-within}
+use Rattle.like_service.proofs.Blocks.{block-after_joined, order-enough, order_below-more, phases_of-within}
 
 -- a phase is even or odd
 pub parity : (k : ℕ) → (k % 2 ≡ 0) ⊎ (k % 2 ≡ 1)

@@ -19,7 +19,7 @@ pub enum RunFault {
 }
 
 impl From<SettingsFault> for RunFault {
-    ghost use Rattle.like_run.specs.declared.threads.fault.RunFault.TheVariants.{Settings};
+    ghost use Rattle.like_service.specs.declared.run_fault.RunFault.TheVariants.{Settings};
 
     ghost from_gives = { λ why fault. fault ≡ Settings why };
 
@@ -29,7 +29,7 @@ impl From<SettingsFault> for RunFault {
 }
 
 impl From<AllocError> for RunFault {
-    ghost use Rattle.like_run.specs.declared.threads.fault.RunFault.TheVariants.{Memory};
+    ghost use Rattle.like_service.specs.declared.run_fault.RunFault.TheVariants.{Memory};
 
     ghost from_gives = { λ _ fault. fault ≡ Memory };
 

@@ -3,15 +3,12 @@ use Rattle.std.specs.Prelude.{ℕ, if◌then◌else◌, List, length, take, slic
 use Rattle.std.specs.List.{filter_map, range_with_len}
 use Rattle.like_requests.specs.Verdict.{is_accepted}
 use Rattle.like_requests.specs.declared.request.Request.{Request}
-use Rattle.like_core.specs.declared.view.Addition.{Addition}
-use Rattle.like_core.specs.declared.view.PageRead.{PageRead}
-use Rattle.like_core.specs.Additions.{added_in}
-use Rattle.like_roles.specs.declared.log.Ran.{Ran}
-use Rattle.like_roles.specs.declared.reply.Reply.{Reply}
-use Rattle.like_roles.specs.declared.reply.Reply.TheVariants.{Liked, Seen, Refused}
-use Rattle.like_roles.specs.service.Likes.{likes_within}
-use Rattle.like_roles.specs.service.Replies.{page_looked_at}
-use Rattle.like_roles.specs.service.Service.{Service, submitters, request_of}
+use Rattle.like_service.specs.declared.log.Ran.{Ran}
+use Rattle.like_service.specs.declared.reply.Reply.{Reply}
+use Rattle.like_service.specs.declared.reply.Reply.TheVariants.{Liked, Seen, Refused}
+use Rattle.like_service.specs.Likes.{likes_within}
+use Rattle.like_service.specs.Replies.{page_looked_at}
+use Rattle.like_service.specs.Service.{Service, submitters, request_of}
 
 -- a count that was shown: in which phase, of which page, and after how many of its worker's likes of the page in that
 -- phase
@@ -55,12 +52,3 @@ shown_at service ran i = option_and_then (shown_to service (take i ran)) (slice_
 -- what the accepted looks of a run list were shown, in order
 abbrev pub shown_in : Service → List Ran → List ShownCount
 shown_in service ran = filter_map (shown_at service ran) (range_with_len 0 (length ran))
-
--- what a read of a post with these additions shows
-abbrev pub shown_by : List Addition → PageRead → ShownCount
-shown_by additions r = record {
-  phase = r.phase;
-  page = r.page;
-  count = r.count;
-  before = added_in r.phase r.page (take r.after additions);
-}

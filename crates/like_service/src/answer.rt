@@ -1,4 +1,4 @@
-use like_roles::Reply;
+use crate::reply::Reply;
 
 /// The answer of one request: the phase in which it ran, whether it came out of a stash, and its reply.
 #[derive(Clone, Copy, Debug, PartialEq, Eq)]

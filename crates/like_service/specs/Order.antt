@@ -4,10 +4,10 @@ use Rattle.std.specs.List.{flat_map, range_with_len}
 use Rattle.std.specs.Option.{option_map_or}
 use Rattle.like_requests.specs.Verdict.{is_accepted}
 use Rattle.like_requests.specs.declared.request.Request.{Request}
-use Rattle.like_roles.specs.declared.log.Ran.{Ran}
-use Rattle.like_roles.specs.declared.log.Took.{Took}
-use Rattle.like_roles.specs.service.Service.{Service, submitters, request_at, is_split_in}
-use Rattle.like_roles.specs.service.Replies.{page_looked_at}
+use Rattle.like_service.specs.declared.log.Ran.{Ran}
+use Rattle.like_service.specs.declared.log.Took.{Took}
+use Rattle.like_service.specs.Service.{Service, submitters, request_at, is_split_in}
+use Rattle.like_service.specs.Replies.{page_looked_at}
 
 -- the request is an accepted look at a page that is sliced
 abbrev pub is_look_at_sliced : ℕ → ℕ → (ℕ → Bool) → ℕ → Request → Bool

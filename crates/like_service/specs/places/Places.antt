@@ -3,9 +3,9 @@ use Rattle.std.specs.Prelude.{◌≡◌, ℕ, ◌<◌, ◌==◌, List, [], Vec, 
 use Rattle.std.specs.List.{enumerate_from, flat_map}
 use Rattle.std.specs.List.Sorted.{IsNonDecreasingBy}
 use Rattle.std.specs.declared.alloc.Global.{Global}
-use Rattle.like_roles.specs.declared.log.Added.{Added}
-use Rattle.like_roles.specs.declared.log.WorkerLog.{WorkerLog}
-use Rattle.like_collection.specs.declared.place.Place.{Place}
+use Rattle.like_service.specs.declared.log.Added.{Added}
+use Rattle.like_service.specs.declared.log.WorkerLog.{WorkerLog}
+use Rattle.like_service.specs.declared.place.Place.{Place}
 
 -- the place of a worker's addition
 abbrev pub place_made : ℕ → Added → Place

@@ -3,11 +3,11 @@ use Rattle.std.specs.Prelude.{◌≡◌, ℕ, ◌≤◌, ◌==◌, ◌&&◌, nat
 use Rattle.std.specs.List.{filter_map, range_with_len}
 use Rattle.std.specs.Option.{option_to_list}
 use Rattle.like_core.specs.declared.view.Addition.{Addition}
-use Rattle.like_roles.specs.declared.log.Added.{Added}
-use Rattle.like_roles.specs.declared.log.Ran.{Ran}
-use Rattle.like_roles.specs.service.Likes.{likes_within}
-use Rattle.like_roles.specs.service.Looks.{look_ran}
-use Rattle.like_roles.specs.service.Service.{Service, is_split_in}
+use Rattle.like_service.specs.declared.log.Added.{Added}
+use Rattle.like_service.specs.declared.log.Ran.{Ran}
+use Rattle.like_service.specs.Likes.{likes_within}
+use Rattle.like_service.specs.places.Looks.{look_ran}
+use Rattle.like_service.specs.Service.{Service, is_split_in}
 
 -- the post's addition that is noted so
 abbrev pub addition_of : Added → Addition

@@ -9,8 +9,8 @@ use Rattle.like_requests.specs.declared.request.Op.TheVariants as op
 use Rattle.like_requests.specs.declared.request.PageRef.{PageRef}
 use Rattle.like_requests.specs.declared.request.PageRef.TheVariants.{Known, Unknown}
 use Rattle.like_requests.specs.declared.request.Request.{Request}
-use Rattle.like_roles.specs.declared.log.Ran.{Ran}
-use Rattle.like_roles.specs.service.Service.{Service, submitters, request_of}
+use Rattle.like_service.specs.declared.log.Ran.{Ran}
+use Rattle.like_service.specs.Service.{Service, submitters, request_of}
 
 -- an accepted like
 pub record AcceptedLike : Type 0 where

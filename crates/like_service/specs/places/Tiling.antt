@@ -6,16 +6,16 @@ use Rattle.like_requests.specs.declared.setup.Setup.{Setup}
 use Rattle.like_core.specs.declared.view.Addition.{Addition}
 use Rattle.like_core.specs.declared.view.PageRead.{PageRead}
 use Rattle.like_core.specs.views.Places.{ArePlaced, AreTiles, Counting}
-use Rattle.like_roles.specs.declared.log.Ran.{Ran}
-use Rattle.like_roles.specs.declared.log.WorkerLog.{WorkerLog}
-use Rattle.like_roles.specs.service.Adds.{AreOfLikes, addition_of, adds_before_looks}
-use Rattle.like_roles.specs.service.Likes.{Between, initial_count}
-use Rattle.like_roles.specs.service.Looks.{ShownCount, shown_in}
-use Rattle.like_roles.specs.service.Service.{Service}
-use Rattle.like_collection.specs.declared.report.Report.{Report}
-use Rattle.like_collection.specs.Places.{ArePlaces, lists_in}
-use Rattle.like_crew.specs.Asked.{asked}
-use Rattle.like_crew.specs.EndToEnd.{runs_of}
+use Rattle.like_service.specs.declared.log.Ran.{Ran}
+use Rattle.like_service.specs.declared.log.WorkerLog.{WorkerLog}
+use Rattle.like_service.specs.places.Adds.{AreOfLikes, addition_of, adds_before_looks}
+use Rattle.like_service.specs.Likes.{Between, initial_count}
+use Rattle.like_service.specs.places.Looks.{ShownCount, shown_in}
+use Rattle.like_service.specs.Service.{Service}
+use Rattle.like_service.specs.declared.report.Report.{Report}
+use Rattle.like_service.specs.places.Places.{ArePlaces, lists_in}
+use Rattle.like_service.specs.Asked.{asked}
+use Rattle.like_service.specs.EndToEnd.{runs_of}
 
 -- the additions that a log notes
 abbrev pub additions_noted : WorkerLog → List Addition

@@ -1,6 +1,7 @@
+use crate::chosen::Chosen;
+use crate::log::WorkerLog;
 use crate::place::Place;
 use crate::replies::Replies;
-use like_roles::{Chosen, WorkerLog};
 
 /// What a run reports.
 #[derive(Debug, Drop)]

@@ -8,10 +8,10 @@ use Rattle.std.specs.List.{AllByRecursion, filter, flat_map, range_with_len}
 use Rattle.std.specs.Option.{option_map_or}
 use Rattle.like_requests.specs.Verdict.{is_accepted}
 use Rattle.like_requests.specs.declared.request.Request.{Request}
-use Rattle.like_roles.specs.declared.log.Took.{Took}
-use Rattle.like_roles.specs.service.Order.{block, entry_in, is_due, is_prompt, order, order_below, phases_of, stashed_in, took_to_wait, waits}
-use Rattle.like_roles.specs.service.Replies.{page_looked_at}
-use Rattle.like_roles.specs.service.Service.{Service, is_split_in, request_at}
+use Rattle.like_service.specs.declared.log.Took.{Took}
+use Rattle.like_service.specs.Order.{block, entry_in, is_due, is_prompt, order, order_below, phases_of, stashed_in, took_to_wait, waits}
+use Rattle.like_service.specs.Replies.{page_looked_at}
+use Rattle.like_service.specs.Service.{Service, is_split_in, request_at}
 
 -- what neither is due nor prompt in a phase changes no block of it
 pub block-other : (service : Service) (xs : List Took) (t : Took) (k : ℕ) → is_due service k t ≡ false → is_prompt service k t ≡ false → block service (xs ++ t ∷ []) k ≡ block service xs k

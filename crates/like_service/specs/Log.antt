@@ -1,16 +1,15 @@
 -- What the log of a worker has to say.
-use Rattle.std.specs.Prelude.{◌≡◌, ℕ, ◌≤◌, ◌==◌, if◌then◌else◌, List, [], length, map, filter, slice_index_or, All, AllPairs, Option, Some, None}
+use Rattle.std.specs.Prelude.{◌≡◌, ℕ, ◌≤◌, ◌==◌, if◌then◌else◌, List, [], length, map, filter, slice_index_or, AllPairs}
 use Rattle.std.specs.List.{range_with_len}
-use Rattle.like_core.specs.declared.sight.Sight.{Sight}
 use Rattle.like_requests.specs.declared.request.Request.{Request}
 use Rattle.like_tables.specs.Share.{worker_of}
 use Rattle.like_tables.specs.UserTable.{last_of}
-use Rattle.like_roles.specs.declared.log.Took.{Took}
-use Rattle.like_roles.specs.declared.log.WorkerLog.{WorkerLog}
-use Rattle.like_roles.specs.service.Likes.{last_like}
-use Rattle.like_roles.specs.service.Order.{entry_of, order, stashed_in}
-use Rattle.like_roles.specs.service.Replies.{HasRightAnswers}
-use Rattle.like_roles.specs.service.Service.{Service}
+use Rattle.like_service.specs.declared.log.Took.{Took}
+use Rattle.like_service.specs.declared.log.WorkerLog.{WorkerLog}
+use Rattle.like_service.specs.Likes.{last_like}
+use Rattle.like_service.specs.Order.{entry_of, order, stashed_in}
+use Rattle.like_service.specs.Replies.{HasRightAnswers}
+use Rattle.like_service.specs.Service.{Service}
 
 -- the numbers of the requests that were taken from a submitter, in their order
 abbrev pub numbers_taken : ℕ → List Took → List ℕ
@@ -29,11 +28,6 @@ TakesPlans service workers worker taken =
 -- the phases of taking never fall
 abbrev pub IsRising : List Took → Type 0
 IsRising taken = AllPairs (λ s t. s.phase ≤ t.phase) taken
-
--- nothing was taken in a phase above the one that was seen last
-abbrev pub NoneAbove : Option Sight → List Took → Type 0
-NoneAbove None taken = taken ≡ []
-NoneAbove (Some sight) taken = All (λ t. t.phase ≤ sight.number) taken
 
 -- the log of a worker that is gone: it took its submitters' plans, in phases that never fall, and ran what it took in run
 -- order, no more out of its stash in a phase than that has room for; each reply is right, save that nothing is said of counts; and its table has the last like of each user

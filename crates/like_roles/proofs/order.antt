@@ -1,4 +1,0 @@
--- Run order, and how it grows.
-pub mod Blocks
-pub mod InBlocks
-pub mod Examples

@@ -1,0 +1,11 @@
+pub mod Service
+pub mod Likes
+pub mod Order
+pub mod Replies
+pub mod HotPages
+pub mod Log
+pub mod Collected
+pub mod EndToEnd
+pub mod Asked
+pub mod RunFault
+pub mod places

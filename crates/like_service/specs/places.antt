@@ -1,0 +1,5 @@
+-- Where a report's additions to the counts of pages stand.
+pub mod Looks
+pub mod Adds
+pub mod Places
+pub mod Tiling
