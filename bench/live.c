@@ -1,11 +1,16 @@
-/* Measures the live core beside four plain ways to count likes, all in one process. bench/live builds and runs it.
+/* Measures the live core beside four plain ways to count likes, all in one process. bench/live and bench/live-counts
+ * build and run it.
  *
  * usage: live MILLISECONDS [FILE]
+ *        live rows SYSTEM EXPONENT LOOKS ROWS
  *
  * Every thread has users of its own, with a table of their last likes, and goes through a ring of requests that were
  * drawn beforehand. A measurement lasts so many milliseconds. The systems take turns, five times, and the best counts.
- * After each measurement the pages' counts have to be exact. In one measurement more, each look that waits is timed.
- * FILE gets the same numbers as comma-separated values. */
+ * After each measurement the pages' counts have to be exact. In one measurement more, five times as long, each look
+ * that waits is timed. FILE gets the same numbers as comma-separated values.
+ *
+ * In the second form, the first of four threads goes through so many rows by itself, in `counted_rows`, so that a tool
+ * can count what they cost. A live service is then in a split phase, and no page's count is compared. */
 #include <likes_helpers.h>
 
 #include <math.h>
@@ -21,7 +26,7 @@ typedef struct player player;
 typedef struct {
     const char *name;
     void (*row)(player *, const likes_request *, likes_answer *);
-    uint32_t period; /* of the live core: the length of a split phase in microseconds */
+    uint32_t period; /* of the live core: in microseconds, from the end of a split phase to that of the next */
     uint32_t look;   /* what its looks are */
     bool drives;     /* whether its seats make turns of the driver */
 } kind;
@@ -248,10 +253,19 @@ static void *play(void *at) {
     return NULL;
 }
 
+/* Makes all looks such as a system has. */
+static void set_looks(const kind *of, uint32_t threads) {
+    for (uint32_t i = 0; i < threads; i++)
+        for (uint32_t n = 0; n < RING; n++)
+            if (players[i].ring[n].op != LIKES_LIKE)
+                players[i].ring[n].op = of->look;
+}
+
 /* Makes a system ready: counts of 0, and nobody has liked anything. */
 static void start(const kind *of, uint32_t threads) {
     static const uint64_t none[PAGES];
-    likes_options options = {.seats = threads, .users = USERS, .room = 4096, .hot = of->period};
+    /* A page is hot that gets a like each 10 microseconds. */
+    likes_options options = {.seats = threads, .users = USERS, .room = 4096, .hot = of->period / 10};
     memset(&counts, 0, sizeof counts);
     memset(shards, 0, sizeof shards);
     for (uint32_t page = 0; of->row == mutex && page < PAGES; page++)
@@ -267,10 +281,8 @@ static void start(const kind *of, uint32_t threads) {
         it->rows = 0;
         memset(&it->waits, 0, sizeof it->waits);
         memset(it->last, 0xff, (USERS / threads + 1) * sizeof *it->last);
-        for (uint32_t n = 0; n < RING; n++)
-            if (it->ring[n].op != LIKES_LIKE)
-                it->ring[n].op = of->look;
     }
+    set_looks(of, threads);
 }
 
 /* Compares each page's count with the likes that the threads have made. */
@@ -298,7 +310,7 @@ static void check(const kind *of, uint32_t threads) {
     }
 }
 
-/* Measures a system once, in millions of requests a second. */
+/* Measures a system once, in millions of requests a second. Where looks are timed, it takes five times as long. */
 static double measure(const kind *of, uint32_t threads, uint32_t milliseconds, bool is_timed) {
     start(of, threads);
     pthread_barrier_init(&begin, NULL, threads + 1);
@@ -310,7 +322,8 @@ static double measure(const kind *of, uint32_t threads, uint32_t milliseconds, b
     }
     pthread_barrier_wait(&begin);
     uint64_t began = likes_clock();
-    likes_sleep(milliseconds * UINT64_C(1000000));
+    for (int time = 0; time < (is_timed ? TIMES : 1); time++)
+        likes_sleep(milliseconds * UINT64_C(1000000));
     __atomic_store_n(&is_over, true, __ATOMIC_RELAXED);
     uint64_t took = likes_clock() - began, done = 0;
     for (uint32_t i = 0; i < threads; i++) {
@@ -407,7 +420,76 @@ static void write_row(FILE *file, uint32_t threads, const load *at, const measur
     fflush(file);
 }
 
+/* Stops the driver's thread of a live service, so that phases change only where this program says so. */
+static void stop_thread(void) {
+    __atomic_store_n(&service.is_stopping, true, __ATOMIC_SEQ_CST);
+    pthread_join(service.thread, NULL);
+    service.has_thread = false;
+    likes_set_time(&service.next, UINT64_MAX);
+    likes_service_wake(&service, 0);
+}
+
+/* Goes on to the next split phase. */
+static void go_to_split(void) {
+    uint64_t phase = likes_phase(&service.driver);
+    likes_seat *seat = seat_of(&players[0]);
+    while (likes_seat_phase(seat) <= phase || likes_seat_phase(seat) % 2 == 0) {
+        likes_driver_turn(&service.driver, true);
+        likes_service_turns(&service);
+        likes_turn(seat);
+    }
+}
+
+static void go_through(player *it, uint64_t rows) {
+    likes_answer answers[ROW];
+    for (uint64_t row = 0; row < rows; row++)
+        it->of->row(it, &it->ring[row * ROW % RING], answers);
+}
+
+__attribute__((noinline)) static void counted_rows(player *it, uint64_t rows) {
+    go_through(it, rows);
+}
+
+/* The first thread's rows, once likes have warmed the caches and made pages hot. */
+static void count_rows(const kind *of, const load *at, uint64_t rows) {
+    load likes = *at;
+    likes.looks = 0;
+    draw(&likes, THREADS);
+    start(of, THREADS);
+    if (of->period > 0)
+        stop_thread();
+    go_through(&players[0], RING / ROW);
+    if (of->period > 0)
+        go_to_split();
+    draw(at, THREADS);
+    set_looks(of, THREADS);
+    counted_rows(&players[0], rows);
+}
+
+static const kind *kind_named(const char *name) {
+    for (int n = 0; n < KINDS; n++)
+        if (strcmp(kinds[n].name, name) == 0)
+            return &kinds[n];
+    fail("no such system");
+    return NULL;
+}
+
+static void make_room(void) {
+    for (uint32_t i = 0; i < THREADS; i++) {
+        players[i].ring = (likes_request *)calloc(RING, sizeof *players[i].ring);
+        players[i].last = (uint32_t *)calloc(USERS + 1, sizeof *players[i].last);
+        if (players[i].ring == NULL || players[i].last == NULL)
+            fail("out of memory");
+    }
+}
+
 int main(int count, char **words) {
+    make_room();
+    if (count == 6 && strcmp(words[1], "rows") == 0) {
+        load at = {"", atof(words[3]), (uint32_t)strtoul(words[4], NULL, 10)};
+        count_rows(kind_named(words[2]), &at, strtoull(words[5], NULL, 10));
+        return 0;
+    }
     uint32_t milliseconds = count > 1 ? (uint32_t)strtoul(words[1], NULL, 10) : 0;
     if (milliseconds < 1 || milliseconds > 999)
         fail("how many milliseconds? 1 to 999");
@@ -416,12 +498,6 @@ int main(int count, char **words) {
         fail("the file can't be written");
     if (file != NULL)
         fputs("threads,pages,looks,system,millions,ratio,median,most99,worst\n", file);
-    for (uint32_t i = 0; i < THREADS; i++) {
-        players[i].ring = (likes_request *)calloc(RING, sizeof *players[i].ring);
-        players[i].last = (uint32_t *)calloc(USERS + 1, sizeof *players[i].last);
-        if (players[i].ring == NULL || players[i].last == NULL)
-            fail("out of memory");
-    }
     for (uint32_t threads = 1; threads <= THREADS; threads *= 2) {
         print_heads(threads);
         for (int n = 0; n < LOADS; n++) {

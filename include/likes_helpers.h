@@ -54,8 +54,9 @@ typedef struct likes_service {
     likes_place places[LIKES_MAX_SEATS];
     uint32_t seats;
     size_t pages;
-    uint64_t period; /* the length of a split phase, in nanoseconds */
-    uint64_t due;    /* when the phase may end, by likes_clock; atomic */
+    uint64_t period; /* in nanoseconds */
+    uint64_t due;    /* when the split phase may end, by likes_clock; atomic */
+    uint64_t next;   /* when the driver's next turn is worth making, by likes_clock; atomic */
     char apart[128];
     pthread_mutex_t driving;
     likes_driver driver; /* used under `driving` */
@@ -87,24 +88,36 @@ static inline void likes_sleep(uint64_t nanoseconds) {
     nanosleep(&length, NULL);
 }
 
-static inline void likes_service_set_due(likes_service *service, uint64_t due) {
-    __atomic_store_n(&service->due, due, __ATOMIC_SEQ_CST);
+static inline void likes_set_time(uint64_t *at, uint64_t time) {
+    __atomic_store_n(at, time, __ATOMIC_SEQ_CST);
 }
 
-static inline bool likes_service_is_due(const likes_service *service, uint64_t now) {
-    return now >= __atomic_load_n(&service->due, __ATOMIC_SEQ_CST);
+/* How long it is until a time, in nanoseconds. */
+static inline uint64_t likes_time_left(const uint64_t *at, uint64_t now) {
+    uint64_t time = __atomic_load_n(at, __ATOMIC_SEQ_CST);
+    return time > now ? time - now : 0;
 }
 
-/* The driver's turn, with `driving` held. A split phase lasts a period, and a joined one no longer than it has to.
- * Where nothing can be split, the driver asks again after a period. */
+/* The driver's turn, with `driving` held. From the end of one split phase to that of the next is a period, or less
+ * where a seat's room is half taken: the driver hears of that within an eighth of a period. A joined phase ends as
+ * soon as every seat has run what waited. */
 static inline uint32_t likes_service_turn(likes_service *service) {
-    uint64_t now = likes_clock();
-    bool may_end = likes_service_is_due(service, now);
-    uint32_t status = likes_driver_turn(&service->driver, may_end);
-    if (status == LIKES_RELEASED)
-        likes_service_set_due(service, likes_phase(&service->driver) % 2 == 1 ? now + service->period : now);
-    else if (status == LIKES_RUNNING && may_end)
-        likes_service_set_due(service, now + service->period);
+    uint64_t now = likes_clock(), left = likes_time_left(&service->due, now), next = now;
+    bool was_split = likes_phase(&service->driver) % 2 == 1;
+    uint32_t status = likes_driver_turn(&service->driver, !was_split || left == 0);
+    if (status == LIKES_ANNOUNCED && was_split) {
+        likes_set_time(&service->due, now + service->period);
+    } else if (status == LIKES_RELEASED && was_split) {
+        status = likes_driver_turn(&service->driver, true);
+    } else if (status == LIKES_RELEASED && left < service->period / 2) {
+        likes_set_time(&service->due, now + service->period / 2);
+    } else if (status == LIKES_RUNNING) {
+        uint64_t soon = service->period / 8;
+        if (!was_split)
+            likes_set_time(&service->due, now + service->period);
+        next = now + (was_split && left < soon ? left : soon);
+    }
+    likes_set_time(&service->next, next);
     return status;
 }
 
@@ -117,10 +130,10 @@ static inline uint32_t likes_service_drive(likes_service *service) {
     return status;
 }
 
-/* The same, but only if the phase may end by now. A busy thread may call it once in some 256 requests: then no phase
- * waits until the driver's thread gets a processor. */
+/* The same, but only if a turn is due. A busy thread may call it once in some 256 requests: then no phase waits until
+ * the driver's thread gets a processor. */
 static inline void likes_service_tick(likes_service *service) {
-    if (likes_service_is_due(service, likes_clock()))
+    if (likes_time_left(&service->next, likes_clock()) == 0)
         likes_service_drive(service);
 }
 
@@ -164,17 +177,22 @@ static inline void likes_service_turns(likes_service *service) {
     }
 }
 
-/* What the driver's thread does. It sleeps for at most a millisecond, so that it hears of a seat whose room is half
- * taken. */
+/* How long the driver's thread sleeps in a phase that runs: until it is due, but at most a millisecond, so that it
+ * hears of a seat whose room is half taken. */
+static inline uint64_t likes_service_nap(const likes_service *service) {
+    uint64_t left = likes_time_left(&service->due, likes_clock());
+    return left < 50000 ? 50000 : left > 1000000 ? 1000000 : left;
+}
+
+/* What the driver's thread does. */
 static inline void *likes_service_thread(void *at) {
     likes_service *service = (likes_service *)at;
-    uint64_t nap = service->period < 50000 ? 50000 : service->period > 1000000 ? 1000000 : service->period;
     unsigned tries = 0;
     while (!__atomic_load_n(&service->is_stopping, __ATOMIC_SEQ_CST)) {
         likes_service_turns(service);
         uint32_t status = likes_service_drive(service);
         if (status == LIKES_RUNNING) {
-            likes_sleep(nap);
+            likes_sleep(likes_service_nap(service));
             tries = 0;
         } else if (status == LIKES_WAITING) {
             if (++tries < LIKES_SPINS)
@@ -200,7 +218,8 @@ static inline void likes_service_free(likes_service *service) {
 }
 
 /* Opens a service and starts its driver's thread. options and counts are those of likes_open. marks has one for each
- * page, or is NULL: none is marked. period is how long a split phase lasts, in microseconds: 1000 suits most hosts.
+ * page, or is NULL: none is marked. period is the time from the end of one split phase to that of the next, in
+ * microseconds: no look waits much longer. 1000 suits most hosts.
  * LIKES_OK, an answer of likes_open, or LIKES_NO_THREAD; but for LIKES_OK there is nothing to be stopped. */
 static inline uint32_t likes_service_start(likes_service *service, const likes_options *options, const uint64_t *counts,
                                            size_t pages, const bool *marks, uint32_t period) {
@@ -341,7 +360,8 @@ static inline uint32_t likes_service_counts(likes_service *service, uint64_t *co
         likes_service_turns(service);
         sched_yield();
     }
-    likes_service_set_due(service, likes_clock());
+    likes_set_time(&service->due, 0);
+    likes_set_time(&service->next, 0);
     pthread_mutex_unlock(&service->driving);
     if (status == LIKES_WAITING)
         return LIKES_RUNNING;

@@ -1,11 +1,11 @@
 //! The rows that cross between C and Rattle.
-ghost use Rattle.std.specs.Prelude.{◌≡◌, ◌≤◌, length};
-ghost use Rattle.like_c.specs.Held.{AnswersRow, RunsRows};
+ghost use Rattle.std.specs.Prelude.{◌≡◌, ◌≤◌, ◌↔◌, IsTrue, length};
+ghost use Rattle.like_c.specs.Held.{AnswersRow, IsToWait, RunsRows};
 ghost use Rattle.like_c.specs.Rows.{found_row, glance_row, look_row, page_or_none, seen_row, status_row};
 
 use crate::status;
 use like_board::SharedPost;
-use like_live::{Found, GlanceAnswer, LiveSeat, LookAnswer};
+use like_live::{Found, GlanceAnswer, LikeAnswer, LiveSeat, LookAnswer};
 use like_seat::Seen;
 
 /// In the place of a page: the user has liked none.
@@ -109,6 +109,14 @@ impl AnswerRow {
             GlanceAnswer::Gone => AnswerRow::of(status::GONE),
         }
     }
+
+    // Whether its request is to wait, and to be made again.
+    #[inline(always)]
+    fn is_to_wait(&self) -> bool
+        ensures { IsTrue result ↔ IsToWait self.now }
+    {
+        self.status == status::BETWEEN || self.status == status::NO_ROOM
+    }
 }
 
 impl FoundRow {
@@ -128,21 +136,47 @@ impl FoundRow {
     }
 }
 
-// Answers one row. An operation that is none has a status of its own.
-#[inline(always)]
-fn answer(seat: &mut LiveSeat<SharedPost>, request: RequestRow) -> AnswerRow
-    ensures { AnswersRow seat.old request result seat.new }
+// Answers a row that asks for no like. An operation that is none has a status of its own. This stands apart, so that
+// a like costs less.
+#[inline(never)]
+fn answer_other(seat: &mut LiveSeat<SharedPost>, request: &RequestRow, row: &mut AnswerRow)
+    requires { 1 ≤ request.now.op }
+    ensures { AnswersRow seat.old request.now row.new seat.new }
 {
     match request.op {
-        0 => AnswerRow::of(status::of_like(seat.like(request.user, request.page))),
-        1 => AnswerRow::of_look(seat.look(request.user, request.page, request.tag)),
-        2 => AnswerRow::of_glance(seat.glance(request.user, request.page)),
-        _ => AnswerRow::of(status::UNKNOWN_OP),
+        1 => {
+            *row = AnswerRow::of_look(seat.look(request.user, request.page, request.tag));
+        }
+        2 => *row = AnswerRow::of_glance(seat.glance(request.user, request.page)),
+        _ => *row = AnswerRow::of(status::UNKNOWN_OP),
+    }
+}
+
+// Answers one row, and says whether it is to wait.
+#[inline(always)]
+fn answer(seat: &mut LiveSeat<SharedPost>, request: &RequestRow, row: &mut AnswerRow) -> bool
+    ensures row { AnswersRow seat.old request.now row.new seat.new }
+    ensures waits { IsTrue result ↔ IsToWait row.new }
+{
+    if request.op != 0 {
+        answer_other(seat, request, row);
+        return row.is_to_wait();
+    }
+    match seat.like(request.user, request.page) {
+        LikeAnswer::Liked => {
+            *row = AnswerRow::of(status::LIKED);
+            false
+        }
+        told => {
+            *row = AnswerRow::of(status::of_like(told));
+            row.is_to_wait()
+        }
     }
 }
 
 /// Answers rows up to the first that is `BETWEEN` or `NO_ROOM`, and to the end of the shorter of the two. Says how many
 /// were done.
+#[inline(never)]
 pub(crate) fn run(
     seat: &mut LiveSeat<SharedPost>,
     requests: &[RequestRow],
@@ -155,9 +189,7 @@ pub(crate) fn run(
 {
     let rows = requests.len().min(answers.len());
     for done in 0..rows {
-        let row = answer(seat, requests[done]);
-        answers[done] = row;
-        if row.status == status::BETWEEN || row.status == status::NO_ROOM {
+        if answer(seat, &requests[done], &mut answers[done]) {
             return done;
         }
     }

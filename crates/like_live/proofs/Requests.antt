@@ -1,5 +1,5 @@
 -- What is known of a request that is accepted.
-use Rattle.std.proofs.Common.{◌≡◌, ◌≢◌, ◌%◌, ◌<◌, ◌^◌, true, nat_lt, ap, sym, ◌∙◌, arith}
+use Rattle.std.proofs.Common.{◌≡◌, ◌%◌, ◌<◌, ◌^◌, true, nat_lt, ap, sym, ◌∙◌, arith}
 use Rattle.std.proofs.Math.Nat.{mod-mod}
 use Rattle.std.proofs.lemmas.Bool.{and_from, and_parts, eq-eqb, eqb-true}
 use Rattle.like_core.specs.OpeningLimits.{service_limits}
@@ -19,7 +19,7 @@ owned_since s r home is =
     and_from _ _ user.0 (eq-eqb _ _ mine)
 
 -- a seat that has not counted all its likes may count one more
-pub not-full : (s : SeatView Asked) → IsSeat s → s.post.limits ≡ service_limits → likes_of s ≢ 2 ^ 56 → likes_of s < s.post.limits.likes
+pub not-full : (s : SeatView Asked) → IsSeat s → s.post.limits ≡ service_limits → likes_of s < 2 ^ 56 → likes_of s < s.post.limits.likes
 not-full s kept limits some =
     let most : s.post.limits.likes ≡ 2 ^ 56 = ap (λ l. l.likes) limits in
     let few = kept.few in

@@ -1,4 +1,4 @@
-ghost use Rattle.std.specs.Prelude.{◌≡◌, ◌+◌, ◌<◌, IsTrue, length};
+ghost use Rattle.std.specs.Prelude.{◌≡◌, ◌+◌, ◌<◌, ◌↔◌, IsTrue, length};
 ghost use Rattle.like_core.specs.Post.{pages_of};
 ghost use Rattle.like_core.specs.WorkerState.{IsRunning, RunsSplit};
 ghost use Rattle.like_seat.specs.SeatView.{phase_at};
@@ -24,18 +24,35 @@ impl<P: Post> LiveSeat<P> {
         ensures there { result ≡ Verdict.Accepted → page < pages_of self.now.seat.post }
         ensures owned { result ≡ Verdict.Accepted → IsTrue (owns self.now.seat.last.share user) }
     {
-        let page = if page < self.pages {
-            PageRef::Known(page)
-        } else {
-            PageRef::Unknown
-        };
         let users = self.seat.users();
         let request = Request {
             op: Op::Look,
             user,
-            page,
+            page: PageRef::Known(page),
         };
-        users.judge(users.worker(), &request)
+        match users.judge(users.worker(), &request) {
+            Verdict::Accepted if page >= self.pages => Verdict::UnknownPage,
+            verdict => verdict,
+        }
+    }
+
+    // Whether a request of a user for a page is accepted.
+    #[inline(always)]
+    fn accepts(&self, user: u32, page: u32) -> bool
+        ensures verdict { IsTrue result ↔ (verdict_at self.now.seat user page ≡ Verdict.Accepted) }
+        ensures there { IsTrue result → page < pages_of self.now.seat.post }
+        ensures owned { IsTrue result → IsTrue (owns self.now.seat.last.share user) }
+    {
+        matches!(self.verdict(user, page), Verdict::Accepted)
+    }
+
+    // Why it is not. This stands apart, so that a request that is accepted costs less.
+    #[cold]
+    #[inline(never)]
+    fn refusal(&self, user: u32, page: u32) -> Verdict
+        ensures { result ≡ verdict_at self.now.seat user page }
+    {
+        self.verdict(user, page)
     }
 
     // A like, of a seat that runs a phase.
@@ -45,11 +62,10 @@ impl<P: Post> LiveSeat<P> {
         ensures case { LikesNow self.old user page result self.new }
         ensures keeps { IsLive self.new }
     {
-        match self.verdict(user, page) {
-            Verdict::Accepted => {}
-            refused => return LikeAnswer::Refused(refused),
+        if !self.accepts(user, page) {
+            return LikeAnswer::Refused(self.refusal(user, page));
         }
-        if self.seat.likes() == MAX_LIKES {
+        if self.seat.likes() >= MAX_LIKES {
             return LikeAnswer::Full;
         }
         self.seat.count_like(user, page);
@@ -63,9 +79,8 @@ impl<P: Post> LiveSeat<P> {
         ensures case { LooksNow self.old user page tag result self.new }
         ensures keeps { IsLive self.new }
     {
-        match self.verdict(user, page) {
-            Verdict::Accepted => {}
-            refused => return LookAnswer::Refused(refused),
+        if !self.accepts(user, page) {
+            return LookAnswer::Refused(self.refusal(user, page));
         }
         if !self.seat.is_sliced(page) {
             return LookAnswer::Seen(self.seat.read_for(user, page));
@@ -110,9 +125,8 @@ impl<P: Post> LiveSeat<P> {
         ensures tallies { KeepsTallies self.old self.new }
         ensures last { self.new.seat.last ≡ self.old.seat.last }
     {
-        match self.verdict(user, page) {
-            Verdict::Accepted => {}
-            refused => return GlanceAnswer::Refused(refused),
+        if !self.accepts(user, page) {
+            return GlanceAnswer::Refused(self.refusal(user, page));
         }
         if self.seat.is_sliced(page) {
             return GlanceAnswer::Seen(self.seat.glance(user, page));

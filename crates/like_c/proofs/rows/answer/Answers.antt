@@ -1,13 +1,14 @@
 use Rattle.std.proofs.Common.{ap, ◌∙◌}
-use Rattle.like_c.specs.Held.{row_glance, row_like, row_look}
+use Rattle.like_live.specs.declared.answer.LikeAnswer.TheVariants.{Liked}
+use Rattle.like_c.specs.Held.{row_like}
 use Rattle.like_c.specs.Rows.{status_row}
 use Rattle.like_c.proofs.rows.answer.Goals as goal
 
-pub returns-in-0 : goal.returns-in-0
-returns-in-0 c = row_like c.like.result c.in-0.is c.like.ensures.case (c.of.ensures ∙ ap status_row c.of_like.ensures)
+pub returns-in-Liked-clause-row : goal.returns-in-Liked-clause-row
+returns-in-Liked-clause-row c = row_like Liked c.if-request-ne0.false c.in-Liked.ensures.case c.of.ensures
 
-pub returns-in-1 : goal.returns-in-1
-returns-in-1 c = row_look c.look.result c.in-1.is c.look.ensures.case c.of_look.ensures
-
-pub returns-in-2 : goal.returns-in-2
-returns-in-2 c = row_glance c.glance.result c.in-2.is c.glance.ensures.case c.of_glance.ensures
+pub returns-in_default : goal.returns-in_default
+returns-in_default c = record {
+  row = row_like c.like.result c.if-request-ne0.false c.like.ensures.case (c.of-in_default.ensures ∙ ap status_row c.of_like.ensures);
+  waits = c.is_to_wait-in_default.ensures;
+}

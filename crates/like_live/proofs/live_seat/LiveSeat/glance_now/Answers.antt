@@ -12,7 +12,7 @@ returns-then-is_sliced-clause-case g c =
     let s = c.self.inside.seat in
     let same : s ≡ c.args.self.now.seat = ap (λ (w : LiveView). w.seat) c.self.view_is in
     let sliced : slices s.post c.args.page ≡ true = sym c.is_sliced.ensures ∙ c.if-is_sliced.true in
-    split c.glance.result c.glance.new.self (sym c.in-Accepted.ensures.verdict)
+    split c.glance.result c.glance.new.self (c.accepts.ensures.verdict.0 c.if-not-accepts.false)
     (subst (λ (t : SeatView Asked). slices t.post c.args.page ≡ true) same sliced)
     refl
     (subst (λ (t : SeatView Asked). Glances t c.args.user c.args.page c.glance.result c.glance.new.self) same c.glance.ensures.glances)
@@ -23,7 +23,7 @@ returns-clause-case g c =
     let s = c.self.inside.seat in
     let same : s ≡ c.args.self.now.seat = ap (λ (w : LiveView). w.seat) c.self.view_is in
     let whole : slices s.post c.args.page ≡ false = sym c.is_sliced.ensures ∙ c.if-is_sliced.false in
-    plain c.read_for.result c.read_for.new.self (sym c.in-Accepted.ensures.verdict)
+    plain c.read_for.result c.read_for.new.self (c.accepts.ensures.verdict.0 c.if-not-accepts.false)
     (subst (λ (t : SeatView Asked). slices t.post c.args.page ≡ false) same whole)
     refl
     (subst (λ (t : SeatView Asked). Reads t c.args.user c.args.page c.read_for.result c.read_for.new.self) same c.read_for.ensures.reads)

@@ -1,4 +1,4 @@
-use Rattle.std.proofs.Common.{◌≡◌, ◌<◌, refl, ap, sym, subst, ◌∙◌}
+use Rattle.std.proofs.Common.{◌≡◌, ◌<◌, arith, refl, ap, sym, subst, ◌∙◌}
 use Rattle.like_seat.specs.SeatView.{SeatView, likes_of}
 use Rattle.like_seat.specs.Steps.{CountsLike}
 use Rattle.like_live.specs.declared.asked.Asked.{Asked}
@@ -12,8 +12,8 @@ returns-clause-case g c =
     let s = c.self.inside.seat in
     let live = c.self.invariant.live in
     let same : s ≡ c.args.self.now.seat = ap (λ (w : LiveView). w.seat) c.self.view_is in
-    let few = not-full s live.seat live.limits (λ e. c.if-likes-eq-MAX_LIKES.false (c.likes.ensures.likes ∙ e)) in
-    liked c.count_like.result c.count_like.new.self (sym c.in-Accepted.ensures.verdict)
+    let few = not-full s live.seat live.limits (omega (arith, c.likes.ensures.likes, c.if-likes-ge-MAX_LIKES.false)) in
+    liked c.count_like.result c.count_like.new.self (c.accepts.ensures.verdict.0 c.if-not-accepts.false)
     (subst (λ (t : SeatView Asked). likes_of t < t.post.limits.likes) same few)
     refl
     (subst (λ (t : SeatView Asked). CountsLike t c.args.user c.args.page c.count_like.result c.count_like.new.self) same c.count_like.ensures.counts)

@@ -12,7 +12,7 @@ returns-then-not-is_sliced-clause-case g c =
     let s = c.self.inside.seat in
     let same : s ≡ c.args.self.now.seat = ap (λ (w : LiveView). w.seat) c.self.view_is in
     let plain : slices s.post c.args.page ≡ false = sym c.is_sliced.ensures ∙ c.if-not-is_sliced.true in
-    seen c.read_for.result c.read_for.new.self (sym c.in-Accepted.ensures.verdict)
+    seen c.read_for.result c.read_for.new.self (c.accepts.ensures.verdict.0 c.if-not-accepts.false)
     (subst (λ (t : SeatView Asked). slices t.post c.args.page ≡ false) same plain)
     refl
     (subst (λ (t : SeatView Asked). Reads t c.args.user c.args.page c.read_for.result c.read_for.new.self) same c.read_for.ensures.reads)
