@@ -113,13 +113,20 @@ module _ {T : Type 0} (fault_of : RecordsFault → T) where
   ends-taken Failed Asks tests done r row t at (inl same) = inl same
   ends-taken Failed Asks tests done r row t at (inr fails) = inr (inr (done, r, subst (λ n. FailsFirst (Asks done r) (tests n) t) at fails))
 
-  -- why the reading of the rows ended is why that of the file did
-  pub ends-file : {M : Type 0} (Failed Shown : Type 0) (Fails : T → Type 0) (headless : T) (r : Result M T) → (Failed → Shown) → IfErr r (EndsReading fault_of Failed Fails)
-      → IfErr r (λ fault. (fault ≡ headless) ⊎ EndsReading fault_of Shown Fails fault)
-  ends-file Failed Shown Fails headless (Ok made) shown ends = tt
-  ends-file Failed Shown Fails headless (Err fault) shown (inl memory) = inr (inl memory)
-  ends-file Failed Shown Fails headless (Err fault) shown (inr (inl (same, failed))) = inr (inr (inl (same, shown failed)))
-  ends-file Failed Shown Fails headless (Err fault) shown (inr (inr fails)) = inr (inr (inr fails))
+  -- why the reading of the rows ended is why that of the records did
+  pub ends-file : {M : Type 0} (Failed : Type 0) (Fails : T → Type 0) (headless : T) (r : Result M T) → IfErr r (EndsReading fault_of Failed Fails)
+      → IfErr r (λ fault. (fault ≡ headless) ⊎ EndsReading fault_of Failed Fails fault)
+  ends-file Failed Fails headless (Ok made) ends = tt
+  ends-file Failed Fails headless (Err fault) ends = inr ends
+
+  -- and it shows that a read of the reader failed
+  pub ends-shown : {M : Type 0} (Failed Shown : Type 0) (Fails : T → Type 0) (headless : T) (r : Result M T) → (Failed → Shown)
+      → IfErr r (λ fault. (fault ≡ headless) ⊎ EndsReading fault_of Failed Fails fault) → IfErr r (λ fault. (fault ≡ headless) ⊎ EndsReading fault_of Shown Fails fault)
+  ends-shown Failed Shown Fails headless (Ok made) shown ends = tt
+  ends-shown Failed Shown Fails headless (Err fault) shown (inl header) = inl header
+  ends-shown Failed Shown Fails headless (Err fault) shown (inr (inl memory)) = inr (inl memory)
+  ends-shown Failed Shown Fails headless (Err fault) shown (inr (inr (inl (same, failed)))) = inr (inr (inl (same, shown failed)))
+  ends-shown Failed Shown Fails headless (Err fault) shown (inr (inr (inr fails))) = inr (inr (inr fails))
 
   -- a fault that is neither the header's nor memory's nor a test's stands only where a read failed
   pub only-failed : (Failed : Type 0) (Asks : List Record → Record → T → Type 0) (tests : ℕ → List T) (headless read fault : T) → headless ≢ read → fault_of told.Memory ≢ read

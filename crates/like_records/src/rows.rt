@@ -73,12 +73,35 @@ pub fn read_file<R: Read + Drop, K: FileKind>(
         ⊎ EndsReading K.fault_of (ReadFailed reader) (FailsSome K.asks K.tests) fault) }
 {
     let mut records = Records::new(alloc, reader);
+    read_records(&mut records, kind, header, headless, made)
+}
+
+// Reads the header, and the rows behind it.
+fn read_records<R: Read, K: FileKind>(
+    records: &mut Records<R>,
+    kind: &K,
+    header: &[&str],
+    headless: K::Fault,
+    made: K::Made,
+) -> Result<K::Made, K::Fault>
+    requires { K.holds kind.now made [] }
+    ensures made { IfOk result (λ made. MadeOf K.asks K.tests (K.holds kind.now made)) }
+    ensures file { let first = map (λ text. text.now) header.now in
+        (rows : List Record) → records.old.left ≡ Some rows
+        → MatchResult result
+        (λ made. Behind first
+        (λ body. PassAll K.asks K.tests body × K.holds kind.now made body) rows)
+        (λ fault. Excuses K.fault_of fault ⊎ IsHeadless first headless rows fault
+        ⊎ Behind first (λ body. IsFirstFailed K.asks K.tests body fault) rows) }
+    ensures ends { IfErr result (λ fault. (fault ≡ headless)
+        ⊎ EndsReading K.fault_of (records.new.stopped ≡ Some RecordsFault.Read) (FailsSome K.asks K.tests) fault) }
+{
     match records.read_next() {
         Ok(found) => {
             if !found || !records.fields_are(header) {
                 return Err(headless);
             }
-            read_rows(&mut records, kind, made)
+            read_rows(records, kind, made)
         }
         Err(why) => Err(K::fault(why)),
     }
