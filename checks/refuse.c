@@ -29,6 +29,8 @@ enum kind { GROWTH, START, OPEN, READ, WRITE, KINDS };
 static struct counts {
     unsigned long of[KINDS];
     unsigned long status;
+    /* The blocks of memory that were taken and not given back at the end; below 0 until then. */
+    long left;
     /* The growths of each thread but the main one, by its number. */
     unsigned long bodies[NOTED];
     /* The starts and joins of the main thread: how many growths it made until then, and the started thread's number. */
@@ -39,9 +41,13 @@ static struct counts {
 static unsigned long kind, first, last;
 static int is_again;
 
-/* The number of this thread, from 1, and 0 for the main thread; how many growths it made; whether it starts another. */
+/* The blocks of memory that were taken and not given back until now. */
+static long held;
+
+/* The number of this thread, from 1, and 0 for the main thread; how many growths it made; whether it is in the C library,
+ * to start or join another or to end. What that takes and gives back doesn't count. */
 static __thread unsigned long number, growths;
-static __thread int is_starting;
+static __thread int is_inside;
 
 __attribute__((constructor)) static void begin(void) {
     int file = open(getenv("REFUSE_COUNTS"), O_RDWR);
@@ -49,6 +55,7 @@ __attribute__((constructor)) static void begin(void) {
     if (counts == MAP_FAILED)
         abort();
     close(file);
+    counts->left = -1;
     const char *refused = getenv("REFUSE");
     if (refused && sscanf(refused, "%lu %lu %lu", &kind, &first, &last) != 3)
         abort();
@@ -71,15 +78,28 @@ static int refuses(enum kind of, int why) {
 
 #define NEXT(name) ((__typeof__(&name))dlsym(RTLD_NEXT, #name))
 
-/* What the C library takes where it starts a thread is not the thread's that starts it. */
+static void hold(long blocks) {
+    if (!is_inside)
+        __atomic_add_fetch(&held, blocks, __ATOMIC_SEQ_CST);
+}
+
 void *malloc(size_t size) {
-    growths += !is_starting;
-    return refuses(GROWTH, ENOMEM) ? NULL : NEXT(malloc)(size);
+    growths += !is_inside;
+    void *block = refuses(GROWTH, ENOMEM) ? NULL : NEXT(malloc)(size);
+    hold(block != NULL);
+    return block;
 }
 
 void *realloc(void *block, size_t size) {
-    growths += !is_starting;
-    return refuses(GROWTH, ENOMEM) ? NULL : NEXT(realloc)(block, size);
+    growths += !is_inside;
+    void *moved = refuses(GROWTH, ENOMEM) ? NULL : NEXT(realloc)(block, size);
+    hold(block == NULL && moved != NULL);
+    return moved;
+}
+
+void free(void *block) {
+    hold(block == NULL ? 0 : -1);
+    NEXT(free)(block);
 }
 
 /* A thread's body with its value. */
@@ -97,6 +117,7 @@ static void *run_body(void *value) {
     number = body->number;
     void *ended = body->call(body->value);
     counts->bodies[number] = growths;
+    is_inside = 1;
     return ended;
 }
 
@@ -112,14 +133,14 @@ int pthread_create(pthread_t *thread, const pthread_attr_t *how, void *(*call)(v
     if (is_refused(START))
         return EAGAIN;
     unsigned long of = __atomic_add_fetch(&started, 1, __ATOMIC_SEQ_CST);
-    if (of < NOTED && !is_again) {
+    if (of < NOTED) {
         bodies[of] = (struct body){call, value, of};
         call = run_body;
         value = &bodies[of];
     }
-    is_starting = 1;
+    is_inside = 1;
     int failed = NEXT(pthread_create)(thread, how, call, value);
-    is_starting = 0;
+    is_inside = 0;
     if (!failed)
         note(of);
     return failed;
@@ -127,7 +148,17 @@ int pthread_create(pthread_t *thread, const pthread_attr_t *how, void *(*call)(v
 
 int pthread_join(pthread_t thread, void **value) {
     note(0);
-    return NEXT(pthread_join)(thread, value);
+    is_inside = 1;
+    int failed = NEXT(pthread_join)(thread, value);
+    is_inside = 0;
+    return failed;
+}
+
+int pthread_detach(pthread_t thread) {
+    is_inside = 1;
+    int failed = NEXT(pthread_detach)(thread);
+    is_inside = 0;
+    return failed;
 }
 
 int open(const char *name, int flags, ...) {
@@ -158,6 +189,7 @@ static pthread_t caller;
 
 /* What ends the process ends the first of two passes in place of it. */
 static void end_pass(int status) {
+    counts->left = held;
     if (the_main && !is_again && pthread_equal(pthread_self(), caller))
         longjmp(ended, status + 1);
 }

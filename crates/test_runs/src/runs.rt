@@ -64,6 +64,22 @@ fn runs_many_submitters(rt: HostRuntime) {
     }
 }
 
+// With 1 to 16 workers.
+#[test]
+fn runs_each_number_of_submitters(rt: HostRuntime) {
+    for submitters in 1..=64 {
+        let case = Case {
+            workers: 1 + submitters % 16,
+            users: submitters,
+            ..ONE_PAGE
+        };
+        let plans = likes(&rt, rt.alloc(), submitters, 1);
+        let report = case.report(&rt, rt.alloc(), plans, &Watch::idle());
+        let users = submitters as usize;
+        assert_liked(&rt, &report, users, 1, users, u64::from(submitters));
+    }
+}
+
 // Asserts where the first two additions to the page of a report stand: worker 1's stands behind one of worker 0.
 fn assert_second_is_of_worker_1(rt: &impl Abort, report: &Report) {
     let places = report.places.first().expect(rt, "a page");
