@@ -36,3 +36,11 @@ pub take-before : (i : ℕ) (rows : List AnswerRow) (a : AnswerRow) → take i (
 take-before i [] a = refl
 take-before zero (x ∷ rows) a = refl
 take-before (suc i) (x ∷ rows) a = ap (λ xs. x ∷ xs) (take-before i rows a)
+
+-- and so do those behind it
+pub set-behind : {A : Type 0} → (xs : List A) (i k : ℕ) (x : A) → i < k → slice_get (set xs i x) k ≡ slice_get xs k
+set-behind [] i k x below = refl
+set-behind (y ∷ xs) zero zero x below = absurd (omega arith)
+set-behind (y ∷ xs) (suc i) zero x below = absurd (omega arith)
+set-behind (y ∷ xs) zero (suc k) x below = refl
+set-behind (y ∷ xs) (suc i) (suc k) x below = set-behind xs i k x (omega arith)

@@ -2,7 +2,7 @@
 //! first. include/likes.h has the same calls as C sees them, with the rules for a host.
 #![tactic(auto)]
 
-ghost use Rattle.std.specs.Prelude.{◌≡◌, ◌≤◌, length, None};
+ghost use Rattle.std.specs.Prelude.{◌≡◌, ◌<◌, ◌≤◌, ℕ, length, slice_get, None};
 ghost use Rattle.like_c.specs.Held.{ClosesAt, DriverPhaseAt, DrivesAt, GlancesAt, HandsOut, LikesAt, LooksAt, OpensAt, PhaseAt, RetiresAt, RunsAt, SnapshotAt, TakesFoundAt, TurnsAt};
 ghost use Rattle.like_c.specs.Opened.{asked_of};
 
@@ -146,7 +146,8 @@ pub extern "C" fn likes_take_found(
 }
 
 /// Runs rows one by one. It stops before the first that is `BETWEEN` or `NO_ROOM`, whose answer has that status, and at
-/// the end of the shorter row. The seat is taken out of its handle once for all rows.
+/// the end of the shorter row. The answers behind are left as they were. The seat is taken out of its handle once for
+/// all rows.
 #[unsafe(no_mangle)]
 pub extern "C" fn likes_run(
     alloc: Global,
@@ -157,6 +158,7 @@ pub extern "C" fn likes_run(
     ensures rows { RunsAt seat.old.held.home requests.now answers.old answers.new result seat.new.held.home }
     ensures requests { result ≤ length requests.now }
     ensures answers { result ≤ length answers.old }
+    ensures rest { (i : ℕ) → result < i → slice_get answers.new i ≡ slice_get answers.old i }
 {
     let Some(mut taken) = seat.take(alloc) else {
         if let Some(first) = answers.first_mut() {

@@ -1,9 +1,9 @@
-use Rattle.std.proofs.Common.{List, take, get_or, sym, subst, arith}
+use Rattle.std.proofs.Common.{List, take, get_or, sym, ◌∙◌, subst, arith}
 use Rattle.std.proofs.lemmas.Option.{slice_get-get_or}
 use Rattle.like_c.specs.declared.rows.AnswerRow.{AnswerRow}
 use Rattle.like_c.specs.declared.rows.RequestRow.{RequestRow}
 use Rattle.like_c.specs.Held.{RowsAnswered, stops_at}
-use Rattle.like_c.proofs.Answering.{rows-more, set-there, take-before}
+use Rattle.like_c.proofs.Answering.{rows-more, set-behind, set-there, take-before}
 use Rattle.like_c.proofs.rows.run.Goals as goal
 
 abbrev none : RequestRow
@@ -22,11 +22,19 @@ returns-then-answer-clause-rows c =
     c.answer.ensures.row
     (c.answer.ensures.waits.0 c.if-answer.true)
 
+pub returns-then-answer-clause-rest : goal.returns-then-answer-clause-rest
+returns-then-answer-clause-rest c = λ k past.
+    set-behind c.loop-done.answers c.loop-done.done k c.answer.new.row past ∙ c.loop-done.invariant.rest k (omega arith)
+
+pub returns-clause-rest : goal.returns-clause-rest
+returns-clause-rest c = λ k past. c.loop-done.invariant.rest k (omega (arith, c.loop-done.auto.done-end))
+
 pub loop-done-preserved : goal.loop-done-preserved
 loop-done-preserved c =
     let i = c.loop-done.done in
     let requests = c.args.requests.now in
     record {
+      rest = λ k past. set-behind c.loop-done.answers i k c.answer.new.row (omega arith) ∙ c.loop-done.invariant.rest k (omega arith);
       ran = rows-more i requests c.loop-done.answers c.args.seat.now c.loop-done.seat c.answer.new.seat (get_or requests i none) c.answer.new.row
           (slice_get-get_or requests i none (omega (arith, c.loop-done-test.true, c.min-rows.ensures)))
           (omega (arith, c.loop-done-test.true, c.min-rows.ensures, c.loop-done.auto.answers))
