@@ -1,6 +1,5 @@
 -- Entries and rounds that are made one after the other.
-use Rattle.std.proofs.Common.{◌≡◌, ℕ, zero, suc, ◌+◌, ◌<◌, List, [], ◌∷◌, ◌++◌, length, get_or, take, refl, sym, ap, ◌∙◌, subst, arith}
-use Rattle.std.proofs.lemmas.List.{take_more}
+use Rattle.std.proofs.Common.{ℕ, zero, suc, ◌+◌, List, [], ◌∷◌, ◌++◌, refl, subst}
 use Rattle.like_script.specs.declared.turned.Turned.{Turned}
 use Rattle.like_crew.specs.declared.crew.Crew.{Crew}
 use Rattle.like_crew.specs.Steps.{IsRound}

@@ -1,3 +1,4 @@
+use crate::files::bytes;
 use like_devices::{Trickle, csv_cases};
 use like_records::{Records, RecordsFault, decimal};
 use std::alloc::Global;
@@ -57,11 +58,18 @@ fn written<R: Read + Drop>(rt: &impl Abort, alloc: Global, file: R) -> Vec<u8> {
 
 #[test]
 fn reads_what_others_read(rt: HostRuntime) {
-    for (text, records) in csv_cases() {
-        let wanted = format!(in rt.alloc(); "{records}Ok(false) 0 Ok(false)").expect(&rt, "memory");
-        let written = written(&rt, rt.alloc(), text.as_bytes());
-        assert!(rt; written.as_slice() == wanted.as_bytes(), "at {text}");
+    for case in csv_cases().lines() {
+        assert!(rt; is_read_alike(&rt, rt.alloc(), case), "at {case}");
     }
+}
+
+// Whether a text is read as others read it.
+fn is_read_alike(rt: &impl Abort, alloc: Global, case: &str) -> bool {
+    let (text, records) = case.split_once("=>").expect(rt, "a case");
+    let text = bytes(rt, alloc, text);
+    let mut wanted = bytes(rt, alloc, records);
+    push(rt, &mut wanted, b"Ok(false) 0 Ok(false)");
+    written(rt, alloc, text.as_slice()).as_slice() == wanted.as_slice()
 }
 
 // A byte order mark, quoted fields, and each end of a line.

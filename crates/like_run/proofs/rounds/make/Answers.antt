@@ -1,8 +1,7 @@
-use Rattle.std.proofs.Common.{◌≡◌, sym, subst}
+use Rattle.std.proofs.Common.{sym, subst}
 use Rattle.like_script.specs.declared.turned.Turned.{Turned}
 use Rattle.like_run.specs.Rounds.{CanMake}
 use Rattle.like_run.specs.Script.{Makes}
-use Rattle.like_crew.specs.ServerTurns.{MakesTurn}
 use Rattle.like_run.proofs.rounds.make.Goals as goal
 
 pub open_one-requires : goal.open_one-requires

@@ -1,4 +1,4 @@
-use Rattle.std.proofs.Common.{◌≡◌, ◌++◌, ◌∷◌, ◌+◌, List, [], length, get_or, take, refl, sym, subst, arith}
+use Rattle.std.proofs.Common.{◌≡◌, List, get_or, take, refl, sym, subst}
 use Rattle.std.proofs.lemmas.List.{take_all, take_more}
 use Rattle.like_script.specs.declared.turned.Turned.{Turned}
 use Rattle.like_script.specs.declared.turned.Turned.TheVariants.{OpenOne}

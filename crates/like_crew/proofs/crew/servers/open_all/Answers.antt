@@ -1,4 +1,4 @@
-use Rattle.std.proofs.Common.{◌<◌, length, refl, ◌∙◌, arith}
+use Rattle.std.proofs.Common.{◌<◌, length, refl, arith}
 use Rattle.std.proofs.lemmas.Option.{slice_get_read}
 use Rattle.like_crew.specs.ServerTurns.{OpensAll}
 use Rattle.like_crew.proofs.lists.Stepped.{stepped-all, stepped-more, stepped-none}
