@@ -12,7 +12,6 @@ use Rattle.like_core.proofs.views.ViewLists.{sum_lone}
 use Rattle.like_seat.specs.Lead.{LeadView}
 use Rattle.like_live.specs.declared.opening.Opening.{Opening}
 use Rattle.like_live.specs.declared.service.Service.{Service}
-use Rattle.like_live.specs.Driver.{IsSameDriver}
 use Rattle.like_live.specs.LiveView.{IsSameSeat, LiveView}
 use Rattle.like_live.specs.Service.{AreItsSeats, CallsKeepSeats, IsOpened}
 use Rattle.like_live.proofs.Closing.{all-alike, sum-alike}

@@ -18,7 +18,7 @@ use Rattle.like_live.specs.declared.asked.Asked.{Asked}
 use Rattle.like_live.specs.declared.asked.Found.{Found}
 use Rattle.like_live.specs.LiveView.{KeepsTallies, LiveView, tally, waiting, with_seat}
 use Rattle.like_live.specs.Moves as moves
-use Rattle.like_live.specs.Moves.{FindsAll, Moves, Works, looked, acknowledged, with_found}
+use Rattle.like_live.specs.Moves.{FindsAll, Moves, Works, looked}
 use Rattle.like_live.specs.Calls.{verdict_at}
 use Rattle.like_live.specs.History.{Told, ask_of, ask_taken, ask_told, ask_waiting, asks_left, like_told, page_liked}
 use Rattle.like_live.proofs.Moving.{IsSized, Leaves-moves}
