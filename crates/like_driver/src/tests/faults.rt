@@ -223,6 +223,7 @@ fn own() -> &'static [(DriverFault, &'static str, u8)] {
 fn of_no_file(rt: HostRuntime) {
     for (fault, text, status) in own() {
         let options = options(rt.alloc(), 2, 2).expect(&rt, "memory");
+        assert_text(&rt, rt.alloc(), &options, *fault, text);
         let fault = ProgramFault::Files {
             options,
             fault: *fault,
