@@ -1,19 +1,24 @@
 -- Each request of the plans has one entry in the run lists of all workers.
-use Rattle.std.proofs.Common.{◌≡◌, ℕ, zero, suc, ◌+◌, ◌<◌, ◌≤◌, Bool, true, false, ◌&&◌, cond, eqb, ltb, leb, List, [], ◌∷◌, length, map, filter, slice_get, Some, refl, sym, ap, ◌∙◌, arith, inl, inr, zero-add, add-zero, add-one}
+use Rattle.std.proofs.Common.{◌≡◌, ℕ, zero, suc, ◌+◌, ◌<◌, ◌≤◌, Bool, true, false, ◌&&◌, cond, eqb, ltb, leb, List, [], ◌∷◌, length, map, filter, get_or, slice_get, Some, refl, sym, ap, ◌∙◌, arith, inl, inr, zero-add, add-zero, add-one}
 use Rattle.std.specs.List.{count_by, flat_map, range_with_len, sum_by}
 use Rattle.std.proofs.Math.Nat.{mod-lt}
 use Rattle.std.proofs.lemmas.Bool.{cases_eq, cases_lt, eq-eqb, ne_eqb, le-ltb, lt-ltb}
 use Rattle.std.proofs.lemmas.Bool.Decides.{eqb_tells, leb_tells}
 use Rattle.std.proofs.lemmas.List.Concat.{flat_map-cons}
 use Rattle.std.proofs.lemmas.List.Sums.{sum_by-append, sum_by-cons}
+use Rattle.like_requests.specs.declared.request.Request.{Request}
 use Rattle.like_tables.specs.Share.{worker_of}
 use Rattle.like_service.specs.declared.log.Ran.{Ran}
 use Rattle.like_service.specs.declared.log.Took.{Took}
 use Rattle.like_service.specs.declared.log.WorkerLog.{WorkerLog}
 use Rattle.like_service.specs.Order.{Entry, entry_of}
 use Rattle.like_service.specs.Service.{Service}
-use Rattle.like_service.specs.Log.{IsLog, numbers_taken, plan_of}
+use Rattle.like_service.specs.Log.{IsLog, numbers_taken}
 use Rattle.like_crew.proofs.Ordered.{order-weighs}
+
+-- the plan of a submitter, which is empty where there is no such submitter
+abbrev pub plan_of : Service → ℕ → List Request
+plan_of service submitter = get_or service.plans submitter []
 
 eqb_swap : (a b : ℕ) → eqb a b ≡ eqb b a
 eqb_swap a b = elim (eqb_tells a b) [

@@ -6,7 +6,8 @@ use Rattle.like_service.specs.declared.log.Ran.{Ran}
 use Rattle.like_collection.specs.declared.collect_fault.CollectFault.{CollectFault}
 use Rattle.like_collection.specs.declared.collect_fault.CollectFault.TheVariants.{Stranger, Double, Missing, Memory}
 use Rattle.like_collection.specs.CollectFaults.{IsCollectFault, IsFirstBadEntry}
-use Rattle.like_service.specs.Collected.{entries_of, is_of}
+use Rattle.like_service.specs.Collected.{entries_of}
+use Rattle.like_collection.specs.Entries.{is_of}
 use Rattle.like_requests.specs.Verdict.{home}
 use Rattle.like_crew.specs.Gathered.{RunsOnce}
 

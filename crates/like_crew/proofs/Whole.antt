@@ -34,6 +34,7 @@ use Rattle.like_service.specs.Likes.{initial_count, last_like, likes, likes_amon
 use Rattle.like_roles.proofs.choice.Choosing.{chosen-more}
 use Rattle.like_roles.proofs.choice.Releasing.{none-even}
 use Rattle.like_roles.proofs.counts.RightCounts.{below-is, right-counts}
+use Rattle.like_service.specs.Replies.{HasRightCounts}
 use Rattle.like_roles.specs.coordinator.Choice.{AreTotals, likes_counted}
 use Rattle.like_service.specs.HotPages.{chosen_below, hot_by, likes_lately}
 use Rattle.like_service.specs.Service.{Service, submitters}
@@ -41,16 +42,16 @@ use Rattle.like_collection.specs.Entries.{IsRequest}
 use Rattle.like_service.specs.Collected.{entries_in, entries_of}
 use Rattle.like_crew.specs.declared.ended.Ended.{Ended}
 use Rattle.like_crew.specs.declared.site.Site.{Site}
-use Rattle.like_service.specs.EndToEnd.{AreCounts, AreLastLikes, AreLogs, AreRightCounts, run_of, runs_of}
+use Rattle.like_service.specs.EndToEnd.{AreCounts, AreLastLikes, AreLogs, runs_of}
 use Rattle.like_crew.specs.Gathered.{AreTables, RunsOnce}
-use Rattle.like_service.specs.Log.{IsLog, plan_of}
+use Rattle.like_service.specs.Log.{IsLog}
 use Rattle.like_crew.specs.Server.{NoneAbove, HasWorkedFor, IsLogOf, ReadMasksOf, ServerView}
 use Rattle.like_service.specs.Asked.{asked, service_of}
 use Rattle.like_crew.specs.Ended.{IsEnded, IsSeatOf}
 use Rattle.like_crew.specs.Site.{opening_of}
 use Rattle.like_crew.specs.Servers.{IsServer}
 use Rattle.like_crew.proofs.Hot.{hot-same, order-same, stashed-same, total}
-use Rattle.like_crew.proofs.Counted.{count-in-all, in_range}
+use Rattle.like_crew.proofs.Counted.{count-in-all, in_range, plan_of}
 use Rattle.like_crew.proofs.lists.Pairs.{pairs-at, pairs-length, pairs-sum}
 use Rattle.like_crew.proofs.lists.Sums.{sum-of-map}
 
@@ -278,7 +279,7 @@ module _ (setup : Setup) (plans : List (List Request)) (site : Site) (e : Ended)
       )
 
   -- the counts that looks were answered
-  pub seen-counts : HaveReadMasks (coord_view e.coord).masks e.seats.items → z.counts ≡ map (λ p. p.count) known.pages → HaveReadBetween (coord_view e.coord).opening (coord_view e.coord).phase e.seats.items → AreRightCounts served e.logs.items
+  pub seen-counts : HaveReadMasks (coord_view e.coord).masks e.seats.items → z.counts ≡ map (λ p. p.count) known.pages → HaveReadBetween (coord_view e.coord).opening (coord_view e.coord).phase e.seats.items → All (λ log. HasRightCounts served (runs_of e.logs.items) log.ran.items) e.logs.items
   seen-counts masks initial reads = λ worker d within.
       let log : WorkerLog = get_or e.logs.items worker d in
       let at : slice_get e.logs.items worker ≡ Some log = slice_get-get_or e.logs.items worker d within in
@@ -298,7 +299,6 @@ module _ (setup : Setup) (plans : List (List Request)) (site : Site) (e : Ended)
       (s.1.1.by_phase known (is.works hot_known, right-at-server masks worker s.0 s.1.0))
       (s.1.1.looks known (is.works hot_known, right-at-server masks worker s.0 s.1.0))
       between
-      (log-at masks worker log at).answers
 
 -- the last likes of all users
 pub last-likes-are : (service : Service) (workers : ℕ) (logs : List WorkerLog) (last : List (Option ℕ)) → length logs ≡ workers → 0 < workers
@@ -312,6 +312,11 @@ last-likes-are service workers logs last sized some each users told = record {
       let within : worker < length logs = omega (arith, mod-lt (home (submitters service) user) some, sized) in
       by_log user there (slice_get logs worker) refl (cases_of logs worker within);
 } where
+  run-at : (xs : List WorkerLog) (k : ℕ) (x : WorkerLog) → slice_get xs k ≡ Some x → get_or (runs_of xs) k [] ≡ x.ran.items
+  run-at [] k x at = absurd (cc at)
+  run-at (y ∷ ys) zero x at = let same : y ≡ x = cc at in ap (λ (log : WorkerLog). log.ran.items) same
+  run-at (y ∷ ys) (suc k) x at = run-at ys k x at
+
   cases_of : (xs : List WorkerLog) (k : ℕ) → k < length xs → (x : WorkerLog) × (slice_get xs k ≡ Some x)
   cases_of [] k h = absurd (omega (arith, h))
   cases_of (x ∷ xs) zero h = (x, refl)
@@ -319,11 +324,11 @@ last-likes-are service workers logs last sized some each users told = record {
 
   by_log : (user : ℕ) → user < service.users → (o : Option WorkerLog) → slice_get logs (worker_of workers (home (submitters service) user)) ≡ o
       → ((x : WorkerLog) × (slice_get logs (worker_of workers (home (submitters service) user)) ≡ Some x))
-      → slice_get last user ≡ Some (last_like service user (run_of logs (worker_of workers (home (submitters service) user))))
+      → slice_get last user ≡ Some (last_like service user (get_or (runs_of logs) (worker_of workers (home (submitters service) user)) []))
   by_log user there o e found =
       told user found.0 there (ap (λ n. slice_get logs (worker_of n (home (submitters service) user))) sized ∙ found.1)
       ∙ ap Some ((each (worker_of workers (home (submitters service) user)) found.0 found.1).last user
-      ∙ ap (λ o. last_like service user (option_map_or (λ (log : WorkerLog). log.ran.items) o [])) (sym found.1))
+      ∙ ap (last_like service user) (sym (run-at logs (worker_of workers (home (submitters service) user)) found.0 found.1)))
 
 -- each request has one entry
 range-in : (m k : ℕ) → 1 ≤ m → m ≤ k → in_range 1 (1 + k) m 1 ≡ 1

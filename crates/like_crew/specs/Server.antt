@@ -1,5 +1,5 @@
 -- A worker with the inboxes of its submitters.
-use Rattle.std.specs.Prelude.{◌≡◌, ◌≢◌, ℕ, ◌+◌, ◌<◌, ◌≤◌, min, nat_lt, if◌then◌else◌, false, true, List, [], length, map, slice_get, slice_index, slice_index_or, All, IfSome, Option, Some, None}
+use Rattle.std.specs.Prelude.{◌≡◌, ◌≢◌, ℕ, ◌+◌, ◌<◌, ◌≤◌, min, nat_lt, if◌then◌else◌, false, true, List, [], length, map, slice_get, slice_index, slice_index_or, All, AllPairs, IfSome, Option, Some, None}
 use Rattle.std.specs.List.{range_with_len}
 use Rattle.std.specs.Option.{option_map_or}
 use Rattle.like_requests.specs.Setup.{IsPlan, IsThere}
@@ -11,14 +11,14 @@ use Rattle.like_core.specs.PhaseMasks.{AreMasksOf}
 use Rattle.like_core.specs.Post.{additions_in, additions_of, pages_of}
 use Rattle.like_queue.specs.Inbox.{InboxView}
 use Rattle.like_tables.specs.Share.{Share, dealt, place_of, serves}
-use Rattle.like_roles.specs.worker.Follows.{AreNoted, Follows, shown_by}
+use Rattle.like_roles.specs.worker.Follows.{AreNoted, Follows}
+use Rattle.like_roles.specs.worker.Shown.{shown_by, shown_in}
 use Rattle.like_service.specs.declared.log.Took.{Took}
 use Rattle.like_service.specs.declared.log.WorkerLog.{WorkerLog}
 use Rattle.like_service.specs.Likes.{likes_among, likes_within}
-use Rattle.like_service.specs.places.Looks.{shown_in}
 use Rattle.like_service.specs.Service.{Service}
 use Rattle.like_roles.specs.worker.WorkerView.{WorkerView, phase_at}
-use Rattle.like_service.specs.Log.{IsLog, IsRising, numbers_taken}
+use Rattle.like_service.specs.Log.{IsLog, numbers_taken}
 
 -- the worker, the inboxes of its submitters by place, and how many items of each are open to it
 pub record ServerView : Type 0 where
@@ -70,6 +70,10 @@ ReadMasksOf service s = AreMasksOf service.hot s.worker.post.masks
 pub record WorksFor (service : Service) (s : ServerView) : Type 0 where
   pub plans : AreOwnPlans service s.worker.last.share.workers s.worker.last.share.worker s.inboxes
   pub follows : ReadMasksOf service s → Follows service s.worker
+
+-- the phases of taking never fall
+abbrev pub IsRising : List Took → Type 0
+IsRising taken = AllPairs (λ s t. s.phase ≤ t.phase) taken
 
 -- nothing was taken in a phase above the one that was seen last
 abbrev pub NoneAbove : Option Sight → List Took → Type 0

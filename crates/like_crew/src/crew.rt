@@ -1,5 +1,5 @@
 ghost use Rattle.std.specs.Prelude.{◌≡◌, ◌<◌, IfOk, length, map, true};
-ghost use Rattle.like_requests.specs.Setup.{IsWithinLimits};
+ghost use Rattle.like_requests.specs.Setup.{FitsRun};
 ghost use Rattle.std.specs.List.{AllZip};
 ghost use Rattle.like_roles.specs.coordinator.CoordTurns.{CoordTurns, HasEndedJoined};
 ghost use Rattle.like_service.specs.Asked.{lists_of};
@@ -49,7 +49,7 @@ impl<'a, I: Inbox> Crew<'a, I> {
         seats: Seats,
         inboxes: Vec<I>,
     ) -> Result<Crew<'a, I>, AllocError>
-        requires within { IsWithinLimits setup.now (plans_of (map I.view inboxes.items)) }
+        requires within { FitsRun setup.now (plans_of (map I.view inboxes.items)) }
         requires untouched { AreUntouched (map I.view inboxes.items) }
         requires site { IsSite setup.now (plans_of (map I.view inboxes.items)) site.now }
         requires seats { AreSeats setup.now site.now seats }
@@ -97,7 +97,7 @@ impl<'a> Crew<'a, ListInbox> {
         seats: Seats,
         plans: Vec<Vec<Request>>,
     ) -> Result<Crew<'a, ListInbox>, AllocError>
-        requires within { IsWithinLimits setup.now (lists_of plans.items) }
+        requires within { FitsRun setup.now (lists_of plans.items) }
         requires site { IsSite setup.now (lists_of plans.items) site.now }
         requires seats { AreSeats setup.now site.now seats }
         ensures { IfOk result (IsCrew setup.now (lists_of plans.items) site.now) }

@@ -1,5 +1,5 @@
 ghost use Rattle.std.specs.Prelude.{◌≡◌, ◌<◌, ◌≤◌, ℕ, false, true, All, IfOk, IfSome, length, slice_index};
-ghost use Rattle.like_requests.specs.Setup.{IsWithinLimits};
+ghost use Rattle.like_requests.specs.Setup.{FitsRun};
 ghost use Rattle.like_board.specs.Seats.{AreCounted, board_id, coord_view, last_count, seat_meaning, HaveAddedBetween, HavePlaces, HaveReadBetween, HaveReadMasks};
 ghost use Rattle.like_service.specs.Asked.{lists_of};
 ghost use Rattle.like_service.specs.EndToEnd.{IsRightReport};
@@ -26,7 +26,7 @@ pub fn report_of(
     site: Site,
     ended: Ended,
 ) -> Result<Report, AllocError>
-    requires within { IsWithinLimits setup.now (lists_of plans.now.value.items) }
+    requires within { FitsRun setup.now (lists_of plans.now.value.items) }
     requires site { IsSite setup.now (lists_of plans.now.value.items) site }
     requires ended { IsEnded setup.now (lists_of plans.now.value.items) site ended }
     ensures report { IfOk result (IsRightReport setup.now (lists_of plans.now.value.items)) }

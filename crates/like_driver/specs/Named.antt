@@ -4,7 +4,7 @@ use Rattle.std.specs.Prelude.{◌⊎◌, ℕ, List, Option, None}
 use Rattle.like_words.specs.declared.options.Options.{Options}
 use Rattle.like_replies.specs.declared.summary.Summary.{Summary}
 use Rattle.like_files.specs.FailedReads.{TellsRead}
-use Rattle.like_files.specs.Inputs.{Inputs, inputs_of}
+use Rattle.like_files.specs.Inputs.{inputs_of}
 use Rattle.like_files.specs.Opened.{AreNamed, IsUnopened}
 use Rattle.like_files.specs.Replay.{HasReplayed, IsReplayFilesFault}
 use Rattle.like_files.specs.Run.{HasRun, IsRunFilesFault}

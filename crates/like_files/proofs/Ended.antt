@@ -12,6 +12,7 @@ use Rattle.like_service.specs.EndToEnd.{IsRightReport}
 use Rattle.like_service.specs.places.Tiling.{HasNoPlaces, HasRightPlaces}
 use Rattle.like_requests.specs.Limits.{max_requests}
 use Rattle.like_requests.specs.Pages.{Page}
+use Rattle.like_requests.proofs.Planned.{fits-run}
 use Rattle.like_requests.specs.Setup.{IsWithinLimits}
 use Rattle.like_requests.specs.declared.request.Request.{Request}
 use Rattle.like_replies.specs.declared.write_fault.WriteFault.{WriteFault}
@@ -60,7 +61,8 @@ pub few_requests : (setup : Setup) (plans : List (List Request)) (report : Repor
 few_requests setup plans report within right =
     let sizes : List ℕ = map length plans in
     let same : requests_in report.replies ≡ fold (λ s n. s + n) 0 sizes = lengths report.replies.rows.items 0 ∙ ap (fold (λ (s n : ℕ). s + n) 0) right.replies.sized in
-    omega (arith, same, sum-≤ sizes 0 within.numbers.small, within.numbers.submitters.1)
+    let numbers = (fits-run setup plans within).numbers in
+    omega (arith, same, sum-≤ sizes 0 numbers.small, numbers.submitters.1)
 
 -- request files that were refused, where the pages file gives these pages
 pub lists-refused : (file : Option (List ℕ)) (files : List (Option (List ℕ))) (pages : List Page) (fault : DriverFault) → GivesPages file pages → RefusesPlans pages files fault → RefusesLists file files fault

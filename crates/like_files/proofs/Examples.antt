@@ -9,7 +9,7 @@ use Rattle.like_requests.specs.declared.verdict.Verdict.TheVariants.{OtherHome, 
 use Rattle.like_service.specs.declared.reply.Reply.{Reply}
 use Rattle.like_service.specs.declared.reply.Reply.TheVariants.{Liked, Seen, Refused}
 use Rattle.like_service.specs.HotPages.{chosen_below, hot_in}
-use Rattle.like_service.specs.Likes.{Between, initial_count, last_like, likes, likes_below, likes_up_to, likes_within}
+use Rattle.like_service.specs.Likes.{Between, initial_count, last_like, likes, likes_below, likes_within}
 use Rattle.like_service.specs.declared.log.Ran.{Ran}
 use Rattle.like_service.specs.Replies.{IsRightAnswer}
 use Rattle.like_service.specs.Service.{Service}
@@ -66,7 +66,7 @@ abbrev sliced_runs : List (List Ran)
 sliced_runs = (runs_at 1 0 1 Liked ∷ look ∷ []) ∷ (runs_at 1 1 1 Liked ∷ []) ∷ []
 
 look_answer : IsRightAnswer sliced (runs_at 1 0 1 Liked ∷ []) look
-look_answer = (refl, tt)
+look_answer = refl
 
 -- the bounds of the look meet in 102, and a look of the first worker in phase 1, before its like, may see 100 or 101
 look_count : Between sliced sliced_runs 2 0 102 (likes_within sliced 0 (runs_at 1 0 1 Liked ∷ []) 2) 0
@@ -75,8 +75,8 @@ look_count = record { lower = omega arith; upper = omega arith }
 below_1 : likes_below sliced 0 sliced_runs 1 ≡ 0
 below_1 = refl
 
-up_to_1 : likes_up_to sliced 0 sliced_runs 1 ≡ 2
-up_to_1 = refl
+below_2 : likes_below sliced 0 sliced_runs 2 ≡ 2
+below_2 = refl
 
 -- one user's likes in phases 1 and 2, and a look that waited for phase 4
 abbrev chosen : Service

@@ -1,5 +1,5 @@
 -- A report that is right end to end shows pages that are there and replies that can be shown.
-use Rattle.std.proofs.Common.{◌≡◌, ℕ, zero, suc, ◌<◌, Bool, true, false, List, [], ◌∷◌, ◌++◌, length, map, take, cond, eqb, Option, None, Some, All, refl, sym, ap, ◌∙◌, subst, arith}
+use Rattle.std.proofs.Common.{◌≡◌, ℕ, zero, suc, ◌<◌, ◌==◌, ◌&&◌, nat_lt, not, Bool, true, false, List, [], ◌∷◌, ◌++◌, length, map, take, get_or, cond, eqb, Option, None, Some, All, refl, sym, ap, ◌∙◌, subst, arith}
 use Rattle.std.proofs.lemmas.List.Elements.{All-from_recursion}
 use Rattle.std.proofs.lemmas.Option.{get_or_from_slice_get, slice_get_within}
 use Rattle.std.specs.Prelude.{IsSomeAnd}
@@ -7,28 +7,29 @@ use Rattle.std.specs.List.{AllByRecursion, cons_option, filter, flat_map, slice_
 use Rattle.std.specs.Option.{ForSome, option_and_then, option_to_list}
 use Rattle.like_requests.specs.Pages.{Page}
 use Rattle.like_requests.specs.Setup.{IsPlan, IsThere}
-use Rattle.like_requests.specs.Verdict.{home, is_accepted, verdict_of}
+use Rattle.like_requests.specs.Verdict.{home, is_accepted, is_known, verdict_of}
 use Rattle.like_requests.specs.declared.request.Op.{Op}
 use Rattle.like_requests.specs.declared.request.Op.TheVariants.{Like, Look}
 use Rattle.like_requests.specs.declared.request.PageRef.{PageRef}
 use Rattle.like_requests.specs.declared.request.PageRef.TheVariants.{Known, Unknown}
 use Rattle.like_requests.specs.declared.request.Request.{Request}
-use Rattle.like_requests.specs.declared.verdict.Verdict.{Verdict}
 use Rattle.like_requests.specs.declared.verdict.Verdict.TheVariants.{Accepted, UnknownUser, OtherHome, UnknownPage}
 use Rattle.like_service.specs.declared.log.Ran.{Ran}
 use Rattle.like_service.specs.declared.log.WorkerLog.{WorkerLog}
 use Rattle.like_service.specs.declared.reply.Reply.{Reply}
-use Rattle.like_service.specs.declared.reply.Reply.TheVariants.{Liked, Seen, Refused}
+use Rattle.like_service.specs.declared.reply.Reply.TheVariants.{Refused}
 use Rattle.like_service.specs.Likes.{AcceptedLike, accepted_like, last_like, like_of, likes_ran}
-use Rattle.like_service.specs.Replies.{Answers, HasRightAnswers, IsRightAnswer}
+use Rattle.like_service.specs.Looks.{count_in}
+use Rattle.like_service.specs.Replies.{HasRightAnswers, IsRightAnswer, answer_to, reply_to}
 use Rattle.like_service.specs.Service.{Service, numbered_in, request_at, request_of, submitters}
 use Rattle.like_service.specs.declared.answer.Answer.{Answer}
 use Rattle.like_service.specs.declared.report.Report.{Report}
-use Rattle.like_service.specs.Collected.{answer_at, rows_of, answer_of, entries_in, entries_of, is_of}
+use Rattle.like_service.specs.Collected.{answer_at, rows_of, answer_of, entries_in, entries_of}
+use Rattle.like_collection.specs.Entries.{is_of}
 use Rattle.like_replies.specs.Reported.{reported}
 use Rattle.like_replies.specs.Rows.{IsShowable, IsWritable}
 use Rattle.like_tables.specs.Share.{worker_of}
-use Rattle.like_service.specs.EndToEnd.{IsEndToEnd, run_of}
+use Rattle.like_service.specs.EndToEnd.{IsEndToEnd, runs_of}
 
 -- what holds of each element by its place holds of all
 all_from_get : {X : Type 0} (P : X → Type 0) (xs : List X) → ((i : ℕ) (x : X) → slice_get xs i ≡ Some x → P x) → AllByRecursion P xs
@@ -74,15 +75,20 @@ likes_there pages true Like user (Known q) rest there all = (there, all)
 likes_there pages true Like user Unknown rest there all = all
 likes_there pages true Look user p rest there all = all
 
--- a reply that is an answer shows no page but the user's last one
-shows_there : (pages : List Page) (v : Verdict) (o : Op) (last : Option ℕ) (reply : Reply) → ForSome last (λ p. p < length pages) → Answers v o last reply → IsShowable pages reply
-shows_there pages Accepted Like last reply there is = subst (IsShowable pages) (sym is) (record { there = tt; answer = tt })
-shows_there pages Accepted Look last Liked there is = absurd is
-shows_there pages Accepted Look last (Seen shown count) there is = record { there = subst (λ x. ForSome x (λ p. p < length pages)) (sym is.0) there; answer = tt }
-shows_there pages Accepted Look last (Refused verdict) there is = absurd is
-shows_there pages UnknownUser o last reply there is = subst (IsShowable pages) (sym is) (record { there = tt; answer = λ e. cc })
-shows_there pages OtherHome o last reply there is = subst (IsShowable pages) (sym is) (record { there = tt; answer = λ e. cc })
-shows_there pages UnknownPage o last reply there is = subst (IsShowable pages) (sym is) (record { there = tt; answer = λ e. cc })
+-- a reply shows no page but the user's last one
+reply_there : (pages : List Page) (o : Op) (last : Option ℕ) (count : ℕ) → ForSome last (λ p. p < length pages) → IsShowable pages (reply_to o last count)
+reply_there pages Like last count there = record { there = tt; answer = tt }
+reply_there pages Look last count there = record { there = there; answer = tt }
+
+-- nor does a refusal, which is no acceptance
+answer_there : (pages : List Page) (users submitters submitter : ℕ) (r : Request) (given : Reply) → IsShowable pages given
+    → IsShowable pages (cond (is_accepted users submitters submitter r) given (Refused (verdict_of users submitters submitter r)))
+answer_there pages users submitters submitter r given shows = by_tests (nat_lt r.user users) (home submitters r.user == submitter) (is_known r.page) where
+  by_tests : (a b k : Bool) → IsShowable pages (cond (a && b && k) given (Refused (cond (not a) UnknownUser (cond (not b) OtherHome (cond (not k) UnknownPage Accepted)))))
+  by_tests true true true = shows
+  by_tests true true false = record { there = tt; answer = λ e. cc }
+  by_tests true false k = record { there = tt; answer = λ e. cc }
+  by_tests false b k = record { there = tt; answer = λ e. cc }
 
 module _ (service : Service) (planned : All (IsPlan service.pages) service.plans) where
   -- the page that a request of a plan knows is there
@@ -118,11 +124,11 @@ module _ (service : Service) (planned : All (IsPlan service.pages) service.plans
   -- an entry with a right answer can be shown
   entry_shows : (before : List Ran) (e : Ran) → IsRightAnswer service before e → IsShowable service.pages e.reply
   entry_shows before e right = by_request (request_of service e) right where
-    by_request : (o : Option Request)
-        → IsSomeAnd o (λ r. Answers (verdict_of service.users (submitters service) e.submitter r) r.op (last_like service r.user before) e.reply) → IsShowable service.pages e.reply
+    by_request : (o : Option Request) → IsSomeAnd o (λ r. e.reply ≡ answer_to service before e r) → IsShowable service.pages e.reply
     by_request None h = absurd h
     by_request (Some r) h =
-        shows_there service.pages (verdict_of service.users (submitters service) e.submitter r) r.op (last_like service r.user before) e.reply (last_there r.user before) h
+        subst (IsShowable service.pages) (sym h) (answer_there service.pages service.users (submitters service) e.submitter r (reply_to r.op (last_like service r.user before) (count_in e.reply))
+        (reply_there service.pages r.op (last_like service r.user before) (count_in e.reply) (last_there r.user before)))
 
   list_shows : (ran : List Ran) → HasRightAnswers service ran → AllByRecursion (λ (e : Ran). IsShowable service.pages e.reply) ran
   list_shows ran right = all_from_get (λ (e : Ran). IsShowable service.pages e.reply) ran (λ i e at. entry_shows (take i ran) e (right i e at))
@@ -152,7 +158,7 @@ module _ (service : Service) (planned : All (IsPlan service.pages) service.plans
     user_shows : (user : ℕ) (last : Option ℕ) → slice_get r.last.items user ≡ Some last → ForSome last (λ page. page < length service.pages)
     user_shows user last at =
         let known : user < service.users = omega (arith, slice_get_within r.last.items user last at, h.last.users) in
-        let entries : List Ran = run_of r.logs.items (worker_of workers (home (submitters service) user)) in
+        let entries : List Ran = get_or (runs_of r.logs.items) (worker_of workers (home (submitters service) user)) [] in
         let same : Some (last_like service user entries) ≡ Some last = sym (h.last.each user known) ∙ at in
         let is : last_like service user entries ≡ last = cc same in
         subst (λ x. ForSome x (λ page. page < length service.pages)) is (last_there user entries)

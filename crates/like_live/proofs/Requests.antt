@@ -5,8 +5,9 @@ use Rattle.std.proofs.lemmas.Bool.{and_from, and_parts, eq-eqb, eqb-true}
 use Rattle.like_core.specs.OpeningLimits.{service_limits}
 use Rattle.like_requests.specs.Verdict.{is_accepted}
 use Rattle.like_requests.specs.declared.request.Request.{Request}
-use Rattle.like_seat.specs.SeatView.{IsSeat, SeatView, likes_of}
+use Rattle.like_seat.specs.SeatView.{IsSeat, SeatView}
 use Rattle.like_tables.specs.Share.{Share, owns}
+use Rattle.like_seat.specs.SeatView.{likes_of}
 use Rattle.like_live.specs.declared.asked.Asked.{Asked}
 
 -- the user of a request that is accepted is the seat's

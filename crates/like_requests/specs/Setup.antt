@@ -1,8 +1,8 @@
 -- The limits of a run.
-use Rattle.std.specs.Prelude.{◌≡◌, ◌⊎◌, ℕ, ◌<◌, ◌≤◌, List, [], ◌∷◌, length, map, All, Option, ⊤}
-use Rattle.std.specs.List.{AllByRecursion}
+use Rattle.std.specs.Prelude.{ℕ, ◌<◌, ◌≤◌, List, [], ◌∷◌, ◌++◌, length, map, slice_index_or, All, Option, ⊤}
+use Rattle.std.specs.List.{AllByRecursion, range_with_len}
 use Rattle.std.specs.Option.{ForSome}
-use Rattle.like_records.specs.First.{FailsFirst, IsFirstBad}
+use Rattle.like_records.specs.First.{FailsFirst}
 use Rattle.like_requests.specs.Pages.{Page}
 use Rattle.like_requests.specs.declared.request.PageRef.{PageRef}
 use Rattle.like_requests.specs.declared.request.PageRef.TheVariants.{Known, Unknown}
@@ -17,56 +17,61 @@ abbrev pub IsThere : ℕ → PageRef → Type 0
 IsThere pages (Known page) = page < pages
 IsThere pages Unknown = ⊤
 
--- the requests know no page that is not there
-abbrev pub AreThere : List Page → List Request → Type 0
-AreThere pages plan = All (λ r. IsThere (length pages) r.page) plan
-
 -- a submitter's list is not too long, and knows no page that is not there
 pub record IsPlan (pages : List Page) (plan : List Request) : Type 0 where
   pub few : length plan ≤ max_requests
-  pub there : AreThere pages plan
+  pub there : All (λ r. IsThere (length pages) r.page) plan
 
 -- how many likes make a page hot, if any do
 abbrev pub IsHotLimit : Option ℕ → Type 0
 IsHotLimit hot = ForSome hot (λ least. (1 ≤ least) × (least ≤ max_hot))
 
--- what the limit asks that is named by the fault of breaking it, where there are so many submitters
-abbrev pub Holds : Setup → ℕ → SettingsFault → Type 0
-Holds s submitters Workers = (1 ≤ s.workers) × (s.workers ≤ max_workers)
-Holds s submitters Submitters = (1 ≤ submitters) × (submitters ≤ max_submitters)
-Holds s submitters Users = (1 ≤ s.users) × (s.users ≤ max_users)
-Holds s submitters Stash = (1 ≤ s.stash) × (s.stash ≤ max_stash)
-Holds s submitters Turns = s.turns ≤ max_turns
-Holds s submitters (Plan submitter) = ⊤
-Holds s submitters (Script at) = ⊤
-Holds s submitters Hot = IsHotLimit s.hot
+-- what the limit asks that is named by the fault of breaking it
+abbrev pub Holds : Setup → List (List Request) → SettingsFault → Type 0
+Holds s plans Workers = (1 ≤ s.workers) × (s.workers ≤ max_workers)
+Holds s plans Submitters = (1 ≤ length plans) × (length plans ≤ max_submitters)
+Holds s plans Users = (1 ≤ s.users) × (s.users ≤ max_users)
+Holds s plans Stash = (1 ≤ s.stash) × (s.stash ≤ max_stash)
+Holds s plans Turns = s.turns ≤ max_turns
+Holds s plans (Plan submitter) = IsPlan s.pages (slice_index_or plans submitter [])
+Holds s plans (Script at) = ⊤
+Holds s plans Hot = IsHotLimit s.hot
 
 -- the limits on numbers, in the order of their tests
 abbrev pub number_limits : List SettingsFault
 number_limits = Workers ∷ Submitters ∷ Users ∷ Stash ∷ Turns ∷ []
 
+-- all limits of a run with so many submitters, in the order of their tests
+abbrev pub limits : ℕ → List SettingsFault
+limits submitters = number_limits ++ (map Plan (range_with_len 0 submitters) ++ Hot ∷ [])
+
+-- every limit holds
+abbrev pub IsWithinLimits : Setup → List (List Request) → Type 0
+IsWithinLimits s plans = AllByRecursion (Holds s plans) (limits (length plans))
+
+-- the first limit that is broken
+abbrev pub IsFirstBroken : Setup → List (List Request) → SettingsFault → Type 0
+IsFirstBroken s plans fault = FailsFirst (Holds s plans) (limits (length plans)) fault
+
 -- every limit on a number holds
-abbrev pub AreNumbersWithin : Setup → ℕ → Type 0
-AreNumbersWithin s submitters = AllByRecursion (Holds s submitters) number_limits
+abbrev pub AreNumbersWithin : Setup → List (List Request) → Type 0
+AreNumbersWithin s plans = AllByRecursion (Holds s plans) number_limits
 
 -- the limits hold that a worker needs, where the submitters have these numbers of requests
 pub record IsWithin (s : Setup) (sizes : List ℕ) : Type 0 where
-  pub workers : Holds s (length sizes) Workers
-  pub submitters : Holds s (length sizes) Submitters
-  pub stash : Holds s (length sizes) Stash
+  pub workers : (1 ≤ s.workers) × (s.workers ≤ max_workers)
+  pub submitters : (1 ≤ length sizes) × (length sizes ≤ max_submitters)
+  pub stash : (1 ≤ s.stash) × (s.stash ≤ max_stash)
   pub small : All (λ n. n ≤ max_requests) sizes
 
--- every limit holds
-pub record IsWithinLimits (s : Setup) (plans : List (List Request)) : Type 0 where
-  pub numbers : IsWithin s (map length plans)
-  pub users : Holds s (length plans) Users
-  pub turns : Holds s (length plans) Turns
-  pub there : All (AreThere s.pages) plans
-  pub hot : Holds s (length plans) Hot
+-- the requests know no page that is not there
+abbrev pub AreThere : List Page → List Request → Type 0
+AreThere pages plan = All (λ r. IsThere (length pages) r.page) plan
 
--- the first limit that is broken: one on a number, or else that of the first list that is not within it, or else that of
--- the likes that make a page hot
-abbrev pub IsFirstBroken : Setup → List (List Request) → SettingsFault → Type 0
-IsFirstBroken s plans fault = FailsFirst (Holds s (length plans)) number_limits fault
-    ⊎ ((i : ℕ) × (fault ≡ Plan i) × AreNumbersWithin s (length plans) × IsFirstBad (IsPlan s.pages) plans i)
-    ⊎ ((fault ≡ Hot) × AreNumbersWithin s (length plans) × All (IsPlan s.pages) plans × ¬ IsHotLimit s.hot)
+-- all limits hold, as those who make a run need them
+pub record FitsRun (s : Setup) (plans : List (List Request)) : Type 0 where
+  pub numbers : IsWithin s (map length plans)
+  pub users : (1 ≤ s.users) × (s.users ≤ max_users)
+  pub turns : s.turns ≤ max_turns
+  pub there : All (AreThere s.pages) plans
+  pub hot : IsHotLimit s.hot

@@ -1,8 +1,8 @@
 ghost use Rattle.std.specs.Prelude.{◌≡◌, ◌≤◌, ◌↔◌, List, IsTrue, IfNone, MatchOption, MatchResult, length, map};
-ghost use Rattle.like_records.specs.First.{FailsFirst};
 ghost use Rattle.like_requests.specs.Limits.{max_submitters};
 ghost use Rattle.like_requests.specs.Pages.{Page};
-ghost use Rattle.like_requests.specs.Setup.{AreNumbersWithin, Holds, IsFirstBroken, IsHotLimit, IsPlan, IsWithinLimits, number_limits};
+ghost use Rattle.like_requests.specs.declared.request.Request.{Request};
+ghost use Rattle.like_requests.specs.Setup.{AreNumbersWithin, IsFirstBroken, IsHotLimit, IsPlan, IsWithinLimits};
 
 use crate::pages::Pages;
 use crate::request::{PageRef, Request};
@@ -94,9 +94,8 @@ pub fn check_setup(setup: &Setup, plans: &[Vec<Request>]) -> Result<(), Settings
 // The first limit on a number that is broken, where there are this many submitters.
 fn broken_number(setup: &Setup, submitters: usize) -> Option<SettingsFault>
     ensures few { IfNone result (submitters ≤ max_submitters) }
-    ensures broken { MatchOption result
-        (AreNumbersWithin setup.now submitters)
-        (FailsFirst (Holds setup.now submitters) number_limits) }
+    ensures broken { (plans : List (List Request)) → length plans ≡ submitters
+        → MatchOption result (AreNumbersWithin setup.now plans) (IsFirstBroken setup.now plans) }
 {
     if setup.workers < 1 || setup.workers > MAX_WORKERS {
         return Some(SettingsFault::Workers);

@@ -5,6 +5,9 @@ use Rattle.std.proofs.lemmas.List.{map-append, length-map, length-replicate}
 use Rattle.std.proofs.lemmas.List.Elements.{All-head, All-tail, All-push}
 use Rattle.std.specs.List.{All}
 use Rattle.std.specs.Option.{option_map_or}
+use Rattle.std.specs.Prelude.{option_and_then}
+use Rattle.like_requests.specs.Pages.{marks_of}
+use Rattle.like_requests.specs.Verdict.{is_accepted}
 use Rattle.like_requests.specs.declared.request.Numbered.{Numbered}
 use Rattle.like_requests.specs.declared.request.Request.{Request}
 use Rattle.like_requests.specs.declared.request.Taken.{Taken}
@@ -23,17 +26,17 @@ use Rattle.like_tables.specs.declared.held.Held.{Held}
 use Rattle.like_service.specs.declared.log.Took.{Took}
 use Rattle.like_roles.specs.declared.turn.Turn.{Turn}
 use Rattle.like_roles.specs.worker.Follows.{FitsStash, Follows, IsAsked, IsAskedBy, IsInBlocks, IsNoted, IsServed, IsSized, IsTallied, IsUnmerged, Stands, entry_held, next_joined}
-use Rattle.like_service.specs.Order.{block, entry_of, is_look_at_sliced, order_below, stashed_in, took_to_wait, waits}
-use Rattle.like_service.specs.Replies.{page_looked_at}
+use Rattle.like_service.specs.Order.{block, entry_of, order_below, stashed_in, took_to_wait}
+use Rattle.like_roles.specs.worker.WorkerView.{is_look_at_sliced, WorkerView, has_to_wait, phase_at, seat_of, submitter_at}
+use Rattle.like_service.specs.Looks.{accepted_look, page_looked_at}
 use Rattle.like_roles.specs.worker.Serve.{Runs, ran_now, verdict_at}
-use Rattle.like_service.specs.Service.{Service, is_split_in, marks, request_at, submitters}
+use Rattle.like_service.specs.Service.{Service, is_split_in, request_at, submitters}
 use Rattle.like_roles.specs.worker.Turns as turns
 use Rattle.like_roles.specs.worker.Turns.{CanGive, Gives, TakesAsk, Turns, Works, held_from, merged, saw, settled, trying, with_stashed, with_taken, without_first}
 use Rattle.like_requests.specs.Setup.{IsThere}
-use Rattle.like_roles.specs.worker.WorkerView.{WorkerView, has_to_wait, phase_at, seat_of, submitter_at}
 use Rattle.like_seat.specs.Merge.{Merges}
 use Rattle.like_seat.specs.SeatView.{HasPhaseMask, IsSliceInSplit}
-use Rattle.like_service.proofs.Blocks.{block-after_joined, block-later, order_below-more, block-next-prompt, block-next-waits, order_below-prompt, order_below-waits, stashed-block, stashed-other, stashed-prompt, waits-joined}
+use Rattle.like_service.proofs.Blocks.{block-after_joined, block-later, order_below-more, block-next-prompt, block-next-waits, order_below-prompt, order_below-waits, stashed-block, stashed-other, stashed-prompt, took_to_wait-joined}
 use Rattle.like_roles.proofs.Effects.{HasRunOne, Runs-effects}
 use Rattle.like_roles.proofs.InBlocks.{before-next, blocks-of_running, order-of_blocks, parity, running-of_blocks, runs-phase, runs-weaker}
 use Rattle.like_roles.proofs.Keeps.{runs-keeps, works-keeps}
@@ -334,10 +337,23 @@ follows-settled service v f = record {
   trying = λ place e. absurd (cc e);
 }
 
+-- what is taken has to wait where its request does
+took_to_wait-is : (service : Service) (t : Took) (r : Request) → request_at service t.submitter t.number ≡ Some r
+    → took_to_wait service t ≡ is_look_at_sliced service.users (submitters service) (is_split_in service t.phase) t.submitter r
+took_to_wait-is service t r asked =
+    ap (λ o. option_map_or (is_split_in service t.phase) (option_and_then (accepted_look service.users (submitters service) t.submitter) o) false) asked
+    ∙ by_test (is_accepted service.users (submitters service) t.submitter r)
+  where
+    by_test : (b : Bool) → option_map_or (is_split_in service t.phase) (cond b (page_looked_at r.op r.page) None) false ≡ (b && option_map_or (is_split_in service t.phase) (page_looked_at r.op r.page) false)
+    by_test true = refl
+    by_test false = refl
+
 -- whether a request has to wait is the same by the service and by the worker, which has read its split phase's mask
-waits-alike : (service : Service) (v : WorkerView) (submitter : ℕ) (r : Request) → IsServed service v → IsRunning v.post.state → HasPhaseMask v.post → waits service (phase_at v) submitter r ≡ has_to_wait v submitter r
-waits-alike service v submitter r s run has =
-    ap (λ u. is_look_at_sliced u (submitters service) (is_split_in service (phase_at v)) submitter r) s.users
+waits-alike : (service : Service) (v : WorkerView) (submitter number : ℕ) (r : Request) → request_at service submitter number ≡ Some r → IsServed service v → IsRunning v.post.state → HasPhaseMask v.post
+    → took_to_wait service (record { phase = phase_at v; submitter = submitter; number = number }) ≡ has_to_wait v submitter r
+waits-alike service v submitter number r asked s run has =
+    took_to_wait-is service (record { phase = phase_at v; submitter = submitter; number = number }) r asked
+    ∙ ap (λ u. is_look_at_sliced u (submitters service) (is_split_in service (phase_at v)) submitter r) s.users
     ∙ ap (λ m. is_look_at_sliced v.last.share.users m (is_split_in service (phase_at v)) submitter r) s.submitters_alike
     ∙ ap (λ xs. is_look_at_sliced v.last.share.users v.last.share.submitters (λ page. split (λ p. get_or xs p false) service.hot (phase_at v) page) submitter r) s.marks_alike
     ∙ (λ m. is_look_at_sliced v.last.share.users v.last.share.submitters
@@ -368,15 +384,14 @@ fits-waits service xs t fits few k = elim (cases_eq (t.phase + 1) k) [
 
 -- a request that is taken from the submitter at a place
 follows-takes : (service : Service) (v : WorkerView) (place : ℕ) (ask : Numbered) (answer : Turn) (after : WorkerView) → v.pending ≡ None → Follows service v → IsSliceInSplit v.post v.slice → HasPhaseMask v.post → IsRunning v.post.state
-    → (RunsJoined v.post.state → v.held.held ≡ []) → request_at service (submitter_at v place) ask.number ≡ Some ask.request → IsThere (length (marks service)) ask.request.page
+    → (RunsJoined v.post.state → v.held.held ≡ []) → request_at service (submitter_at v place) ask.number ≡ Some ask.request → IsThere (length (marks_of service.pages)) ask.request.page
     → length after.held.held ≤ after.held.capacity → TakesAsk v place ask answer after → Follows service after
 follows-takes service v place ask answer after none f kept has run empty asked there room (turns.stashes w a x) =
     let b = blocks-of_running service v (λ _. Unit {0}) v.post.state run f.stands in
     let t : Took = record { phase = phase_at v; submitter = submitter_at v place; number = ask.number } in
     let h : Held = held_from v place ask in
-    let waiting : waits service (phase_at v) (submitter_at v place) ask.request ≡ true = waits-alike service v (submitter_at v place) ask.request f.served run has ∙ w in
-    let to_wait : took_to_wait service t ≡ true = ap (λ o. option_map_or (waits service (phase_at v) (submitter_at v place)) o false) asked ∙ waiting in
-    let not_even : IsJoined (phase_at v) → ⊥ = λ j. cc (waiting, waits-joined service (phase_at v) (submitter_at v place) ask.request j) in
+    let to_wait : took_to_wait service t ≡ true = waits-alike service v (submitter_at v place) ask.number ask.request asked f.served run has ∙ w in
+    let not_even : IsJoined (phase_at v) → ⊥ = λ j. cc (to_wait, took_to_wait-joined service t j) in
     let p = phase_at v in
     let odd : IsSplit p = elim (parity p) [
       | inl even ↦ absurd (not_even even)
@@ -405,8 +420,7 @@ follows-takes service v place ask answer after none f kept has run empty asked t
     let t : Took = record { phase = phase_at v; submitter = submitter_at v place; number = ask.number } in
     let h : Held = held_from v place ask in
     let p = phase_at v in
-    let prompt : waits service p (submitter_at v place) ask.request ≡ false = waits-alike service v (submitter_at v place) ask.request f.served run has ∙ w in
-    let at_once : took_to_wait service t ≡ false = ap (λ o. option_map_or (waits service p (submitter_at v place)) o false) asked ∙ prompt in
+    let at_once : took_to_wait service t ≡ false = waits-alike service v (submitter_at v place) ask.number ask.request asked f.served run has ∙ w in
     let none_held : IsJoined p → v.held.held ≡ [] = λ j. empty (runs-joined v.post.state run j) in
     follows-run service (with_taken v place ask) after h false r run none
     (record { users = f.served.users; submitters_alike = f.served.submitters_alike; marks_alike = f.served.marks_alike; hot_alike = f.served.hot_alike; stash_alike = f.served.stash_alike })

@@ -23,8 +23,8 @@ use Rattle.like_tables.specs.declared.held.Held.{Held}
 use Rattle.like_seat.specs.SeatView.{IsSeat, SeatView}
 use Rattle.like_seat.specs.Steps.{holding, without_first}
 use Rattle.like_roles.specs.declared.worker.desk.Desk.{Desk}
-use Rattle.like_service.specs.Order.{is_look_at_sliced}
-use Rattle.like_service.specs.Replies.{page_looked_at}
+use Rattle.like_roles.specs.worker.WorkerView.{is_look_at_sliced}
+use Rattle.like_service.specs.Looks.{page_looked_at}
 use Rattle.like_roles.specs.worker.Desk.{CanServe, HasRoom, HasRoomForOne, HasSubmitters, IsJudged, IsOwn, IsSettled, IsSound, view_of}
 use Rattle.like_roles.specs.worker.Turns.{trying}
 

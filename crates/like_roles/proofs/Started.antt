@@ -3,6 +3,7 @@ use Rattle.std.proofs.Common.{◌≡◌, ℕ, ◌≤◌, ◌==◌, cond, All, Bo
 use Rattle.std.proofs.lemmas.Bool.{cases_eq}
 use Rattle.std.proofs.lemmas.List.{length-map, length-replicate}
 use Rattle.std.proofs.lemmas.List.Elements.{All-nil}
+use Rattle.like_requests.specs.Pages.{marks_of}
 use Rattle.like_requests.specs.declared.setup.Setup.{Setup}
 use Rattle.like_core.specs.declared.worker_state.WorkerState.{WorkerState}
 use Rattle.like_core.specs.declared.worker_state.WorkerState.TheVariants as state
@@ -13,15 +14,14 @@ use Rattle.like_core.specs.Post.{PostView, additions_in, additions_of, pages_of}
 use Rattle.like_tables.specs.UserTable.{last_of}
 use Rattle.like_roles.specs.declared.turn.Turn.{Turn}
 use Rattle.like_roles.specs.declared.turn.Turn.TheVariants as turn
-use Rattle.like_service.specs.places.Adds.{adds_to}
+use Rattle.like_roles.specs.worker.Follows.{adds_to, Follows, IsDone, IsInBlocks, IsNoted, IsServiceOf, IsUnmerged, Stands, entry_held, next_joined}
 use Rattle.like_service.specs.Likes.{likes_within}
-use Rattle.like_roles.specs.worker.Follows.{Follows, IsDone, IsInBlocks, IsNoted, IsServiceOf, IsUnmerged, Stands, entry_held, next_joined, shown_by}
+use Rattle.like_roles.specs.worker.Shown.{shown_by, shown_in}
 use Rattle.like_roles.specs.worker.New.{IsNew, IsPostOf}
 use Rattle.like_service.specs.Order.{entry_of}
-use Rattle.like_service.specs.Service.{Service, marks}
+use Rattle.like_service.specs.Service.{Service}
 use Rattle.like_roles.specs.worker.Turns as turns
 use Rattle.like_roles.specs.worker.Turns.{Pends, Turns, Works}
-use Rattle.like_service.specs.places.Looks.{shown_in}
 use Rattle.like_roles.specs.worker.WorkerView.{WorkerView, phase_at, submitter_at}
 use Rattle.like_seat.specs.SeatView.{IsSliceInSplit}
 use Rattle.like_roles.proofs.Effects.{Runs-effects}
@@ -32,7 +32,7 @@ use Rattle.like_roles.proofs.notes.NotedMerge.{noted-nothing, one-of_likes}
 pub follows-new : (s : Setup) (sizes : List ℕ) (worker : ℕ) (post : PostView) (notes : Bool) (v : WorkerView) (service : Service) → IsPostOf worker s.pages post → IsNew s sizes worker post notes v
     → IsServiceOf s sizes service → Follows service v
 follows-new s sizes worker post notes v service p new same =
-    let marks_are : v.post.marks ≡ marks service = ap (λ x. x.marks) new.at_post ∙ p.marks ∙ ap (map (λ q. q.split)) (sym same.pages_are) in
+    let marks_are : v.post.marks ≡ marks_of service.pages = ap (λ x. x.marks) new.at_post ∙ p.marks ∙ ap (map (λ q. q.split)) (sym same.pages_are) in
     let pages : pages_of v.post ≡ length s.pages = ap length (ap (λ x. x.marks) new.at_post ∙ p.marks) ∙ length-map s.pages (λ q. q.split) in
     let additions : v.post.additions ≡ [] = ap (λ x. x.additions) new.at_post ∙ p.fresh.added_nothing in
     let state_is : v.post.state ≡ state.Runs 0 = ap (λ x. x.state) new.at_post ∙ p.fresh.runs in

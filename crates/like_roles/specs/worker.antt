@@ -1,5 +1,6 @@
 -- A worker: what contracts see of it, its turns, what it keeps, and how it follows the plans.
 pub mod WorkerView
+pub mod Shown
 pub mod Serve
 pub mod Turns
 pub mod Places

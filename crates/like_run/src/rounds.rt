@@ -1,5 +1,5 @@
 ghost use Rattle.std.specs.Prelude.{◌≡◌, ◌≤◌, ℕ, All, IfErr, IfOk, OnOk, length, false, true};
-ghost use Rattle.like_requests.specs.Setup.{IsWithinLimits};
+ghost use Rattle.like_requests.specs.Setup.{FitsRun};
 ghost use Rattle.like_roles.specs.coordinator.CoordTurns.{HasEndedJoined};
 ghost use Rattle.like_script.specs.Fit.{IsInRun};
 ghost use Rattle.like_script.specs.Limits.{max_entries};
@@ -74,7 +74,7 @@ fn replay_within(
     script: &[Turned],
     notes: bool,
 ) -> Result<Report, ReplayFault>
-    requires within { IsWithinLimits setup.now (lists_of plans.items) }
+    requires within { FitsRun setup.now (lists_of plans.items) }
     requires script { All (IsInRun setup.now.workers (length plans.items)) script.now }
     ensures report { IfOk result (IsRightReport setup.now (lists_of plans.items)) }
     ensures places { notes ≡ true → IfOk result (HasRightPlaces setup.now (lists_of plans.items)) }

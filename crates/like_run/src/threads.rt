@@ -1,5 +1,5 @@
 ghost use Rattle.std.specs.Prelude.{◌≡◌, ◌+◌, ◌≤◌, false, true, IfErr, IfOk, OnOk, length};
-ghost use Rattle.like_requests.specs.Setup.{IsWithinLimits};
+ghost use Rattle.like_requests.specs.Setup.{FitsRun, IsWithinLimits};
 ghost use Rattle.like_service.specs.Asked.{lists_of};
 ghost use Rattle.like_service.specs.EndToEnd.{IsRightReport};
 ghost use Rattle.like_crew.specs.Ended.{IsEnded};
@@ -126,7 +126,7 @@ fn run_within<R: Threads + Wait + Sync, G: Gate>(
     starts: usize,
     notes: bool,
 ) -> Result<Report, RunFault>
-    requires { IsWithinLimits setup.now (lists_of plans.items) }
+    requires { FitsRun setup.now (lists_of plans.items) }
     ensures report { IfOk result (IsRightReport setup.now (lists_of plans.items)) }
     ensures places { notes ≡ true → IfOk result (HasRightPlaces setup.now (lists_of plans.items)) }
     ensures none { notes ≡ false → IfOk result HasNoPlaces }
@@ -150,7 +150,7 @@ fn run_at<R: Threads + Wait + Sync, G: Gate>(
     gate: &G,
     starts: usize,
 ) -> Result<Ended, RunFault>
-    requires within { IsWithinLimits setup.now (lists_of plans.items) }
+    requires within { FitsRun setup.now (lists_of plans.items) }
     requires site { IsSite setup.now (lists_of plans.items) site.now }
     requires seats { AreSeats setup.now site.now seats }
     ensures ended { IfOk result (IsEnded setup.now (lists_of plans.items) site.now) }

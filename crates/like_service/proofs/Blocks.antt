@@ -6,12 +6,10 @@ use Rattle.std.proofs.lemmas.List.{length-append, length-map, map-append}
 use Rattle.std.proofs.lemmas.List.Elements.{filter-append}
 use Rattle.std.specs.List.{AllByRecursion, filter, flat_map, range_with_len}
 use Rattle.std.specs.Option.{option_map_or}
-use Rattle.like_requests.specs.Verdict.{is_accepted}
-use Rattle.like_requests.specs.declared.request.Request.{Request}
 use Rattle.like_service.specs.declared.log.Took.{Took}
-use Rattle.like_service.specs.Order.{block, entry_in, is_due, is_prompt, order, order_below, phases_of, stashed_in, took_to_wait, waits}
-use Rattle.like_service.specs.Replies.{page_looked_at}
-use Rattle.like_service.specs.Service.{Service, is_split_in, request_at}
+use Rattle.like_service.specs.Order.{block, entry_in, is_due, is_prompt, order, order_below, phases_of, stashed_in, took_to_wait}
+use Rattle.like_service.specs.Looks.{look_at}
+use Rattle.like_service.specs.Service.{Service, is_split_in}
 
 -- what neither is due nor prompt in a phase changes no block of it
 pub block-other : (service : Service) (xs : List Took) (t : Took) (k : ℕ) → is_due service k t ≡ false → is_prompt service k t ≡ false → block service (xs ++ t ∷ []) k ≡ block service xs k
@@ -28,21 +26,14 @@ pub block-due : (service : Service) (xs : List Took) (t : Took) (k : ℕ) → is
 block-due service xs t k d p none = simp (filter-append, d, p, none, append-nil, map-append)
 
 -- nothing waits in a joined phase
-pub waits-joined : (service : Service) (k submitter : ℕ) (r : Request) → k % 2 ≡ 0 → waits service k submitter r ≡ false
-waits-joined service k submitter r j = of_test (is_accepted service.users _ submitter r) (page_looked_at r.op r.page) where
-  even : eqb (k % 2) 1 ≡ false
+pub took_to_wait-joined : (service : Service) (t : Took) → t.phase % 2 ≡ 0 → took_to_wait service t ≡ false
+took_to_wait-joined service t j = of_look (look_at service t.submitter t.number) where
+  even : eqb (t.phase % 2) 1 ≡ false
   even = rw j refl
 
-  of_test : (b : Bool) (o : Option ℕ) → (b && option_map_or (is_split_in service k) o false) ≡ false
-  of_test false o = refl
-  of_test true None = refl
-  of_test true (Some page) = rw even refl
-
-pub took_to_wait-joined : (service : Service) (t : Took) → t.phase % 2 ≡ 0 → took_to_wait service t ≡ false
-took_to_wait-joined service t j = of_request (request_at service t.submitter t.number) where
-  of_request : (o : Option Request) → option_map_or (waits service t.phase t.submitter) o false ≡ false
-  of_request None = refl
-  of_request (Some r) = waits-joined service t.phase t.submitter r j
+  of_look : (o : Option ℕ) → option_map_or (is_split_in service t.phase) o false ≡ false
+  of_look None = refl
+  of_look (Some page) = rw even refl
 
 -- what was taken before phase m runs in m at the latest
 pub nothing_prompt : (service : Service) (xs : List Took) (m k : ℕ) → AllByRecursion (λ t. t.phase + 1 ≤ m) xs → m ≤ k → filter (is_prompt service k) xs ≡ []

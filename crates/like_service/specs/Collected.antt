@@ -1,5 +1,5 @@
 -- What the entries of run lists are collected to: the answer of each request.
-use Rattle.std.specs.Prelude.{◌≡◌, ℕ, zero, suc, ◌==◌, ◌&&◌, Bool, List, [], filter, length, map, slice_get, slice_index_or, Option, None}
+use Rattle.std.specs.Prelude.{◌≡◌, ℕ, zero, suc, ◌==◌, ◌&&◌, List, [], filter, length, map, slice_get, slice_index_or, Option, None}
 use Rattle.std.specs.List.{flat_map}
 use Rattle.std.specs.Option.{option_to_list}
 use Rattle.like_service.specs.declared.answer.Answer.{Answer}
@@ -11,13 +11,10 @@ use Rattle.like_service.specs.declared.replies.Replies.{Replies}
 abbrev pub entries_in : List WorkerLog → List Ran
 entries_in logs = flat_map (λ log. log.ran.items) logs
 
--- whether an entry is of this submitter's request with this number
-abbrev pub is_of : ℕ → ℕ → Ran → Bool
-is_of submitter number e = (e.submitter == submitter) && (e.number == number)
-
 -- the entries of a request
 abbrev pub entries_of : ℕ → ℕ → List Ran → List Ran
-entries_of submitter number entries = filter (is_of submitter number) entries
+entries_of submitter number entries =
+    filter (λ e. (e.submitter == submitter) && (e.number == number)) entries
 
 -- the answer of an entry
 abbrev pub answer_of : Ran → Answer

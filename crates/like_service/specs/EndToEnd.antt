@@ -1,6 +1,5 @@
 -- What a report says of a whole run.
-use Rattle.std.specs.Prelude.{◌≡◌, ℕ, ◌+◌, ◌<◌, ◌≤◌, List, [], length, map, slice_get, slice_index, All, Option, Some}
-use Rattle.std.specs.Option.{option_map_or}
+use Rattle.std.specs.Prelude.{◌≡◌, ℕ, ◌+◌, ◌<◌, ◌≤◌, List, [], length, map, slice_get, slice_index, slice_index_or, All, Option, Some}
 use Rattle.like_requests.specs.Verdict.{home}
 use Rattle.like_core.specs.Phase.{IsJoined}
 use Rattle.like_tables.specs.Share.{worker_of}
@@ -21,10 +20,6 @@ use Rattle.like_service.specs.Log.{IsLog}
 abbrev pub runs_of : List WorkerLog → List (List Ran)
 runs_of logs = map (λ log. log.ran.items) logs
 
--- the run list of a worker
-abbrev pub run_of : List WorkerLog → ℕ → List Ran
-run_of logs worker = option_map_or (λ log. log.ran.items) (slice_get logs worker) []
-
 -- the log of each worker is that of its submitters' plans, and nothing was taken after the phase in which the run ended
 abbrev pub AreLogs : Service → ℕ → ℕ → List WorkerLog → Type 0
 AreLogs service workers phases logs =
@@ -42,16 +37,10 @@ pub record AreLastLikes (service : Service) (workers : ℕ) (logs : List WorkerL
     : Type 0 where
   pub users : length last ≡ service.users
   pub each : (user : ℕ) → user < service.users
-      → slice_get last user
-      ≡ Some (last_like service user (run_of logs (worker_of workers (home (submitters service) user))))
+      → slice_get last user ≡ Some (last_like service user
+      (slice_index_or (runs_of logs) (worker_of workers (home (submitters service) user)) []))
 
--- each look of each worker was answered a right count
-abbrev pub AreRightCounts : Service → List WorkerLog → Type 0
-AreRightCounts service logs = All (λ log. HasRightCounts service (runs_of logs) log.ran.items) logs
-
--- end to end: there is a log for each worker; each request has the answer of its one entry; the counts and the last likes
--- are those of the run lists; the run ended in a joined phase; each look was answered a right count; and the phases with
--- hot pages are listed, up to the last
+-- end to end: all logs, answers, final counts, last likes and shown counts are right, and the hot pages are listed
 pub record IsEndToEnd (service : Service) (workers : ℕ) (r : Report) : Type 0 where
   pub workers_all : length r.logs.items ≡ workers
   pub logs : AreLogs service workers r.phases r.logs.items
@@ -59,7 +48,7 @@ pub record IsEndToEnd (service : Service) (workers : ℕ) (r : Report) : Type 0 
   pub counts : AreCounts service (runs_of r.logs.items) r.counts.items
   pub last : AreLastLikes service workers r.logs.items r.last.items
   pub joined : IsJoined r.phases
-  pub seen : AreRightCounts service r.logs.items
+  pub seen : All (λ log. HasRightCounts service (runs_of r.logs.items) log.ran.items) r.logs.items
   pub hot : r.hot.items ≡ chosen_below service.hot r.phases
 
 -- a right report of settings and plans: end to end, with the hot pages that its own run lists tell

@@ -23,8 +23,7 @@ abbrev pub liked_pages : ℕ → ℕ → (ℕ → ℕ → ℕ) → ℕ → ℕ
 liked_pages least pages got phase =
     if phase % 2 == 1 then mask (λ page. nat_le least (got phase page)) (min hot_pages pages) else 0
 
--- the mask of a phase's hot pages, where pages got these likes before it: none where none are to be hot, or where 1,024
--- lower phases have some, and else those that got enough
+-- the mask of a phase's hot pages: those that got enough likes before it, and none once 1,024 phases have some
 abbrev pub hot_by : Option ℕ → ℕ → (ℕ → ℕ → ℕ) → ℕ → ℕ
 hot_by None pages got phase = 0
 hot_by (Some least) pages got phase =

@@ -1,5 +1,6 @@
 pub mod Service
 pub mod Likes
+pub mod Looks
 pub mod Order
 pub mod Replies
 pub mod HotPages

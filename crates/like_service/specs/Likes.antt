@@ -1,5 +1,5 @@
 -- Accepted likes: the last one of a user, and how many there are of a page.
-use Rattle.std.specs.Prelude.{ℕ, ◌+◌, ◌-◌, ◌≤◌, ◌==◌, nat_lt, nat_le, if◌then◌else◌, List, length, map, filter, count_by, slice_get, Option, Some, None, option_and_then}
+use Rattle.std.specs.Prelude.{ℕ, ◌+◌, ◌-◌, ◌≤◌, ◌==◌, nat_lt, if◌then◌else◌, List, length, map, filter, count_by, slice_get, Option, Some, None, option_and_then}
 use Rattle.std.specs.List.{filter_map, sum_by}
 use Rattle.std.specs.Option.{option_map_or}
 use Rattle.like_requests.specs.Pages.{Page}
@@ -42,21 +42,14 @@ likes_ran service entries = filter_map (like_ran service) entries
 abbrev pub last_in : {X : Type 0} → List X → Option X
 last_in xs = slice_get xs (length xs - 1)
 
--- the page of a user's last like among likes, if there is one
-abbrev pub last_page : ℕ → List AcceptedLike → Option ℕ
-last_page user likes = last_in (map (λ l. l.page) (filter (λ l. l.user == user) likes))
-
 -- the page of a user's last accepted like among entries, if there is one
 abbrev pub last_like : Service → ℕ → List Ran → Option ℕ
-last_like service user entries = last_page user (likes_ran service entries)
-
--- how many of the likes are of the page
-abbrev pub page_likes : ℕ → List AcceptedLike → ℕ
-page_likes page likes = count_by (λ l. l.page == page) likes
+last_like service user entries =
+    last_in (map (λ l. l.page) (filter (λ l. l.user == user) (likes_ran service entries)))
 
 -- how many accepted likes of the page are among entries
 abbrev pub likes_among : Service → ℕ → List Ran → ℕ
-likes_among service page entries = page_likes page (likes_ran service entries)
+likes_among service page entries = count_by (λ l. l.page == page) (likes_ran service entries)
 
 -- how many accepted likes of the page are in all workers' run lists
 abbrev pub likes : Service → ℕ → List (List Ran) → ℕ
@@ -67,11 +60,6 @@ abbrev pub likes_below : Service → ℕ → List (List Ran) → ℕ → ℕ
 likes_below service page runs phase =
     sum_by (λ ran. likes_among service page (filter (λ e. nat_lt e.phase phase) ran)) runs
 
--- how many of them ran in this phase or an earlier one
-abbrev pub likes_up_to : Service → ℕ → List (List Ran) → ℕ → ℕ
-likes_up_to service page runs phase =
-    sum_by (λ ran. likes_among service page (filter (λ e. nat_le e.phase phase) ran)) runs
-
 -- how many accepted likes of the page are among entries of this phase
 abbrev pub likes_within : Service → ℕ → List Ran → ℕ → ℕ
 likes_within service page entries phase =
@@ -81,10 +69,9 @@ likes_within service page entries phase =
 abbrev pub initial_count : List Page → ℕ → ℕ
 initial_count pages page = option_map_or (λ p. p.count) (slice_get pages page) 0
 
--- a count that may be seen in a phase: at least all likes of earlier phases and `before` more, at most all likes up to
--- the phase but for `after`
+-- a count in a phase: at least all likes of earlier ones and `before` more, at most all up to it but for `after`
 pub record Between (service : Service) (runs : List (List Ran)) (phase page count before after : ℕ)
     : Type 0 where
   pub lower : initial_count service.pages page + likes_below service page runs phase + before
       ≤ count
-  pub upper : count + after ≤ initial_count service.pages page + likes_up_to service page runs phase
+  pub upper : count + after ≤ initial_count service.pages page + likes_below service page runs (phase + 1)

@@ -1,7 +1,6 @@
 -- What the log of a worker has to say.
 use Rattle.std.specs.Prelude.{◌≡◌, ℕ, ◌≤◌, ◌==◌, if◌then◌else◌, List, [], length, map, filter, slice_index_or, AllPairs}
 use Rattle.std.specs.List.{range_with_len}
-use Rattle.like_requests.specs.declared.request.Request.{Request}
 use Rattle.like_tables.specs.Share.{worker_of}
 use Rattle.like_tables.specs.UserTable.{last_of}
 use Rattle.like_service.specs.declared.log.Took.{Took}
@@ -15,25 +14,16 @@ use Rattle.like_service.specs.Service.{Service}
 abbrev pub numbers_taken : ℕ → List Took → List ℕ
 numbers_taken submitter taken = map (λ t. t.number) (filter (λ t. t.submitter == submitter) taken)
 
--- the plan of a submitter, which is empty where there is no such submitter
-abbrev pub plan_of : Service → ℕ → List Request
-plan_of service submitter = slice_index_or service.plans submitter []
-
 -- a worker took the requests of its submitters' plans, each once and in order, and no others
 abbrev pub TakesPlans : Service → ℕ → ℕ → List Took → Type 0
 TakesPlans service workers worker taken =
     (submitter : ℕ) → numbers_taken submitter taken
-    ≡ (if worker_of workers submitter == worker then range_with_len 1 (length (plan_of service submitter)) else [])
+    ≡ (if worker_of workers submitter == worker then range_with_len 1 (length (slice_index_or service.plans submitter [])) else [])
 
--- the phases of taking never fall
-abbrev pub IsRising : List Took → Type 0
-IsRising taken = AllPairs (λ s t. s.phase ≤ t.phase) taken
-
--- the log of a worker that is gone: it took its submitters' plans, in phases that never fall, and ran what it took in run
--- order, no more out of its stash in a phase than that has room for; each reply is right, save that nothing is said of counts; and its table has the last like of each user
+-- a worker's log: it took its submitters' plans, by rising phases, ran that in run order, and answered it right
 pub record IsLog (service : Service) (workers worker : ℕ) (log : WorkerLog) : Type 0 where
   pub taken : TakesPlans service workers worker log.taken.items
-  pub rising : IsRising log.taken.items
+  pub rising : AllPairs (λ s t. s.phase ≤ t.phase) log.taken.items
   pub ran : map entry_of log.ran.items ≡ order service log.taken.items
   pub stashed : (phase : ℕ) → stashed_in service phase log.taken.items ≤ service.stash
   pub answers : HasRightAnswers service log.ran.items

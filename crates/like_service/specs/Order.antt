@@ -2,29 +2,15 @@
 use Rattle.std.specs.Prelude.{ℕ, ◌+◌, ◌==◌, Bool, true, false, ◌&&◌, not, max, List, [], ◌∷◌, ◌++◌, length, map, filter}
 use Rattle.std.specs.List.{flat_map, range_with_len}
 use Rattle.std.specs.Option.{option_map_or}
-use Rattle.like_requests.specs.Verdict.{is_accepted}
-use Rattle.like_requests.specs.declared.request.Request.{Request}
 use Rattle.like_service.specs.declared.log.Ran.{Ran}
 use Rattle.like_service.specs.declared.log.Took.{Took}
-use Rattle.like_service.specs.Service.{Service, submitters, request_at, is_split_in}
-use Rattle.like_service.specs.Replies.{page_looked_at}
+use Rattle.like_service.specs.Looks.{look_at}
+use Rattle.like_service.specs.Service.{Service, is_split_in}
 
--- the request is an accepted look at a page that is sliced
-abbrev pub is_look_at_sliced : ℕ → ℕ → (ℕ → Bool) → ℕ → Request → Bool
-is_look_at_sliced users submitters is_sliced submitter r =
-    is_accepted users submitters submitter r
-    && option_map_or is_sliced (page_looked_at r.op r.page) false
-
--- waits: an accepted look at a page that is split in the phase cannot run in it
-abbrev pub waits : Service → ℕ → ℕ → Request → Bool
-waits service phase submitter r =
-    is_look_at_sliced service.users (submitters service) (is_split_in service phase) submitter r
-
--- whether what was taken had to wait
+-- whether what was taken had to wait: an accepted look at a page that is split in the phase cannot run in it
 abbrev pub took_to_wait : Service → Took → Bool
 took_to_wait service t =
-    option_map_or (waits service t.phase t.submitter)
-    (request_at service t.submitter t.number) false
+    option_map_or (is_split_in service t.phase) (look_at service t.submitter t.number) false
 
 -- a place in the run order: which request runs in which phase, and whether it comes out of the stash
 pub record Entry : Type 0 where
@@ -55,8 +41,7 @@ stashed_in service phase taken = length (filter (is_due service phase) taken)
 abbrev pub is_prompt : Service → ℕ → Took → Bool
 is_prompt service phase t = (t.phase == phase) && not (took_to_wait service t)
 
--- the block of a phase: what was taken in the phase before and had to wait, and then what was taken in this phase and
--- need not wait; in an even phase nothing has to wait, as no page is split
+-- the block of a phase: first what was taken in the phase before and had to wait, then what need not wait in this one
 abbrev pub block : Service → List Took → ℕ → List Entry
 block service taken phase =
     map (entry_in phase true) (filter (is_due service phase) taken)

@@ -5,8 +5,7 @@ use Rattle.like_requests.specs.declared.request.Request.{Request}
 use Rattle.like_core.specs.Phase.{is_marked, split}
 use Rattle.like_service.specs.declared.log.Ran.{Ran}
 
--- so many users, these pages, room for so many looks that wait at each worker, the mask of each phase's hot pages, and the
--- plan of each submitter: its requests in their order
+-- what a run serves: how many users, which pages, how many looks wait at a worker, the hot pages of phases, the plans
 pub record Service : Type 0 where
   pub users : ℕ
   pub pages : List Page
@@ -32,11 +31,7 @@ request_at service submitter number =
 abbrev pub request_of : Service → Ran → Option Request
 request_of service e = request_at service e.submitter e.number
 
--- whether each page is marked as split
-abbrev pub marks : Service → List Bool
-marks service = marks_of service.pages
-
 -- split pages: whether a page is split in a phase, which no page is in an even one
 abbrev pub is_split_in : Service → ℕ → ℕ → Bool
 is_split_in service phase page =
-    split (is_marked (marks service)) service.hot phase page
+    split (is_marked (marks_of service.pages)) service.hot phase page

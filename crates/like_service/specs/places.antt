@@ -1,5 +1,4 @@
 -- Where a report's additions to the counts of pages stand.
-pub mod Looks
 pub mod Adds
 pub mod Places
 pub mod Tiling

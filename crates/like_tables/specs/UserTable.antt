@@ -2,8 +2,7 @@
 use Rattle.std.specs.Prelude.{◌≡◌, ℕ, false, List, length, replicate, slice_index_or, slice_set, Option, Some, None}
 use Rattle.like_tables.specs.Share.{IsShare, Share, owned_below, owns}
 
--- the worker's share of the users; by user, the page of each one's last like, if any, and none where the user is another
--- worker's; and how many users there is room for
+-- the worker's share of the users; the page of each one's last like, if any; and how many users there is room for
 pub record UserTable : Type 0 where
   pub share : Share
   pub last : List (Option ℕ)

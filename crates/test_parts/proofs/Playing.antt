@@ -5,7 +5,7 @@ use Rattle.std.proofs.lemmas.List.{get_or-map, get_or-set_same, length-map, leng
 use Rattle.std.proofs.lemmas.List.Sums.{sum_by_push}
 use Rattle.std.proofs.lemmas.Option.{get_or_from_slice_get, slice_get_within}
 use Rattle.like_requests.specs.Pages.{ArePages, Page, counts_of}
-use Rattle.like_requests.specs.Setup.{IsThere, IsWithin, IsWithinLimits}
+use Rattle.like_requests.specs.Setup.{FitsRun, IsThere, IsWithin}
 use Rattle.like_requests.proofs.Planned.{plans-within}
 use Rattle.like_requests.specs.declared.request.Request.{Request}
 use Rattle.like_requests.specs.declared.request.Taken.{Taken}
@@ -112,7 +112,7 @@ gave plan next then v new submitter taken.End p tries given took =
 gave plan next then v new submitter taken.Nothing p tries given took = absurd given
 
 -- the settings and the plan are within the limits of a worker
-pub within_limits : (s : Setup) (plan : List Request) (n : ℕ) → IsWithinLimits s (plan ∷ []) → n ≡ length plan → IsWithin s (n ∷ [])
+pub within_limits : (s : Setup) (plan : List Request) (n : ℕ) → FitsRun s (plan ∷ []) → n ≡ length plan → IsWithin s (n ∷ [])
 within_limits s plan n w many = subst (λ k. IsWithin s (k ∷ [])) (sym many) w.numbers
 
 -- the one submitter is the first worker's
@@ -121,7 +121,7 @@ own_one size workers zero own some is = (rw is (omega arith), λ here. rw is ref
 own_one size workers (suc worker) own some is = (rw is (omega arith), λ here. absurd (let none : length own ≡ 0 = ap length is in omega (arith, none, here)))
 
 -- a new worker may be played with
-pub plays_new : (s : Setup) (plan : List Request) (n worker : ℕ) (post : PostView) (notes : Bool) (v : WorkerView) → IsWithinLimits s (plan ∷ []) → n ≡ length plan → IsPostOf worker s.pages post → IsNew s (n ∷ []) worker post notes v → IsPlaying plan 0 v
+pub plays_new : (s : Setup) (plan : List Request) (n worker : ℕ) (post : PostView) (notes : Bool) (v : WorkerView) → FitsRun s (plan ∷ []) → n ≡ length plan → IsPostOf worker s.pages post → IsNew s (n ∷ []) worker post notes v → IsPlaying plan 0 v
 plays_new s plan n worker post notes v w many his new =
     let own = own_one n s.workers worker v.left w.numbers.workers.0 new.left in
     let lists = plans-within s (plan ∷ []) w 0 plan (omega arith) in

@@ -1,6 +1,6 @@
 //! The turns of the worked examples, of workers and the coordinator at one board.
 ghost use Rattle.std.specs.Prelude.{◌∷◌, []};
-ghost use Rattle.like_requests.specs.Setup.{IsWithinLimits};
+ghost use Rattle.like_requests.specs.Setup.{FitsRun};
 
 mod choice;
 mod gates;
@@ -38,7 +38,7 @@ fn played(
     setup: &Setup,
     plan: &[Request],
 ) -> Result<(u32, WorkerLog), Fail>
-    requires { IsWithinLimits setup.now (plan.now ∷ []) }
+    requires { FitsRun setup.now (plan.now ∷ []) }
 {
     let gate = Expecting::new(alloc, scene.calls)?;
     let (board, coord, seats) = board_of(alloc, setup)?;

@@ -1,6 +1,6 @@
 //! The answers of each turn of a script.
 ghost use Rattle.std.specs.Prelude.{◌≤◌, All, length};
-ghost use Rattle.like_requests.specs.Setup.{IsWithinLimits};
+ghost use Rattle.like_requests.specs.Setup.{FitsRun};
 ghost use Rattle.like_script.specs.Fit.{IsInRun};
 ghost use Rattle.like_script.specs.Limits.{max_entries};
 ghost use Rattle.like_service.specs.Asked.{lists_of};
@@ -66,7 +66,7 @@ fn answers_within(
     plans: Vec<Vec<Request>>,
     script: &[Turned],
 ) -> Result<Vec<Answer>, AllocError>
-    requires within { IsWithinLimits setup.now (lists_of plans.items) }
+    requires within { FitsRun setup.now (lists_of plans.items) }
     requires script { All (IsInRun setup.now.workers (length plans.items)) script.now }
 {
     let (site, seats) = Site::new(alloc, setup, &plans, true)?;

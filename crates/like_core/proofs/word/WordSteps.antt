@@ -1,7 +1,8 @@
 use Rattle.std.proofs.Common.{◌≡◌, ℕ, ◌+◌, ◌*◌, ◌%◌, ◌^◌, ◌<◌, bit_and, bit_or, sym, ap, ◌∙◌, arith, zero-mul}
 use Rattle.std.specs.Int.{bit_at}
-use Rattle.std.proofs.lemmas.Nat.{or_disjoint, or_lt, and_or_apart, pow_below, and_comm, pow-add}
+use Rattle.std.proofs.lemmas.Nat.{or_disjoint, or_lt, and_or_apart, pow_below, and_comm}
 use Rattle.std.proofs.lemmas.Nat.Bits.{and_pow, bit_at_cat_high, bit_at_cat_low}
+use Rattle.std.proofs.lemmas.Nat.{pow-add}
 use Rattle.like_core.specs.word.Word.{Fields, packed, IsLawful, answer_bit, retirement_bit, answered_by, retired_by}
 use Rattle.like_core.proofs.word.WordParts.{narrow}
 

@@ -17,9 +17,9 @@ use Rattle.like_core.specs.Additions.{added_to}
 use Rattle.like_service.specs.declared.log.Added.{Added}
 use Rattle.like_service.specs.declared.log.Ran.{Ran}
 use Rattle.like_service.specs.places.Adds.{IsOfLikes, addition_of}
-use Rattle.like_service.specs.Likes.{AcceptedLike, accepted_like, like_of, like_ran, likes, likes_among, page_likes}
+use Rattle.like_service.specs.Likes.{AcceptedLike, accepted_like, like_of, like_ran, likes, likes_among}
 use Rattle.like_service.specs.Service.{Service, numbered_in, request_at, request_of, submitters}
-use Rattle.like_roles.proofs.counts.Tallied.{likes_among-append}
+use Rattle.like_roles.proofs.counts.Tallied.{likes_among-append, page_likes}
 use Rattle.like_crew.proofs.lists.Sums.{sum-of-map}
 
 -- a fact of each element is one of that at a place

@@ -11,7 +11,8 @@ use Rattle.like_core.proofs.views.KeptPlaces.{counts_one}
 use Rattle.like_service.specs.declared.log.Added.{Added}
 use Rattle.like_service.specs.declared.log.Ran.{Ran}
 use Rattle.like_service.specs.declared.log.Took.{Took}
-use Rattle.like_service.specs.places.Adds.{AreOfLikes, IsOfLikes, is_add_to, likes_at}
+use Rattle.like_service.specs.places.Adds.{AreOfLikes, IsOfLikes, is_add_to}
+use Rattle.like_roles.specs.worker.Follows.{likes_at}
 use Rattle.like_service.specs.Likes.{likes_among, likes_within}
 use Rattle.like_service.specs.Order.{Entry, block, entry_in, entry_of, is_due, is_prompt, order, phases_of}
 use Rattle.like_service.specs.Service.{Service, is_split_in}

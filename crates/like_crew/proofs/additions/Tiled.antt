@@ -1,6 +1,7 @@
 -- The places of the additions of a run that has ended.
-use Rattle.std.proofs.Common.{◌≡◌, ℕ, suc, ◌+◌, ◌<◌, ◌≤◌, Bool, true, List, [], ◌∷◌, length, map, get_or, slice_get, count_by, Some, IfSome, refl, sym, ap, ◌∙◌, subst, arith, inl, inr}
-use Rattle.std.specs.List.{All, AllZip}
+use Rattle.std.proofs.Common.{◌≡◌, ℕ, suc, ◌+◌, ◌<◌, ◌≤◌, ◌&&◌, nat_le, nat_lt, Bool, true, cond, List, [], ◌∷◌, length, map, get_or, slice_get, count_by, Some, IfSome, refl, sym, ap, ◌∙◌, subst, arith, inl, inr}
+use Rattle.std.specs.List.{All, AllZip, sum_by}
+use Rattle.std.proofs.lemmas.List.Sums.{sum_by-append, sum_by-cons}
 use Rattle.std.proofs.lemmas.Bool.{cases_lt}
 use Rattle.std.proofs.lemmas.List.{get_or_past, length-map}
 use Rattle.std.proofs.lemmas.Option.{get_or_from_slice_get, slice_get-get_or, slice_get_within}
@@ -12,31 +13,43 @@ use Rattle.like_core.specs.declared.opening.Opening.{Opening}
 use Rattle.like_core.specs.declared.view.Addition.{Addition}
 use Rattle.like_core.specs.declared.view.PageRead.{PageRead}
 use Rattle.like_core.specs.views.Reads.{StandBetween, StandsBetween}
-use Rattle.like_core.specs.views.Places.{ArePlaced, AreTiles, Counting}
+use Rattle.like_core.specs.views.Places.{ArePlaced, AreTiles, Counting, has_number}
 use Rattle.like_core.specs.Post.{PostView}
 use Rattle.like_board.specs.declared.worker_seat.WorkerSeat.{WorkerSeat}
 use Rattle.like_board.specs.Seats.{AreCounted, HaveAddedBetween, HavePlaces, HaveReadMasks, coord_view, last_count, seat_meaning, seats_before, seats_passing}
 use Rattle.like_service.specs.declared.log.Added.{Added}
 use Rattle.like_service.specs.declared.log.Ran.{Ran}
 use Rattle.like_service.specs.declared.log.WorkerLog.{WorkerLog}
-use Rattle.like_service.specs.places.Adds.{AreOfLikes, addition_of, adds_before_looks}
+use Rattle.like_service.specs.places.Adds.{AreOfLikes, addition_of}
+use Rattle.like_roles.specs.worker.Shown.{adds_before_looks}
 use Rattle.like_roles.specs.worker.Follows.{AreNoted}
 use Rattle.like_service.specs.Likes.{Between, initial_count, likes_below}
 use Rattle.like_service.specs.Service.{Service}
-use Rattle.like_roles.proofs.counts.RightCounts.{likes_up_to-next}
 use Rattle.like_crew.specs.declared.ended.Ended.{Ended}
 use Rattle.like_crew.specs.declared.site.Site.{Site}
 use Rattle.like_service.specs.Asked.{service_of}
 use Rattle.like_service.specs.EndToEnd.{runs_of}
 use Rattle.like_crew.specs.Ended.{IsEnded, IsSeatOf}
 use Rattle.like_crew.specs.Server.{HasWorkedFor, IsLogOf, ServerView}
-use Rattle.like_service.specs.places.Tiling.{StandsInTime, additions_noted, logs_passing, reads_shown}
+use Rattle.like_service.specs.places.Tiling.{all_noted, reads_of}
 use Rattle.like_crew.proofs.additions.AddedPages.{adds-there, none-liked}
 use Rattle.like_crew.proofs.additions.AddedPhases.{of-likes-same, ran-within}
 use Rattle.like_crew.proofs.Makings.{all-back}
 use Rattle.like_crew.proofs.lists.Pairs.{pairs-sum}
 use Rattle.like_crew.proofs.additions.ReadsShown.{reads-are}
 use Rattle.like_crew.proofs.Whole.{all-before, all-likes, hot_known, initial-at, known, left-at, logs-are, masks-known, right-at, right-at-server, served, server-at, z}
+
+-- the additions that a log notes
+abbrev additions_noted : WorkerLog → List Addition
+additions_noted log = map addition_of log.adds.items
+
+-- as many of the additions of all logs pass a test as of each log together
+count-all : (test : Addition → Bool) (logs : List WorkerLog) → sum_by (λ log. count_by test (additions_noted log)) logs ≡ count_by test (all_noted logs)
+count-all test [] = refl
+count-all test (log ∷ logs) =
+    let one : Addition → ℕ = λ a. cond (test a) 1 0 in
+    sum_by-cons (λ (l : WorkerLog). count_by test (additions_noted l)) log logs
+    ∙ (ap (λ n. count_by test (additions_noted log) + n) (count-all test logs) ∙ sym (sum_by-append one (additions_noted log) (all_noted logs)))
 
 -- what a log has noted, where its worker notes its additions
 pub record HasNoted (setup : Setup) (plans : List (List Request)) (site : Site) (e : Ended) (h : IsEnded setup plans site e) (s : ServerView) (log : WorkerLog) : Type 0 where
@@ -56,7 +69,6 @@ stand-noted service runs counts before last adds initial below stand k d within 
     let first = initial a.page in
     let earlier = below a.phase a.page in
     let upto = below (a.phase + 1) a.page in
-    let next = likes_up_to-next service a.page runs a.phase in
     record { lower = omega (arith, b.least); upper = omega (arith, b.most) }
 
 module _ (setup : Setup) (plans : List (List Request)) (site : Site) (e : Ended) (h : IsEnded setup plans site e) (masks : HaveReadMasks (coord_view e.coord).masks e.seats.items)
@@ -101,12 +113,13 @@ module _ (setup : Setup) (plans : List (List Request)) (site : Site) (e : Ended)
       (n.1.1.of_log.additions (known setup plans site e h) n.1.1.worked) n.1.1.adds.each
 
   -- as many of the logs' additions pass a test as of the seats'
-  passing-same : (test : Addition → Bool) → seats_passing e.seats.items test ≡ logs_passing e.logs.items test
+  passing-same : (test : Addition → Bool) → seats_passing e.seats.items test ≡ count_by test (all_noted e.logs.items)
   passing-same test =
       sym (pairs-sum IsSeatOf (λ (s : ServerView). count_by test s.worker.post.additions) (λ (seat : WorkerSeat). count_by test (seat_meaning seat).additions) h.servers e.seats.items
       (λ s seat m. ap (λ (p : PostView). count_by test p.additions) (sym m)) h.seats)
       ∙ pairs-sum (λ (s : ServerView) (log : WorkerLog). s.worker.post.additions ≡ additions_noted log)
       (λ (s : ServerView). count_by test s.worker.post.additions) (λ (log : WorkerLog). count_by test (additions_noted log)) h.servers e.logs.items (λ s log m. ap (count_by test) m) matched
+      ∙ count-all test e.logs.items
     where
       matches : (ss : List ServerView) (logs : List WorkerLog) → ((i : ℕ) (s : ServerView) (log : WorkerLog) → slice_get ss i ≡ Some s → IsLogOf s log → s.worker.post.additions ≡ additions_noted log)
           → AllZip IsLogOf ss logs → AllZip (λ (s : ServerView) (log : WorkerLog). s.worker.post.additions ≡ additions_noted log) ss logs
@@ -135,18 +148,19 @@ module _ (setup : Setup) (plans : List (List Request)) (site : Site) (e : Ended)
           omega (arith, none, start, added)
     ]
 
-    pub tiles-are : HavePlaces (coord_view e.coord).opening e.seats.items → AreTiles (initial_count setup.pages) (λ page. get_or counts page 0) (logs_passing e.logs.items)
-    tiles-are places =
+    -- each number of a page is in the stretch of one addition
+    pub tiles-are : HavePlaces (coord_view e.coord).opening e.seats.items → (page n : ℕ) → count_by (has_number page n) (all_noted e.logs.items)
+        ≡ cond (nat_le (initial_count setup.pages page) n && nat_lt n (get_or counts page 0)) 1 0
+    tiles-are places page n =
         let first : (λ page. get_or (coord_view e.coord).opening.counts page 0) ≡ initial_count setup.pages = λ i page. first-same page i in
         let last : last_count (coord_view e.coord).opening e.seats.items ≡ (λ page. get_or counts page 0) = λ i page. last-same page i in
-        let passing : seats_passing e.seats.items ≡ logs_passing e.logs.items = λ i test. passing-same test i in
-        subst (λ (c : Counting). AreTiles (initial_count setup.pages) (λ page. get_or counts page 0) c) passing
-        (subst (λ (f : ℕ → ℕ). AreTiles (initial_count setup.pages) f (seats_passing e.seats.items)) last
-        (subst (λ (f : ℕ → ℕ). AreTiles f (last_count (coord_view e.coord).opening e.seats.items) (seats_passing e.seats.items)) first places.tiles))
+        sym (passing-same (has_number page n))
+        ∙ (subst (λ (f : ℕ → ℕ). AreTiles (initial_count setup.pages) f (seats_passing e.seats.items)) last
+        (subst (λ (f : ℕ → ℕ). AreTiles f (last_count (coord_view e.coord).opening e.seats.items) (seats_passing e.seats.items)) first places.tiles)).tiled page n
 
   -- the calls of each worker are placed
   pub placed-are : HavePlaces (coord_view e.coord).opening e.seats.items
-      → All (λ log. ArePlaced (initial_count setup.pages) (logs_passing e.logs.items) (additions_noted log) (reads_shown (served setup plans site e h) log)) e.logs.items
+      → All (λ log. ArePlaced (initial_count setup.pages) (λ test. count_by test (all_noted e.logs.items)) (additions_noted log) (reads_of (served setup plans site e h) log)) e.logs.items
   placed-are places worker d within =
       let log : WorkerLog = get_or e.logs.items worker d in
       let n = noted-at worker log (slice_get-get_or e.logs.items worker d within) in
@@ -158,17 +172,17 @@ module _ (setup : Setup) (plans : List (List Request)) (site : Site) (e : Ended)
       in
       let post : P n.0.worker.post = subst P seat.1.1 own in
       let first : (λ page. get_or (coord_view e.coord).opening.counts page 0) ≡ initial_count setup.pages = λ i page. first-same page i in
-      let passing : seats_passing e.seats.items ≡ logs_passing e.logs.items = λ i test. passing-same test i in
-      let reads : reads_shown (known setup plans site e h) log ≡ n.0.worker.post.reads =
+      let passing : seats_passing e.seats.items ≡ (λ test. count_by test (all_noted e.logs.items)) = λ i test. passing-same test i in
+      let reads : reads_of (known setup plans site e h) log ≡ n.0.worker.post.reads =
       reads-are (known setup plans site e h) log n.0.worker.post.additions n.0.worker.post.reads (n.1.1.of_log.looks (known setup plans site e h) n.1.1.worked) n.1.1.reads
       in
-      subst (λ (c : Counting). ArePlaced (initial_count setup.pages) c (additions_noted log) (reads_shown (known setup plans site e h) log)) passing
-      (subst (λ (f : ℕ → ℕ). ArePlaced f (seats_passing e.seats.items) (additions_noted log) (reads_shown (known setup plans site e h) log)) first
+      subst (λ (c : Counting). ArePlaced (initial_count setup.pages) c (additions_noted log) (reads_of (known setup plans site e h) log)) passing
+      (subst (λ (f : ℕ → ℕ). ArePlaced f (seats_passing e.seats.items) (additions_noted log) (reads_of (known setup plans site e h) log)) first
       (subst (λ (rs : List PageRead). ArePlaced (λ page. get_or (coord_view e.coord).opening.counts page 0) (seats_passing e.seats.items) (additions_noted log) rs) (sym reads)
       (subst (λ (made : List Addition). ArePlaced (λ page. get_or (coord_view e.coord).opening.counts page 0) (seats_passing e.seats.items) made n.0.worker.post.reads) n.1.1.additions post)))
 
   -- their stretches stand in the order of phases
-  pub stand-are : HaveAddedBetween (coord_view e.coord).opening (coord_view e.coord).phase e.seats.items → All (StandsInTime (served setup plans site e h) (runs_of e.logs.items)) e.logs.items
+  pub stand-are : HaveAddedBetween (coord_view e.coord).opening (coord_view e.coord).phase e.seats.items → All (λ log. All (λ a. Between (served setup plans site e h) (runs_of e.logs.items) a.phase a.page a.old 0 a.n) log.adds.items) e.logs.items
   stand-are stand worker d within =
       let log : WorkerLog = get_or e.logs.items worker d in
       let n = noted-at worker log (slice_get-get_or e.logs.items worker d within) in

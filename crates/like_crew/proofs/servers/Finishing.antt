@@ -19,10 +19,11 @@ use Rattle.like_service.specs.declared.log.WorkerLog.{WorkerLog}
 use Rattle.like_roles.specs.worker.Follows.{IsDone}
 use Rattle.like_service.specs.Service.{Service}
 use Rattle.like_roles.specs.worker.WorkerView.{WorkerView, phase_at}
-use Rattle.like_service.specs.Log.{IsLog, TakesPlans, numbers_taken, plan_of}
+use Rattle.like_service.specs.Log.{IsLog, TakesPlans, numbers_taken}
 use Rattle.like_crew.specs.Server.{NoneAbove, Agree, AreInboxesFor, WorksFor, ServerView, plans_of, requests_taken}
 use Rattle.like_crew.proofs.servers.Shares.{plan-at}
 use Rattle.like_crew.proofs.servers.Numbers.{own-place}
+use Rattle.like_crew.proofs.Counted.{plan_of}
 
 -- the whole plan of a submitter was taken
 whole-plan : (service : Service) (s : ServerView) (submitter : ℕ) → Agree s.worker s.inboxes → WorksFor service s → IsDone service s.worker → serves s.worker.last.share submitter ≡ true

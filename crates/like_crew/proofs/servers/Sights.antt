@@ -23,8 +23,7 @@ use Rattle.like_roles.specs.worker.Turns as turns
 use Rattle.like_roles.specs.worker.Turns.{Gives, TakesAsk, Turns, Works, merged, saw, settled, with_taken, without_first}
 use Rattle.like_roles.specs.worker.WorkerView.{WorkerView, phase_at, submitter_at}
 use Rattle.like_roles.proofs.Effects.{Runs-effects}
-use Rattle.like_service.specs.Log.{IsRising}
-use Rattle.like_crew.specs.Server.{NoneAbove}
+use Rattle.like_crew.specs.Server.{IsRising, NoneAbove}
 
 -- nothing was taken above the phase that was seen last, and that is the one that the worker runs or has answered
 abbrev pub Seen : WorkerState → Option Sight → List Took → Type 0

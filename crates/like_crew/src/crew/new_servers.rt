@@ -1,5 +1,5 @@
 ghost use Rattle.std.specs.Prelude.{◌≡◌, IfOk, length, map};
-ghost use Rattle.like_requests.specs.Setup.{IsWithinLimits};
+ghost use Rattle.like_requests.specs.Setup.{FitsRun};
 ghost use Rattle.like_board.specs.Seats.{board_id, board_numbers};
 ghost use Rattle.like_roles.specs.worker.New.{AreNewSeats};
 ghost use Rattle.like_service.specs.Asked.{service_of};
@@ -23,7 +23,7 @@ pub fn servers_of<'a, I: Inbox>(
     seats: Vec<WorkerSeat>,
     inboxes: Vec<I>,
 ) -> Result<Vec<Server<BoardPost<'a>, I>>, AllocError>
-    requires within { IsWithinLimits setup.now (plans_of (map I.view inboxes.items)) }
+    requires within { FitsRun setup.now (plans_of (map I.view inboxes.items)) }
     requires untouched { AreUntouched (map I.view inboxes.items) }
     requires sizes { sizes.now ≡ map length (plans_of (map I.view inboxes.items)) }
     requires len { length seats.items ≡ setup.now.workers }

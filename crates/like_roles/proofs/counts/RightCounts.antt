@@ -1,33 +1,29 @@
 -- The counts that a worker's looks were shown are right, where its post's reads lie between what all posts have added.
-use Rattle.std.proofs.Common.{◌≡◌, ℕ, zero, suc, ◌+◌, ◌<◌, ◌≤◌, ◌==◌, ◌&&◌, nat_lt, nat_le, Bool, true, false, cond, List, [], ◌∷◌, ◌++◌, length, map, take, drop, slice_index, Option, Some, None, subst, refl, ap, sym, ◌∙◌, inl, inr, arith}
-use Rattle.std.proofs.lemmas.Bool.{cases_lt, le-leb, lt-leb, lt-ltb, le-ltb}
+use Rattle.std.proofs.Common.{◌≡◌, ℕ, zero, suc, ◌+◌, ◌<◌, ◌≤◌, ◌==◌, ◌&&◌, nat_lt, Bool, true, false, cond, List, [], ◌∷◌, ◌++◌, length, map, take, drop, slice_index, Option, Some, None, subst, refl, ap, sym, ◌∙◌, inl, inr, arith}
+use Rattle.std.proofs.lemmas.Bool.{cases_lt, le-ltb}
 use Rattle.std.proofs.lemmas.List.{take-append-drop}
 use Rattle.std.proofs.lemmas.List.Elements.{filter-append}
 use Rattle.std.proofs.lemmas.List.Sums.{sum_by-append, sum_by-cons}
 use Rattle.std.proofs.lemmas.Option.{get_or_from_slice_get, slice_get_within}
-use Rattle.std.specs.List.{cons_option, filter, filter_map, range_with_len, slice_get, sum_by}
-use Rattle.std.specs.Prelude.{option_and_then, option_map, IsSomeAnd, ⊤}
-use Rattle.like_requests.specs.Verdict.{verdict_of}
+use Rattle.std.specs.List.{cons_option, filter, filter_map, range_with_len, slice_get}
+use Rattle.std.specs.Prelude.{option_and_then, option_map}
+use Rattle.like_requests.specs.Verdict.{is_accepted}
 use Rattle.like_requests.specs.declared.request.Op.{Op}
 use Rattle.like_requests.specs.declared.request.Op.TheVariants as op
 use Rattle.like_requests.specs.declared.request.PageRef.{PageRef}
 use Rattle.like_requests.specs.declared.request.Request.{Request}
-use Rattle.like_requests.specs.declared.verdict.Verdict.{Verdict}
-use Rattle.like_requests.specs.declared.verdict.Verdict.TheVariants.{Accepted}
 use Rattle.like_core.specs.declared.view.Addition.{Addition}
 use Rattle.like_core.specs.declared.view.PageRead.{PageRead}
 use Rattle.like_core.specs.Additions.{added_in, added_before}
 use Rattle.like_core.specs.views.Reads.{AreBetween, IsBetween}
 use Rattle.like_core.proofs.core.Labels.{added_before-next, one_before-next}
 use Rattle.like_service.specs.declared.log.Ran.{Ran}
-use Rattle.like_service.specs.declared.reply.Reply.{Reply}
-use Rattle.like_service.specs.declared.reply.Reply.TheVariants.{Liked, Seen, Refused}
-use Rattle.like_service.specs.Likes.{Between, accepted_like, initial_count, last_like, like_ran, likes_among, likes_below, likes_up_to, likes_within}
-use Rattle.like_service.specs.places.Looks.{ShownCount, accepted_look, count_in, look_ran, shown_at, shown_in, shown_to}
-use Rattle.like_roles.specs.worker.Follows.{shown_by}
-use Rattle.like_service.specs.Replies.{Answers, HasRightAnswers, HasRightCounts, IsSeen, page_looked_at}
+use Rattle.like_service.specs.Likes.{Between, accepted_like, initial_count, like_of, like_ran, likes_among, likes_below, likes_within}
+use Rattle.like_roles.specs.worker.Shown.{ShownCount, shown_at, shown_in, shown_to, shown_by, look_ran}
+use Rattle.like_service.specs.Looks.{accepted_look, count_in, page_looked_at}
+use Rattle.like_service.specs.Replies.{HasRightCounts}
 use Rattle.like_service.specs.Service.{Service, request_of, submitters}
-use Rattle.like_roles.proofs.counts.Tallied.{accepted-true, likes_among-append, within-none}
+use Rattle.like_roles.proofs.counts.Tallied.{likes_among-append, within-none}
 
 -- what a test finds among numbers stands in the list of what it finds
 found_among : {Y : Type 0} (f : ℕ → Option Y) (a n i : ℕ) (y : Y) → a ≤ i → i < a + n → f i ≡ Some y → (k : ℕ) × (slice_get (filter_map f (range_with_len a n)) k ≡ Some y)
@@ -57,17 +53,6 @@ split_at : {X : Type 0} (xs : List X) (i : ℕ) (x : X) → slice_get xs i ≡ S
 split_at [] i x at = absurd (cc at)
 split_at (y ∷ ys) zero x at = let same : y ≡ x = cc at in (λ m. same m ∷ ys)
 split_at (y ∷ ys) (suc i) x at = ap (λ zs. y ∷ zs) (split_at ys i x at)
-
--- up to a phase is before the next
-le_is_lt : (a b : ℕ) → nat_le a b ≡ nat_lt a (b + 1)
-le_is_lt a b = elim (cases_lt a (b + 1)) [
-  | inl less ↦ le-leb a b (omega arith) ∙ sym (lt-ltb a (b + 1) less)
-  | inr past ↦ lt-leb a b (omega arith) ∙ sym (le-ltb a (b + 1) past)
-]
-
-pub likes_up_to-next : (service : Service) (page : ℕ) (runs : List (List Ran)) (phase : ℕ) → likes_up_to service page runs phase ≡ likes_below service page runs (phase + 1)
-likes_up_to-next service page runs phase =
-    λ m. sum_by (λ ran. likes_among service page (filter (λ e. le_is_lt e.phase phase m) ran)) runs
 
 -- the likes of two lists in a phase
 within-append : (service : Service) (xs ys : List Ran) (page phase : ℕ) → likes_within service page (xs ++ ys) phase ≡ likes_within service page xs phase + likes_within service page ys phase
@@ -119,34 +104,18 @@ below-is service ran additions each (suc phase) page =
     let goes : likes_among service page (filter (λ x. nat_lt x.phase (phase + 1)) ran) ≡ added_before (phase + 1) page additions = omega arith in
     subst (λ (k : ℕ). likes_among service page (filter (λ x. nat_lt x.phase k) ran) ≡ added_before k page additions) (sym e) goes
 
--- an accepted request with a page to look at is a look
-looked : (o : Op) (p : PageRef) (page : ℕ) → page_looked_at o p ≡ Some page → o ≡ op.Look
-looked op.Look p page is = refl
-looked op.Like p page is = absurd (cc is)
+-- an entry that ran an accepted look ran no like
+no-like : (service : Service) (e : Ran) (page : ℕ) → look_ran service e ≡ Some page → like_ran service e ≡ None
+no-like service e page look = by_request (request_of service e) look where
+  by_op : (b : Bool) (o : Op) (user : ℕ) (p : PageRef) → cond b (page_looked_at o p) None ≡ Some page → cond b (like_of o user p) None ≡ None
+  by_op false o user p is = refl
+  by_op true op.Look user p is = refl
+  by_op true op.Like user p is = absurd (cc is)
 
--- the page of the accepted look that an entry ran
-look-is : (service : Service) (e : Ran) (r : Request) (page : ℕ) → request_of service e ≡ Some r → verdict_of service.users (submitters service) e.submitter r ≡ Accepted
-    → page_looked_at r.op r.page ≡ Some page → look_ran service e ≡ Some page
-look-is service e r page asked accepted look =
-    ap (option_and_then (accepted_look service.users (submitters service) e.submitter)) asked
-    ∙ (ap (λ (b : Bool). cond b (page_looked_at r.op r.page) None) (accepted-true service.users (submitters service) e.submitter r accepted) ∙ look)
-
--- which is no like
-no-like : (service : Service) (e : Ran) (r : Request) (page : ℕ) → request_of service e ≡ Some r → verdict_of service.users (submitters service) e.submitter r ≡ Accepted
-    → page_looked_at r.op r.page ≡ Some page → like_ran service e ≡ None
-no-like service e r page asked accepted look =
-    let yes = accepted-true service.users (submitters service) e.submitter r accepted in
-    let is_look = looked r.op r.page page look in
-    ap (option_and_then (accepted_like service.users (submitters service) e.submitter)) asked ∙ rw (yes, is_look) refl
-
--- it was answered by a sight, which has any property that its count has
-answered : (verdict : Verdict) (o : Op) (last : Option ℕ) (reply : Reply) (Q : ℕ → Type 0) → verdict ≡ Accepted → o ≡ op.Look → Answers verdict o last reply → Q (count_in reply) → IsSeen reply (λ _. ⊤) Q
-answered verdict o last reply Q accepted is_look answer q = seen reply (subst (λ x. Answers Accepted x last reply) is_look (subst (λ v. Answers v o last reply) accepted answer)) q
-  where
-    seen : (given : Reply) → Answers Accepted op.Look last given → Q (count_in given) → IsSeen given (λ _. ⊤) Q
-    seen (Seen shown count) at q = (tt, q)
-    seen Liked at q = absurd at
-    seen (Refused v) at q = absurd at
+  by_request : (o : Option Request) → option_and_then (accepted_look service.users (submitters service) e.submitter) o ≡ Some page
+      → option_and_then (accepted_like service.users (submitters service) e.submitter) o ≡ None
+  by_request None is = refl
+  by_request (Some r) is = by_op (is_accepted service.users (submitters service) e.submitter r) r.op r.user r.page is
 
 -- what an entry that ran a look at a page was shown after these
 abbrev shown_as : Service → List Ran → Ran → ℕ → ShownCount
@@ -206,7 +175,6 @@ between-of : (service : Service) (runs : List (List Ran)) (additions : List Addi
 between-of service runs additions counts before c after initial below all b =
     let earlier = below c.phase c.page in
     let upto = below (c.phase + 1) c.page in
-    let next = likes_up_to-next service c.page runs c.phase in
     record { lower = omega (arith, b.least); upper = omega (arith, b.most) }
 
 -- each look has the right count
@@ -215,16 +183,12 @@ pub right-counts : (service : Service) (runs : List (List Ran)) (ran : List Ran)
     → ((phase page : ℕ) → before phase page ≡ likes_below service page runs phase)
     → ((phase page : ℕ) → likes_within service page ran phase ≡ added_in phase page additions)
     → shown_in service ran ≡ map (shown_by additions) reads
-    → AreBetween counts before last additions reads → HasRightAnswers service ran → HasRightCounts service runs ran
-right-counts service runs ran additions reads counts before last initial below each looks between answers i e at r page asked accepted look =
+    → AreBetween counts before last additions reads → HasRightCounts service runs ran
+right-counts service runs ran additions reads counts before last initial below each looks between i page e at look =
     let front : List Ran = take i ran in
     let back : List Ran = drop (suc i) ran in
     let c : ShownCount = shown_as service front e page in
-    let at_i = shown_at-look service ran i e page at (look-is service e r page asked accepted look) in
+    let at_i = shown_at-look service ran i e page at look in
     let bounds = bounded service ran additions reads counts before last i c looks between (slice_get_within ran i e at) at_i in
-    let around = likes-around service ran i e page e.phase at (no-like service e r page asked accepted look) in
-    let fits = between-of service runs additions counts before c (likes_within service page back e.phase) (initial page) below (sym (each e.phase page) ∙ around) bounds in
-    let A : Option Request → Type 0 = λ o. IsSomeAnd o (λ x. Answers (verdict_of service.users (submitters service) e.submitter x) x.op (last_like service x.user front) e.reply) in
-    answered (verdict_of service.users (submitters service) e.submitter r) r.op (last_like service r.user front) e.reply
-    (λ count. Between service runs e.phase page count (likes_within service page front e.phase) (likes_within service page back e.phase))
-    accepted (looked r.op r.page page look) (subst A asked (answers i e at)) fits
+    let around = likes-around service ran i e page e.phase at (no-like service e page look) in
+    between-of service runs additions counts before c (likes_within service page back e.phase) (initial page) below (sym (each e.phase page) ∙ around) bounds

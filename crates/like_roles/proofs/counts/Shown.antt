@@ -10,8 +10,8 @@ use Rattle.like_core.specs.declared.view.PageRead.{PageRead}
 use Rattle.like_core.specs.Additions.{added_in}
 use Rattle.like_service.specs.declared.log.Ran.{Ran}
 use Rattle.like_service.specs.Likes.{likes_within}
-use Rattle.like_service.specs.places.Looks.{look_ran, count_in, shown_to, shown_at, shown_in}
-use Rattle.like_roles.specs.worker.Follows.{shown_by}
+use Rattle.like_roles.specs.worker.Shown.{look_ran, shown_to, shown_at, shown_in, shown_by}
+use Rattle.like_service.specs.Looks.{count_in}
 use Rattle.like_service.specs.Service.{Service}
 use Rattle.like_service.proofs.Lists.{slice_get-at_end, slice_get-before}
 

@@ -1,5 +1,5 @@
 -- What running a request does to likes, replies and last likes.
-use Rattle.std.proofs.Common.{◌≡◌, ◌≢◌, ℕ, ◌+◌, ◌<◌, ◌≤◌, Bool, true, false, cond, not, eqb, ltb, ◌==◌, ◌&&◌, List, [], ◌∷◌, ◌++◌, length, get_or, set, map, take, Option, Some, None, refl, sym, ap, ◌∙◌, inl, inr, arith, append-nil, subst}
+use Rattle.std.proofs.Common.{◌≡◌, ◌≢◌, ℕ, ◌+◌, ◌<◌, ◌≤◌, Bool, true, false, cond, not, eqb, ltb, ◌==◌, ◌&&◌, List, [], ◌∷◌, ◌++◌, length, count_by, get_or, set, map, take, Option, Some, None, refl, sym, ap, ◌∙◌, inl, inr, arith, append-nil, subst}
 use Rattle.std.proofs.Math.Seq.{take-append_seam, take-length}
 use Rattle.std.proofs.lemmas.Bool.{and_parts, cases_eq, cases_lt, eq-eqb, ltb-true, ne_eqb}
 use Rattle.std.proofs.lemmas.List.{length-append, length-set, map-append, get_or-set_same, get_or-set_other, take-append-le}
@@ -9,11 +9,10 @@ use Rattle.std.proofs.lemmas.Option.{slice_get_within}
 use Rattle.std.specs.List.{cons_option, filter, slice_get}
 use Rattle.std.specs.Option.{option_to_list}
 use Rattle.std.specs.Prelude.{All, option_and_then, option_map, IsSomeAnd}
+use Rattle.like_requests.specs.Pages.{marks_of}
 use Rattle.like_requests.specs.Verdict.{home, is_accepted, is_known, verdict_of}
-use Rattle.like_requests.specs.declared.request.Op.{Op}
 use Rattle.like_requests.specs.declared.request.PageRef.TheVariants as ref
 use Rattle.like_requests.specs.declared.request.Request.{Request}
-use Rattle.like_requests.specs.declared.verdict.Verdict.{Verdict}
 use Rattle.like_requests.specs.declared.verdict.Verdict.TheVariants as verdict
 use Rattle.like_core.specs.WorkerState.{phase_of}
 use Rattle.like_core.specs.declared.view.PageRead.{PageRead}
@@ -26,18 +25,27 @@ use Rattle.like_service.specs.declared.log.Ran.{Ran}
 use Rattle.like_service.specs.declared.reply.Reply.{Reply}
 use Rattle.like_service.specs.declared.reply.Reply.TheVariants as reply
 use Rattle.like_core.specs.PhaseMasks.{AreMasksOf}
-use Rattle.like_roles.specs.worker.Follows.{IsAsked, IsServed, IsSized, IsTallied, shown_by}
-use Rattle.like_service.specs.Likes.{AcceptedLike, accepted_like, last_like, last_page, like_ran, likes_among, likes_ran, likes_within, page_likes}
-use Rattle.like_service.specs.places.Looks.{ShownCount, accepted_look, look_ran, shown_in, shown_to}
-use Rattle.like_service.specs.Replies.{Answers, HasRightAnswers, IsRightAnswer, page_looked_at}
+use Rattle.like_roles.specs.worker.Follows.{IsAsked, IsServed, IsSized, IsTallied}
+use Rattle.like_roles.specs.worker.Shown.{shown_by, ShownCount, shown_in, shown_to, look_ran}
+use Rattle.like_service.specs.Likes.{AcceptedLike, accepted_like, last_in, like_ran, likes_among, likes_ran, likes_within}
+use Rattle.like_service.specs.Looks.{accepted_look, page_looked_at}
+use Rattle.like_service.specs.Replies.{HasRightAnswers, IsRightAnswer, answer_to}
 use Rattle.like_roles.specs.worker.Serve.{GivesReply, refuses, likes, looks, with_addition, counted, liked, shown, ran_now, verdict_at}
-use Rattle.like_service.specs.Service.{Service, marks, request_of, submitters}
+use Rattle.like_service.specs.Service.{Service, request_of, submitters}
 use Rattle.like_requests.specs.Setup.{IsThere}
 use Rattle.like_roles.specs.worker.WorkerView.{WorkerView, phase_at}
 use Rattle.like_service.proofs.Lists.{last_in-push, slice_get-at_end, slice_get-before}
 use Rattle.like_roles.proofs.Served.{counted_by}
 use Rattle.like_seat.proofs.MergedLikes.{cond_same}
 use Rattle.like_roles.proofs.counts.Shown.{after-more, shown_by-more, shown_in-none, shown_in-push}
+
+-- how many of the likes are of the page
+abbrev pub page_likes : ℕ → List AcceptedLike → ℕ
+page_likes page given = count_by (λ l. l.page == page) given
+
+-- the page of a user's last like among likes, if there is one
+abbrev last_page : ℕ → List AcceptedLike → Option ℕ
+last_page user given = last_in (map (λ l. l.page) (filter (λ l. l.user == user) given))
 
 -- one more like counts for its page alone
 pub page_likes-push : (page : ℕ) (given : List AcceptedLike) (l : AcceptedLike) → page_likes page (given ++ l ∷ []) ≡ page_likes page given + cond (eqb l.page page) 1 0
@@ -123,16 +131,8 @@ HasRightAnswers-push service ran e all right i f h =
 
 -- an answer to the request of an entry
 right-by_request : (service : Service) (ran : List Ran) (e : Ran) (r : Request) → request_of service e ≡ Some r
-    → Answers (verdict_of service.users (submitters service) e.submitter r) r.op (last_like service r.user ran) e.reply → IsRightAnswer service ran e
-right-by_request service ran e r h a =
-    subst (λ o. IsSomeAnd o (λ q. Answers (verdict_of service.users (submitters service) e.submitter q) q.op (last_like service q.user ran) e.reply)) (sym h) a
-
--- the answer to a request that is not accepted
-answers-refused : (v : Verdict) (o : Op) (last : Option ℕ) → v ≢ verdict.Accepted → Answers v o last (reply.Refused v)
-answers-refused verdict.Accepted o last n = absurd (n refl)
-answers-refused verdict.UnknownUser o last n = refl
-answers-refused verdict.OtherHome o last n = refl
-answers-refused verdict.UnknownPage o last n = refl
+    → e.reply ≡ answer_to service ran e r → IsRightAnswer service ran e
+right-by_request service ran e r h a = subst (λ o. IsSomeAnd o (λ q. e.reply ≡ answer_to service ran e q)) (sym h) a
 
 -- one more of a number that stands at a place
 one_more-at : (xs : List ℕ) (page other : ℕ) → page < length xs → get_or (set xs page (get_or xs page 0 + 1)) other 0 ≡ get_or xs other 0 + cond (eqb page other) 1 0
@@ -310,7 +310,7 @@ GivesReply-tallied service v h stashed answer w served sized t asked clear (refu
     let no : is_accepted service.users (submitters service) h.submitter r ≡ false = accepted-false service.users (submitters service) h.submitter r (λ k. n (V-is ∙ k)) in
     let none : like_ran service x ≡ None = like_ran-is service x r asked.asked ∙ rw no refl in
     let no_look : look_ran service x ≡ None = look_ran-is service x r asked.asked ∙ rw no refl in
-    let right = right-by_request service v.ran x r asked.asked (subst (λ y. Answers y r.op (last_like service r.user v.ran) (reply.Refused V)) V-is (answers-refused V r.op _ n)) in
+    let right = right-by_request service v.ran x r asked.asked (ap reply.Refused V-is ∙ rw no refl) in
     subst (λ y. IsAfter service v h stashed answer y) (sym e) (subst (λ y. IsAfter service v h stashed y v) (sym a) (unchanged service v h stashed (reply.Refused V) v.post.reads served sized t none right (shown_in-none service v.ran x no_look ∙ t.looks) t.after))
 GivesReply-tallied service v h stashed answer w served sized t asked clear (likes page a o p l e) =
     let r = h.ask.request in
@@ -319,8 +319,8 @@ GivesReply-tallied service v h stashed answer w served sized t asked clear (like
     let x = ran_now v h stashed reply.Liked in
     let like : like_ran service x ≡ Some (record { user = r.user; page = page }) = like_ran-is service x r asked.asked ∙ rw (yes, o, p) refl in
     let no_look : look_ran service x ≡ None = look_ran-is service x r asked.asked ∙ rw (yes, o) refl in
-    let right = right-by_request service v.ran x r asked.asked (rw (V-is, o) refl) in
-    let in_marks : IsThere (length (marks service)) (ref.Known page) = subst (λ q. IsThere (length (marks service)) q) p asked.there in
+    let right = right-by_request service v.ran x r asked.asked (rw (yes, o) refl) in
+    let in_marks : IsThere (length (marks_of service.pages)) (ref.Known page) = subst (λ q. IsThere (length (marks_of service.pages)) q) p asked.there in
     let in_pages : page < pages_of v.post = omega (arith, ap length served.marks_alike) in
     let in_users : r.user < v.last.share.users = omega (arith, accepted_user service.users (submitters service) h.submitter r yes, served.users) in
     subst (λ y. IsAfter service v h stashed answer y) (sym e.1) (subst (λ y. IsAfter service v h stashed y (liked v r.user page e.0)) (sym l) (one_like service v h stashed page e.0 served sized t like no_look right in_pages in_users))
@@ -331,7 +331,7 @@ GivesReply-tallied service v h stashed answer w served sized t asked clear (look
     let seen = reply.Seen (last_of v.last r.user) count in
     let x = ran_now v h stashed seen in
     let none : like_ran service x ≡ None = like_ran-is service x r asked.asked ∙ rw (yes, o) refl in
-    let right = right-by_request service v.ran x r asked.asked (rw (V-is, o) (t.last r.user, tt)) in
+    let right = right-by_request service v.ran x r asked.asked (ap (λ l. reply.Seen l count) (t.last r.user) ∙ rw (yes, o) refl) in
     let look : look_ran service x ≡ Some page = look_ran-is service x r asked.asked ∙ rw (yes, o, p) refl in
     let now : ℕ = phase_at v in
     let looked : page_looked_at r.op r.page ≡ Some page = rw (o, p) refl in

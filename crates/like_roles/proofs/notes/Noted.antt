@@ -13,10 +13,10 @@ use Rattle.like_core.specs.declared.view.PageRead.{PageRead}
 use Rattle.like_core.proofs.views.KeptPlaces.{counts_one}
 use Rattle.like_service.specs.declared.log.Added.{Added}
 use Rattle.like_service.specs.declared.log.Ran.{Ran}
-use Rattle.like_service.specs.places.Adds.{IsOfLikes, addition_of, is_add_to, adds_to, adds_at, adds_before, adds_before_look, adds_before_looks, likes_at}
-use Rattle.like_roles.specs.worker.Follows.{IsNoted}
+use Rattle.like_service.specs.places.Adds.{IsOfLikes, addition_of, is_add_to, adds_before}
+use Rattle.like_roles.specs.worker.Follows.{adds_to, adds_at, likes_at, IsNoted}
+use Rattle.like_roles.specs.worker.Shown.{adds_before_look, adds_before_looks, look_ran}
 use Rattle.like_service.specs.Likes.{likes_within}
-use Rattle.like_service.specs.places.Looks.{look_ran}
 use Rattle.like_roles.specs.worker.Serve.{noted, noted_at}
 use Rattle.like_service.specs.Service.{Service, is_split_in}
 use Rattle.like_roles.specs.worker.WorkerView.{WorkerView}

@@ -14,8 +14,8 @@ use Rattle.like_core.specs.Post.{additions_in, pages_of, slices}
 use Rattle.like_core.proofs.core.Labels.{one_before-next}
 use Rattle.like_service.specs.declared.log.Added.{Added}
 use Rattle.like_service.specs.declared.log.Ran.{Ran}
-use Rattle.like_service.specs.places.Adds.{IsOfLikes, addition_of, is_add_to, adds_to}
-use Rattle.like_roles.specs.worker.Follows.{IsNoted, IsTallied, IsUnmerged}
+use Rattle.like_service.specs.places.Adds.{IsOfLikes, addition_of, is_add_to}
+use Rattle.like_roles.specs.worker.Follows.{adds_to, IsNoted, IsTallied, IsUnmerged}
 use Rattle.like_service.specs.Likes.{likes_within}
 use Rattle.like_roles.specs.worker.Serve.{noted, noted_at}
 use Rattle.like_service.specs.Service.{Service, is_split_in}

@@ -17,10 +17,10 @@ use Rattle.like_tables.specs.declared.held.Held.{Held}
 use Rattle.like_service.specs.declared.log.Added.{Added}
 use Rattle.like_service.specs.declared.log.Ran.{Ran}
 use Rattle.like_service.specs.declared.reply.Reply.{Reply}
-use Rattle.like_service.specs.places.Adds.{IsOfLikes, addition_of, is_add_to, adds_to, adds_before, adds_before_looks}
-use Rattle.like_roles.specs.worker.Follows.{IsAsked, IsNoted, IsServed, IsUnmerged}
+use Rattle.like_service.specs.places.Adds.{IsOfLikes, addition_of, is_add_to, adds_before}
+use Rattle.like_roles.specs.worker.Follows.{adds_to, IsAsked, IsNoted, IsServed, IsUnmerged}
+use Rattle.like_roles.specs.worker.Shown.{adds_before_looks, look_ran}
 use Rattle.like_service.specs.Likes.{AcceptedLike, like_ran, likes_within}
-use Rattle.like_service.specs.places.Looks.{look_ran}
 use Rattle.like_roles.specs.worker.Serve.{GivesReply, refuses, likes, looks, with_addition, counted, noted_at, ran_now}
 use Rattle.like_service.specs.Service.{Service, is_split_in, submitters}
 use Rattle.like_roles.specs.worker.WorkerView.{WorkerView, phase_at}

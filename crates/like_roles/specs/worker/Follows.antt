@@ -1,5 +1,7 @@
 -- What a worker has done, as the plans of its submitters say it should.
-use Rattle.std.specs.Prelude.{◌≡◌, ℕ, ◌+◌, ◌%◌, ◌≤◌, ◌==◌, if◌then◌else◌, true, false, List, [], ◌++◌, length, map, slice_index, take, All, Some, ⊤}
+use Rattle.std.specs.Prelude.{◌≡◌, ℕ, ◌+◌, ◌%◌, ◌≤◌, ◌==◌, ◌&&◌, if◌then◌else◌, true, false, List, [], ◌++◌, length, map, count_by, slice_get, slice_index, All, Some, ⊤}
+use Rattle.std.specs.Option.{option_to_list}
+use Rattle.like_requests.specs.Pages.{marks_of}
 use Rattle.like_requests.specs.declared.setup.Setup.{Setup}
 use Rattle.like_requests.specs.declared.request.Taken.{Taken}
 use Rattle.like_requests.specs.declared.request.Taken.TheVariants as taken
@@ -8,7 +10,6 @@ use Rattle.like_core.specs.declared.view.PageRead.{PageRead}
 use Rattle.like_core.specs.declared.worker_state.WorkerState.{WorkerState}
 use Rattle.like_core.specs.declared.worker_state.WorkerState.TheVariants.{Runs, Answered, Gone}
 use Rattle.like_core.specs.Phase.{IsJoined, IsSplit}
-use Rattle.like_core.specs.Additions.{added_in}
 use Rattle.like_core.specs.PhaseMasks.{AreMasksOf}
 use Rattle.like_core.specs.WorkerState.{IsRunning, RunsJoined}
 use Rattle.like_core.specs.Post.{additions_of, additions_in, pages_of}
@@ -17,12 +18,12 @@ use Rattle.like_tables.specs.declared.held.Held.{Held}
 use Rattle.like_service.specs.declared.log.Added.{Added}
 use Rattle.like_service.specs.declared.log.Ran.{Ran}
 use Rattle.like_service.specs.declared.log.Took.{Took}
-use Rattle.like_service.specs.places.Adds.{IsOfLikes, AreOfLikes, addition_of, adds_at, adds_before_looks, adds_to, likes_at}
+use Rattle.like_service.specs.places.Adds.{IsOfLikes, AreOfLikes, addition_of, is_add_to}
 use Rattle.like_service.specs.Likes.{last_like, likes_among, likes_within}
-use Rattle.like_service.specs.places.Looks.{ShownCount, shown_in}
+use Rattle.like_roles.specs.worker.Shown.{adds_before_looks, shown_by, shown_in}
 use Rattle.like_service.specs.Order.{Entry, block, entry_of, order, order_below, stashed_in}
 use Rattle.like_service.specs.Replies.{HasRightAnswers}
-use Rattle.like_service.specs.Service.{Service, is_split_in, marks, request_at, submitters}
+use Rattle.like_service.specs.Service.{Service, is_split_in, request_at, submitters}
 use Rattle.like_requests.specs.Setup.{IsThere}
 use Rattle.like_roles.specs.worker.WorkerView.{WorkerView, TookAllEnds, phase_at, submitter_at}
 
@@ -31,7 +32,7 @@ use Rattle.like_roles.specs.worker.WorkerView.{WorkerView, TookAllEnds, phase_at
 pub record IsServed (service : Service) (v : WorkerView) : Type 0 where
   pub users : service.users ≡ v.last.share.users
   pub submitters_alike : submitters service ≡ v.last.share.submitters
-  pub marks_alike : marks service ≡ v.post.marks
+  pub marks_alike : marks_of service.pages ≡ v.post.marks
   pub hot_alike : AreMasksOf service.hot v.post.masks
   pub stash_alike : service.stash ≡ v.held.capacity
 
@@ -39,15 +40,6 @@ pub record IsServed (service : Service) (v : WorkerView) : Type 0 where
 pub record IsSized (v : WorkerView) : Type 0 where
   pub slice : length v.slice ≡ pages_of v.post
   pub users : length v.last.last ≡ v.last.share.users
-
--- what a read of a post with these additions shows
-abbrev pub shown_by : List Addition → PageRead → ShownCount
-shown_by additions r = record {
-  phase = r.phase;
-  page = r.page;
-  count = r.count;
-  before = added_in r.phase r.page (take r.after additions);
-}
 
 -- likes: the accepted likes of each page that it ran are as many as its post's additions and its slice together, and so
 -- are those of each phase, where the slice is of the present one; the accepted looks that it ran are the post's reads, in
@@ -63,6 +55,19 @@ pub record IsTallied (service : Service) (v : WorkerView) : Type 0 where
   pub after : All (λ r. r.after ≤ length v.post.additions) v.post.reads
   pub replies : HasRightAnswers service v.ran
   pub last : (user : ℕ) → last_of v.last user ≡ last_like service user v.ran
+
+-- how many additions are to a page in a phase
+abbrev pub adds_to : ℕ → ℕ → List Added → ℕ
+adds_to phase page adds = count_by (is_add_to phase page) adds
+
+-- how many of them were made when so many entries had run
+abbrev pub adds_at : ℕ → ℕ → ℕ → List Added → ℕ
+adds_at phase page at adds = count_by (λ a. is_add_to phase page a && (a.at == at)) adds
+
+-- how many accepted likes of a page in a phase, one or none, the entry at a place of a run list ran
+abbrev pub likes_at : Service → ℕ → ℕ → ℕ → List Ran → ℕ
+likes_at service phase page at ran =
+    likes_within service page (option_to_list (slice_get ran at)) phase
 
 -- the additions of a worker are noted: they are its post's, in order; each is of accepted likes of its run list, of a page
 -- that is not split in the phase one at each like, and of a page that is at most one; and before each look ran as many
@@ -92,7 +97,7 @@ IsUnmerged service adds ran Gone = ⊤
 -- a request that is held is that of its submitter's plan, of a page that is there
 pub record IsAsked (service : Service) (h : Held) : Type 0 where
   pub asked : request_at service h.submitter h.ask.number ≡ Some h.ask.request
-  pub there : IsThere (length (marks service)) h.ask.request.page
+  pub there : IsThere (length (marks_of service.pages)) h.ask.request.page
 
 -- a request that is held, as it runs in a phase
 abbrev pub entry_held : ℕ → Held → Entry

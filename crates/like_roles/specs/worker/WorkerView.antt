@@ -1,6 +1,9 @@
 -- What a worker is, as contracts see it.
-use Rattle.std.specs.Prelude.{◌≡◌, ℕ, ◌+◌, ◌-◌, ◌<◌, nat_le, if◌then◌else◌, Bool, true, false, List, length, slice_index_or, Option}
+use Rattle.std.specs.Prelude.{◌≡◌, ℕ, ◌+◌, ◌-◌, ◌<◌, ◌&&◌, nat_le, if◌then◌else◌, Bool, true, false, List, length, slice_index_or, Option}
+use Rattle.std.specs.Option.{option_map_or}
+use Rattle.like_requests.specs.Verdict.{is_accepted}
 use Rattle.like_requests.specs.declared.request.Request.{Request}
+use Rattle.like_service.specs.Looks.{page_looked_at}
 use Rattle.like_core.specs.WorkerState.{phase_of}
 use Rattle.like_core.specs.Post.{PostView, slices}
 use Rattle.like_seat.specs.SeatView.{SeatView}
@@ -11,7 +14,6 @@ use Rattle.like_tables.specs.Waiting.{Waiting}
 use Rattle.like_service.specs.declared.log.Added.{Added}
 use Rattle.like_service.specs.declared.log.Ran.{Ran}
 use Rattle.like_service.specs.declared.log.Took.{Took}
-use Rattle.like_service.specs.Order.{is_look_at_sliced}
 
 -- its post; the looks that it holds, which are its stash in a split phase and its backlog in a joined one; its slice, a
 -- number for each page; for each of its submitters by place, how many requests of it were not taken yet and whether its
@@ -63,6 +65,12 @@ pub record IsNextPlace (ended : List Bool) (cursor place : ℕ) : Type 0 where
   pub first : (other : ℕ) → other < length ended
       → steps_between (length ended) cursor other < steps_between (length ended) cursor place
       → slice_index_or ended other true ≡ true
+
+-- the request is an accepted look at a page that is sliced
+abbrev pub is_look_at_sliced : ℕ → ℕ → (ℕ → Bool) → ℕ → Request → Bool
+is_look_at_sliced users submitters is_sliced submitter r =
+    is_accepted users submitters submitter r
+    && option_map_or is_sliced (page_looked_at r.op r.page) false
 
 -- whether a request of a submitter has to wait for the next joined phase
 abbrev pub has_to_wait : WorkerView → ℕ → Request → Bool

@@ -1,57 +1,57 @@
 -- What a report says of where the additions to each page stand.
-use Rattle.std.specs.Prelude.{◌≡◌, ℕ, All, List, [], count_by, length, map, slice_index, zip}
-use Rattle.std.specs.List.{sum_by}
+use Rattle.std.specs.Prelude.{◌≡◌, ◌⊎◌, ◌≤◌, ℕ, ◌&&◌, nat_le, nat_lt, if◌then◌else◌, All, List, [], count_by, length, map, slice_get, slice_index, Option, option_and_then, option_map}
+use Rattle.std.specs.List.{filter_map, flat_map, range_with_len}
 use Rattle.like_requests.specs.declared.request.Request.{Request}
 use Rattle.like_requests.specs.declared.setup.Setup.{Setup}
 use Rattle.like_core.specs.declared.view.Addition.{Addition}
 use Rattle.like_core.specs.declared.view.PageRead.{PageRead}
-use Rattle.like_core.specs.views.Places.{ArePlaced, AreTiles, Counting}
+use Rattle.like_core.specs.views.Places.{AreInOrder, ends_at, has_number}
 use Rattle.like_service.specs.declared.log.Ran.{Ran}
 use Rattle.like_service.specs.declared.log.WorkerLog.{WorkerLog}
-use Rattle.like_service.specs.places.Adds.{AreOfLikes, addition_of, adds_before_looks}
+use Rattle.like_service.specs.places.Adds.{AreOfLikes, addition_of, adds_before}
 use Rattle.like_service.specs.Likes.{Between, initial_count}
-use Rattle.like_service.specs.places.Looks.{ShownCount, shown_in}
+use Rattle.like_service.specs.Looks.{count_in, look_at}
 use Rattle.like_service.specs.Service.{Service}
 use Rattle.like_service.specs.declared.report.Report.{Report}
 use Rattle.like_service.specs.places.Places.{ArePlaces, lists_in}
 use Rattle.like_service.specs.Asked.{asked}
 use Rattle.like_service.specs.EndToEnd.{runs_of}
 
--- the additions that a log notes
-abbrev pub additions_noted : WorkerLog → List Addition
-additions_noted log = map addition_of log.adds.items
+-- the additions of all logs
+abbrev pub all_noted : List WorkerLog → List Addition
+all_noted logs = flat_map (λ log. map addition_of log.adds.items) logs
 
--- how many additions of all logs pass a test
-abbrev pub logs_passing : List WorkerLog → Counting
-logs_passing logs test = sum_by (λ log. count_by test (additions_noted log)) logs
+-- the read of the accepted look that an entry ran, if it ran one: the count in its reply, after so many additions
+abbrev pub read_of : Service → ℕ → Ran → Option PageRead
+read_of service after e =
+    option_map (λ page. record { phase = e.phase; page = page; count = count_in e.reply; after = after })
+    (look_at service e.submitter e.number)
 
--- a count that was shown, as a read of it after so many additions
-abbrev pub read_after : ShownCount × ℕ → PageRead
-read_after (shown, after) =
-    record { phase = shown.phase; page = shown.page; count = shown.count; after = after }
+-- the read of the entry at a place of a log, after the additions before it
+abbrev pub read_at : Service → WorkerLog → ℕ → Option PageRead
+read_at service log at =
+    option_and_then (read_of service (adds_before at log.adds.items)) (slice_get log.ran.items at)
 
--- the counts that the accepted looks of a log were shown, in order, each as a read after the additions before its look
-abbrev pub reads_shown : Service → WorkerLog → List PageRead
-reads_shown service log =
-    map read_after (zip (shown_in service log.ran.items)
-    (adds_before_looks service log.adds.items log.ran.items))
+-- the reads of the accepted looks of a log, in order
+abbrev pub reads_of : Service → WorkerLog → List PageRead
+reads_of service log =
+    filter_map (read_at service log) (range_with_len 0 (length log.ran.items))
 
--- the additions of a log stand in the order of phases: each behind all likes of earlier phases, and before those of later
--- ones
-abbrev pub StandsInTime : Service → List (List Ran) → WorkerLog → Type 0
-StandsInTime service runs log = All (λ a. Between service runs a.phase a.page a.old 0 a.n) log.adds.items
+-- a read found the count at the start, or the end of a stretch
+abbrev pub IsAtEnd : (ℕ → ℕ) → List Addition → PageRead → Type 0
+IsAtEnd first adds r =
+    (r.count ≡ first r.page) ⊎ (1 ≤ count_by (ends_at r.page r.count) adds)
 
--- places tile: each log's additions are its accepted likes; the stretches of all logs' additions tile each page's
--- counts, from the initial one to the final one; each count that a look was shown is the initial one or the end of a
--- stretch, and each worker's additions and looks at a page are in the order of these counts; all additions stand in the
--- order of their phases; and the report has the places of all additions by page
+-- places tile: additions are the likes and in the order of phases, stretches tile counts, looks are where stretches end
 pub record ArePlacesTiled (service : Service) (r : Report) : Type 0 where
   pub likes : All (λ log. AreOfLikes service log.ran.items log.adds.items) r.logs.items
-  pub tiles : AreTiles (initial_count service.pages) (slice_index r.counts.items)
-      (logs_passing r.logs.items)
-  pub placed : All (λ log. ArePlaced (initial_count service.pages) (logs_passing r.logs.items)
-      (additions_noted log) (reads_shown service log)) r.logs.items
-  pub in_time : All (StandsInTime service (runs_of r.logs.items)) r.logs.items
+  pub tiles : (page n : ℕ) → count_by (has_number page n) (all_noted r.logs.items)
+      ≡ (if nat_le (initial_count service.pages page) n && nat_lt n (slice_index r.counts.items page) then 1 else 0)
+  pub ends : All (λ log. All (IsAtEnd (initial_count service.pages) (all_noted r.logs.items))
+      (reads_of service log)) r.logs.items
+  pub order : All (λ log. AreInOrder (map addition_of log.adds.items) (reads_of service log)) r.logs.items
+  pub in_time : All (λ log. All (λ a. Between service (runs_of r.logs.items) a.phase a.page a.old 0 a.n)
+      log.adds.items) r.logs.items
   pub rows : ArePlaces (length service.pages) r.logs.items (lists_in r.places.items)
 
 -- the places of a report of settings and plans are right, with the hot pages that its own run lists tell

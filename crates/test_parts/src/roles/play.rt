@@ -1,6 +1,6 @@
 ghost use Rattle.std.specs.Prelude.{◌≡◌, ◌≤◌, [], ◌∷◌, IfOk, length};
 ghost use Rattle.like_requests.specs.Limits.{max_workers};
-ghost use Rattle.like_requests.specs.Setup.{IsWithinLimits};
+ghost use Rattle.like_requests.specs.Setup.{FitsRun};
 ghost use Rattle.like_core.specs.OpeningLimits.{run_limits};
 ghost use Rattle.like_board.specs.Seats.{board_id, coord_board, coord_view};
 ghost use Rattle.like_requests.specs.Pages.{counts_of};
@@ -60,7 +60,7 @@ fn players_of<'a>(
     mut seats: Vec<WorkerSeat>,
     notes: bool,
 ) -> Result<Vec<Player<'a>>, Fail>
-    requires within { IsWithinLimits setup.now (plan.now ∷ []) }
+    requires within { FitsRun setup.now (plan.now ∷ []) }
     requires seats { AreNewSeats (board_id board.now) setup.now.pages seats.items }
     requires len { length seats.items ≤ setup.now.workers }
 {
@@ -84,7 +84,7 @@ impl<'a> Play<'a> {
         seats: Vec<WorkerSeat>,
         notes: bool,
     ) -> Result<Play<'a>, Fail>
-        requires within { IsWithinLimits setup.now (plan.now ∷ []) }
+        requires within { FitsRun setup.now (plan.now ∷ []) }
         requires coord { coord_board coord ≡ board_id board.now }
         requires opened { (coord_view coord).opening.counts ≡ counts_of setup.now.pages }
         requires run { (coord_view coord).opening.limits ≡ run_limits }

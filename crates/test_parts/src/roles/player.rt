@@ -1,6 +1,6 @@
 ghost use Rattle.std.specs.Prelude.{◌≡◌, ◌<◌, ◌≤◌, [], ◌∷◌, IfOk, length};
 ghost use Rattle.like_requests.specs.Limits.{max_requests};
-ghost use Rattle.like_requests.specs.Setup.{IsWithin, IsWithinLimits};
+ghost use Rattle.like_requests.specs.Setup.{FitsRun, IsWithin};
 ghost use Rattle.like_board.specs.Seats.{post_meaning};
 ghost use Rattle.like_roles.specs.worker.New.{IsNew, IsPostOf};
 ghost use Rattle.test_parts.specs.Playing.{IsNextGiven};
@@ -79,7 +79,7 @@ impl<'a> Player<'a> {
         post: BoardPost<'a>,
         notes: bool,
     ) -> Result<Player<'a>, Fail>
-        requires within { IsWithinLimits setup.now (plan.now ∷ []) }
+        requires within { FitsRun setup.now (plan.now ∷ []) }
         requires is_worker { number < setup.now.workers }
         requires post { IsPostOf number setup.now.pages (post_meaning post) }
     {

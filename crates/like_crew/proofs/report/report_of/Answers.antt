@@ -112,11 +112,13 @@ returns-clause-places c notes =
     let counts = c.final_counts-counts in
     let before : length c.args.site.counts.items ≡ length setup.pages = ap (λ (xs : List ℕ). length xs) c.requires.site.counts ∙ length-map setup.pages (λ (p : Page). p.count) in
     let P : ℕ → List WorkerLog → Type 0 = λ pages logs. ArePlaces pages logs (lists_in c.in_ok-places.places.items) in
+    let placed = placed-are setup plans c.args.site e h counts.ensures.masks counts.ensures.counted notes counts.ensures.places in
     record {
       likes = of-likes setup plans c.args.site e h counts.ensures.masks counts.ensures.counted notes counts.ensures.phases;
       tiles = tiles-are setup plans c.args.site e h counts.ensures.masks counts.ensures.counted notes c.requires.within.there counts.result.items (counts.ensures.len ∙ before)
           (λ page there. counts.ensures.counts page (omega (arith, there, before))) counts.ensures.places;
-      placed = placed-are setup plans c.args.site e h counts.ensures.masks counts.ensures.counted notes counts.ensures.places;
+      ends = λ worker d within. (placed worker d within).ends;
+      order = λ worker d within. (placed worker d within).order;
       in_time = stand-are setup plans c.args.site e h counts.ensures.masks counts.ensures.counted notes counts.ensures.stand;
       rows = subst (λ (n : ℕ). P n e.logs.items) c.len-2.ensures.len (subst (P c.len-2.result) c.deref-4.ensures.value (c.in_ok-places.ensures.noted notes));
     }

@@ -1,5 +1,5 @@
 use Rattle.std.proofs.lemmas.Result.{err_from_is_err_and}
-use Rattle.like_requests.proofs.Planned.{plans-within}
+use Rattle.like_requests.proofs.Planned.{fits-run, plans-within}
 use Rattle.like_service.specs.Asked.{asked, lists_of}
 use Rattle.like_service.specs.EndToEnd.{runs_of}
 use Rattle.like_files.proofs.Ended.{few_requests, one_list_a_page, replay-refused, replay-unwritten}
@@ -8,7 +8,7 @@ use Rattle.like_files.proofs.replay.replay_lists.Goals as goal
 
 pub write_text-requires-clause-writable : goal.write_text-requires-clause-writable
 write_text-requires-clause-writable g c =
-    IsWritable-end_to_end (asked c.args.setup.now (lists_of c.args.plans.items) (runs_of c.in_ok-report.report.logs.items)) (plans-within _ _ c.in_ok-report.ensures.fits.within)
+    IsWritable-end_to_end (asked c.args.setup.now (lists_of c.args.plans.items) (runs_of c.in_ok-report.report.logs.items)) (plans-within _ _ (fits-run _ _ c.in_ok-report.ensures.fits.within))
     c.args.setup.now.workers c.in_ok-report.report c.in_ok-report.ensures.report
 
 pub write_text-requires-clause-placed : goal.write_text-requires-clause-placed

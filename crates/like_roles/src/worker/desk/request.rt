@@ -4,7 +4,7 @@ ghost use Rattle.like_core.specs.WorkerState.{IsRunning};
 ghost use Rattle.like_requests.specs.Setup.{IsThere};
 ghost use Rattle.like_tables.specs.Share.{owns};
 ghost use Rattle.like_roles.specs.worker.Desk.{view_of, CanServe, HasRoomForOne, HasRoomToNote, IsJudged, IsSettled};
-ghost use Rattle.like_service.specs.Order.{is_look_at_sliced};
+ghost use Rattle.like_roles.specs.worker.WorkerView.{is_look_at_sliced};
 ghost use Rattle.like_roles.specs.worker.Serve.{Likes, Runs, GivesReply};
 
 use crate::gate::Gate;

@@ -2,6 +2,7 @@ use Rattle.std.proofs.Common.{◌≡◌, ◌∙◌, ℕ, List, Vec, Global, leng
 use Rattle.std.specs.List.{All}
 use Rattle.std.proofs.lemmas.List.{length-map}
 use Rattle.std.proofs.lemmas.Result.{err_from_is_err_and}
+use Rattle.like_requests.proofs.Planned.{fits-run}
 use Rattle.like_requests.specs.Setup.{IsFirstBroken, IsWithinLimits}
 use Rattle.like_requests.specs.declared.request.Request.{Request}
 use Rattle.like_requests.specs.declared.setup.Setup.{Setup}
@@ -17,7 +18,9 @@ abbrev requests_of : Vec Request Global → List Request
 requests_of plan = plan.items
 
 pub replay_within-requires-clause-within : goal.replay_within-requires-clause-within
-replay_within-requires-clause-within c = subst (λ (xs : List (Vec Request Global)). IsWithinLimits c.args.setup.now (map requests_of xs)) c.deref.ensures.value c.in_ok-check_setup.ensures
+replay_within-requires-clause-within c =
+    fits-run c.args.setup.now (map requests_of c.args.plans.items)
+    (subst (λ (xs : List (Vec Request Global)). IsWithinLimits c.args.setup.now (map requests_of xs)) c.deref.ensures.value c.in_ok-check_setup.ensures)
 
 pub replay_within-requires-clause-script : goal.replay_within-requires-clause-script
 replay_within-requires-clause-script c = subst (λ n. All (IsInRun c.args.setup.now.workers n) c.args.script.now) (c.len.ensures ∙ c.args.plans.ok.0) c.in_ok-check_script.ensures

@@ -1,6 +1,6 @@
 use Rattle.std.proofs.Common.{List, Vec, Global, get_or, sym, subst}
 use Rattle.std.proofs.lemmas.List.{length-map}
-use Rattle.like_requests.specs.Setup.{IsWithinLimits}
+use Rattle.like_requests.specs.Setup.{FitsRun}
 use Rattle.like_requests.specs.declared.request.Request.{Request}
 use Rattle.like_script.specs.Fit.{IsInRun}
 use Rattle.like_service.specs.Asked.{lists_of}
@@ -12,7 +12,7 @@ use Rattle.like_run.proofs.Entries.{can-make}
 use Rattle.like_run.proofs.rounds.replay_within.Goals as goal
 
 pub new-requires : goal.new-requires
-new-requires c = subst (λ (xs : List (Vec Request Global)). IsWithinLimits c.args.setup.now (lists_of xs)) (sym c.deref.ensures.value) c.requires.within
+new-requires c = subst (λ (xs : List (Vec Request Global)). FitsRun c.args.setup.now (lists_of xs)) (sym c.deref.ensures.value) c.requires.within
 
 pub play-requires : goal.play-requires
 play-requires c = λ k d within.

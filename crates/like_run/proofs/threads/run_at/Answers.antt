@@ -2,7 +2,7 @@ use Rattle.std.proofs.Common.{◌≡◌, ◌≤◌, ◌+◌, ◌∙◌, ℕ, Lis
 use Rattle.std.proofs.lemmas.List.{length-map}
 use Rattle.std.proofs.lemmas.Result.{IfOk-weaker}
 use Rattle.like_requests.specs.Limits.{max_submitters}
-use Rattle.like_requests.specs.Setup.{IsWithinLimits}
+use Rattle.like_requests.specs.Setup.{FitsRun}
 use Rattle.like_requests.specs.declared.request.Request.{Request}
 use Rattle.like_requests.specs.declared.setup.Setup.{Setup}
 use Rattle.like_board.specs.Seats.{board_id, board_numbers}
@@ -48,7 +48,7 @@ new-requires g c = all-small c.args.setup.now c.args.plans.items c.requires.with
 pub of_inboxes-requires-clause-within : goal.of_inboxes-requires-clause-within
 of_inboxes-requires-clause-within g c =
     let plans = plans-taken (lists_of c.args.plans.items) c.in_ok-lines.field-0 c.in_ok-sends.takes.items c.in_ok-lines.ensures (c.in_ok-sends.ensures.takes ∙ ap (map new_taker) c.deref.ensures.value) in
-    subst (IsWithinLimits c.args.setup.now) (sym plans) c.requires.within
+    subst (FitsRun c.args.setup.now) (sym plans) c.requires.within
 
 pub of_inboxes-requires-clause-untouched : goal.of_inboxes-requires-clause-untouched
 of_inboxes-requires-clause-untouched g c =

@@ -1,5 +1,5 @@
 use Rattle.std.proofs.Common.{List, Vec, Global, sym, subst}
-use Rattle.like_requests.specs.Setup.{IsWithinLimits}
+use Rattle.like_requests.specs.Setup.{FitsRun}
 use Rattle.like_requests.specs.declared.request.Request.{Request}
 use Rattle.like_service.specs.Asked.{lists_of}
 use Rattle.like_crew.specs.Ended.{IsEnded}
@@ -7,7 +7,7 @@ use Rattle.like_crew.specs.Site.{IsSite}
 use Rattle.like_run.proofs.threads.run_within.Goals as goal
 
 pub new-requires : goal.new-requires
-new-requires g c = subst (λ (xs : List (Vec Request Global)). IsWithinLimits c.args.setup.now (lists_of xs)) (sym c.deref.ensures.value) c.requires
+new-requires g c = subst (λ (xs : List (Vec Request Global)). FitsRun c.args.setup.now (lists_of xs)) (sym c.deref.ensures.value) c.requires
 
 pub report_of-requires-clause-site : goal.report_of-requires-clause-site
 report_of-requires-clause-site g c =

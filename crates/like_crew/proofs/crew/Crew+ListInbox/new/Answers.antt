@@ -1,5 +1,5 @@
 use Rattle.std.proofs.Common.{IfOk, map, sym, subst}
-use Rattle.like_requests.specs.Setup.{IsWithinLimits}
+use Rattle.like_requests.specs.Setup.{FitsRun}
 use Rattle.like_queue.specs.Inbox.{view_of}
 use Rattle.like_service.specs.Asked.{lists_of}
 use Rattle.like_crew.specs.Crew.{IsCrew}
@@ -12,7 +12,7 @@ list_inboxes-requires c = all-small c.args.setup.now c.args.plans.items c.requir
 
 pub of_inboxes-requires-clause-within : goal.of_inboxes-requires-clause-within
 of_inboxes-requires-clause-within c =
-    subst (IsWithinLimits c.args.setup.now) (sym (plans-are (map view_of c.in_ok-inboxes.inboxes.items) (lists_of c.args.plans.items) c.in_ok-inboxes.ensures)) c.requires.within
+    subst (FitsRun c.args.setup.now) (sym (plans-are (map view_of c.in_ok-inboxes.inboxes.items) (lists_of c.args.plans.items) c.in_ok-inboxes.ensures)) c.requires.within
 
 pub of_inboxes-requires-clause-untouched : goal.of_inboxes-requires-clause-untouched
 of_inboxes-requires-clause-untouched c = are-untouched (map view_of c.in_ok-inboxes.inboxes.items) (lists_of c.args.plans.items) c.in_ok-inboxes.ensures

@@ -4,7 +4,7 @@ use Rattle.std.proofs.lemmas.Iterator.Consumers.{YieldsList-turn}
 use Rattle.std.proofs.lemmas.List.{length_push}
 use Rattle.std.proofs.lemmas.Option.{slice_get_read}
 use Rattle.like_requests.proofs.Planned.{plans-within}
-use Rattle.like_requests.specs.Setup.{IsWithin, IsWithinLimits}
+use Rattle.like_requests.specs.Setup.{FitsRun, IsWithin}
 use Rattle.like_requests.specs.declared.setup.Setup.{Setup}
 use Rattle.like_board.specs.Seats.{board_id, board_numbers, seat_meaning}
 use Rattle.like_core.specs.Post.{PostView}
@@ -37,7 +37,7 @@ others hands left rest k next before taken more =
     taken ∙ ap (λ xs. remove xs 0) before ∙ remove-drop k hands ∙ ap (λ n. drop n hands) (sym (add-one k) ∙ sym more)
 
 -- untouched inboxes for a worker, where the number of its server is that of its seat
-inboxes-at : (setup : Setup) (sizes : List ℕ) (number k : ℕ) (inboxes own : List InboxView) → number ≡ k → IsWithinLimits setup (plans_of inboxes) → sizes ≡ map length (plans_of inboxes)
+inboxes-at : (setup : Setup) (sizes : List ℕ) (number k : ℕ) (inboxes own : List InboxView) → number ≡ k → FitsRun setup (plans_of inboxes) → sizes ≡ map length (plans_of inboxes)
     → AreUntouched inboxes → own ≡ dealt setup.workers k inboxes → AreInboxesFor setup sizes number own
 inboxes-at setup sizes number k inboxes own same within sized none is =
     subst (λ n. AreInboxesFor setup sizes n own) (sym same)

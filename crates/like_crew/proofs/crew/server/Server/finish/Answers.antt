@@ -3,8 +3,7 @@ use Rattle.like_tables.specs.UserTable.{UserTable}
 use Rattle.like_service.specs.declared.log.Ran.{Ran}
 use Rattle.like_service.specs.declared.log.Took.{Took}
 use Rattle.like_service.specs.Likes.{likes_among, likes_within}
-use Rattle.like_roles.specs.worker.Follows.{shown_by}
-use Rattle.like_service.specs.places.Looks.{shown_in}
+use Rattle.like_roles.specs.worker.Shown.{shown_by, shown_in}
 use Rattle.like_core.specs.Post.{additions_in, additions_of}
 use Rattle.like_crew.specs.Server.{NoneAbove, IsLogOf, ServerView}
 use Rattle.like_crew.proofs.servers.Finishing.{log-is}
