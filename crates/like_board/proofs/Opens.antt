@@ -13,7 +13,7 @@ use Rattle.like_core.specs.declared.view.WorkerSeatView.{WorkerSeatView}
 use Rattle.like_core.specs.declared.view.CoordSeatView.{CoordSeatView}
 use Rattle.like_core.specs.declared.view.View.{View}
 use Rattle.like_core.specs.declared.view.View.TheVariants.{Coord}
-use Rattle.like_core.specs.Limits.{max_workers, max_pages, max_count}
+use Rattle.like_limits.specs.Limits.{max_count, max_pages, max_workers}
 use Rattle.like_core.specs.OpeningLimits.{AreLimits}
 use Rattle.like_core.specs.core.Numbers.{AllIn}
 use Rattle.like_core.specs.word.Word.{packed}

@@ -9,7 +9,7 @@ use Rattle.like_core.specs.declared.opening.Opening.{Opening}
 use Rattle.like_core.specs.declared.view.CoordSeatView.{CoordSeatView}
 use Rattle.like_core.specs.declared.view.View.{View}
 use Rattle.like_core.specs.declared.view.View.TheVariants.{Coord, Worker}
-use Rattle.like_core.specs.Limits.{max_workers}
+use Rattle.like_limits.specs.Limits.{max_workers}
 use Rattle.like_core.specs.core.State.{CoreState, Label}
 use Rattle.like_core.specs.views.Views.{fresh, made_coord}
 use Rattle.like_core.specs.views.Reads.{before_in}

@@ -3,7 +3,7 @@ use Rattle.std.specs.Prelude.{◌≡◌, ℕ, ◌<◌, ◌≤◌, All, List, [],
 use Rattle.like_core.specs.declared.view.CoordSeatView.{CoordSeatView}
 use Rattle.like_core.specs.declared.view.View.{View}
 use Rattle.like_core.specs.declared.view.View.TheVariants.{Coord}
-use Rattle.like_core.specs.Limits.{max_pages}
+use Rattle.like_limits.specs.Limits.{max_pages}
 use Rattle.like_core.specs.WorkerState.{SawNoLater}
 use Rattle.like_core.specs.views.Views.{gathered_all}
 use Rattle.like_core.specs.views.Layout.{word_of}

@@ -7,7 +7,7 @@ use Rattle.like_core.specs.declared.view.CoordSeatView.{CoordSeatView}
 use Rattle.like_core.specs.declared.view.View.{View}
 use Rattle.like_core.specs.declared.view.View.TheVariants.{Coord, Worker}
 use Rattle.like_core.specs.Phase.{IsSplit}
-use Rattle.like_core.specs.Limits.{total_bound}
+use Rattle.like_limits.specs.Limits.{total_bound}
 use Rattle.like_core.specs.OpeningLimits.{number_of}
 use Rattle.like_core.specs.word.Word.{Fields, packed, IsLawful}
 use Rattle.like_core.specs.views.Sights.{sight_of, coord_sight_of}

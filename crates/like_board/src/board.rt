@@ -1,5 +1,5 @@
 ghost use Rattle.std.specs.Prelude.{◌≡◌, ◌<◌, ◌≤◌, All, length, IfOk};
-ghost use Rattle.like_core.specs.Limits.{max_workers, max_pages, max_count};
+ghost use Rattle.like_limits.specs.Limits.{max_count, max_pages, max_workers};
 ghost use Rattle.like_core.specs.OpeningLimits.{AreLimits};
 
 use crate::coord_seat::CoordSeat;

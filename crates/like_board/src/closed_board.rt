@@ -3,7 +3,7 @@ ghost use Rattle.std.specs.Prelude.{◌≡◌, ℕ, ◌<◌, ◌≤◌, [], All,
 ghost use Rattle.like_core.specs.declared.view.CoordSeatView.{CoordSeatView};
 ghost use Rattle.like_core.specs.declared.view.View.TheVariants.{Coord};
 ghost use Rattle.like_core.specs.declared.worker_state.WorkerState.TheVariants.{Gone};
-ghost use Rattle.like_core.specs.Limits.{max_pages};
+ghost use Rattle.like_limits.specs.Limits.{max_pages};
 ghost use Rattle.like_core.specs.WorkerState.{SawNoLater};
 ghost use Rattle.like_core.specs.views.Layout.{word_of};
 ghost use Rattle.like_core.specs.views.Views.{gathered_all};

@@ -1,7 +1,7 @@
 ghost use Rattle.std.specs.Prelude.{◌≡◌, ◌≤◌, ◌↔◌, true, [], length, IsSome, IsTrue};
 ghost use Rattle.std.specs.Option.{option_map};
 ghost use Rattle.like_core.specs.declared.view.View.TheVariants.{Coord};
-ghost use Rattle.like_core.specs.Limits.{max_pages};
+ghost use Rattle.like_limits.specs.Limits.{max_pages};
 ghost use Rattle.like_core.specs.OpeningLimits.{AreLimits, number_of};
 ghost use Rattle.like_core.specs.word.Word.{packed};
 ghost use Rattle.like_core.specs.word.PhaseWord.{fields_of};

@@ -1,6 +1,6 @@
 //! Where the words of a board stand in its table.
 ghost use Rattle.std.specs.Prelude.{◌≡◌, ℕ, ◌<◌, ◌≤◌, length, slice_index, IfOk};
-ghost use Rattle.like_core.specs.Limits.{max_pages};
+ghost use Rattle.like_limits.specs.Limits.{max_pages};
 ghost use Rattle.like_core.specs.views.Layout.{mask_place, phase_place, word_of};
 
 use std::alloc::{AllocError, Global};

@@ -1,7 +1,7 @@
 //! How the seats of a board's workers are made.
 ghost use Rattle.std.specs.Prelude.{◌≡◌, ◌<◌, ◌≤◌, [], length, IfOk, OnOk};
 ghost use Rattle.like_core.specs.declared.view.View.TheVariants.{Coord};
-ghost use Rattle.like_core.specs.Limits.{max_workers};
+ghost use Rattle.like_limits.specs.Limits.{max_workers};
 ghost use Rattle.like_core.specs.Post.{IsFresh};
 ghost use Rattle.like_core.specs.views.Layout.{word_of};
 ghost use Rattle.like_core.specs.views.Views.{fresh, made_coord};

@@ -1,7 +1,7 @@
 ghost use Rattle.std.specs.Prelude.{◌≡◌, ◌≢◌, ◌<◌, ◌≤◌, [], length};
 ghost use Rattle.std.specs.Arc.{arc_value};
 ghost use Rattle.like_core.specs.declared.view.View.TheVariants.{Worker};
-ghost use Rattle.like_core.specs.Limits.{max_workers, total_bound};
+ghost use Rattle.like_limits.specs.Limits.{max_workers, total_bound};
 ghost use Rattle.like_core.specs.views.Layout.{word_of};
 ghost use Rattle.like_board.specs.Known.{worker_view_of};
 

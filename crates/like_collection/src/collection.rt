@@ -1,5 +1,5 @@
 ghost use Rattle.std.specs.Prelude.{◌≤◌, MatchResult, length};
-ghost use Rattle.like_requests.specs.Limits.{max_submitters};
+ghost use Rattle.like_limits.specs.Limits.{max_submitters};
 ghost use Rattle.like_collection.specs.CollectFaults.{IsCollectFault};
 ghost use Rattle.like_service.specs.Collected.{IsCollected, rows_of, entries_in};
 

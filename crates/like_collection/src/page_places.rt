@@ -1,5 +1,5 @@
 ghost use Rattle.std.specs.Prelude.{◌≡◌, ◌<◌, ◌≤◌, ◌∷◌, [], ◌++◌, ℕ, All, List, IfOk, OnOk, length, replicate, slice_index_or, slice_set};
-ghost use Rattle.like_requests.specs.Limits.{max_workers};
+ghost use Rattle.like_limits.specs.Limits.{max_workers};
 ghost use Rattle.like_service.specs.places.Places.{ArePlaces, AreByOld, lists_in, places_of};
 ghost use Rattle.like_service.specs.declared.place.Place.{Place as Entry};
 

@@ -4,7 +4,7 @@ use Rattle.std.specs.List.{list_any}
 use Rattle.std.proofs.lemmas.Bool.{cases_eq, cases_lt, cond-true, ne_eqb, le-ltb}
 use Rattle.std.proofs.lemmas.List.Elements.{All-tail}
 use Rattle.like_core.specs.declared.view.PhaseMask.{PhaseMask}
-use Rattle.like_core.specs.Limits.{hot_pages}
+use Rattle.like_limits.specs.Limits.{hot_pages}
 use Rattle.like_core.specs.Functions.{has_bit}
 use Rattle.like_core.specs.Phase.{IsSplit, is_hot, split}
 use Rattle.like_core.specs.PhaseMasks.{mask_of, HasMask, AreMasksOf, KeepsMasks}

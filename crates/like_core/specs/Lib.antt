@@ -1,4 +1,3 @@
-pub mod Limits
 pub mod Additions
 pub mod word
 pub mod Phase

@@ -1,7 +1,7 @@
 -- The limits that an opening fixes: those of a run, those of a service that goes on, and which are lawful.
 use Rattle.std.specs.Prelude.{◌≡◌, ℕ, ◌+◌, ◌-◌, ◌*◌, ◌%◌, ◌^◌, ◌<◌, ◌≤◌}
 use Rattle.like_core.specs.declared.limits.Limits.{Limits}
-use Rattle.like_core.specs.Limits.{max_workers, max_count, max_likes, total_bound}
+use Rattle.like_limits.specs.Limits.{max_count, max_likes, max_workers, total_bound}
 use Rattle.like_core.specs.Phase.{last_phase, IsJoined}
 
 -- the limits of a run: 16,777,214 is its last phase, and a worker adds at most 64,000,000 likes

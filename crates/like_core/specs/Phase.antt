@@ -1,5 +1,5 @@
 use Rattle.std.specs.Prelude.{◌≡◌, ℕ, ◌%◌, ◌==◌, nat_lt, Bool, false, ◌&&◌, ◌||◌, List, slice_index_or}
-use Rattle.like_core.specs.Limits.{hot_pages}
+use Rattle.like_limits.specs.Limits.{hot_pages}
 use Rattle.like_core.specs.Functions.{has_bit}
 
 -- the greatest number in a phase word; in a run it is the last phase

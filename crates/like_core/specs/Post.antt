@@ -6,7 +6,7 @@ use Rattle.like_core.specs.declared.limits.Limits.{Limits}
 use Rattle.like_core.specs.declared.view.Addition.{Addition}
 use Rattle.like_core.specs.declared.view.PageRead.{PageRead}
 use Rattle.like_core.specs.declared.view.PhaseMask.{PhaseMask}
-use Rattle.like_core.specs.Limits.{hot_pages}
+use Rattle.like_limits.specs.Limits.{hot_pages}
 use Rattle.like_core.specs.Additions.{addition, all_added, added_to, added_in, page_read}
 use Rattle.like_core.specs.Phase.{IsSplit, is_marked, split}
 use Rattle.like_core.specs.PhaseMasks.{mask_of, HasMask}

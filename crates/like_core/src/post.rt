@@ -1,6 +1,6 @@
 ghost use Rattle.std.specs.Prelude.{◌≡◌, ◌≢◌, ◌<◌, ◌≤◌, true};
 ghost use Rattle.like_core.specs.declared.worker_state.WorkerState.TheVariants.{Gone};
-ghost use Rattle.like_core.specs.Limits.{total_bound};
+ghost use Rattle.like_limits.specs.Limits.{total_bound};
 ghost use Rattle.like_core.specs.WorkerState.{RunsJoined, RunsSplit, SawEnding, IsSightWithin, SeesEndingStill, phase_of, seen};
 ghost use Rattle.like_core.specs.Post.{PostView, looked_at, answered, retired, added, has_read, has_glanced, with_mask, additions_of, MayAdd, MayRead, MayGlance};
 

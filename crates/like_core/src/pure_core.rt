@@ -1,5 +1,5 @@
 ghost use Rattle.std.specs.Prelude.{◌≡◌, ℕ, ◌^◌, ◌<◌, ◌≤◌, ◌↔◌, true, [], length, replicate, slice_index_or, All, IsOk, IfOk, OnOk, IfErr, OnErr};
-ghost use Rattle.like_core.specs.Limits.{max_workers, max_pages, total_bound};
+ghost use Rattle.like_limits.specs.Limits.{max_pages, max_workers, total_bound};
 ghost use Rattle.like_core.specs.OpeningLimits.{AreLimits};
 ghost use Rattle.like_core.specs.core.Numbers.{AreBounded};
 ghost use Rattle.like_core.specs.core.Kept.{kept, AreRowsOf};

@@ -5,7 +5,7 @@ use Rattle.std.specs.Option.{unwrap_or}
 use Rattle.std.proofs.lemmas.List.{get_or-drop, length-map, length_push, map-id}
 use Rattle.std.proofs.lemmas.List.FromFn.{map-range_with_len_more}
 use Rattle.std.proofs.lemmas.Option.{get_or_from_slice_get, slice_get-get_or, slice_get-map, slice_get_read, unwrap_or-slice_get}
-use Rattle.like_requests.specs.Limits.{max_requests}
+use Rattle.like_limits.specs.Limits.{max_requests}
 use Rattle.like_requests.specs.Setup.{FitsRun, IsPlan}
 use Rattle.like_requests.specs.declared.request.Request.{Request}
 use Rattle.like_requests.specs.declared.setup.Setup.{Setup}

@@ -10,7 +10,7 @@ use Rattle.like_service.specs.declared.place.Place.{Place}
 use Rattle.like_service.specs.declared.report.Report.{Report}
 use Rattle.like_service.specs.EndToEnd.{IsRightReport}
 use Rattle.like_service.specs.places.Tiling.{HasNoPlaces, HasRightPlaces}
-use Rattle.like_requests.specs.Limits.{max_requests}
+use Rattle.like_limits.specs.Limits.{max_requests}
 use Rattle.like_requests.specs.Pages.{Page}
 use Rattle.like_requests.proofs.Planned.{fits-run}
 use Rattle.like_requests.specs.Setup.{IsWithinLimits}

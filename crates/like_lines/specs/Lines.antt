@@ -1,6 +1,6 @@
 -- The lines of a run.
 use Rattle.std.specs.Prelude.{◌≡◌, ◌≤◌, List, length, map, All}
-use Rattle.like_requests.specs.Limits.{max_submitters}
+use Rattle.like_limits.specs.Limits.{max_submitters}
 use Rattle.like_requests.specs.declared.request.Request.{Request}
 use Rattle.like_queue.specs.Line.{LineId, Sender, Taker}
 use Rattle.like_lines.specs.declared.lines.Lines.{Lines}

@@ -1,5 +1,5 @@
 ghost use Rattle.std.specs.Prelude.{◌≡◌, ◌≤◌, All, IfOk, length, map};
-ghost use Rattle.like_requests.specs.Limits.{max_requests};
+ghost use Rattle.like_limits.specs.Limits.{max_requests};
 ghost use Rattle.like_lines.specs.Lines.{AreLines, new_ends, new_sender, new_taker};
 
 use like_queue::{Line, SendEnd, SendPass, TakeEnd, TakePass};

@@ -3,7 +3,7 @@ use Rattle.std.proofs.Common.{Vec, Global, vec_capacity, ◌≡◌, ◌≤◌, l
 use Rattle.std.specs.Prelude.{IsSomeAnd}
 use Rattle.like_board.specs.Seats.{BoardId}
 use Rattle.like_board.specs.declared.worker_seat.WorkerSeat.{WorkerSeat}
-use Rattle.like_core.specs.Limits.{max_pages}
+use Rattle.like_limits.specs.Limits.{max_pages}
 use Rattle.like_core.specs.declared.opening.Opening.{Opening}
 use Rattle.like_core.specs.declared.sight.CoordSight.{CoordSight}
 use Rattle.like_core.specs.declared.view.CoordSeatView.{CoordSeatView}

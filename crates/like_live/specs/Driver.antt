@@ -5,7 +5,7 @@ use Rattle.like_board.specs.Rule.{opened_coord}
 use Rattle.like_board.specs.Seats.{BoardId}
 use Rattle.like_board.specs.declared.worker_seat.WorkerSeat.{WorkerSeat}
 use Rattle.like_core.specs.declared.sight.CoordSight.{CoordSight}
-use Rattle.like_core.specs.Limits.{max_pages}
+use Rattle.like_limits.specs.Limits.{max_pages}
 use Rattle.like_core.specs.OpeningLimits.{service_limits}
 use Rattle.like_core.specs.Phase.{IsJoined, IsSplit}
 use Rattle.like_seat.specs.Lead.{ChoosesRisen, LeadView, Sees, announced, new_lead, published, released, with_counts}

@@ -1,12 +1,11 @@
 -- What a service may be opened with.
 use Rattle.std.specs.Prelude.{◌≡◌, ◌⊎◌, ℕ, ◌≤◌, ◌||◌, All, Bool, List, [], ◌∷◌, length, Option, is_some, ⊤}
 use Rattle.std.specs.List.{AllByRecursion, list_any}
-use Rattle.like_core.specs.Limits.{max_count, max_pages, max_workers}
+use Rattle.like_limits.specs.Limits.{max_count, max_pages, max_stash, max_workers}
 use Rattle.like_core.specs.OpeningLimits.{service_limits}
 use Rattle.like_core.specs.core.State.{opening_with}
 use Rattle.like_core.specs.declared.opening.Opening.{Opening as CoreOpening}
 use Rattle.like_records.specs.First.{FailsFirst}
-use Rattle.like_requests.specs.Limits.{max_stash}
 use Rattle.like_requests.specs.Setup.{IsHotLimit}
 use Rattle.like_live.specs.declared.open_error.OpenError.{OpenError}
 use Rattle.like_live.specs.declared.open_error.OpenError.TheVariants.{Pages, Marks, Counts, Seats, Users, Room, Hot, Memory}

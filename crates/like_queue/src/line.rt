@@ -1,6 +1,6 @@
 ghost use Rattle.std.specs.Prelude.{◌≡◌, ◌≤◌, [], IfOk, length};
 ghost use Rattle.crossbeam_queue.specs.Passes.{IsPassOf, IsSamePass, view as known_by};
-ghost use Rattle.like_requests.specs.Limits.{max_requests};
+ghost use Rattle.like_limits.specs.Limits.{max_requests};
 ghost use Rattle.like_queue.specs.declared.known.Role.TheVariants.{Sends, Takes};
 ghost use Rattle.like_queue.specs.Rule.{known, unsplit};
 
@@ -36,7 +36,7 @@ pub struct Line {
 impl Model for Line {
     ghost use Rattle.std.specs.Prelude.{◌≡◌, ◌≤◌, length};
     ghost use Rattle.crossbeam_queue.specs.Passes.{ruled_capacity};
-    ghost use Rattle.like_requests.specs.Limits.{max_requests};
+    ghost use Rattle.like_limits.specs.Limits.{max_requests};
     ghost use Rattle.like_queue.specs.Line.{LineId, line_capacity};
 
     ghost Value = { LineId };

@@ -1,6 +1,6 @@
 ghost use Rattle.std.specs.Prelude.{◌≡◌, ◌+◌, ◌<◌, ◌≤◌, length, min, nat_lt};
 ghost use Rattle.like_queue.specs.Inbox.{TakesFromList, item_count};
-ghost use Rattle.like_requests.specs.Limits.{max_requests};
+ghost use Rattle.like_limits.specs.Limits.{max_requests};
 
 use crate::inbox::{Inbox, TakeWith};
 use like_requests::{Numbered, Request, Taken};
@@ -18,7 +18,7 @@ pub struct ListInbox {
 
 impl Model for ListInbox {
     ghost use Rattle.std.specs.Prelude.{◌≤◌, ◌+◌, length};
-    ghost use Rattle.like_requests.specs.Limits.{max_requests};
+    ghost use Rattle.like_limits.specs.Limits.{max_requests};
     ghost use Rattle.like_queue.specs.Inbox.{Inbox, item_count};
 
     ghost Value = { Inbox };

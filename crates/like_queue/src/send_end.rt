@@ -1,5 +1,5 @@
 ghost use Rattle.std.specs.Prelude.{◌≡◌, ◌⊎◌, ◌<◌, ◌≤◌, None, Some, length, true, false};
-ghost use Rattle.like_requests.specs.Limits.{max_requests};
+ghost use Rattle.like_limits.specs.Limits.{max_requests};
 ghost use Rattle.like_queue.specs.Line.{SendsEnd, HasSentEnd, Pushes, next_of};
 
 use crate::line::Line;

@@ -11,7 +11,7 @@ use Rattle.std.proofs.lemmas.List.Elements.{All-push}
 use Rattle.like_requests.specs.declared.entries.Listed.{Listed}
 use Rattle.like_requests.specs.Entries.{AreKeyed, NamedPage, page_of_entry, listed_pages}
 use Rattle.like_requests.specs.Pages.{AreEntries, IsName, Page, names}
-use Rattle.like_requests.specs.Limits.{max_pages, max_count}
+use Rattle.like_limits.specs.Limits.{max_count, max_pages}
 
 -- two keys are equal where their bytes are
 abbrev key_eq : Vec ℕ Global → Vec ℕ Global → Bool

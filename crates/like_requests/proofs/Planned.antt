@@ -5,7 +5,7 @@ use Rattle.std.proofs.lemmas.Bool.{cases_eq}
 use Rattle.std.proofs.lemmas.List.{get_or-map, length-map}
 use Rattle.std.proofs.lemmas.List.Elements.{All-map}
 use Rattle.like_records.specs.First.{FailsFirst}
-use Rattle.like_requests.specs.Limits.{max_requests, max_submitters}
+use Rattle.like_limits.specs.Limits.{max_requests, max_submitters}
 use Rattle.like_requests.specs.Setup.{AreNumbersWithin, FitsRun, Holds, IsFirstBroken, IsHotLimit, IsPlan, IsWithinLimits, number_limits}
 use Rattle.like_requests.specs.declared.request.Request.{Request}
 use Rattle.like_requests.specs.declared.setup.Setup.{Setup}

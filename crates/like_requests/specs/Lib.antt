@@ -1,4 +1,3 @@
-pub mod Limits
 pub mod Entries
 pub mod Pages
 pub mod PagesFile

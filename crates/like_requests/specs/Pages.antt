@@ -1,7 +1,7 @@
 -- The pages of the service, as the pages file lists them.
 use Rattle.std.specs.Prelude.{ℕ, Bool, ◌<◌, ◌≤◌, List, length, map, position, bytes_eq, Option, All, IsUtf8}
 use Rattle.std.specs.List.{IsDistinct}
-use Rattle.like_requests.specs.Limits.{max_pages, max_name, max_count}
+use Rattle.like_limits.specs.Limits.{max_count, max_name, max_pages}
 
 -- a page: its name in bytes, its initial count, and whether it is marked split
 pub record Page : Type 0 where

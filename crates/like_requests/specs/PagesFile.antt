@@ -5,7 +5,7 @@ use Rattle.like_records.specs.declared.fault.RecordsFault.{RecordsFault}
 use Rattle.like_records.specs.declared.fault.RecordsFault.TheVariants as records
 use Rattle.like_requests.specs.Pages.{IsName, Page}
 use Rattle.like_records.specs.Rows.{IsFirstFailed, PassAll, Record, field}
-use Rattle.like_requests.specs.Limits.{max_pages, max_count}
+use Rattle.like_limits.specs.Limits.{max_count, max_pages}
 use Rattle.like_requests.specs.declared.pages_file.PagesFault.{PagesFault}
 use Rattle.like_requests.specs.declared.pages_file.PagesFault.TheVariants.{Read, Header, Fields, Name, Duplicate, Count, Split, TooMany, Empty, Memory}
 

@@ -10,8 +10,7 @@ use Rattle.like_requests.specs.declared.request.Op.TheVariants.{Like, Look}
 use Rattle.like_requests.specs.declared.request.PageRef.{PageRef}
 use Rattle.like_requests.specs.declared.request.PageRef.TheVariants.{Known, Unknown}
 use Rattle.like_requests.specs.declared.request.Request.{Request}
-use Rattle.like_requests.specs.Limits.{max_requests}
-use Rattle.like_requests.specs.Limits.{max_user}
+use Rattle.like_limits.specs.Limits.{max_requests, max_user}
 use Rattle.like_requests.specs.declared.requests_file.RequestsFault.{RequestsFault}
 use Rattle.like_requests.specs.declared.requests_file.RequestsFault.TheVariants as fault
 

@@ -7,7 +7,7 @@ use Rattle.like_requests.specs.Pages.{Page}
 use Rattle.like_requests.specs.declared.request.PageRef.{PageRef}
 use Rattle.like_requests.specs.declared.request.PageRef.TheVariants.{Known, Unknown}
 use Rattle.like_requests.specs.declared.request.Request.{Request}
-use Rattle.like_requests.specs.Limits.{max_workers, max_submitters, max_users, max_stash, max_turns, max_requests, max_hot}
+use Rattle.like_limits.specs.Limits.{max_hot, max_requests, max_stash, max_submitters, max_turns, max_users, max_workers}
 use Rattle.like_requests.specs.declared.setup.Setup.{Setup}
 use Rattle.like_requests.specs.declared.setup.SettingsFault.{SettingsFault}
 use Rattle.like_requests.specs.declared.setup.SettingsFault.TheVariants.{Workers, Submitters, Users, Stash, Turns, Plan, Script, Hot}

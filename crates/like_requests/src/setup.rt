@@ -1,5 +1,5 @@
 ghost use Rattle.std.specs.Prelude.{◌≡◌, ◌≤◌, ◌↔◌, List, IsTrue, IfNone, MatchOption, MatchResult, length, map};
-ghost use Rattle.like_requests.specs.Limits.{max_submitters};
+ghost use Rattle.like_limits.specs.Limits.{max_submitters};
 ghost use Rattle.like_requests.specs.Pages.{Page};
 ghost use Rattle.like_requests.specs.declared.request.Request.{Request};
 ghost use Rattle.like_requests.specs.Setup.{AreNumbersWithin, IsFirstBroken, IsHotLimit, IsPlan, IsWithinLimits};

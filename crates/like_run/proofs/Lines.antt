@@ -2,7 +2,7 @@
 use Rattle.std.proofs.Common.{◌≡◌, ◌≤◌, ◌∙◌, List, [], ◌∷◌, length, map, refl, sym, ap, subst, arith}
 use Rattle.std.specs.List.{All}
 use Rattle.std.proofs.lemmas.List.{length-map}
-use Rattle.like_requests.specs.Limits.{max_submitters}
+use Rattle.like_limits.specs.Limits.{max_submitters}
 use Rattle.like_requests.specs.declared.request.Request.{Request}
 use Rattle.like_queue.specs.Line.{LineId, Sender, Taker, inbox_of}
 use Rattle.like_crew.specs.Server.{untouched}

@@ -2,7 +2,7 @@ ghost use Rattle.std.specs.Prelude.{◌≡◌, ◌≤◌, ℕ, All, IfErr, IfOk,
 ghost use Rattle.like_requests.specs.Setup.{FitsRun};
 ghost use Rattle.like_roles.specs.coordinator.CoordTurns.{HasEndedJoined};
 ghost use Rattle.like_script.specs.Fit.{IsInRun};
-ghost use Rattle.like_script.specs.Limits.{max_entries};
+ghost use Rattle.like_limits.specs.Limits.{max_entries};
 ghost use Rattle.like_service.specs.Asked.{lists_of};
 ghost use Rattle.like_crew.specs.Crew.{AreGone, GoesOn};
 ghost use Rattle.like_service.specs.EndToEnd.{IsRightReport};

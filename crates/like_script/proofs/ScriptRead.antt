@@ -7,7 +7,7 @@ use Rattle.like_records.specs.declared.fault.RecordsFault.TheVariants as records
 use Rattle.like_records.specs.Rows.{Behind, EndsReading, Excuses, FailsSome, IsFirstFailed, IsHeadless, MadeOf, PassAll, Record}
 use Rattle.like_records.proofs.RowsRead.{among, only-failed, stopped}
 use Rattle.like_script.specs.File.{AsksEntryRecord, IsScriptFault, IsScriptFile, fault_of, turned_of, entry_tests, script_header}
-use Rattle.like_script.specs.Limits.{max_entries}
+use Rattle.like_limits.specs.Limits.{max_entries}
 use Rattle.like_script.specs.declared.turned.Turned.{Turned}
 use Rattle.like_script.specs.declared.file.ScriptFault.{ScriptFault}
 use Rattle.like_script.specs.declared.file.ScriptFault.TheVariants.{Read, Line, TooMany, Memory}

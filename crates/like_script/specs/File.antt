@@ -4,7 +4,7 @@ use Rattle.like_records.specs.Decimal.{IsDecimal, decimal_value}
 use Rattle.like_records.specs.declared.fault.RecordsFault.{RecordsFault}
 use Rattle.like_records.specs.declared.fault.RecordsFault.TheVariants as records
 use Rattle.like_records.specs.Rows.{IsFirstFailed, PassAll, Record, field}
-use Rattle.like_script.specs.Limits.{max_entries, max_index}
+use Rattle.like_limits.specs.Limits.{max_entries, max_index}
 use Rattle.like_script.specs.declared.file.ScriptFault.{ScriptFault}
 use Rattle.like_script.specs.declared.file.ScriptFault.TheVariants as fault
 use Rattle.like_script.specs.declared.turned.Turned.{Turned}

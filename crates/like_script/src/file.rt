@@ -4,7 +4,7 @@ ghost use Rattle.like_records.specs.Decimal.{decimal_value};
 ghost use Rattle.like_records.specs.Reading.{ReadFailed, records_of};
 ghost use Rattle.like_records.specs.First.{FailsFirst};
 ghost use Rattle.like_records.specs.Rows.{PassAll, Record};
-ghost use Rattle.like_script.specs.Limits.{max_entries};
+ghost use Rattle.like_limits.specs.Limits.{max_entries};
 ghost use Rattle.like_script.specs.File.{AsksEntry, AsksEntryRecord, IsEntry, IsIndex, IsScriptFault, IsScriptFile, Names, turned_of, entry_tests, fault_of, named, script_header};
 
 use crate::turned::Turned;

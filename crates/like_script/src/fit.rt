@@ -1,5 +1,5 @@
 ghost use Rattle.std.specs.Prelude.{◌≤◌, All, IsTrue, ◌↔◌, MatchResult, length};
-ghost use Rattle.like_script.specs.Limits.{max_entries};
+ghost use Rattle.like_limits.specs.Limits.{max_entries};
 ghost use Rattle.like_script.specs.Fit.{IsFirstAway, IsInRun};
 
 use crate::turned::Turned;

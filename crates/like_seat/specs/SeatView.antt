@@ -1,7 +1,7 @@
 -- What a worker's seat is, as contracts see it.
 use Rattle.std.specs.Prelude.{◌≡◌, ◌≢◌, ℕ, ◌+◌, ◌≤◌, true, List, length, slice_index, sum}
 use Rattle.like_core.specs.Additions.{all_added}
-use Rattle.like_core.specs.Limits.{max_pages}
+use Rattle.like_limits.specs.Limits.{max_pages}
 use Rattle.like_core.specs.OpeningLimits.{AreLimits}
 use Rattle.like_core.specs.PhaseMasks.{HasMask}
 use Rattle.like_core.specs.Post.{PostView, additions_of, pages_of, slices}

@@ -1,6 +1,6 @@
 ghost use Rattle.std.specs.Prelude.{◌≡◌, ◌↔◌, ◌%◌, ◌==◌, IfErr, IfOk, IsTrue, length, min};
 ghost use Rattle.like_board.specs.Seats.{board_id, coord_board, coord_view};
-ghost use Rattle.like_core.specs.Limits.{hot_pages};
+ghost use Rattle.like_limits.specs.Limits.{hot_pages};
 ghost use Rattle.like_core.specs.Phase.{IsJoined};
 ghost use Rattle.like_core.specs.views.Views.{MayAnnounce, MayPublish, MayRelease, SawAllIn};
 ghost use Rattle.like_seat.specs.Lead.{ChoosesRisen, Sees, announced, new_lead, published, released, with_counts};
@@ -30,7 +30,7 @@ pub struct Lead {
 impl Model for Lead {
     ghost use Rattle.std.specs.Prelude.{◌≡◌, length, min};
     ghost use Rattle.like_board.specs.Seats.{coord_board, coord_view};
-    ghost use Rattle.like_core.specs.Limits.{hot_pages};
+    ghost use Rattle.like_limits.specs.Limits.{hot_pages};
     ghost use Rattle.like_seat.specs.Lead.{LeadView};
 
     ghost Value = { LeadView };

@@ -1,9 +1,8 @@
 ghost use Rattle.std.specs.Prelude.{◌≡◌, ◌≤◌, ◌↔◌, IfErr, IfOk, IsTrue};
 ghost use Rattle.like_core.specs.declared.worker_state.WorkerState.TheVariants.{Gone};
-ghost use Rattle.like_core.specs.Limits.{max_pages};
+ghost use Rattle.like_limits.specs.Limits.{max_pages, max_stash};
 ghost use Rattle.like_core.specs.OpeningLimits.{AreLimits};
 ghost use Rattle.like_core.specs.Post.{IsFresh, pages_of};
-ghost use Rattle.like_requests.specs.Limits.{max_stash};
 ghost use Rattle.like_seat.specs.SeatView.{IsSeat, likes_of, phase_at};
 ghost use Rattle.like_seat.specs.Steps.{IsNewSeat};
 

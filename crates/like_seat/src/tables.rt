@@ -1,8 +1,7 @@
 ghost use Rattle.std.specs.Prelude.{◌≡◌, ◌<◌, ◌≤◌, [], IfOk, length, replicate};
-ghost use Rattle.like_core.specs.Limits.{max_pages};
+ghost use Rattle.like_limits.specs.Limits.{max_pages, max_stash};
 ghost use Rattle.like_core.specs.WorkerState.{phase_of};
 ghost use Rattle.like_core.specs.declared.worker_state.WorkerState.TheVariants.{Runs};
-ghost use Rattle.like_requests.specs.Limits.{max_stash};
 ghost use Rattle.like_seat.specs.Kept.{is_split_by};
 ghost use Rattle.like_seat.specs.Steps.{masks_entered};
 

@@ -1,7 +1,6 @@
 pub mod Homes
 pub mod LastLike
 pub mod Liked
-pub mod Limits
 pub mod PageSet
 pub mod Places
 pub mod Ring

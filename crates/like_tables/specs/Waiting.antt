@@ -1,6 +1,6 @@
 -- What a stash holds.
 use Rattle.std.specs.Prelude.{ℕ, ◌≤◌, List, length}
-use Rattle.like_requests.specs.Limits.{max_stash}
+use Rattle.like_limits.specs.Limits.{max_stash}
 
 -- what waits, in the order in which it came, and how much there is room for
 pub record Waiting (W : Type 0) : Type 0 where

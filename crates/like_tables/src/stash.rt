@@ -1,5 +1,5 @@
 ghost use Rattle.std.specs.Prelude.{◌≡◌, ◌<◌, ◌≤◌, ◌↔◌, [], ◌∷◌, ◌++◌, IfOk, IsTrue, drop, length, slice_get};
-ghost use Rattle.like_requests.specs.Limits.{max_stash};
+ghost use Rattle.like_limits.specs.Limits.{max_stash};
 ghost use Rattle.like_tables.specs.Waiting.{IsWaiting};
 
 use circular_buffer::HeapCircularBuffer;

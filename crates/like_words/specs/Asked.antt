@@ -8,7 +8,7 @@ use Rattle.clap.specs.Words.{Row, Text, all_of, fault_of, first_of, one_of, subc
 use Rattle.clap.specs.declared.error.kind.ErrorKind.{ErrorKind}
 use Rattle.clap.specs.declared.error.kind.ErrorKind.TheVariants.{DisplayHelp}
 use Rattle.like_words.specs.CommandLine.{likes_app}
-use Rattle.like_words.specs.Limits.{max_hot, max_stash, max_turns, max_users, max_workers}
+use Rattle.like_limits.specs.Limits.{max_hot, max_stash, max_turns, max_users, max_workers}
 use Rattle.like_words.specs.declared.asked.Asked.{Asked}
 use Rattle.like_words.specs.declared.asked.Asked.TheVariants.{Run, Replay, Help}
 use Rattle.like_words.specs.declared.options.Options.{Options}

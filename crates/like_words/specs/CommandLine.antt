@@ -5,7 +5,7 @@ use Rattle.clap.specs.Simple.{new_shape}
 use Rattle.clap.specs.Words.{App, Rule, Shape, Text, new_rule}
 use Rattle.clap.specs.declared.builder.action.ArgAction.TheVariants.{Append, Set, SetTrue}
 use Rattle.clap.specs.declared.builder.value_parser.ValueParser.TheVariants as vp
-use Rattle.like_words.specs.Limits.{max_hot, max_stash, max_turns, max_users, max_workers}
+use Rattle.like_limits.specs.Limits.{max_hot, max_stash, max_turns, max_users, max_workers}
 
 -- an option for a whole number within bounds, which may be left out
 abbrev pub bounded_rule : Text → ℕ → ℕ → Rule

@@ -2,4 +2,3 @@ pub mod Asked
 pub mod Built
 pub mod CommandLine
 pub mod Fault
-pub mod Limits

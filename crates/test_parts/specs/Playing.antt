@@ -3,7 +3,7 @@ use Rattle.std.specs.Prelude.{◌≡◌, ℕ, ◌+◌, ◌≤◌, ◌==◌, List
 use Rattle.like_requests.specs.declared.request.Request.{Request}
 use Rattle.like_requests.specs.declared.request.Taken.{Taken}
 use Rattle.like_requests.specs.declared.request.Taken.TheVariants.{Ask, End, Nothing}
-use Rattle.like_requests.specs.Limits.{max_requests}
+use Rattle.like_limits.specs.Limits.{max_requests}
 use Rattle.like_requests.specs.Setup.{IsThere}
 use Rattle.like_core.specs.Post.{pages_of}
 use Rattle.like_roles.specs.worker.WorkerView.{WorkerView, submitter_at}

@@ -13,7 +13,7 @@ use Rattle.like_core.specs.declared.view.PageCount.{PageCount}
 use Rattle.like_core.specs.declared.view.WorkerSeatView.{WorkerSeatView}
 use Rattle.like_core.specs.declared.view.View.{View}
 use Rattle.like_core.specs.declared.view.View.TheVariants.{Coord, Worker}
-use Rattle.like_core.specs.Limits.{max_workers, max_count}
+use Rattle.like_limits.specs.Limits.{max_count, max_workers}
 use Rattle.like_core.specs.Functions.{update}
 use Rattle.like_core.specs.Phase.{is_marked, split}
 use Rattle.like_core.specs.core.Table.{IsShown}

@@ -1,5 +1,5 @@
 ghost use Rattle.std.specs.Prelude.{◌≡◌, ◌<◌, ◌≤◌, ◌^◌, ◌↔◌, ℕ, List, ◌∷◌, [], ◌++◌, All, IfOk, IsTrue, MatchResult, Some, None, length, map, replicate};
-ghost use Rattle.like_requests.specs.Limits.{max_submitters};
+ghost use Rattle.like_limits.specs.Limits.{max_submitters};
 ghost use Rattle.like_service.specs.declared.log.Ran.{Ran};
 ghost use Rattle.like_collection.specs.CollectFaults.{IsEntryFault};
 ghost use Rattle.like_service.specs.Collected.{rows_of};

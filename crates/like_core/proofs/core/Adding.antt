@@ -6,7 +6,7 @@ use Rattle.like_core.specs.declared.event.Event.{Event}
 use Rattle.like_core.specs.declared.event.Event.TheVariants.{Like, Merge}
 use Rattle.like_core.specs.declared.shown.Shown.TheVariants.{Sliced, Old}
 use Rattle.like_core.specs.declared.opening.Opening.{Opening}
-use Rattle.like_core.specs.Limits.{total_bound}
+use Rattle.like_limits.specs.Limits.{total_bound}
 use Rattle.like_core.specs.Functions.{sum_below, update, times}
 use Rattle.like_core.specs.Phase.{is_marked, split}
 use Rattle.like_core.specs.core.Numbers.{total}

@@ -1,7 +1,7 @@
 use Rattle.std.proofs.Common.{◌≡◌, ℕ, ◌+◌, ◌<◌, List, [], length, get_or, set, length-set, ap, subst, sym, ◌∙◌, arith}
 use Rattle.std.proofs.lemmas.List.{get_or_read}
 use Rattle.like_core.specs.declared.pure_core.Core.{Core}
-use Rattle.like_core.specs.Limits.{total_bound}
+use Rattle.like_limits.specs.Limits.{total_bound}
 use Rattle.like_core.specs.core.Numbers.{Numbers, with_unmerged, total}
 use Rattle.like_core.specs.core.Kept.{kept}
 use Rattle.like_core.specs.core.Core.{numbers_of}

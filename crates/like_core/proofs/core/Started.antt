@@ -5,7 +5,7 @@ use Rattle.like_core.specs.declared.worker_state.WorkerState.{WorkerState}
 use Rattle.like_core.specs.declared.worker_state.WorkerState.TheVariants.{Runs, Gone}
 use Rattle.like_core.specs.declared.opening.Opening.{Opening}
 use Rattle.like_core.specs.declared.limits.Limits.{Limits}
-use Rattle.like_core.specs.Limits.{total_bound}
+use Rattle.like_limits.specs.Limits.{total_bound}
 use Rattle.like_core.specs.Functions.{sum_below}
 use Rattle.like_core.specs.core.Numbers.{total}
 use Rattle.like_core.specs.core.Kept.{kept}

@@ -4,7 +4,7 @@ use Rattle.like_core.specs.declared.worker_state.WorkerState.TheVariants.{Answer
 use Rattle.like_core.specs.declared.sight.Sight.{Sight}
 use Rattle.like_core.specs.declared.sight.CoordSight.{CoordSight}
 use Rattle.like_core.specs.declared.limits.Limits.{Limits}
-use Rattle.like_core.specs.Limits.{total_bound}
+use Rattle.like_limits.specs.Limits.{total_bound}
 use Rattle.like_core.specs.OpeningLimits.{number_of}
 use Rattle.like_core.specs.Functions.{sum_below, update}
 use Rattle.like_core.specs.Phase.{split}

@@ -9,7 +9,7 @@ use Rattle.like_core.specs.declared.shown.Shown.TheVariants.{Seen, Coord, Done, 
 use Rattle.like_core.specs.declared.pure_core.refusal.NotNow.{NotNow}
 use Rattle.like_core.specs.declared.pure_core.refusal.Wrong.{Wrong}
 use Rattle.like_core.specs.declared.pure_core.refusal.NotNow.TheVariants.{NoSuch, Phase, Last, Full}
-use Rattle.like_core.specs.Limits.{total_bound}
+use Rattle.like_limits.specs.Limits.{total_bound}
 use Rattle.like_core.specs.Phase.{IsJoined, IsSplit}
 use Rattle.like_core.specs.core.Numbers.{Numbers, with_state, with_unmerged, sliced, total, AllIn, Sees, CoordSees, with_look, with_like, with_more}
 

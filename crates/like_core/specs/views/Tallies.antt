@@ -3,7 +3,7 @@ use Rattle.std.specs.List.{sum_by}
 use Rattle.like_core.specs.declared.view.WorkerSeatView.{WorkerSeatView}
 use Rattle.like_core.specs.declared.view.View.{View}
 use Rattle.like_core.specs.declared.view.View.TheVariants.{Coord, Worker, Spent}
-use Rattle.like_core.specs.Limits.{max_workers}
+use Rattle.like_limits.specs.Limits.{max_workers}
 use Rattle.like_core.specs.core.State.{CoreState}
 use Rattle.like_core.specs.Additions.{added_to}
 use Rattle.like_core.specs.views.Reads.{all_before}

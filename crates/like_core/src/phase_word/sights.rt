@@ -1,5 +1,5 @@
 ghost use Rattle.std.specs.Prelude.{◌≡◌, ◌<◌, ◌≤◌};
-ghost use Rattle.like_core.specs.Limits.{max_workers};
+ghost use Rattle.like_limits.specs.Limits.{max_workers};
 ghost use Rattle.like_core.specs.word.Word.{Fields, packed, IsLawful};
 ghost use Rattle.like_core.specs.word.PhaseWord.{fields_of};
 ghost use Rattle.like_core.specs.views.Sights.{first_fields, sight_of, coord_sight_of};

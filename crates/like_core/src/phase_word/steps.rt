@@ -1,7 +1,7 @@
 ghost use Rattle.std.specs.Prelude.{◌≡◌, ◌+◌, ◌^◌, ◌<◌, ◌%◌, bit_or};
 ghost use Rattle.std.specs.Int.{bit_at};
 ghost use Rattle.like_core.specs.word.Kind.{code_of};
-ghost use Rattle.like_core.specs.Limits.{max_workers};
+ghost use Rattle.like_limits.specs.Limits.{max_workers};
 ghost use Rattle.like_core.specs.Phase.{last_phase};
 ghost use Rattle.like_core.specs.word.Word.{packed, answer_bit, retirement_bit, announced, answered_by, retired_by, released, released_modulo};
 ghost use Rattle.like_core.specs.word.PhaseWord.{fields_of};

@@ -1,6 +1,6 @@
 ghost use Rattle.std.specs.Prelude.{◌≡◌, ◌<◌, ◌≤◌, ℕ, [], false, true, All, IfOk, Some, length, slice_get};
 ghost use Rattle.like_requests.specs.Verdict.{home};
-ghost use Rattle.like_requests.specs.Limits.{max_submitters, max_workers};
+ghost use Rattle.like_limits.specs.Limits.{max_submitters, max_workers};
 ghost use Rattle.like_service.specs.Collected.{IsCollected, rows_of, entries_in};
 ghost use Rattle.like_service.specs.places.Places.{ArePlaces, lists_in};
 ghost use Rattle.like_service.specs.declared.log.WorkerLog.{WorkerLog as Log};

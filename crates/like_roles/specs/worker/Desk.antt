@@ -10,7 +10,7 @@ use Rattle.like_core.specs.Phase.{IsJoined, IsSplit}
 use Rattle.like_core.specs.Post.{pages_of}
 use Rattle.like_core.specs.WorkerState.{IsRunning}
 use Rattle.like_tables.specs.declared.held.Held.{Held}
-use Rattle.like_tables.specs.Limits.{max_likes}
+use Rattle.like_limits.specs.Limits.{max_likes}
 use Rattle.like_tables.specs.Share.{Share, dealt, submitter_of, worker_of}
 use Rattle.like_seat.specs.SeatView.{IsSeat, SeatView, likes_of, phase_at}
 use Rattle.like_roles.specs.declared.turn.Turn.{Turn}

@@ -1,6 +1,6 @@
 ghost use Rattle.std.specs.Prelude.{◌≡◌, ◌≤◌, length};
 ghost use Rattle.like_board.specs.Seats.{board_id, coord_board, coord_view};
-ghost use Rattle.like_core.specs.Limits.{hot_pages};
+ghost use Rattle.like_limits.specs.Limits.{hot_pages};
 ghost use Rattle.like_core.specs.Phase.{IsJoined};
 ghost use Rattle.like_core.specs.views.Views.{SawAllIn};
 ghost use Rattle.like_seat.specs.Lead.{counted_from, risen};

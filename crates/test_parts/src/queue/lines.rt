@@ -1,5 +1,5 @@
 ghost use Rattle.std.specs.Prelude.{◌≡◌, ◌≤◌, IfOk, length};
-ghost use Rattle.like_requests.specs.Limits.{max_requests};
+ghost use Rattle.like_limits.specs.Limits.{max_requests};
 
 use super::LIKE;
 use like_queue::{

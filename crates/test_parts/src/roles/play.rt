@@ -1,5 +1,5 @@
 ghost use Rattle.std.specs.Prelude.{◌≡◌, ◌≤◌, [], ◌∷◌, IfOk, length};
-ghost use Rattle.like_requests.specs.Limits.{max_workers};
+ghost use Rattle.like_limits.specs.Limits.{max_workers};
 ghost use Rattle.like_requests.specs.Setup.{FitsRun};
 ghost use Rattle.like_core.specs.OpeningLimits.{run_limits};
 ghost use Rattle.like_board.specs.Seats.{board_id, coord_board, coord_view};

@@ -1,5 +1,5 @@
 ghost use Rattle.std.specs.Prelude.{◌≡◌, ◌<◌, ◌≤◌, [], ◌∷◌, IfOk, length};
-ghost use Rattle.like_requests.specs.Limits.{max_requests};
+ghost use Rattle.like_limits.specs.Limits.{max_requests};
 ghost use Rattle.like_requests.specs.Setup.{FitsRun, IsWithin};
 ghost use Rattle.like_board.specs.Seats.{post_meaning};
 ghost use Rattle.like_roles.specs.worker.New.{IsNew, IsPostOf};

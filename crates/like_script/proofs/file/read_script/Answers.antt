@@ -2,7 +2,7 @@ use Rattle.std.proofs.Common.{IfOk, Vec, Global, Result, Ok, Err, ◌≡◌, ◌
 use Rattle.like_records.specs.Rows.{MadeOf}
 use Rattle.like_records.specs.Reading.{ReadFailed}
 use Rattle.like_script.specs.File.{AsksEntryRecord, turned_of, entry_tests}
-use Rattle.like_script.specs.Limits.{max_entries}
+use Rattle.like_limits.specs.Limits.{max_entries}
 use Rattle.like_script.specs.declared.turned.Turned.{Turned}
 use Rattle.like_script.specs.declared.file.ScriptFault.{ScriptFault}
 use Rattle.like_script.proofs.ScriptRead.{few-entries, script-only-failed, script-read}

@@ -2,7 +2,7 @@ use Rattle.std.proofs.Common.{◌≡◌, ◌≤◌, ◌∙◌, ℕ, List, Vec, G
 use Rattle.std.specs.List.{All}
 use Rattle.like_requests.specs.Pages.{Page}
 use Rattle.like_requests.specs.declared.request.Request.{Request}
-use Rattle.like_requests.specs.Limits.{max_count, max_requests}
+use Rattle.like_limits.specs.Limits.{max_count, max_requests}
 use Rattle.like_core.specs.declared.view.CoordSeatView.{CoordSeatView}
 use Rattle.like_core.specs.core.State.{opening}
 use Rattle.like_board.specs.Seats.{board_id}

@@ -2,7 +2,7 @@ use Rattle.std.proofs.Common.{◌≡◌, ◌≤◌, ◌∙◌, ◌++◌, ◌∷�
 use Rattle.std.proofs.lemmas.Iterator.Adapters.{YieldsList-from_vec}
 use Rattle.std.proofs.lemmas.Iterator.Consumers.{YieldsList-end, YieldsList-turn}
 use Rattle.std.proofs.lemmas.List.{map-id, map_push}
-use Rattle.like_requests.specs.Limits.{max_requests}
+use Rattle.like_limits.specs.Limits.{max_requests}
 use Rattle.like_requests.specs.declared.request.Request.{Request}
 use Rattle.like_queue.specs.Line.{LineId, Sender, Taker}
 use Rattle.like_lines.specs.Lines.{new_ends, new_sender, new_taker}

@@ -1,5 +1,5 @@
 use Rattle.std.proofs.Common.{◌≡◌, ◌≤◌, length, vec_capacity, rules, ap, sym, ◌∙◌, subst}
-use Rattle.like_core.specs.Limits.{max_pages}
+use Rattle.like_limits.specs.Limits.{max_pages}
 use Rattle.like_core.specs.declared.opening.Opening.{Opening as CoreOpening}
 use Rattle.like_core.specs.declared.view.CoordSeatView.{CoordSeatView}
 use Rattle.like_board.specs.Seats.{coord_view}

@@ -1,5 +1,5 @@
 use Rattle.std.proofs.Common.{◌≡◌, ℕ, ◌+◌, ◌^◌, ◌<◌, ◌≤◌, length, slice_get, Some, sym, subst, ⊎_elim, ap, ◌∙◌, arith}
-use Rattle.like_requests.specs.Limits.{max_requests}
+use Rattle.like_limits.specs.Limits.{max_requests}
 use Rattle.like_queue.specs.Line.{HasSentEnd, Sender, next_of}
 use Rattle.like_queue.specs.Rule.{Item, items_of}
 use Rattle.like_queue.proofs.Items.{item-of-request}

@@ -2,7 +2,7 @@ use Rattle.std.proofs.Common.{◌≡◌, ◌≤◌, ◌++◌, ℕ, List, length,
 use Rattle.std.proofs.Math.Seq.{take-append_seam}
 use Rattle.like_core.specs.declared.opening.Opening.{Opening}
 use Rattle.like_core.specs.declared.view.CoordSeatView.{CoordSeatView}
-use Rattle.like_core.specs.Limits.{hot_pages}
+use Rattle.like_limits.specs.Limits.{hot_pages}
 use Rattle.like_core.specs.Phase.{IsJoined}
 use Rattle.like_core.specs.views.Views.{MayPublish, SawAllIn}
 use Rattle.like_board.specs.Seats.{coord_board, coord_view}

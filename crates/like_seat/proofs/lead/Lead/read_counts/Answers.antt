@@ -1,6 +1,6 @@
 use Rattle.std.proofs.Common.{length, min, sym, ap, ◌∙◌, subst}
 use Rattle.like_core.specs.declared.view.CoordSeatView.{CoordSeatView}
-use Rattle.like_core.specs.Limits.{hot_pages}
+use Rattle.like_limits.specs.Limits.{hot_pages}
 use Rattle.like_core.specs.views.Views.{SawAllIn}
 use Rattle.like_board.specs.Seats.{coord_view}
 use Rattle.like_seat.specs.Lead.{LeadView}
