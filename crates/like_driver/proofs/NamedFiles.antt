@@ -4,7 +4,7 @@ use Rattle.std.specs.Prelude.{String, is_some, string_bytes}
 use Rattle.std.specs.declared.alloc.Global.{Global}
 use Rattle.std.proofs.lemmas.List.{length-map}
 use Rattle.std.proofs.lemmas.Slice.Zip.{AllZip-long}
-use Rattle.like_words.specs.declared.options.Options.{Options}
+use Rattle.like_command.specs.declared.options.Options.{Options}
 use Rattle.like_replies.specs.declared.summary.Summary.{Summary}
 use Rattle.like_files.specs.FailedReads.{TellsRead}
 use Rattle.like_files.specs.Inputs.{inputs_of}

@@ -1,13 +1,13 @@
 -- What the program has done for its words, by what its parts answered.
 use Rattle.std.proofs.Common.{◌≡◌, ◌==◌, ℕ, List, [], ◌∷◌, Option, Result, Ok, Err, IfErr, IfOk, ap, false, length, map, refl, subst, sym, true≢false}
 use Rattle.std.specs.Prelude.{◌⊎◌}
-use Rattle.like_words.specs.Asked.{Asks, AsksForHelp, Words}
+use Rattle.like_command.specs.Asked.{Asks, AsksForHelp, Words}
 use Rattle.like_files.specs.Faults.{IsBeforeOutput}
 use Rattle.like_driver.specs.Fault.{of_files}
 use Rattle.like_driver.specs.Program.{HasDone, HasServed, IsServeFault, IsWordsFault}
-use Rattle.like_words.specs.declared.asked.Asked.{Asked}
-use Rattle.like_words.specs.declared.asked.Asked.TheVariants.{Run, Replay}
-use Rattle.like_words.specs.declared.options.Options.{Options}
+use Rattle.like_command.specs.declared.asked.Asked.{Asked}
+use Rattle.like_command.specs.declared.asked.Asked.TheVariants.{Run, Replay}
+use Rattle.like_command.specs.declared.options.Options.{Options}
 use Rattle.like_replies.specs.declared.summary.Summary.{Summary}
 use Rattle.like_files.specs.declared.fault.DriverFault.{DriverFault}
 use Rattle.like_driver.specs.declared.program.fault.ProgramFault.{ProgramFault}

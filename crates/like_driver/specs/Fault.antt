@@ -1,8 +1,8 @@
 -- The status and the line of a fault of the program.
 use Rattle.std.specs.Prelude.{ℕ, List, Option, Result, Ok, Err}
 use Rattle.std.specs.Io.KnownBytes.{Appends}
-use Rattle.like_words.specs.Fault as words
-use Rattle.like_words.specs.declared.options.Options.{Options}
+use Rattle.like_command.specs.Fault as words
+use Rattle.like_command.specs.declared.options.Options.{Options}
 use Rattle.like_files.specs.Faults.{status_of}
 use Rattle.like_files.specs.Lines.{ShowsLine, write_line}
 use Rattle.like_files.specs.declared.fault.DriverFault.{DriverFault}

@@ -1,7 +1,7 @@
 -- What a run or a replay of named files has done, or why it has not. Opens and Refuses are what an opener says of a name, and
 -- left what a reader has left to give.
 use Rattle.std.specs.Prelude.{◌⊎◌, ℕ, List, Option, None}
-use Rattle.like_words.specs.declared.options.Options.{Options}
+use Rattle.like_command.specs.declared.options.Options.{Options}
 use Rattle.like_replies.specs.declared.summary.Summary.{Summary}
 use Rattle.like_files.specs.FailedReads.{TellsRead}
 use Rattle.like_files.specs.Inputs.{inputs_of}

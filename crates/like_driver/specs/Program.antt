@@ -1,14 +1,14 @@
 -- What the program has done for its words, and the status with which it ends.
 use Rattle.std.specs.Prelude.{◌≡◌, ◌⊎◌, ℕ, false, List, [], ◌∷◌, Option, None, Some, codes, string_bytes}
 use Rattle.std.specs.Io.KnownBytes.{Appends}
-use Rattle.like_words.specs.Asked.{Asks, AsksForHelp, IsParseFault, Words}
+use Rattle.like_command.specs.Asked.{Asks, AsksForHelp, IsParseFault, Words}
 use Rattle.like_files.specs.Faults.{IsBeforeOutput}
 use Rattle.like_driver.specs.Fault.{program_status}
 use Rattle.like_files.specs.Replay.{HasReplayed, HasReplayedSome}
 use Rattle.like_files.specs.Run.{HasRunSome}
-use Rattle.like_words.specs.declared.asked.Asked.{Asked}
-use Rattle.like_words.specs.declared.asked.Asked.TheVariants.{Run, Replay, Help}
-use Rattle.like_words.specs.declared.options.Options.{Options}
+use Rattle.like_command.specs.declared.asked.Asked.{Asked}
+use Rattle.like_command.specs.declared.asked.Asked.TheVariants.{Run, Replay, Help}
+use Rattle.like_command.specs.declared.options.Options.{Options}
 use Rattle.like_replies.specs.declared.summary.Summary.{Summary}
 use Rattle.like_driver.specs.declared.program.fault.ProgramFault.{ProgramFault}
 use Rattle.like_driver.specs.declared.program.fault.ProgramFault.TheVariants as program

@@ -4,7 +4,7 @@ ghost use Rattle.like_driver.specs.Program.{HasReplayedExample, IsExample, IsExa
 use crate::program::fault::{ProgramFault, with_options};
 use like_files::{NoProgress, replay_files_summed};
 use like_replies::Summary;
-use like_words::Options;
+use like_command::Options;
 use std::alloc::{AllocError, Global};
 use std::io::Write;
 

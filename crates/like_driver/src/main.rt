@@ -8,7 +8,7 @@ mod tests;
 
 use crate::program::fault::ProgramFault;
 use crate::program::{serve_words, tell};
-use like_words::ParseFault;
+use like_command::ParseFault;
 use std::alloc::Global;
 use std::env;
 use std::io::ErrorKind;

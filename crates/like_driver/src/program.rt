@@ -16,7 +16,7 @@ use like_files::{
     Disk, DriverFault, Opened, Opener, Progress, open_files, replay_files_summed, run_files_summed,
 };
 use like_replies::Summary;
-use like_words::{Asked, Options, parse};
+use like_command::{Asked, Options, parse};
 use std::alloc::Global;
 use std::fs::Files;
 use std::io;

@@ -6,7 +6,7 @@ use Rattle.std.proofs.lemmas.List.{take_more}
 use Rattle.std.proofs.lemmas.Option.{slice_get_read}
 use Rattle.like_requests.specs.declared.requests_file.RequestsFault.{RequestsFault}
 use Rattle.like_requests.specs.declared.requests_file.RequestsFault.TheVariants.{Read, Memory}
-use Rattle.like_words.specs.declared.options.Options.{Options}
+use Rattle.like_command.specs.declared.options.Options.{Options}
 use Rattle.like_files.proofs.Planned.{AllZip-more}
 use Rattle.like_files.specs.Opened.{AreOpened, IsUnopened, IsUnopenedRequest}
 use Rattle.like_files.specs.declared.fault.DriverFault.{DriverFault}

@@ -21,7 +21,7 @@ use Rattle.like_service.specs.places.Tiling.{HasNoPlaces, HasRightPlaces}
 use Rattle.like_script.specs.File.{IsScriptFault, IsScriptFile}
 use Rattle.like_script.specs.declared.file.ScriptFault.{ScriptFault}
 use Rattle.like_script.specs.declared.turned.Turned.{Turned}
-use Rattle.like_words.specs.declared.options.Options.{Options}
+use Rattle.like_command.specs.declared.options.Options.{Options}
 use Rattle.like_files.specs.declared.fault.DriverFault.{DriverFault}
 use Rattle.like_files.specs.declared.fault.DriverFault.TheVariants as driver
 

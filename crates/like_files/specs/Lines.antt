@@ -6,8 +6,8 @@ use Rattle.like_requests.specs.declared.pages_file.PagesFault.TheVariants as pag
 use Rattle.like_requests.specs.declared.requests_file.RequestsFault.TheVariants as requests
 use Rattle.like_requests.specs.declared.setup.SettingsFault.TheVariants as settings
 use Rattle.like_script.specs.declared.file.ScriptFault.TheVariants as script
-use Rattle.like_words.specs.declared.options.Options.{Options}
-use Rattle.like_words.specs.Fault as words
+use Rattle.like_command.specs.declared.options.Options.{Options}
+use Rattle.like_command.specs.Fault as words
 use Rattle.like_files.specs.declared.fault.DriverFault.{DriverFault}
 use Rattle.like_files.specs.declared.fault.DriverFault.TheVariants.{Pages, Requests, Script, Settings, Start, Unfinished, Write, Memory}
 

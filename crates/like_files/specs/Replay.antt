@@ -10,7 +10,7 @@ use Rattle.like_script.specs.declared.file.ScriptFault.{ScriptFault}
 use Rattle.like_script.specs.declared.turned.Turned.{Turned}
 use Rattle.like_files.specs.Inputs.{GivesLists, GivesScript, Inputs, RefusesLists, RefusesScript, WritesReport, setup_of}
 use Rattle.like_replies.specs.declared.summary.Summary.{Summary}
-use Rattle.like_words.specs.declared.options.Options.{Options}
+use Rattle.like_command.specs.declared.options.Options.{Options}
 use Rattle.like_files.specs.declared.fault.DriverFault.{DriverFault}
 use Rattle.like_files.specs.declared.fault.DriverFault.TheVariants.{Pages, Requests, Script, Settings, Start, Unfinished, Write, Memory}
 

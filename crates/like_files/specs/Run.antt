@@ -9,7 +9,7 @@ use Rattle.like_service.specs.declared.run_fault.RunFault.{RunFault}
 use Rattle.like_service.specs.declared.run_fault.RunFault.TheVariants as why
 use Rattle.like_files.specs.Inputs.{GivesLists, Inputs, RefusesLists, WritesReport, setup_of}
 use Rattle.like_replies.specs.declared.summary.Summary.{Summary}
-use Rattle.like_words.specs.declared.options.Options.{Options}
+use Rattle.like_command.specs.declared.options.Options.{Options}
 use Rattle.like_files.specs.declared.fault.DriverFault.{DriverFault}
 use Rattle.like_files.specs.declared.fault.DriverFault.TheVariants.{Pages, Requests, Script, Settings, Start, Unfinished, Write, Memory}
 

@@ -5,7 +5,7 @@ ghost use Rattle.like_files.specs.Lines.{ShowsLine, file_of, own_line};
 use crate::fault::DriverFault;
 use like_requests::{PagesFault, RequestsFault, SettingsFault};
 use like_run::ScriptFault;
-use like_words::{OUT_OF_MEMORY, Options};
+use like_command::{OUT_OF_MEMORY, Options};
 use std::fmt::InlineText;
 use std::io::Write;
 

@@ -5,7 +5,7 @@ use crate::fault::DriverFault;
 use crate::opener::Opener;
 use like_requests::{PagesFault, RequestsFault};
 use like_run::ScriptFault;
-use like_words::Options;
+use like_command::Options;
 use std::alloc::Global;
 
 /// The files of a run or a replay, opened and not yet read.

@@ -16,7 +16,7 @@ use crate::summed::asked_summary;
 use like_replies::{Summary, write_text};
 use like_requests::{Request, Setup};
 use like_run::{ScriptFault, Turned, read_script, replay_noting};
-use like_words::Options;
+use like_command::Options;
 use std::alloc::Global;
 use std::io::{Read, Write};
 

@@ -15,7 +15,7 @@ use like_replies::{Summary, write_text_at_once};
 use like_requests::{Request, Setup};
 use like_roles::NoGate;
 use like_run::run_noting;
-use like_words::Options;
+use like_command::Options;
 use std::alloc::Global;
 use std::io::{Read, Write};
 use std::sync::Wait;

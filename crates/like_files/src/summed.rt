@@ -4,7 +4,7 @@ ghost use Rattle.like_files.specs.Inputs.{asked_summary};
 
 use like_replies::Summary;
 use like_service::Report;
-use like_words::Options;
+use like_command::Options;
 
 /// The summary of a report, where the options ask for one.
 pub fn asked_summary(options: &Options, report: &Report) -> Option<Summary>

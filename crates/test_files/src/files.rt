@@ -5,7 +5,7 @@ ghost use Rattle.std.specs.Prelude.{◌<◌, length};
 mod limits;
 mod refused;
 
-use like_devices::{Trickle, csv_cases};
+use test_devices::{Trickle, csv_cases};
 use like_requests::{Pages, read_pages, read_requests};
 use like_script::read_script;
 use std::alloc::{AllocError, Global};

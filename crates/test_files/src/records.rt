@@ -1,5 +1,5 @@
 use crate::files::bytes;
-use like_devices::{Trickle, csv_cases};
+use test_devices::{Trickle, csv_cases};
 use like_records::{Records, RecordsFault, decimal};
 use std::alloc::Global;
 use std::io::Read;

@@ -1,7 +1,7 @@
 //! What words ask for, by `parse`.
 mod help;
 
-use like_words::{Asked, ParseFault, parse};
+use like_command::{Asked, ParseFault, parse};
 use std::alloc::Global;
 use std::process::Abort;
 

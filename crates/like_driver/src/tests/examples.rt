@@ -5,7 +5,7 @@ pub mod cases;
 
 use crate::tests::examples::cases::{Case, cases};
 use like_files::{DriverFault, replay_files};
-use like_words::Options;
+use like_command::Options;
 use std::alloc::{AllocError, Global};
 use std::process::Abort;
 

@@ -2,11 +2,11 @@
 use super::examples::options;
 use crate::program::fault::ProgramFault;
 use crate::program::tell;
-use like_devices::Narrow;
+use test_devices::Narrow;
 use like_files::DriverFault;
 use like_requests::{PagesFault, RequestsFault, SettingsFault};
 use like_run::ScriptFault;
-use like_words::Options;
+use like_command::Options;
 use std::alloc::Global;
 use std::process::Abort;
 

@@ -1,7 +1,7 @@
 //! The program on files, by `serve_words`.
 use super::examples::cases::LATE_WORKER;
 use crate::program::serve_words;
-use like_devices::Narrow;
+use test_devices::Narrow;
 use std::alloc::Global;
 use std::fs;
 use std::fs::Files;

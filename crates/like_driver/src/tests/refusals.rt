@@ -2,11 +2,11 @@
 ghost use Rattle.std.specs.Prelude.{◌≡◌, None, length};
 
 use super::examples::{copies, options};
-use like_devices::{Narrow, Trickle};
+use test_devices::{Narrow, Trickle};
 use like_files::{DriverFault, replay_files};
 use like_requests::{PagesFault, RequestsFault, SettingsFault};
 use like_run::ScriptFault;
-use like_words::Options;
+use like_command::Options;
 use std::alloc::Global;
 use std::process::Abort;
 

@@ -1,8 +1,8 @@
 //! Runs on threads, by `run_files`.
 use super::examples::{copies, options};
-use like_devices::Narrow;
+use test_devices::Narrow;
 use like_files::{DriverFault, run_files};
-use like_words::Options;
+use like_command::Options;
 use std::alloc::{AllocError, Global};
 use std::io::Write;
 use std::process::Abort;

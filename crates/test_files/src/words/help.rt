@@ -1,6 +1,6 @@
 //! What help says.
 use super::asked;
-use like_words::Asked;
+use like_command::Asked;
 use std::alloc::Global;
 use std::process::Abort;
 

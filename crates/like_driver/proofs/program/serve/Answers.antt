@@ -1,7 +1,7 @@
 use Rattle.std.proofs.Common.{None, inl, inr, map, refl, string_bytes, ◌∙◌, sym}
 use Rattle.std.proofs.lemmas.Result.{IfOk-weaker, err_from_is_err_and}
-use Rattle.like_words.specs.Asked.{Words}
-use Rattle.like_words.specs.declared.asked.Asked.TheVariants.{Run, Replay, Help}
+use Rattle.like_command.specs.Asked.{Words}
+use Rattle.like_command.specs.declared.asked.Asked.TheVariants.{Run, Replay, Help}
 use Rattle.like_driver.specs.declared.program.fault.ProgramFault.TheVariants as program
 use Rattle.like_driver.proofs.NamedFiles.{some-replay, some-run}
 use Rattle.like_driver.proofs.Serving.{files-fault, files-served, not_served, served, some-words}

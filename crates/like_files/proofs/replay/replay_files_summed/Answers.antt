@@ -5,7 +5,7 @@ use Rattle.like_requests.specs.declared.request.Request.{Request}
 use Rattle.like_script.specs.declared.turned.Turned.{Turned}
 use Rattle.like_service.specs.Asked.{lists_of}
 use Rattle.like_replies.specs.declared.summary.Summary.{Summary}
-use Rattle.like_words.specs.declared.options.Options.{Options}
+use Rattle.like_command.specs.declared.options.Options.{Options}
 use Rattle.like_files.specs.declared.fault.DriverFault.{DriverFault}
 use Rattle.like_files.specs.Inputs.{Inputs, inputs_of, setup_of}
 use Rattle.like_files.specs.Replay.{GivesAll, HasReplayed, HasReplayedLists, IsReplayFilesFault, IsReplayListsFault}

@@ -1,0 +1,73 @@
+-- What clap reads of a command that is built up.
+use Rattle.std.specs.Borrow.{Bor}
+use Rattle.std.proofs.Common.{◌≡◌, ◌∙◌, ◌||◌, Option, Some, false, true, length, ap, ap₂}
+use Rattle.clap.specs.Walk.{texts}
+use Rattle.clap.specs.Words.{AddsArg, AddsSubcommand, App, Rule, Shape, Text, app_of, items_of, rule_of, with_rule, with_subcommand}
+use Rattle.clap.specs.declared.builder.action.ArgAction.{ArgAction}
+use Rattle.clap.specs.declared.builder.arg.Arg.{Arg}
+use Rattle.clap.specs.declared.builder.command.Command.{Command}
+use Rattle.clap.specs.declared.builder.texts.Texts.{Texts}
+use Rattle.clap.specs.declared.builder.value_parser.ValueParser.{ValueParser}
+use Rattle.like_command.specs.Built.{IsArgument, IsCommand, IsSubcommand}
+
+-- each step of building an argument is one field of its rule
+pub spelled : (old new : Arg) (r : Rule) (name : Bor Text) → new ≡ record old { long = Some name } → IsArgument r old
+    → IsArgument (record r { long = Some name.now }) new
+spelled old new r name is was = record {
+  rule_is = ap rule_of is ∙ ap (λ (x : Rule). record x { long = Some name.now }) was.rule_is;
+  local = ap (λ (a : Arg). a.global) is ∙ was.local;
+}
+
+pub valued : (old new : Arg) (r : Rule) (names : Texts) → new ≡ record old { val_names = names } → IsArgument r old
+    → IsArgument (record r { value_names = length (items_of names) }) new
+valued old new r names is was = record {
+  rule_is = ap rule_of is ∙ ap (λ (x : Rule). record x { value_names = length (items_of names) }) was.rule_is;
+  local = ap (λ (a : Arg). a.global) is ∙ was.local;
+}
+
+pub acting : (old new : Arg) (r : Rule) (action : Option ArgAction) → new ≡ record old { action = action } → IsArgument r old
+    → IsArgument (record r { action = action }) new
+acting old new r action is was = record {
+  rule_is = ap rule_of is ∙ ap (λ (x : Rule). record x { action = action }) was.rule_is;
+  local = ap (λ (a : Arg). a.global) is ∙ was.local;
+}
+
+pub parsing : (old new : Arg) (r : Rule) (parser : ValueParser) → new ≡ record old { value_parser = new.value_parser }
+    → new.value_parser ≡ Some parser → IsArgument r old → IsArgument (record r { parser = Some parser }) new
+parsing old new r parser is given was = record {
+  rule_is = ap rule_of is ∙ ap₂ (λ (x : Rule) (p : Option ValueParser). record x { parser = p }) was.rule_is given;
+  local = ap (λ (a : Arg). a.global) is ∙ was.local;
+}
+
+pub needed : (old new : Arg) (r : Rule) → new ≡ record old { required = true } → IsArgument r old → IsArgument (record r { required = true }) new
+needed old new r is was = record {
+  rule_is = ap rule_of is ∙ ap (λ (x : Rule). record x { required = true }) was.rule_is;
+  local = ap (λ (a : Arg). a.global) is ∙ was.local;
+}
+
+pub defaulted : (old new : Arg) (r : Rule) (values : Texts) → new ≡ record old { default_vals = values } → IsArgument r old
+    → IsArgument (record r { defaults = texts (items_of values) }) new
+defaulted old new r values is was = record {
+  rule_is = ap rule_of is ∙ ap (λ (x : Rule). record x { defaults = texts (items_of values) }) was.rule_is;
+  local = ap (λ (a : Arg). a.global) is ∙ was.local;
+}
+
+-- what is said of an argument in its help changes nothing else of it
+pub helped : (old new : Arg) (r : Rule) (text : Option (Bor Text)) → new ≡ record old { help = text } → IsArgument r old → IsArgument r new
+helped old new r text is was = record { rule_is = ap rule_of is ∙ was.rule_is; local = ap (λ (a : Arg). a.global) is ∙ was.local }
+
+-- one more argument is one more rule
+pub added : (old new : Command) (a : Arg) (r : Rule) (s : App) → AddsArg old a new → IsArgument r a → IsCommand s old → IsCommand (with_rule s r) new
+added old new a r s h argument was = record {
+  app_is = h.shape argument.local ∙ ap₂ with_rule was.app_is argument.rule_is;
+  local = h.globals ∙ (ap (λ b. b || a.global) was.local ∙ ap (λ b. false || b) argument.local);
+}
+
+-- what a command reads without subcommands
+pub subcommand : (c : Command) (s : App) → IsCommand s c → IsSubcommand s.top c
+subcommand c s is = record { shape_is = ap (λ (a : App). a.top) is.app_is; local = is.local }
+
+-- one more subcommand
+pub sub_added : (old sub new : Command) (shape : Shape) (s : App) → AddsSubcommand old sub new → IsSubcommand shape sub → app_of old ≡ s
+    → app_of new ≡ with_subcommand s shape
+sub_added old sub new shape s h is was = h.shape is.local ∙ ap₂ with_subcommand was is.shape_is

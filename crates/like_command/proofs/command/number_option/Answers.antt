@@ -1,0 +1,8 @@
+use Rattle.like_command.specs.CommandLine.{bounded_rule}
+use Rattle.like_command.proofs.Commands.{defaulted}
+use Rattle.like_command.proofs.command.number_option.Goals as goal
+
+pub returns : goal.returns
+returns c =
+    defaulted c.bounded_option.result c.default_value.result (bounded_rule c.args.name.now c.args.least c.args.most) _ c.default_value.ensures
+    c.bounded_option.ensures

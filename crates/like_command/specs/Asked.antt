@@ -1,0 +1,117 @@
+-- What words ask for.
+use Rattle.std.specs.Prelude.{◌≡◌, ◌≢◌, ◌≤◌, ◌<◌, ◌⊎◌, ℕ, Bool, List, [], length, map, codes, pos, Option, None, Some, option_map, IsSomeAnd, string_bytes, MatchOption, MatchResult, Result, ⊤}
+use Rattle.std.specs.Str.Parse.{IsNumeral, digits_value, without_leading_plus}
+use Rattle.clap.specs.Kinds.{IsAmong}
+use Rattle.clap.specs.Lexer.{without_minus}
+use Rattle.clap.specs.Values.{IsSignedIn, bool_text}
+use Rattle.clap.specs.Words.{Row, Text, all_of, fault_of, first_of, one_of, subcommand_of}
+use Rattle.clap.specs.declared.error.kind.ErrorKind.{ErrorKind}
+use Rattle.clap.specs.declared.error.kind.ErrorKind.TheVariants.{DisplayHelp}
+use Rattle.like_command.specs.CommandLine.{likes_app}
+use Rattle.like_limits.specs.Limits.{max_hot, max_stash, max_turns, max_users, max_workers}
+use Rattle.like_command.specs.declared.asked.Asked.{Asked}
+use Rattle.like_command.specs.declared.asked.Asked.TheVariants.{Run, Replay, Help}
+use Rattle.like_command.specs.declared.options.Options.{Options}
+use Rattle.like_command.specs.declared.fault.ParseFault.{ParseFault}
+use Rattle.like_command.specs.declared.fault.ParseFault.TheVariants.{Usage, Memory}
+
+-- a text writes a number: decimal digits, with a plus before them or not
+abbrev pub Writes : Text → ℕ → Type 0
+Writes text n = IsNumeral 10 (without_leading_plus text) × (n ≡ digits_value 10 (without_leading_plus text))
+
+-- an option's value, or its default, writes this number, within the bounds
+abbrev pub IsNumber : List Row → Text → ℕ → ℕ → ℕ → Type 0
+IsNumber rows name least most n = IsSomeAnd (one_of name rows) (λ text. Writes text n) × (least ≤ n) × (n ≤ most)
+
+-- an option has a value that its bounds let through
+abbrev pub HasNumber : List Row → Text → ℕ → ℕ → Type 0
+HasNumber rows name least most =
+    (text : Text) × (one_of name rows ≡ Some (without_minus text)) × IsSignedIn (pos least) (pos most) text
+
+-- an option has no value, or one that its bounds let through
+abbrev pub MayHaveNumber : List Row → Text → ℕ → ℕ → Type 0
+MayHaveNumber rows name least most = (one_of name rows ≡ None) ⊎ HasNumber rows name least most
+
+-- a number is there where an option has a value, which writes it, within the bounds
+abbrev pub MayBeNumber : List Row → Text → ℕ → ℕ → Option ℕ → Type 0
+MayBeNumber rows name least most o = MatchOption o (one_of name rows ≡ None) (IsNumber rows name least most)
+
+-- a flag has the value `true` where it was given, and else `false`
+abbrev pub IsFlag : List Row → Text → Bool → Type 0
+IsFlag rows name b = one_of name rows ≡ Some (bool_text b)
+
+-- a flag has one of these values
+abbrev pub HasFlag : List Row → Text → Type 0
+HasFlag rows name = (b : Bool) × IsFlag rows name b
+
+-- clap found what a run and a replay need
+pub record HasAll (rows : List Row) : Type 0 where
+  pub workers : HasNumber rows (codes "workers") 1 max_workers
+  pub users : HasNumber rows (codes "users") 1 max_users
+  pub stash : HasNumber rows (codes "stash") 1 max_stash
+  pub turns : HasNumber rows (codes "turns") 0 max_turns
+  pub hot : MayHaveNumber rows (codes "hot") 1 max_hot
+  pub places : HasFlag rows (codes "places")
+  pub summary : HasFlag rows (codes "summary")
+  pub pages : (name : Text) × (first_of (codes "pages") rows ≡ Some name)
+  pub requests : (names : List Text) × (all_of (codes "requests") rows ≡ Some names) × (0 < length names)
+
+-- options have the values that clap found for a run or a replay, the script aside
+pub record HasValues (rows : List Row) (o : Options) : Type 0 where
+  pub workers : IsNumber rows (codes "workers") 1 max_workers o.workers
+  pub users : IsNumber rows (codes "users") 1 max_users o.users
+  pub stash : IsNumber rows (codes "stash") 1 max_stash o.stash
+  pub turns : IsNumber rows (codes "turns") 0 max_turns o.turns
+  pub hot : MayBeNumber rows (codes "hot") 1 max_hot o.hot
+  pub places : IsFlag rows (codes "places") o.places
+  pub summary : IsFlag rows (codes "summary") o.summary
+  pub pages : first_of (codes "pages") rows ≡ Some (string_bytes o.pages)
+  pub requests : all_of (codes "requests") rows ≡ Some (map string_bytes o.requests.items)
+  pub some_requests : 0 < length o.requests.items
+
+-- what was entered is one of the subcommands, with these rows
+abbrev pub IsEntered : Option (Text × List Row) → List Row → Type 0
+IsEntered entered rows = (entered ≡ Some (codes "run", rows)) ⊎ (entered ≡ Some (codes "replay", rows))
+
+-- what was entered gives a run these options
+pub record GivesRun (entered : Option (Text × List Row)) (o : Options) : Type 0 where
+  pub rows : List Row
+  pub matched : entered ≡ Some (codes "run", rows)
+  pub values : HasValues rows o
+  pub script : o.script ≡ None
+
+-- what was entered gives a replay these options
+pub record GivesReplay (entered : Option (Text × List Row)) (o : Options) : Type 0 where
+  pub rows : List Row
+  pub matched : entered ≡ Some (codes "replay", rows)
+  pub values : HasValues rows o
+  pub script : first_of (codes "script") rows ≡ option_map string_bytes o.script
+
+-- what was entered asks for that
+abbrev pub MeansAsked : Option (Text × List Row) → Asked → Type 0
+MeansAsked entered (Run options) = GivesRun entered options
+MeansAsked entered (Replay options) = GivesReplay entered options
+MeansAsked entered (Help text) = ⊥
+
+-- the words after the program's name, each by its bytes
+abbrev pub Words : Type 0
+Words = List Text
+
+-- the words ask for help
+abbrev pub AsksForHelp : Words → Type 0
+AsksForHelp words = IsAmong DisplayHelp (fault_of likes_app words)
+
+-- what the words ask for: a run or a replay where they have no fault
+abbrev pub Asks : Words → Asked → Type 0
+Asks words (Run options) = (fault_of likes_app words ≡ []) × GivesRun (subcommand_of likes_app words) options
+Asks words (Replay options) = (fault_of likes_app words ≡ []) × GivesReplay (subcommand_of likes_app words) options
+Asks words (Help text) = AsksForHelp words
+
+-- why the words ask for nothing: they have a fault that is no request for help, or want of memory
+abbrev pub IsParseFault : Words → ParseFault → Type 0
+IsParseFault words (Usage text) = (kind : ErrorKind) × IsAmong kind (fault_of likes_app words) × (kind ≢ DisplayHelp)
+IsParseFault words Memory = ⊤
+
+-- what words are answered that clap gives no matches
+abbrev pub RefusesWords : Words → Result Asked ParseFault → Type 0
+RefusesWords words result = MatchResult result (Asks words) (IsParseFault words)

@@ -1,0 +1,18 @@
+-- The status and the line of words that ask for nothing.
+use Rattle.std.specs.Prelude.{ℕ, List, codes, string_bytes}
+use Rattle.like_command.specs.declared.fault.ParseFault.{ParseFault}
+use Rattle.like_command.specs.declared.fault.ParseFault.TheVariants.{Usage, Memory}
+
+-- the status of a wrong command line, or of want of memory for reading it
+abbrev pub status_of : ParseFault → ℕ
+status_of (Usage text) = 2
+status_of Memory = 4
+
+-- the line of memory that ran out
+abbrev pub memory_line : List ℕ
+memory_line = codes "likes: out of memory\n"
+
+-- what a wrong command line, or want of memory for reading it, writes on standard error
+abbrev pub line_of : ParseFault → List ℕ
+line_of (Usage text) = string_bytes text
+line_of Memory = memory_line

@@ -1,0 +1,52 @@
+ghost use Rattle.std.specs.Prelude.{◌≡◌, IsTrue};
+ghost use Rattle.std.specs.Io.KnownBytes.{Appends};
+ghost use Rattle.like_command.specs.Fault.{line_of, status_of};
+
+use std::alloc::AllocError;
+use std::io::Write;
+
+/// The line of memory that ran out.
+pub const OUT_OF_MEMORY: &str = "likes: out of memory\n";
+
+/// Why the words of the command line ask for nothing.
+#[derive(Debug, Drop)]
+pub enum ParseFault {
+    /// The words are wrong, as the text says.
+    Usage(String),
+    Memory,
+}
+
+impl From<AllocError> for ParseFault {
+    ghost use Rattle.std.specs.Prelude.{◌≡◌};
+    ghost use Rattle.like_command.specs.declared.fault.ParseFault.TheVariants.{Memory};
+
+    ghost from_gives = { λ _ fault. fault ≡ Memory };
+
+    fn from(_: AllocError) -> ParseFault {
+        ParseFault::Memory
+    }
+}
+
+impl ParseFault {
+    /// The status with which the program ends.
+    pub fn status(&self) -> u8
+        ensures { result ≡ status_of self.now }
+    {
+        match self {
+            ParseFault::Usage(_) => 2,
+            ParseFault::Memory => 4,
+        }
+    }
+
+    /// Writes the text of a wrong command line, or the line of the want of memory.
+    /// `false` says that a write failed, and nothing of how much was written.
+    pub fn line<W: Write>(&self, out: &mut W) -> bool
+        ensures { IsTrue result → Appends (W.contents out.old) (W.contents out.new) (line_of self.now) }
+    {
+        let text = match self {
+            ParseFault::Usage(text) => text.as_str(),
+            ParseFault::Memory => OUT_OF_MEMORY,
+        };
+        out.write_all(text.as_bytes()).is_ok()
+    }
+}

@@ -1,8 +1,0 @@
-use Rattle.like_words.specs.CommandLine.{bounded_rule}
-use Rattle.like_words.proofs.Commands.{defaulted}
-use Rattle.like_words.proofs.command.number_option.Goals as goal
-
-pub returns : goal.returns
-returns c =
-    defaulted c.bounded_option.result c.default_value.result (bounded_rule c.args.name.now c.args.least c.args.most) _ c.default_value.ensures
-    c.bounded_option.ensures
