@@ -40,16 +40,25 @@ use Rattle.like_board.proofs.Gathering.{gathers}
 use Rattle.like_board.proofs.LastCounts.{closes}
 
 -- the opening in a worker's view is the board's
-worker_opening : (z : Opening) (words : List ℕ) (views : List View) (place : ℕ) (v : WorkerSeatView) → ShowsSome z words views → get_elem? views place ≡ some (Worker v) → v.opening ≡ z
+worker_opening : (z : Opening) (words : List ℕ) (views : List View) (place : ℕ) (v : WorkerSeatView)
+    → ShowsSome z words views
+    → get_elem? views place ≡ some (Worker v)
+    → v.opening ≡ z
 worker_opening z words views place v some_state at =
     let fits : FitsWorker z some_state.state v = some_state.shows.each place (Worker v) at in fits.opening
 
 -- the opening in the coordinator's view is the board's
-coord_opening : (z : Opening) (words : List ℕ) (views : List View) (place : ℕ) (c : CoordSeatView) → ShowsSome z words views → get_elem? views place ≡ some (Coord c) → c.opening ≡ z
+coord_opening : (z : Opening) (words : List ℕ) (views : List View) (place : ℕ) (c : CoordSeatView)
+    → ShowsSome z words views
+    → get_elem? views place ≡ some (Coord c)
+    → c.opening ≡ z
 coord_opening z words views place c some_state at =
     let fits : FitsCoord z some_state.state c = some_state.shows.each place (Coord c) at in fits.opening
 
-pub looking : {S : Type 0} (key : Key) (slots id : ℕ) (me : Me S View) → me ≡ (Worker (worker_view_of me.0), []) → (worker_view_of me.0).state ≢ Gone → Allows (IsShowing key) slots id me 0 (λ n. n) (λ found after. TellsLook me.0 found after.0 × (after.1 ≡ []))
+pub looking : {S : Type 0} (key : Key) (slots id : ℕ) (me : Me S View)
+    → me ≡ (Worker (worker_view_of me.0), [])
+    → (worker_view_of me.0).state ≢ Gone
+    → Allows (IsShowing key) slots id me 0 (λ n. n) (λ found after. TellsLook me.0 found after.0 × (after.1 ≡ []))
 looking {S} key slots id me is there = λ st shows _ at _.
     let z = opening_of key in
     let v : WorkerSeatView = worker_view_of me.0 in
@@ -72,7 +81,13 @@ looking {S} key slots id me is there = λ st shows _ at _.
       ),
     )
 
-pub acknowledging : {S : Type 0} (key : Key) (slots id : ℕ) (me : Me S View) (bit : ℕ) → bit ≡ answer_bit (worker_view_of me.0).worker → me ≡ (Worker (worker_view_of me.0), []) → RunsJoined (worker_view_of me.0).state → SawEnding (worker_view_of me.0).last → Allows (IsShowing key) slots id me 0 (λ n. bit_or n bit) (λ found after. TellsWorker Acknowledges answered_view me.0 after.0 × (after.1 ≡ []))
+pub acknowledging : {S : Type 0} (key : Key) (slots id : ℕ) (me : Me S View) (bit : ℕ)
+    → bit ≡ answer_bit (worker_view_of me.0).worker
+    → me ≡ (Worker (worker_view_of me.0), [])
+    → RunsJoined (worker_view_of me.0).state
+    → SawEnding (worker_view_of me.0).last
+    → Allows (IsShowing key) slots id me 0 (λ n. bit_or n bit)
+    (λ found after. TellsWorker Acknowledges answered_view me.0 after.0 × (after.1 ≡ []))
 acknowledging {S} key slots id me bit bit_is is joined saw = λ st shows _ at _.
     let z = opening_of key in
     let v : WorkerSeatView = worker_view_of me.0 in
@@ -82,14 +97,26 @@ acknowledging {S} key slots id me bit bit_is is joined saw = λ st shows _ at _.
       Worker (answered_view v),
       keeps,
       tt,
-      subst (λ (b : ℕ). ShowsSome z (slice_set st.words 0 (bit_or (get_or st.words 0 0) b)) (slice_set st.views id (Worker (answered_view v)))) (sym bit_is) r.1,
+      subst (λ (b : ℕ). ShowsSome z (slice_set st.words 0 (bit_or (get_or st.words 0 0) b))
+          (slice_set st.views id (Worker (answered_view v)))) (sym bit_is) r.1,
       (
-        record { view = refl; step = subst (λ (y : Opening). IsStep y (Acknowledge v.worker) Done (Worker v) (Worker (answered_view v))) (sym same) r.0 },
+        record {
+          view =
+              refl;
+          step = subst (λ (y : Opening). IsStep y (Acknowledge v.worker) Done (Worker v)
+              (Worker (answered_view v))) (sym same) r.0;
+        },
         ap (λ (m : Me S View). m.1) is,
       ),
     )
 
-pub reporting : {S : Type 0} (key : Key) (slots id : ℕ) (me : Me S View) (bit : ℕ) → bit ≡ answer_bit (worker_view_of me.0).worker → me ≡ (Worker (worker_view_of me.0), []) → RunsSplit (worker_view_of me.0).state → SawEnding (worker_view_of me.0).last → Allows (IsShowing key) slots id me 0 (λ n. bit_or n bit) (λ found after. TellsWorker Reports answered_view me.0 after.0 × (after.1 ≡ []))
+pub reporting : {S : Type 0} (key : Key) (slots id : ℕ) (me : Me S View) (bit : ℕ)
+    → bit ≡ answer_bit (worker_view_of me.0).worker
+    → me ≡ (Worker (worker_view_of me.0), [])
+    → RunsSplit (worker_view_of me.0).state
+    → SawEnding (worker_view_of me.0).last
+    → Allows (IsShowing key) slots id me 0 (λ n. bit_or n bit)
+    (λ found after. TellsWorker Reports answered_view me.0 after.0 × (after.1 ≡ []))
 reporting {S} key slots id me bit bit_is is split saw = λ st shows _ at _.
     let z = opening_of key in
     let v : WorkerSeatView = worker_view_of me.0 in
@@ -99,14 +126,25 @@ reporting {S} key slots id me bit bit_is is split saw = λ st shows _ at _.
       Worker (answered_view v),
       keeps,
       tt,
-      subst (λ (b : ℕ). ShowsSome z (slice_set st.words 0 (bit_or (get_or st.words 0 0) b)) (slice_set st.views id (Worker (answered_view v)))) (sym bit_is) r.1,
+      subst (λ (b : ℕ). ShowsSome z (slice_set st.words 0 (bit_or (get_or st.words 0 0) b))
+          (slice_set st.views id (Worker (answered_view v)))) (sym bit_is) r.1,
       (
-        record { view = refl; step = subst (λ (y : Opening). IsStep y (Report v.worker) Done (Worker v) (Worker (answered_view v))) (sym same) r.0 },
+        record {
+          view =
+              refl;
+          step = subst (λ (y : Opening). IsStep y (Report v.worker) Done (Worker v) (Worker (answered_view v)))
+              (sym same) r.0;
+        },
         ap (λ (m : Me S View). m.1) is,
       ),
     )
 
-pub retiring : {S : Type 0} (key : Key) (slots id : ℕ) (me : Me S View) (bit : ℕ) → bit ≡ retirement_bit (worker_view_of me.0).worker → me ≡ (Worker (worker_view_of me.0), []) → RunsJoined (worker_view_of me.0).state → Allows (IsShowing key) slots id me 0 (λ n. bit_or n bit) (λ found after. TellsWorker Retires retired_view me.0 after.0 × (after.1 ≡ []))
+pub retiring : {S : Type 0} (key : Key) (slots id : ℕ) (me : Me S View) (bit : ℕ)
+    → bit ≡ retirement_bit (worker_view_of me.0).worker
+    → me ≡ (Worker (worker_view_of me.0), [])
+    → RunsJoined (worker_view_of me.0).state
+    → Allows (IsShowing key) slots id me 0 (λ n. bit_or n bit)
+    (λ found after. TellsWorker Retires retired_view me.0 after.0 × (after.1 ≡ []))
 retiring {S} key slots id me bit bit_is is joined = λ st shows _ at _.
     let z = opening_of key in
     let v : WorkerSeatView = worker_view_of me.0 in
@@ -116,14 +154,22 @@ retiring {S} key slots id me bit bit_is is joined = λ st shows _ at _.
       Worker (retired_view v),
       keeps,
       tt,
-      subst (λ (b : ℕ). ShowsSome z (slice_set st.words 0 (bit_or (get_or st.words 0 0) b)) (slice_set st.views id (Worker (retired_view v)))) (sym bit_is) r.1,
+      subst (λ (b : ℕ). ShowsSome z (slice_set st.words 0 (bit_or (get_or st.words 0 0) b))
+          (slice_set st.views id (Worker (retired_view v)))) (sym bit_is) r.1,
       (
-        record { view = refl; step = subst (λ (y : Opening). IsStep y (Retire v.worker) Done (Worker v) (Worker (retired_view v))) (sym same) r.0 },
+        record {
+          view =
+              refl;
+          step = subst (λ (y : Opening). IsStep y (Retire v.worker) Done (Worker v) (Worker (retired_view v)))
+              (sym same) r.0;
+        },
         ap (λ (m : Me S View). m.1) is,
       ),
     )
 
-pub surveying : {S : Type 0} (key : Key) (slots id : ℕ) (me : Me S View) → me ≡ (Coord (coord_view_of me.0), []) → Allows (IsShowing key) slots id me 0 (λ n. n) (λ found after. TellsSurvey me.0 found after.0 × (after.1 ≡ []))
+pub surveying : {S : Type 0} (key : Key) (slots id : ℕ) (me : Me S View)
+    → me ≡ (Coord (coord_view_of me.0), [])
+    → Allows (IsShowing key) slots id me 0 (λ n. n) (λ found after. TellsSurvey me.0 found after.0 × (after.1 ≡ []))
 surveying {S} key slots id me is = λ st shows _ at _.
     let z = opening_of key in
     let c : CoordSeatView = coord_view_of me.0 in
@@ -146,7 +192,11 @@ surveying {S} key slots id me is = λ st shows _ at _.
       ),
     )
 
-pub announcing : {S : Type 0} (key : Key) (slots id : ℕ) (me : Me S View) → me ≡ (Coord (coord_view_of me.0), []) → MayAnnounce (coord_view_of me.0) → Allows (IsShowing key) slots id me 0 (λ n. (n + 1) % 2 ^ 64) (λ found after. TellsCoord Announces announced_coord me.0 after.0 × (after.1 ≡ []))
+pub announcing : {S : Type 0} (key : Key) (slots id : ℕ) (me : Me S View)
+    → me ≡ (Coord (coord_view_of me.0), [])
+    → MayAnnounce (coord_view_of me.0)
+    → Allows (IsShowing key) slots id me 0 (λ n. (n + 1) % 2 ^ 64)
+    (λ found after. TellsCoord Announces announced_coord me.0 after.0 × (after.1 ≡ []))
 announcing {S} key slots id me is may = λ st shows _ at _.
     let z = opening_of key in
     let c : CoordSeatView = coord_view_of me.0 in
@@ -158,29 +208,53 @@ announcing {S} key slots id me is may = λ st shows _ at _.
       tt,
       r.1,
       (
-        record { view = refl; step = subst (λ (y : Opening). IsStep y Announce Done (Coord c) (Coord (announced_coord c))) (sym same) r.0 },
+        record {
+          view =
+              refl;
+          step = subst (λ (y : Opening). IsStep y Announce Done (Coord c) (Coord (announced_coord c)))
+              (sym same) r.0;
+        },
         ap (λ (m : Me S View). m.1) is,
       ),
     )
 
-pub releasing : {S : Type 0} (key : Key) (slots id : ℕ) (me : Me S View) (modulus : ℕ) (seen : Fields) (new : ℕ) → modulus ≡ (coord_view_of me.0).opening.limits.modulus → new ≡ packed (released_modulo modulus seen) → IsLawful seen → packed seen ≡ (coord_view_of me.0).word → me ≡ (Coord (coord_view_of me.0), []) → MayRelease (coord_view_of me.0) → Allows (IsShowing key) slots id me 0 (λ _. new) (λ found after. TellsCoord Releases released_coord me.0 after.0 × (after.1 ≡ []))
+pub releasing : {S : Type 0} (key : Key) (slots id : ℕ) (me : Me S View) (modulus : ℕ) (seen : Fields) (new : ℕ)
+    → modulus ≡ (coord_view_of me.0).opening.limits.modulus
+    → new ≡ packed (released_modulo modulus seen)
+    → IsLawful seen
+    → packed seen ≡ (coord_view_of me.0).word
+    → me ≡ (Coord (coord_view_of me.0), [])
+    → MayRelease (coord_view_of me.0)
+    → Allows (IsShowing key) slots id me 0 (λ _. new)
+    (λ found after. TellsCoord Releases released_coord me.0 after.0 × (after.1 ≡ []))
 releasing {S} key slots id me modulus seen new modulus_is new_is lawful seen_is is may = λ st shows _ at _.
     let z = opening_of key in
     let c : CoordSeatView = coord_view_of me.0 in
     let here : get_elem? st.views id ≡ some (Coord c) = at ∙ ap (λ (m : Me S View). some m.0) is in
     let same = coord_opening z st.words st.views id c shows here in
-    let r = releases z st.words st.views id c modulus seen (modulus_is ∙ ap (λ (y : Opening). y.limits.modulus) same) shows here may lawful seen_is in (
+    let r = releases z st.words st.views id c modulus seen
+    (modulus_is ∙ ap (λ (y : Opening). y.limits.modulus) same) shows here may lawful seen_is in (
       Coord (released_coord c),
       keeps,
       tt,
-      subst (λ (n : ℕ). ShowsSome z (slice_set st.words 0 n) (slice_set st.views id (Coord (released_coord c)))) (sym new_is) r.1,
+      subst (λ (n : ℕ). ShowsSome z (slice_set st.words 0 n) (slice_set st.views id (Coord (released_coord c))))
+          (sym new_is) r.1,
       (
-        record { view = refl; step = subst (λ (y : Opening). IsStep y (Release (mask_released c)) Done (Coord c) (Coord (released_coord c))) (sym same) r.0 },
+        record {
+          view =
+              refl;
+          step = subst (λ (y : Opening). IsStep y (Release (mask_released c)) Done (Coord c)
+              (Coord (released_coord c))) (sym same) r.0;
+        },
         ap (λ (m : Me S View). m.1) is,
       ),
     )
 
-counting_page : {S : Type 0} (key : Key) (slots id : ℕ) (me : Me S View) (page : ℕ) → me ≡ (Coord (coord_view_of me.0), []) → MayCount (coord_view_of me.0) page → Allows (IsShowing key) slots id me (word_of page) (λ n. n) (λ found after. TellsCountAt (word_of page) me.0 found after.0 × (after.1 ≡ []))
+counting_page : {S : Type 0} (key : Key) (slots id : ℕ) (me : Me S View) (page : ℕ)
+    → me ≡ (Coord (coord_view_of me.0), [])
+    → MayCount (coord_view_of me.0) page
+    → Allows (IsShowing key) slots id me (word_of page) (λ n. n)
+    (λ found after. TellsCountAt (word_of page) me.0 found after.0 × (after.1 ≡ []))
 counting_page {S} key slots id me page is may = λ st shows _ at _.
     let z = opening_of key in
     let c : CoordSeatView = coord_view_of me.0 in
@@ -190,7 +264,12 @@ counting_page {S} key slots id me page is may = λ st shows _ at _.
     let same = coord_opening z st.words st.views id c shows here in
     let r = counts z st.words st.views id c page shows here may in
     let told : TellsCount page me.0 found (Coord d) =
-    record { view = refl; step = subst (λ (y : Opening). IsStep y (CoordRead page) (Count found) (Coord c) (Coord d)) (sym same) r.0 }
+    record {
+      view =
+          refl;
+      step = subst (λ (y : Opening). IsStep y (CoordRead page) (Count found) (Coord c) (Coord d))
+          (sym same) r.0;
+    }
     in (
       Coord d,
       keeps,
@@ -202,12 +281,22 @@ counting_page {S} key slots id me page is may = λ st shows _ at _.
       ),
     )
 
-pub counting : {S : Type 0} (key : Key) (slots id : ℕ) (me : Me S View) (page word : ℕ) → word ≡ word_of page → me ≡ (Coord (coord_view_of me.0), []) → MayCount (coord_view_of me.0) page → Allows (IsShowing key) slots id me word (λ n. n) (λ found after. TellsCountAt word me.0 found after.0 × (after.1 ≡ []))
+pub counting : {S : Type 0} (key : Key) (slots id : ℕ) (me : Me S View) (page word : ℕ)
+    → word ≡ word_of page
+    → me ≡ (Coord (coord_view_of me.0), [])
+    → MayCount (coord_view_of me.0) page
+    → Allows (IsShowing key) slots id me word (λ n. n)
+    (λ found after. TellsCountAt word me.0 found after.0 × (after.1 ≡ []))
 counting {S} key slots id me page word word_is is may =
-    subst (λ (i : ℕ). Allows (IsShowing key) slots id me i (λ n. n) (λ found after. TellsCountAt i me.0 found after.0 × (after.1 ≡ []))) (sym word_is)
+    subst (λ (i : ℕ). Allows (IsShowing key) slots id me i (λ n. n)
+    (λ found after. TellsCountAt i me.0 found after.0 × (after.1 ≡ []))) (sym word_is)
     (counting_page key slots id me page is may)
 
-pub publishing : {S : Type 0} (key : Key) (slots id : ℕ) (me : Me S View) (mask : ℕ) → me ≡ (Coord (coord_view_of me.0), []) → MayPublish (coord_view_of me.0) mask → Allows (IsShowing key) slots id me mask_place (λ _. mask) (λ found after. (after.0 ≡ Coord (published_coord (coord_view_of me.0) mask)) × (after.1 ≡ []))
+pub publishing : {S : Type 0} (key : Key) (slots id : ℕ) (me : Me S View) (mask : ℕ)
+    → me ≡ (Coord (coord_view_of me.0), [])
+    → MayPublish (coord_view_of me.0) mask
+    → Allows (IsShowing key) slots id me mask_place (λ _. mask)
+    (λ found after. (after.0 ≡ Coord (published_coord (coord_view_of me.0) mask)) × (after.1 ≡ []))
 publishing {S} key slots id me mask is may = λ st shows _ at _.
     let z = opening_of key in
     let c : CoordSeatView = coord_view_of me.0 in
@@ -220,14 +309,19 @@ publishing {S} key slots id me mask is may = λ st shows _ at _.
       (refl, ap (λ (m : Me S View). m.1) is),
     )
 
-pub making : {S : Type 0} (key : Key) (id : ℕ) (v : View) → v ≡ Coord (coord_view_of v) → (coord_view_of v).made < (coord_view_of v).opening.workers → Splits {S = S} (IsShowing key) id v (Coord (made_coord (coord_view_of v))) (Worker (fresh (coord_view_of v).opening (coord_view_of v).made))
+pub making : {S : Type 0} (key : Key) (id : ℕ) (v : View)
+    → v ≡ Coord (coord_view_of v)
+    → (coord_view_of v).made < (coord_view_of v).opening.workers
+    → Splits {S = S} (IsShowing key) id v (Coord (made_coord (coord_view_of v)))
+    (Worker (fresh (coord_view_of v).opening (coord_view_of v).made))
 making {S} key id v is room = λ st shows at.
     let z = opening_of key in
     let c : CoordSeatView = coord_view_of v in
     let here : get_elem? st.views id ≡ some (Coord c) = at ∙ ap some is in
     let same = coord_opening z st.words st.views id c shows here in
     let P : Opening → Type 0 = λ y. c.made < y.workers in
-    let Q : Opening → Type 0 = λ y. ShowsSome z st.words (slice_set st.views id (Coord (made_coord c)) ++ Worker (fresh y c.made) ∷ []) in
+    let Q : Opening → Type 0 =
+    λ y. ShowsSome z st.words (slice_set st.views id (Coord (made_coord c)) ++ Worker (fresh y c.made) ∷ []) in
     let below : c.made < z.workers = subst P same room in
     let few = shows.shows.opening.few_workers in
     subst Q (sym same) (record {
@@ -238,7 +332,11 @@ making {S} key id v is room = λ st shows at.
       places = places_made z st.views id c here shows.places;
     })
 
-adding_page : {S : Type 0} (key : Key) (slots id : ℕ) (me : Me S View) (page n : ℕ) → me ≡ (Worker (worker_view_of me.0), []) → MayAdd (post_of (worker_view_of me.0)) page n → Allows (IsShowing key) slots id me (word_of page) (λ k. (k + n) % 2 ^ 64) (λ found after. TellsAddAt (word_of page) n me.0 found after.0 × (after.1 ≡ []))
+adding_page : {S : Type 0} (key : Key) (slots id : ℕ) (me : Me S View) (page n : ℕ)
+    → me ≡ (Worker (worker_view_of me.0), [])
+    → MayAdd (post_of (worker_view_of me.0)) page n
+    → Allows (IsShowing key) slots id me (word_of page) (λ k. (k + n) % 2 ^ 64)
+    (λ found after. TellsAddAt (word_of page) n me.0 found after.0 × (after.1 ≡ []))
 adding_page {S} key slots id me page n is may = λ st shows _ at _.
     let z = opening_of key in
     let v : WorkerSeatView = worker_view_of me.0 in
@@ -251,7 +349,8 @@ adding_page {S} key slots id me page n is may = λ st shows _ at _.
     record {
       view = refl;
       own = r.2;
-      step = subst (λ (y : Opening). IsSteps y (likes_merged v page n) (adding v page) (Old found) (Worker v) (Worker w)) (sym same) r.0;
+      step = subst (λ (y : Opening). IsSteps y (likes_merged v page n) (adding v page) (Old found) (Worker v)
+          (Worker w)) (sym same) r.0;
     }
     in (
       Worker w,
@@ -264,13 +363,31 @@ adding_page {S} key slots id me page n is may = λ st shows _ at _.
       ),
     )
 
-pub adding_to : {S : Type 0} (key : Key) (slots id : ℕ) (me : Me S View) (page word n : ℕ) → word ≡ word_of page → me ≡ (Worker (worker_view_of me.0), []) → MayAdd (post_of (worker_view_of me.0)) page n → Allows (IsShowing key) slots id me word (λ k. (k + n) % 2 ^ 64) (λ found after. TellsAddAt word n me.0 found after.0 × (after.1 ≡ []))
+pub adding_to : {S : Type 0} (key : Key) (slots id : ℕ) (me : Me S View) (page word n : ℕ)
+    → word ≡ word_of page
+    → me ≡ (Worker (worker_view_of me.0), [])
+    → MayAdd (post_of (worker_view_of me.0)) page n
+    → Allows (IsShowing key) slots id me word (λ k. (k + n) % 2 ^ 64)
+    (λ found after. TellsAddAt word n me.0 found after.0 × (after.1 ≡ []))
 adding_to {S} key slots id me page word n word_is is may =
-    subst (λ (i : ℕ). Allows (IsShowing key) slots id me i (λ k. (k + n) % 2 ^ 64) (λ found after. TellsAddAt i n me.0 found after.0 × (after.1 ≡ []))) (sym word_is)
+    subst (λ (i : ℕ). Allows (IsShowing key) slots id me i (λ k. (k + n) % 2 ^ 64)
+    (λ found after. TellsAddAt i n me.0 found after.0 × (after.1 ≡ []))) (sym word_is)
     (adding_page key slots id me page n is may)
 
 -- a step that finds a page's count and is this event
-finding_page : {S : Type 0} (key : Key) (slots id : ℕ) (me : Me S View) (page : ℕ) (event : Event) (next : WorkerSeatView → ℕ → ℕ → WorkerSeatView) → me ≡ (Worker (worker_view_of me.0), []) → ((z : Opening) (words : List ℕ) (views : List View) → ShowsSome z words views → get_elem? views id ≡ some (Worker (worker_view_of me.0)) → IsRead z words views id (worker_view_of me.0) page event (next (worker_view_of me.0) page (get_or words (word_of page) 0))) → (does : PageAct) → ((count : ℕ) (w : WorkerSeatView) → IsStep (worker_view_of me.0).opening event (Count count) (Worker (worker_view_of me.0)) (Worker w) → does (worker_view_of me.0) page count w) → Allows (IsShowing key) slots id me (word_of page) (λ k. k) (λ found after. TellsReadAt does next (word_of page) me.0 found after.0 × (after.1 ≡ []))
+finding_page : {S : Type 0} (key : Key) (slots id : ℕ) (me : Me S View) (page : ℕ) (event : Event)
+    (next : WorkerSeatView → ℕ → ℕ → WorkerSeatView)
+    → me ≡ (Worker (worker_view_of me.0), [])
+    → ((z : Opening) (words : List ℕ) (views : List View) → ShowsSome z words views
+    → get_elem? views id ≡ some (Worker (worker_view_of me.0))
+    → IsRead z words views id (worker_view_of me.0) page event
+    (next (worker_view_of me.0) page (get_or words (word_of page) 0)))
+    → (does : PageAct)
+    → ((count : ℕ) (w : WorkerSeatView)
+    → IsStep (worker_view_of me.0).opening event (Count count) (Worker (worker_view_of me.0)) (Worker w)
+    → does (worker_view_of me.0) page count w)
+    → Allows (IsShowing key) slots id me (word_of page) (λ k. k)
+    (λ found after. TellsReadAt does next (word_of page) me.0 found after.0 × (after.1 ≡ []))
 finding_page {S} key slots id me page event next is reads does act = λ st shows _ at _.
     let z = opening_of key in
     let v : WorkerSeatView = worker_view_of me.0 in
@@ -297,17 +414,35 @@ finding_page {S} key slots id me page event next is reads does act = λ st shows
       ),
     )
 
-pub reading : {S : Type 0} (key : Key) (slots id : ℕ) (me : Me S View) (page word : ℕ) → word ≡ word_of page → me ≡ (Worker (worker_view_of me.0), []) → MayRead (post_of (worker_view_of me.0)) page → Allows (IsShowing key) slots id me word (λ k. k) (λ found after. TellsReadAt Reads read_view word me.0 found after.0 × (after.1 ≡ []))
+pub reading : {S : Type 0} (key : Key) (slots id : ℕ) (me : Me S View) (page word : ℕ)
+    → word ≡ word_of page
+    → me ≡ (Worker (worker_view_of me.0), [])
+    → MayRead (post_of (worker_view_of me.0)) page
+    → Allows (IsShowing key) slots id me word (λ k. k)
+    (λ found after. TellsReadAt Reads read_view word me.0 found after.0 × (after.1 ≡ []))
 reading {S} key slots id me page word word_is is may =
-    subst (λ (i : ℕ). Allows (IsShowing key) slots id me i (λ k. k) (λ found after. TellsReadAt Reads read_view i me.0 found after.0 × (after.1 ≡ []))) (sym word_is)
-    (finding_page key slots id me page (Read (worker_view_of me.0).worker page) read_view is (λ z words views. reads z words views id (worker_view_of me.0) page may) Reads (λ count w step. step))
+    subst (λ (i : ℕ). Allows (IsShowing key) slots id me i (λ k. k)
+    (λ found after. TellsReadAt Reads read_view i me.0 found after.0 × (after.1 ≡ []))) (sym word_is)
+    (finding_page key slots id me page (Read (worker_view_of me.0).worker page) read_view is
+    (λ z words views. reads z words views id (worker_view_of me.0) page may) Reads (λ count w step. step))
 
-pub glancing : {S : Type 0} (key : Key) (slots id : ℕ) (me : Me S View) (page word : ℕ) → word ≡ word_of page → me ≡ (Worker (worker_view_of me.0), []) → MayGlance (post_of (worker_view_of me.0)) page → Allows (IsShowing key) slots id me word (λ k. k) (λ found after. TellsReadAt Glances glanced_view word me.0 found after.0 × (after.1 ≡ []))
+pub glancing : {S : Type 0} (key : Key) (slots id : ℕ) (me : Me S View) (page word : ℕ)
+    → word ≡ word_of page
+    → me ≡ (Worker (worker_view_of me.0), [])
+    → MayGlance (post_of (worker_view_of me.0)) page
+    → Allows (IsShowing key) slots id me word (λ k. k)
+    (λ found after. TellsReadAt Glances glanced_view word me.0 found after.0 × (after.1 ≡ []))
 glancing {S} key slots id me page word word_is is may =
-    subst (λ (i : ℕ). Allows (IsShowing key) slots id me i (λ k. k) (λ found after. TellsReadAt Glances glanced_view i me.0 found after.0 × (after.1 ≡ []))) (sym word_is)
-    (finding_page key slots id me page (Glance (worker_view_of me.0).worker page) glanced_view is (λ z words views. glances z words views id (worker_view_of me.0) page may) Glances (λ count w step. step))
+    subst (λ (i : ℕ). Allows (IsShowing key) slots id me i (λ k. k)
+    (λ found after. TellsReadAt Glances glanced_view i me.0 found after.0 × (after.1 ≡ []))) (sym word_is)
+    (finding_page key slots id me page (Glance (worker_view_of me.0).worker page) glanced_view is
+    (λ z words views. glances z words views id (worker_view_of me.0) page may) Glances (λ count w step. step))
 
-pub reading_mask : {S : Type 0} (key : Key) (slots id : ℕ) (me : Me S View) → me ≡ (Worker (worker_view_of me.0), []) → RunsSplit (worker_view_of me.0).state → Allows (IsShowing key) slots id me mask_place (λ k. k) (λ found after. TellsMask me.0 found after.0 × (after.1 ≡ []))
+pub reading_mask : {S : Type 0} (key : Key) (slots id : ℕ) (me : Me S View)
+    → me ≡ (Worker (worker_view_of me.0), [])
+    → RunsSplit (worker_view_of me.0).state
+    → Allows (IsShowing key) slots id me mask_place (λ k. k)
+    (λ found after. TellsMask me.0 found after.0 × (after.1 ≡ []))
 reading_mask {S} key slots id me is split = λ st shows _ at _.
     let z = opening_of key in
     let v : WorkerSeatView = worker_view_of me.0 in
@@ -321,23 +456,36 @@ reading_mask {S} key slots id me is split = λ st shows _ at _.
       tt,
       r.1,
       (
-        record { view = refl; step = subst (λ (y : Opening). IsStep y (Hot v.worker) (HotShown found) (Worker v) (Worker w)) (sym same) r.0 },
+        record {
+          view =
+              refl;
+          step = subst (λ (y : Opening). IsStep y (Hot v.worker) (HotShown found) (Worker v) (Worker w))
+              (sym same) r.0;
+        },
         ap (λ (m : Me S View). m.1) is,
       ),
     )
 
-pub gathering : {S : Type 0} (key : Key) (id other : ℕ) (v w : View) → v ≡ Coord (coord_view_of v) → w ≡ Worker (worker_view_of w) → Joins {S = S} (IsShowing key) id v other w (Coord (gathered_coord (coord_view_of v) (worker_view_of w))) Spent
+pub gathering : {S : Type 0} (key : Key) (id other : ℕ) (v w : View)
+    → v ≡ Coord (coord_view_of v)
+    → w ≡ Worker (worker_view_of w)
+    → Joins {S = S} (IsShowing key) id v other w (Coord (gathered_coord (coord_view_of v) (worker_view_of w))) Spent
 gathering {S} key id other v w is_coord is_worker = λ st shows at apart mine.
-    gathers (opening_of key) st.words st.views id other (coord_view_of v) (worker_view_of w) shows (at ∙ ap some is_coord) apart
+    gathers (opening_of key) st.words st.views id other (coord_view_of v) (worker_view_of w) shows
+    (at ∙ ap some is_coord) apart
     (mine ∙ ap some is_worker)
 
 -- a new seat means a fresh post
-pub fresh_seat : {S : Type 0} (z : Opening) (i : ℕ) (me : Me S View) → me ≡ (Worker (fresh z i), []) → IsFresh (post_of (worker_view_of me.0))
+pub fresh_seat : {S : Type 0} (z : Opening) (i : ℕ) (me : Me S View)
+    → me ≡ (Worker (fresh z i), [])
+    → IsFresh (post_of (worker_view_of me.0))
 fresh_seat {S} z i me is =
-    subst (λ (v : WorkerSeatView). IsFresh (post_of v)) (sym (ap (λ (m : Me S View). worker_view_of m.0) is)) (post_fresh z i)
+    subst (λ (v : WorkerSeatView). IsFresh (post_of v)) (sym (ap (λ (m : Me S View). worker_view_of m.0) is))
+    (post_fresh z i)
 
 -- a read of a word changes nothing, and tells what is known where all seats were given back
-pub closing : {S : Type 0} (key : Key) (slots id : ℕ) (me : Me S View) (word : ℕ) → Allows (IsShowing key) slots id me word (λ n. n) (λ found after. TellsLast word me.0 found × (after ≡ me))
+pub closing : {S : Type 0} (key : Key) (slots id : ℕ) (me : Me S View) (word : ℕ)
+    → Allows (IsShowing key) slots id me word (λ n. n) (λ found after. TellsLast word me.0 found × (after ≡ me))
 closing {S} key slots id me word = λ st shows _ at _.
     let z = opening_of key in
     let same = set-get_or st.words word 0 in

@@ -31,7 +31,10 @@ abbrev pub gathered : List View → ℕ → ℕ → CoordSeatView → WorkerSeat
 gathered views place other c v = set (set views place (Coord (gathered_coord c v))) other Spent
 
 -- the coordinator's view fits with one worker's view more
-fits_gathered : (z : Opening) (s : CoreState) (c : CoordSeatView) (v : WorkerSeatView) → FitsCoord z s c → FitsWorker z s v → FitsCoord z s (gathered_coord c v)
+fits_gathered : (z : Opening) (s : CoreState) (c : CoordSeatView) (v : WorkerSeatView)
+    → FitsCoord z s c
+    → FitsWorker z s v
+    → FitsCoord z s (gathered_coord c v)
 fits_gathered z s c v f g = record {
   opening = f.opening;
   made = f.made;
@@ -49,12 +52,19 @@ fits_gathered z s c v f g = record {
   joined = either f g;
 }
   where
-    either : FitsCoord z s c → FitsWorker z s v → (at : ℕ) (w : WorkerSeatView) → get_elem? (v ∷ c.joined) at ≡ some w → FitsWorker z s w
+    either : FitsCoord z s c → FitsWorker z s v → (at : ℕ) (w : WorkerSeatView) → get_elem? (v ∷ c.joined) at ≡ some w
+        → FitsWorker z s w
     either f g zero w found = subst (FitsWorker z s) (some-injective v w found) g
     either f g (suc at) w found = f.joined at w found
 
 -- a seat that is given back changes nothing that is shown
-pub gathers : (z : Opening) (words : List ℕ) (views : List View) (place other : ℕ) (c : CoordSeatView) (v : WorkerSeatView) → ShowsSome z words views → get_elem? views place ≡ some (Coord c) → other ≢ place → get_elem? (set views place (Coord (gathered_coord c v))) other ≡ some (Worker v) → ShowsSome z words (gathered views place other c v)
+pub gathers : (z : Opening) (words : List ℕ) (views : List View) (place other : ℕ) (c : CoordSeatView)
+    (v : WorkerSeatView)
+    → ShowsSome z words views
+    → get_elem? views place ≡ some (Coord c)
+    → other ≢ place
+    → get_elem? (set views place (Coord (gathered_coord c v))) other ≡ some (Worker v)
+    → ShowsSome z words (gathered views place other c v)
 gathers z words views place other c v some_state at apart mine =
     let s = some_state.state in
     let sh = some_state.shows in
@@ -132,7 +142,14 @@ gathers z words views place other c v some_state at apart mine =
     }
 
 -- beside a coordinator that has all workers' seats back, no view knows anything
-others_spent : (z : Opening) (s : CoreState) (words : List ℕ) (views : List View) (place : ℕ) (c : CoordSeatView) → Shows z s words views → get_elem? views place ≡ some (Coord c) → ((i : ℕ) → i < c.made → seats_of i (Coord c) ≡ 1) → (j : ℕ) (u : View) → j ≢ place → get_elem? views j ≡ some u → u ≡ Spent
+others_spent : (z : Opening) (s : CoreState) (words : List ℕ) (views : List View) (place : ℕ) (c : CoordSeatView)
+    → Shows z s words views
+    → get_elem? views place ≡ some (Coord c)
+    → ((i : ℕ) → i < c.made → seats_of i (Coord c) ≡ 1)
+    → (j : ℕ) (u : View)
+    → j ≢ place
+    → get_elem? views j ≡ some u
+    → u ≡ Spent
 others_spent z s words views place c sh at all j (Coord e) other found =
     absurd (other (sh.only j e found ∙ sym (sh.only place c at)))
 others_spent z s words views place c sh at all j (Worker v) other found =
@@ -147,12 +164,25 @@ others_spent z s words views place c sh at all j (Worker v) other found =
 others_spent z s words views place c sh at all j Spent other found = refl
 
 -- a sum over the views is then the coordinator's alone
-sum_coord : (f : View → ℕ) (z : Opening) (s : CoreState) (words : List ℕ) (views : List View) (place : ℕ) (c : CoordSeatView) → f Spent ≡ 0 → Shows z s words views → get_elem? views place ≡ some (Coord c) → ((i : ℕ) → i < c.made → seats_of i (Coord c) ≡ 1) → sum_by f views ≡ f (Coord c)
+sum_coord : (f : View → ℕ) (z : Opening) (s : CoreState) (words : List ℕ) (views : List View) (place : ℕ)
+    (c : CoordSeatView)
+    → f Spent ≡ 0
+    → Shows z s words views
+    → get_elem? views place ≡ some (Coord c)
+    → ((i : ℕ) → i < c.made → seats_of i (Coord c) ≡ 1)
+    → sum_by f views ≡ f (Coord c)
 sum_coord f z s words views place c none sh at all =
-    sum_lone f views place (Coord c) at (λ j u other found. ap f (others_spent z s words views place c sh at all j u other found) ∙ none)
+    sum_lone f views place (Coord c) at
+    (λ j u other found. ap f (others_spent z s words views place c sh at all j u other found) ∙ none)
 
 -- where all workers' seats were given back, each page's word is its count at the start and all their additions
-pub last_word : (z : Opening) (words : List ℕ) (views : List View) (place : ℕ) (c : CoordSeatView) → ShowsSome z words views → get_elem? views place ≡ some (Coord c) → ((i : ℕ) → i < c.made → seats_of i (Coord c) ≡ 1) → (page : ℕ) → page < length z.counts → get_or words (word_of page) 0 ≡ get_or z.counts page 0 + sum_by (λ w. added_to page w.additions) c.joined
+pub last_word : (z : Opening) (words : List ℕ) (views : List View) (place : ℕ) (c : CoordSeatView)
+    → ShowsSome z words views
+    → get_elem? views place ≡ some (Coord c)
+    → ((i : ℕ) → i < c.made → seats_of i (Coord c) ≡ 1)
+    → (page : ℕ)
+    → page < length z.counts
+    → get_or words (word_of page) 0 ≡ get_or z.counts page 0 + sum_by (λ w. added_to page w.additions) c.joined
 last_word z words views place c some_state at all page on =
     let s = some_state.state in
     let sh = some_state.shows in
@@ -162,18 +192,29 @@ last_word z words views place c some_state at all page on =
     omega arith
 
 -- and each count that was read or glanced at lies between what they have added
-pub last_reads : (z : Opening) (words : List ℕ) (views : List View) (place : ℕ) (c : CoordSeatView) → (shows : ShowsSome z words views) → get_elem? views place ≡ some (Coord c) → ((i : ℕ) → i < c.made → seats_of i (Coord c) ≡ 1) → (j : ℕ) (w : WorkerSeatView) → get_elem? c.joined j ≡ some w → HaveBetween z.counts (λ phase page. before_in phase page (Coord c)) shows.state.phase w
+pub last_reads : (z : Opening) (words : List ℕ) (views : List View) (place : ℕ) (c : CoordSeatView)
+    → (shows : ShowsSome z words views)
+    → get_elem? views place ≡ some (Coord c)
+    → ((i : ℕ) → i < c.made → seats_of i (Coord c) ≡ 1)
+    → (j : ℕ) (w : WorkerSeatView)
+    → get_elem? c.joined j ≡ some w
+    → HaveBetween z.counts (λ phase page. before_in phase page (Coord c)) shows.state.phase w
 last_reads z words views place c some_state at all j w found =
     let s = some_state.state in
     let sh = some_state.shows in
-    let lone : (k p : ℕ) → all_before views k p ≡ before_in k p (Coord c) = λ k p. sum_coord (before_in k p) z s words views place c refl sh at all in
+    let lone : (k p : ℕ) → all_before views k p ≡ before_in k p (Coord c) =
+    λ k p. sum_coord (before_in k p) z s words views place c refl sh at all in
     both_between_on z.counts (all_before views) (λ k p. before_in k p (Coord c)) s.phase s.phase w (omega arith)
     (λ k p _. (let e = lone k p in omega arith))
     (λ k p. (let e = lone k p in omega arith))
     (sh.reads place (Coord c) at j w found)
 
 -- and each count that the coordinator read is the one at the start and what they have added up to its phase
-pub last_counted : (z : Opening) (words : List ℕ) (views : List View) (place : ℕ) (c : CoordSeatView) → ShowsSome z words views → get_elem? views place ≡ some (Coord c) → ((i : ℕ) → i < c.made → seats_of i (Coord c) ≡ 1) → All (IsCounted z.counts (λ phase page. before_in phase page (Coord c))) c.counted
+pub last_counted : (z : Opening) (words : List ℕ) (views : List View) (place : ℕ) (c : CoordSeatView)
+    → ShowsSome z words views
+    → get_elem? views place ≡ some (Coord c)
+    → ((i : ℕ) → i < c.made → seats_of i (Coord c) ≡ 1)
+    → All (IsCounted z.counts (λ phase page. before_in phase page (Coord c))) c.counted
 last_counted z words views place c some_state at all =
     let s = some_state.state in
     let sh = some_state.shows in
@@ -185,7 +226,15 @@ last_counted z words views place c some_state at all =
     (of_coord z s words views place c sh at).1
 
 -- and the stretches of what they have added tile the counts of each page, and all their calls have their places
-pub last_places : (z : Opening) (words : List ℕ) (views : List View) (place : ℕ) (c : CoordSeatView) (last : ℕ → ℕ) (counting : Counting) → ShowsSome z words views → get_elem? views place ≡ some (Coord c) → ((i : ℕ) → i < c.made → seats_of i (Coord c) ≡ 1) → ((page : ℕ) → slice_index z.counts page + paged page (Coord c) ≡ last page) → ((test : Addition → Bool) → passing test (Coord c) ≡ counting test) → AreTiles (slice_index z.counts) last counting × ((j : ℕ) (w : WorkerSeatView) → get_elem? c.joined j ≡ some w → HavePlaced (slice_index z.counts) counting w)
+pub last_places : (z : Opening) (words : List ℕ) (views : List View) (place : ℕ) (c : CoordSeatView) (last : ℕ → ℕ)
+    (counting : Counting)
+    → ShowsSome z words views
+    → get_elem? views place ≡ some (Coord c)
+    → ((i : ℕ) → i < c.made → seats_of i (Coord c) ≡ 1)
+    → ((page : ℕ) → slice_index z.counts page + paged page (Coord c) ≡ last page)
+    → ((test : Addition → Bool) → passing test (Coord c) ≡ counting test)
+    → AreTiles (slice_index z.counts) last counting
+    × ((j : ℕ) (w : WorkerSeatView) → get_elem? c.joined j ≡ some w → HavePlaced (slice_index z.counts) counting w)
 last_places z words views place c last counting some_state at all last_is same =
     let s = some_state.state in
     let sh = some_state.shows in
@@ -194,7 +243,8 @@ last_places z words views place c last counting some_state at all last_is same =
     λ test. sym (sum_coord (passing test) z s words views place c refl sh at all ∙ same test)
     in
     let ends : (page : ℕ) → last page ≡ count_after z.counts views page =
-    λ page. (let e = last_is page in let one = sum_coord (paged page) z s words views place c refl sh at all in omega arith)
+    λ page. (let e = last_is page in
+    let one = sum_coord (paged page) z s words views place c refl sh at all in omega arith)
     in (
       tiles_on (slice_index z.counts) (count_after z.counts views) last (all_passing views) counting ends lone p.tiles,
       λ j w found.
@@ -204,11 +254,17 @@ last_places z words views place c last counting some_state at all last_is same =
     )
 
 -- and nothing that they have added is of a later phase
-pub last_past : (z : Opening) (words : List ℕ) (views : List View) (place : ℕ) (c : CoordSeatView) → ShowsSome z words views → get_elem? views place ≡ some (Coord c) → ((i : ℕ) → i < c.made → seats_of i (Coord c) ≡ 1) → (page : ℕ) → before_in (c.phase + 1) page (Coord c) ≡ paged page (Coord c)
+pub last_past : (z : Opening) (words : List ℕ) (views : List View) (place : ℕ) (c : CoordSeatView)
+    → ShowsSome z words views
+    → get_elem? views place ≡ some (Coord c)
+    → ((i : ℕ) → i < c.made → seats_of i (Coord c) ≡ 1)
+    → (page : ℕ)
+    → before_in (c.phase + 1) page (Coord c) ≡ paged page (Coord c)
 last_past z words views place c some_state at all page =
     let s = some_state.state in
     let sh = some_state.shows in
     let old : FitsCoord z s c = sh.each place (Coord c) at in
     let phase = old.phase in
     sym (sum_coord (before_in (c.phase + 1) page) z s words views place c refl sh at all) ∙
-    (some_state.tallied.past (c.phase + 1) page (omega arith) ∙ sum_coord (paged page) z s words views place c refl sh at all)
+    (some_state.tallied.past (c.phase + 1) page (omega arith)
+    ∙ sum_coord (paged page) z s words views place c refl sh at all)

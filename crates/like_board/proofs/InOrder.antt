@@ -20,12 +20,16 @@ module _ {A : Type 0} where
   std_element (y ∷ ys) zero x at = λ m. Some (some-injective y x at m)
   std_element (y ∷ ys) (suc i) x at = std_element ys i x at
 
-pub all_in_order : (seats : List WorkerSeat) (workers : ℕ) → length seats ≡ workers → ((k : ℕ) (seat : WorkerSeat) → slice_get seats k ≡ Some seat → (seat_meaning seat).worker ≡ k) → AreAll workers seats
+pub all_in_order : (seats : List WorkerSeat) (workers : ℕ)
+    → length seats ≡ workers
+    → ((k : ℕ) (seat : WorkerSeat) → slice_get seats k ≡ Some seat → (seat_meaning seat).worker ≡ k)
+    → AreAll workers seats
 all_in_order seats workers sized each i below =
     let here = element seats i (omega arith) in
     let f : WorkerSeat → ℕ = λ seat. cond ((seat_meaning seat).worker == i) 1 0 in
     let own : (seat_meaning here.0).worker ≡ i = each i here.0 (std_element seats i here.0 here.1) in
-    let one : f here.0 ≡ 1 = cond-true ((seat_meaning here.0).worker == i) 1 0 (eq-eqb (seat_meaning here.0).worker i own) in
+    let one : f here.0 ≡ 1 =
+    cond-true ((seat_meaning here.0).worker == i) 1 0 (eq-eqb (seat_meaning here.0).worker i own) in
     sum_lone f seats i here.0 here.1
     (λ j seat other at.
     cond-false ((seat_meaning seat).worker == i) 1 0

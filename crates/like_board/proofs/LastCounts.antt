@@ -41,7 +41,8 @@ module _ {A : Type 0} (f g : A → ℕ) (less : (x : A) → f x ≤ g x) where
       omega (arith, sum_by-cons f x xs, sum_by-cons g x xs)
 
   -- where they are the same, so is each part
-  same_parts : (xs : List A) → sum_by f xs ≡ sum_by g xs → (k : ℕ) (d : A) → k < length xs → f (get_or xs k d) ≡ g (get_or xs k d)
+  same_parts : (xs : List A) → sum_by f xs ≡ sum_by g xs → (k : ℕ) (d : A) → k < length xs
+      → f (get_or xs k d) ≡ g (get_or xs k d)
   same_parts [] same k d below = absurd (omega arith)
   same_parts (x ∷ xs) same zero d below =
       let rest = sum_less xs in
@@ -53,32 +54,46 @@ module _ {A : Type 0} (f g : A → ℕ) (less : (x : A) → f x ≤ g x) where
       same_parts xs (omega (arith, sum_by-cons f x xs, sum_by-cons g x xs)) k d (omega arith)
 
 -- each part of a sum that is 0 is 0
-no_part : {A : Type 0} (f : A → ℕ) (xs : List A) → sum_by f xs ≡ 0 → (k : ℕ) (d : A) → k < length xs → f (get_or xs k d) ≡ 0
+no_part : {A : Type 0} (f : A → ℕ) (xs : List A)
+    → sum_by f xs ≡ 0
+    → (k : ℕ) (d : A)
+    → k < length xs
+    → f (get_or xs k d) ≡ 0
 no_part f [] none k d below = absurd (omega arith)
 no_part f (x ∷ xs) none zero d below = omega (arith, sum_by-cons f x xs)
 no_part f (x ∷ xs) none (suc k) d below = no_part f xs (omega (arith, sum_by-cons f x xs)) k d (omega arith)
 
 -- whether an addition is of a page, and of a phase before this: what it counts for then
-counts_before : (phase page : ℕ) (a : Addition) → cond (nat_lt a.phase phase && (a.page == page)) a.likes 0 ≤ cond (a.page == page) a.likes 0
+counts_before : (phase page : ℕ) (a : Addition)
+    → cond (nat_lt a.phase phase && (a.page == page)) a.likes 0 ≤ cond (a.page == page) a.likes 0
 counts_before phase page a = elim (cases_lt a.phase phase) [
-  | inl before ↦ let same = ap (λ (b : Bool). cond (b && (a.page == page)) a.likes 0) (lt-ltb a.phase phase before) in omega arith
-  | inr later ↦ let same = ap (λ (b : Bool). cond (b && (a.page == page)) a.likes 0) (le-ltb a.phase phase later) in omega arith
+  | inl before ↦ let same = ap (λ (b : Bool). cond (b && (a.page == page)) a.likes 0) (lt-ltb a.phase phase before) in
+      omega arith
+  | inr later ↦ let same = ap (λ (b : Bool). cond (b && (a.page == page)) a.likes 0) (le-ltb a.phase phase later) in
+      omega arith
 ]
 
 -- additions that all have likes, and that all count up to a phase, are of no later phase
-added_within : (phase : ℕ) (additions : List Addition) → count_by is_empty additions ≡ 0 → ((page : ℕ) → added_before (phase + 1) page additions ≡ added_to page additions) → All (λ a. a.phase ≤ phase) additions
+added_within : (phase : ℕ) (additions : List Addition)
+    → count_by is_empty additions ≡ 0
+    → ((page : ℕ) → added_before (phase + 1) page additions ≡ added_to page additions)
+    → All (λ a. a.phase ≤ phase) additions
 added_within phase additions with_likes same k d below =
     let a : Addition = get_or additions k d in
     let part : cond (nat_lt a.phase (phase + 1) && (a.page == a.page)) a.likes 0 ≡ cond (a.page == a.page) a.likes 0 =
-    same_parts (λ (b : Addition). cond (nat_lt b.phase (phase + 1) && (b.page == a.page)) b.likes 0) (λ (b : Addition). cond (b.page == a.page) b.likes 0)
+    same_parts (λ (b : Addition). cond (nat_lt b.phase (phase + 1) && (b.page == a.page)) b.likes 0)
+    (λ (b : Addition). cond (b.page == a.page) b.likes 0)
     (counts_before (phase + 1) a.page) additions (same a.page) k d below
     in
-    let whole : cond (a.page == a.page) a.likes 0 ≡ a.likes = cond-true (a.page == a.page) a.likes 0 (eq-eqb a.page a.page refl) in
-    let counted : cond {A = ℕ} (a.likes == 0) 1 0 ≡ 0 = no_part (λ (b : Addition). cond (is_empty b) 1 0) additions with_likes k d below in
+    let whole : cond (a.page == a.page) a.likes 0 ≡ a.likes =
+    cond-true (a.page == a.page) a.likes 0 (eq-eqb a.page a.page refl) in
+    let counted : cond {A = ℕ} (a.likes == 0) 1 0 ≡ 0 =
+    no_part (λ (b : Addition). cond (is_empty b) 1 0) additions with_likes k d below in
     elim (cases_lt a.phase (phase + 1)) [
       | inl before ↦ omega arith
       | inr later ↦
-          let none : cond (nat_lt a.phase (phase + 1) && (a.page == a.page)) a.likes 0 ≡ 0 = ap (λ (b : Bool). cond (b && (a.page == a.page)) a.likes 0) (le-ltb a.phase (phase + 1) later) in
+          let none : cond (nat_lt a.phase (phase + 1) && (a.page == a.page)) a.likes 0 ≡ 0 =
+          ap (λ (b : Bool). cond (b && (a.page == a.page)) a.likes 0) (le-ltb a.phase (phase + 1) later) in
           let no_likes : a.likes ≡ 0 = omega arith in
           let one : cond {A = ℕ} (a.likes == 0) 1 0 ≡ 1 = cond-true (a.likes == 0) 1 0 (eq-eqb a.likes 0 no_likes) in
           absurd (omega arith)
@@ -99,7 +114,15 @@ module _ {A B : Type 0} (g : A → B) where
   at_mapped (x ∷ xs) (suc k) d below = at_mapped xs k d (omega arith)
 
 -- where all seats were given back, a page's word is its count at the start and what they mean to have added
-closed_word : (z : Opening) (words : List ℕ) (views : List View) (place : ℕ) (c : CoordSeatView) → ShowsSome z words views → get_elem? views place ≡ some (Coord c) → c.made ≡ c.opening.workers → ((i : ℕ) → i < c.opening.workers → seats_of i (Coord c) ≡ 1) → (page : ℕ) → page < length c.opening.counts → get_or words (word_of page) 0 ≡ get_or c.opening.counts page 0 + sum_by (λ w. additions_of (post_of w) page) c.joined
+closed_word : (z : Opening) (words : List ℕ) (views : List View) (place : ℕ) (c : CoordSeatView)
+    → ShowsSome z words views
+    → get_elem? views place ≡ some (Coord c)
+    → c.made ≡ c.opening.workers
+    → ((i : ℕ) → i < c.opening.workers → seats_of i (Coord c) ≡ 1)
+    → (page : ℕ)
+    → page < length c.opening.counts
+    → get_or words (word_of page) 0
+    ≡ get_or c.opening.counts page 0 + sum_by (λ w. additions_of (post_of w) page) c.joined
 closed_word z words views place c some_state at made all page on =
     let old : FitsCoord z some_state.state c = some_state.shows.each place (Coord c) at in
     let same : c.opening ≡ z = old.opening in
@@ -111,17 +134,31 @@ closed_word z words views place c some_state at made all page on =
     omega arith
 
 -- no worker whose seat was given back saw a later phase
-closed_phase : (z : Opening) (words : List ℕ) (views : List View) (place : ℕ) (c : CoordSeatView) → ShowsSome z words views → get_elem? views place ≡ some (Coord c) → (k : ℕ) (w : WorkerSeatView) → get_elem? c.joined k ≡ some w → IfSome w.last (λ sight. sight.number ≤ c.phase)
+closed_phase : (z : Opening) (words : List ℕ) (views : List View) (place : ℕ) (c : CoordSeatView)
+    → ShowsSome z words views
+    → get_elem? views place ≡ some (Coord c)
+    → (k : ℕ) (w : WorkerSeatView)
+    → get_elem? c.joined k ≡ some w
+    → IfSome w.last (λ sight. sight.number ≤ c.phase)
 closed_phase z words views place c some_state at k w found =
     let old : FitsCoord z some_state.state c = some_state.shows.each place (Coord c) at in
     let fits : FitsWorker z some_state.state w = old.joined k w found in
     let same = old.phase in
-    if_some w.last (λ (sight : Sight). sight.number ≤ some_state.state.phase) (λ (sight : Sight). sight.number ≤ c.phase)
+    if_some w.last (λ (sight : Sight). sight.number ≤ some_state.state.phase)
+    (λ (sight : Sight). sight.number ≤ c.phase)
     (λ sight below. omega arith)
     fits.number
 
 -- each count that a worker whose seat was given back read or glanced at lies between what all those workers have added
-closed_reads : (z : Opening) (words : List ℕ) (views : List View) (place : ℕ) (c : CoordSeatView) (before : ℕ → ℕ → ℕ) → ShowsSome z words views → get_elem? views place ≡ some (Coord c) → c.made ≡ c.opening.workers → ((i : ℕ) → i < c.opening.workers → seats_of i (Coord c) ≡ 1) → ((k p : ℕ) → before_in k p (Coord c) ≡ before k p) → (k : ℕ) (w : WorkerSeatView) → get_elem? c.joined k ≡ some w → HaveBetween c.opening.counts before c.phase w
+closed_reads : (z : Opening) (words : List ℕ) (views : List View) (place : ℕ) (c : CoordSeatView) (before : ℕ → ℕ → ℕ)
+    → ShowsSome z words views
+    → get_elem? views place ≡ some (Coord c)
+    → c.made ≡ c.opening.workers
+    → ((i : ℕ) → i < c.opening.workers → seats_of i (Coord c) ≡ 1)
+    → ((k p : ℕ) → before_in k p (Coord c) ≡ before k p)
+    → (k : ℕ) (w : WorkerSeatView)
+    → get_elem? c.joined k ≡ some w
+    → HaveBetween c.opening.counts before c.phase w
 closed_reads z words views place c before some_state at made all same k w found =
     let old : FitsCoord z some_state.state c = some_state.shows.each place (Coord c) at in
     let phase = old.phase in
@@ -133,7 +170,13 @@ closed_reads z words views place c before some_state at made all same k w found 
     reads)
 
 -- each count that the coordinator read is the one at the start and what all those workers have added up to its phase
-closed_counted : (z : Opening) (words : List ℕ) (views : List View) (place : ℕ) (c : CoordSeatView) (before : ℕ → ℕ → ℕ) → ShowsSome z words views → get_elem? views place ≡ some (Coord c) → c.made ≡ c.opening.workers → ((i : ℕ) → i < c.opening.workers → seats_of i (Coord c) ≡ 1) → ((k p : ℕ) → before_in k p (Coord c) ≡ before k p) → All (IsCounted c.opening.counts before) c.counted
+closed_counted : (z : Opening) (words : List ℕ) (views : List View) (place : ℕ) (c : CoordSeatView) (before : ℕ → ℕ → ℕ)
+    → ShowsSome z words views
+    → get_elem? views place ≡ some (Coord c)
+    → c.made ≡ c.opening.workers
+    → ((i : ℕ) → i < c.opening.workers → seats_of i (Coord c) ≡ 1)
+    → ((k p : ℕ) → before_in k p (Coord c) ≡ before k p)
+    → All (IsCounted c.opening.counts before) c.counted
 closed_counted z words views place c before some_state at made all same =
     let old : FitsCoord z some_state.state c = some_state.shows.each place (Coord c) at in
     subst (λ (y : Opening). All (IsCounted y.counts before) c.counted) (sym old.opening)
@@ -142,14 +185,29 @@ closed_counted z words views place c before some_state at made all same =
     (last_counted z words views place c some_state at (λ i below. all i (omega arith))))
 
 -- each mask that a worker whose seat was given back read is the one with which its phase was released
-closed_masks : (z : Opening) (words : List ℕ) (views : List View) (place : ℕ) (c : CoordSeatView) → ShowsSome z words views → get_elem? views place ≡ some (Coord c) → (k : ℕ) (w : WorkerSeatView) → get_elem? c.joined k ≡ some w → AreMasksOf (mask_of c.masks) w.masks
+closed_masks : (z : Opening) (words : List ℕ) (views : List View) (place : ℕ) (c : CoordSeatView)
+    → ShowsSome z words views
+    → get_elem? views place ≡ some (Coord c)
+    → (k : ℕ) (w : WorkerSeatView)
+    → get_elem? c.joined k ≡ some w
+    → AreMasksOf (mask_of c.masks) w.masks
 closed_masks z words views place c some_state at k w found =
     let old : FitsCoord z some_state.state c = some_state.shows.each place (Coord c) at in
     let fits : FitsWorker z some_state.state w = old.joined k w found in
     λ i m inside. (fits.masks i m inside).1 ∙ sym (old.masks (get_or w.masks i m).phase)
 
 -- the stretches of what those workers have added tile the counts of each page, and all their calls have their places
-closed_places : (z : Opening) (words : List ℕ) (views : List View) (place : ℕ) (c : CoordSeatView) (last : ℕ → ℕ) (counting : Counting) → ShowsSome z words views → get_elem? views place ≡ some (Coord c) → c.made ≡ c.opening.workers → ((i : ℕ) → i < c.opening.workers → seats_of i (Coord c) ≡ 1) → ((page : ℕ) → slice_index c.opening.counts page + paged page (Coord c) ≡ last page) → ((test : Addition → Bool) → passing test (Coord c) ≡ counting test) → AreTiles (slice_index c.opening.counts) last counting × ((k : ℕ) (w : WorkerSeatView) → get_elem? c.joined k ≡ some w → HavePlaced (slice_index c.opening.counts) counting w)
+closed_places : (z : Opening) (words : List ℕ) (views : List View) (place : ℕ) (c : CoordSeatView) (last : ℕ → ℕ)
+    (counting : Counting)
+    → ShowsSome z words views
+    → get_elem? views place ≡ some (Coord c)
+    → c.made ≡ c.opening.workers
+    → ((i : ℕ) → i < c.opening.workers → seats_of i (Coord c) ≡ 1)
+    → ((page : ℕ) → slice_index c.opening.counts page + paged page (Coord c) ≡ last page)
+    → ((test : Addition → Bool) → passing test (Coord c) ≡ counting test)
+    → AreTiles (slice_index c.opening.counts) last counting
+    × ((k : ℕ) (w : WorkerSeatView) → get_elem? c.joined k ≡ some w
+    → HavePlaced (slice_index c.opening.counts) counting w)
 closed_places z words views place c last counting some_state at made all last_is same =
     let old : FitsCoord z some_state.state c = some_state.shows.each place (Coord c) at in
     let P : Opening → Type 0 =
@@ -163,7 +221,13 @@ closed_places z words views place c last counting some_state at made all last_is
     same)
 
 -- the last words, phases and reads, where the coordinator's seat has all workers' seats
-pub closes : (z : Opening) (words : List ℕ) (views : List View) (place : ℕ) (v : View) (c : CoordSeatView) (seats : List WorkerSeat) → ShowsSome z words views → get_elem? views place ≡ some v → HasAllBack v c seats → IsClosed c seats × ((page : ℕ) → page < length c.opening.counts → get_or words (word_of page) 0 ≡ last_count c.opening seats page)
+pub closes : (z : Opening) (words : List ℕ) (views : List View) (place : ℕ) (v : View) (c : CoordSeatView)
+    (seats : List WorkerSeat)
+    → ShowsSome z words views
+    → get_elem? views place ≡ some v
+    → HasAllBack v c seats
+    → IsClosed c seats
+    × ((page : ℕ) → page < length c.opening.counts → get_or words (word_of page) 0 ≡ last_count c.opening seats page)
 closes z words views place v c seats shows at_view back =
     let joined : map seat_view seats ++ c.joined ≡ map seat_view seats =
     ap (λ (l : List WorkerSeatView). map seat_view seats ++ l) back.none ∙ append-nil (map seat_view seats)
@@ -179,16 +243,19 @@ closes z words views place v c seats shows at_view back =
     in
     let placed =
     closed_places z words views place d (last_count c.opening seats) (seats_passing seats) shows at back.made each
-    (λ page. ap (λ (k : ℕ). slice_index c.opening.counts page + k) (sum_by-map seat_view (λ (w : WorkerSeatView). added_to page w.additions) seats))
+    (λ page. ap (λ (k : ℕ). slice_index c.opening.counts page + k)
+    (sum_by-map seat_view (λ (w : WorkerSeatView). added_to page w.additions) seats))
     (λ test. sum_by-map seat_view (λ (w : WorkerSeatView). count_by test w.additions) seats)
     in
-    let between : All (λ (s : WorkerSeat). HaveBetween c.opening.counts (seats_before seats) c.phase (seat_view s)) seats =
+    let between : All
+    (λ (s : WorkerSeat). HaveBetween c.opening.counts (seats_before seats) c.phase (seat_view s)) seats =
     λ k seat below.
     closed_reads z words views place d (seats_before seats) shows at back.made each added
     k (seat_view (get_or seats k seat)) (at_mapped seat_view seats k seat below)
     in
     let old : FitsCoord z shows.state d = shows.shows.each place (Coord d) at in
-    let past : (page : ℕ) → seats_before seats (c.phase + 1) page ≡ sum_by (λ seat. additions_of (seat_meaning seat) page) seats =
+    let past : (page : ℕ)
+    → seats_before seats (c.phase + 1) page ≡ sum_by (λ seat. additions_of (seat_meaning seat) page) seats =
     λ page.
     let made = back.made in
     sym (added (c.phase + 1) page) ∙
@@ -196,31 +263,40 @@ closes z words views place v c seats shows at_view back =
     sum_by-map seat_view (λ (w : WorkerSeatView). added_to page w.additions) seats)
     in (
       record {
-        few_pages = subst (λ (y : Opening). length y.counts ≤ max_pages) (sym old.opening) shows.shows.opening.few_pages;
+        few_pages = subst (λ (y : Opening). length y.counts ≤ max_pages)
+            (sym old.opening) shows.shows.opening.few_pages;
         phases = λ k seat below.
-            closed_phase z words views place d shows at k (seat_view (get_or seats k seat)) (at_mapped seat_view seats k seat below);
+            closed_phase z words views place d shows at k (seat_view (get_or seats k seat))
+            (at_mapped seat_view seats k seat below);
         added = λ k seat below.
             added_within c.phase (seat_view (get_or seats k seat)).additions
             (no_part (λ (s : WorkerSeat). count_by is_empty (seat_view s).additions) seats placed.0.some k seat below)
             (λ page.
-            same_parts (λ (s : WorkerSeat). added_before (c.phase + 1) page (seat_view s).additions) (λ (s : WorkerSeat). added_to page (seat_view s).additions)
-            (λ s. sum_less (λ (a : Addition). cond (nat_lt a.phase (c.phase + 1) && (a.page == page)) a.likes 0) (λ (a : Addition). cond (a.page == page) a.likes 0) (counts_before (c.phase + 1) page) (seat_view s).additions)
+            same_parts (λ (s : WorkerSeat). added_before (c.phase + 1) page (seat_view s).additions)
+            (λ (s : WorkerSeat). added_to page (seat_view s).additions)
+            (λ s. sum_less (λ (a : Addition). cond (nat_lt a.phase (c.phase + 1) && (a.page == page)) a.likes 0)
+            (λ (a : Addition). cond (a.page == page) a.likes 0) (counts_before (c.phase + 1) page)
+            (seat_view s).additions)
             seats (past page) k seat below);
         stand = λ k seat below. (between k seat below).2;
         reads = λ k seat below. (between k seat below).0;
         glances = λ k seat below. (between k seat below).1;
         counted = closed_counted z words views place d (seats_before seats) shows at back.made each added;
         masks = λ k seat below.
-            closed_masks z words views place d shows at k (seat_view (get_or seats k seat)) (at_mapped seat_view seats k seat below);
+            closed_masks z words views place d shows at k (seat_view (get_or seats k seat))
+            (at_mapped seat_view seats k seat below);
         places = record {
           tiles = placed.0;
-          each = λ k seat below. (placed.1 k (seat_view (get_or seats k seat)) (at_mapped seat_view seats k seat below)).0;
-          glanced = λ k seat below. (placed.1 k (seat_view (get_or seats k seat)) (at_mapped seat_view seats k seat below)).1;
+          each = λ k seat
+              below. (placed.1 k (seat_view (get_or seats k seat)) (at_mapped seat_view seats k seat below)).0;
+          glanced = λ k seat
+              below. (placed.1 k (seat_view (get_or seats k seat)) (at_mapped seat_view seats k seat below)).1;
         };
       },
       λ page on.
           closed_word z words views place d shows at back.made each page on ∙
-          ap (λ (k : ℕ). get_or c.opening.counts page 0 + k) (sum_by-map seat_view (λ (w : WorkerSeatView). additions_of (post_of w) page) seats),
+          ap (λ (k : ℕ). get_or c.opening.counts page 0 + k)
+          (sum_by-map seat_view (λ (w : WorkerSeatView). additions_of (post_of w) page) seats),
     )
 
 -- a view that is some coordinator's is the coordinator's that it is read as

@@ -9,7 +9,8 @@ abbrev pub at_board : List ℕ → PostView → PostView
 at_board board v = record v { board = board }
 
 pub may_add : (board : List ℕ) (v : PostView) (page n : ℕ) → MayAdd (at_board board v) page n → MayAdd v page n
-may_add board v page n m = record { runs = m.runs; there = m.there; known = m.known; like = m.like; merge = m.merge; few = m.few }
+may_add board v page n m =
+    record { runs = m.runs; there = m.there; known = m.known; like = m.like; merge = m.merge; few = m.few }
 
 pub may_read : (board : List ℕ) (v : PostView) (page : ℕ) → MayRead (at_board board v) page → MayRead v page
 may_read board v page m = record { runs = m.runs; there = m.there; known = m.known; plain = m.plain }

@@ -36,17 +36,31 @@ start_fields : (z : Opening) → shown_fields z (start z) ≡ first_fields z.wor
 start_fields z =
     let P : WorkerState → Type 0 = λ st. has_answered 0 st ≡ false in
     let Q : WorkerState → Type 0 = λ st. is_gone st ≡ false in
-    let runs : (i : ℕ) → i < z.workers → (start z).state i ≡ Runs 0 = λ i below. cond-true (nat_lt i z.workers) (Runs 0) Gone (lt-ltb i z.workers below) in
+    let runs : (i : ℕ) → i < z.workers → (start z).state i ≡ Runs 0 =
+    λ i below. cond-true (nat_lt i z.workers) (Runs 0) Gone (lt-ltb i z.workers below) in
     let answered : mask (λ i. has_answered 0 ((start z).state i)) z.workers ≡ 0 =
     mask_none (λ i. has_answered 0 ((start z).state i)) z.workers (λ i below. ap (has_answered 0) (runs i below))
     in
     let retired : mask (λ i. is_gone ((start z).state i)) z.workers ≡ 0 =
     mask_none (λ i. is_gone ((start z).state i)) z.workers (λ i below. ap is_gone (runs i below))
     in
-    λ m. record { kind = 0; workers = z.workers; answered = answered m; retired = retired m; number = zero-mod z.limits.modulus m }
+    λ m. record {
+      kind =
+          0;
+      workers = z.workers;
+      answered = answered m;
+      retired = retired m;
+      number = zero-mod z.limits.modulus m;
+    }
 
 -- a new board shows the core's start
-pub opens : (z : Opening) (words : List ℕ) → IsOpening z → length words ≡ word_of (length z.counts) → get_or words 0 0 ≡ packed (first_fields z.workers) → ((page : ℕ) → page < length z.counts → get_or words (word_of page) 0 ≡ get_or z.counts page 0) → get_or words mask_place 0 ≡ 0 → ShowsSome z words (Coord (fresh_coord z (packed (first_fields z.workers))) ∷ [])
+pub opens : (z : Opening) (words : List ℕ)
+    → IsOpening z
+    → length words ≡ word_of (length z.counts)
+    → get_or words 0 0 ≡ packed (first_fields z.workers)
+    → ((page : ℕ) → page < length z.counts → get_or words (word_of page) 0 ≡ get_or z.counts page 0)
+    → get_or words mask_place 0 ≡ 0
+    → ShowsSome z words (Coord (fresh_coord z (packed (first_fields z.workers))) ∷ [])
 opens z words opening width word pages mask_word =
     let c : CoordSeatView = fresh_coord z (packed (first_fields z.workers)) in
     let fits : FitsCoord z (start z) c =
@@ -90,18 +104,21 @@ opens z words opening width word pages mask_word =
       places = places_open z.counts c refl;
     }
   where
-    only_first : (c : CoordSeatView) (place : ℕ) (d : CoordSeatView) → get_elem? (Coord c ∷ []) place ≡ some (Coord d) → place ≡ 0
+    only_first : (c : CoordSeatView) (place : ℕ) (d : CoordSeatView) → get_elem? (Coord c ∷ []) place ≡ some (Coord d)
+        → place ≡ 0
     only_first c zero d at = refl
     only_first c (suc place) d at = absurd (some-ne-none (Coord d) (sym at))
 
-    each_first : (z : Opening) (c : CoordSeatView) → FitsCoord z (start z) c → (place : ℕ) (v : View) → get_elem? (Coord c ∷ []) place ≡ some v → Fits z (start z) v
+    each_first : (z : Opening) (c : CoordSeatView) → FitsCoord z (start z) c → (place : ℕ) (v : View)
+        → get_elem? (Coord c ∷ []) place ≡ some v → Fits z (start z) v
     each_first z c fits zero v at = subst (Fits z (start z)) (some-injective (Coord c) v at) fits
     each_first z c fits (suc place) v at = absurd (some-ne-none v (sym at))
 
     no_reads : (z : Opening) (c : CoordSeatView) → c.joined ≡ [] → ReadsFit z.counts 0 (Coord c ∷ [])
     no_reads z c none zero v at =
         let has : HasReads z.counts (all_before (Coord c ∷ [])) 0 (Coord c) =
-        λ place w found. absurd (some-ne-none w (sym (sym (ap (λ (l : List WorkerSeatView). get_elem? l place) none) ∙ found)))
+        λ place w found. absurd (some-ne-none w
+        (sym (sym (ap (λ (l : List WorkerSeatView). get_elem? l place) none) ∙ found)))
         in
         subst (HasReads z.counts (all_before (Coord c ∷ [])) 0) (some-injective (Coord c) v at) has
     no_reads z c none (suc place) v at = absurd (some-ne-none v (sym at))
@@ -115,8 +132,21 @@ AreFirst words word counts =
     × (get_or words mask_place 0 ≡ 0)
 
 -- a table that is made with these words starts by the rule
-pub opens_key : (key : Key) (counts : List ℕ) (marks : List Bool) (word : ℕ) (items words : List ℕ) → key.counts.items ≡ counts → key.marks.items ≡ marks → word ≡ packed (first_fields key.workers) → words ≡ items → AreFirst items word counts → 1 ≤ key.workers → key.workers ≤ max_workers → length marks ≡ length counts → length counts ≤ max_pages → All (λ n. n ≤ max_count) counts → AreLimits key.limits → ShowsSome (opening_of key) words (first_view key ∷ [])
-opens_key key counts marks word items words counts_are marks_are word_is words_are first some_worker few_workers same_pages few_pages low lawful =
+pub opens_key : (key : Key) (counts : List ℕ) (marks : List Bool) (word : ℕ) (items words : List ℕ)
+    → key.counts.items ≡ counts
+    → key.marks.items ≡ marks
+    → word ≡ packed (first_fields key.workers)
+    → words ≡ items
+    → AreFirst items word counts
+    → 1 ≤ key.workers
+    → key.workers ≤ max_workers
+    → length marks ≡ length counts
+    → length counts ≤ max_pages
+    → All (λ n. n ≤ max_count) counts
+    → AreLimits key.limits
+    → ShowsSome (opening_of key) words (first_view key ∷ [])
+opens_key key counts marks word items words counts_are marks_are word_is words_are first some_worker few_workers
+    same_pages few_pages low lawful =
     let z : Opening = opening_of key in
     let sized : length key.counts.items ≡ length counts = ap length counts_are in
     let opening : IsOpening z =

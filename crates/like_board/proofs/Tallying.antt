@@ -19,7 +19,15 @@ use Rattle.like_core.proofs.views.KeptPlaces.{placed_nothing, places_push, place
 use Rattle.like_core.proofs.views.ViewLists.{sum_set, sum_swap}
 
 -- after a step that applies no like, with a new view that has the same additions
-pub tallied_on : (likes : ℕ) (s t : CoreState) (views : List View) (place : ℕ) (a b : View) → s.phase ≤ t.phase → ((page : ℕ) → t.applied page ≡ s.applied page) → get_elem? views place ≡ some a → ((page : ℕ) → paged page b ≡ paged page a) → ((page : ℕ) → room likes page b ≡ room likes page a) → ((phase page : ℕ) → before_in phase page b ≡ before_in phase page a) → Tallied likes s views → Tallied likes t (set views place b)
+pub tallied_on : (likes : ℕ) (s t : CoreState) (views : List View) (place : ℕ) (a b : View)
+    → s.phase ≤ t.phase
+    → ((page : ℕ) → t.applied page ≡ s.applied page)
+    → get_elem? views place ≡ some a
+    → ((page : ℕ) → paged page b ≡ paged page a)
+    → ((page : ℕ) → room likes page b ≡ room likes page a)
+    → ((phase page : ℕ) → before_in phase page b ≡ before_in phase page a)
+    → Tallied likes s views
+    → Tallied likes t (set views place b)
 tallied_on likes s t views place a b on applied at same_pages same_rooms same_before old = record {
   sums = λ page.
       ap (λ (l : List Label). length l) (applied page) ∙
@@ -35,14 +43,20 @@ tallied_on likes s t views place a b on applied at same_pages same_rooms same_be
 }
 
 -- so much room has one more worker
-room_of_one : (likes made : ℕ) → made < max_workers → likes * (max_workers - made) ≡ likes * (max_workers - (made + 1)) + likes
+room_of_one : (likes made : ℕ)
+    → made < max_workers
+    → likes * (max_workers - made) ≡ likes * (max_workers - (made + 1)) + likes
 room_of_one likes made few =
     let rest : ℕ = max_workers - (made + 1) in
     let more : max_workers - made ≡ suc rest = omega arith in
     ap (λ k. likes * k) more ∙ mul-suc likes rest
 
 -- after a worker's seat was made
-pub tallied_made : (z : Opening) (s : CoreState) (views : List View) (place : ℕ) (c : CoordSeatView) → get_elem? views place ≡ some (Coord c) → c.made < 16 → Tallied z.limits.likes s views → Tallied z.limits.likes s (set views place (Coord (made_coord c)) ++ Worker (fresh z c.made) ∷ [])
+pub tallied_made : (z : Opening) (s : CoreState) (views : List View) (place : ℕ) (c : CoordSeatView)
+    → get_elem? views place ≡ some (Coord c)
+    → c.made < 16
+    → Tallied z.limits.likes s views
+    → Tallied z.limits.likes s (set views place (Coord (made_coord c)) ++ Worker (fresh z c.made) ∷ [])
 tallied_made z s views place c at few old =
     let d : CoordSeatView = made_coord c in
     let new : View = Worker (fresh z c.made) in
@@ -73,10 +87,14 @@ tallied_made z s views place c at few old =
     }
 
 -- places tile after a worker's seat was made
-pub places_made : (z : Opening) (views : List View) (place : ℕ) (c : CoordSeatView) → get_elem? views place ≡ some (Coord c) → PlacesTile z.counts views → PlacesTile z.counts (set views place (Coord (made_coord c)) ++ Worker (fresh z c.made) ∷ [])
+pub places_made : (z : Opening) (views : List View) (place : ℕ) (c : CoordSeatView)
+    → get_elem? views place ≡ some (Coord c)
+    → PlacesTile z.counts views
+    → PlacesTile z.counts (set views place (Coord (made_coord c)) ++ Worker (fresh z c.made) ∷ [])
 places_made z views place c at old =
     let d : CoordSeatView = made_coord c in
     let new : View = Worker (fresh z c.made) in
     let changed : List View = set views place (Coord d) in
-    places_push z.counts changed new (λ _. refl) (λ _. refl) (λ first f. (placed_nothing first f, placed_nothing first f)) (λ j u found. at_snoc changed new u j found)
+    places_push z.counts changed new (λ _. refl) (λ _. refl)
+    (λ first f. (placed_nothing first f, placed_nothing first f)) (λ j u found. at_snoc changed new u j found)
     (places_same z.counts views place (Coord c) (Coord d) at (λ _. refl) (λ _. refl) (λ _ _ has. has) old)

@@ -7,8 +7,13 @@ use Rattle.like_c.specs.declared.rows.RequestRow.{RequestRow}
 use Rattle.like_c.specs.Held.{AnswersRow, IsToWait, RowsAnswered}
 
 -- one row more
-rows-push : (i : ℕ) (requests : List RequestRow) (rows : List AnswerRow) (v now after : LiveView) (r : RequestRow) (a : AnswerRow)
-    → slice_get requests i ≡ Some r → i < length rows → RowsAnswered v (take i requests) (take i rows) now → AnswersRow now r a after → ¬ IsToWait a
+rows-push : (i : ℕ) (requests : List RequestRow) (rows : List AnswerRow) (v now after : LiveView) (r : RequestRow)
+    (a : AnswerRow)
+    → slice_get requests i ≡ Some r
+    → i < length rows
+    → RowsAnswered v (take i requests) (take i rows) now
+    → AnswersRow now r a after
+    → ¬ IsToWait a
     → RowsAnswered v (take (suc i) requests) (take (suc i) (set rows i a)) after
 rows-push i [] rows v now after r a at there done d not = cc
 rows-push i (x ∷ requests) [] v now after r a at there done d not = absurd (omega arith)
@@ -18,12 +23,18 @@ rows-push zero (x ∷ requests) (y ∷ rows) v now after r a at there done d not
 rows-push (suc i) (x ∷ requests) (y ∷ rows) v now after r a at there done d not =
     (done.0, (done.1.0, done.1.1, rows-push i requests rows done.0 now after r a at (omega arith) done.1.2 d not))
 
-pub rows-more : (i : ℕ) (requests : List RequestRow) (rows : List AnswerRow) (v now after : LiveView) (r : RequestRow) (a : AnswerRow)
-    → slice_get requests i ≡ Some r → i < length rows → RowsAnswered v (take i requests) (take i rows) now → AnswersRow now r a after → ¬ IsToWait a
+pub rows-more : (i : ℕ) (requests : List RequestRow) (rows : List AnswerRow) (v now after : LiveView) (r : RequestRow)
+    (a : AnswerRow)
+    → slice_get requests i ≡ Some r
+    → i < length rows
+    → RowsAnswered v (take i requests) (take i rows) now
+    → AnswersRow now r a after
+    → ¬ IsToWait a
     → RowsAnswered v (take (i + 1) requests) (take (i + 1) (set rows i a)) after
 rows-more i requests rows v now after r a at there done d not =
     let next : suc i ≡ i + 1 = omega arith in
-    subst (λ n. RowsAnswered v (take n requests) (take n (set rows i a)) after) next (rows-push i requests rows v now after r a at there done d not)
+    subst (λ n. RowsAnswered v (take n requests) (take n (set rows i a)) after) next
+    (rows-push i requests rows v now after r a at there done d not)
 
 -- a row that was written is there
 pub set-there : (i : ℕ) (rows : List AnswerRow) (a : AnswerRow) → i < length rows → slice_get (set rows i a) i ≡ Some a

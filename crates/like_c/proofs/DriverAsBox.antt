@@ -12,7 +12,14 @@ use Rattle.like_c.specs.contracts.parts.Parts as Parts
 use Rattle.like_c.specs.contracts.held_driver.HeldDriver as Sealed
 
 abbrev pub E : Bx
-E = record { row = Home.the_row; laws = home.the_row_laws; al = record { row = Heap.the_row; laws = heap.the_row_laws; g = ghosts; d = dict; drops = impl [] tnil dnil } }
+E = record {
+  row =
+      Home.the_row;
+  laws =
+      home.the_row_laws;
+  al =
+      record { row = Heap.the_row; laws = heap.the_row_laws; g = ghosts; d = dict; drops = impl [] tnil dnil };
+}
 
 abbrev pub FromParts : Slot 0
 FromParts = plain (λ _. Parts.the_row Home.the_row Heap.the_row ghosts)

@@ -25,7 +25,9 @@ valued old new r names is was = record {
   local = ap (λ (a : Arg). a.global) is ∙ was.local;
 }
 
-pub acting : (old new : Arg) (r : Rule) (action : Option ArgAction) → new ≡ record old { action = action } → IsArgument r old
+pub acting : (old new : Arg) (r : Rule) (action : Option ArgAction)
+    → new ≡ record old { action = action }
+    → IsArgument r old
     → IsArgument (record r { action = action }) new
 acting old new r action is was = record {
   rule_is = ap rule_of is ∙ ap (λ (x : Rule). record x { action = action }) was.rule_is;
@@ -39,13 +41,18 @@ parsing old new r parser is given was = record {
   local = ap (λ (a : Arg). a.global) is ∙ was.local;
 }
 
-pub needed : (old new : Arg) (r : Rule) → new ≡ record old { required = true } → IsArgument r old → IsArgument (record r { required = true }) new
+pub needed : (old new : Arg) (r : Rule)
+    → new ≡ record old { required = true }
+    → IsArgument r old
+    → IsArgument (record r { required = true }) new
 needed old new r is was = record {
   rule_is = ap rule_of is ∙ ap (λ (x : Rule). record x { required = true }) was.rule_is;
   local = ap (λ (a : Arg). a.global) is ∙ was.local;
 }
 
-pub defaulted : (old new : Arg) (r : Rule) (values : Texts) → new ≡ record old { default_vals = values } → IsArgument r old
+pub defaulted : (old new : Arg) (r : Rule) (values : Texts)
+    → new ≡ record old { default_vals = values }
+    → IsArgument r old
     → IsArgument (record r { defaults = texts (items_of values) }) new
 defaulted old new r values is was = record {
   rule_is = ap rule_of is ∙ ap (λ (x : Rule). record x { defaults = texts (items_of values) }) was.rule_is;
@@ -53,11 +60,19 @@ defaulted old new r values is was = record {
 }
 
 -- what is said of an argument in its help changes nothing else of it
-pub helped : (old new : Arg) (r : Rule) (text : Option (Bor Text)) → new ≡ record old { help = text } → IsArgument r old → IsArgument r new
-helped old new r text is was = record { rule_is = ap rule_of is ∙ was.rule_is; local = ap (λ (a : Arg). a.global) is ∙ was.local }
+pub helped : (old new : Arg) (r : Rule) (text : Option (Bor Text))
+    → new ≡ record old { help = text }
+    → IsArgument r old
+    → IsArgument r new
+helped old new r text is was =
+    record { rule_is = ap rule_of is ∙ was.rule_is; local = ap (λ (a : Arg). a.global) is ∙ was.local }
 
 -- one more argument is one more rule
-pub added : (old new : Command) (a : Arg) (r : Rule) (s : App) → AddsArg old a new → IsArgument r a → IsCommand s old → IsCommand (with_rule s r) new
+pub added : (old new : Command) (a : Arg) (r : Rule) (s : App)
+    → AddsArg old a new
+    → IsArgument r a
+    → IsCommand s old
+    → IsCommand (with_rule s r) new
 added old new a r s h argument was = record {
   app_is = h.shape argument.local ∙ ap₂ with_rule was.app_is argument.rule_is;
   local = h.globals ∙ (ap (λ b. b || a.global) was.local ∙ ap (λ b. false || b) argument.local);
@@ -68,6 +83,9 @@ pub subcommand : (c : Command) (s : App) → IsCommand s c → IsSubcommand s.to
 subcommand c s is = record { shape_is = ap (λ (a : App). a.top) is.app_is; local = is.local }
 
 -- one more subcommand
-pub sub_added : (old sub new : Command) (shape : Shape) (s : App) → AddsSubcommand old sub new → IsSubcommand shape sub → app_of old ≡ s
+pub sub_added : (old sub new : Command) (shape : Shape) (s : App)
+    → AddsSubcommand old sub new
+    → IsSubcommand shape sub
+    → app_of old ≡ s
     → app_of new ≡ with_subcommand s shape
 sub_added old sub new shape s h is was = h.shape is.local ∙ ap₂ with_subcommand was is.shape_is

@@ -91,7 +91,8 @@ good_at : (c : List Rule) (id : Text) (change : Row → List Row) (missing rows 
 good_at c id change missing [] g changes m = m
 good_at c id change missing (r ∷ rs) g changes m = go (bytes_eq r.id id) (good_at c id change missing rs g.1 changes m)
   where
-    go : (b : Bool) → Good c (at_row id change missing rs) → Good c (cond b (change r ++ rs) (r ∷ at_row id change missing rs))
+    go : (b : Bool) → Good c (at_row id change missing rs)
+        → Good c (cond b (change r ++ rs) (r ∷ at_row id change missing rs))
     go true rest = good_append c (change r) rs (changes r g.0) g.1
     go false rest = (g.0, rest)
 
@@ -103,16 +104,27 @@ first_append a [] ys h = absurd h
 first_append a (x ∷ xs) ys h = h
 
 -- more values of an argument that was used
-good_more : (c : List Rule) (s : ValueSource) (values : List Text) (r : Row) → GoodRow c r → Good c (more_values s values r)
-good_more c s values r g = ((λ a is. record { first = first_append a r.values values (g a is).first; reading = (g a is).reading }), tt)
+good_more : (c : List Rule) (s : ValueSource) (values : List Text) (r : Row)
+    → GoodRow c r
+    → Good c (more_values s values r)
+good_more c s values r g =
+    ((λ a is. record { first = first_append a r.values values (g a is).first; reading = (g a is).reading }), tt)
 
 -- values of an argument, where the first passes
-good_values : (c : List Rule) (a : Rule) (s : ValueSource) (values : List Text) (rows : List Row) → arg_by_id c a.id ≡ Some a → FirstPasses a values → Good c rows
+good_values : (c : List Rule) (a : Rule) (s : ValueSource) (values : List Text) (rows : List Row)
+    → arg_by_id c a.id ≡ Some a
+    → FirstPasses a values
+    → Good c rows
     → Good c (with_values a.id (reading_by a) s values rows)
 good_values c a s values rows own first g =
-    good_at c a.id (more_values s values) (record { id = a.id; values = values; count = None; source = Some s; reading = reading_by a } ∷ []) rows g
-    (good_more c s values)
-    ((λ b is. subst (λ x. IsGood x (record { id = a.id; values = values; count = None; source = Some s; reading = reading_by a })) (same_Some a b (sym own ∙ is)) (record { first = first; reading = refl })), tt)
+    good_at c a.id (more_values s values)
+    (record { id = a.id; values = values; count = None; source = Some s; reading = reading_by a } ∷ []) rows g
+    (good_more c s values) (
+      (λ b is. subst (λ x. IsGood x
+          (record { id = a.id; values = values; count = None; source = Some s; reading = reading_by a }))
+          (same_Some a b (sym own ∙ is)) (record { first = first; reading = refl })),
+      tt,
+    )
 
 first_of_all : (a : Rule) (v : Text) (vs : List Text) → values_fault a (v ∷ vs) ≡ [] → FirstPasses a (v ∷ vs)
 first_of_all a v vs h = (neither _ _ h).0
@@ -124,25 +136,34 @@ none_given least most some h =
     let first : has_kind (range_kinds least most 0) ≡ true = rw some refl in
     some_kind (range_kinds least most 0) first h
 
-good_used_as : (x : ArgAction) (again : Bool) (c : List Rule) (a : Rule) (values : List Text) (rows : List Row) → arg_by_id c a.id ≡ Some a → TakesSome x a → Good c rows
+good_used_as : (x : ArgAction) (again : Bool) (c : List Rule) (a : Rule) (values : List Text) (rows : List Row)
+    → arg_by_id c a.id ≡ Some a
+    → TakesSome x a
+    → Good c rows
     → range_kinds (unwrap_or_range a.range).start_inclusive (most_values a) (length values) ≡ []
     → action_fault x again a (values_or_missing a values) rows ≡ []
     → Good c (used_as x a.id (reading_by a) (values_or_missing a values) rows)
 good_used_as act.Set again c a [] rows own some g range none = absurd (none_given _ _ some range)
 good_used_as act.Set again c a (v ∷ vs) rows own some g range none =
-    good_values c a _ (v ∷ vs) (without a.id rows) own (first_of_all a v vs (neither _ _ none).1) (good_without c a.id rows g)
+    good_values c a _ (v ∷ vs) (without a.id rows) own (first_of_all a v vs (neither _ _ none).1)
+    (good_without c a.id rows g)
 good_used_as act.Append again c a [] rows own some g range none = absurd (none_given _ _ some range)
-good_used_as act.Append again c a (v ∷ vs) rows own some g range none = good_values c a _ (v ∷ vs) rows own (first_of_all a v vs none) g
+good_used_as act.Append again c a (v ∷ vs) rows own some g range none =
+    good_values c a _ (v ∷ vs) rows own (first_of_all a v vs none) g
 good_used_as act.Help again c a values rows own some g range none = g
-good_used_as act.SetTrue again c a values rows own some g range none = go (values_or_missing a values) (has_some values) none
+good_used_as act.SetTrue again c a values rows own some g range none =
+    go (values_or_missing a values) (has_some values) none
   where
     has_some : (vs : List Text) → HasText (values_or_missing a vs)
     has_some [] = some
     has_some (v ∷ vs) = tt
 
-    go : (vs : List Text) → HasText vs → action_fault act.SetTrue again a vs rows ≡ [] → Good c (used_as act.SetTrue a.id (reading_by a) vs rows)
+    go : (vs : List Text) → HasText vs → action_fault act.SetTrue again a vs rows ≡ []
+        → Good c (used_as act.SetTrue a.id (reading_by a) vs rows)
     go [] has fault = absurd has
-    go (v ∷ vs) has fault = good_values c a _ (v ∷ vs) (without a.id rows) own (first_of_all a v vs (neither _ _ fault).1) (good_without c a.id rows g)
+    go (v ∷ vs) has fault =
+        good_values c a _ (v ∷ vs) (without a.id rows) own (first_of_all a v vs (neither _ _ fault).1)
+        (good_without c a.id rows g)
 good_used_as act.SetFalse again c a values rows own some g range none = absurd some
 good_used_as act.Count again c a values rows own some g range none = absurd some
 good_used_as act.HelpShort again c a values rows own some g range none = absurd some
@@ -150,7 +171,8 @@ good_used_as act.HelpLong again c a values rows own some g range none = absurd s
 good_used_as act.Version again c a values rows own some g range none = absurd some
 
 module _ (c : List Rule) (all : AllFit c c) (again : Bool) where
-  good_used : (a : Rule) (values : List Text) (rows : List Row) → Fits c a → Good c rows → use_fault again a values rows ≡ [] → Good c (used a values rows)
+  good_used : (a : Rule) (values : List Text) (rows : List Row) → Fits c a → Good c rows
+      → use_fault again a values rows ≡ [] → Good c (used a values rows)
   good_used a values rows fits g none =
       let parts = neither _ _ none in
       good_used_as (action_of a) again c a values rows fits.own fits.some g parts.0 parts.1
@@ -161,69 +183,84 @@ module _ (c : List Rule) (all : AllFit c c) (again : Bool) where
   good_by_id p rows (Some a) is g none = good_used a p.1 rows (found_fits c c (λ x. bytes_eq x.id p.0) a all is) g none
 
   good_settled_rows : (o : Option (Text × List Text)) (rows : List Row) → Good c rows
-      → option_map_or (λ p. option_map_or (λ a. use_fault again a p.1 rows) (arg_by_id c p.0) []) o [] ≡ [] → Good c (settled_rows c o rows)
+      → option_map_or (λ p. option_map_or (λ a. use_fault again a p.1 rows) (arg_by_id c p.0) []) o [] ≡ []
+      → Good c (settled_rows c o rows)
   good_settled_rows None rows g none = g
   good_settled_rows (Some p) rows g none = good_by_id p rows (arg_by_id c p.0) refl g none
 
   pub good_settled : (h : Held) → Good c h.rows → settle_fault c again h ≡ [] → Good c (settled c h).rows
   good_settled h g none = good_settled_rows h.pending h.rows g none
 
-  good_reacted : (a : Rule) (values : List Text) (h : Held) → Fits c a → Good c h.rows → react_fault c again a values h ≡ [] → Good c (reacted c a values h).rows
+  good_reacted : (a : Rule) (values : List Text) (h : Held) → Fits c a → Good c h.rows
+      → react_fault c again a values h ≡ [] → Good c (reacted c a values h).rows
   good_reacted a values h fits g none =
       let parts = neither _ _ none in
       good_used a values (settled c h).rows fits (good_settled h g parts.0) parts.1
 
-  good_option : (a : Rule) (v : Option Text) (h : Held) → Fits c a → Good c h.rows → option_fault c again a v h ≡ [] → Good c (option_met c a v h).0.rows
+  good_option : (a : Rule) (v : Option Text) (h : Held) → Fits c a → Good c h.rows → option_fault c again a v h ≡ []
+      → Good c (option_met c a v h).0.rows
   good_option a (Some v) h fits g none = good_reacted a (v ∷ []) h fits g none
   good_option a None h fits g none = good_settled h g none
 
   -- ---- flags
 
-  good_long : (o : Option Rule) (v : Option Text) (h : Held) → ((a : Rule) → o ≡ Some a → Fits c a) → Good c h.rows → long_fault c again o v h ≡ []
+  good_long : (o : Option Rule) (v : Option Text) (h : Held) → ((a : Rule) → o ≡ Some a → Fits c a) → Good c h.rows
+      → long_fault c again o v h ≡ []
       → Good c (long_met c o v h).0.rows
   good_long None v h fits g none = absurd (some_kind _ refl none)
   good_long (Some a) v h fits g none = go (takes_values a) v none
     where
       go : (b : Bool) (w : Option Text)
-          → cond b (option_fault c again a w h) (cond (is_some w) (TooManyValues ∷ []) (react_fault c again a [] h)) ≡ []
+          → cond b (option_fault c again a w h) (cond (is_some w) (TooManyValues ∷ []) (react_fault c again a [] h))
+          ≡ []
           → Good c (cond b (option_met c a w h) (flag_met c a w h)).0.rows
       go true w e = good_option a w h (fits a refl) g e
       go false (Some w) e = absurd (some_kind _ refl e)
       go false None e = good_reacted a [] h (fits a refl) g e
 
-  good_short : (o : Option Rule) (rest : Text) (h : Held) (follow : Held → Held × Outcome) (fault : Held → Kinds) → ((a : Rule) → o ≡ Some a → Fits c a) → Good c h.rows
+  good_short : (o : Option Rule) (rest : Text) (h : Held) (follow : Held → Held × Outcome) (fault : Held → Kinds)
+      → ((a : Rule) → o ≡ Some a → Fits c a) → Good c h.rows
       → ((k : Held) → Good c k.rows → fault k ≡ [] → Good c (follow k).0.rows)
       → short_fault c again o rest h fault ≡ [] → Good c (short_met c o rest h follow).0.rows
   good_short None rest h follow fault fits g onward none = absurd (some_kind _ refl none)
   good_short (Some a) rest h follow fault fits g onward none = go (takes_values a) none
     where
-      go : (b : Bool) → cond b (option_fault c again a (attached_value rest) h) (or_else (react_fault c again a [] h) (fault (reacted c a [] h))) ≡ []
+      go : (b : Bool)
+          → cond b (option_fault c again a (attached_value rest) h)
+          (or_else (react_fault c again a [] h) (fault (reacted c a [] h))) ≡ []
           → Good c (cond b (option_met c a (attached_value rest) h) (follow (reacted c a [] h))).0.rows
       go true e = good_option a (attached_value rest) h (fits a refl) g e
       go false e =
           let parts = neither _ _ e in
           onward (reacted c a [] h) (good_reacted a [] h (fits a refl) g parts.0) parts.1
 
-  good_bundle_step : (o : Option ℕ) (flags : Text) (skip : ℕ) (so_far : Outcome) (h : Held) (follow : Text → ℕ → Outcome → Held → Held × Outcome) (fault : Text → ℕ → Held → Kinds)
+  good_bundle_step : (o : Option ℕ) (flags : Text) (skip : ℕ) (so_far : Outcome) (h : Held)
+      (follow : Text → ℕ → Outcome → Held → Held × Outcome) (fault : Text → ℕ → Held → Kinds)
       → Good c h.rows
-      → ((f : Text) (s : ℕ) (x : Outcome) (k : Held) → Good c k.rows → fault f s k ≡ [] → Good c (follow f s x k).0.rows)
+      → ((f : Text) (s : ℕ) (x : Outcome) (k : Held) → Good c k.rows → fault f s k ≡ []
+      → Good c (follow f s x k).0.rows)
       → bundle_step_fault c again o flags skip h fault ≡ [] → Good c (bundle_step c o flags skip so_far h follow).0.rows
   good_bundle_step None flags skip so_far h follow fault g onward none = g
   good_bundle_step (Some x) flags zero so_far h follow fault g onward none =
       let rest = drop (length (encode_utf8 x)) flags in
-      good_short (arg_by_short c x) rest h (follow rest 0 done) (fault rest 0) (λ a is. found_fits c c _ a all is) g (onward rest 0 done) none
-  good_bundle_step (Some x) flags (suc skip) so_far h follow fault g onward none = onward (drop (length (encode_utf8 x)) flags) skip so_far h g none
+      good_short (arg_by_short c x) rest h (follow rest 0 done) (fault rest 0) (λ a is. found_fits c c _ a all is) g
+      (onward rest 0 done) none
+  good_bundle_step (Some x) flags (suc skip) so_far h follow fault g onward none =
+      onward (drop (length (encode_utf8 x)) flags) skip so_far h g none
 
-  good_bundle : (k : ℕ) (flags : Text) (skip : ℕ) (so_far : Outcome) (h : Held) → Good c h.rows → flags_fault c again k flags skip h ≡ []
+  good_bundle : (k : ℕ) (flags : Text) (skip : ℕ) (so_far : Outcome) (h : Held) → Good c h.rows
+      → flags_fault c again k flags skip h ≡ []
       → Good c (bundle_met c k flags skip so_far h).0.rows
   unfolding bundle_met flags_fault
   good_bundle zero flags skip so_far h g none = g
   good_bundle (suc k) flags skip so_far h g none =
-      good_bundle_step (slice_get (chars flags) 0) flags skip so_far h (bundle_met c k) (flags_fault c again k) g (good_bundle k) none
+      good_bundle_step (slice_get (chars flags) 0) flags skip so_far h (bundle_met c k) (flags_fault c again k) g
+      (good_bundle k) none
 
   -- ---- words
 
-  good_plain : (waiting : Waiting) (word : Text) (h : Held) → Good c h.rows → Good c (plain_word c waiting word h).0.rows
+  good_plain : (waiting : Waiting) (word : Text) (h : Held) → Good c h.rows
+      → Good c (plain_word c waiting word h).0.rows
   good_plain idle word h g = g
   good_plain positional word h g = g
   good_plain (option id) word h g = go (arg_by_id c id)
@@ -232,14 +269,16 @@ module _ (c : List Rule) (all : AllFit c c) (again : Bool) where
       go None = g
       go (Some a) = g
 
-  good_after : (waiting : Waiting) (word : Text) (h : Held) (x : Outcome) → Good c h.rows → Good c (after_flag c waiting word h x).0.rows
+  good_after : (waiting : Waiting) (word : Text) (h : Held) (x : Outcome) → Good c h.rows
+      → Good c (after_flag c waiting word h x).0.rows
   good_after waiting word h done g = g
   good_after waiting word h (waits id) g = g
   good_after waiting word h plain g = good_plain waiting word h g
   good_after waiting word h refused g = good_plain waiting word h g
 
   good_dashed : (waiting : Waiting) (word : Text) (o : Option Text) (h : Held) → Good c h.rows
-      → option_map_or (λ flags. bundle_fault c again flags h) o [] ≡ [] → Good c (short_or_plain c waiting word o h).0.rows
+      → option_map_or (λ flags. bundle_fault c again flags h) o [] ≡ []
+      → Good c (short_or_plain c waiting word o h).0.rows
   good_dashed waiting word None h g none = good_plain waiting word h g
   good_dashed waiting word (Some flags) h g none =
       let met = bundle c flags h in
@@ -250,7 +289,8 @@ module _ (c : List Rule) (all : AllFit c c) (again : Bool) where
   good_flag waiting word None h g none = good_dashed waiting word (short_of word) h g none
   good_flag waiting word (Some p) h g none =
       let met = long_met c (arg_by_long c p.0) p.1 h in
-      good_after waiting word met.0 met.1 (good_long (arg_by_long c p.0) p.1 h (λ a is. found_fits c c _ a all is) g none)
+      good_after waiting word met.0 met.1
+      (good_long (arg_by_long c p.0) p.1 h (λ a is. found_fits c c _ a all is) g none)
 
 -- ---- the walk over the words of a command
 
@@ -266,20 +306,25 @@ module _ (s : Shape) (all : AllFit s.rules s.rules) (names : Names) where
       go false e = good_flag s.rules all s.args_override_self waiting word (long_of word) h g e
 
   good_word : (is_trailing : Bool) (waiting : Waiting) (position : ℕ) (word : Text) (h : Held) → Good s.rules h.rows
-      → word_fault s names is_trailing waiting word h ≡ [] → Good s.rules (word_met s.rules names is_trailing waiting position word h).0.rows
+      → word_fault s names is_trailing waiting word h ≡ []
+      → Good s.rules (word_met s.rules names is_trailing waiting position word h).0.rows
   good_word true waiting position word h g none = g
-  good_word false waiting position word h g none = good_other (subcommand_met names waiting word) waiting position word h g none
+  good_word false waiting position word h g none =
+      good_other (subcommand_met names waiting word) waiting position word h g none
 
-  good_positional : (a : Rule) (word : Text) (h : Held) → Good s.rules h.rows → positional_fault s.rules s.args_override_self a h ≡ []
+  good_positional : (a : Rule) (word : Text) (h : Held) → Good s.rules h.rows
+      → positional_fault s.rules s.args_override_self a h ≡ []
       → Good s.rules (positional_held s.rules a word h).rows
   good_positional a word h g none = go (is_pending a h.pending && takes_several a) none
     where
-      go : (b : Bool) → cond b [] (settle_fault s.rules s.args_override_self h) ≡ [] → Good s.rules (cond b h (settled s.rules h)).rows
+      go : (b : Bool) → cond b [] (settle_fault s.rules s.args_override_self h) ≡ []
+          → Good s.rules (cond b h (settled s.rules h)).rows
       go true e = g
       go false e = good_settled s.rules all s.args_override_self h g e
 
   good_value : (o : Option Rule) (word : Text) (w : Walk) (h : Held) → Good s.rules h.rows
-      → option_map_or (λ a. positional_fault s.rules s.args_override_self a h) o (stray_fault s) ≡ [] → Good s.rules (to_positional s.rules o word w h).held.rows
+      → option_map_or (λ a. positional_fault s.rules s.args_override_self a h) o (stray_fault s) ≡ []
+      → Good s.rules (to_positional s.rules o word w h).held.rows
   good_value None word w h g none = g
   good_value (Some a) word w h g none = good_positional a word h g none
 
@@ -292,7 +337,8 @@ module _ (s : Shape) (all : AllFit s.rules s.rules) (names : Names) where
 
   good_turn : (o : Option (Text × List Text)) (w : Walk) (word : Text) → Good s.rules w.held.rows
       → (let met = word_met s.rules names w.is_trailing w.waiting w.position word w.held in
-      cond (is_some o) [] (or_else (word_fault s names w.is_trailing w.waiting word w.held) (step_fault s w.position met.0 met.1))) ≡ []
+      cond (is_some o) []
+      (or_else (word_fault s names w.is_trailing w.waiting word w.held) (step_fault s w.position met.0 met.1))) ≡ []
       → Good s.rules (walked_from s.rules names o w word).held.rows
   good_turn (Some p) w word g none = g
   good_turn None w word g none =
@@ -300,7 +346,8 @@ module _ (s : Shape) (all : AllFit s.rules s.rules) (names : Names) where
       let parts = neither _ _ none in
       good_step met.1 word w met.0 (good_word w.is_trailing w.waiting w.position word w.held g parts.0) parts.1
 
-  good_walked : (w : Walk) (word : Text) → Good s.rules w.held.rows → turn_fault s names w word ≡ [] → Good s.rules (walked s.rules names w word).held.rows
+  good_walked : (w : Walk) (word : Text) → Good s.rules w.held.rows → turn_fault s names w word ≡ []
+      → Good s.rules (walked s.rules names w word).held.rows
   unfolding walked
   good_walked w word g none = good_turn w.stopped w word g none
 
@@ -316,14 +363,17 @@ module _ (s : Shape) (all : AllFit s.rules s.rules) (names : Names) where
 
 module _ (c : List Rule) where
   good_default_rows : (a : Rule) (values : List Text) (rows : List Row) → arg_by_id c a.id ≡ Some a → Good c rows
-      → cond (length values == 0) [] (given_default_fault a values) ≡ [] → Good c (default_rows a.id (reading_by a) values rows)
+      → cond (length values == 0) [] (given_default_fault a values) ≡ []
+      → Good c (default_rows a.id (reading_by a) values rows)
   good_default_rows a [] rows own g none = g
   good_default_rows a (v ∷ vs) rows own g none =
       let some : (length (v ∷ vs) == 0) ≡ false = ne_eqb (length (v ∷ vs)) 0 (λ e. omega (arith, e)) in
       let e : or_else (request_kinds (action_of a)) (values_fault a (v ∷ vs)) ≡ [] = rw some at none in
-      good_values c a DefaultValue (v ∷ vs) rows own (first_of_all a v vs (neither (request_kinds (action_of a)) (values_fault a (v ∷ vs)) e).1) g
+      good_values c a DefaultValue (v ∷ vs) rows own
+      (first_of_all a v vs (neither (request_kinds (action_of a)) (values_fault a (v ∷ vs)) e).1) g
 
-  good_default : (a : Rule) (rows : List Row) → Fits c a → Good c rows → default_fault rows a ≡ [] → Good c (with_default rows a)
+  good_default : (a : Rule) (rows : List Row) → Fits c a → Good c rows → default_fault rows a ≡ []
+      → Good c (with_default rows a)
   good_default a rows fits g none = go (has_row a.id rows) none
     where
       go : (b : Bool) → cond (b || (length a.defaults == 0)) [] (given_default_fault a a.defaults) ≡ []
@@ -331,7 +381,8 @@ module _ (c : List Rule) where
       go true e = g
       go false e = good_default_rows a a.defaults rows fits.own g e
 
-  pub good_defaults : (xs : List Rule) (rows : List Row) → AllFit c xs → Good c rows → defaults_fault rows xs ≡ [] → Good c (fold with_default rows xs)
+  pub good_defaults : (xs : List Rule) (rows : List Row) → AllFit c xs → Good c rows → defaults_fault rows xs ≡ []
+      → Good c (fold with_default rows xs)
   unfolding defaults_fault
   good_defaults [] rows all g none = g
   good_defaults (a ∷ xs) rows all g none =

@@ -11,11 +11,15 @@ use Rattle.like_core.specs.PhaseMasks.{mask_of, HasMask, AreMasksOf, KeepsMasks}
 use Rattle.like_core.proofs.Updates.{update-other}
 
 -- where a list has the right mask of each phase that it has, and has one of this phase, that is the right one
-pub mask_of-right : (hot : ℕ → ℕ) (masks : List PhaseMask) (phase : ℕ) → AreMasksOf hot masks → HasMask phase masks → mask_of masks phase ≡ hot phase
+pub mask_of-right : (hot : ℕ → ℕ) (masks : List PhaseMask) (phase : ℕ)
+    → AreMasksOf hot masks
+    → HasMask phase masks
+    → mask_of masks phase ≡ hot phase
 mask_of-right hot [] phase right has = absurd (cc)
 mask_of-right hot (m ∷ masks) phase right has = elim (cases_eq phase m.phase) [
   | inl same ↦
-      cond-true (phase == m.phase) m.mask (mask_of masks phase) (eq-eqb phase m.phase same) ∙ (right 0 m (omega arith) ∙ ap hot (sym same))
+      cond-true (phase == m.phase) m.mask (mask_of masks phase) (eq-eqb phase m.phase same)
+      ∙ (right 0 m (omega arith) ∙ ap hot (sym same))
   | inr other ↦
       let P : Bool → Type 0 = λ b. (b || list_any (λ (n : PhaseMask). n.phase == phase) masks) ≡ true in
       let later : HasMask phase masks = subst P (ne_eqb m.phase phase (λ same. other (sym same))) has in
@@ -24,7 +28,10 @@ mask_of-right hot (m ∷ masks) phase right has = elim (cases_eq phase m.phase) 
 ]
 
 -- a page is split as the right masks say, where the list has the phase's mask wherever that is asked
-pub split-known : (marked : ℕ → Bool) (hot : ℕ → ℕ) (masks : List PhaseMask) (phase page : ℕ) → AreMasksOf hot masks → (IsSplit phase → marked page ≡ false → page < hot_pages → HasMask phase masks) → split marked hot phase page ≡ split marked (mask_of masks) phase page
+pub split-known : (marked : ℕ → Bool) (hot : ℕ → ℕ) (masks : List PhaseMask) (phase page : ℕ)
+    → AreMasksOf hot masks
+    → (IsSplit phase → marked page ≡ false → page < hot_pages → HasMask phase masks)
+    → split marked hot phase page ≡ split marked (mask_of masks) phase page
 split-known marked hot masks phase page right knows = elim (cases_eq (phase % 2) 1) [
   | inl odd ↦ ap (λ (b : Bool). (phase % 2 == 1) && b) (marked_or (marked page) (knows odd))
   | inr even ↦
@@ -33,7 +40,8 @@ split-known marked hot masks phase page right knows = elim (cases_eq (phase % 2)
       sym (λ m. none m && (marked page || is_hot (mask_of masks phase) page))
 ]
   where
-    marked_or : (b : Bool) → (b ≡ false → page < hot_pages → HasMask phase masks) → (b || is_hot (hot phase) page) ≡ (b || is_hot (mask_of masks phase) page)
+    marked_or : (b : Bool) → (b ≡ false → page < hot_pages → HasMask phase masks)
+        → (b || is_hot (hot phase) page) ≡ (b || is_hot (mask_of masks phase) page)
     marked_or true asks = refl
     marked_or false asks = elim (cases_lt page hot_pages) [
       | inl first ↦ ap (λ n. is_hot n page) (sym (mask_of-right hot masks phase right (asks refl first)))
@@ -43,7 +51,10 @@ split-known marked hot masks phase page right knows = elim (cases_eq (phase % 2)
     ]
 
 -- of masks that are kept, the old ones are right where the new ones are
-pub masks-before : (hot : ℕ → ℕ) (old new : List PhaseMask) → KeepsMasks old new → AreMasksOf hot new → AreMasksOf hot old
+pub masks-before : (hot : ℕ → ℕ) (old new : List PhaseMask)
+    → KeepsMasks old new
+    → AreMasksOf hot new
+    → AreMasksOf hot old
 masks-before hot old new keeps right = behind keeps.0 (subst (AreMasksOf hot) keeps.1 right)
   where
     behind : (later : List PhaseMask) → AreMasksOf hot (later ++ old) → AreMasksOf hot old
@@ -58,10 +69,13 @@ masks-both a b c first then_keeps = (
 )
 
 -- a page is split in the same way by another mask of a split phase that is the same
-pub split-by : (marked : ℕ → Bool) (hot other : ℕ → ℕ) (phase page : ℕ) → (IsSplit phase → hot phase ≡ other phase) → split marked hot phase page ≡ split marked other phase page
+pub split-by : (marked : ℕ → Bool) (hot other : ℕ → ℕ) (phase page : ℕ)
+    → (IsSplit phase → hot phase ≡ other phase)
+    → split marked hot phase page ≡ split marked other phase page
 split-by marked hot other phase page same = elim (cases_eq (phase % 2) 1) [
   | inl odd ↦ ap (λ n. (phase % 2 == 1) && (marked page || is_hot n page)) (same odd)
   | inr even ↦
       let none : (phase % 2 == 1) ≡ false = ne_eqb (phase % 2) 1 even in
-      (λ m. none m && (marked page || is_hot (hot phase) page)) ∙ sym (λ m. none m && (marked page || is_hot (other phase) page))
+      (λ m. none m && (marked page || is_hot (hot phase) page))
+      ∙ sym (λ m. none m && (marked page || is_hot (other phase) page))
 ]

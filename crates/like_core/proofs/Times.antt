@@ -60,7 +60,9 @@ times-without_other x z (y ∷ ys) apart =
       | inl same ↦
           let differs : y ≢ z = λ e. apart (sym e ∙ same) in
           rw (eq-eqb y x same) (times-without_other x z ys apart ∙ sym (times-cons_other z y ys differs))
-      | inr other ↦ rw (ne_eqb y x other) (times-cons z y (without x ys) ∙ (ap (λ n. cond (y == z) 1 0 + n) (times-without_other x z ys apart) ∙ sym (times-cons z y ys)))
+      | inr other ↦ rw (ne_eqb y x other)
+          (times-cons z y (without x ys)
+          ∙ (ap (λ n. cond (y == z) 1 0 + n) (times-without_other x z ys apart) ∙ sym (times-cons z y ys)))
     ]
 
 -- a list without a number

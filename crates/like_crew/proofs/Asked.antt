@@ -10,5 +10,10 @@ abbrev pub sizes_in : List (Vec Request Global) → List ℕ
 sizes_in plans = map (λ (p : Vec Request Global). length p.items) plans
 
 -- the numbers that are shown are those of the plans
-pub sizes-are : (shown sizes : List ℕ) (first plans : List (Vec Request Global)) → shown ≡ sizes → sizes ≡ map length (map requests_of first) → first ≡ plans → shown ≡ sizes_in plans
-sizes-are shown sizes first plans same sized are = same ∙ sized ∙ sym (map-twice requests_of length first) ∙ ap sizes_in are
+pub sizes-are : (shown sizes : List ℕ) (first plans : List (Vec Request Global))
+    → shown ≡ sizes
+    → sizes ≡ map length (map requests_of first)
+    → first ≡ plans
+    → shown ≡ sizes_in plans
+sizes-are shown sizes first plans same sized are =
+    same ∙ sized ∙ sym (map-twice requests_of length first) ∙ ap sizes_in are

@@ -45,13 +45,23 @@ in_range a b m d = cond (leb a m && ltb m b) d 0
 range-step : (a b m d : ℕ) → a < b → cond (eqb a m) d 0 + in_range (a + 1) b m d ≡ in_range a b m d
 range-step a b m d some =
     elim (cases_lt m a) [
-      | inl below ↦ rw (ne_eqb a m (λ e. absurd (omega (arith, below, e))), gt-leb (a + 1) m (omega (arith, below)), gt-leb a m below) refl
+      | inl below ↦ rw (
+        ne_eqb a m (λ e. absurd (omega (arith, below, e))),
+        gt-leb (a + 1) m (omega (arith, below)),
+        gt-leb a m below,
+      ) refl
       | inr above ↦
           elim (cases_eq a m) [
             | inl same ↦
-                rw (eq-eqb a m same, gt-leb (a + 1) m (omega (arith, same)), le-leb a m above, lt-ltb m b (omega (arith, same, some))) (add-zero d)
+                rw (
+                  eq-eqb a m same,
+                  gt-leb (a + 1) m (omega (arith, same)),
+                  le-leb a m above,
+                  lt-ltb m b (omega (arith, same, some)),
+                ) (add-zero d)
             | inr other ↦
-                rw (ne_eqb a m other, le-leb (a + 1) m (omega (arith, above, other)), le-leb a m above) (zero-add (cond (ltb m b) d 0))
+                rw (ne_eqb a m other, le-leb (a + 1) m (omega (arith, above, other)), le-leb a m above)
+                (zero-add (cond (ltb m b) d 0))
           ]
     ]
 
@@ -79,8 +89,11 @@ sum-lists f m d [] from each = sym (ap (λ b. in_range from b m d) (add-zero fro
 sum-lists f m d (x ∷ xs) from each =
     ap (sum_by f) (flat_map-cons (λ (log : WorkerLog). log.ran.items) x xs)
     ∙ sum_by-append f x.ran.items (flat_map (λ (log : WorkerLog). log.ran.items) xs)
-    ∙ ap (λ n. n + sum_by f (flat_map (λ (log : WorkerLog). log.ran.items) xs)) (each zero x refl ∙ ap (λ n. cond (eqb n m) d 0) (add-zero from))
-    ∙ ap (λ n. cond (eqb from m) d 0 + n) (sum-lists f m d xs (from + 1) (λ k log e. each (suc k) log e ∙ ap (λ n. cond (eqb n m) d 0) (omega (arith, add-one k))))
+    ∙ ap (λ n. n + sum_by f (flat_map (λ (log : WorkerLog). log.ran.items) xs))
+    (each zero x refl ∙ ap (λ n. cond (eqb n m) d 0) (add-zero from))
+    ∙ ap (λ n. cond (eqb from m) d 0 + n)
+    (sum-lists f m d xs (from + 1)
+    (λ k log e. each (suc k) log e ∙ ap (λ n. cond (eqb n m) d 0) (omega (arith, add-one k))))
     ∙ ap (λ b. cond (eqb from m) d 0 + in_range (from + 1) b m d) (omega (arith, add-one (length xs)))
     ∙ range-step from (from + suc (length xs)) m d (omega (arith, add-one (length xs)))
 
@@ -89,21 +102,28 @@ module _ (submitter number : ℕ) where
   abbrev this_one : ℕ → ℕ → ℕ
   this_one s n = cond (eqb s submitter && eqb n number) 1 0
 
-  sum-entries : (ran : List Ran) → sum_by (λ (e : Entry). this_one e.submitter e.number) (map entry_of ran) ≡ sum_by (λ e. this_one e.submitter e.number) ran
+  sum-entries : (ran : List Ran)
+      → sum_by (λ (e : Entry). this_one e.submitter e.number) (map entry_of ran)
+      ≡ sum_by (λ e. this_one e.submitter e.number) ran
   sum-entries [] = refl
   sum-entries (e ∷ ran) =
       sum_by-cons (λ (x : Entry). this_one x.submitter x.number) (entry_of e) (map entry_of ran)
       ∙ ap (λ n. this_one e.submitter e.number + n) (sum-entries ran)
       ∙ sym (sum_by-cons (λ (x : Ran). this_one x.submitter x.number) e ran)
 
-  sum-taken : (taken : List Took) → sum_by (λ t. this_one t.submitter t.number) taken ≡ count_by (λ n. eqb n number) (numbers_taken submitter taken)
+  sum-taken : (taken : List Took)
+      → sum_by (λ t. this_one t.submitter t.number) taken ≡ count_by (λ n. eqb n number) (numbers_taken submitter taken)
   sum-taken [] = refl
   sum-taken (t ∷ taken) =
       sum_by-cons (λ (u : Took). this_one u.submitter u.number) t taken
       ∙ ap (λ n. this_one t.submitter t.number + n) (sum-taken taken)
       ∙ by_test (eqb t.submitter submitter) where
-        by_test : (b : Bool) → cond (b && eqb t.number number) 1 0 + count_by (λ n. eqb n number) (numbers_taken submitter taken)
-            ≡ count_by (λ n. eqb n number) (map (λ (u : Took). u.number) (cond b (t ∷ filter (λ (u : Took). eqb u.submitter submitter) taken) (filter (λ (u : Took). eqb u.submitter submitter) taken)))
+        by_test : (b : Bool)
+            → cond (b && eqb t.number number) 1 0 + count_by (λ n. eqb n number) (numbers_taken submitter taken)
+            ≡ count_by (λ n. eqb n number)
+            (map (λ (u : Took). u.number)
+            (cond b (t ∷ filter (λ (u : Took). eqb u.submitter submitter) taken)
+            (filter (λ (u : Took). eqb u.submitter submitter) taken)))
         by_test true = sym (sum_by-cons (λ (n : ℕ). cond (eqb n number) 1 0) t.number (numbers_taken submitter taken))
         by_test false = zero-add (count_by (λ n. eqb n number) (numbers_taken submitter taken))
 
@@ -118,20 +138,25 @@ module _ (submitter number : ℕ) where
       ∙ sum-taken log.taken.items
       ∙ ap (count_by (λ n. eqb n number)) (l.taken submitter)
       ∙ by_test (eqb (worker_of workers submitter) worker)
-      ∙ ap (λ b. cond b (in_range 1 (1 + length (plan_of service submitter)) number 1) 0) (eqb_swap (worker_of workers submitter) worker) where
-        by_test : (b : Bool) → count_by (λ n. eqb n number) (cond b (range_with_len 1 (length (plan_of service submitter))) []) ≡ cond b (in_range 1 (1 + length (plan_of service submitter)) number 1) 0
+      ∙ ap (λ b. cond b (in_range 1 (1 + length (plan_of service submitter)) number 1) 0)
+      (eqb_swap (worker_of workers submitter) worker) where
+        by_test : (b : Bool)
+            → count_by (λ n. eqb n number) (cond b (range_with_len 1 (length (plan_of service submitter))) [])
+            ≡ cond b (in_range 1 (1 + length (plan_of service submitter)) number 1) 0
         by_test true = count-range 1 (length (plan_of service submitter)) number
         by_test false = refl
 
   -- in the run lists of all
   pub count-in-all : (service : Service) (workers : ℕ) (logs : List WorkerLog) → length logs ≡ workers → 0 < workers
       → ((worker : ℕ) (log : WorkerLog) → slice_get logs worker ≡ Some log → IsLog service workers worker log)
-      → sum_by (λ e. this_one e.submitter e.number) (flat_map (λ (log : WorkerLog). log.ran.items) logs) ≡ in_range 1 (1 + length (plan_of service submitter)) number 1
+      → sum_by (λ e. this_one e.submitter e.number) (flat_map (λ (log : WorkerLog). log.ran.items) logs)
+      ≡ in_range 1 (1 + length (plan_of service submitter)) number 1
   count-in-all service workers logs sized some each =
       let worker : ℕ = worker_of workers submitter in
       let there : worker < workers = mod-lt submitter some in
       let size : ℕ = in_range 1 (1 + length (plan_of service submitter)) number 1 in
       sum-lists (λ e. this_one e.submitter e.number) worker size logs 0
-      (λ k log e. count-in-log service workers k log (each k log e) ∙ ap (λ n. cond (eqb n worker) size 0) (sym (zero-add k)))
+      (λ k log e. count-in-log service workers k log (each k log e)
+      ∙ ap (λ n. cond (eqb n worker) size 0) (sym (zero-add k)))
       ∙ ap (λ b. cond (leb 0 worker && b) size 0) (lt-ltb worker (0 + length logs) (omega (arith, there, sized)))
       ∙ ap (λ b. cond (b && true) size 0) (le-leb 0 worker (omega arith))

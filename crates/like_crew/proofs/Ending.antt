@@ -26,10 +26,13 @@ use Rattle.like_crew.proofs.servers.Shares.{plan-at}
 use Rattle.like_crew.proofs.lists.Pairs.{pairs-at, pairs-both, pairs-length}
 
 -- the servers of a run, later
-pub servers-later : (service : Service) (workers : ℕ) (board : List ℕ) (notes : Bool) (ss ts : List ServerView) → AreServers service workers board notes ss → AllZip ServerGoesOn ss ts
+pub servers-later : (service : Service) (workers : ℕ) (board : List ℕ) (notes : Bool) (ss ts : List ServerView)
+    → AreServers service workers board notes ss
+    → AllZip ServerGoesOn ss ts
     → AreServers service workers board notes ts
 servers-later service workers board notes ss ts are later =
-    pairs-both (IsServer service workers board notes) ServerGoesOn (IsServer service workers board notes) (range_with_len 0 workers) ss ts
+    pairs-both (IsServer service workers board notes) ServerGoesOn (IsServer service workers board notes)
+    (range_with_len 0 workers) ss ts
     (λ worker s t is on. record {
       share = on.share ∙ is.share;
       whose = on.whose ∙ is.whose;
@@ -39,38 +42,58 @@ servers-later service workers board notes ss ts are later =
     }) are later
 
 -- there are as many servers as workers
-pub as-many : (service : Service) (workers : ℕ) (board : List ℕ) (notes : Bool) (servers : List ServerView) → AreServers service workers board notes servers → length servers ≡ workers
+pub as-many : (service : Service) (workers : ℕ) (board : List ℕ) (notes : Bool) (servers : List ServerView)
+    → AreServers service workers board notes servers
+    → length servers ≡ workers
 as-many service workers board notes servers are =
-    sym (pairs-length (IsServer service workers board notes) (range_with_len 0 workers) servers are) ∙ length-range_with_len 0 workers
+    sym (pairs-length (IsServer service workers board notes) (range_with_len 0 workers) servers are)
+    ∙ length-range_with_len 0 workers
 
 -- each submitter of the run has an inbox
-pub has-inbox : (service : Service) (workers : ℕ) (board : List ℕ) (notes : Bool) (servers : List ServerView) (submitter : ℕ) → AreServers service workers board notes servers → 0 < workers → submitter < submitters service
+pub has-inbox : (service : Service) (workers : ℕ) (board : List ℕ) (notes : Bool) (servers : List ServerView)
+    (submitter : ℕ)
+    → AreServers service workers board notes servers
+    → 0 < workers
+    → submitter < submitters service
     → HasInbox servers submitter
 has-inbox service workers board notes servers submitter are some there =
     let sized : workers ≡ length servers = sym (as-many service workers board notes servers are) in (
       omega (arith, some, sized),
       λ s at.
           let worker : ℕ = submitter % length servers in
-          let is : IsServer service workers board notes worker s = subst (λ n. IsServer service workers board notes n s) (zero-add worker) (pairs-at (IsServer service workers board notes) 0 workers servers worker s are at) in
+          let is : IsServer service workers board notes worker s =
+          subst (λ n. IsServer service workers board notes n s) (zero-add worker)
+          (pairs-at (IsServer service workers board notes) 0 workers servers worker s are at) in
           let share : Share = s.worker.last.share in
           let by : share.workers ≡ length servers = ap (λ (x : Share). x.workers) is.share ∙ sized in
           let mine : share.worker ≡ worker = ap (λ (x : Share). x.worker) is.share in
           let place : ℕ = place_of share.workers submitter in
-          let whole : share.worker + share.workers * place ≡ submitter = by_place submitter share.worker share.workers (length servers) by mine in
-          let plan : slice_get (plans_of s.inboxes) place ≡ slice_get service.plans submitter = plan-at service share.workers share.worker s.inboxes place (omega (arith, some, sized, by)) (is.works service.hot).plans ∙ ap (slice_get service.plans) whole in
-          let found : slice_get (plans_of s.inboxes) place ≡ Some (get_or service.plans submitter []) = plan ∙ slice_get-get_or service.plans submitter [] there in
-          omega (arith, slice_get_within (plans_of s.inboxes) place (get_or service.plans submitter []) found, length-map s.inboxes (λ i. i.plan)),
+          let whole : share.worker + share.workers * place ≡ submitter =
+          by_place submitter share.worker share.workers (length servers) by mine in
+          let plan : slice_get (plans_of s.inboxes) place ≡ slice_get service.plans submitter =
+          plan-at service share.workers share.worker s.inboxes place (omega (arith, some, sized, by))
+          (is.works service.hot).plans ∙ ap (slice_get service.plans) whole in
+          let found : slice_get (plans_of s.inboxes) place ≡ Some (get_or service.plans submitter []) =
+          plan ∙ slice_get-get_or service.plans submitter [] there in
+          omega (
+            arith,
+            slice_get_within (plans_of s.inboxes) place (get_or service.plans submitter []) found,
+            length-map s.inboxes (λ i. i.plan),
+          ),
     ) where
       by_place : (n w a b : ℕ) → a ≡ b → w ≡ n % b → w + a * (n / a) ≡ n
       by_place n w a b same mine =
           ap (λ x. w + x * (n / x)) same ∙ (let d : b * (n / b) + n % b ≡ n = div-add-mod n b in omega (arith, d, mine))
 
 -- a crew of this run that went on until its run had ended leaves an ended run
-pub has-ended : {I : Type 0} (setup : Setup) (plans : List (List Request)) (site : Site) (c : Crew I) (e : Ended) → IsCrew setup plans site c → HasEnded c e
+pub has-ended : {I : Type 0} (setup : Setup) (plans : List (List Request)) (site : Site) (c : Crew I) (e : Ended)
+    → IsCrew setup plans site c
+    → HasEnded c e
     → IsEnded setup plans site e
 has-ended setup plans site c e is h = record {
   servers = h.left.servers;
-  are_servers = servers-later (service_of setup plans) setup.workers (board_numbers (board_id site.board)) site.notes c.servers.items h.left.servers is.servers h.left.later;
+  are_servers = servers-later (service_of setup plans) setup.workers
+      (board_numbers (board_id site.board)) site.notes c.servers.items h.left.servers is.servers h.left.later;
   gone = h.left.gone;
   logs = h.left.logs_are;
   seats = h.left.seats_are;
@@ -81,7 +104,8 @@ has-ended setup plans site c e is h = record {
   choice = h.captain.choice;
   hot = h.later.hot ∙ is.hot;
   chosen = h.captain_is.chosen;
-  chose = subst (λ (v : CoordSeatView). (total : ℕ → ℕ → ℕ) → AreTotals total v.counted → HasChosen v h.captain.choice total) (sym h.captain_is.view) h.captain_is.chose;
+  chose = subst (λ (v : CoordSeatView). (total : ℕ → ℕ → ℕ) → AreTotals total v.counted
+      → HasChosen v h.captain.choice total) (sym h.captain_is.view) h.captain_is.chose;
 }
 
 -- what is left of a crew later is left of the crew

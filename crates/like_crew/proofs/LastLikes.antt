@@ -12,15 +12,18 @@ use Rattle.like_crew.specs.Gathered.{AreTables}
 pub record AreGiven (users submitters : ℕ) (logs : List WorkerLog) (last : List (Option ℕ)) (many : ℕ) : Type 0 where
   pub len : length last ≡ users
   pub each : (user : ℕ) (log : WorkerLog) → user < users → worker_of (length logs) (home submitters user) < many
-      → slice_get logs (worker_of (length logs) (home submitters user)) ≡ Some log → get_or last user None ≡ last_of log.last user
+      → slice_get logs (worker_of (length logs) (home submitters user)) ≡ Some log
+      → get_or last user None ≡ last_of log.last user
 
 -- before the first
 pub AreGiven-none : (users submitters : ℕ) (logs : List WorkerLog) (last : List (Option ℕ)) → length last ≡ users
     → AreGiven users submitters logs last 0
-AreGiven-none users submitters logs last len = record { len = len; each = λ user log there before its. absurd (omega (arith, before)) }
+AreGiven-none users submitters logs last len =
+    record { len = len; each = λ user log there before its. absurd (omega (arith, before)) }
 
 -- one worker more
-pub AreGiven-more : (users submitters : ℕ) (logs : List WorkerLog) (last now : List (Option ℕ)) (log : WorkerLog) (place : ℕ)
+pub AreGiven-more : (users submitters : ℕ) (logs : List WorkerLog) (last now : List (Option ℕ)) (log : WorkerLog)
+    (place : ℕ)
     → AreTables users submitters logs → slice_get logs place ≡ Some log → AreGiven users submitters logs last place
     → length now ≡ length last
     → ((user : ℕ) → owns log.last.share user ≡ true → get_or now user None ≡ last_of log.last user)
@@ -30,11 +33,13 @@ AreGiven-more users submitters logs last now log place tables at g len own other
   len = len ∙ g.len;
   each = λ user other there before its. elim (cases_eq (worker_of (length logs) (home submitters user)) place) [
     | inl same ↦
-        let mine : owns log.last.share user ≡ true = rw (tables place log at, lt-ltb user users there, eq-eqb _ place same) refl in
+        let mine : owns log.last.share user ≡ true =
+        rw (tables place log at, lt-ltb user users there, eq-eqb _ place same) refl in
         let it : log ≡ other = same_Some _ _ (sym at ∙ ap (slice_get logs) (sym same) ∙ its) in
         own user mine ∙ ap (λ (l : WorkerLog). last_of l.last user) it
     | inr apart ↦
-        let elsewhere : owns log.last.share user ≡ false = rw (tables place log at, lt-ltb user users there, ne_eqb _ place apart) refl in
+        let elsewhere : owns log.last.share user ≡ false =
+        rw (tables place log at, lt-ltb user users there, ne_eqb _ place apart) refl in
         others user elsewhere ∙ g.each user other there (omega arith) its
   ];
 }

@@ -12,36 +12,60 @@ use Rattle.like_requests.specs.Verdict.{home}
 use Rattle.like_crew.specs.Gathered.{RunsOnce}
 
 -- how many pass a test, where one that does stands between others
-count-parts : (p : Ran → Bool) (before after : List Ran) (x : Ran) → p x ≡ true → length (filter p (before ++ x ∷ after)) ≡ length (filter p before) + suc (length (filter p after))
+count-parts : (p : Ran → Bool) (before after : List Ran) (x : Ran)
+    → p x ≡ true
+    → length (filter p (before ++ x ∷ after)) ≡ length (filter p before) + suc (length (filter p after))
 count-parts p [] after x h = ap (λ b. length (cond b (x ∷ filter p after) (filter p after))) h ∙ sym (zero-add _)
 count-parts p (y ∷ before) after x h = by_test (p y) (count-parts p before after x h) where
-  by_test : (b : Bool) → length (filter p (before ++ x ∷ after)) ≡ length (filter p before) + suc (length (filter p after))
-      → length (cond b (y ∷ filter p (before ++ x ∷ after)) (filter p (before ++ x ∷ after))) ≡ length (cond b (y ∷ filter p before) (filter p before)) + suc (length (filter p after))
+  by_test : (b : Bool)
+      → length (filter p (before ++ x ∷ after)) ≡ length (filter p before) + suc (length (filter p after))
+      → length (cond b (y ∷ filter p (before ++ x ∷ after)) (filter p (before ++ x ∷ after)))
+      ≡ length (cond b (y ∷ filter p before) (filter p before)) + suc (length (filter p after))
   by_test true e = omega (arith, e)
   by_test false e = e
 
-passes : (e : Ran) (submitter number : ℕ) → e.submitter ≡ submitter → e.number ≡ number → is_of submitter number e ≡ true
+passes : (e : Ran) (submitter number : ℕ)
+    → e.submitter ≡ submitter
+    → e.number ≡ number
+    → is_of submitter number e ≡ true
 passes e submitter number s n = rw (eq-eqb e.submitter submitter s, eq-eqb e.number number n) refl
 
 some_left : (xs : List Ran) → xs ≢ [] → 1 ≤ length xs
 some_left [] some = absurd (some refl)
 some_left (x ∷ xs) some = omega arith
 
-counted : (sizes : List ℕ) (entries : List Ran) (submitter number : ℕ) (Bad : List Ran → Type 0) → (f : IsFirstBadEntry sizes entries submitter number Bad)
-    → length (entries_of submitter number entries) ≡ length (entries_of submitter number f.before) + suc (length (entries_of submitter number f.after))
+counted : (sizes : List ℕ) (entries : List Ran) (submitter number : ℕ) (Bad : List Ran → Type 0)
+    → (f : IsFirstBadEntry sizes entries submitter number Bad)
+    → length (entries_of submitter number entries)
+    ≡ length (entries_of submitter number f.before) + suc (length (entries_of submitter number f.after))
 counted sizes entries submitter number Bad f =
     ap (λ xs. length (entries_of submitter number xs)) f.parts
-    ∙ count-parts (is_of submitter number) f.before f.after f.entry (passes f.entry submitter number f.is_submitter f.is_number)
+    ∙ count-parts (is_of submitter number) f.before f.after f.entry
+    (passes f.entry submitter number f.is_submitter f.is_number)
 
-pub no-fault : (sizes : List ℕ) (entries : List Ran) (fault : CollectFault) → RunsOnce sizes entries → IsCollectFault sizes entries fault → fault ≡ Memory
+pub no-fault : (sizes : List ℕ) (entries : List Ran) (fault : CollectFault)
+    → RunsOnce sizes entries
+    → IsCollectFault sizes entries fault
+    → fault ≡ Memory
 no-fault sizes entries (Stranger submitter number) r f =
     absurd (omega (arith, r.others submitter number f.bad, counted sizes entries submitter number _ f))
 no-fault sizes entries (Double submitter number) r f =
-    absurd (omega (arith, r.requests submitter number f.bad.0, some_left (entries_of submitter number f.before) f.bad.1, counted sizes entries submitter number _ f))
+    absurd (omega (
+      arith,
+      r.requests submitter number f.bad.0,
+      some_left (entries_of submitter number f.before) f.bad.1,
+      counted sizes entries submitter number _ f,
+    ))
 no-fault sizes entries (Missing submitter number) r f =
     absurd (omega (arith, r.requests submitter number f.request, ap (λ (xs : List Ran). length xs) f.missing))
 no-fault sizes entries Memory r f = refl
 
 -- a worker owns the users whose home it serves
-pub owns-own : (users submitters workers user : ℕ) → user < users → owns (share_of users submitters workers (worker_of workers (home submitters user))) user ≡ true
-owns-own users submitters workers user there = rw (lt-ltb user users there, eq-eqb (worker_of workers (home submitters user)) (worker_of workers (home submitters user)) refl) refl
+pub owns-own : (users submitters workers user : ℕ)
+    → user < users
+    → owns (share_of users submitters workers (worker_of workers (home submitters user))) user ≡ true
+owns-own users submitters workers user there =
+    rw (
+      lt-ltb user users there,
+      eq-eqb (worker_of workers (home submitters user)) (worker_of workers (home submitters user)) refl,
+    ) refl

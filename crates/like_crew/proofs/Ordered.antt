@@ -19,29 +19,49 @@ module _ (h : ℕ → ℕ → ℕ) where
 
   -- what passes a test weighs the same as it runs
   sum-passed : (p : Took → Bool) (k : ℕ) (stashed : Bool) (taken : List Took)
-      → sum_by weight_run (map (entry_in k stashed) (filter p taken)) ≡ sum_by (λ t. cond (p t) (weight_taken t) 0) taken
+      → sum_by weight_run (map (entry_in k stashed) (filter p taken))
+      ≡ sum_by (λ t. cond (p t) (weight_taken t) 0) taken
   sum-passed p k stashed [] = refl
   sum-passed p k stashed (t ∷ taken) =
-      by_test (p t) (sum-passed p k stashed taken) ∙ sym (sum_by-cons (λ (u : Took). cond (p u) (weight_taken u) 0) t taken) where
-        by_test : (b : Bool) → sum_by weight_run (map (entry_in k stashed) (filter p taken)) ≡ sum_by (λ u. cond (p u) (weight_taken u) 0) taken
-            → sum_by weight_run (map (entry_in k stashed) (cond b (t ∷ filter p taken) (filter p taken))) ≡ cond b (weight_taken t) 0 + sum_by (λ u. cond (p u) (weight_taken u) 0) taken
-        by_test true rest = sum_by-cons weight_run (entry_in k stashed t) (map (entry_in k stashed) (filter p taken)) ∙ ap (λ n. weight_taken t + n) rest
+      by_test (p t) (sum-passed p k stashed taken)
+      ∙ sym (sum_by-cons (λ (u : Took). cond (p u) (weight_taken u) 0) t taken) where
+        by_test : (b : Bool)
+            → sum_by weight_run (map (entry_in k stashed) (filter p taken))
+            ≡ sum_by (λ u. cond (p u) (weight_taken u) 0) taken
+            → sum_by weight_run (map (entry_in k stashed) (cond b (t ∷ filter p taken) (filter p taken)))
+            ≡ cond b (weight_taken t) 0 + sum_by (λ u. cond (p u) (weight_taken u) 0) taken
+        by_test true rest =
+            sum_by-cons weight_run (entry_in k stashed t) (map (entry_in k stashed) (filter p taken))
+            ∙ ap (λ n. weight_taken t + n) rest
         by_test false rest = rest ∙ sym (zero-add _)
 
   -- a block
   sum-block : (service : Service) (taken : List Took) (k : ℕ)
       → sum_by weight_run (block service taken k)
-      ≡ sum_by (λ t. cond (is_due service k t) (weight_taken t) 0) taken + sum_by (λ t. cond (is_prompt service k t) (weight_taken t) 0) taken
+      ≡ sum_by (λ t. cond (is_due service k t) (weight_taken t) 0) taken
+      + sum_by (λ t. cond (is_prompt service k t) (weight_taken t) 0) taken
   sum-block service taken k =
-      sum_by-append weight_run (map (entry_in k true) (filter (is_due service k) taken)) (map (entry_in k false) (filter (is_prompt service k) taken))
-      ∙ ap (λ n. n + sum_by weight_run (map (entry_in k false) (filter (is_prompt service k) taken))) (sum-passed (is_due service k) k true taken)
-      ∙ ap (λ n. sum_by (λ t. cond (is_due service k t) (weight_taken t) 0) taken + n) (sum-passed (is_prompt service k) k false taken)
+      sum_by-append weight_run (map (entry_in k true) (filter (is_due service k) taken))
+      (map (entry_in k false) (filter (is_prompt service k) taken))
+      ∙ ap (λ n. n + sum_by weight_run (map (entry_in k false) (filter (is_prompt service k) taken)))
+      (sum-passed (is_due service k) k true taken)
+      ∙ ap (λ n. sum_by (λ t. cond (is_due service k t) (weight_taken t) 0) taken + n)
+      (sum-passed (is_prompt service k) k false taken)
 
   -- sums of three tests at once
-  sum-three : (a b c d : Took → ℕ) → ((t : Took) → a t + (b t + c t) ≡ d t) → (taken : List Took) → sum_by a taken + (sum_by b taken + sum_by c taken) ≡ sum_by d taken
+  sum-three : (a b c d : Took → ℕ) → ((t : Took) → a t + (b t + c t) ≡ d t) → (taken : List Took)
+      → sum_by a taken + (sum_by b taken + sum_by c taken) ≡ sum_by d taken
   sum-three a b c d e [] = refl
   sum-three a b c d e (t ∷ taken) =
-      omega (arith, sum_by-cons a t taken, sum_by-cons b t taken, sum_by-cons c t taken, sum_by-cons d t taken, e t, sum-three a b c d e taken)
+      omega (
+        arith,
+        sum_by-cons a t taken,
+        sum_by-cons b t taken,
+        sum_by-cons c t taken,
+        sum_by-cons d t taken,
+        e t,
+        sum-three a b c d e taken,
+      )
 
   -- the block in which a request runs
   abbrev runs_in : Service → Took → ℕ
@@ -51,7 +71,11 @@ module _ (h : ℕ → ℕ → ℕ) where
   step n k v =
       elim (cases_lt n k) [
         | inl below ↦
-            rw (lt-ltb n k below, ne_eqb n k (λ e. absurd (omega (arith, below, e))), lt-ltb n (k + 1) (omega (arith, below))) (add-zero v)
+            rw (
+              lt-ltb n k below,
+              ne_eqb n k (λ e. absurd (omega (arith, below, e))),
+              lt-ltb n (k + 1) (omega (arith, below)),
+            ) (add-zero v)
         | inr above ↦
             elim (cases_eq n k) [
               | inl same ↦
@@ -63,7 +87,8 @@ module _ (h : ℕ → ℕ → ℕ) where
 
   -- it runs in that block alone
   runs-once : (service : Service) (k : ℕ) (t : Took)
-      → cond (ltb (runs_in service t) k) (weight_taken t) 0 + (cond (is_due service k t) (weight_taken t) 0 + cond (is_prompt service k t) (weight_taken t) 0)
+      → cond (ltb (runs_in service t) k) (weight_taken t) 0
+      + (cond (is_due service k t) (weight_taken t) 0 + cond (is_prompt service k t) (weight_taken t) 0)
       ≡ cond (ltb (runs_in service t) (k + 1)) (weight_taken t) 0
   runs-once service k t = by_wait (took_to_wait service t) where
     and-true : (b : Bool) → (b && true) ≡ b
@@ -77,8 +102,17 @@ module _ (h : ℕ → ℕ → ℕ) where
     by_wait : (w : Bool) → cond (ltb (cond w (t.phase + 1) t.phase) k) (weight_taken t) 0
         + (cond (eqb (t.phase + 1) k && w) (weight_taken t) 0 + cond (eqb t.phase k && not w) (weight_taken t) 0)
         ≡ cond (ltb (cond w (t.phase + 1) t.phase) (k + 1)) (weight_taken t) 0
-    by_wait true = rw (and-true (eqb (t.phase + 1) k), and-false (eqb t.phase k), add-zero (cond (eqb (t.phase + 1) k) (weight_taken t) 0)) (step (t.phase + 1) k (weight_taken t))
-    by_wait false = rw (and-false (eqb (t.phase + 1) k), and-true (eqb t.phase k), zero-add (cond (eqb t.phase k) (weight_taken t) 0)) (step t.phase k (weight_taken t))
+    by_wait true = rw (
+      and-true (eqb (t.phase + 1) k),
+      and-false (eqb t.phase k),
+      add-zero (cond (eqb (t.phase + 1) k) (weight_taken t) 0),
+    ) (step (t.phase + 1) k (weight_taken t))
+    by_wait false =
+        rw (
+          and-false (eqb (t.phase + 1) k),
+          and-true (eqb t.phase k),
+          zero-add (cond (eqb t.phase k) (weight_taken t) 0),
+        ) (step t.phase k (weight_taken t))
 
   -- the first blocks
   none-below : (n : Took → ℕ) (taken : List Took) → sum_by (λ t. cond (ltb (n t) 0) (weight_taken t) 0) taken ≡ 0
@@ -88,26 +122,31 @@ module _ (h : ℕ → ℕ → ℕ) where
       ∙ rw (le-ltb (n t) 0 (omega arith), none-below n taken) refl
 
   sum-below : (service : Service) (taken : List Took) (k : ℕ)
-      → sum_by weight_run (order_below service taken k) ≡ sum_by (λ t. cond (ltb (runs_in service t) k) (weight_taken t) 0) taken
+      → sum_by weight_run (order_below service taken k)
+      ≡ sum_by (λ t. cond (ltb (runs_in service t) k) (weight_taken t) 0) taken
   sum-below service taken zero = sym (none-below (runs_in service) taken)
   sum-below service taken (suc k) =
       ap (λ n. sum_by weight_run (order_below service taken n)) (sym (add-one k))
       ∙ ap (sum_by weight_run) (order_below-more service taken k)
       ∙ sum_by-append weight_run (order_below service taken k) (block service taken k)
       ∙ ap (λ n. n + sum_by weight_run (block service taken k)) (sum-below service taken k)
-      ∙ ap (λ n. sum_by (λ t. cond (ltb (runs_in service t) k) (weight_taken t) 0) taken + n) (sum-block service taken k)
-      ∙ sum-three (λ t. cond (ltb (runs_in service t) k) (weight_taken t) 0) (λ t. cond (is_due service k t) (weight_taken t) 0) (λ t. cond (is_prompt service k t) (weight_taken t) 0)
+      ∙ ap (λ n. sum_by (λ t. cond (ltb (runs_in service t) k) (weight_taken t) 0) taken + n)
+      (sum-block service taken k)
+      ∙ sum-three (λ t. cond (ltb (runs_in service t) k) (weight_taken t) 0)
+      (λ t. cond (is_due service k t) (weight_taken t) 0) (λ t. cond (is_prompt service k t) (weight_taken t) 0)
       (λ t. cond (ltb (runs_in service t) (k + 1)) (weight_taken t) 0) (runs-once service k) taken
       ∙ ap (λ n. sum_by (λ t. cond (ltb (runs_in service t) n) (weight_taken t) 0) taken) (add-one k)
 
   -- all blocks
-  all-below : (service : Service) (taken : List Took) (k : ℕ) → phases_of taken ≤ k → sum_by (λ t. cond (ltb (runs_in service t) (k + 1)) (weight_taken t) 0) taken ≡ sum_by weight_taken taken
+  all-below : (service : Service) (taken : List Took) (k : ℕ) → phases_of taken ≤ k
+      → sum_by (λ t. cond (ltb (runs_in service t) (k + 1)) (weight_taken t) 0) taken ≡ sum_by weight_taken taken
   all-below service [] k h = refl
   all-below service (t ∷ taken) k h =
       let first : t.phase + 1 ≤ k = omega (arith, le-max_left (t.phase + 1) (phases_of taken), h) in
       let others : phases_of taken ≤ k = omega (arith, le-max_right (t.phase + 1) (phases_of taken), h) in
       sum_by-cons (λ (u : Took). cond (ltb (runs_in service u) (k + 1)) (weight_taken u) 0) t taken
-      ∙ ap (λ b. cond b (weight_taken t) 0 + sum_by (λ u. cond (ltb (runs_in service u) (k + 1)) (weight_taken u) 0) taken)
+      ∙ ap (λ b. cond b (weight_taken t) 0
+      + sum_by (λ u. cond (ltb (runs_in service u) (k + 1)) (weight_taken u) 0) taken)
       (lt-ltb (runs_in service t) (k + 1) (early (took_to_wait service t) first))
       ∙ ap (λ n. weight_taken t + n) (all-below service taken k others)
       ∙ sym (sum_by-cons weight_taken t taken) where
@@ -116,7 +155,8 @@ module _ (h : ℕ → ℕ → ℕ) where
         early false e = omega (arith, e)
 
   -- run order weighs what was taken
-  pub order-weighs : (service : Service) (taken : List Took) → sum_by weight_run (order service taken) ≡ sum_by weight_taken taken
+  pub order-weighs : (service : Service) (taken : List Took)
+      → sum_by weight_run (order service taken) ≡ sum_by weight_taken taken
   order-weighs service taken =
       ap (λ n. sum_by weight_run (order_below service taken n)) refl
       ∙ sum-below service taken (phases_of taken + 1)

@@ -56,14 +56,20 @@ use Rattle.like_crew.proofs.lists.Pairs.{pairs-at, pairs-length, pairs-sum}
 use Rattle.like_crew.proofs.lists.Sums.{sum-of-map}
 
 -- what matches an element that stands at a place
-pub left-at : {A B : Type 0} (R : A → B → Type 0) (xs : List A) (ys : List B) (k : ℕ) (y : B) → AllZip R xs ys → slice_get ys k ≡ Some y → (x : A) × ((slice_get xs k ≡ Some x) × R x y)
+pub left-at : {A B : Type 0} (R : A → B → Type 0) (xs : List A) (ys : List B) (k : ℕ) (y : B)
+    → AllZip R xs ys
+    → slice_get ys k ≡ Some y
+    → (x : A) × ((slice_get xs k ≡ Some x) × R x y)
 left-at R [] [] k y all e = absurd (cc e)
 left-at R [] (b ∷ ys) k y all e = absurd all
 left-at R (a ∷ xs) [] k y all e = absurd all
 left-at R (a ∷ xs) (b ∷ ys) zero y all e = let same : b ≡ y = cc e in (a, (refl, subst (R a) same all.0))
 left-at R (a ∷ xs) (b ∷ ys) (suc k) y all e = left-at R xs ys k y all.1 e
 
-pub right-at : {A B : Type 0} (R : A → B → Type 0) (xs : List A) (ys : List B) (k : ℕ) (x : A) → AllZip R xs ys → slice_get xs k ≡ Some x → (y : B) × ((slice_get ys k ≡ Some y) × R x y)
+pub right-at : {A B : Type 0} (R : A → B → Type 0) (xs : List A) (ys : List B) (k : ℕ) (x : A)
+    → AllZip R xs ys
+    → slice_get xs k ≡ Some x
+    → (y : B) × ((slice_get ys k ≡ Some y) × R x y)
 right-at R [] [] k x all e = absurd (cc e)
 right-at R [] (b ∷ ys) k x all e = absurd all
 right-at R (a ∷ xs) [] k x all e = absurd all
@@ -71,19 +77,26 @@ right-at R (a ∷ xs) (b ∷ ys) zero x all e = let same : a ≡ x = cc e in (b,
 right-at R (a ∷ xs) (b ∷ ys) (suc k) x all e = right-at R xs ys k x all.1 e
 
 -- a fact of each element of the first list stands beside the match
-with-fact : {A B : Type 0} (R : A → B → Type 0) (P : A → Type 0) (xs : List A) (ys : List B) → ((k : ℕ) (x : A) → slice_get xs k ≡ Some x → P x) → AllZip R xs ys → AllZip (λ x y. P x × R x y) xs ys
+with-fact : {A B : Type 0} (R : A → B → Type 0) (P : A → Type 0) (xs : List A) (ys : List B)
+    → ((k : ℕ) (x : A) → slice_get xs k ≡ Some x → P x)
+    → AllZip R xs ys
+    → AllZip (λ x y. P x × R x y) xs ys
 with-fact R P [] [] each all = tt
 with-fact R P [] (b ∷ ys) each all = absurd all
 with-fact R P (a ∷ xs) [] each all = absurd all
-with-fact R P (a ∷ xs) (b ∷ ys) each all = ((each zero a refl, all.0), with-fact R P xs ys (λ k x e. each (suc k) x e) all.1)
+with-fact R P (a ∷ xs) (b ∷ ys) each all =
+    ((each zero a refl, all.0), with-fact R P xs ys (λ k x e. each (suc k) x e) all.1)
 
 -- a page's count at the start
-pub initial-at : (service : Service) (page : ℕ) → get_or (map (λ (p : Page). p.count) service.pages) page 0 ≡ initial_count service.pages page
+pub initial-at : (service : Service) (page : ℕ)
+    → get_or (map (λ (p : Page). p.count) service.pages) page 0 ≡ initial_count service.pages page
 initial-at service page =
-    sym (unwrap_or-slice_get (map (λ (p : Page). p.count) service.pages) page 0) ∙ ap (λ o. unwrap_or o 0) (slice_get-map (λ (p : Page). p.count) service.pages page)
+    sym (unwrap_or-slice_get (map (λ (p : Page). p.count) service.pages) page 0)
+    ∙ ap (λ o. unwrap_or o 0) (slice_get-map (λ (p : Page). p.count) service.pages page)
     ∙ by_page (slice_get service.pages page)
   where
-    by_page : (o : Option Page) → unwrap_or (option_map (λ (p : Page). p.count) o) 0 ≡ option_map_or (λ (p : Page). p.count) o 0
+    by_page : (o : Option Page)
+        → unwrap_or (option_map (λ (p : Page). p.count) o) 0 ≡ option_map_or (λ (p : Page). p.count) o 0
     by_page None = refl
     by_page (Some p) = refl
 
@@ -108,11 +121,17 @@ module _ (setup : Setup) (plans : List (List Request)) (site : Site) (e : Ended)
   served = asked setup plans (runs_of e.logs.items)
 
   -- the server of a worker
-  pub server-at : (worker : ℕ) (s : ServerView) → slice_get h.servers worker ≡ Some s → IsServer (service_of setup plans) setup.workers (board_numbers board) site.notes worker s
-  server-at worker s at = subst (λ n. IsServer (service_of setup plans) setup.workers (board_numbers board) site.notes n s) (zero-add worker) (pairs-at (IsServer (service_of setup plans) setup.workers (board_numbers board) site.notes) 0 setup.workers h.servers worker s h.are_servers at)
+  pub server-at : (worker : ℕ) (s : ServerView) → slice_get h.servers worker ≡ Some s
+      → IsServer (service_of setup plans) setup.workers (board_numbers board) site.notes worker s
+  server-at worker s at =
+      subst (λ n. IsServer (service_of setup plans) setup.workers (board_numbers board) site.notes n s)
+      (zero-add worker)
+      (pairs-at (IsServer (service_of setup plans) setup.workers (board_numbers board) site.notes) 0 setup.workers
+      h.servers worker s h.are_servers at)
 
   servers-size : length h.servers ≡ setup.workers
-  servers-size = sym (pairs-length (IsServer (service_of setup plans) setup.workers (board_numbers board) site.notes) (range_with_len 0 setup.workers) h.servers h.are_servers) ∙ length-range_with_len 0 setup.workers
+  servers-size = sym (pairs-length (IsServer (service_of setup plans) setup.workers (board_numbers board) site.notes)
+      (range_with_len 0 setup.workers) h.servers h.are_servers) ∙ length-range_with_len 0 setup.workers
 
   pub logs-size : length e.logs.items ≡ setup.workers
   logs-size = sym (pairs-length IsLogOf h.servers e.logs.items h.logs) ∙ servers-size
@@ -121,19 +140,23 @@ module _ (setup : Setup) (plans : List (List Request)) (site : Site) (e : Ended)
   seats-size = sym (pairs-length IsSeatOf h.servers e.seats.items h.seats) ∙ servers-size
 
   -- the masks that the workers read are those
-  pub right-at-server : HaveReadMasks (coord_view e.coord).masks e.seats.items → (worker : ℕ) (s : ServerView) → slice_get h.servers worker ≡ Some s → ReadMasksOf known s
+  pub right-at-server : HaveReadMasks (coord_view e.coord).masks e.seats.items → (worker : ℕ) (s : ServerView)
+      → slice_get h.servers worker ≡ Some s → ReadMasksOf known s
   right-at-server masks worker s at =
       let seat = right-at IsSeatOf h.servers e.seats.items worker s h.seats at in
       let right : AreMasksOf (mask_of (coord_view e.coord).masks) (seat_meaning seat.0).masks =
-      subst (λ (x : WorkerSeat). AreMasksOf (mask_of (coord_view e.coord).masks) (seat_meaning x).masks) (get_or_from_slice_get e.seats.items worker seat.0 seat.0 seat.1.0)
+      subst (λ (x : WorkerSeat). AreMasksOf (mask_of (coord_view e.coord).masks) (seat_meaning x).masks)
+      (get_or_from_slice_get e.seats.items worker seat.0 seat.0 seat.1.0)
       (masks worker seat.0 (slice_get_within e.seats.items worker seat.0 seat.1.0)) in
       subst (λ (p : PostView). AreMasksOf hot_known p.masks) seat.1.1 right
 
-  pub log-at : HaveReadMasks (coord_view e.coord).masks e.seats.items → (worker : ℕ) (log : WorkerLog) → slice_get e.logs.items worker ≡ Some log → IsLog known setup.workers worker log
+  pub log-at : HaveReadMasks (coord_view e.coord).masks e.seats.items → (worker : ℕ) (log : WorkerLog)
+      → slice_get e.logs.items worker ≡ Some log → IsLog known setup.workers worker log
   log-at masks worker log at =
       let s = left-at IsLogOf h.servers e.logs.items worker log h.logs at in
       let is = server-at worker s.0 s.1.0 in
-      subst (λ (x : Share). IsLog known x.workers x.worker log) is.share (s.1.1.log_is known (is.works hot_known, right-at-server masks worker s.0 s.1.0))
+      subst (λ (x : Share). IsLog known x.workers x.worker log) is.share
+      (s.1.1.log_is known (is.works hot_known, right-at-server masks worker s.0 s.1.0))
 
   -- where no additions are noted, no log has any
   pub none-noted : site.notes ≡ false → All (λ log. log.adds.items ≡ []) e.logs.items
@@ -149,30 +172,45 @@ module _ (setup : Setup) (plans : List (List Request)) (site : Site) (e : Ended)
       s.1.1.share ∙ is.share ∙ ap (λ n. share_of known.users (submitters known) n worker) (sym logs-size)
 
   -- nothing was taken after the phase in which the run ended
-  below : (last : Option Sight) (taken : List Took) (phase : ℕ) → NoneAbove last taken → IfSome last (λ sight. sight.number ≤ phase) → All (λ t. t.phase ≤ phase) taken
+  below : (last : Option Sight) (taken : List Took) (phase : ℕ) → NoneAbove last taken
+      → IfSome last (λ sight. sight.number ≤ phase) → All (λ t. t.phase ≤ phase) taken
   below None taken phase none le = λ k d within. absurd (omega (arith, within, ap (λ (xs : List Took). length xs) none))
   below (Some sight) taken phase all le = λ k d within. omega (arith, all k d within, le)
 
   -- the additions of all seats are the accepted likes of all logs
-  pub all-likes : HaveReadMasks (coord_view e.coord).masks e.seats.items → (page : ℕ) → sum_by (λ seat. additions_of (seat_meaning seat) page) e.seats.items ≡ likes known page (runs_of e.logs.items)
+  pub all-likes : HaveReadMasks (coord_view e.coord).masks e.seats.items → (page : ℕ)
+      → sum_by (λ seat. additions_of (seat_meaning seat) page) e.seats.items ≡ likes known page (runs_of e.logs.items)
   all-likes masks page =
-      sym (pairs-sum IsSeatOf (λ (s : ServerView). additions_of s.worker.post page) (λ (seat : WorkerSeat). additions_of (seat_meaning seat) page) h.servers e.seats.items
+      sym (pairs-sum IsSeatOf (λ (s : ServerView). additions_of s.worker.post page)
+      (λ (seat : WorkerSeat). additions_of (seat_meaning seat) page) h.servers e.seats.items
       (λ s seat m. ap (λ (p : PostView). additions_of p page) (sym m)) h.seats)
-      ∙ pairs-sum (λ (s : ServerView) (log : WorkerLog). ((page : ℕ) → likes_among known page log.ran.items ≡ additions_of s.worker.post page))
-      (λ (s : ServerView). additions_of s.worker.post page) (λ (log : WorkerLog). likes_among known page log.ran.items) h.servers e.logs.items (λ s log m. sym (m page)) matched
+      ∙ pairs-sum (λ (s : ServerView)
+      (log : WorkerLog). ((page : ℕ) → likes_among known page log.ran.items ≡ additions_of s.worker.post page))
+      (λ (s : ServerView). additions_of s.worker.post page)
+      (λ (log : WorkerLog). likes_among known page log.ran.items) h.servers e.logs.items
+      (λ s log m. sym (m page)) matched
       ∙ sym (sum-of-map (likes_among known page) (λ (log : WorkerLog). log.ran.items) e.logs.items) where
-        both : (ss : List ServerView) (logs : List WorkerLog) → ((k : ℕ) (s : ServerView) → slice_get ss k ≡ Some s → HasWorkedFor known s) → AllZip IsLogOf ss logs
-            → AllZip (λ (s : ServerView) (log : WorkerLog). ((page : ℕ) → likes_among known page log.ran.items ≡ additions_of s.worker.post page)) ss logs
+        both : (ss : List ServerView) (logs : List WorkerLog)
+            → ((k : ℕ) (s : ServerView) → slice_get ss k ≡ Some s → HasWorkedFor known s) → AllZip IsLogOf ss logs
+            → AllZip (λ (s : ServerView)
+            (log : WorkerLog). ((page : ℕ)
+            → likes_among known page log.ran.items ≡ additions_of s.worker.post page)) ss logs
         both [] [] each all = tt
         both [] (log ∷ logs) each all = absurd all
         both (s ∷ ss) [] each all = absurd all
-        both (s ∷ ss) (log ∷ logs) each all = (all.0.additions known (each zero s refl), both ss logs (λ k t x. each (suc k) t x) all.1)
+        both (s ∷ ss) (log ∷ logs) each all =
+            (all.0.additions known (each zero s refl), both ss logs (λ k t x. each (suc k) t x) all.1)
 
-        matched : AllZip (λ (s : ServerView) (log : WorkerLog). ((page : ℕ) → likes_among known page log.ran.items ≡ additions_of s.worker.post page)) h.servers e.logs.items
-        matched = both h.servers e.logs.items (λ k s at. ((server-at k s at).works hot_known, right-at-server masks k s at)) h.logs
+        matched : AllZip
+            (λ (s : ServerView)
+            (log : WorkerLog). ((page : ℕ) → likes_among known page log.ran.items ≡ additions_of s.worker.post page))
+            h.servers e.logs.items
+        matched = both h.servers e.logs.items
+            (λ k s at. ((server-at k s at).works hot_known, right-at-server masks k s at)) h.logs
 
   -- the seats that were left
-  seat-at : (k : ℕ) (seat : WorkerSeat) → slice_get e.seats.items k ≡ Some seat → (s : ServerView) × ((slice_get h.servers k ≡ Some s) × IsSeatOf s seat)
+  seat-at : (k : ℕ) (seat : WorkerSeat) → slice_get e.seats.items k ≡ Some seat
+      → (s : ServerView) × ((slice_get h.servers k ≡ Some s) × IsSeatOf s seat)
   seat-at k seat at = left-at IsSeatOf h.servers e.seats.items k seat h.seats at
 
   seat-here : (k : ℕ) (seat : WorkerSeat) → slice_get e.seats.items k ≡ Some seat → seat_board seat ≡ board
@@ -189,7 +227,8 @@ module _ (setup : Setup) (plans : List (List Request)) (site : Site) (e : Ended)
   seat-gone k seat at =
       let s = seat-at k seat at in
       let gone : s.0.worker.post.state ≡ Gone =
-      subst (λ (x : ServerView). x.worker.post.state ≡ Gone) (get_or_from_slice_get h.servers k s.0 s.0 s.1.0) (h.gone k s.0 (slice_get_within h.servers k s.0 s.1.0)) in
+      subst (λ (x : ServerView). x.worker.post.state ≡ Gone) (get_or_from_slice_get h.servers k s.0 s.0 s.1.0)
+      (h.gone k s.0 (slice_get_within h.servers k s.0 s.1.0)) in
       ap (λ (p : PostView). p.state) s.1.1 ∙ gone
 
   pub all-here : All (λ seat. seat_board seat ≡ board) e.seats.items
@@ -199,11 +238,15 @@ module _ (setup : Setup) (plans : List (List Request)) (site : Site) (e : Ended)
   all-gone = λ k d within. seat-gone k (get_or e.seats.items k d) (slice_get-get_or e.seats.items k d within)
 
   pub are-all : z.workers ≡ setup.workers → AreAll (coord_view e.coord).opening.workers e.seats.items
-  are-all same = subst (λ n. AreAll n e.seats.items) (sym (ap (λ (x : Opening). x.workers) h.opening ∙ same)) (all_in_order e.seats.items setup.workers seats-size seat-worker)
+  are-all same = subst (λ n. AreAll n e.seats.items) (sym (ap (λ (x : Opening). x.workers) h.opening ∙ same))
+      (all_in_order e.seats.items setup.workers seats-size seat-worker)
 
   -- the final counts
-  pub counts-are : HaveReadMasks (coord_view e.coord).masks e.seats.items → (counts : List ℕ) → z.counts ≡ map (λ p. p.count) known.pages → length counts ≡ length known.pages
-      → ((page : ℕ) → page < length known.pages → get_or counts page 0 ≡ last_count (coord_view e.coord).opening e.seats.items page) → AreCounts served (runs_of e.logs.items) counts
+  pub counts-are : HaveReadMasks (coord_view e.coord).masks e.seats.items → (counts : List ℕ)
+      → z.counts ≡ map (λ p. p.count) known.pages → length counts ≡ length known.pages
+      → ((page : ℕ) → page < length known.pages
+      → get_or counts page 0 ≡ last_count (coord_view e.coord).opening e.seats.items page)
+      → AreCounts served (runs_of e.logs.items) counts
   counts-are masks counts initial sized told = record {
     pages = sized;
     each = λ page there.
@@ -215,15 +258,21 @@ module _ (setup : Setup) (plans : List (List Request)) (site : Site) (e : Ended)
   }
 
   -- what all seats have added before a phase are the accepted likes that all workers ran before it
-  pub all-before : HaveReadMasks (coord_view e.coord).masks e.seats.items → (phase page : ℕ) → seats_before e.seats.items phase page ≡ likes_below known page (runs_of e.logs.items) phase
+  pub all-before : HaveReadMasks (coord_view e.coord).masks e.seats.items → (phase page : ℕ)
+      → seats_before e.seats.items phase page ≡ likes_below known page (runs_of e.logs.items) phase
   all-before masks phase page =
-      sym (pairs-sum IsSeatOf (λ (s : ServerView). added_before phase page s.worker.post.additions) (λ (seat : WorkerSeat). added_before phase page (seat_meaning seat).additions) h.servers e.seats.items
+      sym (pairs-sum IsSeatOf (λ (s : ServerView). added_before phase page s.worker.post.additions)
+      (λ (seat : WorkerSeat). added_before phase page (seat_meaning seat).additions) h.servers e.seats.items
       (λ s seat m. ap (λ (p : PostView). added_before phase page p.additions) (sym m)) h.seats)
       ∙ pairs-sum (λ (s : ServerView) (log : WorkerLog). HasWorkedFor known s × IsLogOf s log)
-      (λ (s : ServerView). added_before phase page s.worker.post.additions) (λ (log : WorkerLog). likes_among known page (filter (λ x. nat_lt x.phase phase) log.ran.items)) h.servers e.logs.items
+      (λ (s : ServerView). added_before phase page s.worker.post.additions)
+      (λ (log : WorkerLog). likes_among known page (filter (λ x. nat_lt x.phase phase) log.ran.items)) h.servers
+      e.logs.items
       (λ s log m. sym (below-is known log.ran.items s.worker.post.additions (m.1.by_phase known m.0) phase page))
-      (with-fact IsLogOf (HasWorkedFor known) h.servers e.logs.items (λ k s at. ((server-at k s at).works hot_known, right-at-server masks k s at)) h.logs)
-      ∙ sym (sum-of-map (λ (ran : List Ran). likes_among known page (filter (λ x. nat_lt x.phase phase) ran)) (λ (log : WorkerLog). log.ran.items) e.logs.items)
+      (with-fact IsLogOf (HasWorkedFor known) h.servers e.logs.items
+      (λ k s at. ((server-at k s at).works hot_known, right-at-server masks k s at)) h.logs)
+      ∙ sym (sum-of-map (λ (ran : List Ran). likes_among known page (filter (λ x. nat_lt x.phase phase) ran))
+      (λ (log : WorkerLog). log.ran.items) e.logs.items)
 
   -- the counts that the coordinator read are the totals by the run lists
   are-totals : HaveReadMasks (coord_view e.coord).masks e.seats.items → AreCounted (coord_view e.coord) e.seats.items
@@ -235,43 +284,65 @@ module _ (setup : Setup) (plans : List (List Request)) (site : Site) (e : Ended)
       ∙ ap (λ n. get_or z.counts r.page 0 + n) (all-before masks (r.phase + 1) r.page)
 
   -- the hot pages that were chosen by these totals are those that the run lists tell
-  hot-is : (k : ℕ) → hot_by h.choice.hot (length (coord_view e.coord).opening.counts) (likes_counted (coord_view e.coord).opening.counts (total (service_of setup plans) (runs_of e.logs.items) z.counts)) k ≡ served.hot k
+  hot-is : (k : ℕ)
+      → hot_by h.choice.hot (length (coord_view e.coord).opening.counts)
+      (likes_counted (coord_view e.coord).opening.counts
+      (total (service_of setup plans) (runs_of e.logs.items) z.counts)) k ≡ served.hot k
   hot-is k =
-      ap (λ (x : Opening). hot_by h.choice.hot (length x.counts) (likes_counted x.counts (total (service_of setup plans) (runs_of e.logs.items) z.counts)) k) h.opening
-      ∙ ap (λ o. hot_by o (length z.counts) (likes_counted z.counts (total (service_of setup plans) (runs_of e.logs.items) z.counts)) k) h.hot
-      ∙ ap (λ n. hot_by setup.hot n (likes_counted z.counts (total (service_of setup plans) (runs_of e.logs.items) z.counts)) k) (length-map setup.pages (λ (p : Page). p.count))
+      ap (λ (x : Opening). hot_by h.choice.hot (length x.counts)
+      (likes_counted x.counts (total (service_of setup plans) (runs_of e.logs.items) z.counts)) k) h.opening
+      ∙ ap (λ o. hot_by o (length z.counts)
+      (likes_counted z.counts (total (service_of setup plans) (runs_of e.logs.items) z.counts)) k) h.hot
+      ∙ ap (λ n. hot_by setup.hot n
+      (likes_counted z.counts (total (service_of setup plans) (runs_of e.logs.items) z.counts)) k)
+      (length-map setup.pages (λ (p : Page). p.count))
       ∙ hot-same (service_of setup plans) (runs_of e.logs.items) z.counts setup.hot (length setup.pages) k
 
   -- the phases were released with the masks of these pages
-  pub masks-known : HaveReadMasks (coord_view e.coord).masks e.seats.items → AreCounted (coord_view e.coord) e.seats.items → (k : ℕ) → k ≤ e.phases → hot_known k ≡ served.hot k
-  masks-known masks counted k within = (h.chose (total (service_of setup plans) (runs_of e.logs.items) z.counts) (are-totals masks counted)).masks k (omega (arith, within, h.phases)) ∙ hot-is k
+  pub masks-known : HaveReadMasks (coord_view e.coord).masks e.seats.items
+      → AreCounted (coord_view e.coord) e.seats.items → (k : ℕ) → k ≤ e.phases → hot_known k ≡ served.hot k
+  masks-known masks counted k within =
+      (h.chose (total (service_of setup plans) (runs_of e.logs.items) z.counts) (are-totals masks counted)).masks k
+      (omega (arith, within, h.phases)) ∙ hot-is k
 
   -- the choices are those phases that have any
-  pub chosen-are : HaveReadMasks (coord_view e.coord).masks e.seats.items → AreCounted (coord_view e.coord) e.seats.items → e.chosen.items ≡ chosen_below served.hot e.phases
+  pub chosen-are : HaveReadMasks (coord_view e.coord).masks e.seats.items
+      → AreCounted (coord_view e.coord) e.seats.items → e.chosen.items ≡ chosen_below served.hot e.phases
   chosen-are masks counted =
-      h.chosen ∙ (h.chose (total (service_of setup plans) (runs_of e.logs.items) z.counts) (are-totals masks counted)).chosen
+      h.chosen ∙ (h.chose (total (service_of setup plans) (runs_of e.logs.items) z.counts)
+      (are-totals masks counted)).chosen
       ∙ ap (λ (f : ℕ → ℕ). chosen_below f ((coord_view e.coord).phase + 1)) (λ i k. hot-is k i)
       ∙ ap (λ n. chosen_below served.hot (n + 1)) (sym h.phases)
       ∙ chosen-more served.hot e.phases
-      ∙ ap (λ m. chosen_below served.hot e.phases ++ cond (ltb 0 m) (record { phase = e.phases; mask = m } ∷ []) []) (none-even setup.hot (length setup.pages) (likes_lately (service_of setup plans) (runs_of e.logs.items)) e.phases h.joined)
+      ∙ ap (λ m. chosen_below served.hot e.phases ++ cond (ltb 0 m) (record { phase = e.phases; mask = m } ∷ []) [])
+      (none-even setup.hot (length setup.pages)
+      (likes_lately (service_of setup plans) (runs_of e.logs.items)) e.phases h.joined)
       ∙ append-nil (chosen_below served.hot e.phases)
 
-  pub logs-are : HaveReadMasks (coord_view e.coord).masks e.seats.items → AreCounted (coord_view e.coord) e.seats.items → All (λ seat. IfSome (seat_meaning seat).last (λ sight. sight.number ≤ (coord_view e.coord).phase)) e.seats.items → AreLogs served setup.workers e.phases e.logs.items
+  pub logs-are : HaveReadMasks (coord_view e.coord).masks e.seats.items → AreCounted (coord_view e.coord) e.seats.items
+      → All (λ seat. IfSome (seat_meaning seat).last (λ sight. sight.number ≤ (coord_view e.coord).phase)) e.seats.items
+      → AreLogs served setup.workers e.phases e.logs.items
   logs-are masks counted phases worker log at =
       let s = left-at IsLogOf h.servers e.logs.items worker log h.logs at in
       let seat = right-at IsSeatOf h.servers e.seats.items worker s.0 h.seats s.1.0 in
       let seen : IfSome (seat_meaning seat.0).last (λ sight. sight.number ≤ (coord_view e.coord).phase) =
-      subst (λ (x : WorkerSeat). IfSome (seat_meaning x).last (λ sight. sight.number ≤ (coord_view e.coord).phase)) (get_or_from_slice_get e.seats.items worker seat.0 seat.0 seat.1.0)
+      subst (λ (x : WorkerSeat). IfSome (seat_meaning x).last (λ sight. sight.number ≤ (coord_view e.coord).phase))
+      (get_or_from_slice_get e.seats.items worker seat.0 seat.0 seat.1.0)
       (phases worker seat.0 (slice_get_within e.seats.items worker seat.0 seat.1.0)) in
       let saw : IfSome s.0.worker.post.last (λ sight. sight.number ≤ e.phases) =
-      subst (λ n. IfSome s.0.worker.post.last (λ sight. sight.number ≤ n)) (sym h.phases) (subst (λ (p : PostView). IfSome p.last (λ sight. sight.number ≤ (coord_view e.coord).phase)) seat.1.1 seen) in
+      subst (λ n. IfSome s.0.worker.post.last (λ sight. sight.number ≤ n)) (sym h.phases)
+      (subst (λ (p : PostView). IfSome p.last (λ sight. sight.number ≤ (coord_view e.coord).phase)) seat.1.1
+      seen) in
       let within = below s.0.worker.post.last log.taken.items e.phases s.1.1.above saw in
       let it = log-at masks worker log at in (
         record {
           taken = it.taken;
           rising = it.rising;
-          ran = it.ran ∙ order-same (service_of setup plans) hot_known served.hot e.phases log.taken.items (masks-known masks counted) within;
-          stashed = λ phase. rw (sym (stashed-same (service_of setup plans) hot_known served.hot e.phases log.taken.items (masks-known masks counted) within phase)) (it.stashed phase);
+          ran = it.ran ∙ order-same (service_of setup plans) hot_known served.hot e.phases log.taken.items
+              (masks-known masks counted) within;
+          stashed = λ phase. rw (sym (stashed-same
+              (service_of setup plans) hot_known served.hot e.phases log.taken.items
+              (masks-known masks counted) within phase)) (it.stashed phase);
           answers = it.answers;
           last = it.last;
         },
@@ -279,7 +350,9 @@ module _ (setup : Setup) (plans : List (List Request)) (site : Site) (e : Ended)
       )
 
   -- the counts that looks were answered
-  pub seen-counts : HaveReadMasks (coord_view e.coord).masks e.seats.items → z.counts ≡ map (λ p. p.count) known.pages → HaveReadBetween (coord_view e.coord).opening (coord_view e.coord).phase e.seats.items → All (λ log. HasRightCounts served (runs_of e.logs.items) log.ran.items) e.logs.items
+  pub seen-counts : HaveReadMasks (coord_view e.coord).masks e.seats.items → z.counts ≡ map (λ p. p.count) known.pages
+      → HaveReadBetween (coord_view e.coord).opening (coord_view e.coord).phase e.seats.items
+      → All (λ log. HasRightCounts served (runs_of e.logs.items) log.ran.items) e.logs.items
   seen-counts masks initial reads = λ worker d within.
       let log : WorkerLog = get_or e.logs.items worker d in
       let at : slice_get e.logs.items worker ≡ Some log = slice_get-get_or e.logs.items worker d within in
@@ -287,13 +360,18 @@ module _ (setup : Setup) (plans : List (List Request)) (site : Site) (e : Ended)
       let is = server-at worker s.0 s.1.0 in
       let seat = right-at IsSeatOf h.servers e.seats.items worker s.0 h.seats s.1.0 in
       let last : ℕ = (coord_view e.coord).phase in
-      let P : Opening → PostView → Type 0 = λ y p. AreBetween y.counts (seats_before e.seats.items) last p.additions p.reads in
+      let P : Opening → PostView → Type 0 =
+      λ y p. AreBetween y.counts (seats_before e.seats.items) last p.additions p.reads in
       let own : P (coord_view e.coord).opening (seat_meaning seat.0) =
-      subst (λ (x : WorkerSeat). P (coord_view e.coord).opening (seat_meaning x)) (get_or_from_slice_get e.seats.items worker seat.0 seat.0 seat.1.0)
+      subst (λ (x : WorkerSeat). P (coord_view e.coord).opening (seat_meaning x))
+      (get_or_from_slice_get e.seats.items worker seat.0 seat.0 seat.1.0)
       (reads worker seat.0 (slice_get_within e.seats.items worker seat.0 seat.1.0))
       in
-      let between : P z s.0.worker.post = subst (λ (y : Opening). P y s.0.worker.post) h.opening (subst (P (coord_view e.coord).opening) seat.1.1 own) in
-      right-counts served (runs_of e.logs.items) log.ran.items s.0.worker.post.additions s.0.worker.post.reads z.counts (seats_before e.seats.items) last
+      let between : P z s.0.worker.post =
+      subst (λ (y : Opening). P y s.0.worker.post) h.opening
+      (subst (P (coord_view e.coord).opening) seat.1.1 own) in
+      right-counts served (runs_of e.logs.items) log.ran.items s.0.worker.post.additions s.0.worker.post.reads z.counts
+      (seats_before e.seats.items) last
       (λ page. ap (λ cs. get_or cs page 0) initial ∙ initial-at known page)
       (all-before masks)
       (s.1.1.by_phase known (is.works hot_known, right-at-server masks worker s.0 s.1.0))
@@ -301,9 +379,14 @@ module _ (setup : Setup) (plans : List (List Request)) (site : Site) (e : Ended)
       between
 
 -- the last likes of all users
-pub last-likes-are : (service : Service) (workers : ℕ) (logs : List WorkerLog) (last : List (Option ℕ)) → length logs ≡ workers → 0 < workers
-    → ((worker : ℕ) (log : WorkerLog) → slice_get logs worker ≡ Some log → IsLog service workers worker log) → length last ≡ service.users
-    → ((user : ℕ) (log : WorkerLog) → user < service.users → slice_get logs (worker_of (length logs) (home (submitters service) user)) ≡ Some log → slice_get last user ≡ Some (last_of log.last user))
+pub last-likes-are : (service : Service) (workers : ℕ) (logs : List WorkerLog) (last : List (Option ℕ))
+    → length logs ≡ workers
+    → 0 < workers
+    → ((worker : ℕ) (log : WorkerLog) → slice_get logs worker ≡ Some log → IsLog service workers worker log)
+    → length last ≡ service.users
+    → ((user : ℕ) (log : WorkerLog) → user < service.users
+    → slice_get logs (worker_of (length logs) (home (submitters service) user)) ≡ Some log
+    → slice_get last user ≡ Some (last_of log.last user))
     → AreLastLikes service workers logs last
 last-likes-are service workers logs last sized some each users told = record {
   users = users;
@@ -312,7 +395,8 @@ last-likes-are service workers logs last sized some each users told = record {
       let within : worker < length logs = omega (arith, mod-lt (home (submitters service) user) some, sized) in
       by_log user there (slice_get logs worker) refl (cases_of logs worker within);
 } where
-  run-at : (xs : List WorkerLog) (k : ℕ) (x : WorkerLog) → slice_get xs k ≡ Some x → get_or (runs_of xs) k [] ≡ x.ran.items
+  run-at : (xs : List WorkerLog) (k : ℕ) (x : WorkerLog) → slice_get xs k ≡ Some x
+      → get_or (runs_of xs) k [] ≡ x.ran.items
   run-at [] k x at = absurd (cc at)
   run-at (y ∷ ys) zero x at = let same : y ≡ x = cc at in ap (λ (log : WorkerLog). log.ran.items) same
   run-at (y ∷ ys) (suc k) x at = run-at ys k x at
@@ -322,13 +406,17 @@ last-likes-are service workers logs last sized some each users told = record {
   cases_of (x ∷ xs) zero h = (x, refl)
   cases_of (x ∷ xs) (suc k) h = cases_of xs k (omega (arith, h))
 
-  by_log : (user : ℕ) → user < service.users → (o : Option WorkerLog) → slice_get logs (worker_of workers (home (submitters service) user)) ≡ o
+  by_log : (user : ℕ) → user < service.users → (o : Option WorkerLog)
+      → slice_get logs (worker_of workers (home (submitters service) user)) ≡ o
       → ((x : WorkerLog) × (slice_get logs (worker_of workers (home (submitters service) user)) ≡ Some x))
-      → slice_get last user ≡ Some (last_like service user (get_or (runs_of logs) (worker_of workers (home (submitters service) user)) []))
+      → slice_get last user
+      ≡ Some (last_like service user
+      (get_or (runs_of logs) (worker_of workers (home (submitters service) user)) []))
   by_log user there o e found =
       told user found.0 there (ap (λ n. slice_get logs (worker_of n (home (submitters service) user))) sized ∙ found.1)
       ∙ ap Some ((each (worker_of workers (home (submitters service) user)) found.0 found.1).last user
-      ∙ ap (last_like service user) (sym (run-at logs (worker_of workers (home (submitters service) user)) found.0 found.1)))
+      ∙ ap (last_like service user)
+      (sym (run-at logs (worker_of workers (home (submitters service) user)) found.0 found.1)))
 
 -- each request has one entry
 range-in : (m k : ℕ) → 1 ≤ m → m ≤ k → in_range 1 (1 + k) m 1 ≡ 1
@@ -349,12 +437,18 @@ range-out m k out =
       | inr other ↦ rw other.0 refl
     ]
 
-pub runs-once : (service : Service) (workers : ℕ) (logs : List WorkerLog) (sizes : List ℕ) → sizes ≡ map length service.plans → length logs ≡ workers → 0 < workers
-    → ((worker : ℕ) (log : WorkerLog) → slice_get logs worker ≡ Some log → IsLog service workers worker log) → RunsOnce sizes (entries_in logs)
+pub runs-once : (service : Service) (workers : ℕ) (logs : List WorkerLog) (sizes : List ℕ)
+    → sizes ≡ map length service.plans
+    → length logs ≡ workers
+    → 0 < workers
+    → ((worker : ℕ) (log : WorkerLog) → slice_get logs worker ≡ Some log → IsLog service workers worker log)
+    → RunsOnce sizes (entries_in logs)
 runs-once service workers logs sizes sized size some each = record {
   requests = λ submitter number r.
       let r' : IsRequest sizes submitter number = r in
-      counted submitter number ∙ range-in number (length (plan_of service submitter)) r'.from_one (omega (arith, r'.within, size-at submitter));
+      counted submitter number
+      ∙ range-in number (length (plan_of service submitter)) r'.from_one
+      (omega (arith, r'.within, size-at submitter));
   others = λ submitter number no_request.
       counted submitter number ∙ range-out number (length (plan_of service submitter)) (λ within.
       no_request (record {
@@ -363,15 +457,19 @@ runs-once service workers logs sizes sized size some each = record {
         within = omega (arith, within.1, size-at submitter);
       }));
 } where
-  counted : (submitter number : ℕ) → length (entries_of submitter number (entries_in logs)) ≡ in_range 1 (1 + length (plan_of service submitter)) number 1
+  counted : (submitter number : ℕ)
+      → length (entries_of submitter number (entries_in logs))
+      ≡ in_range 1 (1 + length (plan_of service submitter)) number 1
   counted submitter number =
       length-filter (λ (e : Ran). eqb e.submitter submitter && eqb e.number number) (entries_in logs)
       ∙ count-in-all submitter number service workers logs size some each
 
   size-at : (submitter : ℕ) → get_or sizes submitter 0 ≡ length (plan_of service submitter)
   size-at submitter =
-      ap (λ xs. get_or xs submitter 0) sized ∙ sym (unwrap_or-slice_get (map length service.plans) submitter 0) ∙ ap (λ o. unwrap_or o 0) (slice_get-map length service.plans submitter)
-      ∙ by_plan (slice_get service.plans submitter) ∙ ap (λ (xs : List Request). length xs) (unwrap_or-slice_get service.plans submitter []) where
+      ap (λ xs. get_or xs submitter 0) sized ∙ sym (unwrap_or-slice_get (map length service.plans) submitter 0)
+      ∙ ap (λ o. unwrap_or o 0) (slice_get-map length service.plans submitter)
+      ∙ by_plan (slice_get service.plans submitter)
+      ∙ ap (λ (xs : List Request). length xs) (unwrap_or-slice_get service.plans submitter []) where
         by_plan : (o : Option (List Request)) → unwrap_or (option_map length o) 0 ≡ length (unwrap_or o [])
         by_plan None = refl
         by_plan (Some plan) = refl

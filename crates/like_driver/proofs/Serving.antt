@@ -14,40 +14,61 @@ use Rattle.like_driver.specs.declared.program.fault.ProgramFault.{ProgramFault}
 use Rattle.like_driver.specs.declared.program.fault.ProgramFault.TheVariants.{Files, Output}
 
 -- what is asked for by some words was done
-pub served : (words : Words) (old new : Option (List ℕ)) (asked : Asked) (summary : Option Summary) → ¬ (words ≡ []) → Asks words asked → HasDone asked old new summary
+pub served : (words : Words) (old new : Option (List ℕ)) (asked : Asked) (summary : Option Summary)
+    → ¬ (words ≡ [])
+    → Asks words asked
+    → HasDone asked old new summary
     → HasServed words old new summary
 served [] old new asked summary some asks done = absurd (some refl)
 served (w ∷ words) old new asked summary some asks done = (asked, asks, done)
 
 -- why it was not
-pub not_served : (words : Words) (old new : Option (List ℕ)) (fault : ProgramFault) → ¬ (words ≡ []) → IsWordsFault words old new fault → IsServeFault words old new fault
+pub not_served : (words : Words) (old new : Option (List ℕ)) (fault : ProgramFault)
+    → ¬ (words ≡ [])
+    → IsWordsFault words old new fault
+    → IsServeFault words old new fault
 not_served [] old new fault some why = absurd (some refl)
 not_served (w ∷ words) old new fault some why = why
 
 -- words that are there
-pub some-words : {S : Type 0} (text : S → List ℕ) (words : List S) → (length words == 0) ≡ false → ¬ (map text words ≡ [])
+pub some-words : {S : Type 0} (text : S → List ℕ) (words : List S)
+    → (length words == 0) ≡ false
+    → ¬ (map text words ≡ [])
 some-words text [] h e = true≢false h
 some-words text (w ∷ words) h e = let no : text w ∷ map text words ≡ [] = e in cc no
 
 -- what holds of a run or a replay that was done holds of the program's end
-pub of_files-ok : {A : Type 0} (P : A → Type 0) (options : Options) (done : Result A DriverFault) → IfOk done P → IfOk (of_files options done) P
+pub of_files-ok : {A : Type 0} (P : A → Type 0) (options : Options) (done : Result A DriverFault)
+    → IfOk done P
+    → IfOk (of_files options done) P
 of_files-ok P options (Ok x) h = h
 of_files-ok P options (Err fault) h = tt
 
 -- a run or a replay was done that the words ask for
-pub files-served : (words : Words) (old new : Option (List ℕ)) (options : Options) (asked : Asked) (done : Result (Option Summary) DriverFault) → ¬ (words ≡ []) → Asks words asked
+pub files-served : (words : Words) (old new : Option (List ℕ)) (options : Options) (asked : Asked)
+    (done : Result (Option Summary) DriverFault)
+    → ¬ (words ≡ [])
+    → Asks words asked
     → IfOk done (HasDone asked old new) → IfOk (of_files options done) (HasServed words old new)
 files-served words old new options asked (Ok x) some asks h = served words old new asked x some asks h
 files-served words old new options asked (Err fault) some asks h = tt
 
 -- why it was not
-pub files-fault : {A W : Type 0} (contents : W → Option (List ℕ)) (words : Words) (options : Options) (done : Result A DriverFault) (before after : W) → ¬ (words ≡ [])
-    → Asks words (Run options) ⊎ Asks words (Replay options) → IfErr done (λ fault. IsBeforeOutput fault → after ≡ before) → IfErr (of_files options done) (IsServeFault words (contents before) (contents after))
+pub files-fault : {A W : Type 0} (contents : W → Option (List ℕ)) (words : Words) (options : Options)
+    (done : Result A DriverFault) (before after : W)
+    → ¬ (words ≡ [])
+    → Asks words (Run options) ⊎ Asks words (Replay options)
+    → IfErr done (λ fault. IsBeforeOutput fault → after ≡ before)
+    → IfErr (of_files options done) (IsServeFault words (contents before) (contents after))
 files-fault contents words options (Ok x) before after some asks same = tt
-files-fault contents words options (Err fault) before after some asks same = not_served words _ _ (Files options fault) some (asks, λ early. ap contents (same early))
+files-fault contents words options (Err fault) before after some asks same =
+    not_served words _ _ (Files options fault) some (asks, λ early. ap contents (same early))
 
 -- why help was not printed
-pub help-fault : {A : Type 0} (words : Words) (old new : Option (List ℕ)) (done : Result A ProgramFault) → ¬ (words ≡ []) → AsksForHelp words
+pub help-fault : {A : Type 0} (words : Words) (old new : Option (List ℕ)) (done : Result A ProgramFault)
+    → ¬ (words ≡ [])
+    → AsksForHelp words
     → IfErr done (λ fault. fault ≡ Output) → IfErr done (IsServeFault words old new)
 help-fault words old new (Ok x) some asks h = tt
-help-fault words old new (Err fault) some asks h = not_served words old new fault some (subst (IsWordsFault words old new) (sym h) asks)
+help-fault words old new (Err fault) some asks h =
+    not_served words old new fault some (subst (IsWordsFault words old new) (sym h) asks)

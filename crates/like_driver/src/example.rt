@@ -2,9 +2,9 @@ ghost use Rattle.std.specs.Prelude.{◌≡◌, ◌∷◌, [], IfErr, IfOk, None,
 ghost use Rattle.like_driver.specs.Program.{HasReplayedExample, IsExample, IsExampleFault, example_requests};
 
 use crate::program::fault::{ProgramFault, with_options};
+use like_command::Options;
 use like_files::{NoProgress, replay_files_summed};
 use like_replies::Summary;
-use like_command::Options;
 use std::alloc::{AllocError, Global};
 use std::io::Write;
 

@@ -12,11 +12,11 @@ pub mod stopwatch;
 use crate::example::replay_example;
 use crate::program::fault::{ProgramFault, with_options};
 use crate::program::stopwatch::Stopwatch;
+use like_command::{Asked, Options, parse};
 use like_files::{
     Disk, DriverFault, Opened, Opener, Progress, open_files, replay_files_summed, run_files_summed,
 };
 use like_replies::Summary;
-use like_command::{Asked, Options, parse};
 use std::alloc::Global;
 use std::fs::Files;
 use std::io;

@@ -36,38 +36,61 @@ use Rattle.like_files.specs.declared.fault.DriverFault.{DriverFault}
 use Rattle.like_files.specs.declared.fault.DriverFault.TheVariants.{Pages, Requests, Script, Settings, Start, Unfinished, Write, Memory}
 
 -- right places are one list for each page
-pub one_list_a_page : (setup : Setup) (plans : List (List Request)) (report : Report) → HasRightPlaces setup plans report → length report.places.items ≡ length setup.pages
-one_list_a_page setup plans report right = sym (length-map report.places.items (λ (row : Vec Place Global). row.items)) ∙ right.rows.sized
+pub one_list_a_page : (setup : Setup) (plans : List (List Request)) (report : Report)
+    → HasRightPlaces setup plans report
+    → length report.places.items ≡ length setup.pages
+one_list_a_page setup plans report right =
+    sym (length-map report.places.items (λ (row : Vec Place Global). row.items)) ∙ right.rows.sized
 
 -- a report that is right for settings, which are those that were asked for, was written
-pub writes : (options : Options) (setup asked : Setup) (plans : List (List Request)) (report : Report) (old new : Option (List ℕ)) {summary : Option Summary} → setup ≡ asked → IsRightReport setup plans report
-    → (options.places ≡ true → HasRightPlaces setup plans report) → (options.places ≡ false → HasNoPlaces report) → Appends old new (text_of options.places setup.pages report)
+pub writes : (options : Options) (setup asked : Setup) (plans : List (List Request)) (report : Report)
+    (old new : Option (List ℕ)) {summary : Option Summary}
+    → setup ≡ asked
+    → IsRightReport setup plans report
+    → (options.places ≡ true → HasRightPlaces setup plans report)
+    → (options.places ≡ false → HasNoPlaces report)
+    → Appends old new (text_of options.places setup.pages report)
     → summary ≡ asked_summary options.summary report → WritesReport options asked plans old new summary
 writes options setup asked plans report old new {summary} same right placed none written summed =
-    subst (λ (s : Setup). WritesReport options s plans old new summary) same (record { report = report; right = right; placed = placed; none = none; written = written; summed = summed })
+    subst (λ (s : Setup). WritesReport options s plans old new summary) same
+    (record { report = report; right = right; placed = placed; none = none; written = written; summed = summed })
 
 -- numbers of at most so many sum up to at most that for each
 sum-≤ : (xs : List ℕ) (a : ℕ) → All (λ n. n ≤ max_requests) xs → fold (λ s n. s + n) a xs ≤ a + length xs * max_requests
 sum-≤ [] a all = omega arith
-sum-≤ (x ∷ xs) a all = omega (arith, sum-≤ xs (a + x) (All-tail (λ n. n ≤ max_requests) x xs all), All-head (λ n. n ≤ max_requests) x xs all)
+sum-≤ (x ∷ xs) a all =
+    omega (
+      arith,
+      sum-≤ xs (a + x) (All-tail (λ n. n ≤ max_requests) x xs all),
+      All-head (λ n. n ≤ max_requests) x xs all,
+    )
 
 lengths : (rows : List (Vec Answer Global)) (a : ℕ)
-    → fold (λ s (row : Vec Answer Global). s + length row.items) a rows ≡ fold (λ s n. s + n) a (map length (map (λ (row : Vec Answer Global). row.items) rows))
+    → fold (λ s (row : Vec Answer Global). s + length row.items) a rows
+    ≡ fold (λ s n. s + n) a (map length (map (λ (row : Vec Answer Global). row.items) rows))
 lengths [] a = refl
 lengths (row ∷ rows) a = lengths rows (a + length row.items)
 
 -- the replies of a right report are no more than the requests that a run takes
-pub few_requests : (setup : Setup) (plans : List (List Request)) (report : Report) → IsWithinLimits setup plans → IsRightReport setup plans report → requests_in report.replies < 2 ^ 64
+pub few_requests : (setup : Setup) (plans : List (List Request)) (report : Report)
+    → IsWithinLimits setup plans
+    → IsRightReport setup plans report
+    → requests_in report.replies < 2 ^ 64
 few_requests setup plans report within right =
     let sizes : List ℕ = map length plans in
-    let same : requests_in report.replies ≡ fold (λ s n. s + n) 0 sizes = lengths report.replies.rows.items 0 ∙ ap (fold (λ (s n : ℕ). s + n) 0) right.replies.sized in
+    let same : requests_in report.replies ≡ fold (λ s n. s + n) 0 sizes =
+    lengths report.replies.rows.items 0 ∙ ap (fold (λ (s n : ℕ). s + n) 0) right.replies.sized in
     let numbers = (fits-run setup plans within).numbers in
     omega (arith, same, sum-≤ sizes 0 numbers.small, numbers.submitters.1)
 
 -- request files that were refused, where the pages file gives these pages
-pub lists-refused : (file : Option (List ℕ)) (files : List (Option (List ℕ))) (pages : List Page) (fault : DriverFault) → GivesPages file pages → RefusesPlans pages files fault → RefusesLists file files fault
+pub lists-refused : (file : Option (List ℕ)) (files : List (Option (List ℕ))) (pages : List Page) (fault : DriverFault)
+    → GivesPages file pages
+    → RefusesPlans pages files fault
+    → RefusesLists file files fault
 lists-refused file files pages (Pages fault) given refused = absurd refused
-lists-refused file files pages (Requests submitter fault) given refused = record { pages = pages; pages_given = given; refused = refused }
+lists-refused file files pages (Requests submitter fault) given refused =
+    record { pages = pages; pages_given = given; refused = refused }
 lists-refused file files pages (Script fault) given refused = absurd refused
 lists-refused file files pages (Settings fault) given refused = absurd refused
 lists-refused file files pages Start given refused = absurd refused
@@ -77,17 +100,20 @@ lists-refused file files pages Memory given refused = absurd refused
 
 module _ (setup : Setup) (plans : List (List Request)) where
   -- a replay gave no report, or its report was not written
-  pub replay-refused : (script : List Turned) (fault : ReplayFault) → run.IsReplayFault setup plans script fault → IsReplayListsFault setup plans script (fault_of_replay fault)
+  pub replay-refused : (script : List Turned) (fault : ReplayFault) → run.IsReplayFault setup plans script fault
+      → IsReplayListsFault setup plans script (fault_of_replay fault)
   replay-refused script (why.Settings fault) refused = refused
   replay-refused script why.Unfinished refused = refused
   replay-refused script why.Memory refused = refused
 
-  pub replay-unwritten : (script : List Turned) (fault : WriteFault) → run.CanReplayScript setup plans script → IsReplayListsFault setup plans script (fault_of fault)
+  pub replay-unwritten : (script : List Turned) (fault : WriteFault) → run.CanReplayScript setup plans script
+      → IsReplayListsFault setup plans script (fault_of fault)
   replay-unwritten script write.Write fits = fits
   replay-unwritten script write.Memory fits = fits
 
   -- the run on threads gave no report, or its report was not written
-  pub run-refused : (fault : RunFault) → on_threads.IsRunFault setup plans fault → IsRunListsFault setup plans (fault_of_run fault)
+  pub run-refused : (fault : RunFault) → on_threads.IsRunFault setup plans fault
+      → IsRunListsFault setup plans (fault_of_run fault)
   run-refused (threads.Settings fault) refused = refused
   run-refused threads.Start refused = refused
   run-refused threads.Memory refused = refused
@@ -98,7 +124,8 @@ module _ (setup : Setup) (plans : List (List Request)) where
 
 module _ (options : Options) (inputs : Inputs) where
   -- the files gave no values
-  pub replay-unread : (fault : DriverFault) → RefusesLists inputs.pages inputs.requests fault → IsReplayFilesFault options inputs fault
+  pub replay-unread : (fault : DriverFault) → RefusesLists inputs.pages inputs.requests fault
+      → IsReplayFilesFault options inputs fault
   replay-unread (Pages fault) refused = refused
   replay-unread (Requests submitter fault) refused = refused
   replay-unread (Script fault) refused = absurd refused
@@ -108,7 +135,8 @@ module _ (options : Options) (inputs : Inputs) where
   replay-unread Write refused = absurd refused
   replay-unread Memory refused = absurd refused
 
-  pub run-unread : (fault : DriverFault) → RefusesLists inputs.pages inputs.requests fault → IsRunFilesFault options inputs fault
+  pub run-unread : (fault : DriverFault) → RefusesLists inputs.pages inputs.requests fault
+      → IsRunFilesFault options inputs fault
   run-unread (Pages fault) refused = refused
   run-unread (Requests submitter fault) refused = refused
   run-unread (Script fault) refused = absurd refused
@@ -120,17 +148,23 @@ module _ (options : Options) (inputs : Inputs) where
 
   module _ (pages : List Page) (plans : List (List Request)) where
     -- their values gave no report
-    pub replay-fault : (script : List Turned) (given : GivesAll inputs pages plans script) (fault : DriverFault) → IsReplayListsFault (setup_of options pages) plans script fault → IsReplayFilesFault options inputs fault
+    pub replay-fault : (script : List Turned) (given : GivesAll inputs pages plans script) (fault : DriverFault)
+        → IsReplayListsFault (setup_of options pages) plans script fault → IsReplayFilesFault options inputs fault
     replay-fault script given (Pages fault) refused = absurd refused
     replay-fault script given (Requests submitter fault) refused = absurd refused
     replay-fault script given (Script fault) refused = absurd refused
-    replay-fault script given (Settings fault) refused = record { pages = pages; plans = plans; script = script; given = given; refused = refused }
+    replay-fault script given (Settings fault) refused =
+        record { pages = pages; plans = plans; script = script; given = given; refused = refused }
     replay-fault script given Start refused = absurd refused
-    replay-fault script given Unfinished refused = record { pages = pages; plans = plans; script = script; given = given; refused = refused }
-    replay-fault script given Write fits = record { pages = pages; plans = plans; script = script; given = given; fits = fits }
-    replay-fault script given Memory fits = record { pages = pages; plans = plans; script = script; given = given; fits = fits }
+    replay-fault script given Unfinished refused =
+        record { pages = pages; plans = plans; script = script; given = given; refused = refused }
+    replay-fault script given Write fits =
+        record { pages = pages; plans = plans; script = script; given = given; fits = fits }
+    replay-fault script given Memory fits =
+        record { pages = pages; plans = plans; script = script; given = given; fits = fits }
 
-    pub run-fault : (given : GivesLists inputs.pages inputs.requests pages plans) (fault : DriverFault) → IsRunListsFault (setup_of options pages) plans fault → IsRunFilesFault options inputs fault
+    pub run-fault : (given : GivesLists inputs.pages inputs.requests pages plans) (fault : DriverFault)
+        → IsRunListsFault (setup_of options pages) plans fault → IsRunFilesFault options inputs fault
     run-fault given (Pages fault) refused = absurd refused
     run-fault given (Requests submitter fault) refused = absurd refused
     run-fault given (Script fault) refused = absurd refused

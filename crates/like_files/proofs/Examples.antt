@@ -24,11 +24,19 @@ abbrev asks_look : ℕ → Request
 asks_look user = record { op = Look; user = user; page = Known 0 }
 
 abbrev runs_at : ℕ → ℕ → ℕ → Reply → Ran
-runs_at phase submitter number reply = record { phase = phase; submitter = submitter; number = number; stashed = false; reply = reply }
+runs_at phase submitter number reply =
+    record { phase = phase; submitter = submitter; number = number; stashed = false; reply = reply }
 
 -- three likes of two users
 abbrev plain : Service
-plain = record { users = 2; pages = page_a 10 ∷ []; stash = 256; hot = λ _. 0; plans = (asks_like 0 ∷ asks_like 1 ∷ asks_like 0 ∷ []) ∷ [] }
+plain = record {
+  users =
+      2;
+  pages = page_a 10 ∷ [];
+  stash = 256;
+  hot = λ _. 0;
+  plans = (asks_like 0 ∷ asks_like 1 ∷ asks_like 0 ∷ []) ∷ [];
+}
 
 abbrev plain_ran : List Ran
 plain_ran = runs_at 0 0 1 Liked ∷ runs_at 0 0 2 Liked ∷ runs_at 0 0 3 Liked ∷ []
@@ -44,7 +52,16 @@ plain_first = refl
 
 -- two submitters, and the verdicts on three requests of the first
 abbrev judged : Service
-judged = record { users = 2; pages = page_a 10 ∷ []; stash = 256; hot = λ _. 0; plans = (asks_like 2 ∷ asks_look 1 ∷ (record { op = Like; user = 0; page = Unknown }) ∷ []) ∷ [] ∷ [] }
+judged = record {
+  users =
+      2;
+  pages = page_a 10 ∷ [];
+  stash =
+      256;
+  hot = λ _. 0;
+  plans =
+      (asks_like 2 ∷ asks_look 1 ∷ (record { op = Like; user = 0; page = Unknown }) ∷ []) ∷ [] ∷ [];
+}
 
 unknown_user : IsRightAnswer judged [] (runs_at 0 0 1 (Refused UnknownUser))
 unknown_user = refl
@@ -57,7 +74,15 @@ unknown_page = refl
 
 -- two workers: two likes in phase 1, then a look in phase 2
 abbrev sliced : Service
-sliced = record { users = 2; pages = page_a 100 ∷ []; stash = 256; hot = λ _. 0; plans = (asks_like 0 ∷ asks_look 0 ∷ []) ∷ (asks_like 1 ∷ []) ∷ [] }
+sliced = record {
+  users =
+      2;
+  pages = page_a 100 ∷ [];
+  stash =
+      256;
+  hot = λ _. 0;
+  plans = (asks_like 0 ∷ asks_look 0 ∷ []) ∷ (asks_like 1 ∷ []) ∷ [];
+}
 
 abbrev look : Ran
 look = record { phase = 2; submitter = 0; number = 2; stashed = true; reply = Seen (Some 0) 102 }
@@ -80,10 +105,18 @@ below_2 = refl
 
 -- one user's likes in phases 1 and 2, and a look that waited for phase 4
 abbrev chosen : Service
-chosen = record { users = 1; pages = page_a 0 ∷ []; stash = 256; hot = λ _. 0; plans = (asks_like 0 ∷ asks_like 0 ∷ asks_look 0 ∷ []) ∷ [] }
+chosen = record {
+  users =
+      1;
+  pages = page_a 0 ∷ [];
+  stash = 256;
+  hot = λ _. 0;
+  plans = (asks_like 0 ∷ asks_like 0 ∷ asks_look 0 ∷ []) ∷ [];
+}
 
 abbrev chosen_runs : List (List Ran)
-chosen_runs = (runs_at 1 0 1 Liked ∷ runs_at 2 0 2 Liked ∷ (record { phase = 4; submitter = 0; number = 3; stashed = true; reply = Seen (Some 0) 2 }) ∷ []) ∷ []
+chosen_runs = (runs_at 1 0 1 Liked ∷ runs_at 2 0 2
+    Liked ∷ (record { phase = 4; submitter = 0; number = 3; stashed = true; reply = Seen (Some 0) 2 }) ∷ []) ∷ []
 
 -- by two likes the page is hot in phase 3 alone, and by three never
 hot_by_two : chosen_below (hot_in (Some 2) chosen chosen_runs) 6 ≡ record { phase = 3; mask = 1 } ∷ []

@@ -26,7 +26,10 @@ abbrev pub TellsOwn : {R : Type 0} → R → Answer → Type 0
 TellsOwn reader answer = IfErr answer (λ fault. fault ≡ Read → ReadFailed reader)
 
 -- the file at this place gave no plan
-pub plan-told : {R : Type 0} (readers : List R) (place : ℕ) (reader : R) (answer : Answer) (fault : DriverFault) → slice_get readers place ≡ Some reader → TellsOwn reader answer → Stops answer place fault
+pub plan-told : {R : Type 0} (readers : List R) (place : ℕ) (reader : R) (answer : Answer) (fault : DriverFault)
+    → slice_get readers place ≡ Some reader
+    → TellsOwn reader answer
+    → Stops answer place fault
     → TellsPlanRead readers fault
 plan-told readers place reader answer fault at own stops =
     subst (TellsPlanRead readers) (sym stops.named) (λ is. (place, refl, rw at (by_answer stops.why stops.stood is)))
@@ -36,34 +39,53 @@ plan-told readers place reader answer fault at own stops =
     by_answer why (inr memory) is = cc
 
 -- the next file gave no plan
-pub next-told : {R : Type 0} (source_of : R → Option (List ℕ)) (pages : List Page) (readers done : List R) (reader : R) (answer : Answer) (plans : List (Vec Request Global)) (fault : DriverFault)
-    → length done < length readers → reader ≡ get_or readers (length done) reader → GivesPlans pages (map source_of done) (map requests_of plans)
+pub next-told : {R : Type 0} (source_of : R → Option (List ℕ)) (pages : List Page) (readers done : List R) (reader : R)
+    (answer : Answer) (plans : List (Vec Request Global)) (fault : DriverFault)
+    → length done < length readers
+    → reader ≡ get_or readers (length done) reader
+    → GivesPlans pages (map source_of done) (map requests_of plans)
     → TellsOwn reader answer → Stops answer (length plans) fault → TellsPlanRead readers fault
 next-told source_of pages readers done reader answer plans fault there is given own stops =
-    let size : length plans ≡ length done = sym (length-map plans requests_of) ∙ (AllZip-long (GivesPlan pages) (map source_of done) (map requests_of plans) given ∙ length-map done source_of) in
-    plan-told readers (length done) reader answer fault (slice_get_read readers (length readers) (length done) reader refl there is) own (subst (λ n. Stops answer n fault) size stops)
+    let size : length plans ≡ length done =
+    sym (length-map plans requests_of)
+    ∙ (AllZip-long (GivesPlan pages) (map source_of done) (map requests_of plans) given
+    ∙ length-map done source_of) in
+    plan-told readers (length done) reader answer fault
+    (slice_get_read readers (length readers) (length done) reader refl there is) own
+    (subst (λ n. Stops answer n fault) size stops)
 
 -- of files that are read at once, the first that gave none is told
-told-at_once : {R : Type 0} (readers : List R) (answers : List Answer) (fault : DriverFault) → AllZip TellsOwn readers answers → IsFirstStop answers fault → TellsPlanRead readers fault
-told-at_once {R = Reader} readers answers fault own first = by_answer (slice_get answers first.place) first.stops (AllZip-right TellsOwn readers answers own first.place)
+told-at_once : {R : Type 0} (readers : List R) (answers : List Answer) (fault : DriverFault)
+    → AllZip TellsOwn readers answers
+    → IsFirstStop answers fault
+    → TellsPlanRead readers fault
+told-at_once {R = Reader} readers answers fault own first =
+    by_answer (slice_get answers first.place) first.stops (AllZip-right TellsOwn readers answers own first.place)
   where
-    by_reader : (o : Option Reader) (answer : Answer) → slice_get readers first.place ≡ o → Stops answer first.place fault → IsSomeAnd o (λ reader. TellsOwn reader answer) → TellsPlanRead readers fault
+    by_reader : (o : Option Reader) (answer : Answer) → slice_get readers first.place ≡ o
+        → Stops answer first.place fault → IsSomeAnd o (λ reader. TellsOwn reader answer) → TellsPlanRead readers fault
     by_reader None answer at stops own_it = absurd own_it
     by_reader (Some reader) answer at stops own_it = plan-told readers first.place reader answer fault at own_it stops
 
-    by_answer : (o : Option Answer) → IsSomeAnd o (λ answer. Stops answer first.place fault) → MatchOption o (Unit {0}) (λ answer. IsSomeAnd (slice_get readers first.place) (λ reader. TellsOwn reader answer))
+    by_answer : (o : Option Answer) → IsSomeAnd o (λ answer. Stops answer first.place fault)
+        → MatchOption o (Unit {0})
+        (λ answer. IsSomeAnd (slice_get readers first.place) (λ reader. TellsOwn reader answer))
         → TellsPlanRead readers fault
     by_answer None stops own_it = absurd stops
     by_answer (Some answer) stops own_it = by_reader (slice_get readers first.place) answer refl stops own_it
 
-pub gathered-told : {R : Type 0} (readers : List R) (answers : List Answer) (result : Result (Vec (Vec Request Global) Global) DriverFault) → AllZip TellsOwn readers answers
-    → MatchResult result (λ plans. answers ≡ map Ok plans.items) (IsFirstStop answers) → IfErr result (TellsPlanRead readers)
+pub gathered-told : {R : Type 0} (readers : List R) (answers : List Answer)
+    (result : Result (Vec (Vec Request Global) Global) DriverFault)
+    → AllZip TellsOwn readers answers
+    → MatchResult result (λ plans. answers ≡ map Ok plans.items) (IsFirstStop answers)
+    → IfErr result (TellsPlanRead readers)
 gathered-told readers answers (Ok plans) own gathered = tt
 gathered-told readers answers (Err fault) own gathered = told-at_once readers answers fault own gathered
 
 module _ {R : Type 0} (pages : R) (requests : List R) where
   -- request files that were refused are told by a fault of theirs
-  pub plans-told : (script : Option R) (given : List Page) (sources : List (Option (List ℕ))) (fault : DriverFault) → RefusesPlans given sources fault → TellsPlanRead requests fault → TellsRead pages requests script fault
+  pub plans-told : (script : Option R) (given : List Page) (sources : List (Option (List ℕ))) (fault : DriverFault)
+      → RefusesPlans given sources fault → TellsPlanRead requests fault → TellsRead pages requests script fault
   plans-told script given sources (driver.Requests submitter fault) refused told = told
   plans-told script given sources (driver.Pages fault) refused told = absurd refused
   plans-told script given sources (driver.Script fault) refused told = absurd refused
@@ -74,7 +96,8 @@ module _ {R : Type 0} (pages : R) (requests : List R) where
   plans-told script given sources driver.Memory refused told = tt
 
   -- pages and request files that were refused say nothing of a script
-  pub lists-told : (script : Option R) (file : Option (List ℕ)) (files : List (Option (List ℕ))) (fault : DriverFault) → RefusesLists file files fault → TellsRead pages requests None fault → TellsRead pages requests script fault
+  pub lists-told : (script : Option R) (file : Option (List ℕ)) (files : List (Option (List ℕ))) (fault : DriverFault)
+      → RefusesLists file files fault → TellsRead pages requests None fault → TellsRead pages requests script fault
   lists-told script file files (driver.Pages fault) refused told = told
   lists-told script file files (driver.Requests submitter fault) refused told = told
   lists-told script file files (driver.Script fault) refused told = absurd refused
@@ -85,7 +108,8 @@ module _ {R : Type 0} (pages : R) (requests : List R) where
   lists-told script file files driver.Memory refused told = tt
 
   -- what the files give is run or replayed with no fault of a file
-  pub run-told : {A : Type 0} (setup : Setup) (plans : List (List Request)) (r : Result A DriverFault) → IfErr r (IsRunListsFault setup plans) → IfErr r (TellsRead pages requests None)
+  pub run-told : {A : Type 0} (setup : Setup) (plans : List (List Request)) (r : Result A DriverFault)
+      → IfErr r (IsRunListsFault setup plans) → IfErr r (TellsRead pages requests None)
   run-told setup plans (Ok done) refused = tt
   run-told setup plans (Err (driver.Pages fault)) refused = absurd refused
   run-told setup plans (Err (driver.Requests submitter fault)) refused = absurd refused
@@ -96,7 +120,8 @@ module _ {R : Type 0} (pages : R) (requests : List R) where
   run-told setup plans (Err driver.Write) refused = tt
   run-told setup plans (Err driver.Memory) refused = tt
 
-  pub replay-told : {A : Type 0} (script : Option R) (setup : Setup) (plans : List (List Request)) (entries : List Turned) (r : Result A DriverFault) → IfErr r (IsReplayListsFault setup plans entries)
+  pub replay-told : {A : Type 0} (script : Option R) (setup : Setup) (plans : List (List Request))
+      (entries : List Turned) (r : Result A DriverFault) → IfErr r (IsReplayListsFault setup plans entries)
       → IfErr r (TellsRead pages requests script)
   replay-told script setup plans entries (Ok done) refused = tt
   replay-told script setup plans entries (Err (driver.Pages fault)) refused = absurd refused

@@ -32,34 +32,51 @@ use Rattle.like_tables.specs.Share.{worker_of}
 use Rattle.like_service.specs.EndToEnd.{IsEndToEnd, runs_of}
 
 -- what holds of each element by its place holds of all
-all_from_get : {X : Type 0} (P : X → Type 0) (xs : List X) → ((i : ℕ) (x : X) → slice_get xs i ≡ Some x → P x) → AllByRecursion P xs
+all_from_get : {X : Type 0} (P : X → Type 0) (xs : List X)
+    → ((i : ℕ) (x : X) → slice_get xs i ≡ Some x → P x)
+    → AllByRecursion P xs
 all_from_get P [] each = tt
 all_from_get P (x ∷ xs) each = (each 0 x refl, all_from_get P xs (λ i y h. each (suc i) y h))
 
 -- what holds of all holds of the element at a place
-all_get : {X : Type 0} (P : X → Type 0) (xs : List X) (i : ℕ) (x : X) → AllByRecursion P xs → slice_get xs i ≡ Some x → P x
+all_get : {X : Type 0} (P : X → Type 0) (xs : List X) (i : ℕ) (x : X)
+    → AllByRecursion P xs
+    → slice_get xs i ≡ Some x
+    → P x
 all_get P [] i x all h = absurd (let no : None ≡ Some x = h in cc no)
 all_get P (y ∷ ys) zero x all h = let same : y ≡ x = cc h in subst P same all.0
 all_get P (y ∷ ys) (suc i) x all h = all_get P ys i x all.1 h
 
-all_both : {X : Type 0} (P : X → Type 0) (xs ys : List X) → AllByRecursion P xs → AllByRecursion P ys → AllByRecursion P (xs ++ ys)
+all_both : {X : Type 0} (P : X → Type 0) (xs ys : List X)
+    → AllByRecursion P xs
+    → AllByRecursion P ys
+    → AllByRecursion P (xs ++ ys)
 all_both P [] ys h k = k
 all_both P (x ∷ xs) ys h k = (h.0, all_both P xs ys h.1 k)
 
-kept : {X : Type 0} (P : X → Type 0) (b : Bool) (x : X) (rest : List X) → P x → AllByRecursion P rest → AllByRecursion P (cond b (x ∷ rest) rest)
+kept : {X : Type 0} (P : X → Type 0) (b : Bool) (x : X) (rest : List X)
+    → P x
+    → AllByRecursion P rest
+    → AllByRecursion P (cond b (x ∷ rest) rest)
 kept P true x rest first all = (first, all)
 kept P false x rest first all = all
 
 -- so it does of those that pass a test
-all_filter : {X : Type 0} (P : X → Type 0) (test : X → Bool) (xs : List X) → AllByRecursion P xs → AllByRecursion P (filter test xs)
+all_filter : {X : Type 0} (P : X → Type 0) (test : X → Bool) (xs : List X)
+    → AllByRecursion P xs
+    → AllByRecursion P (filter test xs)
 all_filter P test [] all = tt
 all_filter P test (x ∷ xs) all = kept P (test x) x (filter test xs) all.0 (all_filter P test xs all.1)
 
-all_map : {X Y : Type 0} (f : X → Y) (P : Y → Type 0) (xs : List X) → AllByRecursion (λ x. P (f x)) xs → AllByRecursion P (map f xs)
+all_map : {X Y : Type 0} (f : X → Y) (P : Y → Type 0) (xs : List X)
+    → AllByRecursion (λ x. P (f x)) xs
+    → AllByRecursion P (map f xs)
 all_map f P [] all = tt
 all_map f P (x ∷ xs) all = (all.0, all_map f P xs all.1)
 
-all_flat : {X Y : Type 0} (f : X → List Y) (P : Y → Type 0) (xs : List X) → AllByRecursion (λ x. AllByRecursion P (f x)) xs → AllByRecursion P (flat_map f xs)
+all_flat : {X Y : Type 0} (f : X → List Y) (P : Y → Type 0) (xs : List X)
+    → AllByRecursion (λ x. AllByRecursion P (f x)) xs
+    → AllByRecursion P (flat_map f xs)
 all_flat f P [] all = tt
 all_flat f P (x ∷ xs) all = all_both P (f x) (flat_map f xs) all.0 (all_flat f P xs all.1)
 
@@ -68,7 +85,9 @@ abbrev LikesThere : List Page → AcceptedLike → Type 0
 LikesThere pages l = l.page < length pages
 
 -- the like that a request makes is of a page that is there
-likes_there : (pages : List Page) (b : Bool) (o : Op) (user : ℕ) (p : PageRef) (rest : List AcceptedLike) → IsThere (length pages) p → AllByRecursion (LikesThere pages) rest
+likes_there : (pages : List Page) (b : Bool) (o : Op) (user : ℕ) (p : PageRef) (rest : List AcceptedLike)
+    → IsThere (length pages) p
+    → AllByRecursion (LikesThere pages) rest
     → AllByRecursion (LikesThere pages) (cons_option (cond b (like_of o user p) None) rest)
 likes_there pages false o user p rest there all = all
 likes_there pages true Like user (Known q) rest there all = (there, all)
@@ -76,89 +95,128 @@ likes_there pages true Like user Unknown rest there all = all
 likes_there pages true Look user p rest there all = all
 
 -- a reply shows no page but the user's last one
-reply_there : (pages : List Page) (o : Op) (last : Option ℕ) (count : ℕ) → ForSome last (λ p. p < length pages) → IsShowable pages (reply_to o last count)
+reply_there : (pages : List Page) (o : Op) (last : Option ℕ) (count : ℕ)
+    → ForSome last (λ p. p < length pages)
+    → IsShowable pages (reply_to o last count)
 reply_there pages Like last count there = record { there = tt; answer = tt }
 reply_there pages Look last count there = record { there = there; answer = tt }
 
 -- nor does a refusal, which is no acceptance
-answer_there : (pages : List Page) (users submitters submitter : ℕ) (r : Request) (given : Reply) → IsShowable pages given
-    → IsShowable pages (cond (is_accepted users submitters submitter r) given (Refused (verdict_of users submitters submitter r)))
-answer_there pages users submitters submitter r given shows = by_tests (nat_lt r.user users) (home submitters r.user == submitter) (is_known r.page) where
-  by_tests : (a b k : Bool) → IsShowable pages (cond (a && b && k) given (Refused (cond (not a) UnknownUser (cond (not b) OtherHome (cond (not k) UnknownPage Accepted)))))
-  by_tests true true true = shows
-  by_tests true true false = record { there = tt; answer = λ e. cc }
-  by_tests true false k = record { there = tt; answer = λ e. cc }
-  by_tests false b k = record { there = tt; answer = λ e. cc }
+answer_there : (pages : List Page) (users submitters submitter : ℕ) (r : Request) (given : Reply)
+    → IsShowable pages given
+    → IsShowable pages
+    (cond (is_accepted users submitters submitter r) given (Refused (verdict_of users submitters submitter r)))
+answer_there pages users submitters submitter r given shows =
+    by_tests (nat_lt r.user users) (home submitters r.user == submitter) (is_known r.page) where
+      by_tests : (a b k : Bool)
+          → IsShowable pages
+          (cond (a && b && k) given
+          (Refused (cond (not a) UnknownUser (cond (not b) OtherHome (cond (not k) UnknownPage Accepted)))))
+      by_tests true true true = shows
+      by_tests true true false = record { there = tt; answer = λ e. cc }
+      by_tests true false k = record { there = tt; answer = λ e. cc }
+      by_tests false b k = record { there = tt; answer = λ e. cc }
 
 module _ (service : Service) (planned : All (IsPlan service.pages) service.plans) where
   -- the page that a request of a plan knows is there
-  in_plan : (plan : List Request) (number : ℕ) (r : Request) → IsPlan service.pages plan → numbered_in plan number ≡ Some r → IsThere (length service.pages) r.page
+  in_plan : (plan : List Request) (number : ℕ) (r : Request) → IsPlan service.pages plan
+      → numbered_in plan number ≡ Some r → IsThere (length service.pages) r.page
   in_plan plan zero r is at = absurd (let no : None ≡ Some r = at in cc no)
   in_plan plan (suc n) r is at =
-      subst (λ (x : Request). IsThere (length service.pages) x.page) (get_or_from_slice_get plan n r r at) (is.there n r (slice_get_within plan n r at))
+      subst (λ (x : Request). IsThere (length service.pages) x.page) (get_or_from_slice_get plan n r r at)
+      (is.there n r (slice_get_within plan n r at))
 
-  asked_there : (submitter number : ℕ) (r : Request) → request_at service submitter number ≡ Some r → IsThere (length service.pages) r.page
+  asked_there : (submitter number : ℕ) (r : Request) → request_at service submitter number ≡ Some r
+      → IsThere (length service.pages) r.page
   asked_there submitter number r at = by_plan (slice_get service.plans submitter) refl at where
-    by_plan : (o : Option (List Request)) → slice_get service.plans submitter ≡ o → option_and_then (λ plan. numbered_in plan number) o ≡ Some r → IsThere (length service.pages) r.page
+    by_plan : (o : Option (List Request)) → slice_get service.plans submitter ≡ o
+        → option_and_then (λ plan. numbered_in plan number) o ≡ Some r → IsThere (length service.pages) r.page
     by_plan None is h = absurd (let no : None ≡ Some r = h in cc no)
     by_plan (Some plan) is h =
-        in_plan plan number r (subst (IsPlan service.pages) (get_or_from_slice_get service.plans submitter plan plan is) (planned submitter plan (slice_get_within service.plans submitter plan is))) h
+        in_plan plan number r
+        (subst (IsPlan service.pages) (get_or_from_slice_get service.plans submitter plan plan is)
+        (planned submitter plan (slice_get_within service.plans submitter plan is))) h
 
   -- so are the pages of all accepted likes
   ran_there : (entries : List Ran) → AllByRecursion (LikesThere service.pages) (likes_ran service entries)
   ran_there [] = tt
-  ran_there (e ∷ rest) = by_request (request_of service e) (λ r at. asked_there e.submitter e.number r at) (ran_there rest) where
-    by_request : (o : Option Request) → ((r : Request) → o ≡ Some r → IsThere (length service.pages) r.page) → AllByRecursion (LikesThere service.pages) (likes_ran service rest)
-        → AllByRecursion (LikesThere service.pages) (cons_option (option_and_then (accepted_like service.users (submitters service) e.submitter) o) (likes_ran service rest))
-    by_request None there all = all
-    by_request (Some r) there all =
-        likes_there service.pages (is_accepted service.users (submitters service) e.submitter r) r.op r.user r.page (likes_ran service rest) (there r refl) all
+  ran_there (e ∷ rest) =
+      by_request (request_of service e) (λ r at. asked_there e.submitter e.number r at) (ran_there rest) where
+        by_request : (o : Option Request) → ((r : Request) → o ≡ Some r → IsThere (length service.pages) r.page)
+            → AllByRecursion (LikesThere service.pages) (likes_ran service rest)
+            → AllByRecursion (LikesThere service.pages)
+            (cons_option (option_and_then (accepted_like service.users (submitters service) e.submitter) o)
+            (likes_ran service rest))
+        by_request None there all = all
+        by_request (Some r) there all =
+            likes_there service.pages (is_accepted service.users (submitters service) e.submitter r) r.op r.user r.page
+            (likes_ran service rest) (there r refl) all
 
   -- and each last like
-  last_there : (user : ℕ) (entries : List Ran) → ForSome (last_like service user entries) (λ p. p < length service.pages)
+  last_there : (user : ℕ) (entries : List Ran)
+      → ForSome (last_like service user entries) (λ p. p < length service.pages)
   last_there user entries = λ p h.
       all_get (λ q. q < length service.pages) _ _ p
-      (all_map (λ (l : AcceptedLike). l.page) (λ q. q < length service.pages) (filter (λ (l : AcceptedLike). eqb l.user user) (likes_ran service entries))
-      (all_filter (LikesThere service.pages) (λ (l : AcceptedLike). eqb l.user user) (likes_ran service entries) (ran_there entries))) h
+      (all_map (λ (l : AcceptedLike). l.page) (λ q. q < length service.pages)
+      (filter (λ (l : AcceptedLike). eqb l.user user) (likes_ran service entries))
+      (all_filter (LikesThere service.pages) (λ (l : AcceptedLike). eqb l.user user) (likes_ran service entries)
+      (ran_there entries))) h
 
   -- an entry with a right answer can be shown
   entry_shows : (before : List Ran) (e : Ran) → IsRightAnswer service before e → IsShowable service.pages e.reply
   entry_shows before e right = by_request (request_of service e) right where
-    by_request : (o : Option Request) → IsSomeAnd o (λ r. e.reply ≡ answer_to service before e r) → IsShowable service.pages e.reply
+    by_request : (o : Option Request) → IsSomeAnd o (λ r. e.reply ≡ answer_to service before e r)
+        → IsShowable service.pages e.reply
     by_request None h = absurd h
     by_request (Some r) h =
-        subst (IsShowable service.pages) (sym h) (answer_there service.pages service.users (submitters service) e.submitter r (reply_to r.op (last_like service r.user before) (count_in e.reply))
-        (reply_there service.pages r.op (last_like service r.user before) (count_in e.reply) (last_there r.user before)))
+        subst (IsShowable service.pages) (sym h)
+        (answer_there service.pages service.users (submitters service) e.submitter r
+        (reply_to r.op (last_like service r.user before) (count_in e.reply))
+        (reply_there service.pages r.op (last_like service r.user before) (count_in e.reply)
+        (last_there r.user before)))
 
-  list_shows : (ran : List Ran) → HasRightAnswers service ran → AllByRecursion (λ (e : Ran). IsShowable service.pages e.reply) ran
-  list_shows ran right = all_from_get (λ (e : Ran). IsShowable service.pages e.reply) ran (λ i e at. entry_shows (take i ran) e (right i e at))
+  list_shows : (ran : List Ran) → HasRightAnswers service ran
+      → AllByRecursion (λ (e : Ran). IsShowable service.pages e.reply) ran
+  list_shows ran right =
+      all_from_get (λ (e : Ran). IsShowable service.pages e.reply) ran
+      (λ i e at. entry_shows (take i ran) e (right i e at))
 
   module _ (workers : ℕ) (r : Report) (h : IsEndToEnd service workers r) where
     -- all entries can be shown
     all_show : AllByRecursion (λ (e : Ran). IsShowable service.pages e.reply) (entries_in r.logs.items)
     all_show =
         all_flat (λ (log : WorkerLog). log.ran.items) (λ (e : Ran). IsShowable service.pages e.reply) r.logs.items
-        (all_from_get (λ (log : WorkerLog). AllByRecursion (λ (e : Ran). IsShowable service.pages e.reply) log.ran.items) r.logs.items
+        (all_from_get
+        (λ (log : WorkerLog). AllByRecursion (λ (e : Ran). IsShowable service.pages e.reply) log.ran.items)
+        r.logs.items
         (λ worker log at. list_shows log.ran.items (h.logs worker log at).0.answers))
 
     -- so can each answer, which is that of an entry
-    answer_shows : (submitter place : ℕ) (a : Answer) → answer_at (rows_of r.replies) submitter (suc place) ≡ Some a → IsShowable service.pages a.reply
+    answer_shows : (submitter place : ℕ) (a : Answer) → answer_at (rows_of r.replies) submitter (suc place) ≡ Some a
+        → IsShowable service.pages a.reply
     answer_shows submitter place a at =
-        let one : map answer_of (entries_of submitter (suc place) (entries_in r.logs.items)) ≡ a ∷ [] = h.replies.each submitter (suc place) ∙ ap option_to_list at in
-        let shown = all_map answer_of (λ (x : Answer). IsShowable service.pages x.reply) (entries_of submitter (suc place) (entries_in r.logs.items))
-        (all_filter (λ (e : Ran). IsShowable service.pages e.reply) (is_of submitter (suc place)) (entries_in r.logs.items) all_show) in
+        let one : map answer_of (entries_of submitter (suc place) (entries_in r.logs.items)) ≡ a ∷ [] =
+        h.replies.each submitter (suc place) ∙ ap option_to_list at in
+        let shown = all_map answer_of (λ (x : Answer). IsShowable service.pages x.reply)
+        (entries_of submitter (suc place) (entries_in r.logs.items))
+        (all_filter (λ (e : Ran). IsShowable service.pages e.reply) (is_of submitter (suc place))
+        (entries_in r.logs.items) all_show) in
         (subst (AllByRecursion (λ (x : Answer). IsShowable service.pages x.reply)) one shown).0
 
-    row_shows : (submitter : ℕ) (row : List Answer) → slice_get (rows_of r.replies) submitter ≡ Some row → All (λ (a : Answer). IsShowable service.pages a.reply) row
+    row_shows : (submitter : ℕ) (row : List Answer) → slice_get (rows_of r.replies) submitter ≡ Some row
+        → All (λ (a : Answer). IsShowable service.pages a.reply) row
     row_shows submitter row at =
         All-from_recursion (λ (a : Answer). IsShowable service.pages a.reply) row
         (all_from_get (λ (a : Answer). IsShowable service.pages a.reply) row (λ place a there.
-        answer_shows submitter place a (ap (λ xs. slice_get xs place) (get_or_from_slice_get (rows_of r.replies) submitter row [] at) ∙ there)))
+        answer_shows submitter place a
+        (ap (λ xs. slice_get xs place) (get_or_from_slice_get (rows_of r.replies) submitter row [] at) ∙ there)))
 
-    user_shows : (user : ℕ) (last : Option ℕ) → slice_get r.last.items user ≡ Some last → ForSome last (λ page. page < length service.pages)
+    user_shows : (user : ℕ) (last : Option ℕ) → slice_get r.last.items user ≡ Some last
+        → ForSome last (λ page. page < length service.pages)
     user_shows user last at =
         let known : user < service.users = omega (arith, slice_get_within r.last.items user last at, h.last.users) in
-        let entries : List Ran = get_or (runs_of r.logs.items) (worker_of workers (home (submitters service) user)) [] in
+        let entries : List Ran =
+        get_or (runs_of r.logs.items) (worker_of workers (home (submitters service) user)) [] in
         let same : Some (last_like service user entries) ≡ Some last = sym (h.last.each user known) ∙ at in
         let is : last_like service user entries ≡ last = cc same in
         subst (λ x. ForSome x (λ page. page < length service.pages)) is (last_there user entries)

@@ -3,9 +3,9 @@ ghost use Rattle.std.specs.Prelude.{◌≡◌, ◌≢◌, None, IsTrue, codes, o
 ghost use Rattle.like_files.specs.Lines.{ShowsLine, file_of, own_line};
 
 use crate::fault::DriverFault;
+use like_command::{OUT_OF_MEMORY, Options};
 use like_requests::{PagesFault, RequestsFault, SettingsFault};
 use like_run::ScriptFault;
-use like_command::{OUT_OF_MEMORY, Options};
 use std::fmt::InlineText;
 use std::io::Write;
 

@@ -3,9 +3,9 @@ ghost use Rattle.like_files.specs.Opened.{AreNamed, AreOpened, IsUnopened, IsUno
 
 use crate::fault::DriverFault;
 use crate::opener::Opener;
+use like_command::Options;
 use like_requests::{PagesFault, RequestsFault};
 use like_run::ScriptFault;
-use like_command::Options;
 use std::alloc::Global;
 
 /// The files of a run or a replay, opened and not yet read.

@@ -13,10 +13,10 @@ use crate::lists::read_lists;
 use crate::progress::{NoProgress, Part, Progress};
 use crate::setup::with_pages;
 use crate::summed::asked_summary;
+use like_command::Options;
 use like_replies::{Summary, write_text};
 use like_requests::{Request, Setup};
 use like_run::{ScriptFault, Turned, read_script, replay_noting};
-use like_command::Options;
 use std::alloc::Global;
 use std::io::{Read, Write};
 

@@ -1,8 +1,8 @@
 ghost use Rattle.std.specs.Prelude.{◌≡◌};
 ghost use Rattle.like_files.specs.Inputs.{setup_of};
 
-use like_requests::{Pages, Setup};
 use like_command::Options;
+use like_requests::{Pages, Setup};
 
 /// The settings that options ask for with these pages.
 pub fn with_pages(options: &Options, pages: Pages) -> Setup

@@ -2,9 +2,9 @@ ghost use Rattle.std.specs.Prelude.{◌≡◌, ◌<◌, ◌^◌};
 ghost use Rattle.like_replies.specs.Summary.{requests_in};
 ghost use Rattle.like_files.specs.Inputs.{asked_summary};
 
+use like_command::Options;
 use like_replies::Summary;
 use like_service::Report;
-use like_command::Options;
 
 /// The summary of a report, where the options ask for one.
 pub fn asked_summary(options: &Options, report: &Report) -> Option<Summary>

@@ -19,7 +19,9 @@ use Rattle.like_live.specs.Calls.{LikesNow, TalliesLike, full, liked, refused, t
 use Rattle.like_live.proofs.Moving.{IsSized}
 
 -- a request that is accepted has passed the last test
-last_test : (a b c : Bool) → cond (not a) UnknownUser (cond (not b) OtherHome (cond (not c) UnknownPage Accepted)) ≡ Accepted → c ≡ true
+last_test : (a b c : Bool)
+    → cond (not a) UnknownUser (cond (not b) OtherHome (cond (not c) UnknownPage Accepted)) ≡ Accepted
+    → c ≡ true
 last_test false b c e = cc
 last_test true false c e = cc
 last_test true true false e = cc
@@ -27,33 +29,41 @@ last_test true true true e = refl
 
 -- the page of a request that is accepted is there
 pub page_there : (s : SeatView Asked) (user page : ℕ) → verdict_at s user page ≡ Accepted → page < pages_of s.post
-page_there s user page is = ltb-true page (pages_of s.post) (by_test (nat_lt page (pages_of s.post)) (last_test _ _ _ is))
+page_there s user page is =
+    ltb-true page (pages_of s.post) (by_test (nat_lt page (pages_of s.post)) (last_test _ _ _ is))
   where
     by_test : (b : Bool) → is_known (cond b (Known page) Unknown) ≡ true → b ≡ true
     by_test true e = refl
     by_test false e = cc
 
 -- one more in a slice, at a page
-slice-more : (xs : List ℕ) (page other : ℕ) → page < length xs → get_or (set xs page (get_or xs page 0 + 1)) other 0 ≡ get_or xs other 0 + cond (page == other) 1 0
+slice-more : (xs : List ℕ) (page other : ℕ)
+    → page < length xs
+    → get_or (set xs page (get_or xs page 0 + 1)) other 0 ≡ get_or xs other 0 + cond (page == other) 1 0
 slice-more xs page other there =
     elim (cases_eq page other) [
       | inl same ↦
           subst (λ (k : ℕ). get_or (set xs page (get_or xs page 0 + 1)) k 0 ≡ get_or xs k 0 + cond (page == k) 1 0) same
-          (get_or-set_same xs page (get_or xs page 0 + 1) 0 there ∙ ap (λ (b : Bool). get_or xs page 0 + cond b 1 0) (sym (eq-eqb page page refl)))
+          (get_or-set_same xs page (get_or xs page 0 + 1) 0 there
+          ∙ ap (λ (b : Bool). get_or xs page 0 + cond b 1 0) (sym (eq-eqb page page refl)))
       | inr apart ↦
           let none : cond {A = ℕ} (page == other) 1 0 ≡ 0 = ap (λ (b : Bool). cond b 1 0) (ne_eqb page other apart) in
-          let here : get_or (set xs page (get_or xs page 0 + 1)) other 0 ≡ get_or xs other 0 = get_or-set_other xs page other (get_or xs page 0 + 1) 0 (λ e. apart (sym e)) in
+          let here : get_or (set xs page (get_or xs page 0 + 1)) other 0 ≡ get_or xs other 0 =
+          get_or-set_other xs page other (get_or xs page 0 + 1) 0 (λ e. apart (sym e)) in
           omega arith
     ]
 
 -- one more on the board
-added-more : (xs : List Addition) (phase page old other : ℕ) → added_to other (xs ++ addition phase page old 1 ∷ []) ≡ added_to other xs + cond (page == other) 1 0
+added-more : (xs : List Addition) (phase page old other : ℕ)
+    → added_to other (xs ++ addition phase page old 1 ∷ []) ≡ added_to other xs + cond (page == other) 1 0
 added-more xs phase page old other =
     let f : Addition → ℕ = λ a. cond (a.page == other) a.likes 0 in
     omega (arith, sum_by-append f xs (addition phase page old 1 ∷ []), sum_by-cons f (addition phase page old 1) [])
 
 -- a like that is counted is one more of its page's tally
-counts-tally : (s after : SeatView Asked) (user page : ℕ) (old : Option ℕ) (other : ℕ) → page < length s.slice → CountsLike s user page old after
+counts-tally : (s after : SeatView Asked) (user page : ℕ) (old : Option ℕ) (other : ℕ)
+    → page < length s.slice
+    → CountsLike s user page old after
     → tally_of after other ≡ tally_of s other + cond (page == other) 1 0
 counts-tally s after user page None other there c =
     let e = ap (λ (t : SeatView Asked). tally_of t other) c.1 in
@@ -64,7 +74,10 @@ counts-tally s after user page (Some count) other there c =
     let more = added-more s.post.additions (phase_of s.post.state) page count other in
     omega arith
 
-pub LikesNow-tallies : (v after : LiveView) (user page : ℕ) (answer : LikeAnswer) → IsSized v → LikesNow v user page answer after → TalliesLike v page answer after
+pub LikesNow-tallies : (v after : LiveView) (user page : ℕ) (answer : LikeAnswer)
+    → IsSized v
+    → LikesNow v user page answer after
+    → TalliesLike v page answer after
 LikesNow-tallies v after user page answer sized (refused fails a is) other =
     let same = ap (λ (w : LiveView). tally w other) is in
     let none = ap (told_of page other) a in
@@ -74,7 +87,8 @@ LikesNow-tallies v after user page answer sized (full accepted most a is) other 
     let none = ap (told_of page other) a in
     omega arith
 LikesNow-tallies v after user page answer sized (liked old s accepted few a counts is) other =
-    let more = counts-tally v.seat s user page old other (subst (λ (n : ℕ). page < n) (sym sized) (page_there v.seat user page accepted)) counts in
+    let more = counts-tally v.seat s user page old other
+    (subst (λ (n : ℕ). page < n) (sym sized) (page_there v.seat user page accepted)) counts in
     let same = ap (λ (w : LiveView). tally w other) is in
     let one = ap (told_of page other) a in
     omega arith

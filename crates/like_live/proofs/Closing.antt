@@ -26,20 +26,27 @@ same-board a b e = λ i. record {
 -- a sum over what a list stands for
 sum-of-map : {A B : Type 0} (f : B → ℕ) (g : A → B) (xs : List A) → sum_by f (map g xs) ≡ sum_by (λ x. f (g x)) xs
 sum-of-map f g [] = refl
-sum-of-map f g (x ∷ xs) = sum_by-cons f (g x) (map g xs) ∙ ap (λ n. f (g x) + n) (sum-of-map f g xs) ∙ sym (sum_by-cons (λ y. f (g y)) x xs)
+sum-of-map f g (x ∷ xs) =
+    sum_by-cons f (g x) (map g xs) ∙ ap (λ n. f (g x) + n) (sum-of-map f g xs) ∙ sym (sum_by-cons (λ y. f (g y)) x xs)
 
 -- two lists that stand for the same have equal sums
-pub sum-alike : {A B C : Type 0} (f : C → ℕ) (p : A → C) (q : B → C) (xs : List A) (ys : List B) → map p xs ≡ map q ys → sum_by (λ x. f (p x)) xs ≡ sum_by (λ y. f (q y)) ys
+pub sum-alike : {A B C : Type 0} (f : C → ℕ) (p : A → C) (q : B → C) (xs : List A) (ys : List B)
+    → map p xs ≡ map q ys
+    → sum_by (λ x. f (p x)) xs ≡ sum_by (λ y. f (q y)) ys
 sum-alike f p q xs ys same = sym (sum-of-map f p xs) ∙ ap (sum_by f) same ∙ sum-of-map f q ys
 
 -- equal numbers have equal sums
 sum-equal : {A : Type 0} (f g : A → ℕ) (xs : List A) → All (λ x. f x ≡ g x) xs → sum_by f xs ≡ sum_by g xs
 sum-equal f g [] all = refl
 sum-equal f g (x ∷ xs) all =
-    sum_by-cons f x xs ∙ (λ i. all 0 x (omega arith) i + sum-equal f g xs (All-tail (λ y. f y ≡ g y) x xs all) i) ∙ sym (sum_by-cons g x xs)
+    sum_by-cons f x xs ∙ (λ i. all 0 x (omega arith) i + sum-equal f g xs (All-tail (λ y. f y ≡ g y) x xs all) i)
+    ∙ sym (sum_by-cons g x xs)
 
 -- what is true of all that one list stands for is true of all that the other does
-pub all-alike : {A B C : Type 0} (P : C → Type 0) (p : A → C) (q : B → C) (xs : List A) (ys : List B) → map p xs ≡ map q ys → All (λ y. P (q y)) ys → All (λ x. P (p x)) xs
+pub all-alike : {A B C : Type 0} (P : C → Type 0) (p : A → C) (q : B → C) (xs : List A) (ys : List B)
+    → map p xs ≡ map q ys
+    → All (λ y. P (q y)) ys
+    → All (λ x. P (p x)) xs
 all-alike P p q xs ys same all = λ k d below.
     subst P (get_or-map p xs k d (p d) below)
     (subst (All P) (sym same) (All-map P q ys all) k (p d) (subst (λ n. k < n) (sym (length-map xs p)) below))
@@ -48,19 +55,32 @@ abbrev post_at : LiveView → PostView
 post_at s = s.seat.post
 
 -- the seats that were given back are those of the driver's board
-pub back-here : (v : LeadView) (seats : List LiveView) (back : List WorkerSeat) → AreBackFrom seats back → AreItsSeats v seats → All (λ seat. seat_board seat ≡ v.board) back
+pub back-here : (v : LeadView) (seats : List LiveView) (back : List WorkerSeat)
+    → AreBackFrom seats back
+    → AreItsSeats v seats
+    → All (λ seat. seat_board seat ≡ v.board) back
 back-here v seats back same its = λ k d below.
-    same-board _ _ (all-alike (λ (post : PostView). post.board ≡ board_numbers v.board) seat_meaning post_at back seats same its.here k d below)
+    same-board _ _
+    (all-alike (λ (post : PostView). post.board ≡ board_numbers v.board) seat_meaning post_at back seats same
+    its.here k d below)
 
 -- each of them once
-pub back-all : (v : LeadView) (seats : List LiveView) (back : List WorkerSeat) → AreBackFrom seats back → AreItsSeats v seats → AreAll v.seat.opening.workers back
+pub back-all : (v : LeadView) (seats : List LiveView) (back : List WorkerSeat)
+    → AreBackFrom seats back
+    → AreItsSeats v seats
+    → AreAll v.seat.opening.workers back
 back-all v seats back same its i there =
     let one : PostView → ℕ = λ post. cond (post.worker == i) 1 0 in
     sum-alike one seat_meaning post_at back seats same ∙ its.all i there
 
 -- of seats that are gone, each page's last count is its first count and the tallies
-pub last-total : (v : LeadView) (seats : List LiveView) (back : List WorkerSeat) (page : ℕ) → AreBackFrom seats back → All HasMergedOnceGone seats → AreGone seats → last_count v.seat.opening back page ≡ total_of v seats page
+pub last-total : (v : LeadView) (seats : List LiveView) (back : List WorkerSeat) (page : ℕ)
+    → AreBackFrom seats back
+    → All HasMergedOnceGone seats
+    → AreGone seats
+    → last_count v.seat.opening back page ≡ total_of v seats page
 last-total v seats back page same merged gone =
     ap (λ n. slice_index v.seat.opening.counts page + n)
     (sum-alike (λ (post : PostView). additions_of post page) seat_meaning post_at back seats same
-    ∙ sym (sum-equal (λ s. tally s page) (λ (s : LiveView). additions_of s.seat.post page) seats (λ k d below. merged k d below (gone k d below) page)))
+    ∙ sym (sum-equal (λ s. tally s page) (λ (s : LiveView). additions_of s.seat.post page) seats
+    (λ k d below. merged k d below (gone k d below) page)))

@@ -61,15 +61,21 @@ joined_phase state.Gone h = absurd h
 pub plain : (post : PostView) (page : ℕ) → RunsJoined post.state → slices post page ≡ false
 plain post page joined =
     let even = joined_phase post.state joined in
-    and_left _ (is_marked post.marks page || is_hot (mask_of post.masks (phase_of post.state)) page) (ne_eqb _ 1 (λ odd. absurd (omega arith)))
+    and_left _ (is_marked post.marks page || is_hot (mask_of post.masks (phase_of post.state)) page)
+    (ne_eqb _ 1 (λ odd. absurd (omega arith)))
 
 -- what waits at a seat that a look shows a joined phase was asked in the phase before
-pub asked_before : (s : WorkerState) (sight : Sight) (waits : List Asked) → sight.waits ≡ false → (IsJoined (phase_of s) → waits ≡ [])
-    → All (λ a. a.phase ≡ phase_of s) waits → IsJoined (phase_of (seen_by s sight)) → All (λ a. phase_of (seen_by s sight) ≡ a.phase + 1) waits
+pub asked_before : (s : WorkerState) (sight : Sight) (waits : List Asked)
+    → sight.waits ≡ false
+    → (IsJoined (phase_of s) → waits ≡ [])
+    → All (λ a. a.phase ≡ phase_of s) waits
+    → IsJoined (phase_of (seen_by s sight))
+    → All (λ a. phase_of (seen_by s sight) ≡ a.phase + 1) waits
 asked_before (state.Runs k) sight waits some none asked joined =
     subst (All (λ (a : Asked). k ≡ a.phase + 1)) (sym (none joined)) (All-nil (λ (a : Asked). k ≡ a.phase + 1))
 asked_before (state.Answered k) sight waits some none asked joined = λ i d below.
-    ap (λ (b : Bool). phase_of (cond b (state.Answered k) (state.Runs (k + 1)))) some ∙ ap (λ n. n + 1) (sym (asked i d below))
+    ap (λ (b : Bool). phase_of (cond b (state.Answered k) (state.Runs (k + 1)))) some
+    ∙ ap (λ n. n + 1) (sym (asked i d below))
 asked_before state.Gone sight waits some none asked joined =
     subst (All (λ (a : Asked). 0 ≡ a.phase + 1)) (sym (none joined)) (All-nil (λ (a : Asked). 0 ≡ a.phase + 1))
 
@@ -84,7 +90,8 @@ pub record Finding (v now : LiveView) : Type 0 where
   pub found : List Found
   pub order : map (λ f. f.asked) found ++ waiting now ≡ waiting v
   pub shown : All (IsFoundAt v.seat) found
-  pub post : now.seat.post ≡ record v.seat.post { reads = v.seat.post.reads ++ map (read_for (length v.seat.post.additions)) found }
+  pub post : now.seat.post
+      ≡ record v.seat.post { reads = v.seat.post.reads ++ map (read_for (length v.seat.post.additions)) found }
   pub capacity : now.seat.held.capacity ≡ v.seat.held.capacity
   pub slice : now.seat.slice ≡ v.seat.slice
   pub last : now.seat.last ≡ v.seat.last
@@ -107,7 +114,8 @@ Finding-start v = record {
 pub Finding-end : (v now : LiveView) → Finding v now → waiting now ≡ [] → FindsAll v now
 Finding-end v now f none = record {
   found = f.found;
-  order = sym (append-nil (map (λ (x : Found). x.asked) f.found)) ∙ ap (λ ws. map (λ (x : Found). x.asked) f.found ++ ws) (sym none) ∙ f.order;
+  order = sym (append-nil (map (λ (x : Found). x.asked) f.found))
+      ∙ ap (λ ws. map (λ (x : Found). x.asked) f.found ++ ws) (sym none) ∙ f.order;
   shown = f.shown;
   rest = λ m. record {
     seat = record {
@@ -124,34 +132,54 @@ Finding-end v now f none = record {
 pub Finding-own : (v now : LiveView) → Finding v now → All (IsOwn v.seat) (waiting v) → All (IsOwn v.seat) (waiting now)
 Finding-own v now f own =
     subst (All (IsOwn v.seat)) (drop_front (map (λ (x : Found). x.asked) f.found) (waiting now))
-    (All-drop (IsOwn v.seat) (length (map (λ (x : Found). x.asked) f.found)) (map (λ (x : Found). x.asked) f.found ++ waiting now) (subst (All (IsOwn v.seat)) (sym f.order) own))
+    (All-drop (IsOwn v.seat) (length (map (λ (x : Found). x.asked) f.found))
+    (map (λ (x : Found). x.asked) f.found ++ waiting now) (subst (All (IsOwn v.seat)) (sym f.order) own))
   where
     drop_front : {X : Type 0} (xs ys : List X) → drop (length xs) (xs ++ ys) ≡ ys
     drop_front [] ys = refl
     drop_front (x ∷ xs) ys = drop_front xs ys
 
 -- as many looks wait and are found as before
-pub Finding-room : (v now : LiveView) → Finding v now → length (waiting now) + length now.found ≡ length (waiting v) + length v.found
+pub Finding-room : (v now : LiveView)
+    → Finding v now
+    → length (waiting now) + length now.found ≡ length (waiting v) + length v.found
 Finding-room v now f =
     let asked = map (λ (x : Found). x.asked) f.found in
-    omega (arith, ap length f.order, length-append asked (waiting now), length-map f.found (λ (x : Found). x.asked), ap length f.found_is, length-append v.found f.found)
+    omega (
+      arith,
+      ap length f.order,
+      length-append asked (waiting now),
+      length-map f.found (λ (x : Found). x.asked),
+      ap length f.found_is,
+      length-append v.found f.found,
+    )
 
 -- what is true of all of a list is true of all of its front
 front : {X : Type 0} (P : X → Type 0) (xs ys : List X) → All P (xs ++ ys) → All P xs
-front P xs ys all = λ k d below. subst P (get_or_append_left xs ys d k below) (all k d (omega (arith, length-append xs ys)))
+front P xs ys all =
+    λ k d below. subst P (get_or_append_left xs ys d k below) (all k d (omega (arith, length-append xs ys)))
 
 -- looks that were asked in the phase before and are found ran in the next phase
-pub Finding-ran : (v now : LiveView) → Finding v now → All (λ a. phase_at v.seat ≡ a.phase + 1) (waiting v) → All RanNext v.found → All RanNext now.found
+pub Finding-ran : (v now : LiveView)
+    → Finding v now
+    → All (λ a. phase_at v.seat ≡ a.phase + 1) (waiting v)
+    → All RanNext v.found
+    → All RanNext now.found
 Finding-ran v now f before next =
     let Before : Asked → Type 0 = λ a. phase_at v.seat ≡ a.phase + 1 in
-    let asked = all_asked Before f.found (front Before (map (λ (x : Found). x.asked) f.found) (waiting now) (subst (All Before) (sym f.order) before)) in
-    subst (All RanNext) (sym f.found_is) (All-append RanNext v.found f.found next (λ k d below. (f.shown k d below).phase ∙ asked k d below))
+    let asked = all_asked Before f.found
+    (front Before (map (λ (x : Found). x.asked) f.found) (waiting now) (subst (All Before) (sym f.order) before)) in
+    subst (All RanNext) (sym f.found_is)
+    (All-append RanNext v.found f.found next (λ k d below. (f.shown k d below).phase ∙ asked k d below))
 
 -- one look more is found, which was the first that waited still
 pub Finding-more : (v now next : LiveView) (a : Asked) (f : Found) → Finding v now
     → waiting now ≡ a ∷ waiting next → f.asked ≡ a → IsFoundAt v.seat f
-    → next.seat.post ≡ record now.seat.post { reads = now.seat.post.reads ++ read_for (length v.seat.post.additions) f ∷ [] }
-    → next.seat.held.capacity ≡ now.seat.held.capacity → next.seat.slice ≡ now.seat.slice → next.seat.last ≡ now.seat.last
+    → next.seat.post
+    ≡ record now.seat.post { reads = now.seat.post.reads ++ read_for (length v.seat.post.additions) f ∷ [] }
+    → next.seat.held.capacity ≡ now.seat.held.capacity
+    → next.seat.slice ≡ now.seat.slice
+    → next.seat.last ≡ now.seat.last
     → next.found ≡ now.found ++ f ∷ [] → Finding v next
 Finding-more v now next a f d first is shown post capacity slice last found = record {
   found = d.found ++ f ∷ [];
@@ -163,7 +191,8 @@ Finding-more v now next a f d first is shown post capacity slice last found = re
       ∙ d.order;
   shown = All-push (IsFoundAt v.seat) d.found f d.shown shown;
   post =
-      post ∙ ap (λ (p : PostView). record p { reads = p.reads ++ read_for (length v.seat.post.additions) f ∷ [] }) d.post
+      post ∙ ap (λ (p : PostView). record p { reads = p.reads ++ read_for (length v.seat.post.additions) f ∷ [] })
+      d.post
       ∙ (λ m. record v.seat.post { reads = reads m });
   capacity = capacity ∙ d.capacity;
   slice = slice ∙ d.slice;
@@ -171,17 +200,24 @@ Finding-more v now next a f d first is shown post capacity slice last found = re
   found_is = found ∙ ap (λ xs. xs ++ f ∷ []) d.found_is ∙ append_assoc v.found d.found (f ∷ []);
 }
   where
-    reads : (v.seat.post.reads ++ map (read_for (length v.seat.post.additions)) d.found) ++ read_for (length v.seat.post.additions) f ∷ [] ≡ v.seat.post.reads ++ map (read_for (length v.seat.post.additions)) (d.found ++ f ∷ [])
+    reads : (v.seat.post.reads ++ map (read_for (length v.seat.post.additions)) d.found)
+        ++ read_for (length v.seat.post.additions) f ∷ []
+        ≡ v.seat.post.reads ++ map (read_for (length v.seat.post.additions)) (d.found ++ f ∷ [])
     reads =
-        append_assoc v.seat.post.reads (map (read_for (length v.seat.post.additions)) d.found) (read_for (length v.seat.post.additions) f ∷ [])
-        ∙ ap (λ (xs : List PageRead). v.seat.post.reads ++ xs) (sym (map-append (read_for (length v.seat.post.additions)) d.found (f ∷ [])))
+        append_assoc v.seat.post.reads (map (read_for (length v.seat.post.additions)) d.found)
+        (read_for (length v.seat.post.additions) f ∷ [])
+        ∙ ap (λ (xs : List PageRead). v.seat.post.reads ++ xs)
+        (sym (map-append (read_for (length v.seat.post.additions)) d.found (f ∷ [])))
 
 -- the first that waits still is the seat's, once it is taken out
 pub Finding-first : (v now : LiveView) (s : SeatView Asked) (a : Asked) → Finding v now → All (IsOwn v.seat) (waiting v)
     → slice_get (waiting now) 0 ≡ Some a → s ≡ without_first now.seat → IsOwn s a
 Finding-first v now s a d own first is =
-    let mine : IsOwn v.seat a = All-head (IsOwn v.seat) a (drop 1 (waiting now)) (subst (All (IsOwn v.seat)) (first_of (waiting now) a first) (Finding-own v now d own)) in
-    let marks : s.post.marks ≡ v.seat.post.marks = ap (λ (t : SeatView Asked). t.post.marks) is ∙ ap (λ (p : PostView). p.marks) d.post in
+    let mine : IsOwn v.seat a =
+    All-head (IsOwn v.seat) a (drop 1 (waiting now))
+    (subst (All (IsOwn v.seat)) (first_of (waiting now) a first) (Finding-own v now d own)) in
+    let marks : s.post.marks ≡ v.seat.post.marks =
+    ap (λ (t : SeatView Asked). t.post.marks) is ∙ ap (λ (p : PostView). p.marks) d.post in
     let last : s.last ≡ v.seat.last = ap (λ (t : SeatView Asked). t.last) is ∙ d.last in
     record {
       there = subst (λ (m : List Bool). a.page < length m) (sym marks) mine.there;
@@ -189,8 +225,13 @@ Finding-first v now s a d own first is =
     }
 
 -- the first that waits still is found by a read
-pub Finding-next : (v now : LiveView) (s after : SeatView Asked) (found : List Found) (a : Asked) (seen : Seen) (phase : ℕ) → Finding v now
-    → slice_get (waiting now) 0 ≡ Some a → s ≡ without_first now.seat → Reads s a.user a.page seen after → phase ≡ phase_at v.seat
+pub Finding-next : (v now : LiveView) (s after : SeatView Asked) (found : List Found) (a : Asked) (seen : Seen)
+    (phase : ℕ)
+    → Finding v now
+    → slice_get (waiting now) 0 ≡ Some a
+    → s ≡ without_first now.seat
+    → Reads s a.user a.page seen after
+    → phase ≡ phase_at v.seat
     → found ≡ now.found ++ record { asked = a; last = seen.last; count = seen.count; phase = phase } ∷ []
     → Finding v (record { seat = after; found = found })
 Finding-next v now s after found a seen phase d first is reads phase_is found_is =
@@ -198,19 +239,25 @@ Finding-next v now s after found a seen phase d first is reads phase_is found_is
     let post : s.post ≡ now.seat.post = ap (λ (t : SeatView Asked). t.post) is in
     let additions : s.post.additions ≡ v.seat.post.additions = ap (λ (p : PostView). p.additions) (post ∙ d.post) in
     let state : phase_of now.seat.post.state ≡ phase = ap (λ (p : PostView). phase_of p.state) d.post ∙ sym phase_is in
-    let count : length now.seat.post.additions ≡ length v.seat.post.additions = ap (λ (p : PostView). length p.additions) d.post in
+    let count : length now.seat.post.additions ≡ length v.seat.post.additions =
+    ap (λ (p : PostView). length p.additions) d.post in
     let e : after ≡ record (without_first now.seat) { post = has_read now.seat.post a.page seen.count } =
     reads.read ∙ ap (λ (t : SeatView Asked). record t { post = has_read t.post a.page seen.count }) is in
     let f : Found = record { asked = a; last = seen.last; count = seen.count; phase = phase } in
     Finding-more v now (record { seat = after; found = found }) a f d
-    (first_of (waiting now) a first ∙ ap (λ (xs : List Asked). a ∷ xs) (sym (ap (λ (t : SeatView Asked). t.held.held) e)))
+    (first_of (waiting now) a first
+    ∙ ap (λ (xs : List Asked). a ∷ xs) (sym (ap (λ (t : SeatView Asked). t.held.held) e)))
     refl
     (record {
       last = reads.last ∙ ap (λ (t : UserTable). last_of t a.user) last;
       own = subst (λ (xs : List Addition). added_to a.page xs ≤ seen.count) additions reads.own;
       phase = phase_is;
     })
-    (ap (λ (t : SeatView Asked). t.post) e ∙ (λ m. record now.seat.post { reads = now.seat.post.reads ++ page_read (state m) a.page seen.count (count m) ∷ [] }))
+    (ap (λ (t : SeatView Asked). t.post) e
+    ∙ (λ m. record now.seat.post {
+      reads =
+          now.seat.post.reads ++ page_read (state m) a.page seen.count (count m) ∷ [];
+    }))
     (ap (λ (t : SeatView Asked). t.held.capacity) e)
     (ap (λ (t : SeatView Asked). t.slice) e)
     (ap (λ (t : SeatView Asked). t.last) e)

@@ -24,13 +24,18 @@ use Rattle.like_live.proofs.Calling.{LikesNow-tallies}
 use Rattle.like_live.proofs.Telling.{IsQuiet, IsQuiet-both, IsQuiet-moves, IsQuiet-same, IsTold, IsTold-after, IsTold-quiet, IsWhole, TellsNothing, is_counted, last-more, merged-asks, user_there}
 
 -- a like at a seat that runs a phase
-told-like : (v after : LiveView) (user page : ℕ) (answer : LikeAnswer) → IsWhole v → LikesNow v user page answer after → IsTold v after (like user page answer)
+told-like : (v after : LiveView) (user page : ℕ) (answer : LikeAnswer)
+    → IsWhole v
+    → LikesNow v user page answer after
+    → IsTold v after (like user page answer)
 told-like v after user page answer whole (calls.refused fails a is) =
     IsTold-quiet v after (like user page answer) (subst (IsQuiet v) (sym is) (IsQuiet-same v whole))
-    (subst (λ x. TellsNothing (like user page x)) (sym a) (record { likes = λ p. refl; pages = λ u. refl; taken = refl; told = refl }))
+    (subst (λ x. TellsNothing (like user page x)) (sym a)
+    (record { likes = λ p. refl; pages = λ u. refl; taken = refl; told = refl }))
 told-like v after user page answer whole (calls.full accepted most a is) =
     IsTold-quiet v after (like user page answer) (subst (IsQuiet v) (sym is) (IsQuiet-same v whole))
-    (subst (λ x. TellsNothing (like user page x)) (sym a) (record { likes = λ p. refl; pages = λ u. refl; taken = refl; told = refl }))
+    (subst (λ x. TellsNothing (like user page x)) (sym a)
+    (record { likes = λ p. refl; pages = λ u. refl; taken = refl; told = refl }))
 told-like v after user page answer whole (calls.liked old s accepted few a counts is) =
     let c = is_counted v.seat s user page old counts in
     let there = subst (λ n. user < n) (sym whole.table) (user_there v.seat user page accepted) in
@@ -38,7 +43,8 @@ told-like v after user page answer whole (calls.liked old s accepted few a count
     record {
       whole = subst IsWhole (sym is) (record {
         sized = c.sized ∙ whole.sized ∙ ap length (sym c.marks);
-        table = ap (λ (t : UserTable). length t.last) c.last ∙ length-set v.seat.last.last user (Some page) ∙ whole.table ∙ ap (λ (t : UserTable). t.share.users) (sym c.last);
+        table = ap (λ (t : UserTable). length t.last) c.last ∙ length-set v.seat.last.last user (Some page)
+            ∙ whole.table ∙ ap (λ (t : UserTable). t.share.users) (sym c.last);
         empty = λ gone. ap (λ (w : Waiting Asked). w.held) c.held ∙ whole.empty (sym c.is_in ∙ gone);
       });
       tallies = LikesNow-tallies v after user page answer whole.sized done;
@@ -50,13 +56,18 @@ told-like v after user page answer whole (calls.liked old s accepted few a count
     }
 
 -- a look at a seat that runs a phase
-told-look : (v after : LiveView) (user page tag : ℕ) (answer : LookAnswer) → IsWhole v → LooksNow v user page tag answer after → IsTold v after (look user page tag answer)
+told-look : (v after : LiveView) (user page tag : ℕ) (answer : LookAnswer)
+    → IsWhole v
+    → LooksNow v user page tag answer after
+    → IsTold v after (look user page tag answer)
 told-look v after user page tag answer whole (calls.refused fails a is) =
     IsTold-quiet v after (look user page tag answer) (subst (IsQuiet v) (sym is) (IsQuiet-same v whole))
-    (subst (λ x. TellsNothing (look user page tag x)) (sym a) (record { likes = λ p. refl; pages = λ u. refl; taken = refl; told = refl }))
+    (subst (λ x. TellsNothing (look user page tag x)) (sym a)
+    (record { likes = λ p. refl; pages = λ u. refl; taken = refl; told = refl }))
 told-look v after user page tag answer whole (calls.no_room accepted split none a is) =
     IsTold-quiet v after (look user page tag answer) (subst (IsQuiet v) (sym is) (IsQuiet-same v whole))
-    (subst (λ x. TellsNothing (look user page tag x)) (sym a) (record { likes = λ p. refl; pages = λ u. refl; taken = refl; told = refl }))
+    (subst (λ x. TellsNothing (look user page tag x)) (sym a)
+    (record { likes = λ p. refl; pages = λ u. refl; taken = refl; told = refl }))
 told-look v after user page tag answer whole (calls.seen shown s accepted plain a reads is) =
     IsTold-quiet v after (look user page tag answer)
     (subst (IsQuiet v) (sym (is ∙ ap (with_seat v) reads.read)) (record {
@@ -65,25 +76,38 @@ told-look v after user page tag answer whole (calls.seen shown s accepted plain 
       last = refl;
       asks = refl;
     }))
-    (subst (λ x. TellsNothing (look user page tag x)) (sym a) (record { likes = λ p. refl; pages = λ u. refl; taken = refl; told = refl }))
+    (subst (λ x. TellsNothing (look user page tag x)) (sym a)
+    (record { likes = λ p. refl; pages = λ u. refl; taken = refl; told = refl }))
 told-look v after user page tag answer whole (calls.waits accepted split room a is) =
     subst (λ x. IsTold v after (look user page tag x)) (sym a)
     (subst (λ w. IsTold v w (look user page tag Waits)) (sym is) (record {
-      whole = record { sized = whole.sized; table = whole.table; empty = λ gone. absurd (gone-plain v.seat.post page gone split) };
+      whole = record {
+        sized =
+            whole.sized;
+        table = whole.table;
+        empty = λ gone. absurd (gone-plain v.seat.post page gone split);
+      };
       tallies = λ p. omega arith;
       last = λ u. refl;
       asks =
           ap (λ xs. map ask_of v.found ++ xs) (map-append ask_waiting (waiting v) (asked_now v user page tag ∷ []))
-          ∙ sym (append_assoc (map ask_of v.found) (map ask_waiting (waiting v)) (ask_waiting (asked_now v user page tag) ∷ []));
+          ∙ sym (append_assoc (map ask_of v.found) (map ask_waiting (waiting v))
+          (ask_waiting (asked_now v user page tag) ∷ []));
     }))
   where
     -- no page is split for one that is gone
     gone-plain : (post : PostView) (page : ℕ) → post.state ≡ state.Gone → slices post page ≡ true → ⊥
-    gone-plain post page gone split = let e : slices post page ≡ false = ap (λ s. slices (record post { state = s }) page) gone in absurd (cc (sym e ∙ split))
+    gone-plain post page gone split =
+        let e : slices post page ≡ false = ap (λ s. slices (record post { state = s }) page) gone in
+        absurd (cc (sym e ∙ split))
 
 -- a glance at a seat that runs a phase
-quiet-glance : (v after : LiveView) (user page : ℕ) (answer : GlanceAnswer) → IsWhole v → GlancesNow v user page answer after → IsQuiet v after
-quiet-glance v after user page answer whole (calls.refused fails a is) = subst (IsQuiet v) (sym is) (IsQuiet-same v whole)
+quiet-glance : (v after : LiveView) (user page : ℕ) (answer : GlanceAnswer)
+    → IsWhole v
+    → GlancesNow v user page answer after
+    → IsQuiet v after
+quiet-glance v after user page answer whole (calls.refused fails a is) =
+    subst (IsQuiet v) (sym is) (IsQuiet-same v whole)
 quiet-glance v after user page answer whole (calls.plain shown s accepted plain a reads is) =
     subst (IsQuiet v) (sym (is ∙ ap (with_seat v) reads.read)) (record {
       whole = record { sized = whole.sized; table = whole.table; empty = whole.empty };
@@ -99,12 +123,18 @@ quiet-glance v after user page answer whole (calls.split shown s accepted split 
       asks = refl;
     })
 
-told-glance : (v after : LiveView) (user page : ℕ) (answer : GlanceAnswer) → IsQuiet v after → IsTold v after (glance user page answer)
+told-glance : (v after : LiveView) (user page : ℕ) (answer : GlanceAnswer)
+    → IsQuiet v after
+    → IsTold v after (glance user page answer)
 told-glance v after user page answer q =
-    IsTold-quiet v after (glance user page answer) q (record { likes = λ p. refl; pages = λ u. refl; taken = refl; told = refl })
+    IsTold-quiet v after (glance user page answer) q
+    (record { likes = λ p. refl; pages = λ u. refl; taken = refl; told = refl })
 
 -- a retirement at a seat that runs a phase
-told-retire : (v after : LiveView) (answer : TurnAnswer) → IsWhole v → RetiresNow v answer after → IsTold v after (retire answer)
+told-retire : (v after : LiveView) (answer : TurnAnswer)
+    → IsWhole v
+    → RetiresNow v answer after
+    → IsTold v after (retire answer)
 told-retire v after answer whole (calls.retires joined none a is) =
     IsTold-quiet v after (retire answer)
     (subst (IsQuiet v) (sym is) (record {
@@ -115,7 +145,8 @@ told-retire v after answer whole (calls.retires joined none a is) =
     }))
     (record { likes = λ p. refl; pages = λ u. refl; taken = refl; told = refl })
 told-retire v after answer whole (calls.runs split a is) =
-    IsTold-quiet v after (retire answer) (subst (IsQuiet v) (sym is) (IsQuiet-same v whole)) (record { likes = λ p. refl; pages = λ u. refl; taken = refl; told = refl })
+    IsTold-quiet v after (retire answer) (subst (IsQuiet v) (sym is) (IsQuiet-same v whole))
+    (record { likes = λ p. refl; pages = λ u. refl; taken = refl; told = refl })
 
 -- a found look that is taken
 takes-asks : (fs : List Found) (waits : List Ask) (taken : Option Found) → taken ≡ slice_get fs 0
@@ -123,7 +154,10 @@ takes-asks : (fs : List Found) (waits : List Ask) (taken : Option Found) → tak
 takes-asks [] waits taken e = ap (λ (o : Option Found). ask_taken (take_found o) ++ waits) e
 takes-asks (f ∷ fs) waits taken e = ap (λ (o : Option Found). ask_taken (take_found o) ++ (map ask_of fs ++ waits)) e
 
-told-take : (v after : LiveView) (taken : Option Found) → IsWhole v → TakesFound v taken after → IsTold v after (take_found taken)
+told-take : (v after : LiveView) (taken : Option Found)
+    → IsWhole v
+    → TakesFound v taken after
+    → IsTold v after (take_found taken)
 told-take v after taken whole takes = subst (λ w. IsTold v w (take_found taken)) (sym takes.1) (record {
   whole = record { sized = whole.sized; table = whole.table; empty = whole.empty };
   tallies = λ p. omega arith;
@@ -133,16 +167,20 @@ told-take v after taken whole takes = subst (λ w. IsTold v w (take_found taken)
 
 -- each call tells what it does
 told-does : (t : Told) (v after : LiveView) → IsWhole v → Does v t after → IsTold v after t
-told-does (turn answer) v after whole m = IsTold-quiet v after (turn answer) (IsQuiet-moves v after answer whole m) (record { likes = λ p. refl; pages = λ u. refl; taken = refl; told = refl })
+told-does (turn answer) v after whole m =
+    IsTold-quiet v after (turn answer) (IsQuiet-moves v after answer whole m)
+    (record { likes = λ p. refl; pages = λ u. refl; taken = refl; told = refl })
 told-does (like user page answer) v after whole d = by_case d
   where
     by_case : LikeCase v user page answer after → IsTold v after (like user page answer)
     by_case (calls.gone m a) =
         IsTold-quiet v after (like user page answer) (IsQuiet-moves v after _ whole m)
-        (subst (λ x. TellsNothing (like user page x)) (sym a) (record { likes = λ p. refl; pages = λ u. refl; taken = refl; told = refl }))
+        (subst (λ x. TellsNothing (like user page x)) (sym a)
+        (record { likes = λ p. refl; pages = λ u. refl; taken = refl; told = refl }))
     by_case (calls.between m a) =
         IsTold-quiet v after (like user page answer) (IsQuiet-moves v after _ whole m)
-        (subst (λ x. TellsNothing (like user page x)) (sym a) (record { likes = λ p. refl; pages = λ u. refl; taken = refl; told = refl }))
+        (subst (λ x. TellsNothing (like user page x)) (sym a)
+        (record { likes = λ p. refl; pages = λ u. refl; taken = refl; told = refl }))
     by_case (calls.runs now m l) =
         let q = IsQuiet-moves v now _ whole m in
         IsTold-after v now after (like user page answer) q (told-like now after user page answer q.whole l)
@@ -151,10 +189,12 @@ told-does (look user page tag answer) v after whole d = by_case d
     by_case : LookCase v user page tag answer after → IsTold v after (look user page tag answer)
     by_case (calls.gone m a) =
         IsTold-quiet v after (look user page tag answer) (IsQuiet-moves v after _ whole m)
-        (subst (λ x. TellsNothing (look user page tag x)) (sym a) (record { likes = λ p. refl; pages = λ u. refl; taken = refl; told = refl }))
+        (subst (λ x. TellsNothing (look user page tag x)) (sym a)
+        (record { likes = λ p. refl; pages = λ u. refl; taken = refl; told = refl }))
     by_case (calls.between m a) =
         IsTold-quiet v after (look user page tag answer) (IsQuiet-moves v after _ whole m)
-        (subst (λ x. TellsNothing (look user page tag x)) (sym a) (record { likes = λ p. refl; pages = λ u. refl; taken = refl; told = refl }))
+        (subst (λ x. TellsNothing (look user page tag x)) (sym a)
+        (record { likes = λ p. refl; pages = λ u. refl; taken = refl; told = refl }))
     by_case (calls.runs now m l) =
         let q = IsQuiet-moves v now _ whole m in
         IsTold-after v now after (look user page tag answer) q (told-look now after user page tag answer q.whole l)
@@ -171,7 +211,8 @@ told-does (retire answer) v after whole d = by_case d
   where
     by_case : RetireCase v answer after → IsTold v after (retire answer)
     by_case (calls.turns ends m) =
-        IsTold-quiet v after (retire answer) (IsQuiet-moves v after answer whole m) (record { likes = λ p. refl; pages = λ u. refl; taken = refl; told = refl })
+        IsTold-quiet v after (retire answer) (IsQuiet-moves v after answer whole m)
+        (record { likes = λ p. refl; pages = λ u. refl; taken = refl; told = refl })
     by_case (calls.runs now m l) =
         let q = IsQuiet-moves v now _ whole m in
         IsTold-after v now after (retire answer) q (told-retire now after answer q.whole l)
@@ -200,7 +241,8 @@ are_told (t ∷ told) v after whole d =
     let rest = are_told told now after first.whole d.1.1 in
     record {
       whole = rest.whole;
-      tallies = λ page. let a = first.tallies page in let b = rest.tallies page in omega (arith, sum_by-cons (like_told page) t told);
+      tallies = λ page. let a = first.tallies page in
+          let b = rest.tallies page in omega (arith, sum_by-cons (like_told page) t told);
       last = λ user.
           rest.last user ∙ ap (λ (o : Option ℕ). last_or o (pages_liked user told)) (first.last user)
           ∙ sym (last_or-append (last_of v.seat.last user) (page_liked user t) (pages_liked user told));
@@ -216,13 +258,16 @@ whole_at_first : (v : LiveView) → IsUnused v → IsWhole v
 whole_at_first v unused =
     let new = unused.new in
     record {
-      sized = ap length new.slice ∙ length-replicate {A = ℕ} _ 0 ∙ ap (λ (p : PostView). length p.marks) (sym new.at_post);
-      table = ap (λ (t : UserTable). length t.last) new.last ∙ length-replicate {A = Option ℕ} _ None ∙ ap (λ (t : UserTable). t.share.users) (sym new.last);
+      sized = ap length new.slice ∙ length-replicate {A = ℕ} _ 0
+          ∙ ap (λ (p : PostView). length p.marks) (sym new.at_post);
+      table = ap (λ (t : UserTable). length t.last) new.last ∙ length-replicate {A = Option ℕ} _ None
+          ∙ ap (λ (t : UserTable). t.share.users) (sym new.last);
       empty = λ e. ap (λ (w : Waiting Asked). w.held) new.held;
     }
 
 pub none_waits_once_gone : NoneWaitsOnceGone
-none_waits_once_gone v after told unused done gone = (are_told told v after (whole_at_first v unused) done).whole.empty gone
+none_waits_once_gone v after told unused done gone =
+    (are_told told v after (whole_at_first v unused) done).whole.empty gone
 
 pub histories_are_counted : HistoriesAreCounted
 histories_are_counted v after told unused done =
@@ -231,11 +276,15 @@ histories_are_counted v after told unused done =
     let nothing : asks_left v ≡ [] = λ m. map ask_of (new.found m) ++ map ask_waiting ((new.held m).held) in
     record {
       tallies = λ page.
-          let added : added_to page v.seat.post.additions ≡ 0 = ap (λ (p : PostView). added_to page p.additions) new.at_post ∙ ap (added_to page) unused.fresh.added_nothing in
-          let slice : get_or v.seat.slice page 0 ≡ 0 = ap (λ (xs : List ℕ). get_or xs page 0) new.slice ∙ same_everywhere _ page 0 in
+          let added : added_to page v.seat.post.additions ≡ 0 =
+          ap (λ (p : PostView). added_to page p.additions) new.at_post
+          ∙ ap (added_to page) unused.fresh.added_nothing in
+          let slice : get_or v.seat.slice page 0 ≡ 0 =
+          ap (λ (xs : List ℕ). get_or xs page 0) new.slice ∙ same_everywhere _ page 0 in
           let all = t.tallies page in
           omega arith;
       last = λ user.
-          t.last user ∙ ap (λ (o : Option ℕ). last_or o (pages_liked user told)) (ap (λ (u : UserTable). last_of u user) new.last ∙ same_everywhere _ user None);
+          t.last user ∙ ap (λ (o : Option ℕ). last_or o (pages_liked user told))
+          (ap (λ (u : UserTable). last_of u user) new.last ∙ same_everywhere _ user None);
       taken = t.asks ∙ ap (λ xs. xs ++ asks_told told) nothing;
     }

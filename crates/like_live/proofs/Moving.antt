@@ -81,15 +81,21 @@ Leaves-merged v s sized m =
       sized = length-replicate {A = ℕ} (pages_of v.seat.post) 0 ∙ sym sized;
     })
 
-pub Leaves-works : (v after : LiveView) (ending : Bool) (answer : TurnAnswer) → IsSized v → Works v ending answer after → Leaves v after
+pub Leaves-works : (v after : LiveView) (ending : Bool) (answer : TurnAnswer)
+    → IsSized v
+    → Works v ending answer after
+    → Leaves v after
 Leaves-works v after ending answer sized (runs_joined joined e a found) = Leaves-found v after found
 Leaves-works v after ending answer sized (acknowledges now joined e a found is) =
-    subst (Leaves v) (sym is) (Leaves-both v now (acknowledged now) (Leaves-found v now found) (Leaves-acknowledged now))
+    subst (Leaves v) (sym is)
+    (Leaves-both v now (acknowledged now) (Leaves-found v now found) (Leaves-acknowledged now))
 Leaves-works v after ending answer sized (runs_split split e a is) = subst (Leaves v) (sym is) (Leaves-all v)
-Leaves-works v after ending answer sized (reports s split e a merges is) = subst (Leaves v) (sym is) (Leaves-merged v s sized merges)
+Leaves-works v after ending answer sized (reports s split e a merges is) =
+    subst (Leaves v) (sym is) (Leaves-merged v s sized merges)
 
 pub Leaves-moves : (v after : LiveView) (answer : TurnAnswer) → IsSized v → Moves v answer after → Leaves v after
 Leaves-moves v after answer sized (is_gone gone a is) = subst (Leaves v) (sym is) (Leaves-all v)
 Leaves-moves v after answer sized (waits sight mask can w a is) = subst (Leaves v) (sym is) (Leaves-looked v sight mask)
 Leaves-moves v after answer sized (works sight mask can w does) =
-    Leaves-both v (looked v sight mask) after (Leaves-looked v sight mask) (Leaves-works (looked v sight mask) after sight.ending answer sized does)
+    Leaves-both v (looked v sight mask) after (Leaves-looked v sight mask)
+    (Leaves-works (looked v sight mask) after sight.ending answer sized does)

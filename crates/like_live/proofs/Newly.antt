@@ -17,13 +17,18 @@ use Rattle.like_live.specs.Service.{AreItsSeats, CallsKeepSeats, IsOpened}
 use Rattle.like_live.proofs.Closing.{all-alike, sum-alike}
 
 -- one more, at the next place
-pub each-pushed : {A : Type 0} (P : ℕ → A → Type 0) (xs : List A) (y : A) → ((i : ℕ) (x : A) → slice_get xs i ≡ Some x → P i x) → P (length xs) y
+pub each-pushed : {A : Type 0} (P : ℕ → A → Type 0) (xs : List A) (y : A)
+    → ((i : ℕ) (x : A) → slice_get xs i ≡ Some x → P i x)
+    → P (length xs) y
     → (i : ℕ) (x : A) → slice_get (xs ++ y ∷ []) i ≡ Some x → P i x
 each-pushed P xs y each last i x at = elim (cases_lt i (length xs)) [
-  | inl below ↦ each i x (slice_get-get_or xs i y below ∙ ap Some (sym (get_or_append_left xs (y ∷ []) y i below) ∙ get_or_from_slice_get (xs ++ y ∷ []) i x y at))
+  | inl below ↦ each i x
+      (slice_get-get_or xs i y below
+      ∙ ap Some (sym (get_or_append_left xs (y ∷ []) y i below) ∙ get_or_from_slice_get (xs ++ y ∷ []) i x y at))
   | inr past ↦
       let is : length xs ≡ i = omega (arith, past, slice_get_within (xs ++ y ∷ []) i x at, length_push xs y) in
-      subst (λ n. P n x) is (subst (P (length xs)) (sym (get_or_push xs y y i is) ∙ get_or_from_slice_get (xs ++ y ∷ []) i x y at) last)
+      subst (λ n. P n x) is
+      (subst (P (length xs)) (sym (get_or_push xs y y i is) ∙ get_or_from_slice_get (xs ++ y ∷ []) i x y at) last)
 ]
 
 -- a list has an element at each place within it
@@ -39,7 +44,9 @@ std-element (y ∷ ys) zero x at = λ m. Some (some-injective y x at m)
 std-element (y ∷ ys) (suc i) x at = std-element ys i x at
 
 -- seats that stand in order of their numbers have each number once
-pub once-in-order : (seats : List LiveView) (n : ℕ) → length seats ≡ n → ((k : ℕ) (s : LiveView) → slice_get seats k ≡ Some s → s.seat.post.worker ≡ k)
+pub once-in-order : (seats : List LiveView) (n : ℕ)
+    → length seats ≡ n
+    → ((k : ℕ) (s : LiveView) → slice_get seats k ≡ Some s → s.seat.post.worker ≡ k)
     → (i : ℕ) → i < n → count_by (λ s. s.seat.post.worker == i) seats ≡ 1
 once-in-order seats n sized each i below =
     let here = element seats i (omega arith) in
@@ -60,11 +67,15 @@ opened-whole o s is =
       len = is.seats.len ∙ sym workers;
       here = λ k d below. (is.seats.each k (get_or s.seats.items k d) (slice_get-get_or s.seats.items k d below)).here;
       all = λ i below.
-          once-in-order s.seats.items o.seats is.seats.len (λ k v at. (is.seats.each k v at).worker) i (subst (λ n. i < n) workers below);
+          once-in-order s.seats.items o.seats is.seats.len (λ k v at. (is.seats.each k v at).worker) i
+          (subst (λ n. i < n) workers below);
     }
 
 -- what is the same of each of two lists' elements makes equal lists
-zip-map : {A B : Type 0} (R : A → A → Type 0) (f : A → B) (xs ys : List A) → ((x y : A) → R x y → f y ≡ f x) → AllZip R xs ys → map f ys ≡ map f xs
+zip-map : {A B : Type 0} (R : A → A → Type 0) (f : A → B) (xs ys : List A)
+    → ((x y : A) → R x y → f y ≡ f x)
+    → AllZip R xs ys
+    → map f ys ≡ map f xs
 zip-map R f [] [] same all = refl
 zip-map R f [] (y ∷ ys) same all = absurd all
 zip-map R f (x ∷ xs) [] same all = absurd all
@@ -84,9 +95,11 @@ calls-keep-whole v w seats after its driver same =
     record {
       len = zip-length IsSameSeat seats after same ∙ its.len ∙ sym (ap (λ (z : CoreOpening). z.workers) driver.opening);
       here = subst (λ (b : BoardId). All (λ s. s.seat.post.board ≡ board_numbers b) after) (sym driver.board)
-          (all-alike (λ (b : List ℕ). b ≡ board_numbers v.board) board_at board_at after seats (zip-map IsSameSeat board_at seats after (λ x y s. s.board) same) its.here);
+          (all-alike (λ (b : List ℕ). b ≡ board_numbers v.board) board_at board_at after seats
+          (zip-map IsSameSeat board_at seats after (λ x y s. s.board) same) its.here);
       all = λ i below.
           let one : ℕ → ℕ = λ n. cond (n == i) 1 0 in
-          sum-alike one worker_at worker_at after seats (zip-map IsSameSeat worker_at seats after (λ x y s. s.worker) same)
+          sum-alike one worker_at worker_at after seats
+          (zip-map IsSameSeat worker_at seats after (λ x y s. s.worker) same)
           ∙ its.all i (subst (λ n. i < n) (ap (λ (z : CoreOpening). z.workers) driver.opening) below);
     }

@@ -11,16 +11,24 @@ use Rattle.like_seat.specs.SeatView.{likes_of}
 use Rattle.like_live.specs.declared.asked.Asked.{Asked}
 
 -- the user of a request that is accepted is the seat's
-pub owned_since : (s : Share) (r : Request) → s.submitters ≡ s.workers → is_accepted s.users s.submitters s.worker r ≡ true → owns s r.user ≡ true
+pub owned_since : (s : Share) (r : Request)
+    → s.submitters ≡ s.workers
+    → is_accepted s.users s.submitters s.worker r ≡ true
+    → owns s r.user ≡ true
 owned_since s r home is =
     let parts = and_parts _ _ is in
     let user = and_parts (nat_lt r.user s.users) _ parts.0 in
     let at : r.user % s.submitters ≡ s.worker = eqb-true _ _ user.1 in
-    let mine : r.user % s.submitters % s.workers ≡ s.worker = ap (λ n. r.user % s.submitters % n) (sym home) ∙ mod-mod r.user s.submitters ∙ at in
+    let mine : r.user % s.submitters % s.workers ≡ s.worker =
+    ap (λ n. r.user % s.submitters % n) (sym home) ∙ mod-mod r.user s.submitters ∙ at in
     and_from _ _ user.0 (eq-eqb _ _ mine)
 
 -- a seat that has not counted all its likes may count one more
-pub not-full : (s : SeatView Asked) → IsSeat s → s.post.limits ≡ service_limits → likes_of s < 2 ^ 56 → likes_of s < s.post.limits.likes
+pub not-full : (s : SeatView Asked)
+    → IsSeat s
+    → s.post.limits ≡ service_limits
+    → likes_of s < 2 ^ 56
+    → likes_of s < s.post.limits.likes
 not-full s kept limits some =
     let most : s.post.limits.likes ≡ 2 ^ 56 = ap (λ l. l.likes) limits in
     let few = kept.few in

@@ -54,8 +54,10 @@ pub IsTold-quiet : (v after : LiveView) (t : Told) → IsQuiet v after → Tells
 IsTold-quiet v after t q none = record {
   whole = q.whole;
   tallies = λ page. let a = q.tallies page in let b = none.likes page in omega arith;
-  last = λ user. ap (λ (x : UserTable). last_of x user) q.last ∙ sym (ap (last_or (last_of v.seat.last user)) (none.pages user));
-  asks = ap (λ xs. xs ++ asks_left after) none.taken ∙ q.asks ∙ sym (append-nil (asks_left v)) ∙ ap (λ xs. asks_left v ++ xs) (sym none.told);
+  last = λ user. ap (λ (x : UserTable). last_of x user) q.last
+      ∙ sym (ap (last_or (last_of v.seat.last user)) (none.pages user));
+  asks = ap (λ xs. xs ++ asks_left after) none.taken ∙ q.asks ∙ sym (append-nil (asks_left v))
+      ∙ ap (λ xs. asks_left v ++ xs) (sym none.told);
 }
 
 pub IsTold-after : (v now after : LiveView) (t : Told) → IsQuiet v now → IsTold now after t → IsTold v after t
@@ -99,8 +101,10 @@ IsEmpty v = v.seat.post.state ≡ state.Gone → waiting v ≡ []
 
 empty-works : (v after : LiveView) (ending : Bool) (answer : TurnAnswer) → Works v ending answer after → IsEmpty after
 empty-works v after ending answer (moves.runs_joined joined e a found) = λ gone. ap waiting found.rest
-empty-works v after ending answer (moves.acknowledges now joined e a found is) = λ gone. ap waiting is ∙ ap waiting found.rest
-empty-works v after ending answer (moves.runs_split split e a is) = subst IsEmpty (sym is) (λ gone. absurd (split-there v.seat.post.state split gone))
+empty-works v after ending answer (moves.acknowledges now joined e a found is) =
+    λ gone. ap waiting is ∙ ap waiting found.rest
+empty-works v after ending answer (moves.runs_split split e a is) =
+    subst IsEmpty (sym is) (λ gone. absurd (split-there v.seat.post.state split gone))
 empty-works v after ending answer (moves.reports s split e a merges is) =
     subst IsEmpty (sym is) (λ gone. absurd (cc (sym (ap (λ (t : SeatView Asked). t.post.state) merges.1.1) ∙ gone)))
 
@@ -108,7 +112,8 @@ empty-moves : (v after : LiveView) (answer : TurnAnswer) → IsEmpty v → Moves
 empty-moves v after answer empty (moves.is_gone gone a is) = subst IsEmpty (sym is) empty
 empty-moves v after answer empty (moves.waits sight mask can w a is) =
     subst IsEmpty (sym is) (λ gone. absurd (seen-there v.seat.post.limits v.seat.post.state sight can gone))
-empty-moves v after answer empty (moves.works sight mask can w does) = empty-works (looked v sight mask) after sight.ending answer does
+empty-moves v after answer empty (moves.works sight mask can w does) =
+    empty-works (looked v sight mask) after sight.ending answer does
 
 -- a found look is the one that waited
 asks-found : (fs : List Found) → map ask_of fs ≡ map ask_waiting (map (λ f. f.asked) fs)
@@ -125,17 +130,22 @@ finds-asks v after f =
 pub merged-asks : (v : LiveView) (s : SeatView Asked) → s.held ≡ v.seat.held → asks_left (with_seat v s) ≡ asks_left v
 merged-asks v s held = ap (λ h. map ask_of v.found ++ map ask_waiting h.held) held
 
-works-asks : (v after : LiveView) (ending : Bool) (answer : TurnAnswer) → Works v ending answer after → asks_left after ≡ asks_left v
+works-asks : (v after : LiveView) (ending : Bool) (answer : TurnAnswer)
+    → Works v ending answer after
+    → asks_left after ≡ asks_left v
 works-asks v after ending answer (moves.runs_joined joined e a found) = finds-asks v after found
 works-asks v after ending answer (moves.acknowledges now joined e a found is) = ap asks_left is ∙ finds-asks v now found
 works-asks v after ending answer (moves.runs_split split e a is) = ap asks_left is
 works-asks v after ending answer (moves.reports s split e a merges is) =
-    ap asks_left is ∙ merged-asks v s (ap (λ (t : SeatView Asked). t.held) merges.1.1 ∙ ap (λ (t : SeatView Asked). t.held) merges.1.0.1.1)
+    ap asks_left is
+    ∙ merged-asks v s
+    (ap (λ (t : SeatView Asked). t.held) merges.1.1 ∙ ap (λ (t : SeatView Asked). t.held) merges.1.0.1.1)
 
 moves-asks : (v after : LiveView) (answer : TurnAnswer) → Moves v answer after → asks_left after ≡ asks_left v
 moves-asks v after answer (moves.is_gone gone a is) = ap asks_left is
 moves-asks v after answer (moves.waits sight mask can w a is) = ap asks_left is
-moves-asks v after answer (moves.works sight mask can w does) = works-asks (looked v sight mask) after sight.ending answer does
+moves-asks v after answer (moves.works sight mask can w does) =
+    works-asks (looked v sight mask) after sight.ending answer does
 
 -- phase work is quiet
 pub IsQuiet-moves : (v after : LiveView) (answer : TurnAnswer) → IsWhole v → Moves v answer after → IsQuiet v after
@@ -144,7 +154,8 @@ IsQuiet-moves v after answer whole m =
     record {
       whole = record {
         sized = l.sized ∙ whole.sized ∙ ap length (sym l.same.marks);
-        table = ap (λ (t : UserTable). length t.last) l.last ∙ whole.table ∙ ap (λ (t : UserTable). t.share.users) (sym l.last);
+        table = ap (λ (t : UserTable). length t.last) l.last ∙ whole.table
+            ∙ ap (λ (t : UserTable). t.share.users) (sym l.last);
         empty = empty-moves v after answer whole.empty m;
       };
       tallies = l.tallies;
@@ -161,12 +172,16 @@ pub user_there : (s : SeatView Asked) (user page : ℕ) → verdict_at s user pa
 user_there s user page is = ltb-true user s.last.share.users (first_test _ _ is)
 
 -- a like is the user's last
-pub last-more : (t : UserTable) (user page other : ℕ) → user < length t.last → last_of (with_last t user page) other ≡ last_or (last_of t other) (cond (user == other) (page ∷ []) [])
+pub last-more : (t : UserTable) (user page other : ℕ)
+    → user < length t.last
+    → last_of (with_last t user page) other ≡ last_or (last_of t other) (cond (user == other) (page ∷ []) [])
 last-more t user page other there =
     elim (cases_eq user other) [
       | inl same ↦
-          subst (λ (k : ℕ). last_of (with_last t user page) k ≡ last_or (last_of t k) (cond (user == k) (page ∷ []) [])) same
-          (get_or-set_same t.last user (Some page) None there ∙ ap (λ (b : Bool). last_or (last_of t user) (cond b (page ∷ []) [])) (sym (eq-eqb user user refl)))
+          subst (λ (k : ℕ). last_of (with_last t user page) k ≡ last_or (last_of t k) (cond (user == k) (page ∷ []) []))
+          same
+          (get_or-set_same t.last user (Some page) None there
+          ∙ ap (λ (b : Bool). last_or (last_of t user) (cond b (page ∷ []) [])) (sym (eq-eqb user user refl)))
       | inr apart ↦
           get_or-set_other t.last user other (Some page) None (λ e. apart (sym e))
           ∙ ap (λ (b : Bool). last_or (last_of t other) (cond b (page ∷ []) [])) (sym (ne_eqb user other apart))
@@ -180,7 +195,9 @@ pub record IsCounted (s after : SeatView Asked) (user page : ℕ) : Type 0 where
   pub marks : after.post.marks ≡ s.post.marks
   pub sized : length after.slice ≡ length s.slice
 
-pub is_counted : (s after : SeatView Asked) (user page : ℕ) (old : Option ℕ) → CountsLike s user page old after → IsCounted s after user page
+pub is_counted : (s after : SeatView Asked) (user page : ℕ) (old : Option ℕ)
+    → CountsLike s user page old after
+    → IsCounted s after user page
 is_counted s after user page None c = record {
   held = ap (λ (t : SeatView Asked). t.held) c.1;
   last = ap (λ (t : SeatView Asked). t.last) c.1;

@@ -35,26 +35,68 @@ reads-only c counts =
     }
 
 -- so does a choice, but for the counts that are kept
-pub chosen-only : (v chosen : LeadView) (m : ℕ) → ChoosesRisen v m chosen → IsSameDriver v chosen × ReadsOnly v.seat chosen.seat
+pub chosen-only : (v chosen : LeadView) (m : ℕ)
+    → ChoosesRisen v m chosen
+    → IsSameDriver v chosen × ReadsOnly v.seat chosen.seat
 chosen-only v chosen m (none_asked _ _ is) = (
-  record { board = ap (λ (l : LeadView). l.board) is; opening = ap (λ (l : LeadView). l.seat.opening) is; hot = ap (λ (l : LeadView). l.hot) is },
-  record { opening = ap (λ (l : LeadView). l.seat.opening) is; phase = ap (λ (l : LeadView). l.seat.phase) is; last = ap (λ (l : LeadView). l.seat.last) is; gone = ap (λ (l : LeadView). l.seat.gone) is },
+  record {
+    board =
+        ap (λ (l : LeadView). l.board) is;
+    opening =
+        ap (λ (l : LeadView). l.seat.opening) is;
+    hot = ap (λ (l : LeadView). l.hot) is;
+  },
+  record {
+    opening =
+        ap (λ (l : LeadView). l.seat.opening) is;
+    phase =
+        ap (λ (l : LeadView). l.seat.phase) is;
+    last =
+        ap (λ (l : LeadView). l.seat.last) is;
+    gone = ap (λ (l : LeadView). l.seat.gone) is;
+  },
 )
 chosen-only v chosen m (those_risen least counts _ _ _ is) =
     let only = reads-only v.seat counts in (
-      record { board = ap (λ (l : LeadView). l.board) is; opening = ap (λ (l : LeadView). l.seat.opening) is ∙ only.opening; hot = ap (λ (l : LeadView). l.hot) is },
-      record { opening = ap (λ (l : LeadView). l.seat.opening) is ∙ only.opening; phase = ap (λ (l : LeadView). l.seat.phase) is ∙ only.phase; last = ap (λ (l : LeadView). l.seat.last) is ∙ only.last; gone = ap (λ (l : LeadView). l.seat.gone) is ∙ only.gone },
+      record {
+        board =
+            ap (λ (l : LeadView). l.board) is;
+        opening =
+            ap (λ (l : LeadView). l.seat.opening) is ∙ only.opening;
+        hot = ap (λ (l : LeadView). l.hot) is;
+      },
+      record {
+        opening =
+            ap (λ (l : LeadView). l.seat.opening) is ∙ only.opening;
+        phase =
+            ap (λ (l : LeadView). l.seat.phase) is ∙ only.phase;
+        last =
+            ap (λ (l : LeadView). l.seat.last) is ∙ only.last;
+        gone = ap (λ (l : LeadView). l.seat.gone) is ∙ only.gone;
+      },
     )
 
 -- a mask that was published may be released
-pub may-release : (v chosen : LeadView) (m : ℕ) → ChoosesRisen v m chosen → SawAllIn v.seat → MayRelease (published chosen m).seat
-may-release v chosen m chooses saw =
-    (subst (λ (o : Option CoordSight). IsSomeAnd o (λ sight. (sight.ending ≡ true) × (sight.all_in ≡ true))) (sym ((chosen-only v chosen m chooses).1.last)) saw, λ _. refl)
+pub may-release : (v chosen : LeadView) (m : ℕ)
+    → ChoosesRisen v m chosen
+    → SawAllIn v.seat
+    → MayRelease (published chosen m).seat
+may-release v chosen m chooses saw = (
+  subst (λ (o : Option CoordSight). IsSomeAnd o (λ sight. (sight.ending ≡ true) × (sight.all_in ≡ true)))
+      (sym ((chosen-only v chosen m chooses).1.last)) saw,
+  λ _. refl,
+)
 
 -- a release keeps all that, and tells by its last sight whether all were gone
 pub release-keeps : (v w : LeadView) → ReleasesNext v w → IsSameDriver v w × (w.seat.gone ≡ saw_all_gone v.seat.last)
 release-keeps v w (releases_joined _ is) = (
-  record { board = ap (λ (l : LeadView). l.board) is; opening = ap (λ (l : LeadView). l.seat.opening) is; hot = ap (λ (l : LeadView). l.hot) is },
+  record {
+    board =
+        ap (λ (l : LeadView). l.board) is;
+    opening =
+        ap (λ (l : LeadView). l.seat.opening) is;
+    hot = ap (λ (l : LeadView). l.hot) is;
+  },
   ap (λ (l : LeadView). l.seat.gone) is,
 )
 release-keeps v w (releases_split _ m chosen chooses is) =
@@ -76,7 +118,13 @@ pub record HasLooked (v w : LeadView) (sight : CoordSight) : Type 0 where
 
 pub look-keeps : (v w : LeadView) (sight : CoordSight) → Sees v sight w → HasLooked v w sight
 look-keeps v w sight sees = record {
-  same = record { board = ap (λ (l : LeadView). l.board) sees.saw; opening = ap (λ (l : LeadView). l.seat.opening) sees.saw; hot = ap (λ (l : LeadView). l.hot) sees.saw };
+  same = record {
+    board =
+        ap (λ (l : LeadView). l.board) sees.saw;
+    opening =
+        ap (λ (l : LeadView). l.seat.opening) sees.saw;
+    hot = ap (λ (l : LeadView). l.hot) sees.saw;
+  };
   phase = ap (λ (l : LeadView). l.seat.phase) sees.saw;
   gone = ap (λ (l : LeadView). l.seat.gone) sees.saw;
   last = ap (λ (l : LeadView). l.seat.last) sees.saw;
@@ -89,15 +137,30 @@ pub record Stays (v w : LeadView) : Type 0 where
 
 unchanged : (v w : LeadView) → w ≡ v → Stays v w
 unchanged v w is = record {
-  same = record { board = ap (λ (l : LeadView). l.board) is; opening = ap (λ (l : LeadView). l.seat.opening) is; hot = ap (λ (l : LeadView). l.hot) is };
+  same = record {
+    board =
+        ap (λ (l : LeadView). l.board) is;
+    opening =
+        ap (λ (l : LeadView). l.seat.opening) is;
+    hot = ap (λ (l : LeadView). l.hot) is;
+  };
   gone = λ before. ap (λ (l : LeadView). l.seat.gone) is ∙ before;
 }
 
-case-stays : (v w : LeadView) (sight : CoordSight) (may_end : Bool) (answer : DriverAnswer) → v.seat.last ≡ Some sight → DriverCase v sight may_end answer w → Stays v w
+case-stays : (v w : LeadView) (sight : CoordSight) (may_end : Bool) (answer : DriverAnswer)
+    → v.seat.last ≡ Some sight
+    → DriverCase v sight may_end answer w
+    → Stays v w
 case-stays v w sight may_end answer last (ended _ _ is) = unchanged v w is
 case-stays v w sight may_end answer last (running _ _ _ _ is) = unchanged v w is
 case-stays v w sight may_end answer last (announces _ _ _ _ _ is) = record {
-  same = record { board = ap (λ (l : LeadView). l.board) is; opening = ap (λ (l : LeadView). l.seat.opening) is; hot = ap (λ (l : LeadView). l.hot) is };
+  same = record {
+    board =
+        ap (λ (l : LeadView). l.board) is;
+    opening =
+        ap (λ (l : LeadView). l.seat.opening) is;
+    hot = ap (λ (l : LeadView). l.hot) is;
+  };
   gone = λ before. ap (λ (l : LeadView). l.seat.gone) is ∙ before;
 }
 case-stays v w sight may_end answer last (waiting _ _ _ _ is) = unchanged v w is
@@ -111,16 +174,26 @@ turn-stays v w may_end answer turns =
     let acted = case-stays turns.seen w turns.sight may_end answer looked.last turns.case in
     record { same = same-on v turns.seen w looked.same acted.same; gone = λ before. acted.gone (looked.gone ∙ before) }
 
-snapshot-case-stays : (v w : LeadView) (sight : CoordSight) (old counts : List ℕ) (phase : Option ℕ) → SnapshotCase v sight old phase w counts → Stays v w
+snapshot-case-stays : (v w : LeadView) (sight : CoordSight) (old counts : List ℕ) (phase : Option ℕ)
+    → SnapshotCase v sight old phase w counts
+    → Stays v w
 snapshot-case-stays v w sight old counts phase (taken _ _ _ is) =
     let only = reads-only v.seat counts in
     record {
-      same = record { board = ap (λ (l : LeadView). l.board) is; opening = ap (λ (l : LeadView). l.seat.opening) is ∙ only.opening; hot = ap (λ (l : LeadView). l.hot) is };
+      same = record {
+        board =
+            ap (λ (l : LeadView). l.board) is;
+        opening =
+            ap (λ (l : LeadView). l.seat.opening) is ∙ only.opening;
+        hot = ap (λ (l : LeadView). l.hot) is;
+      };
       gone = λ before. ap (λ (l : LeadView). l.seat.gone) is ∙ only.gone ∙ before;
     }
 snapshot-case-stays v w sight old counts phase (not_now _ _ _ is) = unchanged v w is
 
-pub snapshot-stays : (v w : LeadView) (old counts : List ℕ) (phase : Option ℕ) → TakesSnapshot v old phase w counts → Stays v w
+pub snapshot-stays : (v w : LeadView) (old counts : List ℕ) (phase : Option ℕ)
+    → TakesSnapshot v old phase w counts
+    → Stays v w
 snapshot-stays v w old counts phase takes =
     let looked = look-keeps v takes.seen takes.sight takes.sees in
     let acted = snapshot-case-stays takes.seen w takes.sight old counts phase takes.case in
@@ -131,7 +204,13 @@ ends-stays v w sight is_gone (not_gone _ _ is) = unchanged v w is
 ends-stays v w sight is_gone (ending _ _ _ is) = unchanged v w is
 ends-stays v w sight is_gone (is_last _ _ _ _ is) = unchanged v w is
 ends-stays v w sight is_gone (announces_end _ _ _ _ is) = record {
-  same = record { board = ap (λ (l : LeadView). l.board) is; opening = ap (λ (l : LeadView). l.seat.opening) is; hot = ap (λ (l : LeadView). l.hot) is };
+  same = record {
+    board =
+        ap (λ (l : LeadView). l.board) is;
+    opening =
+        ap (λ (l : LeadView). l.seat.opening) is;
+    hot = ap (λ (l : LeadView). l.hot) is;
+  };
   gone = λ before. ap (λ (l : LeadView). l.seat.gone) is ∙ before;
 }
 
@@ -146,8 +225,10 @@ stays-on u v w a b = record { same = same-on u v w a.same b.same; gone = λ befo
 
 pub last-stays : (v w : LeadView) (old counts : List ℕ) (is_done : Bool) → TakesLast v old is_done w counts → Stays v w
 last-stays v w old counts is_done (some_left looks _ _) = gone-stays v w false looks
-last-stays v w old counts is_done (not_at_end now looks takes _ _) = stays-on v now w (gone-stays v now true looks) (snapshot-stays now w old counts None takes)
-last-stays v w old counts is_done (counted now phase looks takes _) = stays-on v now w (gone-stays v now true looks) (snapshot-stays now w old counts (Some phase) takes)
+last-stays v w old counts is_done (not_at_end now looks takes _ _) =
+    stays-on v now w (gone-stays v now true looks) (snapshot-stays now w old counts None takes)
+last-stays v w old counts is_done (counted now phase looks takes _) =
+    stays-on v now w (gone-stays v now true looks) (snapshot-stays now w old counts (Some phase) takes)
 
 -- a driver that stays so is kept
 pub stays-service : (v w : LeadView) → Stays v w → IsService v → IsService w
@@ -158,7 +239,10 @@ stays-service v w stays service = record {
   before_end = stays.gone service.before_end;
 }
 
-pub stays-kept : (board : BoardId) (splits : Bool) (pages : ℕ) (v w : LeadView) → Stays v w → IsKept board splits pages v → IsKept board splits pages w
+pub stays-kept : (board : BoardId) (splits : Bool) (pages : ℕ) (v w : LeadView)
+    → Stays v w
+    → IsKept board splits pages v
+    → IsKept board splits pages w
 stays-kept board splits pages v w stays kept = record {
   here = stays.same.board ∙ kept.here;
   splits_is = kept.splits_is ∙ sym (λ i. splits_by (stays.same.opening i).marks (stays.same.hot i));

@@ -6,7 +6,9 @@ use Rattle.like_requests.specs.declared.request.Request.{Request}
 use Rattle.like_queue.specs.Rule.{Item, items_from}
 
 -- at the place of a request, that with its number
-pub item-of-request : (n : ℕ) (plan : List Request) (k : ℕ) (r : Request) → slice_get plan k ≡ Some r → slice_get (items_from n plan) k ≡ Some (Some (record { number = n + k; request = r }))
+pub item-of-request : (n : ℕ) (plan : List Request) (k : ℕ) (r : Request)
+    → slice_get plan k ≡ Some r
+    → slice_get (items_from n plan) k ≡ Some (Some (record { number = n + k; request = r }))
 item-of-request n [] zero r h = absurd (cc h)
 item-of-request n [] (suc k) r h = absurd (cc h)
 item-of-request n (x ∷ plan) zero r h =
@@ -23,7 +25,9 @@ item-of-end n [] = refl
 item-of-end n (x ∷ plan) = item-of-end (n + 1) plan
 
 -- and what stands there is nothing else
-pub request-of-item : (n : ℕ) (plan : List Request) (k : ℕ) (ask : Numbered) → slice_get (items_from n plan) k ≡ Some (Some ask) → (slice_get plan k ≡ Some ask.request) × (ask.number ≡ n + k)
+pub request-of-item : (n : ℕ) (plan : List Request) (k : ℕ) (ask : Numbered)
+    → slice_get (items_from n plan) k ≡ Some (Some ask)
+    → (slice_get plan k ≡ Some ask.request) × (ask.number ≡ n + k)
 request-of-item n [] zero ask h = absurd (cc h)
 request-of-item n [] (suc k) ask h = absurd (cc h)
 request-of-item n (x ∷ plan) zero ask h =
@@ -41,7 +45,9 @@ end-of-item n [] (suc k) h = absurd (cc h)
 end-of-item n (x ∷ plan) zero h = absurd (cc h)
 end-of-item n (x ∷ plan) (suc k) h = ap suc (end-of-item (n + 1) plan k h)
 
-pub item-within : (n : ℕ) (plan : List Request) (k : ℕ) (item : Item) → slice_get (items_from n plan) k ≡ Some item → k ≤ length plan
+pub item-within : (n : ℕ) (plan : List Request) (k : ℕ) (item : Item)
+    → slice_get (items_from n plan) k ≡ Some item
+    → k ≤ length plan
 item-within n [] zero item h = omega arith
 item-within n [] (suc k) item h = absurd (cc h)
 item-within n (x ∷ plan) zero item h = omega arith

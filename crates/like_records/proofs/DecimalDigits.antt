@@ -18,7 +18,8 @@ all_digits = record {
 
 -- eighteen digits write a number below ten to the eighteenth
 pub decimal_value-few : (text : List ℕ) → All IsAsciiDigit text → length text ≤ 18 → decimal_value text < 10 ^ 18
-decimal_value-few text plain few = digits_value_short (numerals_by_value (All IsAsciiDigit) all_digits) text 18 plain few
+decimal_value-few text plain few =
+    digits_value_short (numerals_by_value (All IsAsciiDigit) all_digits) text 18 plain few
 
 -- one more digit is worth itself, and each digit before it ten times as much
 pub decimal_value-more : (text : List ℕ) (i : ℕ) → i < length text → IsAsciiDigit (get_or text i 0)

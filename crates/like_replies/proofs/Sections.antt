@@ -9,7 +9,9 @@ use Rattle.like_replies.specs.Sections.{AreSections, HasRows, section_rows}
 
 -- one more section
 pub AreSections-push : (pages : List Page) (rows : List (List (List ℕ))) (sections : List Section) (s : Section)
-    → AreSections pages rows sections → HasRows pages s → AreSections pages (rows ++ section_rows pages s) (sections ++ s ∷ [])
+    → AreSections pages rows sections
+    → HasRows pages s
+    → AreSections pages (rows ++ section_rows pages s) (sections ++ s ∷ [])
 AreSections-push pages rows sections s are has = record {
   same =
       flat_map-append (section_rows pages) sections (s ∷ []) ∙ ap (λ r. r ++ (section_rows pages s ++ [])) are.same
@@ -20,5 +22,6 @@ AreSections-push pages rows sections s are has = record {
 -- what holds of each element of a list holds of those of a part
 pub All-part : {X : Type 0} (P : X → Type 0) (xs ys zs : List X) → All P (xs ++ (ys ++ zs)) → All P ys
 All-part P xs ys zs all =
-    let rest : All P (ys ++ zs) = subst (All P) (drop-append_seam xs (ys ++ zs)) (All-drop P (length xs) (xs ++ (ys ++ zs)) all) in
+    let rest : All P (ys ++ zs) =
+    subst (All P) (drop-append_seam xs (ys ++ zs)) (All-drop P (length xs) (xs ++ (ys ++ zs)) all) in
     subst (All P) (take-append_seam ys zs) (All-take P (length ys) (ys ++ zs) rest)

@@ -26,4 +26,9 @@ row-≤ word row = omega (arith, count-≤ (λ a. bytes_eq (answer_word a.reply)
 
 pub answered-fits : (word : List ℕ) (replies : Replies) → requests_in replies < 2 ^ 64 → answered word replies < 2 ^ 64
 answered-fits word replies few =
-    omega (arith, few, sum-≤ (λ row. answered_in word row.items) (λ row. length row.items) replies.rows.items 0 0 (λ row. row-≤ word row.items) (omega arith))
+    omega (
+      arith,
+      few,
+      sum-≤ (λ row. answered_in word row.items) (λ row. length row.items) replies.rows.items 0 0
+          (λ row. row-≤ word row.items) (omega arith),
+    )

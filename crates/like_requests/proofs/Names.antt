@@ -7,7 +7,8 @@ use Rattle.like_requests.specs.Pages.{number_of}
 
 -- as many keys at the front are not `name` as bytes of keys
 front : (name : List ℕ) (es : List NamedPage)
-    → prefix_len (λ k. not (bytes_eq name k.items)) (map (λ e. e.0) es) ≡ prefix_len (λ n. not (bytes_eq name n)) (map (λ e. e.0.items) es)
+    → prefix_len (λ k. not (bytes_eq name k.items)) (map (λ e. e.0) es)
+    ≡ prefix_len (λ n. not (bytes_eq name n)) (map (λ e. e.0.items) es)
 front name [] = refl
 front name (e ∷ es) = ap (λ n. cond (not (bytes_eq name e.0.items)) (1 + n) 0) (front name es)
 

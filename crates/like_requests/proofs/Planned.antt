@@ -15,7 +15,8 @@ use Rattle.like_requests.specs.declared.setup.SettingsFault.TheVariants.{Hot, Pl
 -- where all limits hold for those who make a run, each list is within them
 pub plans-within : (s : Setup) (plans : List (List Request)) → FitsRun s plans → All (IsPlan s.pages) plans
 plans-within s plans w k d h = record {
-  few = subst (λ n. n ≤ max_requests) (get_or-map length plans k d (length d) h) (w.numbers.small k (length d) (rw (length-map plans length) h));
+  few = subst (λ n. n ≤ max_requests) (get_or-map length plans k d (length d) h)
+      (w.numbers.small k (length d) (rw (length-map plans length) h));
   there = w.there k d h;
 }
 
@@ -40,7 +41,8 @@ module _ {X : Type 0} (Good : X → Type 0) where
 
 module _ (s : Setup) (plans : List (List Request)) where
   -- the first list that is not good, behind those that are
-  plan-fails : (a n i : ℕ) (rest : List SettingsFault) → a ≤ i → i < a + n → ((k : ℕ) → k < i → Holds s plans (Plan k)) → ¬ Holds s plans (Plan i)
+  plan-fails : (a n i : ℕ) (rest : List SettingsFault) → a ≤ i → i < a + n → ((k : ℕ) → k < i → Holds s plans (Plan k))
+      → ¬ Holds s plans (Plan i)
       → FailsFirst (Holds s plans) (map Plan (range_with_len a n) ++ rest) (Plan i)
   plan-fails a zero i rest low high good bad = absurd (omega arith)
   plan-fails a (suc n) i rest low high good bad = elim (cases_eq a i) [
@@ -49,29 +51,38 @@ module _ (s : Setup) (plans : List (List Request)) where
   ]
 
   -- all lists are good
-  plans-hold : (a n : ℕ) → ((k : ℕ) → k < a + n → Holds s plans (Plan k)) → AllByRecursion (Holds s plans) (map Plan (range_with_len a n))
+  plans-hold : (a n : ℕ) → ((k : ℕ) → k < a + n → Holds s plans (Plan k))
+      → AllByRecursion (Holds s plans) (map Plan (range_with_len a n))
   plans-hold a zero good = tt
   plans-hold a (suc n) good = (good a (omega arith), plans-hold (a + 1) n (λ k below. good k (omega arith)))
 
   -- where the numbers are within the limits, the first list that is not breaks the first limit
-  pub first-plan : (i : ℕ) → AreNumbersWithin s plans → i < length plans → ((k : ℕ) → k < i → IsPlan s.pages (get_or plans k [])) → ¬ IsPlan s.pages (get_or plans i []) → IsFirstBroken s plans (Plan i)
+  pub first-plan : (i : ℕ) → AreNumbersWithin s plans → i < length plans
+      → ((k : ℕ) → k < i → IsPlan s.pages (get_or plans k [])) → ¬ IsPlan s.pages (get_or plans i [])
+      → IsFirstBroken s plans (Plan i)
   first-plan i numbers there good bad =
-      fails-behind (Holds s plans) number_limits (map Plan (range_with_len 0 (length plans)) ++ Hot ∷ []) (Plan i) numbers
+      fails-behind (Holds s plans) number_limits (map Plan (range_with_len 0 (length plans)) ++ Hot ∷ [])
+      (Plan i) numbers
       (plan-fails 0 (length plans) i (Hot ∷ []) (omega arith) (omega arith) good bad)
 
   -- and where all lists are, too, a wrong number of likes does
-  pub first-hot : AreNumbersWithin s plans → ((k : ℕ) → k < length plans → IsPlan s.pages (get_or plans k [])) → ¬ IsHotLimit s.hot → IsFirstBroken s plans Hot
+  pub first-hot : AreNumbersWithin s plans → ((k : ℕ) → k < length plans → IsPlan s.pages (get_or plans k []))
+      → ¬ IsHotLimit s.hot → IsFirstBroken s plans Hot
   first-hot numbers good bad =
       fails-behind (Holds s plans) number_limits (map Plan (range_with_len 0 (length plans)) ++ Hot ∷ []) Hot numbers
-      (fails-behind (Holds s plans) (map Plan (range_with_len 0 (length plans))) (Hot ∷ []) Hot (plans-hold 0 (length plans) (λ k below. good k (omega arith))) (inl (refl, bad)))
+      (fails-behind (Holds s plans) (map Plan (range_with_len 0 (length plans))) (Hot ∷ []) Hot
+      (plans-hold 0 (length plans) (λ k below. good k (omega arith))) (inl (refl, bad)))
 
   -- where the numbers and the lists are within the limits, every limit holds
-  pub limits-hold : AreNumbersWithin s plans → ((k : ℕ) → k < length plans → IsPlan s.pages (get_or plans k [])) → IsHotLimit s.hot → IsWithinLimits s plans
+  pub limits-hold : AreNumbersWithin s plans → ((k : ℕ) → k < length plans → IsPlan s.pages (get_or plans k []))
+      → IsHotLimit s.hot → IsWithinLimits s plans
   limits-hold numbers good hot =
       all-both (Holds s plans) number_limits (map Plan (range_with_len 0 (length plans)) ++ Hot ∷ []) numbers
-      (all-both (Holds s plans) (map Plan (range_with_len 0 (length plans))) (Hot ∷ []) (plans-hold 0 (length plans) (λ k below. good k (omega arith))) (hot, tt))
+      (all-both (Holds s plans) (map Plan (range_with_len 0 (length plans))) (Hot ∷ [])
+      (plans-hold 0 (length plans) (λ k below. good k (omega arith))) (hot, tt))
 
-  plan-holds : (a n k : ℕ) → AllByRecursion (Holds s plans) (map Plan (range_with_len a n)) → a ≤ k → k < a + n → Holds s plans (Plan k)
+  plan-holds : (a n k : ℕ) → AllByRecursion (Holds s plans) (map Plan (range_with_len a n)) → a ≤ k → k < a + n
+      → Holds s plans (Plan k)
   plan-holds a zero k all low high = absurd (omega arith)
   plan-holds a (suc n) k all low high = elim (cases_eq a k) [
     | inl same ↦ subst (λ (j : ℕ). Holds s plans (Plan j)) same all.0
@@ -102,4 +113,5 @@ module _ (s : Setup) (plans : List (List Request)) where
 
     each : (k : ℕ) (d : List Request) → k < length plans → IsPlan s.pages (get_or plans k d)
     each k d h = subst (IsPlan s.pages) (any plans k d h)
-        (plan-holds 0 (length plans) k (all-first (Holds s plans) lists (Hot ∷ []) w.1.1.1.1.1) (omega arith) (omega arith))
+        (plan-holds 0 (length plans) k (all-first (Holds s plans) lists (Hot ∷ []) w.1.1.1.1.1) (omega arith)
+        (omega arith))

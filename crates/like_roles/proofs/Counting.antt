@@ -19,47 +19,93 @@ use Rattle.like_roles.proofs.Held.{AreOwn-moved, settled-after}
 
 -- an addition in a phase was noted, where additions are
 pub record HasNoted (d e : Desk) (phase page old n : ℕ) : Type 0 where
-  pub noted : e.adds.items ≡ d.adds.items ++ noted_if d.notes (length d.ran.items) (record { phase = phase; page = page; old = old; likes = n } ∷ [])
+  pub noted : e.adds.items
+      ≡ d.adds.items
+      ++ noted_if d.notes (length d.ran.items) (record { phase = phase; page = page; old = old; likes = n } ∷ [])
   pub len : d.notes ≡ true → vec_len e.adds ≡ vec_len d.adds + 1
   pub capacity : vec_capacity e.adds ≡ vec_capacity d.adds
   pub rest : e ≡ record d { adds = e.adds }
 
 -- so it was by the worker
-pub noting-view : (t : SeatView Held) (d e : Desk) (phase page old n : ℕ) → HasNoted d e phase page old n → phase ≡ phase_at t → view_of t e ≡ serve.noting (view_of t d) page old n
+pub noting-view : (t : SeatView Held) (d e : Desk) (phase page old n : ℕ)
+    → HasNoted d e phase page old n
+    → phase ≡ phase_at t
+    → view_of t e ≡ serve.noting (view_of t d) page old n
 noting-view t d e phase page old n h is =
     ap (view_of t) h.rest
     ∙ (λ m. record (view_of t d) { adds = h.noted m })
-    ∙ (λ m. record (view_of t d) { adds = d.adds.items ++ noted_if d.notes (length d.ran.items) (record { phase = is m; page = page; old = old; likes = n } ∷ []) })
+    ∙ (λ m. record (view_of t d) {
+      adds =
+          d.adds.items ++ noted_if d.notes (length d.ran.items)
+          (record { phase = is m; page = page; old = old; likes = n } ∷ []);
+    })
 
 -- a like in the slice
-pub liked-slice : (s t : SeatView Held) (d : Desk) (user page : ℕ) → IsSettled s d → HasRoomForOne s d → IsSeat t → page < pages_of s.post → CountsLike s user page None t
+pub liked-slice : (s t : SeatView Held) (d : Desk) (user page : ℕ)
+    → IsSettled s d
+    → HasRoomForOne s d
+    → IsSeat t
+    → page < pages_of s.post
+    → CountsLike s user page None t
     → IsSettled t d × HasRoomToNote t d × Likes (view_of s d) user page (view_of t d)
 liked-slice s t d user page is room seat there c =
     let now = liked_last (sliced s page) user page in
     let v = view_of s d in
     let inside : page < length s.slice = omega (arith, is.sound.seat.sized) in
-    let more : sum now.slice ≡ sum s.slice + 1 = omega (arith, sum_by-set (λ x. x) s.slice page (get_or s.slice page 0 + 1) 0 inside) in
+    let more : sum now.slice ≡ sum s.slice + 1 =
+    omega (arith, sum_by-set (λ x. x) s.slice page (get_or s.slice page 0 + 1) 0 inside) in
     let before = is.sound.room in (
-      settled-after s t d d is seat (ap (λ (x : SeatView Held). x.post.limits) c.1) (ap (λ (x : SeatView Held). x.post.last) c.1) (ap (λ (x : SeatView Held). x.last.share) c.1)
-          (subst (λ xs. All (IsOwn t) xs) (sym (ap (λ (x : SeatView Held). x.held.held) c.1)) (AreOwn-moved s t s.held.held (ap (λ (x : SeatView Held). x.last.share) c.1) (ap (λ (x : SeatView Held). x.post.marks) c.1) is.sound.held))
-          (subst (λ x. HasRoom x d) (sym c.1) (record { taken = before.taken; ran = before.ran; few_ran = before.few_ran; adds = λ n. omega (arith, room.adds n, more); few = omega (arith, room.few, more) }))
+      settled-after s t d d is seat (ap (λ (x : SeatView Held). x.post.limits) c.1)
+          (ap (λ (x : SeatView Held). x.post.last) c.1) (ap (λ (x : SeatView Held). x.last.share) c.1)
+          (subst (λ xs. All (IsOwn t) xs) (sym (ap (λ (x : SeatView Held). x.held.held) c.1))
+          (AreOwn-moved s t s.held.held (ap (λ (x : SeatView Held). x.last.share) c.1)
+          (ap (λ (x : SeatView Held). x.post.marks) c.1) is.sound.held))
+          (subst (λ x. HasRoom x d) (sym c.1)
+          (record {
+            taken =
+                before.taken;
+            ran =
+                before.ran;
+            few_ran =
+                before.few_ran;
+            adds = λ n. omega (arith, room.adds n, more);
+            few = omega (arith, room.few, more);
+          }))
           refl,
       subst (λ x. HasRoomToNote x d) (sym c.1) (record { ran = room.ran }),
-      (0, ap (λ x. view_of x d) c.1 ∙ sym (ap (λ (b : Bool). record (cond b (view_of (sliced s page) d) (serve.with_addition v page 0 1)) { last = with_last s.last user page }) c.0)),
+      (
+        0,
+        ap (λ x. view_of x d) c.1
+            ∙ sym (ap (λ (b : Bool). record (cond b (view_of (sliced s page) d) (serve.with_addition v page 0 1)) {
+              last =
+                  with_last s.last user page;
+            }) c.0),
+      ),
     )
 
 -- a like on the board, which was noted
-pub liked-board : (s t : SeatView Held) (d e : Desk) (user page phase count : ℕ) → IsSettled s d → HasRoomForOne s d → IsSeat t → CountsLike s user page (Some count) t
-    → phase ≡ phase_at s → HasNoted d e phase page count 1 → IsSettled t e × HasRoomToNote t e × Likes (view_of s d) user page (view_of t e)
+pub liked-board : (s t : SeatView Held) (d e : Desk) (user page phase count : ℕ)
+    → IsSettled s d
+    → HasRoomForOne s d
+    → IsSeat t
+    → CountsLike s user page (Some count) t
+    → phase ≡ phase_at s
+    → HasNoted d e phase page count 1
+    → IsSettled t e × HasRoomToNote t e × Likes (view_of s d) user page (view_of t e)
 liked-board s t d e user page phase count is room seat c phase_is h =
     let now = liked_last (with_addition s page count 1) user page in
     let v = view_of s d in
-    let more : all_added now.post.additions ≡ all_added s.post.additions + 1 = all_added-push s.post.additions (record { phase = phase_at s; page = page; old = count; likes = 1 }) in
+    let more : all_added now.post.additions ≡ all_added s.post.additions + 1 =
+    all_added-push s.post.additions (record { phase = phase_at s; page = page; old = count; likes = 1 }) in
     let before = is.sound.room in
-    let noted : view_of now e ≡ serve.noting (view_of now d) page count 1 = noting-view now d e phase page count 1 h phase_is in
+    let noted : view_of now e ≡ serve.noting (view_of now d) page count 1 =
+    noting-view now d e phase page count 1 h phase_is in
     let all : IsSettled now e → IsSettled t e = subst (λ x. IsSettled x e) (sym c.1) in (
-      settled-after s t d e is seat (ap (λ (x : SeatView Held). x.post.limits) c.1) (ap (λ (x : SeatView Held). x.post.last) c.1) (ap (λ (x : SeatView Held). x.last.share) c.1)
-          (subst (λ xs. All (IsOwn t) xs) (sym (ap (λ (x : SeatView Held). x.held.held) c.1)) (AreOwn-moved s t s.held.held (ap (λ (x : SeatView Held). x.last.share) c.1) (ap (λ (x : SeatView Held). x.post.marks) c.1) is.sound.held))
+      settled-after s t d e is seat (ap (λ (x : SeatView Held). x.post.limits) c.1)
+          (ap (λ (x : SeatView Held). x.post.last) c.1) (ap (λ (x : SeatView Held). x.last.share) c.1)
+          (subst (λ xs. All (IsOwn t) xs) (sym (ap (λ (x : SeatView Held). x.held.held) c.1))
+          (AreOwn-moved s t s.held.held (ap (λ (x : SeatView Held). x.last.share) c.1)
+          (ap (λ (x : SeatView Held). x.post.marks) c.1) is.sound.held))
           (subst (λ x. HasRoom x e) (sym c.1) (subst (λ x. HasRoom now x) (sym h.rest) (record {
             taken = before.taken;
             ran = before.ran;
@@ -68,32 +114,62 @@ liked-board s t d e user page phase count is room seat c phase_is h =
             few = omega (arith, room.few, more);
           })))
           h.rest,
-      subst (λ x. HasRoomToNote x e) (sym c.1) (subst (λ x. HasRoomToNote now x) (sym h.rest) (record { ran = room.ran })),
-      (count, ap (λ x. view_of x e) c.1 ∙ (noted ∙ sym (ap (λ (b : Bool). record (cond b (view_of (sliced s page) d) (serve.with_addition v page count 1)) { last = with_last s.last user page }) c.0))),
+      subst (λ x. HasRoomToNote x e) (sym c.1)
+          (subst (λ x. HasRoomToNote now x) (sym h.rest) (record { ran = room.ran })),
+      (
+        count,
+        ap (λ x. view_of x e) c.1
+            ∙ (noted ∙ sym (ap (λ (b : Bool). record (cond b (view_of (sliced s page) d)
+            (serve.with_addition v page count 1)) { last = with_last s.last user page }) c.0)),
+      ),
     )
 
 -- a read leaves all else as it is
-pub read-settled : (s t : SeatView Held) (d : Desk) (page count : ℕ) → IsSettled s d → IsSeat t → t ≡ record s { post = has_read s.post page count } → IsSettled t d
+pub read-settled : (s t : SeatView Held) (d : Desk) (page count : ℕ)
+    → IsSettled s d
+    → IsSeat t
+    → t ≡ record s { post = has_read s.post page count }
+    → IsSettled t d
 read-settled s t d page count is seat e =
     let before = is.sound.room in
-    settled-after s t d d is seat (ap (λ (x : SeatView Held). x.post.limits) e) (ap (λ (x : SeatView Held). x.post.last) e) (ap (λ (x : SeatView Held). x.last.share) e)
-    (subst (λ xs. All (IsOwn t) xs) (sym (ap (λ (x : SeatView Held). x.held.held) e)) (AreOwn-moved s t s.held.held (ap (λ (x : SeatView Held). x.last.share) e) (ap (λ (x : SeatView Held). x.post.marks) e) is.sound.held))
-    (subst (λ x. HasRoom x d) (sym e) (record { taken = before.taken; ran = before.ran; few_ran = before.few_ran; adds = before.adds; few = before.few }))
+    settled-after s t d d is seat (ap (λ (x : SeatView Held). x.post.limits) e)
+    (ap (λ (x : SeatView Held). x.post.last) e) (ap (λ (x : SeatView Held). x.last.share) e)
+    (subst (λ xs. All (IsOwn t) xs) (sym (ap (λ (x : SeatView Held). x.held.held) e))
+    (AreOwn-moved s t s.held.held (ap (λ (x : SeatView Held). x.last.share) e)
+    (ap (λ (x : SeatView Held). x.post.marks) e) is.sound.held))
+    (subst (λ x. HasRoom x d) (sym e)
+    (record {
+      taken =
+          before.taken;
+      ran = before.ran;
+      few_ran = before.few_ran;
+      adds = before.adds;
+      few = before.few;
+    }))
     refl
 
 -- a page that was merged, and noted, leaves room
-pub merged-settled : (s t : SeatView Held) (d e : Desk) (from phase : ℕ) (m : Merged) → IsSettled s d → IsSeat t → MergesPage s from m t → HasNoted d e phase m.page m.old m.likes → IsSettled t e
+pub merged-settled : (s t : SeatView Held) (d e : Desk) (from phase : ℕ) (m : Merged)
+    → IsSettled s d
+    → IsSeat t
+    → MergesPage s from m t
+    → HasNoted d e phase m.page m.old m.likes
+    → IsSettled t e
 merged-settled s t d e from phase m is seat merges h =
     let now = steps.merged_page s m.page m.old in
     let page = m.page in
     let likes : ℕ = get_or s.slice page 0 in
     let liked = merges.next.liked in
     let some : 1 ≤ likes = omega (arith, liked) in
-    let less : sum now.slice + likes ≡ sum s.slice = omega (arith, sum_by-set (λ x. x) s.slice page 0 0 merges.next.there) in
+    let less : sum now.slice + likes ≡ sum s.slice =
+    omega (arith, sum_by-set (λ x. x) s.slice page 0 0 merges.next.there) in
     let same = merged_page-likes s page m.old merges.next.there in
     let before = is.sound.room in
-    settled-after s t d e is seat (ap (λ (x : SeatView Held). x.post.limits) merges.merged) (ap (λ (x : SeatView Held). x.post.last) merges.merged) (ap (λ (x : SeatView Held). x.last.share) merges.merged)
-    (subst (λ xs. All (IsOwn t) xs) (sym (ap (λ (x : SeatView Held). x.held.held) merges.merged)) (AreOwn-moved s t s.held.held (ap (λ (x : SeatView Held). x.last.share) merges.merged) (ap (λ (x : SeatView Held). x.post.marks) merges.merged) is.sound.held))
+    settled-after s t d e is seat (ap (λ (x : SeatView Held). x.post.limits) merges.merged)
+    (ap (λ (x : SeatView Held). x.post.last) merges.merged) (ap (λ (x : SeatView Held). x.last.share) merges.merged)
+    (subst (λ xs. All (IsOwn t) xs) (sym (ap (λ (x : SeatView Held). x.held.held) merges.merged))
+    (AreOwn-moved s t s.held.held (ap (λ (x : SeatView Held). x.last.share) merges.merged)
+    (ap (λ (x : SeatView Held). x.post.marks) merges.merged) is.sound.held))
     (subst (λ x. HasRoom x e) (sym merges.merged) (subst (λ x. HasRoom now x) (sym h.rest) (record {
       taken = before.taken;
       ran = before.ran;

@@ -15,12 +15,21 @@ pub record HasRunOne (v : WorkerView) (h : Held) (stashed : Bool) (after : Worke
   pub taken : after.taken ≡ v.taken
   pub pending : after.pending ≡ v.pending
 
-pub Runs-effects : (v : WorkerView) (h : Held) (stashed : Bool) (after : WorkerView) → Runs v h stashed after → HasRunOne v h stashed after
+pub Runs-effects : (v : WorkerView) (h : Held) (stashed : Bool) (after : WorkerView)
+    → Runs v h stashed after
+    → HasRunOne v h stashed after
 Runs-effects v h stashed after run = record {
   reply = run.reply;
   ran = ap (λ x. x.ran) run.noted;
-  state = ap (λ x. x.post.state) run.noted ∙ GivesReply-state v h.submitter h.ask.request run.reply run.served run.serves;
-  held = ap (λ x. x.held) run.noted ∙ GivesReply-keeps (λ x. x.held) v h.submitter h.ask.request run.reply run.served (λ user page old. counted_by (λ x. x.held ≡ v.held) v page old refl refl) (λ page count. refl) run.serves;
-  taken = ap (λ x. x.taken) run.noted ∙ GivesReply-keeps (λ x. x.taken) v h.submitter h.ask.request run.reply run.served (λ user page old. counted_by (λ x. x.taken ≡ v.taken) v page old refl refl) (λ page count. refl) run.serves;
-  pending = ap (λ x. x.pending) run.noted ∙ GivesReply-keeps (λ x. x.pending) v h.submitter h.ask.request run.reply run.served (λ user page old. counted_by (λ x. x.pending ≡ v.pending) v page old refl refl) (λ page count. refl) run.serves;
+  state = ap (λ x. x.post.state) run.noted
+      ∙ GivesReply-state v h.submitter h.ask.request run.reply run.served run.serves;
+  held = ap (λ x. x.held) run.noted
+      ∙ GivesReply-keeps (λ x. x.held) v h.submitter h.ask.request run.reply run.served
+      (λ user page old. counted_by (λ x. x.held ≡ v.held) v page old refl refl) (λ page count. refl) run.serves;
+  taken = ap (λ x. x.taken) run.noted
+      ∙ GivesReply-keeps (λ x. x.taken) v h.submitter h.ask.request run.reply run.served
+      (λ user page old. counted_by (λ x. x.taken ≡ v.taken) v page old refl refl) (λ page count. refl) run.serves;
+  pending = ap (λ x. x.pending) run.noted
+      ∙ GivesReply-keeps (λ x. x.pending) v h.submitter h.ask.request run.reply run.served
+      (λ user page old. counted_by (λ x. x.pending ≡ v.pending) v page old refl refl) (λ page count. refl) run.serves;
 }

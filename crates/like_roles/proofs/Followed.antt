@@ -50,8 +50,18 @@ use Rattle.like_roles.proofs.counts.Shown.{after-more, shown_by-more}
 use Rattle.like_roles.proofs.counts.Tallied.{GivesReply-tallied, accepted-true}
 
 -- a worker that runs a phase and is in its blocks follows the plans
-follows-running : (service : Service) (v : WorkerView) → IsRunning v.post.state → IsServed service v → IsSized v → IsTallied service v → (v.notes ≡ true → IsNoted service v.post.additions v.post.reads v.adds v.ran) → (v.notes ≡ true → IsUnmerged service v.adds v.ran v.post.state) → All (IsAsked service) v.held.held
-    → FitsStash service v.taken → IsInBlocks service v (phase_at v) → ((place : ℕ) → v.pending ≡ Some place → RunsJoined v.post.state → v.held.held ≡ []) → Follows service v
+follows-running : (service : Service) (v : WorkerView)
+    → IsRunning v.post.state
+    → IsServed service v
+    → IsSized v
+    → IsTallied service v
+    → (v.notes ≡ true → IsNoted service v.post.additions v.post.reads v.adds v.ran)
+    → (v.notes ≡ true → IsUnmerged service v.adds v.ran v.post.state)
+    → All (IsAsked service) v.held.held
+    → FitsStash service v.taken
+    → IsInBlocks service v (phase_at v)
+    → ((place : ℕ) → v.pending ≡ Some place → RunsJoined v.post.state → v.held.held ≡ [])
+    → Follows service v
 follows-running service v run served sized t noted unmerged held fits b trying = record {
   served = served;
   sized = sized;
@@ -66,22 +76,60 @@ follows-running service v run served sized t noted unmerged held fits b trying =
 }
 
 -- which pages are split is the same by the service and by the worker, which has read its split phase's mask
-slices-alike : (service : Service) (v : WorkerView) → IsServed service v → IsRunning v.post.state → HasPhaseMask v.post → (page : ℕ) → is_split_in service (phase_at v) page ≡ slices v.post page
+slices-alike : (service : Service) (v : WorkerView)
+    → IsServed service v
+    → IsRunning v.post.state
+    → HasPhaseMask v.post
+    → (page : ℕ)
+    → is_split_in service (phase_at v) page ≡ slices v.post page
 slices-alike service v s run has page =
     ap (λ xs. split (λ p. get_or xs p false) service.hot (phase_at v) page) s.marks_alike
-    ∙ split-known (λ p. get_or v.post.marks p false) service.hot v.post.masks (phase_at v) page s.hot_alike (λ odd _ _. has (runs-split v.post.state run odd))
+    ∙ split-known (λ p. get_or v.post.marks p false) service.hot v.post.masks (phase_at v) page s.hot_alike
+    (λ odd _ _. has (runs-split v.post.state run odd))
 
 -- what a run does to a worker that follows the plans, where the blocks after it are known
-follows-run : (service : Service) (v after : WorkerView) (h : Held) (stashed : Bool) → Runs v h stashed after → IsRunning v.post.state → v.pending ≡ None → IsServed service v → IsSized v → IsTallied service v
-    → (v.notes ≡ true → IsNoted service v.post.additions v.post.reads v.adds v.ran) → (v.notes ≡ true → IsUnmerged service v.adds v.ran v.post.state) → HasPhaseMask v.post → IsAsked service h → ((page : ℕ) → verdict_at v h.submitter h.ask.request ≡ Accepted → page_looked_at h.ask.request.op h.ask.request.page ≡ Some page → get_or v.slice page 0 ≡ 0) → All (IsAsked service) v.held.held → FitsStash service v.taken → ((e : HasRunOne v h stashed after) → IsInBlocks service (record v { ran = after.ran }) (phase_at v)) → Follows service after
+follows-run : (service : Service) (v after : WorkerView) (h : Held) (stashed : Bool)
+    → Runs v h stashed after
+    → IsRunning v.post.state
+    → v.pending ≡ None
+    → IsServed service v
+    → IsSized v
+    → IsTallied service v
+    → (v.notes ≡ true → IsNoted service v.post.additions v.post.reads v.adds v.ran)
+    → (v.notes ≡ true → IsUnmerged service v.adds v.ran v.post.state)
+    → HasPhaseMask v.post
+    → IsAsked service h
+    → ((page : ℕ) → verdict_at v h.submitter h.ask.request ≡ Accepted
+    → page_looked_at h.ask.request.op h.ask.request.page ≡ Some page → get_or v.slice page 0 ≡ 0)
+    → All (IsAsked service) v.held.held
+    → FitsStash service v.taken
+    → ((e : HasRunOne v h stashed after) → IsInBlocks service (record v { ran = after.ran }) (phase_at v))
+    → Follows service after
 follows-run service v after h stashed run here none served sized t was un has asked clear held fits blocks =
     let e = Runs-effects v h stashed after run in
     let done = GivesReply-tallied service v h stashed run.reply run.served served sized t asked clear run.serves in
     let stays = (runs-keeps v h stashed after run).notes in
-    let marked = λ (notes : v.notes ≡ true). GivesReply-noted service v h stashed run.reply run.served served notes (was notes) (unmerged-running service v.adds v.ran (λ _. Unit {0}) v.post.state here (un notes)) asked (slices-alike service v served here has) run.serves in
-    let all : IsServed service after × IsSized after × IsTallied service after × (v.notes ≡ true → IsNoted service after.post.additions after.post.reads after.adds after.ran × IsUnmerged service after.adds after.ran (state.Runs (phase_at v))) =
-    subst (λ x. IsServed service x × IsSized x × IsTallied service x × (v.notes ≡ true → IsNoted service x.post.additions x.post.reads x.adds x.ran × IsUnmerged service x.adds x.ran (state.Runs (phase_at v)))) (sym run.noted) (
-      record { users = done.0.users; submitters_alike = done.0.submitters_alike; marks_alike = done.0.marks_alike; hot_alike = done.0.hot_alike; stash_alike = done.0.stash_alike },
+    let marked = λ (notes : v.notes ≡ true). GivesReply-noted service v h stashed run.reply run.served served notes
+    (was notes) (unmerged-running service v.adds v.ran (λ _. Unit {0}) v.post.state here (un notes)) asked
+    (slices-alike service v served here has) run.serves in
+    let all : IsServed service after × IsSized after × IsTallied service after
+    × (v.notes ≡ true
+    → IsNoted service after.post.additions after.post.reads after.adds after.ran
+    × IsUnmerged service after.adds after.ran (state.Runs (phase_at v))) =
+    subst (λ x. IsServed service x × IsSized x × IsTallied service x
+    × (v.notes ≡ true
+    → IsNoted service x.post.additions x.post.reads x.adds x.ran
+    × IsUnmerged service x.adds x.ran (state.Runs (phase_at v)))) (sym run.noted) (
+      record {
+        users =
+            done.0.users;
+        submitters_alike =
+            done.0.submitters_alike;
+        marks_alike =
+            done.0.marks_alike;
+        hot_alike = done.0.hot_alike;
+        stash_alike = done.0.stash_alike;
+      },
       record { slice = done.1.slice; users = done.1.users },
       done.2,
       marked,
@@ -91,16 +139,23 @@ follows-run service v after h stashed run here none served sized t was un has as
     let phase : phase_at v ≡ phase_at after = ap phase_of (sym e.state) in
     let b' : IsInBlocks service after (phase_at v) = record {
       within = subst (λ xs. All (λ t. t.phase ≤ phase_at v) xs) (sym e.taken) b.within;
-      joined = λ j. ap (λ xs. order_below service xs (phase_at v + 1)) e.taken ∙ b.joined j ∙ ap (λ w. map entry_of after.ran ++ map (entry_held (phase_at v)) w.held) (sym e.held);
+      joined = λ j. ap (λ xs. order_below service xs (phase_at v + 1)) e.taken ∙ b.joined j
+          ∙ ap (λ w. map entry_of after.ran ++ map (entry_held (phase_at v)) w.held) (sym e.held);
       split_ran = λ s. ap (λ xs. order_below service xs (phase_at v + 1)) e.taken ∙ b.split_ran s;
-      split_held = λ s. ap (λ xs. block service xs (phase_at v + 1)) e.taken ∙ b.split_held s ∙ ap (λ w. map (entry_held (phase_at v + 1)) w.held) (sym e.held);
+      split_held = λ s. ap (λ xs. block service xs (phase_at v + 1)) e.taken ∙ b.split_held s
+          ∙ ap (λ w. map (entry_held (phase_at v + 1)) w.held) (sym e.held);
     } in
     follows-running service after runs all.0 all.1 all.2 (λ notes. (all.3 (sym stays ∙ notes)).0)
-    (λ notes. running-unmerged service after.adds after.ran (λ _. Unit {0}) after.post.state runs (subst (λ (k : ℕ). IsUnmerged service after.adds after.ran (state.Runs k)) phase (all.3 (sym stays ∙ notes)).1)) (subst (λ w. All (IsAsked service) w.held) (sym e.held) held) (subst (FitsStash service) (sym e.taken) fits)
+    (λ notes. running-unmerged service after.adds after.ran (λ _. Unit {0}) after.post.state runs
+    (subst (λ (k : ℕ). IsUnmerged service after.adds after.ran (state.Runs k)) phase (all.3 (sym stays ∙ notes)).1))
+    (subst (λ w. All (IsAsked service) w.held) (sym e.held) held) (subst (FitsStash service) (sym e.taken) fits)
     (subst (λ k. IsInBlocks service after k) phase b') (λ place p. absurd (cc (e.pending, none, p)))
 
 -- the blocks of a worker that enters the next phase
-enters : (service : Service) (v : WorkerView) (k : ℕ) → IsInBlocks service v k → (IsJoined k → v.held.held ≡ []) → IsInBlocks service v (k + 1)
+enters : (service : Service) (v : WorkerView) (k : ℕ)
+    → IsInBlocks service v k
+    → (IsJoined k → v.held.held ≡ [])
+    → IsInBlocks service v (k + 1)
 enters service v k b empty =
     let before = before-next v.taken k b.within in
     let more = order_below-more service v.taken (k + 1) in
@@ -108,14 +163,17 @@ enters service v k b empty =
       within = λ i t h. omega (arith, b.within i t h);
       joined = λ j.
           let odd : k % 2 ≡ 1 = omega arith in
-          more ∙ ap (λ zs. zs ++ block service v.taken (k + 1)) (b.split_ran odd) ∙ ap (λ zs. map entry_of v.ran ++ zs) (b.split_held odd);
+          more ∙ ap (λ zs. zs ++ block service v.taken (k + 1)) (b.split_ran odd)
+          ∙ ap (λ zs. map entry_of v.ran ++ zs) (b.split_held odd);
       split_ran = λ s.
           let even : k % 2 ≡ 0 = omega arith in
-          more ∙ ap (λ zs. order_below service v.taken (k + 1) ++ zs) (block-after_joined service v.taken k before even) ∙ append-nil _
+          more ∙ ap (λ zs. order_below service v.taken (k + 1) ++ zs) (block-after_joined service v.taken k before even)
+          ∙ append-nil _
           ∙ b.joined even ∙ ap (λ hs. map entry_of v.ran ++ map (entry_held k) hs) (empty even) ∙ append-nil _;
       split_held = λ s.
           let even : k % 2 ≡ 0 = omega arith in
-          block-later service v.taken (k + 1) ((k + 1) + 1) before (omega arith) ∙ ap (map (entry_held ((k + 1) + 1))) (sym (empty even));
+          block-later service v.taken (k + 1) ((k + 1) + 1) before (omega arith)
+          ∙ ap (map (entry_held ((k + 1) + 1))) (sym (empty even));
     }
 
 -- the worker after a look, where its post has then read these masks
@@ -123,35 +181,58 @@ abbrev looking : WorkerView → Sight → List PhaseMask → WorkerView
 looking v sight masks = record v { post = record (looked_at v.post sight) { masks = masks } }
 
 -- what a look says of a worker that is not gone
-saw-stands : (service : Service) (v : WorkerView) (sight : Sight) (masks : List PhaseMask) (s : WorkerState) → Stands service v s → s ≢ state.Gone → Stands service (looking v sight masks) (seen s sight)
-saw-stands service v sight masks (state.Runs k) b n = record { within = b.within; joined = b.joined; split_ran = b.split_ran; split_held = b.split_held }
+saw-stands : (service : Service) (v : WorkerView) (sight : Sight) (masks : List PhaseMask) (s : WorkerState)
+    → Stands service v s
+    → s ≢ state.Gone
+    → Stands service (looking v sight masks) (seen s sight)
+saw-stands service v sight masks (state.Runs k) b n =
+    record { within = b.within; joined = b.joined; split_ran = b.split_ran; split_held = b.split_held }
 saw-stands service v sight masks (state.Answered k) b n = by_test sight.waits where
   by_test : (w : Bool) → Stands service (looking v sight masks) (cond w (state.Answered k) (state.Runs (k + 1)))
-  by_test true = (record { within = b.0.within; joined = b.0.joined; split_ran = b.0.split_ran; split_held = b.0.split_held }, b.1)
-  by_test false = let e = enters service v k b.0 b.1 in record { within = e.within; joined = e.joined; split_ran = e.split_ran; split_held = e.split_held }
+  by_test true = (
+    record {
+      within =
+          b.0.within;
+      joined = b.0.joined;
+      split_ran = b.0.split_ran;
+      split_held = b.0.split_held;
+    },
+    b.1,
+  )
+  by_test false = let e = enters service v k b.0 b.1 in
+      record { within = e.within; joined = e.joined; split_ran = e.split_ran; split_held = e.split_held }
 saw-stands service v sight masks state.Gone b n = absurd (n refl)
 
 -- and of the joined phase in which what it holds runs
 saw-next : (service : Service) (v : WorkerView) (sight : Sight) (s : WorkerState) → Stands service v s → s ≢ state.Gone
-    → map (entry_held (phase_of (seen s sight) + phase_of (seen s sight) % 2)) v.held.held ≡ map (entry_held (phase_of s + phase_of s % 2)) v.held.held
+    → map (entry_held (phase_of (seen s sight) + phase_of (seen s sight) % 2)) v.held.held
+    ≡ map (entry_held (phase_of s + phase_of s % 2)) v.held.held
 saw-next service v sight (state.Runs k) b n = refl
 saw-next service v sight (state.Answered k) b n = by_test sight.waits where
   next : map (entry_held ((k + 1) + (k + 1) % 2)) v.held.held ≡ map (entry_held (k + k % 2)) v.held.held
   next = elim (parity k) [
-    | inl even ↦ ap (map (entry_held ((k + 1) + (k + 1) % 2))) (b.1 even) ∙ ap (map (entry_held (k + k % 2))) (sym (b.1 even))
+    | inl even ↦ ap (map (entry_held ((k + 1) + (k + 1) % 2))) (b.1 even)
+        ∙ ap (map (entry_held (k + k % 2))) (sym (b.1 even))
     | inr odd ↦
         let same : (k + 1) + (k + 1) % 2 ≡ k + k % 2 = omega arith in
         ap (λ j. map (entry_held j) v.held.held) same
   ]
 
-  by_test : (w : Bool) → map (entry_held (phase_of (cond w (state.Answered k) (state.Runs (k + 1))) + phase_of (cond w (state.Answered k) (state.Runs (k + 1))) % 2)) v.held.held
+  by_test : (w : Bool)
+      → map (entry_held
+      (phase_of (cond w (state.Answered k) (state.Runs (k + 1)))
+      + phase_of (cond w (state.Answered k) (state.Runs (k + 1))) % 2)) v.held.held
       ≡ map (entry_held (k + k % 2)) v.held.held
   by_test true = refl
   by_test false = next
 saw-next service v sight state.Gone b n = absurd (n refl)
 
 -- a worker that runs no split phase has an empty slice
-empty-unsplit : (s : WorkerState) (slice : List ℕ) → ((page : ℕ) → get_or slice page 0 ≢ 0 → RunsSplit s) → (RunsSplit s → ⊥) → (page : ℕ) → get_or slice page 0 ≡ 0
+empty-unsplit : (s : WorkerState) (slice : List ℕ)
+    → ((page : ℕ) → get_or slice page 0 ≢ 0 → RunsSplit s)
+    → (RunsSplit s → ⊥)
+    → (page : ℕ)
+    → get_or slice page 0 ≡ 0
 empty-unsplit s slice splits not page = elim (cases_eq (get_or slice page 0) 0) [
   | inl none ↦ none
   | inr some ↦ absurd (not (splits page some))
@@ -163,21 +244,53 @@ not-split (state.Answered k) j s = absurd j
 not-split state.Gone j s = absurd j
 
 -- the present phase's part of a slice is the same after a look
-saw-kept : (slice : List ℕ) (sight : Sight) (s : WorkerState) → ((page : ℕ) → get_or slice page 0 ≢ 0 → RunsSplit s) → s ≢ state.Gone → (phase page : ℕ)
-    → cond (phase_of s == phase) (get_or slice page 0) 0 ≡ cond (phase_of (seen s sight) == phase) (get_or slice page 0) 0
+saw-kept : (slice : List ℕ) (sight : Sight) (s : WorkerState)
+    → ((page : ℕ) → get_or slice page 0 ≢ 0 → RunsSplit s)
+    → s ≢ state.Gone
+    → (phase page : ℕ)
+    → cond (phase_of s == phase) (get_or slice page 0) 0
+    ≡ cond (phase_of (seen s sight) == phase) (get_or slice page 0) 0
 saw-kept slice sight (state.Runs k) splits here phase page = refl
 saw-kept slice sight (state.Answered k) splits here phase page =
     let none = empty-unsplit (state.Answered k) slice splits (λ s. s) page in
-    let zero_at : (b : Bool) → cond b (get_or slice page 0) 0 ≡ 0 = λ b. ap (λ (n : ℕ). cond b n 0) none ∙ cond_same b 0 in
+    let zero_at : (b : Bool) → cond b (get_or slice page 0) 0 ≡ 0 =
+    λ b. ap (λ (n : ℕ). cond b n 0) none ∙ cond_same b 0 in
     zero_at (k == phase) ∙ sym (zero_at (phase_of (seen (state.Answered k) sight) == phase))
 saw-kept slice sight state.Gone splits here phase page = absurd (here refl)
 
 -- a look
-follows-saw : (service : Service) (v : WorkerView) (sight : Sight) (masks : List PhaseMask) → AreMasksOf service.hot masks → Follows service v → IsSliceInSplit v.post v.slice → v.post.state ≢ state.Gone → v.pending ≡ None → Follows service (looking v sight masks)
+follows-saw : (service : Service) (v : WorkerView) (sight : Sight) (masks : List PhaseMask)
+    → AreMasksOf service.hot masks
+    → Follows service v
+    → IsSliceInSplit v.post v.slice
+    → v.post.state ≢ state.Gone
+    → v.pending ≡ None
+    → Follows service (looking v sight masks)
 follows-saw service v sight masks right f kept here none = record {
-  served = record { users = f.served.users; submitters_alike = f.served.submitters_alike; marks_alike = f.served.marks_alike; hot_alike = right; stash_alike = f.served.stash_alike };
+  served = record {
+    users =
+        f.served.users;
+    submitters_alike =
+        f.served.submitters_alike;
+    marks_alike =
+        f.served.marks_alike;
+    hot_alike = right;
+    stash_alike = f.served.stash_alike;
+  };
   sized = record { slice = f.sized.slice; users = f.sized.users };
-  tallied = record { likes = f.tallied.likes; by_phase = λ phase page. f.tallied.by_phase phase page ∙ ap (λ n. additions_in v.post phase page + n) (saw-kept v.slice sight v.post.state (λ p some. (kept p some).0) here phase page); looks = f.tallied.looks; after = f.tallied.after; replies = f.tallied.replies; last = f.tallied.last };
+  tallied = record {
+    likes =
+        f.tallied.likes;
+    by_phase =
+        λ phase page. f.tallied.by_phase phase page
+        ∙ ap (λ n. additions_in v.post phase page + n)
+        (saw-kept v.slice sight v.post.state (λ p some. (kept p some).0) here phase page);
+    looks =
+        f.tallied.looks;
+    after = f.tallied.after;
+    replies = f.tallied.replies;
+    last = f.tallied.last;
+  };
   noted = f.noted;
   unmerged = λ notes. unmerged-seen service v.adds v.ran sight v.post.state (f.unmerged notes);
   in_order = ap (λ zs. map entry_of v.ran ++ zs) (saw-next service v sight v.post.state f.stands here) ∙ f.in_order;
@@ -188,71 +301,171 @@ follows-saw service v sight masks right f kept here none = record {
 }
 
 -- the first of what is held runs in a joined phase
-follows-held : (service : Service) (v : WorkerView) (first : Held) (rest : List Held) (after : WorkerView) → v.pending ≡ None → Follows service v → IsSliceInSplit v.post v.slice → RunsJoined v.post.state → v.held.held ≡ first ∷ rest
+follows-held : (service : Service) (v : WorkerView) (first : Held) (rest : List Held) (after : WorkerView)
+    → v.pending ≡ None
+    → Follows service v
+    → IsSliceInSplit v.post v.slice
+    → RunsJoined v.post.state
+    → v.held.held ≡ first ∷ rest
     → Runs (without_first v rest) first true after → Follows service after
 follows-held service v first rest after none f kept j e run =
     let b = blocks-of_running service v IsJoined v.post.state j f.stands in
     let even = runs-phase IsJoined v.post.state j in
     let all : All (IsAsked service) (first ∷ rest) = subst (All (IsAsked service)) e f.held in
     let k = phase_at v in
-    follows-run service (without_first v rest) after first true run (runs-weaker IsJoined (λ _. Unit {0}) v.post.state (λ _ _. tt) j) none
-    (record { users = f.served.users; submitters_alike = f.served.submitters_alike; marks_alike = f.served.marks_alike; hot_alike = f.served.hot_alike; stash_alike = f.served.stash_alike })
+    follows-run service (without_first v rest) after first true run
+    (runs-weaker IsJoined (λ _. Unit {0}) v.post.state (λ _ _. tt) j) none
+    (record {
+      users =
+          f.served.users;
+      submitters_alike =
+          f.served.submitters_alike;
+      marks_alike =
+          f.served.marks_alike;
+      hot_alike = f.served.hot_alike;
+      stash_alike = f.served.stash_alike;
+    })
     (record { slice = f.sized.slice; users = f.sized.users })
-    (record { likes = f.tallied.likes; by_phase = f.tallied.by_phase; looks = f.tallied.looks; after = f.tallied.after; replies = f.tallied.replies; last = f.tallied.last })
+    (record {
+      likes =
+          f.tallied.likes;
+      by_phase =
+          f.tallied.by_phase;
+      looks =
+          f.tallied.looks;
+      after = f.tallied.after;
+      replies = f.tallied.replies;
+      last = f.tallied.last;
+    })
     f.noted f.unmerged (λ odd. absurd (not-split v.post.state j odd))
-    (All-head (IsAsked service) first rest all) (λ page _ _. empty-unsplit v.post.state v.slice (λ p some. (kept p some).0) (not-split v.post.state j) page) (All-tail (IsAsked service) first rest all) f.fits
+    (All-head (IsAsked service) first rest all)
+    (λ page _ _. empty-unsplit v.post.state v.slice (λ p some. (kept p some).0) (not-split v.post.state j) page)
+    (All-tail (IsAsked service) first rest all) f.fits
     (λ r. record {
       within = b.within;
       joined = λ _. b.joined even ∙ ap (λ hs. map entry_of v.ran ++ map (entry_held k) hs) e
           ∙ sym (append_assoc (map entry_of v.ran) (entry_held k first ∷ []) (map (entry_held k) rest))
-          ∙ ap (λ zs. zs ++ map (entry_held k) rest) (sym (ap (map entry_of) r.ran ∙ map-append entry_of v.ran (ran_now (without_first v rest) first true r.reply ∷ [])));
+          ∙ ap (λ zs. zs ++ map (entry_held k) rest)
+          (sym (ap (map entry_of) r.ran
+          ∙ map-append entry_of v.ran (ran_now (without_first v rest) first true r.reply ∷ [])));
       split_ran = λ s. absurd (omega arith);
       split_held = λ s. absurd (omega arith);
     })
 
 -- a submitter is tried
-follows-trying : (service : Service) (v : WorkerView) (place : ℕ) → Follows service v → IsRunning v.post.state → (RunsJoined v.post.state → v.held.held ≡ []) → Follows service (trying v place)
+follows-trying : (service : Service) (v : WorkerView) (place : ℕ)
+    → Follows service v
+    → IsRunning v.post.state
+    → (RunsJoined v.post.state → v.held.held ≡ [])
+    → Follows service (trying v place)
 follows-trying service v place f run empty =
     let b = blocks-of_running service v (λ _. Unit {0}) v.post.state run f.stands in
     follows-running service (trying v place) run
-    (record { users = f.served.users; submitters_alike = f.served.submitters_alike; marks_alike = f.served.marks_alike; hot_alike = f.served.hot_alike; stash_alike = f.served.stash_alike })
+    (record {
+      users =
+          f.served.users;
+      submitters_alike =
+          f.served.submitters_alike;
+      marks_alike =
+          f.served.marks_alike;
+      hot_alike = f.served.hot_alike;
+      stash_alike = f.served.stash_alike;
+    })
     (record { slice = f.sized.slice; users = f.sized.users })
-    (record { likes = f.tallied.likes; by_phase = f.tallied.by_phase; looks = f.tallied.looks; after = f.tallied.after; replies = f.tallied.replies; last = f.tallied.last })
-    f.noted f.unmerged f.held f.fits (record { within = b.within; joined = b.joined; split_ran = b.split_ran; split_held = b.split_held }) (λ _ _. empty)
+    (record {
+      likes =
+          f.tallied.likes;
+      by_phase =
+          f.tallied.by_phase;
+      looks =
+          f.tallied.looks;
+      after = f.tallied.after;
+      replies = f.tallied.replies;
+      last = f.tallied.last;
+    })
+    f.noted f.unmerged f.held f.fits
+    (record { within = b.within; joined = b.joined; split_ran = b.split_ran; split_held = b.split_held })
+    (λ _ _. empty)
 
 -- the worker answers its phase; in a joined one it holds nothing
-follows-answered : (service : Service) (v : WorkerView) (P : ℕ → Type 0) → Follows service v → RunsSome P v.post.state → v.pending ≡ None → (IsJoined (phase_at v) → v.held.held ≡ []) → Follows service (record v { post = answered v.post })
+follows-answered : (service : Service) (v : WorkerView) (P : ℕ → Type 0)
+    → Follows service v
+    → RunsSome P v.post.state
+    → v.pending ≡ None
+    → (IsJoined (phase_at v) → v.held.held ≡ [])
+    → Follows service (record v { post = answered v.post })
 follows-answered service v P f run none empty =
     let b = blocks-of_running service v P v.post.state run f.stands in
     record {
-      served = record { users = f.served.users; submitters_alike = f.served.submitters_alike; marks_alike = f.served.marks_alike; hot_alike = f.served.hot_alike; stash_alike = f.served.stash_alike };
+      served = record {
+        users =
+            f.served.users;
+        submitters_alike =
+            f.served.submitters_alike;
+        marks_alike =
+            f.served.marks_alike;
+        hot_alike = f.served.hot_alike;
+        stash_alike = f.served.stash_alike;
+      };
       sized = record { slice = f.sized.slice; users = f.sized.users };
-      tallied = record { likes = f.tallied.likes; by_phase = f.tallied.by_phase; looks = f.tallied.looks; after = f.tallied.after; replies = f.tallied.replies; last = f.tallied.last };
+      tallied = record {
+        likes =
+            f.tallied.likes;
+        by_phase =
+            f.tallied.by_phase;
+        looks =
+            f.tallied.looks;
+        after = f.tallied.after;
+        replies = f.tallied.replies;
+        last = f.tallied.last;
+      };
       noted = f.noted;
-      unmerged = λ notes. (let u = unmerged-running service v.adds v.ran P v.post.state run (f.unmerged notes) in (u.0, u.2));
+      unmerged = λ notes. (let u = unmerged-running service v.adds v.ran P v.post.state run (f.unmerged notes) in
+          (u.0, u.2));
       in_order = f.in_order;
       fits = f.fits;
       held = f.held;
-      stands = (record { within = b.within; joined = b.joined; split_ran = b.split_ran; split_held = b.split_held }, empty);
+      stands = (
+        record { within = b.within; joined = b.joined; split_ran = b.split_ran; split_held = b.split_held },
+        empty,
+      );
       trying = λ place e. absurd (cc (none, e));
     }
 
 -- it merges its slice, and answers its phase
-follows-reported : (service : Service) (v : WorkerView) (adds : List Addition) → Merges (phase_at v) v.slice (pages_of v.post) adds → Follows service v → RunsSplit v.post.state → v.pending ≡ None → IsSliceInSplit v.post v.slice → HasPhaseMask v.post → Follows service (record (merged v adds) { post = answered (merged v adds).post })
+follows-reported : (service : Service) (v : WorkerView) (adds : List Addition)
+    → Merges (phase_at v) v.slice (pages_of v.post) adds
+    → Follows service v
+    → RunsSplit v.post.state
+    → v.pending ≡ None
+    → IsSliceInSplit v.post v.slice
+    → HasPhaseMask v.post
+    → Follows service (record (merged v adds) { post = answered (merged v adds).post })
 follows-reported service v adds merges f run none kept has =
     let b = blocks-of_running service v IsSplit v.post.state run f.stands in
     let odd = runs-phase IsSplit v.post.state run in
     let here = runs-weaker IsSplit (λ _. Unit {0}) v.post.state (λ _ _. tt) run in
     let noted = λ (notes : v.notes ≡ true).
-    merge-noted service v adds merges f.tallied notes (f.noted notes) (unmerged-running service v.adds v.ran IsSplit v.post.state run (f.unmerged notes)) kept
+    merge-noted service v adds merges f.tallied notes (f.noted notes)
+    (unmerged-running service v.adds v.ran IsSplit v.post.state run (f.unmerged notes)) kept
     (slices-alike service v f.served here has)
     in
     record {
-      served = record { users = f.served.users; submitters_alike = f.served.submitters_alike; marks_alike = f.served.marks_alike; hot_alike = f.served.hot_alike; stash_alike = f.served.stash_alike };
+      served = record {
+        users =
+            f.served.users;
+        submitters_alike =
+            f.served.submitters_alike;
+        marks_alike =
+            f.served.marks_alike;
+        hot_alike = f.served.hot_alike;
+        stash_alike = f.served.stash_alike;
+      };
       sized = record { slice = length-replicate (pages_of v.post) 0; users = f.sized.users };
       tallied = record {
         likes = λ page. f.tallied.likes page ∙ sym (merge.merged-tally (seat_of v) adds merges f.sized.slice page);
-        by_phase = λ phase page. f.tallied.by_phase phase page ∙ sym (merge.merged-in (seat_of v) adds merges f.sized.slice phase page);
+        by_phase = λ phase page. f.tallied.by_phase phase page
+            ∙ sym (merge.merged-in (seat_of v) adds merges f.sized.slice phase page);
         looks = f.tallied.looks ∙ sym (shown_by-more v.post.additions adds v.post.reads f.tallied.after);
         after = after-more v.post.additions adds v.post.reads f.tallied.after;
         replies = f.tallied.replies;
@@ -263,26 +476,59 @@ follows-reported service v adds merges f run none kept has =
       in_order = f.in_order;
       fits = f.fits;
       held = f.held;
-      stands = (record { within = b.within; joined = b.joined; split_ran = b.split_ran; split_held = b.split_held }, λ even. absurd (omega arith));
+      stands = (
+        record { within = b.within; joined = b.joined; split_ran = b.split_ran; split_held = b.split_held },
+        λ even. absurd (omega arith),
+      );
       trying = λ place e. absurd (cc (none, e));
     }
 
 -- a worker that runs a phase
-follows-works : (service : Service) (v : WorkerView) (ending : Bool) (answer : Turn) (after : WorkerView) → v.pending ≡ None → Follows service v → IsSliceInSplit v.post v.slice → HasPhaseMask v.post → Works v ending answer after → Follows service after
-follows-works service v ending answer after none f kept has (turns.runs_held first rest j e a run) = follows-held service v first rest after none f kept j e run
+follows-works : (service : Service) (v : WorkerView) (ending : Bool) (answer : Turn) (after : WorkerView)
+    → v.pending ≡ None
+    → Follows service v
+    → IsSliceInSplit v.post v.slice
+    → HasPhaseMask v.post
+    → Works v ending answer after
+    → Follows service after
+follows-works service v ending answer after none f kept has (turns.runs_held first rest j e a run) =
+    follows-held service v first rest after none f kept j e run
 follows-works service v ending answer after none f kept has (turns.retires j e ended a x) =
     let none_kept = empty-unsplit v.post.state v.slice (λ p some. (kept p some).0) (not-split v.post.state j) in
-    let zero_at : (b : Bool) (page : ℕ) → cond b (get_or v.slice page 0) 0 ≡ 0 = λ b page. ap (λ (n : ℕ). cond b n 0) (none_kept page) ∙ cond_same b 0 in
-    let empties : (phase page : ℕ) → cond (phase_at v == phase) (get_or v.slice page 0) 0 ≡ cond (0 == phase) (get_or v.slice page 0) 0 =
+    let zero_at : (b : Bool) (page : ℕ) → cond b (get_or v.slice page 0) 0 ≡ 0 =
+    λ b page. ap (λ (n : ℕ). cond b n 0) (none_kept page) ∙ cond_same b 0 in
+    let empties : (phase page : ℕ)
+    → cond (phase_at v == phase) (get_or v.slice page 0) 0 ≡ cond (0 == phase) (get_or v.slice page 0) 0 =
     λ phase page. zero_at (phase_at v == phase) page ∙ sym (zero_at (0 == phase) page)
     in
     subst (Follows service) (sym x) (record {
-      served = record { users = f.served.users; submitters_alike = f.served.submitters_alike; marks_alike = f.served.marks_alike; hot_alike = f.served.hot_alike; stash_alike = f.served.stash_alike };
+      served = record {
+        users =
+            f.served.users;
+        submitters_alike =
+            f.served.submitters_alike;
+        marks_alike =
+            f.served.marks_alike;
+        hot_alike = f.served.hot_alike;
+        stash_alike = f.served.stash_alike;
+      };
       sized = record { slice = f.sized.slice; users = f.sized.users };
-      tallied = record { likes = f.tallied.likes; by_phase = λ phase page. f.tallied.by_phase phase page ∙ ap (λ n. additions_in v.post phase page + n) (empties phase page); looks = f.tallied.looks; after = f.tallied.after; replies = f.tallied.replies; last = f.tallied.last };
+      tallied = record {
+        likes =
+            f.tallied.likes;
+        by_phase =
+            λ phase page. f.tallied.by_phase phase page
+            ∙ ap (λ n. additions_in v.post phase page + n) (empties phase page);
+        looks =
+            f.tallied.looks;
+        after = f.tallied.after;
+        replies = f.tallied.replies;
+        last = f.tallied.last;
+      };
       noted = f.noted;
       unmerged = λ notes. tt;
-      in_order = ap (λ hs. map entry_of v.ran ++ map (entry_held 0) hs) e ∙ ap (λ hs. map entry_of v.ran ++ map (entry_held (next_joined v)) hs) (sym e) ∙ f.in_order;
+      in_order = ap (λ hs. map entry_of v.ran ++ map (entry_held 0) hs) e
+          ∙ ap (λ hs. map entry_of v.ran ++ map (entry_held (next_joined v)) hs) (sym e) ∙ f.in_order;
       fits = f.fits;
       held = f.held;
       stands = (e, ended);
@@ -291,29 +537,47 @@ follows-works service v ending answer after none f kept has (turns.retires j e e
 follows-works service v ending answer after none f kept has (turns.acknowledges j e ended seen a x) =
     subst (Follows service) (sym x) (follows-answered service v IsJoined f j none (λ _. e))
 follows-works service v ending answer after none f kept has (turns.tries_joined place j e next seen a x) =
-    subst (Follows service) (sym x) (follows-trying service v place f (runs-weaker IsJoined (λ _. Unit {0}) v.post.state (λ _ _. tt) j) (λ _. e))
+    subst (Follows service) (sym x)
+    (follows-trying service v place f (runs-weaker IsJoined (λ _. Unit {0}) v.post.state (λ _ _. tt) j) (λ _. e))
 follows-works service v ending answer after none f kept has (turns.reports now s seen a m x) =
-    let is : after ≡ record (merged v m.0) { post = answered (merged v m.0).post } = x ∙ ap {A = WorkerView} (λ w. record w { post = answered w.post }) m.1.1 in
+    let is : after ≡ record (merged v m.0) { post = answered (merged v m.0).post } =
+    x ∙ ap {A = WorkerView} (λ w. record w { post = answered w.post }) m.1.1 in
     subst (Follows service) (sym is) (follows-reported service v m.0 m.1.0 f s none kept has)
-follows-works service v ending answer after none f kept has (turns.idles s seen stuck a x) = subst (Follows service) (sym x) f
+follows-works service v ending answer after none f kept has (turns.idles s seen stuck a x) =
+    subst (Follows service) (sym x) f
 follows-works service v ending answer after none f kept has (turns.tries_split place s seen room next a x) =
     let odd = runs-phase IsSplit v.post.state s in
-    subst (Follows service) (sym x) (follows-trying service v place f (runs-weaker IsSplit (λ _. Unit {0}) v.post.state (λ _ _. tt) s)
+    subst (Follows service) (sym x)
+    (follows-trying service v place f (runs-weaker IsSplit (λ _. Unit {0}) v.post.state (λ _ _. tt) s)
     (λ j. let even = runs-phase IsJoined v.post.state j in absurd (omega arith)))
 
 -- a turn
-pub follows-turn : (service : Service) (v : WorkerView) (answer : Turn) (after : WorkerView) → v.pending ≡ None → IsSliceInSplit v.post v.slice → HasPhaseMask v.post → AreMasksOf service.hot after.post.masks → Turns v answer after → Follows service v → Follows service after
+pub follows-turn : (service : Service) (v : WorkerView) (answer : Turn) (after : WorkerView)
+    → v.pending ≡ None
+    → IsSliceInSplit v.post v.slice
+    → HasPhaseMask v.post
+    → AreMasksOf service.hot after.post.masks
+    → Turns v answer after
+    → Follows service v
+    → Follows service after
 follows-turn service v answer after none kept has right (turns.is_gone gone a x) f = subst (Follows service) (sym x) f
 follows-turn service v answer after none kept has right (turns.waits sight here i w a x) f =
     subst (Follows service) (sym x) (follows-saw service v sight v.post.masks f.served.hot_alike f kept here none)
 follows-turn service v answer after none kept has right (turns.works sight mask here i w x) f =
-    let all = masks-before service.hot (saw v sight mask).post.masks after.post.masks (works-keeps (saw v sight mask) sight.ending answer after x).masks right in
-    follows-works service (saw v sight mask) sight.ending answer after none (follows-saw service v sight (saw v sight mask).post.masks all f kept here none) (splits-after v.post v.slice sight mask kept) (has-after v.post sight mask has) x
+    let all = masks-before service.hot (saw v sight mask).post.masks after.post.masks
+    (works-keeps (saw v sight mask) sight.ending answer after x).masks right in
+    follows-works service (saw v sight mask) sight.ending answer after none
+    (follows-saw service v sight (saw v sight mask).post.masks all f kept here none)
+    (splits-after v.post v.slice sight mask kept) (has-after v.post sight mask has) x
 
 -- what is tried is no part of what a state says
-settled-stands : (service : Service) (v : WorkerView) (s : WorkerState) → Stands service v s → Stands service (settled v) s
-settled-stands service v (state.Runs k) b = record { within = b.within; joined = b.joined; split_ran = b.split_ran; split_held = b.split_held }
-settled-stands service v (state.Answered k) b = (record { within = b.0.within; joined = b.0.joined; split_ran = b.0.split_ran; split_held = b.0.split_held }, b.1)
+settled-stands : (service : Service) (v : WorkerView) (s : WorkerState)
+    → Stands service v s
+    → Stands service (settled v) s
+settled-stands service v (state.Runs k) b =
+    record { within = b.within; joined = b.joined; split_ran = b.split_ran; split_held = b.split_held }
+settled-stands service v (state.Answered k) b =
+    (record { within = b.0.within; joined = b.0.joined; split_ran = b.0.split_ran; split_held = b.0.split_held }, b.1)
 settled-stands service v state.Gone b = b
 
 -- a worker that runs a phase that is joined runs a joined phase
@@ -325,9 +589,28 @@ runs-joined state.Gone r j = absurd r
 -- nothing is tried any more
 follows-settled : (service : Service) (v : WorkerView) → Follows service v → Follows service (settled v)
 follows-settled service v f = record {
-  served = record { users = f.served.users; submitters_alike = f.served.submitters_alike; marks_alike = f.served.marks_alike; hot_alike = f.served.hot_alike; stash_alike = f.served.stash_alike };
+  served = record {
+    users =
+        f.served.users;
+    submitters_alike =
+        f.served.submitters_alike;
+    marks_alike =
+        f.served.marks_alike;
+    hot_alike = f.served.hot_alike;
+    stash_alike = f.served.stash_alike;
+  };
   sized = record { slice = f.sized.slice; users = f.sized.users };
-  tallied = record { likes = f.tallied.likes; by_phase = f.tallied.by_phase; looks = f.tallied.looks; after = f.tallied.after; replies = f.tallied.replies; last = f.tallied.last };
+  tallied = record {
+    likes =
+        f.tallied.likes;
+    by_phase =
+        f.tallied.by_phase;
+    looks =
+        f.tallied.looks;
+    after = f.tallied.after;
+    replies = f.tallied.replies;
+    last = f.tallied.last;
+  };
   noted = f.noted;
   unmerged = f.unmerged;
   in_order = f.in_order;
@@ -339,75 +622,135 @@ follows-settled service v f = record {
 
 -- what is taken has to wait where its request does
 took_to_wait-is : (service : Service) (t : Took) (r : Request) → request_at service t.submitter t.number ≡ Some r
-    → took_to_wait service t ≡ is_look_at_sliced service.users (submitters service) (is_split_in service t.phase) t.submitter r
+    → took_to_wait service t
+    ≡ is_look_at_sliced service.users (submitters service) (is_split_in service t.phase) t.submitter r
 took_to_wait-is service t r asked =
-    ap (λ o. option_map_or (is_split_in service t.phase) (option_and_then (accepted_look service.users (submitters service) t.submitter) o) false) asked
+    ap (λ o. option_map_or (is_split_in service t.phase)
+    (option_and_then (accepted_look service.users (submitters service) t.submitter) o) false) asked
     ∙ by_test (is_accepted service.users (submitters service) t.submitter r)
   where
-    by_test : (b : Bool) → option_map_or (is_split_in service t.phase) (cond b (page_looked_at r.op r.page) None) false ≡ (b && option_map_or (is_split_in service t.phase) (page_looked_at r.op r.page) false)
+    by_test : (b : Bool)
+        → option_map_or (is_split_in service t.phase) (cond b (page_looked_at r.op r.page) None) false
+        ≡ (b && option_map_or (is_split_in service t.phase) (page_looked_at r.op r.page) false)
     by_test true = refl
     by_test false = refl
 
 -- whether a request has to wait is the same by the service and by the worker, which has read its split phase's mask
-waits-alike : (service : Service) (v : WorkerView) (submitter number : ℕ) (r : Request) → request_at service submitter number ≡ Some r → IsServed service v → IsRunning v.post.state → HasPhaseMask v.post
-    → took_to_wait service (record { phase = phase_at v; submitter = submitter; number = number }) ≡ has_to_wait v submitter r
+waits-alike : (service : Service) (v : WorkerView) (submitter number : ℕ) (r : Request)
+    → request_at service submitter number ≡ Some r
+    → IsServed service v
+    → IsRunning v.post.state
+    → HasPhaseMask v.post
+    → took_to_wait service (record { phase = phase_at v; submitter = submitter; number = number })
+    ≡ has_to_wait v submitter r
 waits-alike service v submitter number r asked s run has =
     took_to_wait-is service (record { phase = phase_at v; submitter = submitter; number = number }) r asked
     ∙ ap (λ u. is_look_at_sliced u (submitters service) (is_split_in service (phase_at v)) submitter r) s.users
     ∙ ap (λ m. is_look_at_sliced v.last.share.users m (is_split_in service (phase_at v)) submitter r) s.submitters_alike
-    ∙ ap (λ xs. is_look_at_sliced v.last.share.users v.last.share.submitters (λ page. split (λ p. get_or xs p false) service.hot (phase_at v) page) submitter r) s.marks_alike
+    ∙ ap (λ xs. is_look_at_sliced v.last.share.users v.last.share.submitters
+    (λ page. split (λ p. get_or xs p false) service.hot (phase_at v) page) submitter r) s.marks_alike
     ∙ (λ m. is_look_at_sliced v.last.share.users v.last.share.submitters
-    (λ page. split-known (λ p. get_or v.post.marks p false) service.hot v.post.masks (phase_at v) page s.hot_alike (λ odd _ _. has (runs-split v.post.state run odd)) m) submitter r)
+    (λ page. split-known (λ p. get_or v.post.marks p false) service.hot v.post.masks (phase_at v) page s.hot_alike
+    (λ odd _ _. has (runs-split v.post.state run odd)) m) submitter r)
 
 -- the slice has nothing of the page of a look that need not wait
-clear-prompt : (v : WorkerView) (submitter : ℕ) (r : Request) (page : ℕ) → IsSliceInSplit v.post v.slice → has_to_wait v submitter r ≡ false → verdict_at v submitter r ≡ Accepted → page_looked_at r.op r.page ≡ Some page
+clear-prompt : (v : WorkerView) (submitter : ℕ) (r : Request) (page : ℕ)
+    → IsSliceInSplit v.post v.slice
+    → has_to_wait v submitter r ≡ false
+    → verdict_at v submitter r ≡ Accepted
+    → page_looked_at r.op r.page ≡ Some page
     → get_or v.slice page 0 ≡ 0
 clear-prompt v submitter r page kept prompt accepted look = elim (cases_eq (get_or v.slice page 0) 0) [
   | inl none ↦ none
   | inr some ↦
       let k = kept page some in
       let yes = accepted-true v.last.share.users v.last.share.submitters submitter r accepted in
-      let waiting : has_to_wait v submitter r ≡ true = (λ m. yes m && option_map_or (slices v.post) (look m) false) ∙ k.1 in
+      let waiting : has_to_wait v submitter r ≡ true =
+      (λ m. yes m && option_map_or (slices v.post) (look m) false) ∙ k.1 in
       absurd (cc (waiting, prompt))
 ]
 
 -- no more comes out of the stash in a phase where what is taken runs at once
-fits-prompt : (service : Service) (xs : List Took) (t : Took) → took_to_wait service t ≡ false → FitsStash service xs → FitsStash service (xs ++ t ∷ [])
+fits-prompt : (service : Service) (xs : List Took) (t : Took)
+    → took_to_wait service t ≡ false
+    → FitsStash service xs
+    → FitsStash service (xs ++ t ∷ [])
 fits-prompt service xs t w fits k = rw (stashed-prompt service xs t k w) (fits k)
 
 -- and where it waits, all that waits with it has room
-fits-waits : (service : Service) (xs : List Took) (t : Took) → FitsStash service xs → length (block service (xs ++ t ∷ []) (t.phase + 1)) ≤ service.stash → FitsStash service (xs ++ t ∷ [])
+fits-waits : (service : Service) (xs : List Took) (t : Took)
+    → FitsStash service xs
+    → length (block service (xs ++ t ∷ []) (t.phase + 1)) ≤ service.stash
+    → FitsStash service (xs ++ t ∷ [])
 fits-waits service xs t fits few k = elim (cases_eq (t.phase + 1) k) [
-  | inl same ↦ subst (λ j. stashed_in service j (xs ++ t ∷ []) ≤ service.stash) same (omega (arith, few, stashed-block service (xs ++ t ∷ []) (t.phase + 1)))
+  | inl same ↦ subst (λ j. stashed_in service j (xs ++ t ∷ []) ≤ service.stash) same
+      (omega (arith, few, stashed-block service (xs ++ t ∷ []) (t.phase + 1)))
   | inr other ↦ rw (stashed-other service xs t k other) (fits k)
 ]
 
 -- a request that is taken from the submitter at a place
-follows-takes : (service : Service) (v : WorkerView) (place : ℕ) (ask : Numbered) (answer : Turn) (after : WorkerView) → v.pending ≡ None → Follows service v → IsSliceInSplit v.post v.slice → HasPhaseMask v.post → IsRunning v.post.state
-    → (RunsJoined v.post.state → v.held.held ≡ []) → request_at service (submitter_at v place) ask.number ≡ Some ask.request → IsThere (length (marks_of service.pages)) ask.request.page
+follows-takes : (service : Service) (v : WorkerView) (place : ℕ) (ask : Numbered) (answer : Turn) (after : WorkerView)
+    → v.pending ≡ None
+    → Follows service v
+    → IsSliceInSplit v.post v.slice
+    → HasPhaseMask v.post
+    → IsRunning v.post.state
+    → (RunsJoined v.post.state → v.held.held ≡ [])
+    → request_at service (submitter_at v place) ask.number ≡ Some ask.request
+    → IsThere (length (marks_of service.pages)) ask.request.page
     → length after.held.held ≤ after.held.capacity → TakesAsk v place ask answer after → Follows service after
 follows-takes service v place ask answer after none f kept has run empty asked there room (turns.stashes w a x) =
     let b = blocks-of_running service v (λ _. Unit {0}) v.post.state run f.stands in
     let t : Took = record { phase = phase_at v; submitter = submitter_at v place; number = ask.number } in
     let h : Held = held_from v place ask in
-    let to_wait : took_to_wait service t ≡ true = waits-alike service v (submitter_at v place) ask.number ask.request asked f.served run has ∙ w in
+    let to_wait : took_to_wait service t ≡ true =
+    waits-alike service v (submitter_at v place) ask.number ask.request asked f.served run has ∙ w in
     let not_even : IsJoined (phase_at v) → ⊥ = λ j. cc (to_wait, took_to_wait-joined service t j) in
     let p = phase_at v in
     let odd : IsSplit p = elim (parity p) [
       | inl even ↦ absurd (not_even even)
       | inr odd ↦ odd
     ] in
-    let held_is : IsSplit p → block service (v.taken ++ t ∷ []) (p + 1) ≡ map (entry_held (p + 1)) (v.held.held ++ h ∷ []) =
+    let held_is : IsSplit p
+    → block service (v.taken ++ t ∷ []) (p + 1) ≡ map (entry_held (p + 1)) (v.held.held ++ h ∷ []) =
     λ s. block-next-waits service v.taken t to_wait (before-next v.taken p b.within)
-    ∙ ap (λ zs. zs ++ entry_held (p + 1) h ∷ []) (b.split_held s) ∙ sym (map-append (entry_held (p + 1)) v.held.held (h ∷ [])) in
-    let enough : length (v.held.held ++ h ∷ []) ≤ v.held.capacity = subst (λ (w : WorkerView). length w.held.held ≤ w.held.capacity) x room in
+    ∙ ap (λ zs. zs ++ entry_held (p + 1) h ∷ []) (b.split_held s)
+    ∙ sym (map-append (entry_held (p + 1)) v.held.held (h ∷ [])) in
+    let enough : length (v.held.held ++ h ∷ []) ≤ v.held.capacity =
+    subst (λ (w : WorkerView). length w.held.held ≤ w.held.capacity) x room in
     subst (Follows service) (sym x) (follows-running service (with_stashed (with_taken v place ask) h) run
-    (record { users = f.served.users; submitters_alike = f.served.submitters_alike; marks_alike = f.served.marks_alike; hot_alike = f.served.hot_alike; stash_alike = f.served.stash_alike })
+    (record {
+      users =
+          f.served.users;
+      submitters_alike =
+          f.served.submitters_alike;
+      marks_alike =
+          f.served.marks_alike;
+      hot_alike = f.served.hot_alike;
+      stash_alike = f.served.stash_alike;
+    })
     (record { slice = f.sized.slice; users = f.sized.users })
-    (record { likes = f.tallied.likes; by_phase = f.tallied.by_phase; looks = f.tallied.looks; after = f.tallied.after; replies = f.tallied.replies; last = f.tallied.last })
+    (record {
+      likes =
+          f.tallied.likes;
+      by_phase =
+          f.tallied.by_phase;
+      looks =
+          f.tallied.looks;
+      after = f.tallied.after;
+      replies = f.tallied.replies;
+      last = f.tallied.last;
+    })
     f.noted f.unmerged
     (All-push (IsAsked service) v.held.held h f.held (record { asked = asked; there = there }))
-    (fits-waits service v.taken t f.fits (omega (arith, enough, f.served.stash_alike, ap length (held_is odd), length-map (v.held.held ++ h ∷ []) (entry_held (p + 1)))))
+    (fits-waits service v.taken t f.fits
+    (omega (
+      arith,
+      enough,
+      f.served.stash_alike,
+      ap length (held_is odd),
+      length-map (v.held.held ++ h ∷ []) (entry_held (p + 1)),
+    )))
     (record {
       within = All-push (λ u. u.phase ≤ p) v.taken t b.within (omega arith);
       joined = λ j. absurd (not_even j);
@@ -420,16 +763,39 @@ follows-takes service v place ask answer after none f kept has run empty asked t
     let t : Took = record { phase = phase_at v; submitter = submitter_at v place; number = ask.number } in
     let h : Held = held_from v place ask in
     let p = phase_at v in
-    let at_once : took_to_wait service t ≡ false = waits-alike service v (submitter_at v place) ask.number ask.request asked f.served run has ∙ w in
+    let at_once : took_to_wait service t ≡ false =
+    waits-alike service v (submitter_at v place) ask.number ask.request asked f.served run has ∙ w in
     let none_held : IsJoined p → v.held.held ≡ [] = λ j. empty (runs-joined v.post.state run j) in
     follows-run service (with_taken v place ask) after h false r run none
-    (record { users = f.served.users; submitters_alike = f.served.submitters_alike; marks_alike = f.served.marks_alike; hot_alike = f.served.hot_alike; stash_alike = f.served.stash_alike })
+    (record {
+      users =
+          f.served.users;
+      submitters_alike =
+          f.served.submitters_alike;
+      marks_alike =
+          f.served.marks_alike;
+      hot_alike = f.served.hot_alike;
+      stash_alike = f.served.stash_alike;
+    })
     (record { slice = f.sized.slice; users = f.sized.users })
-    (record { likes = f.tallied.likes; by_phase = f.tallied.by_phase; looks = f.tallied.looks; after = f.tallied.after; replies = f.tallied.replies; last = f.tallied.last })
+    (record {
+      likes =
+          f.tallied.likes;
+      by_phase =
+          f.tallied.by_phase;
+      looks =
+          f.tallied.looks;
+      after = f.tallied.after;
+      replies = f.tallied.replies;
+      last = f.tallied.last;
+    })
     f.noted f.unmerged has
-    (record { asked = asked; there = there }) (λ page a look. clear-prompt v (submitter_at v place) ask.request page kept w a look) f.held (fits-prompt service v.taken t at_once f.fits)
+    (record { asked = asked; there = there })
+    (λ page a look. clear-prompt v (submitter_at v place) ask.request page kept w a look) f.held
+    (fits-prompt service v.taken t at_once f.fits)
     (λ e.
-    let ran : map entry_of v.ran ++ entry_of (ran_now (with_taken v place ask) h false e.reply) ∷ [] ≡ map entry_of after.ran =
+    let ran : map entry_of v.ran ++ entry_of (ran_now (with_taken v place ask) h false e.reply) ∷ []
+    ≡ map entry_of after.ran =
     sym (ap (map entry_of) e.ran ∙ map-append entry_of v.ran (ran_now (with_taken v place ask) h false e.reply ∷ [])) in
     record {
       within = All-push (λ u. u.phase ≤ p) v.taken t b.within (omega arith);
@@ -437,27 +803,58 @@ follows-takes service v place ask answer after none f kept has run empty asked t
           ∙ ap (λ zs. zs ++ entry_of (ran_now (with_taken v place ask) h false e.reply) ∷ [])
           (b.joined j ∙ ap (λ hs. map entry_of v.ran ++ map (entry_held p) hs) (none_held j) ∙ append-nil _)
           ∙ ran ∙ sym (append-nil _) ∙ ap (λ hs. map entry_of after.ran ++ map (entry_held p) hs) (sym (none_held j));
-      split_ran = λ s. order_below-prompt service v.taken t at_once ∙ ap (λ zs. zs ++ entry_of (ran_now (with_taken v place ask) h false e.reply) ∷ []) (b.split_ran s) ∙ ran;
+      split_ran = λ s. order_below-prompt service v.taken t at_once
+          ∙ ap (λ zs. zs ++ entry_of (ran_now (with_taken v place ask) h false e.reply) ∷ []) (b.split_ran s) ∙ ran;
       split_held = λ s. block-next-prompt service v.taken t at_once ∙ b.split_held s;
     })
 
 -- what is given
-pub follows-give : (service : Service) (v : WorkerView) (took : Taken) (answer : Turn) (after : WorkerView) → CanGive v took → IsAskedBy service v took → IsSliceInSplit v.post v.slice → HasPhaseMask v.post → length after.held.held ≤ after.held.capacity → Gives v took answer after → Follows service v
+pub follows-give : (service : Service) (v : WorkerView) (took : Taken) (answer : Turn) (after : WorkerView)
+    → CanGive v took
+    → IsAskedBy service v took
+    → IsSliceInSplit v.post v.slice
+    → HasPhaseMask v.post
+    → length after.held.held ≤ after.held.capacity
+    → Gives v took answer after
+    → Follows service v
     → Follows service after
-follows-give service v took answer after can asked kept has room (turns.nothing t a x) f = subst (Follows service) (sym x) (follows-settled service v f)
+follows-give service v took answer after can asked kept has room (turns.nothing t a x) f =
+    subst (Follows service) (sym x) (follows-settled service v f)
 follows-give service v took answer after can asked kept has room (turns.ends place p t a x) f =
     let run = (f.trying place p).0 in
     let s = follows-settled service v f in
     let b = blocks-of_running service (settled v) (λ _. Unit {0}) v.post.state run s.stands in
     subst (Follows service) (sym x) (follows-running service (record (settled v) { ended = set v.ended place true }) run
-    (record { users = f.served.users; submitters_alike = f.served.submitters_alike; marks_alike = f.served.marks_alike; hot_alike = f.served.hot_alike; stash_alike = f.served.stash_alike })
+    (record {
+      users =
+          f.served.users;
+      submitters_alike =
+          f.served.submitters_alike;
+      marks_alike =
+          f.served.marks_alike;
+      hot_alike = f.served.hot_alike;
+      stash_alike = f.served.stash_alike;
+    })
     (record { slice = f.sized.slice; users = f.sized.users })
-    (record { likes = f.tallied.likes; by_phase = f.tallied.by_phase; looks = f.tallied.looks; after = f.tallied.after; replies = f.tallied.replies; last = f.tallied.last })
-    f.noted f.unmerged f.held f.fits (record { within = b.within; joined = b.joined; split_ran = b.split_ran; split_held = b.split_held }) (λ k e. absurd (cc e)))
+    (record {
+      likes =
+          f.tallied.likes;
+      by_phase =
+          f.tallied.by_phase;
+      looks =
+          f.tallied.looks;
+      after = f.tallied.after;
+      replies = f.tallied.replies;
+      last = f.tallied.last;
+    })
+    f.noted f.unmerged f.held f.fits
+    (record { within = b.within; joined = b.joined; split_ran = b.split_ran; split_held = b.split_held })
+    (λ k e. absurd (cc e)))
 follows-give service v took answer after can asked kept has room (turns.asks place ask p t x) f =
     let run = f.trying place p in
     let by_plan = (subst (λ y. IsAskedBy service v y) t asked) place p in
     let next = (subst (λ y. CanGive v y) t can) place p in
     let P : ℕ → Type 0 = λ n. IsThere n ask.request.page in
     let there = subst P (ap length (sym f.served.marks_alike)) next.there in
-    follows-takes service (settled v) place ask answer after refl (follows-settled service v f) kept has run.0 run.1 by_plan there room x
+    follows-takes service (settled v) place ask answer after refl
+    (follows-settled service v f) kept has run.0 run.1 by_plan there room x

@@ -39,7 +39,11 @@ none_first [] h = refl
 none_first (y ∷ ys) h = cc
 
 -- what may be held stays so in the same share, at a board with the same marks
-pub AreOwn-moved : (s t : SeatView Held) (hs : List Held) → t.last.share ≡ s.last.share → t.post.marks ≡ s.post.marks → All (IsOwn s) hs → All (IsOwn t) hs
+pub AreOwn-moved : (s t : SeatView Held) (hs : List Held)
+    → t.last.share ≡ s.last.share
+    → t.post.marks ≡ s.post.marks
+    → All (IsOwn s) hs
+    → All (IsOwn t) hs
 AreOwn-moved s t hs share marks own = λ i y k. let o = own i y k in record {
   served = rw share o.served;
   there = rw marks o.there;
@@ -48,7 +52,14 @@ AreOwn-moved s t hs share marks own = λ i y k. let o = own i y k in record {
 
 -- a worker stays settled where its seat made a step in the same share and at the same board, it holds only what it may,
 -- and there is room
-pub settled-after : (s t : SeatView Held) (d e : Desk) → IsSettled s d → IsSeat t → t.post.limits ≡ s.post.limits → t.post.last ≡ s.post.last → t.last.share ≡ s.last.share → All (IsOwn t) t.held.held → HasRoom t e
+pub settled-after : (s t : SeatView Held) (d e : Desk)
+    → IsSettled s d
+    → IsSeat t
+    → t.post.limits ≡ s.post.limits
+    → t.post.last ≡ s.post.last
+    → t.last.share ≡ s.last.share
+    → All (IsOwn t) t.held.held
+    → HasRoom t e
     → e ≡ record d { adds = e.adds } → IsSettled t e
 settled-after s t d e is seat limits last share own room rest =
     let places : HasSubmitters t.last.share d = subst (λ x. HasSubmitters x d) (sym share) is.sound.places in
@@ -57,7 +68,14 @@ settled-after s t d e is seat limits last share own room rest =
         seat = seat;
         run = limits ∙ is.sound.run;
         started = ap (λ (x : Desk). x.started) rest ∙ (is.sound.started ∙ ap is_some (sym last));
-        places = subst (HasSubmitters t.last.share) (sym rest) (record { is_worker = places.is_worker; sized = places.sized; submitters = places.submitters; cursor = places.cursor });
+        places = subst (HasSubmitters t.last.share) (sym rest)
+            (record {
+              is_worker =
+                  places.is_worker;
+              sized = places.sized;
+              submitters = places.submitters;
+              cursor = places.cursor;
+            });
         room = room;
         held = own;
         tried = λ place p. absurd (cc (p, ap (λ (x : Desk). x.pending) rest, is.untried));
@@ -66,7 +84,12 @@ settled-after s t d e is seat limits last share own room rest =
     }
 
 -- the first request that is held is taken out, which leaves room to run it
-pub settled-pop : (s t : SeatView Held) (d : Desk) (first : Held) → IsSettled s d → IsSeat t → t ≡ without_first s → slice_get s.held.held 0 ≡ Some first → IsSettled t d × HasRoomForOne t d × IsOwn t first
+pub settled-pop : (s t : SeatView Held) (d : Desk) (first : Held)
+    → IsSettled s d
+    → IsSeat t
+    → t ≡ without_first s
+    → slice_get s.held.held 0 ≡ Some first
+    → IsSettled t d × HasRoomForOne t d × IsOwn t first
 settled-pop s t d first is seat e some =
     let list = first_of s.held.held first some in
     let longer : length s.held.held ≡ length (drop 1 s.held.held) + 1 = ap length list ∙ omega arith in
@@ -78,19 +101,35 @@ settled-pop s t d first is seat e some =
     let room = is.sound.room in
     let own = AreOwn-moved s t s.held.held share marks is.sound.held in
     let first_own = subst (λ xs. All (IsOwn t) xs) list own in (
-      settled-after s t d d is seat (ap (λ (x : SeatView Held). x.post.limits) e) (ap (λ (x : SeatView Held). x.post.last) e) share (subst (λ xs. All (IsOwn t) xs) (sym held) (All-drop (IsOwn t) 1 s.held.held own)) (rw (held, added, slice) (record {
-        taken = room.taken;
-        ran = omega (arith, room.ran, longer);
-        few_ran = room.few_ran;
-        adds = λ n. omega (arith, room.adds n, longer);
-        few = omega (arith, room.few, longer);
-      })) refl,
-      rw (held, added, slice) (record { ran = omega (arith, room.ran, longer); adds = λ n. omega (arith, room.adds n, longer); few = omega (arith, room.few, longer) }),
+      settled-after s t d d is seat (ap (λ (x : SeatView Held). x.post.limits) e)
+          (ap (λ (x : SeatView Held). x.post.last) e) share
+          (subst (λ xs. All (IsOwn t) xs) (sym held) (All-drop (IsOwn t) 1 s.held.held own))
+          (rw (held, added, slice) (record {
+            taken = room.taken;
+            ran = omega (arith, room.ran, longer);
+            few_ran = room.few_ran;
+            adds = λ n. omega (arith, room.adds n, longer);
+            few = omega (arith, room.few, longer);
+          })) refl,
+      rw (held, added, slice)
+          (record {
+            ran =
+                omega (arith, room.ran, longer);
+            adds =
+                λ n. omega (arith, room.adds n, longer);
+            few = omega (arith, room.few, longer);
+          }),
       first_own 0 first (omega arith),
     )
 
 -- a request is put behind those that are held
-pub settled-push : (s t : SeatView Held) (d : Desk) (h : Held) → IsSettled s d → HasRoomForOne s d → IsOwn s h → IsSeat t → t ≡ holding s h → IsSettled t d
+pub settled-push : (s t : SeatView Held) (d : Desk) (h : Held)
+    → IsSettled s d
+    → HasRoomForOne s d
+    → IsOwn s h
+    → IsSeat t
+    → t ≡ holding s h
+    → IsSettled t d
 settled-push s t d h is room own seat e =
     let held : t.held.held ≡ s.held.held ++ h ∷ [] = ap (λ (x : SeatView Held). x.held.held) e in
     let longer : length (s.held.held ++ h ∷ []) ≡ length s.held.held + 1 = length-append s.held.held (h ∷ []) in
@@ -98,8 +137,12 @@ settled-push s t d h is room own seat e =
     let marks = ap (λ (x : SeatView Held). x.post.marks) e in
     let added = ap (λ (x : SeatView Held). x.post) e in
     let slice = ap (λ (x : SeatView Held). x.slice) e in
-    let all = All-append (IsOwn s) s.held.held (h ∷ []) is.sound.held (All-cons (IsOwn s) h [] own (λ i y k. absurd (omega arith))) in
-    settled-after s t d d is seat (ap (λ (x : SeatView Held). x.post.limits) e) (ap (λ (x : SeatView Held). x.post.last) e) share (subst (λ xs. All (IsOwn t) xs) (sym held) (AreOwn-moved s t (s.held.held ++ h ∷ []) share marks all)) (rw (held, added, slice) (record {
+    let all = All-append (IsOwn s) s.held.held (h ∷ []) is.sound.held
+    (All-cons (IsOwn s) h [] own (λ i y k. absurd (omega arith))) in
+    settled-after s t d d is seat (ap (λ (x : SeatView Held). x.post.limits) e)
+    (ap (λ (x : SeatView Held). x.post.last) e) share
+    (subst (λ xs. All (IsOwn t) xs) (sym held) (AreOwn-moved s t (s.held.held ++ h ∷ []) share marks all))
+    (rw (held, added, slice) (record {
       taken = is.sound.room.taken;
       ran = omega (arith, room.ran, longer);
       few_ran = is.sound.room.few_ran;
@@ -112,32 +155,63 @@ sum-less : (xs : List ℕ) (i : ℕ) → i < length xs → 1 ≤ get_or xs i 0 �
 sum-less xs i h some = omega (arith, sum_by-set (λ x. x) xs i (get_or xs i 0 - 1) 0 h)
 
 -- a request was taken from the submitter at a place
-pub settled-taken : (s : SeatView Held) (d n : Desk) (place : ℕ) → IsSound s d → d.pending ≡ None → place < length d.left.items → 1 ≤ get_or d.left.items place 0
-    → n.left.items ≡ set d.left.items place (get_or d.left.items place 0 - 1) → vec_len n.taken ≡ vec_len d.taken + 1 → vec_capacity n.taken ≡ vec_capacity d.taken
+pub settled-taken : (s : SeatView Held) (d n : Desk) (place : ℕ)
+    → IsSound s d
+    → d.pending ≡ None
+    → place < length d.left.items
+    → 1 ≤ get_or d.left.items place 0
+    → n.left.items ≡ set d.left.items place (get_or d.left.items place 0 - 1)
+    → vec_len n.taken ≡ vec_len d.taken + 1
+    → vec_capacity n.taken ≡ vec_capacity d.taken
     → n ≡ record d { left = n.left; taken = n.taken } → IsSettled s n × HasRoomForOne s n
 settled-taken s d n place is none there some left taken capacity rest =
     let m : Desk = record d { left = n.left; taken = n.taken } in
     let less : sum n.left.items + 1 ≡ sum d.left.items = rw left (sum-less d.left.items place there some) in
-    let sized : length n.left.items ≡ length d.left.items = ap length left ∙ length-set d.left.items place (get_or d.left.items place 0 - 1) in
+    let sized : length n.left.items ≡ length d.left.items =
+    ap length left ∙ length-set d.left.items place (get_or d.left.items place 0 - 1) in
     subst (λ x. IsSettled s x × HasRoomForOne s x) (sym rest) (
       record {
         sound = record {
           seat = is.seat;
           run = is.run;
           started = is.started;
-          places = record { is_worker = is.places.is_worker; sized = omega (arith, n.left.ok.0, d.left.ok.0, is.places.sized); submitters = is.places.submitters; cursor = is.places.cursor };
-          room = record { taken = omega (arith, is.room.taken); ran = omega (arith, is.room.ran); few_ran = is.room.few_ran; adds = λ n. omega (arith, is.room.adds n); few = omega (arith, is.room.few) };
+          places = record {
+            is_worker =
+                is.places.is_worker;
+            sized =
+                omega (arith, n.left.ok.0, d.left.ok.0, is.places.sized);
+            submitters =
+                is.places.submitters;
+            cursor = is.places.cursor;
+          };
+          room = record {
+            taken =
+                omega (arith, is.room.taken);
+            ran =
+                omega (arith, is.room.ran);
+            few_ran =
+                is.room.few_ran;
+            adds = λ n. omega (arith, is.room.adds n);
+            few = omega (arith, is.room.few);
+          };
           held = is.held;
           tried = λ p t. cc (none, t);
         };
         untried = none;
       },
-      record { ran = omega (arith, is.room.ran); adds = λ n. omega (arith, is.room.adds n); few = omega (arith, is.room.few) },
+      record {
+        ran = omega (arith, is.room.ran);
+        adds =
+            λ n. omega (arith, is.room.adds n);
+        few = omega (arith, is.room.few);
+      },
     )
 
 -- a request that waits was taken in a split phase
 pub waits-split : (post : PostView) (users submitters submitter : ℕ) (r : Request) (waits : Bool)
-    → waits ≡ is_look_at_sliced users submitters (slices post) submitter r → waits ≡ true → IsSplit (phase_of post.state)
+    → waits ≡ is_look_at_sliced users submitters (slices post) submitter r
+    → waits ≡ true
+    → IsSplit (phase_of post.state)
 waits-split post users submitters submitter r waits is h =
     of_page (page_looked_at r.op r.page) (and_parts (is_accepted users submitters submitter r) _ (sym is ∙ h)).1 where
       of_page : (o : Option ℕ) → option_map_or (slices post) o false ≡ true → IsSplit (phase_of post.state)
@@ -149,9 +223,12 @@ pub place-served : (worker workers place : ℕ) → worker < workers → (worker
 place-served worker workers place h = add-mul-mod_self_left worker workers place ∙ mod-eq_of_lt h
 
 -- what was taken from the submitter at a place is the worker's
-pub IsOwn-taken : (s : SeatView Held) (place submitter : ℕ) (ask : Numbered) → s.last.share.worker < s.last.share.workers
-    → submitter ≡ submitter_of s.last.share.workers s.last.share.worker place → IsThere (pages_of s.post) ask.request.page
-    → IsJudged s.last.share (record { submitter = submitter; ask = ask }) Accepted → IsOwn s (record { submitter = submitter; ask = ask })
+pub IsOwn-taken : (s : SeatView Held) (place submitter : ℕ) (ask : Numbered)
+    → s.last.share.worker < s.last.share.workers
+    → submitter ≡ submitter_of s.last.share.workers s.last.share.worker place
+    → IsThere (pages_of s.post) ask.request.page
+    → IsJudged s.last.share (record { submitter = submitter; ask = ask }) Accepted
+    → IsOwn s (record { submitter = submitter; ask = ask })
 IsOwn-taken s place submitter ask is_worker at there judged =
     let t = s.last.share in
     record {
@@ -161,8 +238,10 @@ IsOwn-taken s place submitter ask is_worker at there judged =
     }
 
 -- and may be answered now, where it need not wait
-pub CanServe-taken : (s : SeatView Held) (d : Desk) (place : ℕ) (h : Held) (verdict : Verdict) (waits : Bool) → s.last.share.worker < s.last.share.workers
-    → h.submitter ≡ submitter_of s.last.share.workers s.last.share.worker place → IsThere (pages_of s.post) h.ask.request.page
+pub CanServe-taken : (s : SeatView Held) (d : Desk) (place : ℕ) (h : Held) (verdict : Verdict) (waits : Bool)
+    → s.last.share.worker < s.last.share.workers
+    → h.submitter ≡ submitter_of s.last.share.workers s.last.share.worker place
+    → IsThere (pages_of s.post) h.ask.request.page
     → IsJudged s.last.share h verdict → IsRunning s.post.state
     → waits ≡ is_look_at_sliced s.last.share.users s.last.share.submitters (slices s.post) h.submitter h.ask.request
     → waits ≡ false
@@ -178,6 +257,8 @@ CanServe-taken s d place h verdict waits is_worker at there judged run is prompt
     }
 
 -- a desk that tries the submitter at a place, after a look for held requests that found none
-pub view_of-tried : (s t : SeatView Held) (d e : Desk) (place : ℕ) → e ≡ record d { pending = Some place; cursor = (place + 1) % length d.ended.items } → t ≡ s
+pub view_of-tried : (s t : SeatView Held) (d e : Desk) (place : ℕ)
+    → e ≡ record d { pending = Some place; cursor = (place + 1) % length d.ended.items }
+    → t ≡ s
     → view_of t e ≡ trying (view_of s d) place
 view_of-tried s t d e place is same = (λ m. view_of (same m) (is m))

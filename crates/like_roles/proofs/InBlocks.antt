@@ -23,7 +23,8 @@ parity k = of_rest (k % 2) refl where
 -- what was taken up to a phase was taken before the next
 pub before-next : (xs : List Took) (n : ℕ) → All (λ t. t.phase ≤ n) xs → AllByRecursion (λ t. t.phase + 1 ≤ n + 1) xs
 before-next [] n all = tt
-before-next (t ∷ xs) n all = let first = All-head (λ s. s.phase ≤ n) t xs all in (omega arith, before-next xs n (All-tail (λ s. s.phase ≤ n) t xs all))
+before-next (t ∷ xs) n all = let first = All-head (λ s. s.phase ≤ n) t xs all in
+    (omega arith, before-next xs n (All-tail (λ s. s.phase ≤ n) t xs all))
 
 -- the phase that a worker runs is as its state says
 pub runs-phase : (P : ℕ → Type 0) (s : WorkerState) → RunsSome P s → P (phase_of s)
@@ -36,29 +37,42 @@ runs-weaker P Q (state.Runs k) f r = f k r
 runs-weaker P Q (state.Answered k) f r = absurd r
 runs-weaker P Q state.Gone f r = absurd r
 
-pub blocks-of_running : (service : Service) (v : WorkerView) (P : ℕ → Type 0) (s : WorkerState) → RunsSome P s → Stands service v s → IsInBlocks service v (phase_of s)
+pub blocks-of_running : (service : Service) (v : WorkerView) (P : ℕ → Type 0) (s : WorkerState)
+    → RunsSome P s
+    → Stands service v s
+    → IsInBlocks service v (phase_of s)
 blocks-of_running service v P (state.Runs k) r b = b
 blocks-of_running service v P (state.Answered k) r b = absurd r
 blocks-of_running service v P state.Gone r b = absurd r
 
-pub running-of_blocks : (service : Service) (v : WorkerView) (P : ℕ → Type 0) (s : WorkerState) → RunsSome P s → IsInBlocks service v (phase_of s) → Stands service v s
+pub running-of_blocks : (service : Service) (v : WorkerView) (P : ℕ → Type 0) (s : WorkerState)
+    → RunsSome P s
+    → IsInBlocks service v (phase_of s)
+    → Stands service v s
 running-of_blocks service v P (state.Runs k) r b = b
 running-of_blocks service v P (state.Answered k) r b = absurd r
 running-of_blocks service v P state.Gone r b = absurd r
 
 -- the blocks of a worker make its order
-pub order-of_blocks : (service : Service) (v : WorkerView) (k : ℕ) → phase_at v ≡ k → IsInBlocks service v k → IsInOrder service v
+pub order-of_blocks : (service : Service) (v : WorkerView) (k : ℕ)
+    → phase_at v ≡ k
+    → IsInBlocks service v k
+    → IsInOrder service v
 order-of_blocks service v k e b =
     let before = before-next v.taken k b.within in
-    let all : order_below service v.taken ((k + 1) + 1) ≡ order service v.taken = order-enough service v.taken ((k + 1) + 1) (omega (arith, phases_of-within v.taken (k + 1) before)) in
-    let last : order_below service v.taken ((k + 1) + 1) ≡ order_below service v.taken (k + 1) ++ block service v.taken (k + 1) = order_below-more service v.taken (k + 1) in
+    let all : order_below service v.taken ((k + 1) + 1) ≡ order service v.taken =
+    order-enough service v.taken ((k + 1) + 1) (omega (arith, phases_of-within v.taken (k + 1) before)) in
+    let last : order_below service v.taken ((k + 1) + 1)
+    ≡ order_below service v.taken (k + 1) ++ block service v.taken (k + 1) =
+    order_below-more service v.taken (k + 1) in
     elim (parity k) [
       | inl even ↦
           let next : next_joined v ≡ k = ap (λ x. x + x % 2) e ∙ omega arith in
           ap (λ n. map entry_of v.ran ++ map (entry_held n) v.held.held) next
           ∙ sym (b.joined even)
           ∙ sym (append-nil _)
-          ∙ ap (λ zs. order_below service v.taken (k + 1) ++ zs) (sym (block-after_joined service v.taken k before even))
+          ∙ ap (λ zs. order_below service v.taken (k + 1) ++ zs)
+          (sym (block-after_joined service v.taken k before even))
           ∙ sym last ∙ all
       | inr odd ↦
           let next : next_joined v ≡ k + 1 = ap (λ x. x + x % 2) e ∙ omega arith in

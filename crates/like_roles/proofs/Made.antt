@@ -12,7 +12,9 @@ use Rattle.like_tables.proofs.Dealt.{is-dealt}
 -- one more of the worker's submitters
 pub own-each : (sizes own : List ℕ) (workers worker submitter : ℕ) → submitter ≡ worker + workers * length own
     → ((place : ℕ) → place < length own → get_or own place 0 ≡ get_or sizes (worker + workers * place) 0)
-    → (place : ℕ) → place < length (own ++ get_or sizes submitter 0 ∷ []) → get_or (own ++ get_or sizes submitter 0 ∷ []) place 0 ≡ get_or sizes (worker + workers * place) 0
+    → (place : ℕ)
+    → place < length (own ++ get_or sizes submitter 0 ∷ [])
+    → get_or (own ++ get_or sizes submitter 0 ∷ []) place 0 ≡ get_or sizes (worker + workers * place) 0
 own-each sizes own workers worker submitter at each place h =
     let n : place < length own + 1 = simp length-append at h in
     elim (cases_lt place (length own)) [
@@ -23,7 +25,9 @@ own-each sizes own workers worker submitter at each place h =
           (get_or-append_seam own (get_or sizes submitter 0) [] 0 ∙ ap (λ s. get_or sizes s 0) at)
     ]
 
-pub own-there : (sizes own : List ℕ) (workers worker submitter x : ℕ) → submitter ≡ worker + workers * length own → submitter < length sizes
+pub own-there : (sizes own : List ℕ) (workers worker submitter x : ℕ)
+    → submitter ≡ worker + workers * length own
+    → submitter < length sizes
     → ((place : ℕ) → place < length own → worker + workers * place < length sizes)
     → (place : ℕ) → place < length (own ++ x ∷ []) → worker + workers * place < length sizes
 own-there sizes own workers worker submitter x at inside there place h =
@@ -35,7 +39,9 @@ own-there sizes own workers worker submitter x at inside there place h =
           subst (λ k. worker + workers * k < length sizes) same (omega arith)
     ]
 
-pub own-at : (workers worker submitter n : ℕ) → submitter ≡ worker + workers * n → submitter + workers ≡ worker + workers * (n + 1)
+pub own-at : (workers worker submitter n : ℕ)
+    → submitter ≡ worker + workers * n
+    → submitter + workers ≡ worker + workers * (n + 1)
 own-at workers worker submitter n at = rw (mul-add, mul-one) (omega arith)
 
 -- where no more are there, they are what was dealt
@@ -52,5 +58,6 @@ own-dealt sizes own workers worker some each there past = is-dealt workers worke
             ∙ sym (slice_get-get_or sizes (worker + workers * place) 0 (there place inside))
         | inr outside ↦
             let more = mul-le-mul_left workers outside in
-            slice_get_past own place outside ∙ sym (slice_get_past sizes (worker + workers * place) (omega (arith, past, more)))
+            slice_get_past own place outside
+            ∙ sym (slice_get_past sizes (worker + workers * place) (omega (arith, past, more)))
       ]

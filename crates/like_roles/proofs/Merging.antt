@@ -21,10 +21,15 @@ noted-none true at xs = append-nil xs
 noted-none false at xs = append-nil xs
 
 -- additions that are noted after others are noted with them
-noted-append : (notes : Bool) (at : ℕ) (xs : List Added) (adds more : List Addition) → (xs ++ noted_if notes at adds) ++ noted_if notes at more ≡ xs ++ noted_if notes at (adds ++ more)
-noted-append notes at xs adds more = append_assoc xs (noted_if notes at adds) (noted_if notes at more) ∙ ap (λ (ys : List Added). xs ++ ys) (by_test notes)
+noted-append : (notes : Bool) (at : ℕ) (xs : List Added) (adds more : List Addition)
+    → (xs ++ noted_if notes at adds) ++ noted_if notes at more ≡ xs ++ noted_if notes at (adds ++ more)
+noted-append notes at xs adds more =
+    append_assoc xs (noted_if notes at adds) (noted_if notes at more)
+    ∙ ap (λ (ys : List Added). xs ++ ys) (by_test notes)
   where
-    by_test : (b : Bool) → cond b (map (noted_at at) adds) [] ++ cond b (map (noted_at at) more) [] ≡ cond b (map (noted_at at) (adds ++ more)) []
+    by_test : (b : Bool)
+        → cond b (map (noted_at at) adds) [] ++ cond b (map (noted_at at) more) []
+        ≡ cond b (map (noted_at at) (adds ++ more)) []
     by_test true = sym (map-append (noted_at at) adds more)
     by_test false = refl
 
@@ -37,19 +42,33 @@ pub HaveNoted-none : (d : Desk) → HaveNoted d d []
 HaveNoted-none d = record { noted = sym (noted-none d.notes (length d.ran.items) d.adds.items); rest = refl }
 
 -- one more was
-pub HaveNoted-more : (s : SeatView Held) (d0 d e : Desk) (adds : List Addition) (phase page old n : ℕ) → HaveNoted d0 d adds → HasNoted d e phase page old n → phase ≡ phase_at s → n ≡ (merge_of s page old).likes
+pub HaveNoted-more : (s : SeatView Held) (d0 d e : Desk) (adds : List Addition) (phase page old n : ℕ)
+    → HaveNoted d0 d adds
+    → HasNoted d e phase page old n
+    → phase ≡ phase_at s
+    → n ≡ (merge_of s page old).likes
     → HaveNoted d0 e (adds ++ merge_of s page old ∷ [])
 HaveNoted-more s d0 d e adds phase page old n have has phase_is n_is = record {
   noted =
       has.noted
-      ∙ (λ k. have.noted k ++ noted_if (have.rest k).notes (length (have.rest k).ran.items) (record { phase = phase_is k; page = page; old = old; likes = n_is k } ∷ []))
+      ∙ (λ k. have.noted k
+      ++ noted_if (have.rest k).notes (length (have.rest k).ran.items)
+      (record { phase = phase_is k; page = page; old = old; likes = n_is k } ∷ []))
       ∙ noted-append d0.notes (length d0.ran.items) d0.adds.items adds (merge_of s page old ∷ []);
   rest = has.rest ∙ (λ k. record (have.rest k) { adds = e.adds });
 }
 
 -- the worker has merged its slice
-pub IsMerged-noted : (s t : SeatView Held) (d e : Desk) (adds : List Addition) → Merges (phase_at s) s.slice (pages_of s.post) adds → t ≡ merge.merged s adds → HaveNoted d e adds → IsMerged (view_of s d) (view_of t e)
+pub IsMerged-noted : (s t : SeatView Held) (d e : Desk) (adds : List Addition)
+    → Merges (phase_at s) s.slice (pages_of s.post) adds
+    → t ≡ merge.merged s adds
+    → HaveNoted d e adds
+    → IsMerged (view_of s d) (view_of t e)
 IsMerged-noted s t d e adds merges is have = (
   adds,
-  (merges, (λ k. view_of (is k) (have.rest k)) ∙ (λ k. record (view_of (merge.merged s adds) d) { adds = have.noted k })),
+  (
+    merges,
+    (λ k. view_of (is k) (have.rest k))
+        ∙ (λ k. record (view_of (merge.merged s adds) d) { adds = have.noted k }),
+  ),
 )

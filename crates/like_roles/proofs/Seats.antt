@@ -9,7 +9,11 @@ use Rattle.like_board.specs.Seats.{AreFresh, BoardId}
 use Rattle.like_roles.specs.worker.New.{AreNewSeats}
 
 -- fresh seats are new ones, of posts at a board with these pages
-pub new_seats : (board : BoardId) (z : Opening) (pages : List Page) (seats : List WorkerSeat) → z.marks ≡ marks_of pages → z.limits ≡ run_limits → AreFresh board z seats → AreNewSeats board pages seats
+pub new_seats : (board : BoardId) (z : Opening) (pages : List Page) (seats : List WorkerSeat)
+    → z.marks ≡ marks_of pages
+    → z.limits ≡ run_limits
+    → AreFresh board z seats
+    → AreNewSeats board pages seats
 new_seats board z pages seats marks limits fresh worker seat at =
     let f = fresh worker seat at in (
       f.0,

@@ -29,18 +29,24 @@ use Rattle.like_seat.proofs.MergedLikes.{cond_same, same_everywhere}
 use Rattle.like_roles.proofs.notes.NotedMerge.{noted-nothing, one-of_likes}
 
 -- a new worker follows the plans
-pub follows-new : (s : Setup) (sizes : List ℕ) (worker : ℕ) (post : PostView) (notes : Bool) (v : WorkerView) (service : Service) → IsPostOf worker s.pages post → IsNew s sizes worker post notes v
+pub follows-new : (s : Setup) (sizes : List ℕ) (worker : ℕ) (post : PostView) (notes : Bool) (v : WorkerView)
+    (service : Service)
+    → IsPostOf worker s.pages post
+    → IsNew s sizes worker post notes v
     → IsServiceOf s sizes service → Follows service v
 follows-new s sizes worker post notes v service p new same =
-    let marks_are : v.post.marks ≡ marks_of service.pages = ap (λ x. x.marks) new.at_post ∙ p.marks ∙ ap (map (λ q. q.split)) (sym same.pages_are) in
-    let pages : pages_of v.post ≡ length s.pages = ap length (ap (λ x. x.marks) new.at_post ∙ p.marks) ∙ length-map s.pages (λ q. q.split) in
+    let marks_are : v.post.marks ≡ marks_of service.pages =
+    ap (λ x. x.marks) new.at_post ∙ p.marks ∙ ap (map (λ q. q.split)) (sym same.pages_are) in
+    let pages : pages_of v.post ≡ length s.pages =
+    ap length (ap (λ x. x.marks) new.at_post ∙ p.marks) ∙ length-map s.pages (λ q. q.split) in
     let additions : v.post.additions ≡ [] = ap (λ x. x.additions) new.at_post ∙ p.fresh.added_nothing in
     let state_is : v.post.state ≡ state.Runs 0 = ap (λ x. x.state) new.at_post ∙ p.fresh.runs in
     let held : v.held.held ≡ [] = ap (λ x. x.held) new.held in
     let reads : v.post.reads ≡ [] = ap (λ x. x.reads) new.at_post ∙ p.fresh.read_nothing in
     let masks : v.post.masks ≡ [] = ap (λ x. x.masks) new.at_post ∙ p.fresh.no_masks in
     let nothing : (page : ℕ) → additions_of v.post page ≡ 0 = λ page. ap (added_to page) additions in
-    let in_slice : (page : ℕ) → get_or v.slice page 0 ≡ 0 = λ page. ap (λ xs. get_or xs page 0) new.slice ∙ same_everywhere (length s.pages) page 0 in
+    let in_slice : (page : ℕ) → get_or v.slice page 0 ≡ 0 =
+    λ page. ap (λ xs. get_or xs page 0) new.slice ∙ same_everywhere (length s.pages) page 0 in
     let blocks : IsInBlocks service v 0 = record {
       within = λ i t h. absurd (omega (arith, ap length new.taken));
       joined = λ j. rw (new.taken, new.ran, held) refl;
@@ -50,23 +56,28 @@ follows-new s sizes worker post notes v service p new same =
     record {
       served = record {
         users = same.users_are ∙ sym (ap (λ x. x.share.users) new.last);
-        submitters_alike = sym (length-map service.plans length) ∙ ap length same.sizes_are ∙ sym (ap (λ x. x.share.submitters) new.last);
+        submitters_alike =
+            sym (length-map service.plans length) ∙ ap length same.sizes_are
+            ∙ sym (ap (λ x. x.share.submitters) new.last);
         marks_alike = sym marks_are;
         hot_alike = subst (AreMasksOf service.hot) (sym masks) (All-nil (λ m. m.mask ≡ service.hot m.phase));
         stash_alike = same.stash_is ∙ sym (ap (λ x. x.capacity) new.held);
       };
       sized = record {
         slice = ap length new.slice ∙ length-replicate (length s.pages) 0 ∙ sym pages;
-        users = ap (λ x. length x.last) new.last ∙ length-replicate s.users None ∙ sym (ap (λ x. x.share.users) new.last);
+        users = ap (λ x. length x.last) new.last ∙ length-replicate s.users None
+            ∙ sym (ap (λ x. x.share.users) new.last);
       };
       tallied = record {
         likes = λ page. rw new.ran (omega (arith, nothing page, in_slice page));
         by_phase = λ phase page.
             let none : additions_in v.post phase page ≡ 0 = ap (added_in phase page) additions in
-            let none_kept : cond (phase_at v == phase) (get_or v.slice page 0) 0 ≡ 0 = ap (λ (n : ℕ). cond (phase_at v == phase) n 0) (in_slice page) ∙ cond_same (phase_at v == phase) 0 in
+            let none_kept : cond (phase_at v == phase) (get_or v.slice page 0) 0 ≡ 0 =
+            ap (λ (n : ℕ). cond (phase_at v == phase) n 0) (in_slice page) ∙ cond_same (phase_at v == phase) 0 in
             rw new.ran (omega (arith, none, none_kept));
         looks = ap (shown_in service) new.ran ∙ sym (ap (map (shown_by v.post.additions)) reads);
-        after = subst (All (λ r. r.after ≤ length v.post.additions)) (sym reads) (All-nil (λ r. r.after ≤ length v.post.additions));
+        after = subst (All (λ r. r.after ≤ length v.post.additions)) (sym reads)
+            (All-nil (λ r. r.after ≤ length v.post.additions));
         replies = λ i e h. let k : None ≡ Some e = rw new.ran at h in cc k;
         last = λ user. ap (λ x. last_of x user) new.last ∙ same_everywhere s.users user None ∙ rw new.ran refl;
       };
@@ -88,7 +99,11 @@ follows-new s sizes worker post notes v service p new same =
     }
 
 -- the slice of a worker that is gone is empty
-empty-gone : (v : WorkerView) → v.post.state ≡ state.Gone → IsSliceInSplit v.post v.slice → (page : ℕ) → get_or v.slice page 0 ≡ 0
+empty-gone : (v : WorkerView)
+    → v.post.state ≡ state.Gone
+    → IsSliceInSplit v.post v.slice
+    → (page : ℕ)
+    → get_or v.slice page 0 ≡ 0
 empty-gone v gone s page =
     elim (cases_eq (get_or v.slice page 0) 0) [
       | inl none ↦ none
@@ -100,16 +115,22 @@ empty-gone v gone s page =
       no_split state.Gone e r = r
 
 -- a worker that is gone has done what the plans say
-pub follows-done : (service : Service) (v : WorkerView) → Follows service v → v.post.state ≡ state.Gone → IsSliceInSplit v.post v.slice → IsDone service v
+pub follows-done : (service : Service) (v : WorkerView)
+    → Follows service v
+    → v.post.state ≡ state.Gone
+    → IsSliceInSplit v.post v.slice
+    → IsDone service v
 follows-done service v f gone s =
     let stands = subst (λ x. Stands service v x) gone f.stands in
     let in_phase : (phase page : ℕ) → likes_within service page v.ran phase ≡ additions_in v.post phase page =
     λ phase page.
-    (let none : cond (phase_at v == phase) (get_or v.slice page 0) 0 ≡ 0 = ap (λ (n : ℕ). cond (phase_at v == phase) n 0) (empty-gone v gone s page) ∙ cond_same (phase_at v == phase) 0 in
+    (let none : cond (phase_at v == phase) (get_or v.slice page 0) 0 ≡ 0 =
+    ap (λ (n : ℕ). cond (phase_at v == phase) n 0) (empty-gone v gone s page) ∙ cond_same (phase_at v == phase) 0 in
     f.tallied.by_phase phase page ∙ omega arith)
     in
     record {
-      in_order = sym (append-nil _) ∙ ap (λ hs. map entry_of v.ran ++ map (entry_held (next_joined v)) hs) (sym stands.0) ∙ f.in_order;
+      in_order = sym (append-nil _)
+          ∙ ap (λ hs. map entry_of v.ran ++ map (entry_held (next_joined v)) hs) (sym stands.0) ∙ f.in_order;
       fits = f.fits;
       likes = λ page. f.tallied.likes page ∙ omega (arith, empty-gone v gone s page);
       by_phase = in_phase;
@@ -122,7 +143,8 @@ follows-done service v f gone s =
               each = noted.each;
               plain = noted.plain;
               split = λ phase page is.
-                  one-of_likes service v.post.additions v.post.reads v.adds v.ran phase page noted is (in_phase phase page);
+                  one-of_likes service v.post.additions v.post.reads v.adds v.ran phase page noted is
+                  (in_phase phase page);
             };
             reads = noted.looks;
           });
@@ -132,25 +154,45 @@ follows-done service v f gone s =
     }
 
 -- nothing is tried after an answer other than that it is
-works-pends : (v : WorkerView) (ending : Bool) (answer : Turn) (after : WorkerView) → v.pending ≡ None → Works v ending answer after → Pends answer after
+works-pends : (v : WorkerView) (ending : Bool) (answer : Turn) (after : WorkerView)
+    → v.pending ≡ None
+    → Works v ending answer after
+    → Pends answer after
 works-pends v ending answer after none (turns.runs_held first rest j e a run) =
     subst (λ x. Pends x after) (sym a) ((Runs-effects (turns.without_first v rest) first true after run).pending ∙ none)
-works-pends v ending answer after none (turns.retires j e ended a x) = subst (λ y. Pends y after) (sym a) (ap (λ y. y.pending) x ∙ none)
-works-pends v ending answer after none (turns.acknowledges j e ended seen a x) = subst (λ y. Pends y after) (sym a) (ap (λ y. y.pending) x ∙ none)
+works-pends v ending answer after none (turns.retires j e ended a x) =
+    subst (λ y. Pends y after) (sym a) (ap (λ y. y.pending) x ∙ none)
+works-pends v ending answer after none (turns.acknowledges j e ended seen a x) =
+    subst (λ y. Pends y after) (sym a) (ap (λ y. y.pending) x ∙ none)
 works-pends v ending answer after none (turns.tries_joined place j e next seen a x) =
-    subst (λ y. Pends y after) (sym a) (subst (λ y. Pends (turn.Try (submitter_at v place)) y) (sym x) (place, (refl, refl, next.there, next.not_ended)))
-works-pends v ending answer after none (turns.reports now s seen a m x) = subst (λ y. Pends y after) (sym a) (ap (λ y. y.pending) x ∙ (ap (λ y. y.pending) m.1.1 ∙ none))
-works-pends v ending answer after none (turns.idles s seen stuck a x) = subst (λ y. Pends y after) (sym a) (ap (λ y. y.pending) x ∙ none)
+    subst (λ y. Pends y after) (sym a)
+    (subst (λ y. Pends (turn.Try (submitter_at v place)) y) (sym x)
+    (place, (refl, refl, next.there, next.not_ended)))
+works-pends v ending answer after none (turns.reports now s seen a m x) =
+    subst (λ y. Pends y after) (sym a) (ap (λ y. y.pending) x ∙ (ap (λ y. y.pending) m.1.1 ∙ none))
+works-pends v ending answer after none (turns.idles s seen stuck a x) =
+    subst (λ y. Pends y after) (sym a) (ap (λ y. y.pending) x ∙ none)
 works-pends v ending answer after none (turns.tries_split place s seen room next a x) =
-    subst (λ y. Pends y after) (sym a) (subst (λ y. Pends (turn.Try (submitter_at v place)) y) (sym x) (place, (refl, refl, next.there, next.not_ended)))
+    subst (λ y. Pends y after) (sym a)
+    (subst (λ y. Pends (turn.Try (submitter_at v place)) y) (sym x)
+    (place, (refl, refl, next.there, next.not_ended)))
 
-pub turns-pends : (v : WorkerView) (answer : Turn) (after : WorkerView) → v.pending ≡ None → Turns v answer after → Pends answer after
-turns-pends v answer after none (turns.is_gone gone a x) = subst (λ y. Pends y after) (sym a) (ap (λ y. y.pending) x ∙ none)
-turns-pends v answer after none (turns.waits sight here i w a x) = subst (λ y. Pends y after) (sym a) (ap (λ y. y.pending) x ∙ none)
-turns-pends v answer after none (turns.works sight mask here i w x) = works-pends (turns.saw v sight mask) sight.ending answer after none x
+pub turns-pends : (v : WorkerView) (answer : Turn) (after : WorkerView)
+    → v.pending ≡ None
+    → Turns v answer after
+    → Pends answer after
+turns-pends v answer after none (turns.is_gone gone a x) =
+    subst (λ y. Pends y after) (sym a) (ap (λ y. y.pending) x ∙ none)
+turns-pends v answer after none (turns.waits sight here i w a x) =
+    subst (λ y. Pends y after) (sym a) (ap (λ y. y.pending) x ∙ none)
+turns-pends v answer after none (turns.works sight mask here i w x) =
+    works-pends (turns.saw v sight mask) sight.ending answer after none x
 
 -- who answers that it is gone is gone
-works-retired : (v : WorkerView) (ending : Bool) (answer : Turn) (after : WorkerView) → Works v ending answer after → answer ≡ turn.Retired → after.post.state ≡ state.Gone
+works-retired : (v : WorkerView) (ending : Bool) (answer : Turn) (after : WorkerView)
+    → Works v ending answer after
+    → answer ≡ turn.Retired
+    → after.post.state ≡ state.Gone
 works-retired v ending answer after (turns.runs_held first rest j e a run) r = cc (a, r)
 works-retired v ending answer after (turns.retires j e ended a x) r = ap (λ y. y.post.state) x
 works-retired v ending answer after (turns.acknowledges j e ended seen a x) r = cc (a, r)
@@ -159,7 +201,11 @@ works-retired v ending answer after (turns.reports now s seen a m x) r = cc (a, 
 works-retired v ending answer after (turns.idles s seen stuck a x) r = cc (a, r)
 works-retired v ending answer after (turns.tries_split place s seen room next a x) r = cc (a, r)
 
-pub turns-retired : (v : WorkerView) (answer : Turn) (after : WorkerView) → Turns v answer after → answer ≡ turn.Retired → after.post.state ≡ state.Gone
+pub turns-retired : (v : WorkerView) (answer : Turn) (after : WorkerView)
+    → Turns v answer after
+    → answer ≡ turn.Retired
+    → after.post.state ≡ state.Gone
 turns-retired v answer after (turns.is_gone gone a x) r = ap (λ y. y.post.state) x ∙ gone
 turns-retired v answer after (turns.waits sight here i w a x) r = cc (a, r)
-turns-retired v answer after (turns.works sight mask here i w x) r = works-retired (turns.saw v sight mask) sight.ending answer after x r
+turns-retired v answer after (turns.works sight mask here i w x) r =
+    works-retired (turns.saw v sight mask) sight.ending answer after x r

@@ -6,9 +6,13 @@ use Rattle.like_crew.specs.Steps.{IsRound}
 use Rattle.like_run.specs.Script.{Makes, MakesAll, MakesRounds}
 
 -- one entry more is made
-pub makes-more : {I : Type 0} (script : List Turned) (entry : Turned) (b c d : Crew I) → MakesAll script b c → Makes entry c d → MakesAll (script ++ entry ∷ []) b d
+pub makes-more : {I : Type 0} (script : List Turned) (entry : Turned) (b c d : Crew I)
+    → MakesAll script b c
+    → Makes entry c d
+    → MakesAll (script ++ entry ∷ []) b d
 makes-more [] entry b c d same step = (d, (subst (λ x. Makes entry x d) same step, refl))
-makes-more (first ∷ script) entry b c d made step = (made.0, (made.1.0, makes-more script entry made.0 c d made.1.1 step))
+makes-more (first ∷ script) entry b c d made step =
+    (made.0, (made.1.0, makes-more script entry made.0 c d made.1.1 step))
 
 -- one round more
 pub rounds-more : {I : Type 0} (n : ℕ) (b c d : Crew I) → MakesRounds n b c → IsRound c d → MakesRounds (suc n) b d

@@ -4,7 +4,8 @@ use Rattle.std.proofs.lemmas.Bool.{cases_lt}
 use Rattle.std.proofs.lemmas.Option.{get_or_from_slice_get, slice_get_within}
 use Rattle.like_records.specs.First.{IsFirstBad}
 
-module _ {X : Type 0} (P : X → Type 0) (xs : List X) (at : ℕ) (x : X) (before : (k : ℕ) (d : X) → k < at → P (get_or xs k d)) (found : slice_get xs at ≡ Some x) where
+module _ {X : Type 0} (P : X → Type 0) (xs : List X) (at : ℕ) (x : X)
+    (before : (k : ℕ) (d : X) → k < at → P (get_or xs k d)) (found : slice_get xs at ≡ Some x) where
   -- it holds of one more
   pub holds-more : P x → (k : ℕ) (d : X) → k < at + 1 → P (get_or xs k d)
   holds-more good k d below =

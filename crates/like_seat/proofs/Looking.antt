@@ -17,13 +17,18 @@ same-masks : (masks : List PhaseMask) (from to mask : ℕ) → to ≡ from → m
 same-masks masks from to mask same = cond-true (to == from) masks (masks_entered masks to mask) (eq-eqb to from same)
 
 -- a look that leaves the state leaves the masks
-saw-same : (post : PostView) (sight : Sight) (mask : ℕ) → seen post.state sight ≡ post.state → saw_at post sight mask ≡ looked_at post sight
+saw-same : (post : PostView) (sight : Sight) (mask : ℕ)
+    → seen post.state sight ≡ post.state
+    → saw_at post sight mask ≡ looked_at post sight
 saw-same post sight mask same =
-    let masks = same-masks post.masks (phase_of post.state) (phase_of (seen post.state sight)) mask (ap phase_of same) in
+    let masks = same-masks post.masks (phase_of post.state) (phase_of (seen post.state sight)) mask
+    (ap phase_of same) in
     λ m. record (looked_at post sight) { masks = masks m }
 
 -- who waits stays
-pub saw-waiting : (post : PostView) (sight : Sight) (mask : ℕ) → sight.waits ≡ true → saw_at post sight mask ≡ looked_at post sight
+pub saw-waiting : (post : PostView) (sight : Sight) (mask : ℕ)
+    → sight.waits ≡ true
+    → saw_at post sight mask ≡ looked_at post sight
 saw-waiting post sight mask waits = saw-same post sight mask (by_state post.state)
   where
     by_state : (s : WorkerState) → seen s sight ≡ s
@@ -35,21 +40,32 @@ saw-waiting post sight mask waits = saw-same post sight mask (by_state post.stat
 pub saw-next : (post : PostView) (sight : Sight) (mask k : ℕ) → post.state ≡ state.Answered k → sight.waits ≡ false
     → saw_at post sight mask ≡ record (looked_at post sight) { masks = masks_entered post.masks (k + 1) mask }
 saw-next post sight mask k is goes =
-    let number : phase_of (seen post.state sight) ≡ k + 1 = ap (λ s. phase_of (seen s sight)) is ∙ ap (λ (b : Bool). phase_of (cond b (state.Answered k) (state.Runs (k + 1)))) goes in
+    let number : phase_of (seen post.state sight) ≡ k + 1 =
+    ap (λ s. phase_of (seen s sight)) is
+    ∙ ap (λ (b : Bool). phase_of (cond b (state.Answered k) (state.Runs (k + 1)))) goes in
     let from : phase_of post.state ≡ k = ap phase_of is in
-    let other : (phase_of (seen post.state sight) == phase_of post.state) ≡ false = ne_eqb _ _ (λ same. absurd (omega arith)) in
-    let masks : masks_in post.masks (phase_of post.state) (phase_of (seen post.state sight)) mask ≡ masks_entered post.masks (k + 1) mask =
-    cond-false (phase_of (seen post.state sight) == phase_of post.state) post.masks (masks_entered post.masks (phase_of (seen post.state sight)) mask) other ∙ ap (λ (n : ℕ). masks_entered post.masks n mask) number in
+    let other : (phase_of (seen post.state sight) == phase_of post.state) ≡ false =
+    ne_eqb _ _ (λ same. absurd (omega arith)) in
+    let masks : masks_in post.masks (phase_of post.state) (phase_of (seen post.state sight)) mask
+    ≡ masks_entered post.masks (k + 1) mask =
+    cond-false (phase_of (seen post.state sight) == phase_of post.state) post.masks
+    (masks_entered post.masks (phase_of (seen post.state sight)) mask) other
+    ∙ ap (λ (n : ℕ). masks_entered post.masks n mask) number in
     λ m. record (looked_at post sight) { masks = masks m }
 
 -- a slice is in a split phase after a look, too
-pub splits-after : (post : PostView) (slice : List ℕ) (sight : Sight) (mask : ℕ) → IsSliceInSplit post slice → IsSliceInSplit (saw_at post sight mask) slice
+pub splits-after : (post : PostView) (slice : List ℕ) (sight : Sight) (mask : ℕ)
+    → IsSliceInSplit post slice
+    → IsSliceInSplit (saw_at post sight mask) slice
 splits-after post slice sight mask kept page some = by_state post.state refl (kept page some).0
   where
-    by_state : (s : WorkerState) → post.state ≡ s → RunsSplit s → RunsSplit (saw_at post sight mask).state × (slices (saw_at post sight mask) page ≡ true)
+    by_state : (s : WorkerState) → post.state ≡ s → RunsSplit s
+        → RunsSplit (saw_at post sight mask).state × (slices (saw_at post sight mask) page ≡ true)
     by_state (state.Runs k) is odd =
         let seen_is : seen post.state sight ≡ post.state = ap (λ s. seen s sight) is ∙ sym is in
-        let saw_is : saw_at post sight mask ≡ record post { last = Some sight; looks = post.looks + 1 } = saw-same post sight mask seen_is ∙ (λ m. record post { state = seen_is m; last = Some sight; looks = post.looks + 1 }) in
+        let saw_is : saw_at post sight mask ≡ record post { last = Some sight; looks = post.looks + 1 } =
+        saw-same post sight mask seen_is
+        ∙ (λ m. record post { state = seen_is m; last = Some sight; looks = post.looks + 1 }) in
         subst (λ (p : PostView). RunsSplit p.state × (slices p page ≡ true)) (sym saw_is) (kept page some)
     by_state (state.Answered k) is odd = absurd odd
     by_state state.Gone is odd = absurd odd
@@ -58,21 +74,30 @@ splits-after post slice sight mask kept page some = by_state post.state refl (ke
 pub has-after : (post : PostView) (sight : Sight) (mask : ℕ) → HasPhaseMask post → HasPhaseMask (saw_at post sight mask)
 has-after post sight mask has = by_state post.state refl
   where
-    entered : (k : ℕ) → post.state ≡ state.Answered k → (waits : Bool) → sight.waits ≡ waits → HasPhaseMask (saw_at post sight mask)
+    entered : (k : ℕ) → post.state ≡ state.Answered k → (waits : Bool) → sight.waits ≡ waits
+        → HasPhaseMask (saw_at post sight mask)
     entered k is true w =
-        let s : seen post.state sight ≡ state.Answered k = ap (λ s. seen s sight) is ∙ ap (λ (b : Bool). cond b (state.Answered k) (state.Runs (k + 1))) w in
+        let s : seen post.state sight ≡ state.Answered k =
+        ap (λ s. seen s sight) is ∙ ap (λ (b : Bool). cond b (state.Answered k) (state.Runs (k + 1))) w in
         λ runs. absurd (subst RunsSplit s runs)
     entered k is false w =
-        let s : seen post.state sight ≡ state.Runs (k + 1) = ap (λ s. seen s sight) is ∙ ap (λ (b : Bool). cond b (state.Answered k) (state.Runs (k + 1))) w in
-        let masks : (saw_at post sight mask).masks ≡ masks_entered post.masks (k + 1) mask = ap (λ (p : PostView). p.masks) (saw-next post sight mask k is w) in
+        let s : seen post.state sight ≡ state.Runs (k + 1) =
+        ap (λ s. seen s sight) is ∙ ap (λ (b : Bool). cond b (state.Answered k) (state.Runs (k + 1))) w in
+        let masks : (saw_at post sight mask).masks ≡ masks_entered post.masks (k + 1) mask =
+        ap (λ (p : PostView). p.masks) (saw-next post sight mask k is w) in
         subst (λ x. RunsSplit x → HasMask (phase_of x) (saw_at post sight mask).masks) (sym s)
-        (λ odd. subst (HasMask (k + 1)) (sym (masks ∙ cond-true ((k + 1) % 2 == 1) (record { phase = k + 1; mask = mask } ∷ post.masks) post.masks (eq-eqb ((k + 1) % 2) 1 odd)))
-        (ap (λ (b : Bool). b || list_any (λ (m : PhaseMask). m.phase == (k + 1)) post.masks) (eq-eqb (k + 1) (k + 1) refl)))
+        (λ odd. subst (HasMask (k + 1))
+        (sym (masks ∙ cond-true ((k + 1) % 2 == 1) (record { phase = k + 1; mask = mask } ∷ post.masks) post.masks
+        (eq-eqb ((k + 1) % 2) 1 odd)))
+        (ap (λ (b : Bool). b || list_any (λ (m : PhaseMask). m.phase == (k + 1)) post.masks)
+        (eq-eqb (k + 1) (k + 1) refl)))
 
     by_state : (s : WorkerState) → post.state ≡ s → HasPhaseMask (saw_at post sight mask)
     by_state (state.Runs k) is =
         let seen_is : seen post.state sight ≡ post.state = ap (λ s. seen s sight) is ∙ sym is in
-        let saw_is : saw_at post sight mask ≡ record post { last = Some sight; looks = post.looks + 1 } = saw-same post sight mask seen_is ∙ (λ m. record post { state = seen_is m; last = Some sight; looks = post.looks + 1 }) in
+        let saw_is : saw_at post sight mask ≡ record post { last = Some sight; looks = post.looks + 1 } =
+        saw-same post sight mask seen_is
+        ∙ (λ m. record post { state = seen_is m; last = Some sight; looks = post.looks + 1 }) in
         subst (λ (p : PostView). HasPhaseMask p) (sym saw_is) has
     by_state (state.Answered k) is = entered k is sight.waits refl
     by_state state.Gone is =

@@ -18,10 +18,13 @@ pub all_added-push : (xs : List Addition) (a : Addition) → all_added (xs ++ a 
 all_added-push xs a = sum_by-append (λ (b : Addition). b.likes) xs (a ∷ []) ∙ omega arith
 
 -- the merge of a page leaves the number of likes
-pub merged_page-likes : {W : Type 0} (s : SeatView W) (page old : ℕ) → page < length s.slice → likes_of (merged_page s page old) ≡ likes_of s
+pub merged_page-likes : {W : Type 0} (s : SeatView W) (page old : ℕ)
+    → page < length s.slice
+    → likes_of (merged_page s page old) ≡ likes_of s
 merged_page-likes s page old there =
     let likes : ℕ = get_or s.slice page 0 in
-    let less : sum (merged_page s page old).slice + likes ≡ sum s.slice = omega (arith, sum_by-set (λ x. x) s.slice page 0 0 there) in
+    let less : sum (merged_page s page old).slice + likes ≡ sum s.slice =
+    omega (arith, sum_by-set (λ x. x) s.slice page 0 0 there) in
     let more = all_added-push s.post.additions (record { phase = phase_at s; page = page; old = old; likes = likes }) in
     omega (arith, less, more)
 
@@ -44,44 +47,58 @@ module _ (test : ℕ → Bool) (phase : ℕ) (slice : List ℕ) (page : ℕ) whe
   counts a = cond (test a.phase && (a.page == page)) a.likes 0
 
   -- an addition of 0 may be left out
-  counts_some : (n : ℕ) (none : Bool) → (get_or slice n 0 == 0) ≡ none → sum_by counts (cond (not none) (slice_addition phase slice n ∷ []) []) ≡ cond (test phase && (n == page)) (get_or slice n 0) 0
+  counts_some : (n : ℕ) (none : Bool) → (get_or slice n 0 == 0) ≡ none
+      → sum_by counts (cond (not none) (slice_addition phase slice n ∷ []) [])
+      ≡ cond (test phase && (n == page)) (get_or slice n 0) 0
   counts_some n true is =
       let zero_is : get_or slice n 0 ≡ 0 = eqb-true (get_or slice n 0) 0 is in
       sym (ap (λ (k : ℕ). cond (test phase && (n == page)) k 0) zero_is ∙ cond_same (test phase && (n == page)) 0)
   counts_some n false is = sum_by-cons counts (slice_addition phase slice n) [] ∙ omega arith
 
   -- the number of the page itself, where n is that page
-  counts_here : (n : ℕ) → cond (test phase && (n == page)) (get_or slice n 0) 0 ≡ cond ((page == n) && test phase) (get_or slice page 0) 0
+  counts_here : (n : ℕ)
+      → cond (test phase && (n == page)) (get_or slice n 0) 0 ≡ cond ((page == n) && test phase) (get_or slice page 0) 0
   counts_here n =
       elim (cases_eq n page) [
         | inl same ↦
-            let P : Bool → Type 0 = λ t. cond (t && (n == page)) (get_or slice n 0) 0 ≡ cond ((page == n) && t) (get_or slice page 0) 0 in
-            let yes : P true = (λ m. cond (eq-eqb n page same m) (get_or slice (same m) 0) 0) ∙ sym (λ m. cond (eq-eqb page n (sym same) m && true) (get_or slice page 0) 0) in
+            let P : Bool → Type 0 =
+            λ t. cond (t && (n == page)) (get_or slice n 0) 0 ≡ cond ((page == n) && t) (get_or slice page 0) 0 in
+            let yes : P true =
+            (λ m. cond (eq-eqb n page same m) (get_or slice (same m) 0) 0)
+            ∙ sym (λ m. cond (eq-eqb page n (sym same) m && true) (get_or slice page 0) 0) in
             let nay : P false = sym (λ m. cond (eq-eqb page n (sym same) m && false) (get_or slice page 0) 0) in
             elim (test phase) as P [ true ↦ yes | false ↦ nay ]
         | inr other ↦
-            let P : Bool → Type 0 = λ t. cond (t && (n == page)) (get_or slice n 0) 0 ≡ cond ((page == n) && t) (get_or slice page 0) 0 in
-            let away : (t : Bool) → cond ((page == n) && t) (get_or slice page 0) 0 ≡ 0 = λ t. ap (λ (b : Bool). cond (b && t) (get_or slice page 0) 0) (ne_eqb page n (λ e. other (sym e))) in
+            let P : Bool → Type 0 =
+            λ t. cond (t && (n == page)) (get_or slice n 0) 0 ≡ cond ((page == n) && t) (get_or slice page 0) 0 in
+            let away : (t : Bool) → cond ((page == n) && t) (get_or slice page 0) 0 ≡ 0 =
+            λ t. ap (λ (b : Bool). cond (b && t) (get_or slice page 0) 0) (ne_eqb page n (λ e. other (sym e))) in
             let yes : P true = ap (λ (b : Bool). cond b (get_or slice n 0) 0) (ne_eqb n page other) ∙ sym (away true) in
             let nay : P false = sym (away false) in
             elim (test phase) as P [ true ↦ yes | false ↦ nay ]
       ]
 
   -- the additions of the first pages count for the page, where it is one of them
-  merging-counts : (n : ℕ) → sum_by counts (merging phase slice n) ≡ cond (nat_lt page n && test phase) (get_or slice page 0) 0
-  merging-counts zero = sym (ap (λ (b : Bool). cond (b && test phase) (get_or slice page 0) 0) (le-ltb page 0 (omega arith)))
+  merging-counts : (n : ℕ)
+      → sum_by counts (merging phase slice n) ≡ cond (nat_lt page n && test phase) (get_or slice page 0) 0
+  merging-counts zero =
+      sym (ap (λ (b : Bool). cond (b && test phase) (get_or slice page 0) 0) (le-ltb page 0 (omega arith)))
   merging-counts (suc n) =
       let e : suc n ≡ n + 1 = omega arith in
       let more = merging-next phase slice n in
-      let both = sum_by-append counts (merging phase slice n) (cond (not (get_or slice n 0 == 0)) (slice_addition phase slice n ∷ []) []) in
+      let both = sum_by-append counts (merging phase slice n)
+      (cond (not (get_or slice n 0 == 0)) (slice_addition phase slice n ∷ []) []) in
       let last = counts_some n (get_or slice n 0 == 0) refl ∙ counts_here n in
       let before = merging-counts n in
       let next = one_before-next page n (get_or slice page 0) (test phase) in
-      let goes : sum_by counts (merging phase slice (n + 1)) ≡ cond (nat_lt page (n + 1) && test phase) (get_or slice page 0) 0 = ap (sum_by counts) more ∙ omega arith in
-      subst (λ (k : ℕ). sum_by counts (merging phase slice k) ≡ cond (nat_lt page k && test phase) (get_or slice page 0) 0) (sym e) goes
+      let goes : sum_by counts (merging phase slice (n + 1))
+      ≡ cond (nat_lt page (n + 1) && test phase) (get_or slice page 0) 0 = ap (sum_by counts) more ∙ omega arith in
+      subst (λ (k : ℕ). sum_by counts (merging phase slice k)
+      ≡ cond (nat_lt page k && test phase) (get_or slice page 0) 0) (sym e) goes
 
   -- those of all pages count what the slice has of the page
-  pub merging-all : (n : ℕ) → length slice ≡ n → sum_by counts (merging phase slice n) ≡ cond (test phase) (get_or slice page 0) 0
+  pub merging-all : (n : ℕ) → length slice ≡ n
+      → sum_by counts (merging phase slice n) ≡ cond (test phase) (get_or slice page 0) 0
   merging-all n sized =
       merging-counts n ∙
       elim (cases_lt page n) [
@@ -93,38 +110,51 @@ module _ (test : ℕ → Bool) (phase : ℕ) (slice : List ℕ) (page : ℕ) whe
       ]
 
 -- a sum over additions that does not look at their counts
-sum-from_zero : (f : Addition → ℕ) → ((a : Addition) → f (from_zero a) ≡ f a) → (adds : List Addition) → sum_by f adds ≡ sum_by f (map from_zero adds)
+sum-from_zero : (f : Addition → ℕ)
+    → ((a : Addition) → f (from_zero a) ≡ f a)
+    → (adds : List Addition)
+    → sum_by f adds ≡ sum_by f (map from_zero adds)
 sum-from_zero f same [] = refl
 sum-from_zero f same (a ∷ adds) =
     let here = same a in
     let rest = sum-from_zero f same adds in
     omega (arith, sum_by-cons f a adds, sum_by-cons f (from_zero a) (map from_zero adds))
 
-module _ {W : Type 0} (s : SeatView W) (adds : List Addition) (merges : Merges (phase_at s) s.slice (pages_of s.post) adds) (sized : length s.slice ≡ pages_of s.post) where
+module _ {W : Type 0} (s : SeatView W) (adds : List Addition)
+    (merges : Merges (phase_at s) s.slice (pages_of s.post) adds) (sized : length s.slice ≡ pages_of s.post) where
   -- a page has as many likes after a merge as before, added and in the slice
   pub merged-tally : (page : ℕ) → tally_of (merged s adds) page ≡ tally_of s page
   merged-tally page =
       let f : Addition → ℕ = λ a. cond (a.page == page) a.likes 0 in
       let none : get_or (merged s adds).slice page 0 ≡ 0 = same_everywhere (pages_of s.post) page 0 in
       let all = merging-all (λ _. true) (phase_at s) s.slice page (pages_of s.post) sized in
-      let new : sum_by f adds ≡ sum_by f (merging (phase_at s) s.slice (pages_of s.post)) = sum-from_zero f (λ a. refl) adds ∙ ap (sum_by f) merges in
+      let new : sum_by f adds ≡ sum_by f (merging (phase_at s) s.slice (pages_of s.post)) =
+      sum-from_zero f (λ a. refl) adds ∙ ap (sum_by f) merges in
       let more = sum_by-append f s.post.additions adds in
       omega arith
 
   -- and in each phase
-  pub merged-in : (phase page : ℕ) → additions_in (merged s adds).post phase page + cond (phase_at s == phase) (get_or (merged s adds).slice page 0) 0
+  pub merged-in : (phase page : ℕ)
+      → additions_in (merged s adds).post phase page
+      + cond (phase_at s == phase) (get_or (merged s adds).slice page 0) 0
       ≡ additions_in s.post phase page + cond (phase_at s == phase) (get_or s.slice page 0) 0
   merged-in phase page =
       let f : Addition → ℕ = λ a. cond ((a.phase == phase) && (a.page == page)) a.likes 0 in
       let none : cond (phase_at s == phase) (get_or (merged s adds).slice page 0) 0 ≡ 0 =
-      ap (λ (k : ℕ). cond (phase_at s == phase) k 0) (same_everywhere (pages_of s.post) page 0) ∙ cond_same (phase_at s == phase) 0
+      ap (λ (k : ℕ). cond (phase_at s == phase) k 0) (same_everywhere (pages_of s.post) page 0)
+      ∙ cond_same (phase_at s == phase) 0
       in
       let all = merging-all (λ k. k == phase) (phase_at s) s.slice page (pages_of s.post) sized in
-      let new : sum_by f adds ≡ sum_by f (merging (phase_at s) s.slice (pages_of s.post)) = sum-from_zero f (λ a. refl) adds ∙ ap (sum_by f) merges in
+      let new : sum_by f adds ≡ sum_by f (merging (phase_at s) s.slice (pages_of s.post)) =
+      sum-from_zero f (λ a. refl) adds ∙ ap (sum_by f) merges in
       let more = sum_by-append f s.post.additions adds in
       omega arith
 
 -- so it is of each page where a slice is merged
-pub IsMerged-tally : {W : Type 0} (s t : SeatView W) → IsMerged s t → length s.slice ≡ pages_of s.post → (page : ℕ) → tally_of t page ≡ tally_of s page
+pub IsMerged-tally : {W : Type 0} (s t : SeatView W)
+    → IsMerged s t
+    → length s.slice ≡ pages_of s.post
+    → (page : ℕ)
+    → tally_of t page ≡ tally_of s page
 IsMerged-tally {W} s t m sized page =
     ap (λ (u : SeatView W). tally_of u page) m.1.1 ∙ merged-tally s m.0 m.1.0 sized page

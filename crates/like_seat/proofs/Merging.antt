@@ -19,7 +19,11 @@ splits-empty post slice none page some =
     ] in absurd (some empty)
 
 -- a seat that has merged its slice may answer
-pub IsKept-reported : {W : Type 0} (post new : PostView) (t : Tables W) (phase : ℕ) → IsKept post t → AreUnliked t.slice 0 (length t.slice) → phase ≡ phase_of t.state → new ≡ answered post
+pub IsKept-reported : {W : Type 0} (post new : PostView) (t : Tables W) (phase : ℕ)
+    → IsKept post t
+    → AreUnliked t.slice 0 (length t.slice)
+    → phase ≡ phase_of t.state
+    → new ≡ answered post
     → IsKept new (record t { state = Answered phase })
 IsKept-reported post new t phase k none is e =
     subst (λ p. IsKept p (record t { state = Answered phase })) (sym e) (record {

@@ -11,24 +11,40 @@ use Rattle.like_seat.specs.SeatView.{SeatView, phase_at}
 use Rattle.like_seat.specs.Steps.{merged_page}
 
 -- the additions that merge one page more
-pub merging-next : (phase : ℕ) (slice : List ℕ) (n : ℕ) → merging phase slice (n + 1) ≡ merging phase slice n ++ cond (not (get_or slice n 0 == 0)) (slice_addition phase slice n ∷ []) []
-merging-next phase slice n = filter_of_map_range_with_len_more (λ (a : Addition). not (a.likes == 0)) (slice_addition phase slice) 0 n n (omega arith)
+pub merging-next : (phase : ℕ) (slice : List ℕ) (n : ℕ)
+    → merging phase slice (n + 1)
+    ≡ merging phase slice n ++ cond (not (get_or slice n 0 == 0)) (slice_addition phase slice n ∷ []) []
+merging-next phase slice n =
+    filter_of_map_range_with_len_more (λ (a : Addition). not (a.likes == 0)) (slice_addition phase slice) 0 n n
+    (omega arith)
 
 -- where its number is not 0
-pub merging-more : (phase : ℕ) (slice : List ℕ) (n : ℕ) → get_or slice n 0 ≢ 0 → merging phase slice (n + 1) ≡ merging phase slice n ++ slice_addition phase slice n ∷ []
+pub merging-more : (phase : ℕ) (slice : List ℕ) (n : ℕ)
+    → get_or slice n 0 ≢ 0
+    → merging phase slice (n + 1) ≡ merging phase slice n ++ slice_addition phase slice n ∷ []
 merging-more phase slice n liked =
     merging-next phase slice n
-    ∙ ap (λ (b : Bool). merging phase slice n ++ cond (not b) (slice_addition phase slice n ∷ []) []) (ne_eqb (get_or slice n 0) 0 liked)
+    ∙ ap (λ (b : Bool). merging phase slice n ++ cond (not b) (slice_addition phase slice n ∷ []) [])
+    (ne_eqb (get_or slice n 0) 0 liked)
 
 -- or is
-pub merging-none : (phase : ℕ) (slice : List ℕ) (n : ℕ) → get_or slice n 0 ≡ 0 → merging phase slice (n + 1) ≡ merging phase slice n
+pub merging-none : (phase : ℕ) (slice : List ℕ) (n : ℕ)
+    → get_or slice n 0 ≡ 0
+    → merging phase slice (n + 1) ≡ merging phase slice n
 merging-none phase slice n none =
     merging-next phase slice n
-    ∙ (ap (λ (b : Bool). merging phase slice n ++ cond (not b) (slice_addition phase slice n ∷ []) []) (eq-eqb (get_or slice n 0) 0 none)
+    ∙ (ap (λ (b : Bool). merging phase slice n ++ cond (not b) (slice_addition phase slice n ∷ []) [])
+    (eq-eqb (get_or slice n 0) 0 none)
     ∙ append-nil (merging phase slice n))
 
 -- what stands below n + 1 after a write at n
-below : (xs : List ℕ) (n x : ℕ) (f : ℕ → ℕ) → n < length xs → f n ≡ x → ((i : ℕ) → i < n → get_or xs i 0 ≡ f i) → (i : ℕ) → i < n + 1 → get_or (set xs n x) i 0 ≡ f i
+below : (xs : List ℕ) (n x : ℕ) (f : ℕ → ℕ)
+    → n < length xs
+    → f n ≡ x
+    → ((i : ℕ) → i < n → get_or xs i 0 ≡ f i)
+    → (i : ℕ)
+    → i < n + 1
+    → get_or (set xs n x) i 0 ≡ f i
 below xs n x f within here before i h =
     elim (cases_lt i n) [
       | inl earlier ↦ get_or-set_other xs n i x 0 (λ e. absurd (omega arith)) ∙ before i earlier
@@ -38,7 +54,11 @@ below xs n x f within here before i h =
     ]
 
 -- what stands above n after a write at n
-above : (xs ys : List ℕ) (n x : ℕ) → ((i : ℕ) → n ≤ i → get_or xs i 0 ≡ get_or ys i 0) → (i : ℕ) → n + 1 ≤ i → get_or (set xs n x) i 0 ≡ get_or ys i 0
+above : (xs ys : List ℕ) (n x : ℕ)
+    → ((i : ℕ) → n ≤ i → get_or xs i 0 ≡ get_or ys i 0)
+    → (i : ℕ)
+    → n + 1 ≤ i
+    → get_or (set xs n x) i 0 ≡ get_or ys i 0
 above xs ys n x after i h = get_or-set_other xs n i x 0 (λ e. absurd (omega arith)) ∙ after i (omega arith)
 
 -- a list of zeros
@@ -79,7 +99,8 @@ module _ {W : Type 0} where
       record { phase = phase_at s; page = page; old = old; likes = get_or s.slice page 0 }
 
   -- the next page is merged, where its count was this
-  pub Merging-page : (s0 s t : SeatView W) (n old : ℕ) (adds : List Addition) → Merging s0 s n adds → n < length s.slice → get_or s.slice n 0 ≢ 0 → t ≡ merged_page s n old
+  pub Merging-page : (s0 s t : SeatView W) (n old : ℕ) (adds : List Addition) → Merging s0 s n adds → n < length s.slice
+      → get_or s.slice n 0 ≢ 0 → t ≡ merged_page s n old
       → Merging s0 t (n + 1) (adds ++ merge_of s n old ∷ [])
   Merging-page s0 s t n old adds m inside liked is =
       let new : Addition = merge_of s n old in
@@ -94,7 +115,12 @@ module _ {W : Type 0} where
         merges = map-append from_zero adds (new ∷ []) ∙ ((λ k. m.merges k ++ zero_is k ∷ []) ∙ sym more);
         rest =
             ap {A = SeatView W} (λ x. merged_with x (new ∷ []) (set s.slice n 0)) m.rest
-            ∙ (λ k. record s0 { post = record s0.post { additions = append_assoc s0.post.additions adds (new ∷ []) k }; slice = set s.slice n 0 });
+            ∙ (λ k. record s0 {
+              post =
+                  record s0.post { additions = append_assoc s0.post.additions adds (new ∷ []) k };
+              slice =
+                  set s.slice n 0;
+            });
         sized = length-set s.slice n 0 ∙ m.sized;
         emptied = below s.slice n 0 (λ _. 0) inside refl m.emptied;
         left = above s.slice s0.slice n 0 m.left;
@@ -102,7 +128,8 @@ module _ {W : Type 0} where
       in subst (λ x. Merging s0 x (n + 1) (adds ++ new ∷ [])) (sym is) walks
 
   -- there is nothing to merge of a page that has no like
-  Merging-none : (s0 s : SeatView W) (n : ℕ) (adds : List Addition) → Merging s0 s n adds → get_or s.slice n 0 ≡ 0 → Merging s0 s (n + 1) adds
+  Merging-none : (s0 s : SeatView W) (n : ℕ) (adds : List Addition) → Merging s0 s n adds → get_or s.slice n 0 ≡ 0
+      → Merging s0 s (n + 1) adds
   Merging-none s0 s n adds m none =
       let is : get_or s0.slice n 0 ≡ 0 = sym (m.left n (omega arith)) ∙ none in
       record {
@@ -117,33 +144,42 @@ module _ {W : Type 0} where
       }
 
   -- nor of so many of them
-  unliked_next : (s0 s : SeatView W) (n more : ℕ) (adds : List Addition) → Merging s0 s n adds → AreUnliked s.slice n (n + more) → Merging s0 s (n + more) adds
+  unliked_next : (s0 s : SeatView W) (n more : ℕ) (adds : List Addition) → Merging s0 s n adds
+      → AreUnliked s.slice n (n + more) → Merging s0 s (n + more) adds
   unliked_next s0 s n zero adds m none = subst (λ k. Merging s0 s k adds) (omega arith) m
   unliked_next s0 s n (suc more) adds m none =
       let first = Merging-none s0 s n adds m (none n (omega arith) (omega arith)) in
-      subst (λ k. Merging s0 s k adds) (omega arith) (unliked_next s0 s (n + 1) more adds first (λ page low high. none page (omega arith) (omega arith)))
+      subst (λ k. Merging s0 s k adds) (omega arith)
+      (unliked_next s0 s (n + 1) more adds first (λ page low high. none page (omega arith) (omega arith)))
 
-  pub Merging-unliked : (s0 s : SeatView W) (n k : ℕ) (adds : List Addition) → Merging s0 s n adds → n ≤ k → AreUnliked s.slice n k → Merging s0 s k adds
+  pub Merging-unliked : (s0 s : SeatView W) (n k : ℕ) (adds : List Addition) → Merging s0 s n adds → n ≤ k
+      → AreUnliked s.slice n k → Merging s0 s k adds
   Merging-unliked s0 s n k adds m up none =
       let same : n + (k - n) ≡ k = omega arith in
-      subst (λ j. Merging s0 s j adds) same (unliked_next s0 s n (k - n) adds m (λ page low high. none page low (omega arith)))
+      subst (λ j. Merging s0 s j adds) same
+      (unliked_next s0 s n (k - n) adds m (λ page low high. none page low (omega arith)))
 
   -- all pages are merged
-  pub Merging-end : (s0 s : SeatView W) (adds : List Addition) → Merging s0 s (pages_of s0.post) adds → length s0.slice ≡ pages_of s0.post → s ≡ merged s0 adds
+  pub Merging-end : (s0 s : SeatView W) (adds : List Addition) → Merging s0 s (pages_of s0.post) adds
+      → length s0.slice ≡ pages_of s0.post → s ≡ merged s0 adds
   Merging-end s0 s adds m pages =
       let slice : s.slice ≡ replicate (pages_of s0.post) 0 =
       zeros s.slice (λ i k. m.emptied i (omega (arith, m.sized, pages))) ∙ ap (λ n. replicate n 0) (m.sized ∙ pages) in
       m.rest ∙ ap (merged_with s0 adds) slice
 
   -- a page is merged, and those before it that have no like
-  pub Merging-next : (s0 s t : SeatView W) (from page old : ℕ) (adds : List Addition) → Merging s0 s from adds → IsNextLiked s.slice from page → t ≡ merged_page s page old
+  pub Merging-next : (s0 s t : SeatView W) (from page old : ℕ) (adds : List Addition) → Merging s0 s from adds
+      → IsNextLiked s.slice from page → t ≡ merged_page s page old
       → Merging s0 t (page + 1) (adds ++ merge_of s page old ∷ [])
   Merging-next s0 s t from page old adds m next is =
-      Merging-page s0 s t page old adds (Merging-unliked s0 s from page adds m next.after next.least) next.there next.liked is
+      Merging-page s0 s t page old adds
+      (Merging-unliked s0 s from page adds m next.after next.least) next.there next.liked is
 
   -- no page is left
-  pub Merging-done : (s0 s t : SeatView W) (from : ℕ) (adds : List Addition) → Merging s0 s from adds → from ≤ length s.slice → AreUnliked s.slice from (length s.slice) → t ≡ s → length s0.slice ≡ pages_of s0.post
+  pub Merging-done : (s0 s t : SeatView W) (from : ℕ) (adds : List Addition) → Merging s0 s from adds
+      → from ≤ length s.slice → AreUnliked s.slice from (length s.slice) → t ≡ s → length s0.slice ≡ pages_of s0.post
       → Merges (phase_at s0) s0.slice (pages_of s0.post) adds × (t ≡ merged s0 adds)
   Merging-done s0 s t from adds m within none is pages =
-      let all = subst (λ k. Merging s0 s k adds) (m.sized ∙ pages) (Merging-unliked s0 s from (length s.slice) adds m within none) in
+      let all = subst (λ k. Merging s0 s k adds) (m.sized ∙ pages)
+      (Merging-unliked s0 s from (length s.slice) adds m within none) in
       (all.merges, is ∙ Merging-end s0 s adds all pages)

@@ -12,7 +12,9 @@ same-lists (x ∷ xs) (y ∷ ys) same =
     rw (first, same-lists xs ys (λ i. same (suc i))) refl
 
 -- the one at a place is that at k + n * place
-pub get-dealt : {A : Type 0} (n k : ℕ) (xs : List A) (place : ℕ) → 1 ≤ n → slice_get (dealt n k xs) place ≡ slice_get xs (k + n * place)
+pub get-dealt : {A : Type 0} (n k : ℕ) (xs : List A) (place : ℕ)
+    → 1 ≤ n
+    → slice_get (dealt n k xs) place ≡ slice_get xs (k + n * place)
 get-dealt n k [] place some = refl
 get-dealt n zero (x ∷ xs) zero some = let first : zero + n * zero ≡ 0 = omega arith in rw first refl
 get-dealt n zero (x ∷ xs) (suc place) some =
@@ -23,16 +25,24 @@ get-dealt n (suc k) (x ∷ xs) place some =
     rw next (get-dealt n k xs place some)
 
 -- a list with the right one at each place is what was dealt
-pub is-dealt : {A : Type 0} (n k : ℕ) (xs own : List A) → 1 ≤ n → ((place : ℕ) → slice_get own place ≡ slice_get xs (k + n * place)) → own ≡ dealt n k xs
+pub is-dealt : {A : Type 0} (n k : ℕ) (xs own : List A)
+    → 1 ≤ n
+    → ((place : ℕ) → slice_get own place ≡ slice_get xs (k + n * place))
+    → own ≡ dealt n k xs
 is-dealt n k xs own some same = same-lists own (dealt n k xs) (λ place. same place ∙ sym (get-dealt n k xs place some))
 
 -- there is one at a place where there is one at k + n * place
-pub there-dealt : {A : Type 0} (n k : ℕ) (xs : List A) (place : ℕ) → 1 ≤ n → (place < length (dealt n k xs)) ↔ (k + n * place < length xs)
+pub there-dealt : {A : Type 0} (n k : ℕ) (xs : List A) (place : ℕ)
+    → 1 ≤ n
+    → (place < length (dealt n k xs)) ↔ (k + n * place < length xs)
 there-dealt n k [] place some = (λ h. absurd (omega (arith, h)), λ h. absurd (omega (arith, h)))
 there-dealt n zero (x ∷ xs) zero some = (λ h. omega arith, λ h. omega arith)
 there-dealt n zero (x ∷ xs) (suc place) some =
-    let later = there-dealt n (n - 1) xs place some in
-    (λ h. let there = later.0 (omega (arith, h)) in omega (arith, there, some), λ h. let there = later.1 (omega (arith, h, some)) in omega (arith, there))
+    let later = there-dealt n (n - 1) xs place some in (
+      λ h. let there = later.0 (omega (arith, h)) in
+          omega (arith, there, some),
+      λ h. let there = later.1 (omega (arith, h, some)) in omega (arith, there),
+    )
 there-dealt n (suc k) (x ∷ xs) place some =
     let later = there-dealt n k xs place some in
     (λ h. let there = later.0 h in omega (arith, there), λ h. later.1 (omega (arith, h)))

@@ -34,21 +34,29 @@ homes-push s homes k more long each is n less =
     ]
 
 -- what is read of the numbers
-read-homes : (s : Share) (homes : List ℕ) (n read : ℕ) → AreHomesBelow s homes → n ≤ s.submitters → read ≡ get_or homes n read
+read-homes : (s : Share) (homes : List ℕ) (n read : ℕ)
+    → AreHomesBelow s homes
+    → n ≤ s.submitters
+    → read ≡ get_or homes n read
     → read ≡ homes_below s n
 read-homes s homes n read k le is = get_or_read homes n read (omega (arith, k.enough)) is 0 ∙ k.below n le
 
 -- the users of whole rounds are no more than the users
-pub read-rounds-le : (s : Share) (homes : List ℕ) (user all : ℕ) → AreHomesBelow s homes → all ≡ get_or homes s.submitters all
+pub read-rounds-le : (s : Share) (homes : List ℕ) (user all : ℕ)
+    → AreHomesBelow s homes
+    → all ≡ get_or homes s.submitters all
     → user / s.submitters * all ≤ user
 read-rounds-le s homes user all k is =
     rw (read-homes s homes s.submitters all k (omega arith) is) (rounds-le s user k.lawful.submitters)
 
 -- with those of the last round they make the user's place
-pub read-place : (s : Share) (homes : List ℕ) (user all some : ℕ) → AreHomesBelow s homes → all ≡ get_or homes s.submitters all
+pub read-place : (s : Share) (homes : List ℕ) (user all some : ℕ)
+    → AreHomesBelow s homes
+    → all ≡ get_or homes s.submitters all
     → some ≡ get_or homes (user % s.submitters) some → user / s.submitters * all + some ≡ owned_below s user
 read-place s homes user all some k is_all is_some =
     let least = k.lawful.submitters in
     let first = read-homes s homes s.submitters all k (omega arith) is_all in
-    let rest = read-homes s homes (user % s.submitters) some k (omega (arith, mod_below user s.submitters (omega arith))) is_some in
+    let rest = read-homes s homes (user % s.submitters) some k
+    (omega (arith, mod_below user s.submitters (omega arith))) is_some in
     rw (first, rest) (owned_below-div s user least)

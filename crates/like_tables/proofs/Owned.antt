@@ -78,7 +78,8 @@ IsRoundedUp-more n w N h small false e r =
     elim (cases_lt n w) [
       | inl below ↦ record { enough = omega arith; tight = omega arith }
       | inr above ↦
-          let apart : n - w ≡ h * N → ⊥ = λ same. other (ap (λ x. x % N) (at_place n w (h * N) above same) ∙ mod-mul-add h N w small) in
+          let apart : n - w ≡ h * N → ⊥ =
+          λ same. other (ap (λ x. x % N) (at_place n w (h * N) above same) ∙ mod-mul-add h N w small) in
           record { enough = omega (arith, apart); tight = omega arith }
     ]
   where
@@ -96,21 +97,31 @@ homes_below-rounded s small =
 -- none of the submitters below the worker's first one
 pub homes_below-few : (s : Share) (n : ℕ) → s.worker < s.workers → n ≤ s.worker → homes_below s n ≡ 0
 homes_below-few s n small few =
-    IsRoundedUp-one (n - s.worker) s.workers _ 0 (homes_below-rounded s small n) (record { enough = omega arith; tight = omega arith })
+    IsRoundedUp-one (n - s.worker) s.workers _ 0 (homes_below-rounded s small n)
+    (record { enough = omega arith; tight = omega arith })
 
 -- so many below the one at a seat as there are seats before it
-pub homes_below-seat : (s : Share) (seat : ℕ) → s.worker < s.workers → homes_below s (seat * s.workers + s.worker) ≡ seat
+pub homes_below-seat : (s : Share) (seat : ℕ)
+    → s.worker < s.workers
+    → homes_below s (seat * s.workers + s.worker) ≡ seat
 homes_below-seat s seat small =
-    IsRoundedUp-one (seat * s.workers + s.worker - s.worker) s.workers _ seat (homes_below-rounded s small _) (record { enough = omega arith; tight = omega arith })
+    IsRoundedUp-one (seat * s.workers + s.worker - s.worker) s.workers _ seat (homes_below-rounded s small _)
+    (record { enough = omega arith; tight = omega arith })
 
 -- all of them, where this seat is the last
 pub homes_below-seats : (s : Share) (seat : ℕ) → s.worker < s.workers → seat * s.workers + s.worker < s.submitters
     → s.submitters ≤ seat * s.workers + s.worker + s.workers → homes_below s s.submitters ≡ seat + 1
 homes_below-seats s seat small some last =
-    IsRoundedUp-one (s.submitters - s.worker) s.workers _ (seat + 1) (homes_below-rounded s small s.submitters) (record { enough = omega arith; tight = omega arith })
+    IsRoundedUp-one (s.submitters - s.worker) s.workers _ (seat + 1) (homes_below-rounded s small s.submitters)
+    (record { enough = omega arith; tight = omega arith })
 
 -- a worker that is not there serves no submitter
-serves-none : (s : Share) (n : ℕ) → 1 ≤ s.workers → s.workers ≤ s.worker → (b : Bool) → serves s n ≡ b → ◌≡◌ {A = ℕ} (cond b 1 0) 0
+serves-none : (s : Share) (n : ℕ)
+    → 1 ≤ s.workers
+    → s.workers ≤ s.worker
+    → (b : Bool)
+    → serves s n ≡ b
+    → ◌≡◌ {A = ℕ} (cond b 1 0) 0
 serves-none s n some large true e =
     absurd (omega (arith, eqb-true (n % s.workers) s.worker e, mod_below n s.workers (omega arith)))
 serves-none s n some large false e = refl
@@ -124,34 +135,41 @@ homes_below-none s n some large =
 next_in_round : (n w : ℕ) → n % w + 1 < w → ((n + 1) / w ≡ n / w) × ((n + 1) % w ≡ n % w + 1)
 next_in_round n w less =
     let whole = div-add-mod' n w in
-    let e : n + 1 ≡ n / w * w + (n % w + 1) = omega arith in
-    (ap (λ x. x / w) e ∙ div-mul-add (n / w) w (n % w + 1) less, ap (λ x. x % w) e ∙ mod-mul-add (n / w) w (n % w + 1) less)
+    let e : n + 1 ≡ n / w * w + (n % w + 1) = omega arith in (
+      ap (λ x. x / w) e ∙ div-mul-add (n / w) w (n % w + 1) less,
+      ap (λ x. x % w) e ∙ mod-mul-add (n / w) w (n % w + 1) less,
+    )
 
 -- the number after n, first of the next round
 next_round : (n w : ℕ) → 1 ≤ w → n % w + 1 ≡ w → ((n + 1) / w ≡ n / w + 1) × ((n + 1) % w ≡ 0)
 next_round n w some last =
     let whole = div-add-mod' n w in
-    let e : n + 1 ≡ (n / w + 1) * w + 0 = omega arith in
-    (ap (λ x. x / w) e ∙ div-mul-add (n / w + 1) w 0 (omega arith), ap (λ x. x % w) e ∙ mod-mul-add (n / w + 1) w 0 (omega arith))
+    let e : n + 1 ≡ (n / w + 1) * w + 0 = omega arith in (
+      ap (λ x. x / w) e ∙ div-mul-add (n / w + 1) w 0 (omega arith),
+      ap (λ x. x % w) e ∙ mod-mul-add (n / w + 1) w 0 (omega arith),
+    )
 
 -- the users below n whose home a worker serves: those of whole rounds over the submitters, and those of the last one
 pub owned_below-div : (s : Share) (n : ℕ) → 1 ≤ s.submitters
     → n / s.submitters * homes_below s s.submitters + homes_below s (n % s.submitters) ≡ owned_below s n
 owned_below-div s n some =
-    let Rounds : ℕ → Type 0 = λ n. n / s.submitters * homes_below s s.submitters + homes_below s (n % s.submitters) ≡ owned_below s n in
+    let Rounds : ℕ → Type 0 =
+    λ n. n / s.submitters * homes_below s s.submitters + homes_below s (n % s.submitters) ≡ owned_below s n in
     below_by Rounds first more n
   where
     first : 0 / s.submitters * homes_below s s.submitters + homes_below s (0 % s.submitters) ≡ owned_below s 0
     first = rw (zero-div, zero-mod, homes_below-zero, owned_below-zero) (omega arith)
 
     more : (n : ℕ) → n / s.submitters * homes_below s s.submitters + homes_below s (n % s.submitters) ≡ owned_below s n
-        → (n + 1) / s.submitters * homes_below s s.submitters + homes_below s ((n + 1) % s.submitters) ≡ owned_below s (n + 1)
+        → (n + 1) / s.submitters * homes_below s s.submitters + homes_below s ((n + 1) % s.submitters)
+        ≡ owned_below s (n + 1)
     more n r =
         let one_more = homes_below-more s (n % s.submitters) in
         elim (cases_order (n % s.submitters + 1) s.submitters) [
           | inl last ↦
               let next = next_round n s.submitters some last in
-              rw (next.0, next.1, homes_below-zero, owned_below-more) (let full = ap (homes_below s) last in omega arith)
+              rw (next.0, next.1, homes_below-zero, owned_below-more)
+              (let full = ap (homes_below s) last in omega arith)
           | inr (inl less) ↦
               let next = next_in_round n s.submitters less in
               rw (next.0, next.1, owned_below-more) (omega arith)
@@ -164,7 +182,8 @@ rounds-le s n some = omega (arith, owned_below-div s n some, owned_below-le s n)
 -- there are no fewer of them below a later user
 pub owned_below-mono : (s : Share) (u v : ℕ) → u ≤ v → owned_below s u ≤ owned_below s v
 owned_below-mono s u v le =
-    below_by (λ v. u ≤ v → owned_below s u ≤ owned_below s v) (λ h. let e : u ≡ 0 = omega arith in rw e (omega arith)) more v le
+    below_by (λ v. u ≤ v → owned_below s u ≤ owned_below s v)
+    (λ h. let e : u ≡ 0 = omega arith in rw e (omega arith)) more v le
   where
     more : (v : ℕ) → (u ≤ v → owned_below s u ≤ owned_below s v) → u ≤ v + 1 → owned_below s u ≤ owned_below s (v + 1)
     more v r h =

@@ -20,7 +20,8 @@ bit_of-others words page word other there kept apart =
     elim (cases_eq (other / 64) (page / 64)) [
       | inl same ↦
           let bit : other % 64 ≢ page % 64 = λ e. apart (omega arith) in
-          rw same (ap (λ w. bit_at w (other % 64)) (get_or-set_same words (page / 64) word 0 (omega arith)) ∙ kept (other % 64) (omega arith) bit)
+          rw same (ap (λ w. bit_at w (other % 64)) (get_or-set_same words (page / 64) word 0 (omega arith))
+          ∙ kept (other % 64) (omega arith) bit)
       | inr differs ↦ ap (λ w. bit_at w (other % 64)) (get_or-set_other words (page / 64) (other / 64) word 0 differs)
     ]
 
@@ -62,7 +63,8 @@ IsScanned-next words from place counted word first there read s zero = record {
         let bit = bit_at_and word counted (page - 64 * place) in
         let cleared = ap (λ x. bit_at x (page - 64 * place)) zero ∙ bit_at-zero (page - 64 * place) in
         let counts = s.counts (page - 64 * place) (omega arith) (omega arith) in
-        bit_of-word words place page upper (omega arith) ∙ rw (← get_or_read words place word there read 0) (omega arith)
+        bit_of-word words place page upper (omega arith)
+        ∙ rw (← get_or_read words place word there read 0) (omega arith)
   ];
   counts = λ i small after. bit_at_ones 64 i small;
   cut = λ i before. absurd (omega arith);

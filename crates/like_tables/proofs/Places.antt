@@ -22,7 +22,9 @@ owns-past : (s : Share) (user : ℕ) → s.users ≤ user → owns s user ≡ fa
 owns-past s user past = ap (λ b. b && serves_home s user) (le-ltb user s.users past)
 
 -- a table's share is that of its places
-pub owns-inside : (s : Share) (pages : List (Option ℕ)) (t : UserTable) (user : ℕ) → table_of s pages ≡ t → owns t.share user ≡ true
+pub owns-inside : (s : Share) (pages : List (Option ℕ)) (t : UserTable) (user : ℕ)
+    → table_of s pages ≡ t
+    → owns t.share user ≡ true
     → owns s user ≡ true
 owns-inside s pages t user e owned = subst (λ (t : UserTable). owns t.share user ≡ true) (sym e) owned
 
@@ -48,14 +50,16 @@ last_of-table_of s pages user =
     elim (cases_lt user s.users) [
       | inl there ↦ get_or-map-range_with_len (last_at s pages) 0 s.users user user None there (omega arith)
       | inr past ↦
-          get_or_past _ user None (omega (arith, length-map-range_with_len (last_at s pages) 0 s.users)) ∙ sym (last_at-other s pages user (owns-past s user past))
+          get_or_past _ user None (omega (arith, length-map-range_with_len (last_at s pages) 0 s.users))
+          ∙ sym (last_at-other s pages user (owns-past s user past))
     ]
 
 -- what is read at the user's place is its last like
 pub last_of-owned : (s : Share) (pages : List (Option ℕ)) (user place : ℕ) (r : Option ℕ) → owns s user ≡ true
     → place ≡ owned_below s user → place < length pages → r ≡ get_or pages place r → r ≡ last_of (table_of s pages) user
 last_of-owned s pages user place r owned e within read =
-    get_or_read pages place r within read None ∙ ap (λ p. get_or pages p None) e ∙ sym (last_of-table_of s pages user ∙ last_at-owned s pages user owned)
+    get_or_read pages place r within read None ∙ ap (λ p. get_or pages p None) e
+    ∙ sym (last_of-table_of s pages user ∙ last_at-owned s pages user owned)
 
 pub IsUserTable-table_of : (s : Share) (pages : List (Option ℕ)) → HoldsUsers s pages → IsUserTable (table_of s pages)
 IsUserTable-table_of s pages p = record {
@@ -67,7 +71,8 @@ IsUserTable-table_of s pages p = record {
 
 -- two tables of a share are one where their entries and their room are
 same_table : (s : Share) (last last' : List (Option ℕ)) (room room' : ℕ) → last ≡ last' → room ≡ room'
-    → ◌≡◌ {A = UserTable} (record { share = s; last = last; room = room }) (record { share = s; last = last'; room = room' })
+    → ◌≡◌ {A = UserTable} (record { share = s; last = last; room = room })
+    (record { share = s; last = last'; room = room' })
 same_table s last last' room room' e f = λ i. record { share = s; last = e i; room = f i }
 
 -- where no place has a page, no user has liked one
@@ -90,25 +95,35 @@ table_of-replicate s =
     let n = owned_below s s.users in
     let pages : List (Option ℕ) = replicate n None in
     let nobody : List (Option ℕ) = replicate s.users None in
-    let long : length (map (last_at s pages) (range_with_len 0 s.users)) ≡ s.users = length-map-range_with_len (last_at s pages) 0 s.users in
+    let long : length (map (last_at s pages) (range_with_len 0 s.users)) ≡ s.users =
+    length-map-range_with_len (last_at s pages) 0 s.users in
     same_table s _ nobody (length pages) n
-    (same_lists _ nobody (long ∙ sym (length-replicate s.users None)) (λ k d less. get_or-map-range_with_len (last_at s pages) 0 s.users k k d (omega arith) (omega arith) ∙ last_at-none s n k ∙ sym (get_or-replicate s.users k None d (omega arith))))
+    (same_lists _ nobody (long ∙ sym (length-replicate s.users None))
+    (λ k d less. get_or-map-range_with_len (last_at s pages) 0 s.users k k d (omega arith) (omega arith)
+    ∙ last_at-none s n k ∙ sym (get_or-replicate s.users k None d (omega arith))))
     (length-replicate n None)
 
 -- a page written at a user's place is that user's
-last_at-set_same : (s : Share) (pages : List (Option ℕ)) (user : ℕ) (v : Option ℕ) → HoldsUsers s pages → owns s user ≡ true
+last_at-set_same : (s : Share) (pages : List (Option ℕ)) (user : ℕ) (v : Option ℕ)
+    → HoldsUsers s pages
+    → owns s user ≡ true
     → last_at s (set pages (owned_below s user) v) user ≡ v
 last_at-set_same s pages user v p owned =
     last_at-owned s _ user owned ∙ get_or-set_same pages (owned_below s user) v None (place-lt s pages user p owned)
 
 -- and no other user's
-last_at-set_other : (s : Share) (pages : List (Option ℕ)) (user other : ℕ) (v : Option ℕ) → owns s user ≡ true → other ≢ user
+last_at-set_other : (s : Share) (pages : List (Option ℕ)) (user other : ℕ) (v : Option ℕ)
+    → owns s user ≡ true
+    → other ≢ user
     → last_at s (set pages (owned_below s user) v) other ≡ last_at s pages other
 last_at-set_other s pages user other v owned apart = go (owns s other) refl
   where
     go : (b : Bool) → owns s other ≡ b → last_at s (set pages (owned_below s user) v) other ≡ last_at s pages other
     go true e =
-        last_at-owned s _ other e ∙ get_or-set_other pages (owned_below s user) (owned_below s other) v None (owned_below-other s other user (owns-served s other e) (owns-served s user owned) apart) ∙ sym (last_at-owned s pages other e)
+        last_at-owned s _ other e
+        ∙ get_or-set_other pages (owned_below s user) (owned_below s other) v None
+        (owned_below-other s other user (owns-served s other e) (owns-served s user owned) apart)
+        ∙ sym (last_at-owned s pages other e)
     go false e = last_at-other s _ other e ∙ sym (last_at-other s pages other e)
 
 -- the table after such a write
@@ -118,23 +133,29 @@ table_of-set s pages user page p owned =
     let place = owned_below s user in
     let written : List (Option ℕ) = set pages place (Some page) in
     let users = range_with_len 0 s.users in
-    let long : length (map (last_at s written) users) ≡ s.users = length-map-range_with_len (last_at s written) 0 s.users in
+    let long : length (map (last_at s written) users) ≡ s.users =
+    length-map-range_with_len (last_at s written) 0 s.users in
     let was : length (map (last_at s pages) users) ≡ s.users = length-map-range_with_len (last_at s pages) 0 s.users in
     same_table s _ (set (map (last_at s pages) users) user (Some page)) (length written) (length pages)
-    (same_lists _ _ (long ∙ sym was ∙ sym (length-set (map (last_at s pages) users) user (Some page))) (λ k d less. entry k d (omega arith)))
+    (same_lists _ _ (long ∙ sym was ∙ sym (length-set (map (last_at s pages) users) user (Some page)))
+    (λ k d less. entry k d (omega arith)))
     (length-set pages place (Some page))
   where
     entry : (k : ℕ) (d : Option ℕ) → k < s.users
-        → get_or (map (last_at s (set pages (owned_below s user) (Some page))) (range_with_len 0 s.users)) k d ≡ get_or (set (map (last_at s pages) (range_with_len 0 s.users)) user (Some page)) k d
+        → get_or (map (last_at s (set pages (owned_below s user) (Some page))) (range_with_len 0 s.users)) k d
+        ≡ get_or (set (map (last_at s pages) (range_with_len 0 s.users)) user (Some page)) k d
     entry k d less =
-        let now = get_or-map-range_with_len (last_at s (set pages (owned_below s user) (Some page))) 0 s.users k k d less (omega arith) in
+        let now = get_or-map-range_with_len
+        (last_at s (set pages (owned_below s user) (Some page))) 0 s.users k k d less (omega arith) in
         let had = get_or-map-range_with_len (last_at s pages) 0 s.users k k d less (omega arith) in
         let long = length-map-range_with_len (last_at s pages) 0 s.users in
         elim (cases_eq k user) [
           | inl e ↦
-              rw e (rw e at now ∙ last_at-set_same s pages user (Some page) p owned ∙ sym (get_or-set_same _ user (Some page) d (omega arith)))
+              rw e (rw e at now ∙ last_at-set_same s pages user (Some page) p owned
+              ∙ sym (get_or-set_same _ user (Some page) d (omega arith)))
           | inr apart ↦
-              now ∙ last_at-set_other s pages user k (Some page) owned apart ∙ sym (get_or-set_other _ user k (Some page) d apart ∙ had)
+              now ∙ last_at-set_other s pages user k (Some page) owned apart
+              ∙ sym (get_or-set_other _ user k (Some page) d apart ∙ had)
         ]
 
 pub last_of-set_same : (s : Share) (pages : List (Option ℕ)) (user page : ℕ) → HoldsUsers s pages → owns s user ≡ true
@@ -145,4 +166,5 @@ last_of-set_same s pages user page p owned =
 pub last_of-set_other : (s : Share) (pages : List (Option ℕ)) (user other page : ℕ) → owns s user ≡ true → other ≢ user
     → last_of (table_of s (set pages (owned_below s user) (Some page))) other ≡ last_of (table_of s pages) other
 last_of-set_other s pages user other page owned apart =
-    last_of-table_of s _ other ∙ last_at-set_other s pages user other (Some page) owned apart ∙ sym (last_of-table_of s pages other)
+    last_of-table_of s _ other ∙ last_at-set_other s pages user other (Some page) owned apart
+    ∙ sym (last_of-table_of s pages other)

@@ -41,10 +41,22 @@ owned-some s lawful some =
 pub IsAt-first : (s : Share) → IsShare s → 0 < owned_below s s.users → IsAt s 0 s.worker 0
 IsAt-first s lawful some =
     let there = owned-some s lawful some in
-    record { round = 0; seat = 0; base_is = omega arith; submitter_is = omega arith; inside = there.1; small = there.0; place_is = omega arith }
+    record {
+      round =
+          0;
+      seat = 0;
+      base_is =
+          omega arith;
+      submitter_is = omega arith;
+      inside = there.1;
+      small = there.0;
+      place_is = omega arith;
+    }
 
 -- the next submitter of the round
-pub IsAt-next : (s : Share) (base submitter place : ℕ) → IsAt s base submitter place → submitter + s.workers < s.submitters
+pub IsAt-next : (s : Share) (base submitter place : ℕ)
+    → IsAt s base submitter place
+    → submitter + s.workers < s.submitters
     → IsAt s base (submitter + s.workers) (place + 1)
 IsAt-next s base submitter place a less = record {
   round = a.round;
@@ -57,10 +69,13 @@ IsAt-next s base submitter place a less = record {
 }
 
 -- the first submitter of the next round
-pub IsAt-round : (s : Share) (base submitter place : ℕ) → IsAt s base submitter place → s.submitters ≤ submitter + s.workers
+pub IsAt-round : (s : Share) (base submitter place : ℕ)
+    → IsAt s base submitter place
+    → s.submitters ≤ submitter + s.workers
     → IsAt s (base + s.submitters) s.worker (place + 1)
 IsAt-round s base submitter place a past =
-    let seats = homes_below-seats s a.seat a.small (omega (arith, a.submitter_is, a.inside)) (omega (arith, a.submitter_is)) in
+    let seats = homes_below-seats s a.seat a.small (omega (arith, a.submitter_is, a.inside))
+    (omega (arith, a.submitter_is)) in
     record {
       round = a.round + 1;
       seat = 0;
@@ -72,16 +87,29 @@ IsAt-round s base submitter place a past =
     }
 
 -- the user's place is the one that the walk has come to
-pub IsAt-place : (s : Share) (base submitter place : ℕ) → IsAt s base submitter place → owned_below s (base + submitter) ≡ place
+pub IsAt-place : (s : Share) (base submitter place : ℕ)
+    → IsAt s base submitter place
+    → owned_below s (base + submitter) ≡ place
 IsAt-place s base submitter place a =
     let whole = owned_below-div s (a.round * s.submitters + submitter) (omega (arith, a.inside)) in
     let seat = homes_below-seat s a.seat a.small in
-    rw (a.base_is, ← whole, div-mul-add a.round s.submitters submitter a.inside, mod-mul-add a.round s.submitters submitter a.inside, a.submitter_is, seat) (sym a.place_is)
+    rw (
+      a.base_is,
+      ← whole,
+      div-mul-add a.round s.submitters submitter a.inside,
+      mod-mul-add a.round s.submitters submitter a.inside,
+      a.submitter_is,
+      seat,
+    ) (sym a.place_is)
 
 -- and the worker serves its home
-IsAt-served : (s : Share) (base submitter place : ℕ) → IsAt s base submitter place → serves_home s (base + submitter) ≡ true
+IsAt-served : (s : Share) (base submitter place : ℕ)
+    → IsAt s base submitter place
+    → serves_home s (base + submitter) ≡ true
 IsAt-served s base submitter place a =
-    eq-eqb _ s.worker (rw (a.base_is, mod-mul-add a.round s.submitters submitter a.inside, a.submitter_is) (mod-mul-add a.seat s.workers s.worker a.small))
+    eq-eqb _ s.worker
+    (rw (a.base_is, mod-mul-add a.round s.submitters submitter a.inside, a.submitter_is)
+    (mod-mul-add a.seat s.workers s.worker a.small))
 
 -- at a place of the table the user is there
 pub IsAt-there : (s : Share) (base submitter place : ℕ) → IsAt s base submitter place → place < owned_below s s.users
@@ -89,17 +117,25 @@ pub IsAt-there : (s : Share) (base submitter place : ℕ) → IsAt s base submit
 IsAt-there s base submitter place a less =
     elim (cases_lt (base + submitter) s.users) [
       | inl there ↦ there
-      | inr past ↦ absurd (omega (arith, owned_below-mono s s.users (base + submitter) past, IsAt-place s base submitter place a))
+      | inr past ↦ absurd (omega (
+        arith,
+        owned_below-mono s s.users (base + submitter) past,
+        IsAt-place s base submitter place a,
+      ))
     ]
 
 IsAt-owned : (s : Share) (base submitter place : ℕ) → IsAt s base submitter place → place < owned_below s s.users
     → owns s (base + submitter) ≡ true
 IsAt-owned s base submitter place a less =
-    rw (lt-ltb (base + submitter) s.users (IsAt-there s base submitter place a less), IsAt-served s base submitter place a) refl
+    rw (
+      lt-ltb (base + submitter) s.users (IsAt-there s base submitter place a less),
+      IsAt-served s base submitter place a,
+    ) refl
 
 -- before the walk
 pub IsGiven-none : (s : Share) (pages was : List (Option ℕ)) → IsGiven s pages was was 0
-IsGiven-none s pages was = record { len = refl; own = λ user owned less. absurd (omega (arith, less)); others = λ user other. refl }
+IsGiven-none s pages was =
+    record { len = refl; own = λ user owned less. absurd (omega (arith, less)); others = λ user other. refl }
 
 -- one place more
 pub IsGiven-more : (s : Share) (pages was now : List (Option ℕ)) (base submitter place : ℕ) (page : Option ℕ)
@@ -108,13 +144,18 @@ pub IsGiven-more : (s : Share) (pages was now : List (Option ℕ)) (base submitt
 IsGiven-more s pages was now base submitter place page g a less room is = record {
   len = length-set now (base + submitter) page ∙ g.len;
   own = λ user owned before. elim (cases_eq user (base + submitter)) [
-    | inl same ↦ rw same (get_or-set_same now (base + submitter) page None (omega (arith, there)) ∙ is ∙ ap (λ p. get_or pages p None) (sym here) ∙ sym (last_at-owned s pages (base + submitter) mine))
+    | inl same ↦ rw same
+        (get_or-set_same now (base + submitter) page None (omega (arith, there)) ∙ is
+        ∙ ap (λ p. get_or pages p None) (sym here) ∙ sym (last_at-owned s pages (base + submitter) mine))
     | inr apart ↦
-        let differs = owned_below-other s user (base + submitter) (owns-served s user owned) (owns-served s (base + submitter) mine) apart in
-        get_or-set_other now (base + submitter) user page None apart ∙ g.own user owned (omega (arith, here, differs, before))
+        let differs = owned_below-other s user (base + submitter) (owns-served s user owned)
+        (owns-served s (base + submitter) mine) apart in
+        get_or-set_other now (base + submitter) user page None apart
+        ∙ g.own user owned (omega (arith, here, differs, before))
   ];
   others = λ user other.
-      let apart : user ≢ base + submitter = λ same. (let e : true ≡ false = sym mine ∙ ap (owns s) (sym same) ∙ other in cc e) in
+      let apart : user ≢ base + submitter =
+      λ same. (let e : true ≡ false = sym mine ∙ ap (owns s) (sym same) ∙ other in cc e) in
       get_or-set_other now (base + submitter) user page None apart ∙ g.others user other;
 }
   where

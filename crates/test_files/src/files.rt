@@ -5,13 +5,13 @@ ghost use Rattle.std.specs.Prelude.{◌<◌, length};
 mod limits;
 mod refused;
 
-use test_devices::{Trickle, csv_cases};
 use like_requests::{Pages, read_pages, read_requests};
 use like_script::read_script;
 use std::alloc::{AllocError, Global};
 use std::fmt::Debug;
 use std::io::Read;
 use std::process::Abort;
+use test_devices::{Trickle, csv_cases};
 
 /// A value as `Debug` shows it.
 pub fn shown<T: Debug>(rt: &impl Abort, alloc: Global, value: &T) -> String {

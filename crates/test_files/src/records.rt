@@ -1,9 +1,9 @@
 use crate::files::bytes;
-use test_devices::{Trickle, csv_cases};
 use like_records::{Records, RecordsFault, decimal};
 use std::alloc::Global;
 use std::io::Read;
 use std::process::Abort;
+use test_devices::{Trickle, csv_cases};
 
 // Adds the record to the text: `|` ends a field and `;` the record.
 fn push_record<R: Read>(rt: &impl Abort, out: &mut Vec<u8>, records: &Records<R>) {

@@ -25,11 +25,19 @@ turned v a b its =
     }
 
 -- a driver and its two seats, after calls of each, in the other order
-pub turned-after : (v w : LeadView) (a b c d : LiveView) → AreItsSeats v (a ∷ b ∷ []) → IsSameDriver v w → IsSameSeat a c → IsSameSeat b d → AreItsSeats w (d ∷ c ∷ [])
-turned-after v w a b c d its driver first second = turned w c d (calls-keep-whole v w (a ∷ b ∷ []) (c ∷ d ∷ []) its driver (first, (second, tt)))
+pub turned-after : (v w : LeadView) (a b c d : LiveView)
+    → AreItsSeats v (a ∷ b ∷ [])
+    → IsSameDriver v w
+    → IsSameSeat a c
+    → IsSameSeat b d
+    → AreItsSeats w (d ∷ c ∷ [])
+turned-after v w a b c d its driver first second =
+    turned w c d (calls-keep-whole v w (a ∷ b ∷ []) (c ∷ d ∷ []) its driver (first, (second, tt)))
 
 -- two that were taken off the end of a list were all of it
-pub two-of : (all one none : List LiveView) (p q : Option LiveView) (first second : LiveView) → all ≡ one ++ option_to_list p → one ≡ none ++ option_to_list q
+pub two-of : (all one none : List LiveView) (p q : Option LiveView) (first second : LiveView)
+    → all ≡ one ++ option_to_list p
+    → one ≡ none ++ option_to_list q
     → p ≡ Some second → q ≡ Some first → length none ≡ 0 → all ≡ first ∷ second ∷ []
 two-of all one none p q first second a b is-p is-q empty =
     a ∙ (λ i. b i ++ option_to_list (is-p i))

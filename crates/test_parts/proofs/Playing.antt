@@ -22,7 +22,10 @@ use Rattle.like_roles.specs.worker.Turns.{CanGive, HasTaken, IsNext, Pends, Take
 use Rattle.like_roles.specs.worker.WorkerView.{WorkerView, phase_at, submitter_at}
 
 -- where nothing was taken, it is where it was
-pub stays_at : (plan : List Request) (next : ℕ) (old new : WorkerView) → IsAt plan next old → TakesNothing old new → IsAt plan next new
+pub stays_at : (plan : List Request) (next : ℕ) (old new : WorkerView)
+    → IsAt plan next old
+    → TakesNothing old new
+    → IsAt plan next new
 stays_at plan next old new p same = record {
   one = rw same.ended p.one;
   taken = rw (same.share, same.taken) p.taken;
@@ -32,7 +35,10 @@ stays_at plan next old new p same = record {
 }
 
 -- no submitter is tried but after the answer that says so
-pub tries_none : (answer : Turn) (v : WorkerView) → ((submitter : ℕ) → answer ≡ turn.Try submitter → ⊥) → Pends answer v → v.pending ≡ None
+pub tries_none : (answer : Turn) (v : WorkerView)
+    → ((submitter : ℕ) → answer ≡ turn.Try submitter → ⊥)
+    → Pends answer v
+    → v.pending ≡ None
 tries_none turn.Ran v other p = p
 tries_none turn.Stashed v other p = p
 tries_none turn.TookEnd v other p = p
@@ -45,7 +51,11 @@ tries_none turn.Retired v other p = p
 tries_none (turn.Try submitter) v other p = absurd (other submitter refl)
 
 -- the submitter that is tried is the only one
-only_place : (plan : List Request) (next : ℕ) (v : WorkerView) (submitter place : ℕ) → IsAt plan next v → Pends (turn.Try submitter) v → v.pending ≡ Some place → 0 ≡ place
+only_place : (plan : List Request) (next : ℕ) (v : WorkerView) (submitter place : ℕ)
+    → IsAt plan next v
+    → Pends (turn.Try submitter) v
+    → v.pending ≡ Some place
+    → 0 ≡ place
 only_place plan next v submitter place p tries is =
     let same : tries.0 ≡ place = (let e = sym tries.1.0 ∙ is in cc) in
     let below = tries.1.2 in
@@ -53,7 +63,11 @@ only_place plan next v submitter place p tries is =
     omega arith
 
 -- what is given may be given
-pub may_give : (plan : List Request) (next then : ℕ) (v : WorkerView) (submitter : ℕ) (given : Taken) → IsAt plan next v → Pends (turn.Try submitter) v → IsNextGiven plan next given then → CanGive v given
+pub may_give : (plan : List Request) (next then : ℕ) (v : WorkerView) (submitter : ℕ) (given : Taken)
+    → IsAt plan next v
+    → Pends (turn.Try submitter) v
+    → IsNextGiven plan next given then
+    → CanGive v given
 may_give plan next then v submitter (taken.Ask ask) p tries given = λ place is.
     let within = slice_get_within plan next ask.request given.0 in
     let below = tries.1.2 in
@@ -62,7 +76,8 @@ may_give plan next then v submitter (taken.Ask ask) p tries given = λ place is.
     record {
       number = given.1 ∙ ap (λ n. n + 1) (sym p.taken);
       some = omega arith;
-      there = subst (λ (r : Request). IsThere (pages_of v.post) r.page) (get_or_from_slice_get plan next ask.request ask.request given.0) (p.there next ask.request within);
+      there = subst (λ (r : Request). IsThere (pages_of v.post) r.page)
+          (get_or_from_slice_get plan next ask.request ask.request given.0) (p.there next ask.request within);
     }
     in
     subst (λ k. IsNext v k ask) (only_place plan next v submitter place p tries is) first
@@ -75,11 +90,19 @@ some_there [] h = absurd (omega arith)
 some_there (x ∷ xs) h = omega arith
 
 -- one more of those that are counted
-count_by-push : {X : Type 0} (p : X → Bool) (xs : List X) (x : X) → p x ≡ true → count_by p (xs ++ x ∷ []) ≡ count_by p xs + 1
-count_by-push p xs x passes = sum_by_push (λ y. cond (p y) 1 0) xs x ∙ ap (λ (b : Bool). count_by p xs + cond b 1 0) passes
+count_by-push : {X : Type 0} (p : X → Bool) (xs : List X) (x : X)
+    → p x ≡ true
+    → count_by p (xs ++ x ∷ []) ≡ count_by p xs + 1
+count_by-push p xs x passes =
+    sum_by_push (λ y. cond (p y) 1 0) xs x ∙ ap (λ (b : Bool). count_by p xs + cond b 1 0) passes
 
 -- and then it is one further
-pub gave : (plan : List Request) (next then : ℕ) (v new : WorkerView) (submitter : ℕ) (given : Taken) → IsAt plan next v → Pends (turn.Try submitter) v → IsNextGiven plan next given then → HasTaken v given new → IsAt plan then new
+pub gave : (plan : List Request) (next then : ℕ) (v new : WorkerView) (submitter : ℕ) (given : Taken)
+    → IsAt plan next v
+    → Pends (turn.Try submitter) v
+    → IsNextGiven plan next given then
+    → HasTaken v given new
+    → IsAt plan then new
 gave plan next then v new submitter (taken.Ask ask) p tries given took =
     let first = sym (only_place plan next v submitter tries.0 p tries tries.1.0) in
     let same : TakesNothing (with_taken v 0 ask) new = took 0 (tries.1.0 ∙ ap Some first) in
@@ -88,7 +111,9 @@ gave plan next then v new submitter (taken.Ask ask) p tries given took =
     let left = p.left (omega arith) in
     let there = some_there v.left (omega arith) in
     let one_left = get_or-set_same v.left 0 (get_or v.left 0 0 - 1) 0 there in
-    let more = count_by-push (λ (t : Took). t.submitter == submitter_at v 0) v.taken (record { phase = phase_at v; submitter = submitter_at v 0; number = ask.number }) (eq-eqb (submitter_at v 0) (submitter_at v 0) refl) in
+    let more = count_by-push (λ (t : Took). t.submitter == submitter_at v 0) v.taken
+    (record { phase = phase_at v; submitter = submitter_at v 0; number = ask.number })
+    (eq-eqb (submitter_at v 0) (submitter_at v 0) refl) in
     let at : IsAt plan (next + 1) (with_taken v 0 ask) =
     record {
       one = p.one;
@@ -112,21 +137,34 @@ gave plan next then v new submitter taken.End p tries given took =
 gave plan next then v new submitter taken.Nothing p tries given took = absurd given
 
 -- the settings and the plan are within the limits of a worker
-pub within_limits : (s : Setup) (plan : List Request) (n : ℕ) → FitsRun s (plan ∷ []) → n ≡ length plan → IsWithin s (n ∷ [])
+pub within_limits : (s : Setup) (plan : List Request) (n : ℕ)
+    → FitsRun s (plan ∷ [])
+    → n ≡ length plan
+    → IsWithin s (n ∷ [])
 within_limits s plan n w many = subst (λ k. IsWithin s (k ∷ [])) (sym many) w.numbers
 
 -- the one submitter is the first worker's
-own_one : (size workers worker : ℕ) (own : List ℕ) → 1 ≤ workers → own ≡ dealt workers worker (size ∷ []) → (length own ≤ 1) × (1 ≤ length own → get_or own 0 0 ≡ size)
+own_one : (size workers worker : ℕ) (own : List ℕ)
+    → 1 ≤ workers
+    → own ≡ dealt workers worker (size ∷ [])
+    → (length own ≤ 1) × (1 ≤ length own → get_or own 0 0 ≡ size)
 own_one size workers zero own some is = (rw is (omega arith), λ here. rw is refl)
-own_one size workers (suc worker) own some is = (rw is (omega arith), λ here. absurd (let none : length own ≡ 0 = ap length is in omega (arith, none, here)))
+own_one size workers (suc worker) own some is =
+    (rw is (omega arith), λ here. absurd (let none : length own ≡ 0 = ap length is in omega (arith, none, here)))
 
 -- a new worker may be played with
-pub plays_new : (s : Setup) (plan : List Request) (n worker : ℕ) (post : PostView) (notes : Bool) (v : WorkerView) → FitsRun s (plan ∷ []) → n ≡ length plan → IsPostOf worker s.pages post → IsNew s (n ∷ []) worker post notes v → IsPlaying plan 0 v
+pub plays_new : (s : Setup) (plan : List Request) (n worker : ℕ) (post : PostView) (notes : Bool) (v : WorkerView)
+    → FitsRun s (plan ∷ [])
+    → n ≡ length plan
+    → IsPostOf worker s.pages post
+    → IsNew s (n ∷ []) worker post notes v
+    → IsPlaying plan 0 v
 plays_new s plan n worker post notes v w many his new =
     let own = own_one n s.workers worker v.left w.numbers.workers.0 new.left in
     let lists = plans-within s (plan ∷ []) w 0 plan (omega arith) in
     let ended : length v.ended ≡ length v.left = ap length new.ended ∙ length-replicate (length v.left) false in
-    let pages : pages_of v.post ≡ length s.pages = ap pages_of new.at_post ∙ (ap length his.marks ∙ length-map s.pages (λ (p : Page). p.split)) in
+    let pages : pages_of v.post ≡ length s.pages =
+    ap pages_of new.at_post ∙ (ap length his.marks ∙ length-map s.pages (λ (p : Page). p.split)) in
     record {
       settled = new.pending;
       at = record {
@@ -139,7 +177,11 @@ plays_new s plan n worker post notes v w many his new =
     }
 
 -- each page's count is small
-pub counts_small : (pages : List Page) → ArePages pages → (k d : ℕ) → k < length (counts_of pages) → get_or (counts_of pages) k d ≤ 10 ^ 18
+pub counts_small : (pages : List Page)
+    → ArePages pages
+    → (k d : ℕ)
+    → k < length (counts_of pages)
+    → get_or (counts_of pages) k d ≤ 10 ^ 18
 counts_small pages are k d below =
     let nobody : Page = record { name = []; count = 0; split = false } in
     let within : k < length pages = omega (arith, length-map pages (λ (p : Page). p.count)) in

@@ -27,7 +27,14 @@ use Rattle.like_board.proofs.coordinator.Leads.{of_coord, leads}
 use Rattle.like_board.proofs.coordinator.CoordSteps.{AllAreIn, saw_all_in}
 
 -- a read of a page's count is the event
-pub counts : (z : Opening) (words : List ℕ) (views : List View) (place : ℕ) (c : CoordSeatView) (page : ℕ) → ShowsSome z words views → get_elem? views place ≡ some (Coord c) → MayCount c page → IsStep z (CoordRead page) (Count (get_or words (word_of page) 0)) (Coord c) (Coord (counted_coord c page (get_or words (word_of page) 0))) × ShowsSome z (set words (word_of page) (get_or words (word_of page) 0)) (set views place (Coord (counted_coord c page (get_or words (word_of page) 0))))
+pub counts : (z : Opening) (words : List ℕ) (views : List View) (place : ℕ) (c : CoordSeatView) (page : ℕ)
+    → ShowsSome z words views
+    → get_elem? views place ≡ some (Coord c)
+    → MayCount c page
+    → IsStep z (CoordRead page) (Count (get_or words (word_of page) 0)) (Coord c)
+    (Coord (counted_coord c page (get_or words (word_of page) 0)))
+    × ShowsSome z (set words (word_of page) (get_or words (word_of page) 0))
+    (set views place (Coord (counted_coord c page (get_or words (word_of page) 0))))
 counts z words views place c page some_state at may =
     let s = some_state.state in
     let sh = some_state.shows in
@@ -73,12 +80,14 @@ counts z words views place c page some_state at may =
     (same 0 ∙ sh.word)
     (λ q _. same (word_of q))
     (λ odd. same last ∙ sh.mask odd)
-    (if_some c.published (λ mask. get_or words last 0 ≡ mask) (λ mask. get_or (set words (word_of page) found) last 0 ≡ mask) (λ mask is. same last ∙ is) known.0)
+    (if_some c.published (λ mask. get_or words last 0 ≡ mask)
+    (λ mask. get_or (set words (word_of page) found) last 0 ≡ mask) (λ mask is. same last ∙ is) known.0)
     (All-cons (IsCounted z.counts (all_before views)) r c.counted counted known.1)
     fits
     (λ v f. f)
     in
-    let permits : Permits (numbers z s) (CoordRead page) = record { there = on; suits = tt; leaves_last = tt; room = tt } in (
+    let permits : Permits (numbers z s) (CoordRead page) =
+    record { there = on; suits = tt; leaves_last = tt; room = tt } in (
       record {
         words = words;
         views = views;
@@ -98,13 +107,19 @@ counts z words views place c page some_state at may =
         state = s;
         reachable = some_state.reachable;
         shows = after_it;
-        tallied = tallied_on z.limits.likes s s views place (Coord c) (Coord d) (omega arith) (λ _. refl) at (λ _. refl) (λ _. refl) (λ _ _. refl) some_state.tallied;
-        places = places_same z.counts views place (Coord c) (Coord d) at (λ _. refl) (λ _. refl) (λ _ _ has. has) some_state.places;
+        tallied = tallied_on z.limits.likes s s views place (Coord c) (Coord d) (omega arith) (λ _. refl) at (λ _. refl)
+            (λ _. refl) (λ _ _. refl) some_state.tallied;
+        places = places_same z.counts views place (Coord c) (Coord d) at (λ _. refl) (λ _. refl)
+            (λ _ _ has. has) some_state.places;
       },
     )
 
 -- a mask that is published changes nothing of the state: its phase is joined
-pub publishes : (z : Opening) (words : List ℕ) (views : List View) (place : ℕ) (c : CoordSeatView) (mask : ℕ) → ShowsSome z words views → get_elem? views place ≡ some (Coord c) → MayPublish c mask → ShowsSome z (set words mask_place mask) (set views place (Coord (published_coord c mask)))
+pub publishes : (z : Opening) (words : List ℕ) (views : List View) (place : ℕ) (c : CoordSeatView) (mask : ℕ)
+    → ShowsSome z words views
+    → get_elem? views place ≡ some (Coord c)
+    → MayPublish c mask
+    → ShowsSome z (set words mask_place mask) (set views place (Coord (published_coord c mask)))
 publishes z words views place c mask some_state at may =
     let s = some_state.state in
     let sh = some_state.shows in
@@ -140,7 +155,8 @@ publishes z words views place c mask some_state at may =
       shows =
           leads z s words views place c d s.phase s.ending s.hot last mask sh at refl refl (omega arith)
           (get_or-set_other words last 0 mask 0 (λ eq. absurd (omega arith)) ∙ sh.word)
-          (λ page below. get_or-set_other words last (word_of page) mask 0 (λ eq. let far = word_of-past page in absurd (omega arith)))
+          (λ page below. get_or-set_other words last (word_of page) mask 0
+          (λ eq. let far = word_of-past page in absurd (omega arith)))
           (λ fixed. elim fixed [
             | inl odd ↦ absurd (omega arith)
             | inr first ↦ let clash = first.1 in absurd (cc now.ending)
@@ -149,6 +165,8 @@ publishes z words views place c mask some_state at may =
           known.1
           fits
           (λ v f. f);
-      tallied = tallied_on z.limits.likes s s views place (Coord c) (Coord d) (omega arith) (λ _. refl) at (λ _. refl) (λ _. refl) (λ _ _. refl) some_state.tallied;
-      places = places_same z.counts views place (Coord c) (Coord d) at (λ _. refl) (λ _. refl) (λ _ _ has. has) some_state.places;
+      tallied = tallied_on z.limits.likes s s views place (Coord c) (Coord d) (omega arith) (λ _. refl) at (λ _. refl)
+          (λ _. refl) (λ _ _. refl) some_state.tallied;
+      places = places_same z.counts views place (Coord c) (Coord d) at (λ _. refl) (λ _. refl)
+          (λ _ _ has. has) some_state.places;
     }

@@ -41,7 +41,12 @@ use Rattle.like_board.proofs.coordinator.Leads.{phased, of_coord, leads_word}
 use Rattle.like_board.proofs.worker.WorkerSteps.{running_is}
 
 -- a look of the coordinator is the event
-pub surveys : (z : Opening) (words : List ℕ) (views : List View) (place : ℕ) (c : CoordSeatView) → ShowsSome z words views → get_elem? views place ≡ some (Coord c) → (r : Surveyed z (get_or words 0 0) c) × ShowsSome z (set words 0 (get_or words 0 0)) (set views place (Coord (looked_coord c (get_or words 0 0) (coord_sight_of r.fields))))
+pub surveys : (z : Opening) (words : List ℕ) (views : List View) (place : ℕ) (c : CoordSeatView)
+    → ShowsSome z words views
+    → get_elem? views place ≡ some (Coord c)
+    → (r : Surveyed z (get_or words 0 0) c)
+    × ShowsSome z (set words 0 (get_or words 0 0))
+    (set views place (Coord (looked_coord c (get_or words 0 0) (coord_sight_of r.fields))))
 surveys z words views place c some_state at =
     let s = some_state.state in
     let sh = some_state.shows in
@@ -72,7 +77,8 @@ surveys z words views place c some_state at =
     }
     in
     let after_it : Shows z s (set words 0 found) (set views place (Coord d)) =
-    leads_word z s words views place c d s.phase s.ending s.hot found sh at refl refl refl (omega arith) sh.word sh.mask tt fits (λ v f. f)
+    leads_word z s words views place c d s.phase s.ending s.hot found sh at refl refl refl
+    (omega arith) sh.word sh.mask tt fits (λ v f. f)
     in
     let permits : Permits (numbers z s) CoordLook = record { there = tt; suits = tt; leaves_last = tt; room = tt } in (
       record {
@@ -104,18 +110,29 @@ surveys z words views place c some_state at =
         state = s;
         reachable = some_state.reachable;
         shows = after_it;
-        tallied = tallied_on z.limits.likes s s views place (Coord c) (Coord d) (omega arith) (λ _. refl) at (λ _. refl) (λ _. refl) (λ _ _. refl) some_state.tallied;
-        places = places_same z.counts views place (Coord c) (Coord d) at (λ _. refl) (λ _. refl) (λ _ _ has. has) some_state.places;
+        tallied = tallied_on z.limits.likes s s views place (Coord c) (Coord d) (omega arith) (λ _. refl) at (λ _. refl)
+            (λ _. refl) (λ _ _. refl) some_state.tallied;
+        places = places_same z.counts views place (Coord c) (Coord d) at (λ _. refl) (λ _. refl)
+            (λ _ _ has. has) some_state.places;
       },
     )
 
 -- what holds of the value of an option, in two ways
-some_and : {A : Type 0} (o : Option A) (P Q R : A → Type 0) → IsSomeAnd o P → IfSome o Q → IfSome o R → (a : A) × (o ≡ Some a) × P a × Q a × R a
+some_and : {A : Type 0} (o : Option A) (P Q R : A → Type 0)
+    → IsSomeAnd o P
+    → IfSome o Q
+    → IfSome o R
+    → (a : A) × (o ≡ Some a) × P a × Q a × R a
 some_and None P Q R p q r = absurd p
 some_and (Some a) P Q R p q r = (a, refl, p, q, r)
 
 -- an announcement is the event
-pub announces : (z : Opening) (words : List ℕ) (views : List View) (place : ℕ) (c : CoordSeatView) → ShowsSome z words views → get_elem? views place ≡ some (Coord c) → MayAnnounce c → IsStep z Announce Done (Coord c) (Coord (announced_coord c)) × ShowsSome z (set words 0 ((get_or words 0 0 + 1) % 2 ^ 64)) (set views place (Coord (announced_coord c)))
+pub announces : (z : Opening) (words : List ℕ) (views : List View) (place : ℕ) (c : CoordSeatView)
+    → ShowsSome z words views
+    → get_elem? views place ≡ some (Coord c)
+    → MayAnnounce c
+    → IsStep z Announce Done (Coord c) (Coord (announced_coord c))
+    × ShowsSome z (set words 0 ((get_or words 0 0 + 1) % 2 ^ 64)) (set views place (Coord (announced_coord c)))
 announces z words views place c some_state at may =
     let s = some_state.state in
     let sh = some_state.shows in
@@ -131,7 +148,8 @@ announces z words views place c some_state at may =
     let not_last = may.1 in
     let phase = old.phase in
     let below : s.phase < z.limits.last_phase = omega arith in
-    let permits : Permits (numbers z s) Announce = record { there = tt; suits = running; leaves_last = below; room = tt } in
+    let permits : Permits (numbers z s) Announce =
+    record { there = tt; suits = running; leaves_last = below; room = tt } in
     let t : CoreState = phased s s.phase true s.hot in
     let reachable = goes_on_by z s Announce some_state.reachable permits in
     let lawful = shown_lawful z t sh.opening (reached_in_phase z t reachable) (reached_unanswered z t reachable) in
@@ -196,8 +214,10 @@ announces z words views place c some_state at may =
         state = t;
         reachable = reachable;
         shows = after_it;
-        tallied = tallied_on z.limits.likes s t views place (Coord c) (Coord d) (omega arith) (λ _. refl) at (λ _. refl) (λ _. refl) (λ _ _. refl) some_state.tallied;
-        places = places_same z.counts views place (Coord c) (Coord d) at (λ _. refl) (λ _. refl) (λ _ _ has. has) some_state.places;
+        tallied = tallied_on z.limits.likes s t views place (Coord c) (Coord d) (omega arith) (λ _. refl) at (λ _. refl)
+            (λ _. refl) (λ _ _. refl) some_state.tallied;
+        places = places_same z.counts views place (Coord c) (Coord d) at (λ _. refl) (λ _. refl)
+            (λ _ _ has. has) some_state.places;
       },
     )
 
@@ -232,18 +252,24 @@ record IsReleased (z : Opening) (c : CoordSeatView) (word : ℕ) : Type 0 where
   pub none : IsSplit c.phase → mask_released c ≡ 0
   pub word_is : IsJoined c.phase → word ≡ mask_released c
 
-is_released : (z : Opening) (c : CoordSeatView) (word : ℕ) → (IsJoined c.phase → IsSome c.published) → IfSome c.published (λ mask. mask < 2 ^ length z.counts) → IfSome c.published (λ mask. word ≡ mask) → IsReleased z c word
+is_released : (z : Opening) (c : CoordSeatView) (word : ℕ)
+    → (IsJoined c.phase → IsSome c.published)
+    → IfSome c.published (λ mask. mask < 2 ^ length z.counts)
+    → IfSome c.published (λ mask. word ≡ mask)
+    → IsReleased z c word
 is_released z c word some_mask below is = elim (cases_eq (c.phase % 2) 0) [
   | inl even ↦
       let mask = published_mask c.published (some_mask even) below is in
-      let same : mask_released c ≡ unwrap_or c.published 0 = cond-true (c.phase % 2 == 0) (unwrap_or c.published 0) 0 (eq-eqb (c.phase % 2) 0 even) in
+      let same : mask_released c ≡ unwrap_or c.published 0 =
+      cond-true (c.phase % 2 == 0) (unwrap_or c.published 0) 0 (eq-eqb (c.phase % 2) 0 even) in
       record {
         there = subst (λ (m : ℕ). m < 2 ^ length z.counts) (sym same) mask.0;
         none = λ odd. absurd (omega arith);
         word_is = λ _. mask.1 ∙ sym same;
       }
   | inr odd ↦
-      let same : mask_released c ≡ 0 = cond-false (c.phase % 2 == 0) (unwrap_or c.published 0) 0 (ne_eqb (c.phase % 2) 0 odd) in
+      let same : mask_released c ≡ 0 =
+      cond-false (c.phase % 2 == 0) (unwrap_or c.published 0) 0 (ne_eqb (c.phase % 2) 0 odd) in
       record {
         there = subst (λ (m : ℕ). m < 2 ^ length z.counts) (sym same) (pow_pos (length z.counts));
         none = λ _. same;
@@ -251,12 +277,22 @@ is_released z c word some_mask below is = elim (cases_eq (c.phase % 2) 0) [
       }
 ]
   where
-    published_mask : (p : Option ℕ) → IsSome p → IfSome p (λ mask. mask < 2 ^ length z.counts) → IfSome p (λ mask. word ≡ mask) → (unwrap_or p 0 < 2 ^ length z.counts) × (word ≡ unwrap_or p 0)
+    published_mask : (p : Option ℕ) → IsSome p → IfSome p (λ mask. mask < 2 ^ length z.counts)
+        → IfSome p (λ mask. word ≡ mask) → (unwrap_or p 0 < 2 ^ length z.counts) × (word ≡ unwrap_or p 0)
     published_mask None there low same = absurd (cc)
     published_mask (Some mask) there low same = (low, same)
 
 -- a release is the event, where what is stored is made of the word that the last look saw
-pub releases : (z : Opening) (words : List ℕ) (views : List View) (place : ℕ) (c : CoordSeatView) (modulus : ℕ) (seen : Fields) → modulus ≡ z.limits.modulus → ShowsSome z words views → get_elem? views place ≡ some (Coord c) → MayRelease c → IsLawful seen → packed seen ≡ c.word → IsStep z (Release (mask_released c)) Done (Coord c) (Coord (released_coord c)) × ShowsSome z (set words 0 (packed (released_modulo modulus seen))) (set views place (Coord (released_coord c)))
+pub releases : (z : Opening) (words : List ℕ) (views : List View) (place : ℕ) (c : CoordSeatView) (modulus : ℕ)
+    (seen : Fields)
+    → modulus ≡ z.limits.modulus
+    → ShowsSome z words views
+    → get_elem? views place ≡ some (Coord c)
+    → MayRelease c
+    → IsLawful seen
+    → packed seen ≡ c.word
+    → IsStep z (Release (mask_released c)) Done (Coord c) (Coord (released_coord c))
+    × ShowsSome z (set words 0 (packed (released_modulo modulus seen))) (set views place (Coord (released_coord c)))
 releases z words views place c modulus seen modulus_is some_state at may seen_lawful seen_is =
     let s = some_state.state in
     let sh = some_state.shows in
@@ -284,7 +320,8 @@ releases z words views place c modulus seen modulus_is some_state at may seen_la
       opening = f.opening;
       there = f.there;
       state = f.state;
-      number = if_some v.last (λ (sight : Sight). sight.number ≤ s.phase) (λ (sight : Sight). sight.number ≤ s.phase + 1) (λ sight below. omega arith) f.number;
+      number = if_some v.last (λ (sight : Sight). sight.number ≤ s.phase)
+          (λ (sight : Sight). sight.number ≤ s.phase + 1) (λ sight below. omega arith) f.number;
       ending = λ runs _.
           let is = running_is (λ _. Unit {0}) v.state runs in
           absurd (subst (IsIn s.phase) (f.state ∙ is.1) (now.all_in v.worker f.there));
@@ -317,8 +354,10 @@ releases z words views place c modulus seen modulus_is some_state at may seen_la
     }
     in
     let after_it : Shows z t (set words 0 (packed (released_modulo modulus seen))) (set views place (Coord d)) =
-    leads_word z s words views place c d (s.phase + 1) false hot (packed (released_modulo modulus seen)) sh at refl refl refl (omega arith)
-    ((λ m. packed (released_modulo (modulus_is m) (same m))) ∙ ap packed (sym (fields_released z s now.ending now.all_in)))
+    leads_word z s words views place c d (s.phase + 1) false hot
+    (packed (released_modulo modulus seen)) sh at refl refl refl (omega arith)
+    ((λ m. packed (released_modulo (modulus_is m) (same m)))
+    ∙ ap packed (sym (fields_released z s now.ending now.all_in)))
     (λ fixed. elim fixed [
       | inl odd ↦
           let phase = old.phase in
@@ -349,7 +388,9 @@ releases z words views place c modulus seen modulus_is some_state at may seen_la
         state = t;
         reachable = goes_on_by z s (Release mask) some_state.reachable permits;
         shows = after_it;
-        tallied = tallied_on z.limits.likes s t views place (Coord c) (Coord d) (omega arith) (λ _. refl) at (λ _. refl) (λ _. refl) (λ _ _. refl) some_state.tallied;
-        places = places_same z.counts views place (Coord c) (Coord d) at (λ _. refl) (λ _. refl) (λ _ _ has. has) some_state.places;
+        tallied = tallied_on z.limits.likes s t views place (Coord c) (Coord d) (omega arith) (λ _. refl) at (λ _. refl)
+            (λ _. refl) (λ _ _. refl) some_state.tallied;
+        places = places_same z.counts views place (Coord c) (Coord d) at (λ _. refl) (λ _. refl)
+            (λ _ _ has. has) some_state.places;
       },
     )

@@ -39,7 +39,11 @@ abbrev pub phased : CoreState → ℕ → Bool → (ℕ → ℕ) → CoreState
 phased s phase ending hot = record s { phase = phase; ending = ending; hot = hot }
 
 -- what the words and the views show of what the coordinator published and counted
-pub of_coord : (z : Opening) (s : CoreState) (words : List ℕ) (views : List View) (place : ℕ) (c : CoordSeatView) → Shows z s words views → get_elem? views place ≡ some (Coord c) → IfSome c.published (λ mask. get_or words mask_place 0 ≡ mask) × All (IsCounted z.counts (all_before views)) c.counted
+pub of_coord : (z : Opening) (s : CoreState) (words : List ℕ) (views : List View) (place : ℕ) (c : CoordSeatView)
+    → Shows z s words views
+    → get_elem? views place ≡ some (Coord c)
+    → IfSome c.published (λ mask. get_or words mask_place 0 ≡ mask)
+    × All (IsCounted z.counts (all_before views)) c.counted
 of_coord z s words views place c sh at =
     let is = same_coord z s words views place c sh at in (
       subst (λ (e : CoordSeatView). IfSome e.published (λ mask. get_or words mask_place 0 ≡ mask)) is.1 sh.published,
@@ -48,8 +52,24 @@ of_coord z s words views place c sh at =
 
 -- after the coordinator led to this phase, with a new view of its own that fits, the words, of which one was written, and
 -- the views show the state after, where the words do and all workers' views fit that too
-pub leads : (z : Opening) (s : CoreState) (words : List ℕ) (views : List View) (place : ℕ) (c d : CoordSeatView) (phase : ℕ) (ending : Bool) (hot : ℕ → ℕ) (changed word : ℕ) → Shows z s words views → get_elem? views place ≡ some (Coord c) → d.made ≡ c.made → d.joined ≡ c.joined → s.phase ≤ phase → get_or (set words changed word) 0 0 ≡ shown_word z (phased s phase ending hot) → ((page : ℕ) → page < length z.counts → get_or (set words changed word) (word_of page) 0 ≡ get_or words (word_of page) 0) → (FixesMask phase ending → get_or (set words changed word) mask_place 0 ≡ hot phase) → IfSome d.published (λ mask. get_or (set words changed word) mask_place 0 ≡ mask) → All (IsCounted z.counts (all_before views)) d.counted → FitsCoord z (phased s phase ending hot) d → ((v : WorkerSeatView) → FitsWorker z s v → FitsWorker z (phased s phase ending hot) v) → Shows z (phased s phase ending hot) (set words changed word) (set views place (Coord d))
-leads z s words views place c d phase ending hot changed word sh at made joined on word_is pages_are mask_is published_is counted_are fits workers =
+pub leads : (z : Opening) (s : CoreState) (words : List ℕ) (views : List View) (place : ℕ) (c d : CoordSeatView)
+    (phase : ℕ) (ending : Bool) (hot : ℕ → ℕ) (changed word : ℕ)
+    → Shows z s words views
+    → get_elem? views place ≡ some (Coord c)
+    → d.made ≡ c.made
+    → d.joined ≡ c.joined
+    → s.phase ≤ phase
+    → get_or (set words changed word) 0 0 ≡ shown_word z (phased s phase ending hot)
+    → ((page : ℕ) → page < length z.counts
+    → get_or (set words changed word) (word_of page) 0 ≡ get_or words (word_of page) 0)
+    → (FixesMask phase ending → get_or (set words changed word) mask_place 0 ≡ hot phase)
+    → IfSome d.published (λ mask. get_or (set words changed word) mask_place 0 ≡ mask)
+    → All (IsCounted z.counts (all_before views)) d.counted
+    → FitsCoord z (phased s phase ending hot) d
+    → ((v : WorkerSeatView) → FitsWorker z s v → FitsWorker z (phased s phase ending hot) v)
+    → Shows z (phased s phase ending hot) (set words changed word) (set views place (Coord d))
+leads z s words views place c d phase ending hot changed word sh at made joined on word_is pages_are mask_is
+    published_is counted_are fits workers =
     let t : CoreState = phased s phase ending hot in
     let is = same_coord z s words views place c sh at in
     let same_additions : (k p : ℕ) → before_in k p (Coord d) ≡ before_in k p (Coord c) =
@@ -75,7 +95,8 @@ leads z s words views place c d phase ending hot changed word sh at made joined 
       mask = mask_is;
       merged = sh.merged;
       coord = d;
-      first = ap (get_elem? (set views place (Coord d))) (sym is.0) ∙ set_here views place (Coord d) (within views place (Coord c) at);
+      first = ap (get_elem? (set views place (Coord d))) (sym is.0)
+          ∙ set_here views place (Coord d) (within views place (Coord c) at);
       only = λ j e found. elim (at_set views place j (Coord d) (Coord e) found) [
         | inl here ↦ here.0 ∙ is.0
         | inr there ↦ sh.only j e there.1
@@ -85,7 +106,8 @@ leads z s words views place c d phase ending hot changed word sh at made joined 
         | inr there ↦ others j u there.0 there.1 (sh.each j u there.1)
       ];
       once = λ i.
-          sum_set (seats_of i) views place (Coord c) (Coord d) at (ap (count_by (λ (w : WorkerSeatView). w.worker == i)) joined) ∙
+          sum_set (seats_of i) views place (Coord c) (Coord d) at
+          (ap (count_by (λ (w : WorkerSeatView). w.worker == i)) joined) ∙
           (sh.once i ∙ ap (λ n. cond (nat_lt i n) 1 0) (ap (λ (e : CoordSeatView). e.made) is.1 ∙ sym made));
       published = published_is;
       reads = reads_same z.counts s.phase phase views place (Coord c) (Coord d) on at same_additions
@@ -95,17 +117,34 @@ leads z s words views place c d phase ending hot changed word sh at made joined 
     }
 
 -- the same of a step on the phase word
-pub leads_word : (z : Opening) (s : CoreState) (words : List ℕ) (views : List View) (place : ℕ) (c d : CoordSeatView) (phase : ℕ) (ending : Bool) (hot : ℕ → ℕ) (word : ℕ) → Shows z s words views → get_elem? views place ≡ some (Coord c) → d.made ≡ c.made → d.joined ≡ c.joined → d.counted ≡ c.counted → s.phase ≤ phase → word ≡ shown_word z (phased s phase ending hot) → (FixesMask phase ending → get_or words mask_place 0 ≡ hot phase) → IfSome d.published (λ mask. get_or words mask_place 0 ≡ mask) → FitsCoord z (phased s phase ending hot) d → ((v : WorkerSeatView) → FitsWorker z s v → FitsWorker z (phased s phase ending hot) v) → Shows z (phased s phase ending hot) (set words 0 word) (set views place (Coord d))
-leads_word z s words views place c d phase ending hot word sh at made joined counted on word_is mask_is published_is fits workers =
+pub leads_word : (z : Opening) (s : CoreState) (words : List ℕ) (views : List View) (place : ℕ) (c d : CoordSeatView)
+    (phase : ℕ) (ending : Bool) (hot : ℕ → ℕ) (word : ℕ)
+    → Shows z s words views
+    → get_elem? views place ≡ some (Coord c)
+    → d.made ≡ c.made
+    → d.joined ≡ c.joined
+    → d.counted ≡ c.counted
+    → s.phase ≤ phase
+    → word ≡ shown_word z (phased s phase ending hot)
+    → (FixesMask phase ending → get_or words mask_place 0 ≡ hot phase)
+    → IfSome d.published (λ mask. get_or words mask_place 0 ≡ mask)
+    → FitsCoord z (phased s phase ending hot) d
+    → ((v : WorkerSeatView) → FitsWorker z s v → FitsWorker z (phased s phase ending hot) v)
+    → Shows z (phased s phase ending hot) (set words 0 word) (set views place (Coord d))
+leads_word z s words views place c d phase ending hot word sh at made joined counted on word_is mask_is published_is
+    fits workers =
     let wide = sh.width in
     let past = word_of-past (length z.counts) in
     let last : ℕ = mask_place in
-    let same : get_or (set words 0 word) last 0 ≡ get_or words last 0 = get_or-set_other words 0 last word 0 (λ eq. absurd (omega arith)) in
+    let same : get_or (set words 0 word) last 0 ≡ get_or words last 0 =
+    get_or-set_other words 0 last word 0 (λ eq. absurd (omega arith)) in
     leads z s words views place c d phase ending hot 0 word sh at made joined on
     (get_or-set_same words 0 word 0 (omega arith) ∙ word_is)
-    (λ page below. get_or-set_other words 0 (word_of page) word 0 (λ eq. let far = word_of-past page in absurd (omega arith)))
+    (λ page below. get_or-set_other words 0 (word_of page) word 0
+    (λ eq. let far = word_of-past page in absurd (omega arith)))
     (λ odd. same ∙ mask_is odd)
-    (if_some d.published (λ mask. get_or words last 0 ≡ mask) (λ mask. get_or (set words 0 word) last 0 ≡ mask) (λ mask is. same ∙ is) published_is)
+    (if_some d.published (λ mask. get_or words last 0 ≡ mask) (λ mask. get_or (set words 0 word) last 0 ≡ mask)
+    (λ mask is. same ∙ is) published_is)
     (subst (All (IsCounted z.counts (all_before views))) (sym counted) (of_coord z s words views place c sh at).1)
     fits
     workers
@@ -132,7 +171,11 @@ one_more i n = elim (cases_lt i n) [
 ]
 
 -- a seat for the next worker changes nothing that is shown
-pub splits : (z : Opening) (s : CoreState) (words : List ℕ) (views : List View) (place : ℕ) (c : CoordSeatView) → Shows z s words views → get_elem? views place ≡ some (Coord c) → c.made < z.workers → Shows z s words (set views place (Coord (made_coord c)) ++ Worker (fresh z c.made) ∷ [])
+pub splits : (z : Opening) (s : CoreState) (words : List ℕ) (views : List View) (place : ℕ) (c : CoordSeatView)
+    → Shows z s words views
+    → get_elem? views place ≡ some (Coord c)
+    → c.made < z.workers
+    → Shows z s words (set views place (Coord (made_coord c)) ++ Worker (fresh z c.made) ∷ [])
 splits z s words views place c sh at room =
     let is = same_coord z s words views place c sh at in
     let d : CoordSeatView = made_coord c in
@@ -199,8 +242,11 @@ splits z s words views place c sh at room =
           (sh.once i ∙ ap (λ (e : CoordSeatView). cond (nat_lt i e.made) 1 0) is.1)) ∙
           one_more i c.made);
       reads = λ j u found.
-          reads_push z.counts s.phase changed (Worker new) (λ k p. refl) (λ f. let none = All-nil (λ (r : PageRead). (r.phase ≤ s.phase) × IsBetween z.counts f [] r) in (none, none, All-nil (λ (a : Addition). (a.phase ≤ s.phase) × StandsBetween z.counts f a)))
-          (reads_same z.counts s.phase s.phase views place (Coord c) (Coord d) (omega arith) at (λ k p. refl) (λ f has. has) sh.reads)
+          reads_push z.counts s.phase changed (Worker new) (λ k p. refl)
+          (λ f. let none = All-nil (λ (r : PageRead). (r.phase ≤ s.phase) × IsBetween z.counts f [] r) in
+          (none, none, All-nil (λ (a : Addition). (a.phase ≤ s.phase) × StandsBetween z.counts f a)))
+          (reads_same z.counts s.phase s.phase views place (Coord c) (Coord d) (omega arith) at (λ k p. refl)
+          (λ f has. has) sh.reads)
           j u
           (at_snoc changed (Worker new) u j found);
       published = (of_coord z s words views place c sh at).0;

@@ -53,10 +53,15 @@ others_keep s i page n j phase q other =
     update_cases P s.applied page (s.applied page ++ more) (omega arith) (λ r apart. refl) q
 
 -- the own view's additions are the labels
-own_labels : (z : Opening) (s : CoreState) (v : WorkerSeatView) (page count n : ℕ) → FitsWorker z s v → phase_of v.state ≡ s.phase → (phase q : ℕ) → labelled v.worker phase (applied_by s v.worker page n q) ≡ added_in phase q (added_view v page count n).additions
+own_labels : (z : Opening) (s : CoreState) (v : WorkerSeatView) (page count n : ℕ)
+    → FitsWorker z s v
+    → phase_of v.state ≡ s.phase
+    → (phase q : ℕ)
+    → labelled v.worker phase (applied_by s v.worker page n q) ≡ added_in phase q (added_view v page count n).additions
 own_labels z s v page count n f present phase q =
     let more : List Label = replicate n (label v.worker s.phase) in
-    let P : ℕ → List Label → Type 0 = λ r l. labelled v.worker phase l ≡ added_in phase r (added_view v page count n).additions in
+    let P : ℕ → List Label → Type 0 =
+    λ r l. labelled v.worker phase l ≡ added_in phase r (added_view v page count n).additions in
     let here : P page (s.applied page ++ more) =
     labelled-append v.worker phase (s.applied page) more ∙
     ((λ m. f.labels phase page m + labels_here v.worker s.phase phase page n m) ∙
@@ -68,7 +73,10 @@ own_labels z s v page count n f present phase q =
     q
 
 -- the view fits after its addition
-fits_added : (z : Opening) (s : CoreState) (v : WorkerSeatView) (page count n : ℕ) (rest : ℕ → List ℕ) → FitsWorker z s v → phase_of v.state ≡ s.phase → FitsWorker z (record s { unmerged = rest; applied = applied_by s v.worker page n }) (added_view v page count n)
+fits_added : (z : Opening) (s : CoreState) (v : WorkerSeatView) (page count n : ℕ) (rest : ℕ → List ℕ)
+    → FitsWorker z s v
+    → phase_of v.state ≡ s.phase
+    → FitsWorker z (record s { unmerged = rest; applied = applied_by s v.worker page n }) (added_view v page count n)
 fits_added z s v page count n rest f present = record {
   opening = f.opening;
   there = f.there;
@@ -88,10 +96,18 @@ applied_here s i page n =
 
 applied_else : (s : CoreState) (i page n q : ℕ) → q ≢ page → length (applied_by s i page n q) ≡ length (s.applied q)
 applied_else s i page n q other =
-    ap (λ (l : List Label). length l) (update-other s.applied page (s.applied page ++ replicate n (label i s.phase)) q other)
+    ap (λ (l : List Label). length l)
+    (update-other s.applied page (s.applied page ++ replicate n (label i s.phase)) q other)
 
 -- what the views have added and may still add, after an addition
-tallied_added : (likes : ℕ) (s : CoreState) (views : List View) (place : ℕ) (v : WorkerSeatView) (page count n : ℕ) (rest : ℕ → List ℕ) → get_elem? views place ≡ some (Worker v) → phase_of v.state ≡ s.phase → added_to page v.additions + n ≤ likes → Tallied likes s views → Tallied likes (record s { unmerged = rest; applied = applied_by s v.worker page n }) (set views place (Worker (added_view v page count n)))
+tallied_added : (likes : ℕ) (s : CoreState) (views : List View) (place : ℕ) (v : WorkerSeatView) (page count n : ℕ)
+    (rest : ℕ → List ℕ)
+    → get_elem? views place ≡ some (Worker v)
+    → phase_of v.state ≡ s.phase
+    → added_to page v.additions + n ≤ likes
+    → Tallied likes s views
+    → Tallied likes (record s { unmerged = rest; applied = applied_by s v.worker page n })
+    (set views place (Worker (added_view v page count n)))
 tallied_added likes s views place v page count n rest at present few old =
     let w : WorkerSeatView = added_view v page count n in
     let sums_now : (q : ℕ) → length (applied_by s v.worker page n q) ≡ sum_by (paged q) (set views place (Worker w)) =
@@ -107,10 +123,13 @@ tallied_added likes s views place v page count n rest at present few old =
       | inr other ↦
           applied_else s v.worker page n q other ∙
           (old.sums q ∙
-          sym (sum_set (paged q) views place (Worker v) (Worker w) at (added_to_else v.additions (phase_of v.state) page count n q other)))
+          sym (sum_set (paged q) views place (Worker v) (Worker w) at
+          (added_to_else v.additions (phase_of v.state) page count n q other)))
     ]
     in
-    let rooms_now : (q : ℕ) → length (applied_by s v.worker page n q) + sum_by (room likes q) (set views place (Worker w)) ≤ likes * max_workers =
+    let rooms_now : (q : ℕ)
+    → length (applied_by s v.worker page n q) + sum_by (room likes q) (set views place (Worker w))
+    ≤ likes * max_workers =
     λ q.
     elim (cases_eq q page) [
       | inl same ↦
@@ -130,7 +149,8 @@ tallied_added likes s views place v page count n rest at present few old =
           omega arith
     ]
     in
-    let past_now : (phase q : ℕ) → s.phase < phase → all_before (set views place (Worker w)) phase q ≡ sum_by (paged q) (set views place (Worker w)) =
+    let past_now : (phase q : ℕ) → s.phase < phase
+    → all_before (set views place (Worker w)) phase q ≡ sum_by (paged q) (set views place (Worker w)) =
     λ phase q later.
     let before = old.past phase q later in
     let swap_before = sum_swap (before_in phase q) views place (Worker v) (Worker w) at in
@@ -145,11 +165,18 @@ tallied_added likes s views place v page count n rest at present few old =
     record { sums = sums_now; rooms = rooms_now; past = past_now }
 
 -- the counts that the coordinator read have none of it: in their phases nobody runs any more
-counted_added : (z : Opening) (s : CoreState) (words : List ℕ) (views : List View) (place : ℕ) (v : WorkerSeatView) (page count n : ℕ) → (sh : Shows z s words views) → get_elem? views place ≡ some (Worker v) → s.state v.worker ≡ Runs s.phase → phase_of v.state ≡ s.phase → All (IsCounted z.counts (all_before (set views place (Worker (added_view v page count n))))) sh.coord.counted
+counted_added : (z : Opening) (s : CoreState) (words : List ℕ) (views : List View) (place : ℕ) (v : WorkerSeatView)
+    (page count n : ℕ)
+    → (sh : Shows z s words views)
+    → get_elem? views place ≡ some (Worker v)
+    → s.state v.worker ≡ Runs s.phase
+    → phase_of v.state ≡ s.phase
+    → All (IsCounted z.counts (all_before (set views place (Worker (added_view v page count n))))) sh.coord.counted
 counted_added z s words views place v page count n sh at runs present =
     let old : FitsWorker z s v = sh.each place (Worker v) at in
     let coord : FitsCoord z s sh.coord = sh.each 0 (Coord sh.coord) sh.first in
-    counted_on z.counts (all_before views) (all_before (set views place (Worker (added_view v page count n)))) sh.coord.counted
+    counted_on z.counts (all_before views)
+    (all_before (set views place (Worker (added_view v page count n)))) sh.coord.counted
     (λ k d inside.
     let r : PageCount = get_or sh.coord.counted k d in
     let of = coord.counted k d inside in
@@ -162,7 +189,10 @@ counted_added z s words views place v page count n sh at runs present =
     sh.counted
 
 -- a count is at most as large as counts may be at the start
-pub count_low : (counts : List ℕ) (page : ℕ) → page < length counts → All (λ n. n ≤ max_count) counts → get_or counts page 0 ≤ max_count
+pub count_low : (counts : List ℕ) (page : ℕ)
+    → page < length counts
+    → All (λ n. n ≤ max_count) counts
+    → get_or counts page 0 ≤ max_count
 count_low counts page on low = All-get_or (λ (n : ℕ). n ≤ max_count) counts page 0 on low
 
 -- something is added
@@ -174,7 +204,15 @@ some_likes v page n may = by_test (slices v page) refl
     by_test false plain = let one = may.like plain in omega arith
 
 -- an addition is its events
-pub adds : (z : Opening) (words : List ℕ) (views : List View) (place : ℕ) (v : WorkerSeatView) (page n : ℕ) → ShowsSome z words views → get_elem? views place ≡ some (Worker v) → MayAdd (post_of v) page n → IsSteps z (likes_merged v page n) (adding v page) (Old (get_or words (word_of page) 0)) (Worker v) (Worker (added_view v page (get_or words (word_of page) 0) n)) × ShowsSome z (set words (word_of page) ((get_or words (word_of page) 0 + n) % 2 ^ 64)) (set views place (Worker (added_view v page (get_or words (word_of page) 0) n))) × (added_to page v.additions ≤ get_or words (word_of page) 0)
+pub adds : (z : Opening) (words : List ℕ) (views : List View) (place : ℕ) (v : WorkerSeatView) (page n : ℕ)
+    → ShowsSome z words views
+    → get_elem? views place ≡ some (Worker v)
+    → MayAdd (post_of v) page n
+    → IsSteps z (likes_merged v page n) (adding v page) (Old (get_or words (word_of page) 0)) (Worker v)
+    (Worker (added_view v page (get_or words (word_of page) 0) n))
+    × ShowsSome z (set words (word_of page) ((get_or words (word_of page) 0 + n) % 2 ^ 64))
+    (set views place (Worker (added_view v page (get_or words (word_of page) 0) n)))
+    × (added_to page v.additions ≤ get_or words (word_of page) 0)
 adds z words views place v page n some_state at may =
     let s = some_state.state in
     let sh = some_state.shows in
@@ -202,7 +240,8 @@ adds z words views place v page n some_state at may =
     let sums = some_state.tallied.sums page in
     let part = sum_part (paged page) views place (Worker v) at in
     let found : get_or words (word_of page) 0 ≡ get_or z.counts page 0 + length (s.applied page) = sh.pages page on in
-    let same : split (is_marked z.marks) s.hot s.phase page ≡ slices (post_of v) page = slices_are z s v page old present may.known in
+    let same : split (is_marked z.marks) s.hot s.phase page ≡ slices (post_of v) page =
+    slices_are z s v page old present may.known in
     let a : Adding z s i page n (likes_merged v page n) (adding v page) =
     adds_either z s i page n (slices (post_of v) page) same may.like
     (λ sliced. old.ending may.runs (may.merge sliced).1)
@@ -225,7 +264,8 @@ adds z words views place v page n some_state at may =
     (others_keep s i page n)
     (fits_added z s v page count n a.rest old present)
     (subst (λ (now : ℕ). ReadsFit z.counts now (set views place (Worker w))) present
-    (addition_keeps_reads z.counts views place v page count n at begins (subst (λ (now : ℕ). ReadsFit z.counts now views) (sym present) sh.reads)))
+    (addition_keeps_reads z.counts views place v page count n at begins
+    (subst (λ (now : ℕ). ReadsFit z.counts now views) (sym present) sh.reads)))
     (counted_added z s words views place v page count n sh at (here ∙ ap Runs now) present)
     in
     let last : CoreState = after z (after_all z s (likes_merged v page n)) (adding v page) in
@@ -244,17 +284,20 @@ adds z words views place v page n some_state at may =
         mine = at;
         before = a.before;
         permits = a.permits;
-        tells = subst (λ (k : ℕ). IsShown (numbers z (after_all z s (likes_merged v page n))) (adding v page) (Old k)) (sym found) a.tells;
+        tells = subst (λ (k : ℕ). IsShown (numbers z (after_all z s (likes_merged v page n))) (adding v page) (Old k))
+            (sym found) a.tells;
         changed = word_of page;
         word = word;
-        shows_after = subst (λ (u : CoreState). Shows z u (set words (word_of page) word) (set views place (Worker w))) (sym a.leads) shows;
+        shows_after = subst (λ (u : CoreState). Shows z u (set words (word_of page) word) (set views place (Worker w)))
+            (sym a.leads) shows;
       },
       record {
         state = t;
         reachable = subst (Reachable z) a.leads reached;
         shows = shows;
         tallied = tallied_added z.limits.likes s views place v page count n a.rest at present few some_state.tallied;
-        places = addition_keeps_places z.counts views place v page count n at (omega arith) (some_likes (post_of v) page n may) some_state.places;
+        places = addition_keeps_places z.counts views place v page count n at (omega arith)
+            (some_likes (post_of v) page n may) some_state.places;
       },
       omega arith,
     )

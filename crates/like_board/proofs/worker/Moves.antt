@@ -44,7 +44,10 @@ moved_same s i state same =
     λ m. record s { state = λ j. each j m }
 
 -- a view of another worker keeps fitting while a worker moves
-fits_worker_moved : (z : Opening) (s : CoreState) (i : ℕ) (state : WorkerState) (v : WorkerSeatView) → v.worker ≢ i → FitsWorker z s v → FitsWorker z (moved s i state) v
+fits_worker_moved : (z : Opening) (s : CoreState) (i : ℕ) (state : WorkerState) (v : WorkerSeatView)
+    → v.worker ≢ i
+    → FitsWorker z s v
+    → FitsWorker z (moved s i state) v
 fits_worker_moved z s i state v other f = record {
   opening = f.opening;
   there = f.there;
@@ -56,7 +59,10 @@ fits_worker_moved z s i state v other f = record {
 }
 
 -- a worker of which no seat was given back is none of those whose seats were
-pub joined_other : (c : CoordSeatView) (i place : ℕ) (v : WorkerSeatView) → seats_of i (Coord c) ≡ 0 → get_elem? c.joined place ≡ some v → v.worker ≢ i
+pub joined_other : (c : CoordSeatView) (i place : ℕ) (v : WorkerSeatView)
+    → seats_of i (Coord c) ≡ 0
+    → get_elem? c.joined place ≡ some v
+    → v.worker ≢ i
 joined_other c i place v none at =
     λ same.
     let part = sum_part (λ (w : WorkerSeatView). cond (w.worker == i) 1 0) c.joined place v at in
@@ -64,7 +70,14 @@ joined_other c i place v none at =
     absurd (omega arith)
 
 -- the coordinator's view keeps fitting while a worker moves
-fits_coord_moved : (z : Opening) (s : CoreState) (c : CoordSeatView) (i : ℕ) (state : WorkerState) → i < z.workers → i < c.made → seats_of i (Coord c) ≡ 0 → (IsIn s.phase (s.state i) → state ≡ s.state i) → (IsSplit s.phase → state ≡ Gone → s.state i ≡ Gone) → FitsCoord z s c → FitsCoord z (moved s i state) c
+fits_coord_moved : (z : Opening) (s : CoreState) (c : CoordSeatView) (i : ℕ) (state : WorkerState)
+    → i < z.workers
+    → i < c.made
+    → seats_of i (Coord c) ≡ 0
+    → (IsIn s.phase (s.state i) → state ≡ s.state i)
+    → (IsSplit s.phase → state ≡ Gone → s.state i ≡ Gone)
+    → FitsCoord z s c
+    → FitsCoord z (moved s i state) c
 fits_coord_moved z s c i state there has_seat none stays gone f =
     let t : CoreState = moved s i state in
     let same : AllIn (numbers z s) → t ≡ s = λ all. moved_same s i state (stays (all i there)) in
@@ -115,7 +128,15 @@ worker_other i v none =
     absurd (omega arith)
 
 -- another seat's view keeps fitting while a worker moves
-fits_other : (z : Opening) (s : CoreState) (i : ℕ) (state : WorkerState) → i < z.workers → (IsIn s.phase (s.state i) → state ≡ s.state i) → (IsSplit s.phase → state ≡ Gone → s.state i ≡ Gone) → (u : View) → seats_of i u ≡ 0 → ((c : CoordSeatView) → u ≡ Coord c → i < c.made) → Fits z s u → Fits z (moved s i state) u
+fits_other : (z : Opening) (s : CoreState) (i : ℕ) (state : WorkerState)
+    → i < z.workers
+    → (IsIn s.phase (s.state i) → state ≡ s.state i)
+    → (IsSplit s.phase → state ≡ Gone → s.state i ≡ Gone)
+    → (u : View)
+    → seats_of i u ≡ 0
+    → ((c : CoordSeatView) → u ≡ Coord c → i < c.made)
+    → Fits z s u
+    → Fits z (moved s i state) u
 fits_other z s i state there stays gone (Coord c) none has_seat f =
     fits_coord_moved z s c i state there (has_seat c refl) none stays gone f
 fits_other z s i state there stays gone (Worker v) none has_seat f =
@@ -131,7 +152,10 @@ pub counts_one : (b : Bool) → b ≡ true → ◌≡◌ {A = ℕ} (cond b 1 0) 
 counts_one b is = cond-true b 1 0 is
 
 -- a worker that has a seat is among those for which one was made
-pub has_seat : (z : Opening) (s : CoreState) (words : List ℕ) (views : List View) (place : ℕ) (v : WorkerSeatView) → (sh : Shows z s words views) → get_elem? views place ≡ some (Worker v) → v.worker < sh.coord.made
+pub has_seat : (z : Opening) (s : CoreState) (words : List ℕ) (views : List View) (place : ℕ) (v : WorkerSeatView)
+    → (sh : Shows z s words views)
+    → get_elem? views place ≡ some (Worker v)
+    → v.worker < sh.coord.made
 has_seat z s words views place v sh at =
     let part = sum_part (seats_of v.worker) views place (Worker v) at in
     let one : seats_of v.worker (Worker v) ≡ 1 = cond-true (v.worker == v.worker) 1 0 (eq-eqb v.worker v.worker refl) in
@@ -149,7 +173,10 @@ once_at_most true = omega arith
 once_at_most false = omega arith
 
 -- the one coordinator's view
-pub same_coord : (z : Opening) (s : CoreState) (words : List ℕ) (views : List View) (place : ℕ) (c : CoordSeatView) → (sh : Shows z s words views) → get_elem? views place ≡ some (Coord c) → (place ≡ 0) × (sh.coord ≡ c)
+pub same_coord : (z : Opening) (s : CoreState) (words : List ℕ) (views : List View) (place : ℕ) (c : CoordSeatView)
+    → (sh : Shows z s words views)
+    → get_elem? views place ≡ some (Coord c)
+    → (place ≡ 0) × (sh.coord ≡ c)
 same_coord z s words views place c sh at =
     let zeroth = sh.only place c at in
     let here : get_elem? views 0 ≡ some (Coord c) = ap (get_elem? views) (sym zeroth) ∙ at in
@@ -159,8 +186,26 @@ same_coord z s words views place c sh at =
 
 -- after a worker's step, with a new view of its own that fits, the words and the views show the state after, where the
 -- words do and each view fits it that is no seat of the worker's
-pub worker_steps : (z : Opening) (s t : CoreState) (words later : List ℕ) (views : List View) (place : ℕ) (v w : WorkerSeatView) → (sh : Shows z s words views) → get_elem? views place ≡ some (Worker v) → w.worker ≡ v.worker → length later ≡ length words → get_or later 0 0 ≡ shown_word z t → ((page : ℕ) → page < length z.counts → get_or later (word_of page) 0 ≡ get_or z.counts page 0 + length (t.applied page)) → get_or later mask_place 0 ≡ get_or words mask_place 0 → (FixesMask t.phase t.ending → get_or words mask_place 0 ≡ t.hot t.phase) → ((i : ℕ) → t.unmerged i ≡ []) → FitsWorker z t w → ((u : View) → seats_of v.worker u ≡ 0 → ((c : CoordSeatView) → u ≡ Coord c → v.worker < c.made) → Fits z s u → Fits z t u) → ReadsFit z.counts t.phase (set views place (Worker w)) → All (IsCounted z.counts (all_before (set views place (Worker w)))) sh.coord.counted → Shows z t later (set views place (Worker w))
-worker_steps z s t words later views place v w sh at number width word pages same_mask mask merged fits others reads counted =
+pub worker_steps : (z : Opening) (s t : CoreState) (words later : List ℕ) (views : List View) (place : ℕ)
+    (v w : WorkerSeatView)
+    → (sh : Shows z s words views)
+    → get_elem? views place ≡ some (Worker v)
+    → w.worker ≡ v.worker
+    → length later ≡ length words
+    → get_or later 0 0 ≡ shown_word z t
+    → ((page : ℕ) → page < length z.counts
+    → get_or later (word_of page) 0 ≡ get_or z.counts page 0 + length (t.applied page))
+    → get_or later mask_place 0 ≡ get_or words mask_place 0
+    → (FixesMask t.phase t.ending → get_or words mask_place 0 ≡ t.hot t.phase)
+    → ((i : ℕ) → t.unmerged i ≡ [])
+    → FitsWorker z t w
+    → ((u : View) → seats_of v.worker u ≡ 0 → ((c : CoordSeatView) → u ≡ Coord c → v.worker < c.made) → Fits z s u
+    → Fits z t u)
+    → ReadsFit z.counts t.phase (set views place (Worker w))
+    → All (IsCounted z.counts (all_before (set views place (Worker w)))) sh.coord.counted
+    → Shows z t later (set views place (Worker w))
+worker_steps z s t words later views place v w sh at number width word pages same_mask mask merged fits others reads
+    counted =
     let seated = has_seat z s words views place v sh at in
     let not_first : place ≢ 0 = λ zeroth.
     let here : get_elem? views 0 ≡ some (Worker v) = ap (get_elem? views) (sym zeroth) ∙ at in
@@ -187,9 +232,11 @@ worker_steps z s t words later views place v w sh at number width word pages sam
             let two = sum_two (seats_of v.worker) views place j (Worker v) u (λ eq. there.0 (sym eq)) at there.1 in
             let once = sh.once v.worker in
             let most = once_at_most (nat_lt v.worker sh.coord.made) in
-            let one : seats_of v.worker (Worker v) ≡ 1 = cond-true (v.worker == v.worker) 1 0 (eq-eqb v.worker v.worker refl) in
+            let one : seats_of v.worker (Worker v) ≡ 1 =
+            cond-true (v.worker == v.worker) 1 0 (eq-eqb v.worker v.worker refl) in
             others u (omega arith)
-            (λ c is. subst (λ (d : CoordSeatView). v.worker < d.made) (same_coord z s words views j c sh (there.1 ∙ ap some is)).1 seated)
+            (λ c is. subst (λ (d : CoordSeatView). v.worker < d.made)
+            (same_coord z s words views j c sh (there.1 ∙ ap some is)).1 seated)
             (sh.each j u there.1)
       ];
       once = λ i.
@@ -205,15 +252,26 @@ worker_steps z s t words later views place v w sh at number width word pages sam
 
 -- after worker i moved, with a new view of its own that fits and has the same additions and reads, the words and the
 -- views show the state after
-pub worker_moves : (z : Opening) (s : CoreState) (words : List ℕ) (views : List View) (place : ℕ) (v w : WorkerSeatView) (state : WorkerState) (word : ℕ) → Shows z s words views → get_elem? views place ≡ some (Worker v) → w ≡ record v { state = w.state; last = w.last; looks = w.looks } → word ≡ shown_word z (moved s v.worker state) → FitsWorker z (moved s v.worker state) w → (IsIn s.phase (s.state v.worker) → state ≡ s.state v.worker) → (IsSplit s.phase → state ≡ Gone → s.state v.worker ≡ Gone) → Shows z (moved s v.worker state) (set words 0 word) (set views place (Worker w))
+pub worker_moves : (z : Opening) (s : CoreState) (words : List ℕ) (views : List View) (place : ℕ) (v w : WorkerSeatView)
+    (state : WorkerState) (word : ℕ)
+    → Shows z s words views
+    → get_elem? views place ≡ some (Worker v)
+    → w ≡ record v { state = w.state; last = w.last; looks = w.looks }
+    → word ≡ shown_word z (moved s v.worker state)
+    → FitsWorker z (moved s v.worker state) w
+    → (IsIn s.phase (s.state v.worker) → state ≡ s.state v.worker)
+    → (IsSplit s.phase → state ≡ Gone → s.state v.worker ≡ Gone)
+    → Shows z (moved s v.worker state) (set words 0 word) (set views place (Worker w))
 worker_moves z s words views place v w state word sh at rest word_is fits stays gone =
     let wide = sh.width in
     let past = word_of-past (length z.counts) in
     let old : FitsWorker z s v = sh.each place (Worker v) at in
-    worker_steps z s (moved s v.worker state) words (set words 0 word) views place v w sh at (ap (λ (x : WorkerSeatView). x.worker) rest)
+    worker_steps z s (moved s v.worker state) words (set words 0 word) views place v w sh at
+    (ap (λ (x : WorkerSeatView). x.worker) rest)
     (length-set words 0 word)
     (get_or-set_same words 0 word 0 (omega arith) ∙ word_is)
-    (λ page below. get_or-set_other words 0 (word_of page) word 0 (λ eq. let far = word_of-past page in absurd (omega arith)) ∙ sh.pages page below)
+    (λ page below. get_or-set_other words 0 (word_of page) word 0
+    (λ eq. let far = word_of-past page in absurd (omega arith)) ∙ sh.pages page below)
     (get_or-set_other words 0 mask_place word 0 (λ eq. absurd (omega arith)))
     sh.mask
     sh.merged

@@ -26,10 +26,15 @@ use Rattle.like_core.proofs.views.Apart.{word_of-past, word_of-order, word_of-in
 use Rattle.like_board.proofs.worker.Moves.{if_some, joined_other, worker_other, worker_steps}
 
 -- what the post knows of slices is what is split in the state
-pub slices_are : (z : Opening) (s : CoreState) (v : WorkerSeatView) (page : ℕ) → FitsWorker z s v → phase_of v.state ≡ s.phase → KnowsSlices (post_of v) page → split (is_marked z.marks) s.hot s.phase page ≡ slices (post_of v) page
+pub slices_are : (z : Opening) (s : CoreState) (v : WorkerSeatView) (page : ℕ)
+    → FitsWorker z s v
+    → phase_of v.state ≡ s.phase
+    → KnowsSlices (post_of v) page
+    → split (is_marked z.marks) s.hot s.phase page ≡ slices (post_of v) page
 slices_are z s v page f present knows =
     sym (λ m. split (is_marked (f.opening m).marks) s.hot (present m) page) ∙
-    split-known (is_marked v.opening.marks) s.hot v.masks (phase_of v.state) page (λ i d inside. (f.masks i d inside).1) knows
+    split-known (is_marked v.opening.marks) s.hot v.masks (phase_of v.state) page
+    (λ i d inside. (f.masks i d inside).1) knows
 
 -- the state with these unmerged and applied likes
 abbrev pub with_likes : CoreState → (ℕ → List ℕ) → (ℕ → List Label) → CoreState
@@ -37,10 +42,16 @@ with_likes s unmerged applied = record s { unmerged = unmerged; applied = applie
 
 -- the likes of all workers but one have the labels that they had
 abbrev pub KeepsOthers : CoreState → (ℕ → List Label) → ℕ → Type 0
-KeepsOthers s applied i = (j phase page : ℕ) → j ≢ i → labelled j phase (applied page) ≡ labelled j phase (s.applied page)
+KeepsOthers s applied i =
+    (j phase page : ℕ) → j ≢ i → labelled j phase (applied page) ≡ labelled j phase (s.applied page)
 
 -- a view of another worker keeps fitting
-fits_worker_else : (z : Opening) (s : CoreState) (unmerged : ℕ → List ℕ) (applied : ℕ → List Label) (i : ℕ) (v : WorkerSeatView) → KeepsOthers s applied i → v.worker ≢ i → FitsWorker z s v → FitsWorker z (with_likes s unmerged applied) v
+fits_worker_else : (z : Opening) (s : CoreState) (unmerged : ℕ → List ℕ) (applied : ℕ → List Label) (i : ℕ)
+    (v : WorkerSeatView)
+    → KeepsOthers s applied i
+    → v.worker ≢ i
+    → FitsWorker z s v
+    → FitsWorker z (with_likes s unmerged applied) v
 fits_worker_else z s unmerged applied i v keeps other f = record {
   opening = f.opening;
   there = f.there;
@@ -52,7 +63,13 @@ fits_worker_else z s unmerged applied i v keeps other f = record {
 }
 
 -- the view of another seat keeps fitting
-fits_else : (z : Opening) (s : CoreState) (unmerged : ℕ → List ℕ) (applied : ℕ → List Label) (i : ℕ) → KeepsOthers s applied i → (u : View) → seats_of i u ≡ 0 → ((c : CoordSeatView) → u ≡ Coord c → i < c.made) → Fits z s u → Fits z (with_likes s unmerged applied) u
+fits_else : (z : Opening) (s : CoreState) (unmerged : ℕ → List ℕ) (applied : ℕ → List Label) (i : ℕ)
+    → KeepsOthers s applied i
+    → (u : View)
+    → seats_of i u ≡ 0
+    → ((c : CoordSeatView) → u ≡ Coord c → i < c.made)
+    → Fits z s u
+    → Fits z (with_likes s unmerged applied) u
 fits_else z s unmerged applied i keeps (Coord c) none has_seat f =
     let seated = has_seat c refl in
     let t : CoreState = with_likes s unmerged applied in
@@ -87,8 +104,22 @@ fits_else z s unmerged applied i keeps (Worker v) none has_seat f =
 fits_else z s unmerged applied i keeps Spent none has_seat f = tt
 
 -- after a step on a page's word, with a new view of its own that fits, the words and the views show the state after
-pub page_steps : (z : Opening) (s : CoreState) (unmerged : ℕ → List ℕ) (applied : ℕ → List Label) (words : List ℕ) (views : List View) (place : ℕ) (v w : WorkerSeatView) (page word : ℕ) → (sh : Shows z s words views) → get_elem? views place ≡ some (Worker v) → w.worker ≡ v.worker → page < length z.counts → word ≡ get_or z.counts page 0 + length (applied page) → ((q : ℕ) → q ≢ page → length (applied q) ≡ length (s.applied q)) → ((j : ℕ) → unmerged j ≡ []) → KeepsOthers s applied v.worker → FitsWorker z (with_likes s unmerged applied) w → ReadsFit z.counts s.phase (set views place (Worker w)) → All (IsCounted z.counts (all_before (set views place (Worker w)))) sh.coord.counted → Shows z (with_likes s unmerged applied) (set words (word_of page) word) (set views place (Worker w))
-page_steps z s unmerged applied words views place v w page word sh at number on word_is others merged keeps fits reads counted =
+pub page_steps : (z : Opening) (s : CoreState) (unmerged : ℕ → List ℕ) (applied : ℕ → List Label) (words : List ℕ)
+    (views : List View) (place : ℕ) (v w : WorkerSeatView) (page word : ℕ)
+    → (sh : Shows z s words views)
+    → get_elem? views place ≡ some (Worker v)
+    → w.worker ≡ v.worker
+    → page < length z.counts
+    → word ≡ get_or z.counts page 0 + length (applied page)
+    → ((q : ℕ) → q ≢ page → length (applied q) ≡ length (s.applied q))
+    → ((j : ℕ) → unmerged j ≡ [])
+    → KeepsOthers s applied v.worker
+    → FitsWorker z (with_likes s unmerged applied) w
+    → ReadsFit z.counts s.phase (set views place (Worker w))
+    → All (IsCounted z.counts (all_before (set views place (Worker w)))) sh.coord.counted
+    → Shows z (with_likes s unmerged applied) (set words (word_of page) word) (set views place (Worker w))
+page_steps z s unmerged applied words views place v w page word sh at number on word_is others merged keeps fits reads
+    counted =
     let wide = sh.width in
     let past = word_of-past page in
     let inside = word_of-order page (length z.counts) on in

@@ -50,13 +50,27 @@ IsRead z words views place v page event w =
 
 -- a read or a glance, which gives the view these reads and glances, is the event, where the event changes nothing, shows
 -- the count and is permitted, and where the view's reads and glances stay between what was added and in their places
-reads_word : (z : Opening) (words : List ℕ) (views : List View) (place : ℕ) (v : WorkerSeatView) (page : ℕ) (event : Event) (rs gs : List PageRead) → (some_state : ShowsSome z words views) → get_elem? views place ≡ some (Worker v) → IsRunning v.state → page < length v.opening.marks → KnowsSlices (post_of v) page → after z some_state.state event ≡ some_state.state
-    → IsShown (numbers z some_state.state) event (Count (slice_index z.counts page + length (some_state.state.applied page)))
-    → (some_state.state.state v.worker ≡ Runs some_state.state.phase → v.worker < z.workers → page < length z.counts → split (is_marked z.marks) some_state.state.hot some_state.state.phase page ≡ slices (post_of v) page → Permits (numbers z some_state.state) event)
-    → (get_or words (word_of page) 0 ≡ slice_index z.counts page + all_before views (phase_of v.state + 1) page → ReadsFit z.counts (phase_of v.state) views → ReadsFit z.counts (phase_of v.state) (set views place (Worker (record v { reads = rs; glances = gs }))))
-    → (get_or words (word_of page) 0 ≡ count_after z.counts views page → PlacesTile z.counts views → PlacesTile z.counts (set views place (Worker (record v { reads = rs; glances = gs }))))
+reads_word : (z : Opening) (words : List ℕ) (views : List View) (place : ℕ) (v : WorkerSeatView) (page : ℕ)
+    (event : Event) (rs gs : List PageRead)
+    → (some_state : ShowsSome z words views)
+    → get_elem? views place ≡ some (Worker v)
+    → IsRunning v.state
+    → page < length v.opening.marks
+    → KnowsSlices (post_of v) page
+    → after z some_state.state event ≡ some_state.state
+    → IsShown (numbers z some_state.state) event
+    (Count (slice_index z.counts page + length (some_state.state.applied page)))
+    → (some_state.state.state v.worker ≡ Runs some_state.state.phase → v.worker < z.workers → page < length z.counts
+    → split (is_marked z.marks) some_state.state.hot some_state.state.phase page ≡ slices (post_of v) page
+    → Permits (numbers z some_state.state) event)
+    → (get_or words (word_of page) 0 ≡ slice_index z.counts page + all_before views (phase_of v.state + 1) page
+    → ReadsFit z.counts (phase_of v.state) views
+    → ReadsFit z.counts (phase_of v.state) (set views place (Worker (record v { reads = rs; glances = gs }))))
+    → (get_or words (word_of page) 0 ≡ count_after z.counts views page → PlacesTile z.counts views
+    → PlacesTile z.counts (set views place (Worker (record v { reads = rs; glances = gs }))))
     → IsRead z words views place v page event (record v { reads = rs; glances = gs })
-reads_word z words views place v page event rs gs some_state at running may_there knows stays shown permitted keep_reads keep_places =
+reads_word z words views place v page event rs gs some_state at running may_there knows stays shown permitted keep_reads
+    keep_places =
     let s = some_state.state in
     let sh = some_state.shows in
     let i = v.worker in
@@ -69,7 +83,8 @@ reads_word z words views place v page event rs gs some_state at running may_ther
     ap (λ (y : Opening). length y.marks) old.opening ∙ sh.opening.marks
     in
     let on : page < length z.counts = omega arith in
-    let same : split (is_marked z.marks) s.hot s.phase page ≡ slices (post_of v) page = slices_are z s v page old present knows in
+    let same : split (is_marked z.marks) s.hot s.phase page ≡ slices (post_of v) page =
+    slices_are z s v page old present knows in
     let sums = some_state.tallied.sums page in
     let part = sum_part (paged page) views place (Worker v) at in
     let count : ℕ = get_or words (word_of page) 0 in
@@ -115,41 +130,68 @@ reads_word z words views place v page event rs gs some_state at running may_ther
         tells = subst (λ (n : ℕ). IsShown (numbers z s) event (Count n)) (sym found) shown;
         changed = word_of page;
         word = count;
-        shows_after = subst (λ (t : CoreState). Shows z t (set words (word_of page) count) (set views place (Worker w))) (sym stays) shows;
+        shows_after = subst (λ (t : CoreState). Shows z t (set words (word_of page) count) (set views place (Worker w)))
+            (sym stays) shows;
       },
       record {
         state = s;
         reachable = some_state.reachable;
         shows = shows;
-        tallied = tallied_on z.limits.likes s s views place (Worker v) (Worker w) (omega arith) (λ _. refl) at (λ _. refl) (λ _. refl) (λ _ _. refl) some_state.tallied;
+        tallied = tallied_on z.limits.likes s s views place (Worker v) (Worker w) (omega arith) (λ _. refl) at
+            (λ _. refl) (λ _. refl) (λ _ _. refl) some_state.tallied;
         places = keep_places (omega arith) some_state.places;
       },
       omega arith,
-      omega (arith, count_low z.counts page on sh.opening.counts, some_state.tallied.rooms page, sh.opening.limits.likes, found),
+      omega (
+        arith,
+        count_low z.counts page on sh.opening.counts,
+        some_state.tallied.rooms page,
+        sh.opening.limits.likes,
+        found,
+      ),
     )
 
 -- a read is the event
-pub reads : (z : Opening) (words : List ℕ) (views : List View) (place : ℕ) (v : WorkerSeatView) (page : ℕ) → MayRead (post_of v) page → ShowsSome z words views → get_elem? views place ≡ some (Worker v) → IsRead z words views place v page (Read v.worker page) (read_view v page (get_or words (word_of page) 0))
+pub reads : (z : Opening) (words : List ℕ) (views : List View) (place : ℕ) (v : WorkerSeatView) (page : ℕ)
+    → MayRead (post_of v) page
+    → ShowsSome z words views
+    → get_elem? views place ≡ some (Worker v)
+    → IsRead z words views place v page (Read v.worker page) (read_view v page (get_or words (word_of page) 0))
 reads z words views place v page may some_state at =
     let count : ℕ = get_or words (word_of page) 0 in
     let w : WorkerSeatView = read_view v page count in
-    reads_word z words views place v page (Read v.worker page) w.reads v.glances some_state at may.runs may.there may.known refl refl
-    (λ runs there on same. record { there = (there, on); suits = (runs, same ∙ may.plain); leaves_last = tt; room = tt })
+    reads_word z words views place v page
+    (Read v.worker page) w.reads v.glances some_state at may.runs may.there may.known refl refl
+    (λ runs there on
+    same. record { there = (there, on); suits = (runs, same ∙ may.plain); leaves_last = tt; room = tt })
     (λ is. read_keeps_reads z.counts views place v page count at is)
     (λ is. read_keeps_places z.counts views place v page count at is)
 
 -- a glance is the event
-pub glances : (z : Opening) (words : List ℕ) (views : List View) (place : ℕ) (v : WorkerSeatView) (page : ℕ) → MayGlance (post_of v) page → ShowsSome z words views → get_elem? views place ≡ some (Worker v) → IsRead z words views place v page (Glance v.worker page) (glanced_view v page (get_or words (word_of page) 0))
+pub glances : (z : Opening) (words : List ℕ) (views : List View) (place : ℕ) (v : WorkerSeatView) (page : ℕ)
+    → MayGlance (post_of v) page
+    → ShowsSome z words views
+    → get_elem? views place ≡ some (Worker v)
+    → IsRead z words views place v page (Glance v.worker page) (glanced_view v page (get_or words (word_of page) 0))
 glances z words views place v page may some_state at =
     let count : ℕ = get_or words (word_of page) 0 in
     let w : WorkerSeatView = glanced_view v page count in
-    reads_word z words views place v page (Glance v.worker page) v.reads w.glances some_state at may.runs may.there may.known refl refl
-    (λ runs there on same. record { there = (there, on); suits = (runs, same ∙ may.sliced); leaves_last = tt; room = tt })
+    reads_word z words views place v page
+    (Glance v.worker page) v.reads w.glances some_state at may.runs may.there may.known refl refl
+    (λ runs there on
+    same. record { there = (there, on); suits = (runs, same ∙ may.sliced); leaves_last = tt; room = tt })
     (λ is. glance_keeps_reads z.counts views place v page count at is)
     (λ is. glance_keeps_places z.counts views place v page count at is)
 
 -- a read of the mask word is the event
-pub reads_mask : (z : Opening) (words : List ℕ) (views : List View) (place : ℕ) (v : WorkerSeatView) → ShowsSome z words views → get_elem? views place ≡ some (Worker v) → RunsSplit v.state → IsStep z (Hot v.worker) (HotShown (get_or words mask_place 0)) (Worker v) (Worker (masked_view v (get_or words mask_place 0))) × ShowsSome z (set words mask_place (get_or words mask_place 0)) (set views place (Worker (masked_view v (get_or words mask_place 0))))
+pub reads_mask : (z : Opening) (words : List ℕ) (views : List View) (place : ℕ) (v : WorkerSeatView)
+    → ShowsSome z words views
+    → get_elem? views place ≡ some (Worker v)
+    → RunsSplit v.state
+    → IsStep z (Hot v.worker) (HotShown (get_or words mask_place 0)) (Worker v)
+    (Worker (masked_view v (get_or words mask_place 0)))
+    × ShowsSome z (set words mask_place (get_or words mask_place 0))
+    (set views place (Worker (masked_view v (get_or words mask_place 0))))
 reads_mask z words views place v some_state at split_phase =
     let s = some_state.state in
     let sh = some_state.shows in
@@ -176,7 +218,8 @@ reads_mask z words views place v some_state at split_phase =
       number = old.number;
       ending = old.ending;
       labels = old.labels;
-      masks = All-cons P (record { phase = phase_of v.state; mask = found }) v.masks (omega arith, found_is ∙ ap s.hot (sym present)) old.masks;
+      masks = All-cons P (record { phase = phase_of v.state; mask = found }) v.masks
+          (omega arith, found_is ∙ ap s.hot (sym present)) old.masks;
     }
     in
     let permits : Permits (numbers z s) (Hot i) =
@@ -186,13 +229,15 @@ reads_mask z words views place v some_state at split_phase =
     worker_steps z s s words later views place v w sh at refl
     (length-set words last found)
     (get_or-set_other words last 0 found 0 (λ eq. absurd (omega arith)) ∙ sh.word)
-    (λ page below. get_or-set_other words last (word_of page) found 0 (λ eq. let far = word_of-past page in absurd (omega arith)) ∙ sh.pages page below)
+    (λ page below. get_or-set_other words last (word_of page) found 0
+    (λ eq. let far = word_of-past page in absurd (omega arith)) ∙ sh.pages page below)
     (get_or-set_same words last found 0 (omega arith))
     sh.mask
     sh.merged
     fits
     (λ u none seat f. f)
-    (reads_same z.counts s.phase s.phase views place (Worker v) (Worker w) (omega arith) at (λ k p. refl) (λ f has. has) sh.reads)
+    (reads_same z.counts s.phase s.phase views place (Worker v) (Worker w) (omega arith) at (λ k p. refl)
+    (λ f has. has) sh.reads)
     (counted_same z.counts views place (Worker v) (Worker w) sh.coord.counted at (λ k p. refl) sh.counted)
     in (
       record {
@@ -214,7 +259,9 @@ reads_mask z words views place v some_state at split_phase =
         state = s;
         reachable = some_state.reachable;
         shows = shows;
-        tallied = tallied_on z.limits.likes s s views place (Worker v) (Worker w) (omega arith) (λ _. refl) at (λ _. refl) (λ _. refl) (λ _ _. refl) some_state.tallied;
-        places = places_same z.counts views place (Worker v) (Worker w) at (λ _. refl) (λ _. refl) (λ _ _ has. has) some_state.places;
+        tallied = tallied_on z.limits.likes s s views place (Worker v) (Worker w) (omega arith) (λ _. refl) at
+            (λ _. refl) (λ _. refl) (λ _ _. refl) some_state.tallied;
+        places = places_same z.counts views place (Worker v) (Worker w) at (λ _. refl) (λ _. refl)
+            (λ _ _ has. has) some_state.places;
       },
     )

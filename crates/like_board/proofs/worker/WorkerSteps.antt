@@ -38,7 +38,9 @@ use Rattle.like_board.proofs.worker.Moves.{worker_moves}
 use Rattle.like_board.proofs.Tallying.{tallied_on}
 
 -- the phase that a worker runs
-pub running_is : (P : ℕ → Type 0) (state : WorkerState) → RunsSome P state → (phase : ℕ) × (state ≡ Runs phase) × P phase
+pub running_is : (P : ℕ → Type 0) (state : WorkerState)
+    → RunsSome P state
+    → (phase : ℕ) × (state ≡ Runs phase) × P phase
 running_is P (Runs phase) h = (phase, refl, h)
 running_is P (Answered phase) h = absurd h
 running_is P Gone h = absurd h
@@ -58,7 +60,14 @@ pub record LooksAt (l : Limits) (phase : ℕ) (state : WorkerState) (sight : Sig
   pub goes : seen state sight ≡ looked phase state
 
 -- whoever is not gone looks so
-looks_at : (l : Limits) (phase : ℕ) (state : WorkerState) (sight : Sight) → ((j : ℕ) → state ≡ Runs j → j ≡ phase) → ((j : ℕ) → state ≡ Answered j → (j ≡ phase) ⊎ (j + 1 ≡ phase)) → state ≢ Gone → phase ≤ l.last_phase → sight.number ≡ number_of l phase → (IsTrue sight.waits ↔ (state ≡ Answered phase)) → LooksAt l phase state sight
+looks_at : (l : Limits) (phase : ℕ) (state : WorkerState) (sight : Sight)
+    → ((j : ℕ) → state ≡ Runs j → j ≡ phase)
+    → ((j : ℕ) → state ≡ Answered j → (j ≡ phase) ⊎ (j + 1 ≡ phase))
+    → state ≢ Gone
+    → phase ≤ l.last_phase
+    → sight.number ≡ number_of l phase
+    → (IsTrue sight.waits ↔ (state ≡ Answered phase))
+    → LooksAt l phase state sight
 looks_at l phase (Runs j) sight runs answered there within number waits = record {
   can = (number ∙ sym (ap (number_of l) (runs j refl)), not_true sight.waits (λ is. let e = waits.0 is in cc));
   within = (let same = runs j refl in omega arith);
@@ -68,20 +77,26 @@ looks_at l phase (Answered j) sight runs answered there within number waits = el
   | inl now ↦
       let is : sight.waits ≡ true = waits.1 (ap Answered now) in
       record {
-        can = subst (λ (b : Bool). MatchBool b (sight.number ≡ number_of l j) (sight.number ≡ number_of l (j + 1))) (sym is) (number ∙ sym (ap (number_of l) now));
-        within = subst (λ (st : WorkerState). phase_of st ≤ l.last_phase) (sym (cond-true sight.waits (Answered j) (Runs (j + 1)) is)) (omega arith);
+        can = subst (λ (b : Bool). MatchBool b (sight.number ≡ number_of l j) (sight.number ≡ number_of l (j + 1)))
+            (sym is) (number ∙ sym (ap (number_of l) now));
+        within = subst (λ (st : WorkerState). phase_of st ≤ l.last_phase)
+            (sym (cond-true sight.waits (Answered j) (Runs (j + 1)) is)) (omega arith);
         goes =
             cond-true sight.waits (Answered j) (Runs (j + 1)) is ∙
             sym (cond-false (nat_lt j phase) (Runs phase) (Answered j) (le-ltb j phase (omega arith)));
       }
   | inr before ↦
-      let not : sight.waits ≡ false = not_true sight.waits (λ is. let e = waits.0 is in let same : j ≡ phase = cc in omega arith) in
+      let not : sight.waits ≡ false =
+      not_true sight.waits (λ is. let e = waits.0 is in let same : j ≡ phase = cc in omega arith) in
       record {
-        can = subst (λ (b : Bool). MatchBool b (sight.number ≡ number_of l j) (sight.number ≡ number_of l (j + 1))) (sym not) (number ∙ sym (ap (number_of l) before));
-        within = subst (λ (st : WorkerState). phase_of st ≤ l.last_phase) (sym (cond-false sight.waits (Answered j) (Runs (j + 1)) not)) (omega arith);
+        can = subst (λ (b : Bool). MatchBool b (sight.number ≡ number_of l j) (sight.number ≡ number_of l (j + 1)))
+            (sym not) (number ∙ sym (ap (number_of l) before));
+        within = subst (λ (st : WorkerState). phase_of st ≤ l.last_phase)
+            (sym (cond-false sight.waits (Answered j) (Runs (j + 1)) not)) (omega arith);
         goes =
             cond-false sight.waits (Answered j) (Runs (j + 1)) not ∙
-            (ap Runs before ∙ sym (cond-true (nat_lt j phase) (Runs phase) (Answered j) (lt-ltb j phase (omega arith))));
+            (ap Runs before
+            ∙ sym (cond-true (nat_lt j phase) (Runs phase) (Answered j) (lt-ltb j phase (omega arith))));
       }
 ]
 looks_at l phase Gone sight runs answered there within number waits = absurd (there refl)
@@ -89,7 +104,8 @@ looks_at l phase Gone sight runs answered there within number waits = absurd (th
 -- a look of one who is in changes nothing
 looked_in : (phase : ℕ) (state : WorkerState) → IsIn phase state → looked phase state ≡ state
 looked_in phase (Runs j) is = absurd is
-looked_in phase (Answered j) is = cond-false (nat_lt j phase) (Runs phase) (Answered j) (le-ltb j phase (omega (arith, is)))
+looked_in phase (Answered j) is =
+    cond-false (nat_lt j phase) (Runs phase) (Answered j) (le-ltb j phase (omega (arith, is)))
 looked_in phase Gone is = refl
 
 -- nor does a look make anyone gone
@@ -102,7 +118,13 @@ looked_gone phase (Answered j) is =
 looked_gone phase Gone is = refl
 
 -- a look of a worker that is not gone is the event
-pub looks : (z : Opening) (words : List ℕ) (views : List View) (place : ℕ) (v : WorkerSeatView) → ShowsSome z words views → get_elem? views place ≡ some (Worker v) → v.state ≢ Gone → (r : Looked z (get_or words 0 0) v) × ShowsSome z (set words 0 (get_or words 0 0)) (set views place (Worker (looked_view v (sight_of r.fields v.worker))))
+pub looks : (z : Opening) (words : List ℕ) (views : List View) (place : ℕ) (v : WorkerSeatView)
+    → ShowsSome z words views
+    → get_elem? views place ≡ some (Worker v)
+    → v.state ≢ Gone
+    → (r : Looked z (get_or words 0 0) v)
+    × ShowsSome z (set words 0 (get_or words 0 0))
+    (set views place (Worker (looked_view v (sight_of r.fields v.worker))))
 looks z words views place v some_state at there =
     let s = some_state.state in
     let sh = some_state.shows in
@@ -168,13 +190,23 @@ looks z words views place v some_state at there =
         state = t;
         reachable = goes_on_by z s (Look i) some_state.reachable permits;
         shows = shows_after;
-        tallied = tallied_on z.limits.likes s t views place (Worker v) (Worker w) (omega arith) (λ _. refl) at (λ _. refl) (λ _. refl) (λ _ _. refl) some_state.tallied;
-        places = places_same z.counts views place (Worker v) (Worker w) at (λ _. refl) (λ _. refl) (λ _ _ has. has) some_state.places;
+        tallied = tallied_on z.limits.likes s t views place (Worker v) (Worker w) (omega arith) (λ _. refl) at
+            (λ _. refl) (λ _. refl) (λ _ _. refl) some_state.tallied;
+        places = places_same z.counts views place (Worker v) (Worker w) at (λ _. refl) (λ _. refl)
+            (λ _ _ has. has) some_state.places;
       },
     )
 
 -- what a worker that runs the present phase makes of the board by its answer
-answers : (z : Opening) (s : CoreState) (words : List ℕ) (views : List View) (place : ℕ) (v : WorkerSeatView) (phase : ℕ) → Reachable z s → Shows z s words views → get_elem? views place ≡ some (Worker v) → v.state ≡ Runs phase → phase ≡ s.phase → Shows z (moved s v.worker (Answered s.phase)) (set words 0 (bit_or (get_or words 0 0) (answer_bit v.worker))) (set views place (Worker (answered_view v)))
+answers : (z : Opening) (s : CoreState) (words : List ℕ) (views : List View) (place : ℕ) (v : WorkerSeatView)
+    (phase : ℕ)
+    → Reachable z s
+    → Shows z s words views
+    → get_elem? views place ≡ some (Worker v)
+    → v.state ≡ Runs phase
+    → phase ≡ s.phase
+    → Shows z (moved s v.worker (Answered s.phase)) (set words 0 (bit_or (get_or words 0 0) (answer_bit v.worker)))
+    (set views place (Worker (answered_view v)))
 answers z s words views place v phase reached sh at runs present =
     let i = v.worker in
     let p = reached_in_phase z s reached in
@@ -200,7 +232,14 @@ answers z s words views place v phase reached sh at runs present =
     (λ _ gone. absurd (cc))
 
 -- an acknowledgement is the event
-pub acknowledges : (z : Opening) (words : List ℕ) (views : List View) (place : ℕ) (v : WorkerSeatView) → ShowsSome z words views → get_elem? views place ≡ some (Worker v) → RunsJoined v.state → SawEnding v.last → IsStep z (Acknowledge v.worker) Done (Worker v) (Worker (answered_view v)) × ShowsSome z (set words 0 (bit_or (get_or words 0 0) (answer_bit v.worker))) (set views place (Worker (answered_view v)))
+pub acknowledges : (z : Opening) (words : List ℕ) (views : List View) (place : ℕ) (v : WorkerSeatView)
+    → ShowsSome z words views
+    → get_elem? views place ≡ some (Worker v)
+    → RunsJoined v.state
+    → SawEnding v.last
+    → IsStep z (Acknowledge v.worker) Done (Worker v) (Worker (answered_view v))
+    × ShowsSome z (set words 0 (bit_or (get_or words 0 0) (answer_bit v.worker)))
+    (set views place (Worker (answered_view v)))
 acknowledges z words views place v some_state at joined saw =
     let s = some_state.state in
     let sh = some_state.shows in
@@ -238,14 +277,23 @@ acknowledges z words views place v some_state at joined saw =
         reachable = goes_on_by z s (Acknowledge v.worker) some_state.reachable permits;
         shows = after_it;
         tallied =
-            tallied_on z.limits.likes s (moved s v.worker (Answered s.phase)) views place (Worker v) (Worker (answered_view v))
+            tallied_on z.limits.likes s (moved s v.worker (Answered s.phase)) views place (Worker v)
+            (Worker (answered_view v))
             (omega arith) (λ _. refl) at (λ _. refl) (λ _. refl) (λ _ _. refl) some_state.tallied;
-        places = places_same z.counts views place (Worker v) (Worker (answered_view v)) at (λ _. refl) (λ _. refl) (λ _ _ has. has) some_state.places;
+        places = places_same z.counts views place (Worker v) (Worker (answered_view v)) at (λ _. refl) (λ _. refl)
+            (λ _ _ has. has) some_state.places;
       },
     )
 
 -- a report is the event
-pub reports : (z : Opening) (words : List ℕ) (views : List View) (place : ℕ) (v : WorkerSeatView) → ShowsSome z words views → get_elem? views place ≡ some (Worker v) → RunsSplit v.state → SawEnding v.last → IsStep z (Report v.worker) Done (Worker v) (Worker (answered_view v)) × ShowsSome z (set words 0 (bit_or (get_or words 0 0) (answer_bit v.worker))) (set views place (Worker (answered_view v)))
+pub reports : (z : Opening) (words : List ℕ) (views : List View) (place : ℕ) (v : WorkerSeatView)
+    → ShowsSome z words views
+    → get_elem? views place ≡ some (Worker v)
+    → RunsSplit v.state
+    → SawEnding v.last
+    → IsStep z (Report v.worker) Done (Worker v) (Worker (answered_view v))
+    × ShowsSome z (set words 0 (bit_or (get_or words 0 0) (answer_bit v.worker)))
+    (set views place (Worker (answered_view v)))
 reports z words views place v some_state at split saw =
     let s = some_state.state in
     let sh = some_state.shows in
@@ -258,7 +306,12 @@ reports z words views place v some_state at split saw =
     let permits : Permits (numbers z s) (Report v.worker) =
     record {
       there = old.there;
-      suits = (here ∙ ap Runs present, subst IsSplit present runs.2, ending, λ page. ap (times page) (sh.merged v.worker));
+      suits = (
+        here ∙ ap Runs present,
+        subst IsSplit present runs.2,
+        ending,
+        λ page. ap (times page) (sh.merged v.worker),
+      );
       leaves_last = tt;
       room = tt;
     }
@@ -283,14 +336,22 @@ reports z words views place v some_state at split saw =
         reachable = goes_on_by z s (Report v.worker) some_state.reachable permits;
         shows = after_it;
         tallied =
-            tallied_on z.limits.likes s (moved s v.worker (Answered s.phase)) views place (Worker v) (Worker (answered_view v))
+            tallied_on z.limits.likes s (moved s v.worker (Answered s.phase)) views place (Worker v)
+            (Worker (answered_view v))
             (omega arith) (λ _. refl) at (λ _. refl) (λ _. refl) (λ _ _. refl) some_state.tallied;
-        places = places_same z.counts views place (Worker v) (Worker (answered_view v)) at (λ _. refl) (λ _. refl) (λ _ _ has. has) some_state.places;
+        places = places_same z.counts views place (Worker v) (Worker (answered_view v)) at (λ _. refl) (λ _. refl)
+            (λ _ _ has. has) some_state.places;
       },
     )
 
 -- a retirement is the event
-pub retires : (z : Opening) (words : List ℕ) (views : List View) (place : ℕ) (v : WorkerSeatView) → ShowsSome z words views → get_elem? views place ≡ some (Worker v) → RunsJoined v.state → IsStep z (Retire v.worker) Done (Worker v) (Worker (retired_view v)) × ShowsSome z (set words 0 (bit_or (get_or words 0 0) (retirement_bit v.worker))) (set views place (Worker (retired_view v)))
+pub retires : (z : Opening) (words : List ℕ) (views : List View) (place : ℕ) (v : WorkerSeatView)
+    → ShowsSome z words views
+    → get_elem? views place ≡ some (Worker v)
+    → RunsJoined v.state
+    → IsStep z (Retire v.worker) Done (Worker v) (Worker (retired_view v))
+    × ShowsSome z (set words 0 (bit_or (get_or words 0 0) (retirement_bit v.worker)))
+    (set views place (Worker (retired_view v)))
 retires z words views place v some_state at joined =
     let s = some_state.state in
     let sh = some_state.shows in
@@ -313,7 +374,8 @@ retires z words views place v some_state at joined =
       masks = old.masks;
     }
     in
-    let after_it : Shows z (moved s i Gone) (set words 0 (bit_or (get_or words 0 0) (retirement_bit i))) (set views place (Worker (retired_view v))) =
+    let after_it : Shows z (moved s i Gone) (set words 0 (bit_or (get_or words 0 0) (retirement_bit i)))
+    (set views place (Worker (retired_view v))) =
     worker_moves z s words views place v (retired_view v) Gone (bit_or (get_or words 0 0) (retirement_bit i)) sh at refl
     (ap (λ n. bit_or n (retirement_bit i)) sh.word ∙ word_retired z s i runs.0 lawful old.there here)
     fits
@@ -343,8 +405,10 @@ retires z words views place v some_state at joined =
         reachable = goes_on_by z s (Retire i) some_state.reachable permits;
         shows = after_it;
         tallied =
-            tallied_on z.limits.likes s (moved s i Gone) views place (Worker v) (Worker (retired_view v)) (omega arith) (λ _. refl) at (λ _. refl)
+            tallied_on z.limits.likes s (moved s i Gone) views place (Worker v) (Worker (retired_view v)) (omega arith)
+            (λ _. refl) at (λ _. refl)
             (λ _. refl) (λ _ _. refl) some_state.tallied;
-        places = places_same z.counts views place (Worker v) (Worker (retired_view v)) at (λ _. refl) (λ _. refl) (λ _ _ has. has) some_state.places;
+        places = places_same z.counts views place (Worker v) (Worker (retired_view v)) at (λ _. refl) (λ _. refl)
+            (λ _ _ has. has) some_state.places;
       },
     )

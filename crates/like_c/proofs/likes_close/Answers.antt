@@ -9,8 +9,14 @@ returns-then-counts-pages c =
 
 pub returns-then-not-last_counts : goal.returns-then-not-last_counts
 returns-then-not-last_counts c =
-    not_ended c.deref_mut.result.now (record c.deref_mut.result.now { driver = c.last_counts.new.self }) (c.in-Some.ensures.taken ∙ ap Some (sym c.deref_mut.ensures.value)) (c.if-counts-pages.false ∙ c.pages.ensures ∙ ap pages_at (c.deref.ensures ∙ sym c.deref_mut.ensures.value)) c.if-not-last_counts.ensures.case refl refl c.put-then-not-last_counts.ensures
+    not_ended c.deref_mut.result.now (record c.deref_mut.result.now { driver = c.last_counts.new.self })
+    (c.in-Some.ensures.taken ∙ ap Some (sym c.deref_mut.ensures.value))
+    (c.if-counts-pages.false ∙ c.pages.ensures ∙ ap pages_at (c.deref.ensures ∙ sym c.deref_mut.ensures.value))
+    c.if-not-last_counts.ensures.case refl refl c.put-then-not-last_counts.ensures
 
 pub returns : goal.returns
 returns c =
-    closes c.deref_mut.result.now c.last_counts.new.self (c.in-Some.ensures.taken ∙ ap Some (sym c.deref_mut.ensures.value)) (c.if-counts-pages.false ∙ c.pages.ensures ∙ ap pages_at (c.deref.ensures ∙ sym c.deref_mut.ensures.value)) c.if-not-last_counts.ensures.case refl c.take.ensures.left
+    closes c.deref_mut.result.now c.last_counts.new.self
+    (c.in-Some.ensures.taken ∙ ap Some (sym c.deref_mut.ensures.value))
+    (c.if-counts-pages.false ∙ c.pages.ensures ∙ ap pages_at (c.deref.ensures ∙ sym c.deref_mut.ensures.value))
+    c.if-not-last_counts.ensures.case refl c.take.ensures.left

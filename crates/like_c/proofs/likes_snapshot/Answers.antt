@@ -9,8 +9,15 @@ returns-then-counts-pages c =
 
 pub returns-in-Some-phase : goal.returns-in-Some-phase
 returns-in-Some-phase c =
-    snapshot_counts c.deref_mut.result.now (record c.deref_mut.result.now { driver = c.snapshot-phase.new.self }) c.in-Some-phase.field-0 (c.in-Some.ensures.taken ∙ ap Some (sym c.deref_mut.ensures.value)) (c.if-counts-pages.false ∙ c.pages.ensures ∙ ap pages_at (c.deref.ensures ∙ sym c.deref_mut.ensures.value)) c.in-Some-phase.ensures.case refl refl c.put-2.ensures
+    snapshot_counts c.deref_mut.result.now
+    (record c.deref_mut.result.now { driver = c.snapshot-phase.new.self }) c.in-Some-phase.field-0
+    (c.in-Some.ensures.taken ∙ ap Some (sym c.deref_mut.ensures.value))
+    (c.if-counts-pages.false ∙ c.pages.ensures ∙ ap pages_at (c.deref.ensures ∙ sym c.deref_mut.ensures.value))
+    c.in-Some-phase.ensures.case refl refl c.put-2.ensures
 
 pub returns-in-None : goal.returns-in-None
 returns-in-None c =
-    snapshot_waits c.deref_mut.result.now (record c.deref_mut.result.now { driver = c.snapshot-phase.new.self }) (c.in-Some.ensures.taken ∙ ap Some (sym c.deref_mut.ensures.value)) (c.if-counts-pages.false ∙ c.pages.ensures ∙ ap pages_at (c.deref.ensures ∙ sym c.deref_mut.ensures.value)) c.in-None.ensures.case refl refl c.put-2.ensures
+    snapshot_waits c.deref_mut.result.now (record c.deref_mut.result.now { driver = c.snapshot-phase.new.self })
+    (c.in-Some.ensures.taken ∙ ap Some (sym c.deref_mut.ensures.value))
+    (c.if-counts-pages.false ∙ c.pages.ensures ∙ ap pages_at (c.deref.ensures ∙ sym c.deref_mut.ensures.value))
+    c.in-None.ensures.case refl refl c.put-2.ensures

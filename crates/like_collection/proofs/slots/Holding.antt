@@ -27,7 +27,9 @@ at_most_one None = omega arith
 at_most_one (Some a) = omega arith
 
 -- the entries whose answers are held are good
-pub AreGood-held : (sizes : List ℕ) (entries : List Ran) (slots : List (List (Option Answer))) → HoldsAll sizes entries slots → AreGood sizes entries
+pub AreGood-held : (sizes : List ℕ) (entries : List Ran) (slots : List (List (Option Answer)))
+    → HoldsAll sizes entries slots
+    → AreGood sizes entries
 AreGood-held sizes entries slots held =
     record {
       known = held.known;
@@ -39,14 +41,24 @@ AreGood-held sizes entries slots held =
     }
 
 -- a request has no entry exactly where its place is empty
-pub slot-from_none : (sizes : List ℕ) (entries : List Ran) (slots : List (List (Option Answer))) (submitter number : ℕ) → HoldsAll sizes entries slots → entries_of submitter number entries ≡ [] → slot_at slots submitter number ≡ None
-slot-from_none sizes entries slots submitter number held e = none_from_empty (slot_at slots submitter number) (sym (held.each submitter number) ∙ ap (map answer_of) e)
+pub slot-from_none : (sizes : List ℕ) (entries : List Ran) (slots : List (List (Option Answer))) (submitter number : ℕ)
+    → HoldsAll sizes entries slots
+    → entries_of submitter number entries ≡ []
+    → slot_at slots submitter number ≡ None
+slot-from_none sizes entries slots submitter number held e =
+    none_from_empty (slot_at slots submitter number) (sym (held.each submitter number) ∙ ap (map answer_of) e)
 
-pub none-from_slot : (sizes : List ℕ) (entries : List Ran) (slots : List (List (Option Answer))) (submitter number : ℕ) → HoldsAll sizes entries slots → slot_at slots submitter number ≡ None → entries_of submitter number entries ≡ []
-none-from_slot sizes entries slots submitter number held e = empty_from_map (entries_of submitter number entries) (held.each submitter number ∙ ap option_to_list e)
+pub none-from_slot : (sizes : List ℕ) (entries : List Ran) (slots : List (List (Option Answer))) (submitter number : ℕ)
+    → HoldsAll sizes entries slots
+    → slot_at slots submitter number ≡ None
+    → entries_of submitter number entries ≡ []
+none-from_slot sizes entries slots submitter number held e =
+    empty_from_map (entries_of submitter number entries) (held.each submitter number ∙ ap option_to_list e)
 
 -- no entry is held at first
-pub HoldsAll-start : (sizes : List ℕ) (slots : List (List (Option Answer))) → slots ≡ map (λ size. replicate size None) sizes → HoldsAll sizes [] slots
+pub HoldsAll-start : (sizes : List ℕ) (slots : List (List (Option Answer)))
+    → slots ≡ map (λ size. replicate size None) sizes
+    → HoldsAll sizes [] slots
 HoldsAll-start sizes slots is =
     rw is (record {
       sized = sized-start sizes;
@@ -56,43 +68,71 @@ HoldsAll-start sizes slots is =
 
 -- whether one more entry counts for a request
 one_more : (submitter number : ℕ) (entries : List Ran) (e : Ran) (b : Bool) → is_of submitter number e ≡ b
-    → map answer_of (entries_of submitter number (entries ++ e ∷ [])) ≡ map answer_of (entries_of submitter number entries) ++ map answer_of (cond b (e ∷ []) [])
+    → map answer_of (entries_of submitter number (entries ++ e ∷ []))
+    ≡ map answer_of (entries_of submitter number entries) ++ map answer_of (cond b (e ∷ []) [])
 one_more submitter number entries e b is =
-    ap (map answer_of) (filter-append (is_of submitter number) entries (e ∷ []) ∙ ap (λ (c : Bool). entries_of submitter number entries ++ cond c (e ∷ []) []) is) ∙
+    ap (map answer_of)
+    (filter-append (is_of submitter number) entries (e ∷ [])
+    ∙ ap (λ (c : Bool). entries_of submitter number entries ++ cond c (e ∷ []) []) is) ∙
     map-append answer_of (entries_of submitter number entries) (cond b (e ∷ []) [])
 
 -- the entry is of another request
-not_of : (submitter number : ℕ) (e : Ran) → is_of submitter number e ≡ false → (e.submitter ≡ submitter) → (e.number ≡ number) → ⊥
+not_of : (submitter number : ℕ) (e : Ran)
+    → is_of submitter number e ≡ false
+    → (e.submitter ≡ submitter)
+    → (e.number ≡ number)
+    → ⊥
 not_of submitter number e is s n =
-    let of : is_of submitter number e ≡ true = and_from (eqb e.submitter submitter) (eqb e.number number) (eq-eqb e.submitter submitter s) (eq-eqb e.number number n) in
+    let of : is_of submitter number e ≡ true =
+    and_from (eqb e.submitter submitter) (eqb e.number number) (eq-eqb e.submitter submitter s)
+    (eq-eqb e.number number n) in
     false≢true (sym is ∙ of)
 
 -- the entry is of the request
-pub of_request : (submitter number : ℕ) (e : Ran) → is_of submitter number e ≡ true → (e.submitter ≡ submitter) × (e.number ≡ number)
+pub of_request : (submitter number : ℕ) (e : Ran)
+    → is_of submitter number e ≡ true
+    → (e.submitter ≡ submitter) × (e.number ≡ number)
 of_request submitter number e is =
     let both = and_parts (eqb e.submitter submitter) (eqb e.number number) is in
     (eqb-true e.submitter submitter both.0, eqb-true e.number number both.1)
 
 -- the answer of one more entry is put at its place
-pub HoldsAll-put : (sizes : List ℕ) (entries : List Ran) (old : List (List (Option Answer))) (e : Ran) (new : List (List (Option Answer))) → HoldsAll sizes entries old → Puts old e new → HoldsAll sizes (entries ++ e ∷ []) new
+pub HoldsAll-put : (sizes : List ℕ) (entries : List Ran) (old : List (List (Option Answer))) (e : Ran)
+    (new : List (List (Option Answer)))
+    → HoldsAll sizes entries old
+    → Puts old e new
+    → HoldsAll sizes (entries ++ e ∷ []) new
 HoldsAll-put sizes entries old e new held puts =
     let a = answer_of e in
-    let each : (submitter number : ℕ) → map answer_of (entries_of submitter number (entries ++ e ∷ [])) ≡ option_to_list (slot_at new submitter number) = λ submitter number.
+    let each : (submitter number : ℕ)
+    → map answer_of (entries_of submitter number (entries ++ e ∷ []))
+    ≡ option_to_list (slot_at new submitter number) = λ submitter number.
     elim (cases_Bool (is_of submitter number e)) [
       | inl is ↦
           let of = of_request submitter number e is in
           let none : map answer_of (entries_of submitter number entries) ≡ [] =
-          held.each submitter number ∙ ap option_to_list (subst (λ (s : ℕ). slot_at old s number ≡ None) of.0 (subst (λ (n : ℕ). slot_at old e.submitter n ≡ None) of.1 puts.empty)) in
+          held.each submitter number
+          ∙ ap option_to_list
+          (subst (λ (s : ℕ). slot_at old s number ≡ None) of.0
+          (subst (λ (n : ℕ). slot_at old e.submitter n ≡ None) of.1 puts.empty)) in
           let there : slot_at new submitter number ≡ Some a =
-          subst (λ (s : ℕ). slot_at new s number ≡ Some a) of.0 (subst (λ (n : ℕ). slot_at new e.submitter n ≡ Some a) of.1 (rw puts.is (slot_at-same old e.submitter e.number a puts.slot))) in
-          one_more submitter number entries e true is ∙ (ap (λ (l : List Answer). l ++ a ∷ []) none ∙ sym (ap option_to_list there))
+          subst (λ (s : ℕ). slot_at new s number ≡ Some a) of.0
+          (subst (λ (n : ℕ). slot_at new e.submitter n ≡ Some a) of.1
+          (rw puts.is (slot_at-same old e.submitter e.number a puts.slot))) in
+          one_more submitter number entries e true is
+          ∙ (ap (λ (l : List Answer). l ++ a ∷ []) none ∙ sym (ap option_to_list there))
       | inr not ↦
-          let kept : slot_at new submitter number ≡ slot_at old submitter number = rw puts.is (slot_at-other old e.submitter e.number a submitter number puts.slot (not_of submitter number e not)) in
-          one_more submitter number entries e false not ∙ (append-nil (map answer_of (entries_of submitter number entries)) ∙ (held.each submitter number ∙ sym (ap option_to_list kept)))
+          let kept : slot_at new submitter number ≡ slot_at old submitter number =
+          rw puts.is (slot_at-other old e.submitter e.number a submitter number puts.slot
+          (not_of submitter number e not)) in
+          one_more submitter number entries e false not
+          ∙ (append-nil (map answer_of (entries_of submitter number entries))
+          ∙ (held.each submitter number ∙ sym (ap option_to_list kept)))
     ]
     in
     record {
       sized = rw puts.is (sized-write old e.submitter (e.number - 1) (Some a) puts.slot.there ∙ held.sized);
-      known = All-push (λ (x : Ran). IsRequest sizes x.submitter x.number) entries e held.known (IsRequest-slot sizes old e.submitter e.number held.sized puts.slot);
+      known = All-push (λ (x : Ran). IsRequest sizes x.submitter x.number) entries e held.known
+          (IsRequest-slot sizes old e.submitter e.number held.sized puts.slot);
       each = each;
     }

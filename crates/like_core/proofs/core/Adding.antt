@@ -24,7 +24,9 @@ sum_below_none f zero none = refl
 sum_below_none f (suc n) none = let before = sum_below_none f n none in let here = none n in omega arith
 
 -- without unmerged likes a page's total is its count
-total_merged : (z : Opening) (s : CoreState) (page : ℕ) → ((i : ℕ) → s.unmerged i ≡ []) → total (numbers z s) page ≡ get_or z.counts page 0 + length (s.applied page)
+total_merged : (z : Opening) (s : CoreState) (page : ℕ)
+    → ((i : ℕ) → s.unmerged i ≡ [])
+    → total (numbers z s) page ≡ get_or z.counts page 0 + length (s.applied page)
 total_merged z s page merged =
     let none = sum_below_none (λ i. times page (s.unmerged i)) z.workers (λ i. ap (times page) (merged i)) in
     omega arith
@@ -39,7 +41,14 @@ without-replicate page zero = refl
 without-replicate page (suc n) = rw (eq-eqb page page refl) (without-replicate page n)
 
 -- so many likes of a sliced page are permitted one after the other, and give their worker so many
-likes_of : (z : Opening) (s : CoreState) (i page n : ℕ) → i < z.workers → page < length z.counts → s.state i ≡ Runs s.phase → split (is_marked z.marks) s.hot s.phase page ≡ true → total (numbers z s) page + n < total_bound → PermitsAll z s (replicate n (Like i page)) × (after_all z s (replicate n (Like i page)) ≡ given_to s i (replicate n page))
+likes_of : (z : Opening) (s : CoreState) (i page n : ℕ)
+    → i < z.workers
+    → page < length z.counts
+    → s.state i ≡ Runs s.phase
+    → split (is_marked z.marks) s.hot s.phase page ≡ true
+    → total (numbers z s) page + n < total_bound
+    → PermitsAll z s (replicate n (Like i page))
+    × (after_all z s (replicate n (Like i page)) ≡ given_to s i (replicate n page))
 likes_of z s i page zero there on runs sliced room = (tt, sym (given_to-nil s i))
 likes_of z s i page (suc n) there on runs sliced room =
     let one : CoreState = given_to s i (page ∷ []) in
@@ -70,20 +79,36 @@ pub record Adding (z : Opening) (s : CoreState) (i page n : ℕ) (events : List 
   pub leads : after z (after_all z s events) event ≡ with_applied s rest page (replicate n (label i s.phase))
 
 -- a like of a page that is not sliced
-adds_plain : (z : Opening) (s : CoreState) (i page : ℕ) → ((j : ℕ) → s.unmerged j ≡ []) → i < z.workers → page < length z.counts → s.state i ≡ Runs s.phase → split (is_marked z.marks) s.hot s.phase page ≡ false → get_or z.counts page 0 + length (s.applied page) + 1 < total_bound → Adding z s i page 1 [] (Like i page)
+adds_plain : (z : Opening) (s : CoreState) (i page : ℕ)
+    → ((j : ℕ) → s.unmerged j ≡ [])
+    → i < z.workers
+    → page < length z.counts
+    → s.state i ≡ Runs s.phase
+    → split (is_marked z.marks) s.hot s.phase page ≡ false
+    → get_or z.counts page 0 + length (s.applied page) + 1 < total_bound
+    → Adding z s i page 1 [] (Like i page)
 adds_plain z s i page merged there on runs plain small =
     let all = total_merged z s page merged in
     record {
       before = tt;
       permits = record { there = (there, on); suits = runs; leaves_last = tt; room = omega arith };
-      tells = sym (cond-false (split (is_marked z.marks) s.hot s.phase page) Sliced (Old (get_or z.counts page 0 + length (s.applied page))) plain);
+      tells = sym (cond-false (split (is_marked z.marks) s.hot s.phase page) Sliced
+          (Old (get_or z.counts page 0 + length (s.applied page))) plain);
       rest = s.unmerged;
       merged = merged;
       leads = cond-false (split (is_marked z.marks) s.hot s.phase page) _ _ plain;
     }
 
 -- likes of a sliced page and their merge
-adds_sliced : (z : Opening) (s : CoreState) (i page n : ℕ) → ((j : ℕ) → s.unmerged j ≡ []) → i < z.workers → page < length z.counts → s.state i ≡ Runs s.phase → split (is_marked z.marks) s.hot s.phase page ≡ true → s.ending ≡ true → get_or z.counts page 0 + length (s.applied page) + n < total_bound → Adding z s i page n (replicate n (Like i page)) (Merge i page)
+adds_sliced : (z : Opening) (s : CoreState) (i page n : ℕ)
+    → ((j : ℕ) → s.unmerged j ≡ [])
+    → i < z.workers
+    → page < length z.counts
+    → s.state i ≡ Runs s.phase
+    → split (is_marked z.marks) s.hot s.phase page ≡ true
+    → s.ending ≡ true
+    → get_or z.counts page 0 + length (s.applied page) + n < total_bound
+    → Adding z s i page n (replicate n (Like i page)) (Merge i page)
 adds_sliced z s i page n merged there on runs sliced ending small =
     let all = total_merged z s page merged in
     let likes = likes_of z s i page n there on runs sliced (omega arith) in
@@ -101,7 +126,8 @@ adds_sliced z s i page n merged there on runs sliced ending small =
     let merges : P u = (
       record { there = (there, on); suits = (runs, sliced, ending); leaves_last = tt; room = tt },
       refl,
-      ap (λ (k : ℕ). with_applied s rest page (replicate k (label i s.phase))) (ap (times page) own ∙ times-replicate page n),
+      ap (λ (k : ℕ). with_applied s rest page (replicate k (label i s.phase)))
+          (ap (times page) own ∙ times-replicate page n),
     )
     in
     let then_merges = subst P (sym likes.1) merges in
@@ -119,7 +145,16 @@ adds_sliced z s i page n merged there on runs sliced ending small =
     }
 
 -- an addition is the like where the page is not sliced, and else the likes and their merge
-pub adds_either : (z : Opening) (s : CoreState) (i page n : ℕ) (sliced : Bool) → split (is_marked z.marks) s.hot s.phase page ≡ sliced → (sliced ≡ false → n ≡ 1) → (sliced ≡ true → s.ending ≡ true) → ((j : ℕ) → s.unmerged j ≡ []) → i < z.workers → page < length z.counts → s.state i ≡ Runs s.phase → get_or z.counts page 0 + length (s.applied page) + n < total_bound → Adding z s i page n (cond sliced (replicate n (Like i page)) []) (cond sliced (Merge i page) (Like i page))
+pub adds_either : (z : Opening) (s : CoreState) (i page n : ℕ) (sliced : Bool)
+    → split (is_marked z.marks) s.hot s.phase page ≡ sliced
+    → (sliced ≡ false → n ≡ 1)
+    → (sliced ≡ true → s.ending ≡ true)
+    → ((j : ℕ) → s.unmerged j ≡ [])
+    → i < z.workers
+    → page < length z.counts
+    → s.state i ≡ Runs s.phase
+    → get_or z.counts page 0 + length (s.applied page) + n < total_bound
+    → Adding z s i page n (cond sliced (replicate n (Like i page)) []) (cond sliced (Merge i page) (Like i page))
 adds_either z s i page n true is one ending merged there on runs small =
     adds_sliced z s i page n merged there on runs is (ending refl) small
 adds_either z s i page n false is one ending merged there on runs small =

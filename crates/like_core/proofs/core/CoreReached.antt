@@ -18,7 +18,9 @@ pub reachable_is_exclusive : ReachableIsExclusive
 reachable_is_exclusive z s r = let p = reached_in_phase z s r in (exclusive z s p, p)
 
 -- events that the numbers of a state permit are permitted in the state
-pub PermitsAll_from_each : (z : Opening) (s : CoreState) (events : List Event) → PermitsEach (numbers z s) events → PermitsAll z s events
+pub PermitsAll_from_each : (z : Opening) (s : CoreState) (events : List Event)
+    → PermitsEach (numbers z s) events
+    → PermitsAll z s events
 PermitsAll_from_each z s [] may = tt
 PermitsAll_from_each z s (event ∷ events) may =
     let then_may = subst (λ (n : Numbers). PermitsEach n events) (sym (numbers-after z s event)) may.1 in
@@ -29,7 +31,10 @@ pub starts_reachable : (core : Core) (z : Opening) → StandsFor core z (start z
 starts_reachable core z stands = record { state = start z; stands = stands; reachable = start_reached z }
 
 -- permitted events keep a core reachable
-pub keeps_reachable_all : (old new : Core) (events : List Event) → PermitsEach (numbers_of old) events → numbers_of new ≡ next_all (numbers_of old) events → KeepsReachable old new
+pub keeps_reachable_all : (old new : Core) (events : List Event)
+    → PermitsEach (numbers_of old) events
+    → numbers_of new ≡ next_all (numbers_of old) events
+    → KeepsReachable old new
 keeps_reachable_all old new events may now z r =
     let may_in = subst (λ (n : Numbers). PermitsEach n events) r.stands may in
     record {
@@ -39,7 +44,10 @@ keeps_reachable_all old new events may now z r =
     }
 
 -- one permitted event keeps a core reachable
-pub keeps_reachable : (old new : Core) (event : Event) → Permits (numbers_of old) event → numbers_of new ≡ next (numbers_of old) event → KeepsReachable old new
+pub keeps_reachable : (old new : Core) (event : Event)
+    → Permits (numbers_of old) event
+    → numbers_of new ≡ next (numbers_of old) event
+    → KeepsReachable old new
 keeps_reachable old new event may now = keeps_reachable_all old new (event ∷ []) (may, tt) now
 
 -- each state for which a reachable core stands is exclusive

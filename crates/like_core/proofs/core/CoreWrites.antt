@@ -15,19 +15,29 @@ pub record WritesRow (core : Core) (i page likes : ℕ) (borrowed row : List ℕ
   pub is : row ≡ set borrowed page likes
 
 -- the borrowed row is the worker's
-pub borrowed_is : (core : Core) (i page likes : ℕ) (borrowed row : List ℕ) → WritesRow core i page likes borrowed row → borrowed ≡ get_or core.unmerged.items i []
+pub borrowed_is : (core : Core) (i page likes : ℕ) (borrowed row : List ℕ)
+    → WritesRow core i page likes borrowed row
+    → borrowed ≡ get_or core.unmerged.items i []
 borrowed_is core i page likes borrowed row w = get_or_read core.unmerged.items i borrowed w.has_worker w.was []
 
 -- the numbers after the write
-pub written_numbers : (core : Core) (i page likes : ℕ) (borrowed row : List ℕ) → WritesRow core i page likes borrowed row → kept core.limits core.phase core.ending core.hot core.states.items (set core.unmerged.items i row) core.counts core.marks.items ≡ with_unmerged (numbers_of core) i page likes
+pub written_numbers : (core : Core) (i page likes : ℕ) (borrowed row : List ℕ)
+    → WritesRow core i page likes borrowed row
+    → kept core.limits core.phase core.ending core.hot core.states.items
+    (set core.unmerged.items i row) core.counts core.marks.items ≡ with_unmerged (numbers_of core) i page likes
 written_numbers core i page likes borrowed row w =
     let was = borrowed_is core i page likes borrowed row w in
     let sized = core.rows_sized i w.has_worker in
     let there = w.has_page in
-    kept-set_row core.limits core.phase core.ending core.hot core.states.items core.unmerged.items core.counts core.marks.items i page likes row w.has_worker (omega arith) (w.is ∙ ap (λ (r : List ℕ). set r page likes) was)
+    kept-set_row core.limits core.phase core.ending core.hot core.states.items core.unmerged.items core.counts
+    core.marks.items i page likes row w.has_worker (omega arith) (w.is ∙ ap (λ (r : List ℕ). set r page likes) was)
 
 -- the rows keep their lengths
-pub written_sizes : (core : Core) (i page likes : ℕ) (borrowed row : List ℕ) → WritesRow core i page likes borrowed row → (j : ℕ) → j < length (set core.unmerged.items i row) → length (get_or (set core.unmerged.items i row) j []) ≡ length core.counts
+pub written_sizes : (core : Core) (i page likes : ℕ) (borrowed row : List ℕ)
+    → WritesRow core i page likes borrowed row
+    → (j : ℕ)
+    → j < length (set core.unmerged.items i row)
+    → length (get_or (set core.unmerged.items i row) j []) ≡ length core.counts
 written_sizes core i page likes borrowed row w =
     let was = borrowed_is core i page likes borrowed row w in
     let size : length row ≡ length core.counts =
@@ -36,7 +46,13 @@ written_sizes core i page likes borrowed row w =
     rows_sized-set core.unmerged.items (length core.counts) i row core.rows_sized w.has_worker size
 
 -- the totals stay bounded, where the page's total has room
-pub written_bounds : (core : Core) (i page likes : ℕ) (borrowed row : List ℕ) → WritesRow core i page likes borrowed row → total (numbers_of core) page + likes < total_bound + (numbers_of core).unmerged i page → (q : ℕ) → q < length core.counts → total (kept core.limits core.phase core.ending core.hot core.states.items (set core.unmerged.items i row) core.counts core.marks.items) q < total_bound
+pub written_bounds : (core : Core) (i page likes : ℕ) (borrowed row : List ℕ)
+    → WritesRow core i page likes borrowed row
+    → total (numbers_of core) page + likes < total_bound + (numbers_of core).unmerged i page
+    → (q : ℕ)
+    → q < length core.counts
+    → total (kept core.limits core.phase core.ending core.hot core.states.items
+    (set core.unmerged.items i row) core.counts core.marks.items) q < total_bound
 written_bounds core i page likes borrowed row w room q there =
     let bounds = bounded-with_unmerged (numbers_of core) i page likes w.has_worker room core.bounded q there in
     subst (λ (n : Numbers). total n q < total_bound) (sym (written_numbers core i page likes borrowed row w)) bounds

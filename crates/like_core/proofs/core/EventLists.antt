@@ -20,13 +20,19 @@ Refuses-Permits n event Last refused may = refused.2 may.leaves_last
 Refuses-Permits n event Full refused may = refused.3 may.room
 
 -- the numbers after one event more
-pub next_all-take : (n : Numbers) (events : List Event) (i : ℕ) (event : Event) → slice_get events i ≡ Some event → next_all n (take (suc i) events) ≡ next (next_all n (take i events)) event
+pub next_all-take : (n : Numbers) (events : List Event) (i : ℕ) (event : Event)
+    → slice_get events i ≡ Some event
+    → next_all n (take (suc i) events) ≡ next (next_all n (take i events)) event
 next_all-take n [] i event at = cc
 next_all-take n (first ∷ events) zero event at = let same : first ≡ event = cc in ap (next n) same
 next_all-take n (first ∷ events) (suc i) event at = next_all-take (next n first) events i event at
 
 -- one event more may happen
-pub PermitsEach-take : (n : Numbers) (events : List Event) (i : ℕ) (event : Event) → slice_get events i ≡ Some event → PermitsEach n (take i events) → Permits (next_all n (take i events)) event → PermitsEach n (take (suc i) events)
+pub PermitsEach-take : (n : Numbers) (events : List Event) (i : ℕ) (event : Event)
+    → slice_get events i ≡ Some event
+    → PermitsEach n (take i events)
+    → Permits (next_all n (take i events)) event
+    → PermitsEach n (take (suc i) events)
 PermitsEach-take n [] i event at before may = tt
 PermitsEach-take n (first ∷ events) zero event at before may =
     let same : event ≡ first = cc in (subst (Permits n) same may, tt)
@@ -34,23 +40,31 @@ PermitsEach-take n (first ∷ events) (suc i) event at before may =
     (before.0, PermitsEach-take (next n first) events i event at before.1 may)
 
 -- where each event may happen, the one at i may happen after those before it
-pub PermitsEach-at : (n : Numbers) (events : List Event) (i : ℕ) (event : Event) → slice_get events i ≡ Some event → PermitsEach n events → Permits (next_all n (take i events)) event
+pub PermitsEach-at : (n : Numbers) (events : List Event) (i : ℕ) (event : Event)
+    → slice_get events i ≡ Some event
+    → PermitsEach n events
+    → Permits (next_all n (take i events)) event
 PermitsEach-at n [] i event at all = cc
 PermitsEach-at n (first ∷ events) zero event at all = let same : first ≡ event = cc in subst (Permits n) same all.0
 PermitsEach-at n (first ∷ events) (suc i) event at all = PermitsEach-at (next n first) events i event at all.1
 
 -- the numbers of the state after a list of events
-pub numbers-after_all : (z : Opening) (s : CoreState) (events : List Event) → numbers z (after_all z s events) ≡ next_all (numbers z s) events
+pub numbers-after_all : (z : Opening) (s : CoreState) (events : List Event)
+    → numbers z (after_all z s events) ≡ next_all (numbers z s) events
 numbers-after_all z s [] = refl
 numbers-after_all z s (event ∷ events) =
     numbers-after_all z (after z s event) events ∙ ap (λ (n : Numbers). next_all n events) (numbers-after z s event)
 
 -- a core with the next numbers stands for each state after the event
-pub takes_states : (old new : Core) (event : Event) → numbers_of new ≡ next (numbers_of old) event → TakesStates old new event
+pub takes_states : (old new : Core) (event : Event)
+    → numbers_of new ≡ next (numbers_of old) event
+    → TakesStates old new event
 takes_states old new event now z s stands =
     now ∙ (ap (λ (n : Numbers). next n event) stands ∙ sym (numbers-after z s event))
 
 -- and so for a list of events
-pub takes_states_all : (old new : Core) (events : List Event) → numbers_of new ≡ next_all (numbers_of old) events → TakesStatesAll old new events
+pub takes_states_all : (old new : Core) (events : List Event)
+    → numbers_of new ≡ next_all (numbers_of old) events
+    → TakesStatesAll old new events
 takes_states_all old new events now z s stands =
     now ∙ (ap (λ (n : Numbers). next_all n events) stands ∙ sym (numbers-after_all z s events))

@@ -23,21 +23,26 @@ abbrev pub given_to : CoreState → ℕ → List ℕ → CoreState
 given_to s i likes = record s { unmerged = update s.unmerged i (s.unmerged i ++ likes) }
 
 -- what one worker is given counts for the totals
-pub total-given_to : (z : Opening) (s : CoreState) (i : ℕ) (likes : List ℕ) (page : ℕ) → i < z.workers → total (numbers z (given_to s i likes)) page ≡ total (numbers z s) page + times page likes
+pub total-given_to : (z : Opening) (s : CoreState) (i : ℕ) (likes : List ℕ) (page : ℕ)
+    → i < z.workers
+    → total (numbers z (given_to s i likes)) page ≡ total (numbers z s) page + times page likes
 total-given_to z s i likes page there =
     let all : ℕ → ℕ = λ j. times page (s.unmerged j) in
     let more : ℕ = times page (s.unmerged i ++ likes) in
     let P : ℕ → List ℕ → Type 0 = λ j l. times page l ≡ update all i more j in
     let each : (j : ℕ) → times page (update s.unmerged i (s.unmerged i ++ likes) j) ≡ update all i more j =
-    update_cases P s.unmerged i (s.unmerged i ++ likes) (sym (update-same all i more)) (λ j other. sym (update-other all i more j other))
+    update_cases P s.unmerged i (s.unmerged i ++ likes) (sym (update-same all i more))
+    (λ j other. sym (update-other all i more j other))
     in
-    let same = sum_below-same (λ j. times page (update s.unmerged i (s.unmerged i ++ likes) j)) (update all i more) z.workers (λ j _. each j) in
+    let same = sum_below-same (λ j. times page (update s.unmerged i (s.unmerged i ++ likes) j))
+    (update all i more) z.workers (λ j _. each j) in
     let changed = sum_below-update all i more z.workers there in
     let joined = times-append page (s.unmerged i) likes in
     omega arith
 
 -- a worker that is given likes one by one has them all
-pub given_to-cons : (s : CoreState) (i page : ℕ) (likes : List ℕ) → given_to (given_to s i (page ∷ [])) i likes ≡ given_to s i (page ∷ likes)
+pub given_to-cons : (s : CoreState) (i page : ℕ) (likes : List ℕ)
+    → given_to (given_to s i (page ∷ [])) i likes ≡ given_to s i (page ∷ likes)
 given_to-cons s i page likes =
     let one : List ℕ = s.unmerged i ++ page ∷ [] in
     let all : List ℕ = s.unmerged i ++ page ∷ likes in
@@ -61,11 +66,18 @@ given_to-nil s i =
     λ m. record s { unmerged = λ j. each j m }
 
 -- a sliced like gives its worker one page
-pub after-like : (z : Opening) (s : CoreState) (i page : ℕ) → split (is_marked z.marks) s.hot s.phase page ≡ true → after z s (Like i page) ≡ given_to s i (page ∷ [])
+pub after-like : (z : Opening) (s : CoreState) (i page : ℕ)
+    → split (is_marked z.marks) s.hot s.phase page ≡ true
+    → after z s (Like i page) ≡ given_to s i (page ∷ [])
 after-like z s i page sliced = cond-true (split (is_marked z.marks) s.hot s.phase page) _ _ sliced
 
 -- the state stays reachable with likes for one worker
-pub reach_given_to : (z : Opening) (s : CoreState) (i : ℕ) (likes : List ℕ) → Reachable z s → ((page : ℕ) → 0 < times page likes → (s.state i ≡ Runs s.phase) × (page < length z.counts) × (split (is_marked z.marks) s.hot s.phase page ≡ true)) → ((page : ℕ) → total (numbers z (given_to s i likes)) page < total_bound) → Reachable z (given_to s i likes)
+pub reach_given_to : (z : Opening) (s : CoreState) (i : ℕ) (likes : List ℕ)
+    → Reachable z s
+    → ((page : ℕ) → 0 < times page likes
+    → (s.state i ≡ Runs s.phase) × (page < length z.counts) × (split (is_marked z.marks) s.hot s.phase page ≡ true))
+    → ((page : ℕ) → total (numbers z (given_to s i likes)) page < total_bound)
+    → Reachable z (given_to s i likes)
 reach_given_to z s i [] r pages totals = subst (Reachable z) (sym (given_to-nil s i)) r
 reach_given_to z s i (page ∷ likes) r pages totals =
     let more = times-cons_same page likes in
@@ -91,7 +103,9 @@ reach_given_to z s i (page ∷ likes) r pages totals =
     (λ other. subst (λ (t : CoreState). total (numbers z t) other < total_bound) (sym all) (totals other)))
 
 -- fewer likes make smaller totals
-pub total-given-le : (z : Opening) (s : CoreState) (fewer more : ℕ → List ℕ) (page : ℕ) → ((i : ℕ) → times page (fewer i) ≤ times page (more i)) → total (numbers z (given s fewer)) page ≤ total (numbers z (given s more)) page
+pub total-given-le : (z : Opening) (s : CoreState) (fewer more : ℕ → List ℕ) (page : ℕ)
+    → ((i : ℕ) → times page (fewer i) ≤ times page (more i))
+    → total (numbers z (given s fewer)) page ≤ total (numbers z (given s more)) page
 total-given-le z s fewer more page each =
     let sums =
     sum_below-le (λ i. times page (s.unmerged i ++ fewer i)) (λ i. times page (s.unmerged i ++ more i)) z.workers
@@ -104,7 +118,11 @@ total-given-le z s fewer more page each =
     omega arith
 
 -- the state stays reachable with likes for each worker below n
-reach_given : (z : Opening) (s : CoreState) (n : ℕ) (more : ℕ → List ℕ) → Reachable z s → MayLike z s more → ((i : ℕ) → n ≤ i → more i ≡ []) → Reachable z (given s more)
+reach_given : (z : Opening) (s : CoreState) (n : ℕ) (more : ℕ → List ℕ)
+    → Reachable z s
+    → MayLike z s more
+    → ((i : ℕ) → n ≤ i → more i ≡ [])
+    → Reachable z (given s more)
 reach_given z s zero more r may none =
     let each : (i : ℕ) → s.unmerged i ≡ s.unmerged i ++ more i =
     λ i. sym (ap (λ (l : List ℕ). s.unmerged i ++ l) (none i (omega arith)) ∙ append-nil (s.unmerged i))
@@ -141,7 +159,8 @@ reach_given z s (suc n) more r may none =
     let P : ℕ → List ℕ → Type 0 = λ i l. l ≡ s.unmerged i ++ more i in
     let each =
     update_cases P (given s fewer).unmerged n ((given s fewer).unmerged n ++ more n)
-    (ap (λ (l : List ℕ). (s.unmerged n ++ l) ++ more n) (update-same more n []) ∙ ap (λ (l : List ℕ). l ++ more n) (append-nil (s.unmerged n)))
+    (ap (λ (l : List ℕ). (s.unmerged n ++ l) ++ more n) (update-same more n [])
+    ∙ ap (λ (l : List ℕ). l ++ more n) (append-nil (s.unmerged n)))
     (λ i other. ap (λ (l : List ℕ). s.unmerged i ++ l) (update-other more n [] i other))
     in
     let same : given_to (given s fewer) n (more n) ≡ given s more = λ m. record s { unmerged = λ i. each i m } in

@@ -25,7 +25,9 @@ empty_from_times (x ∷ xs) none =
     absurd (omega arith)
 
 -- a page is split in no joined phase
-pub split-IsSplit : (marks : ℕ → Bool) (hot : ℕ → ℕ) (phase page : ℕ) → split marks hot phase page ≡ true → IsSplit phase
+pub split-IsSplit : (marks : ℕ → Bool) (hot : ℕ → ℕ) (phase page : ℕ)
+    → split marks hot phase page ≡ true
+    → IsSplit phase
 split-IsSplit marks hot phase page is =
     eqb-true (phase % 2) 1 (and_parts (phase % 2 == 1) (marks page || is_hot (hot phase) page) is).0
 
@@ -48,7 +50,12 @@ fits_each : (z : Opening) (s : CoreState) → IsInPhase z s → (i : ℕ) → Fi
 fits_each z s p i = record { runs = p.runs i; answered = p.answered i; unmerged = p.unmerged i }
 
 -- where it holds of each worker, and the rest stands, the state is in phase
-in_phase : (z : Opening) (s : CoreState) → ((i : ℕ) → Fits s.phase (s.state i) (s.unmerged i)) → ((i : ℕ) → z.workers ≤ i → s.state i ≡ Gone) → s.phase ≤ z.limits.last_phase → (s.ending ≡ true → s.phase < z.limits.last_phase) → IsInPhase z s
+in_phase : (z : Opening) (s : CoreState)
+    → ((i : ℕ) → Fits s.phase (s.state i) (s.unmerged i))
+    → ((i : ℕ) → z.workers ≤ i → s.state i ≡ Gone)
+    → s.phase ≤ z.limits.last_phase
+    → (s.ending ≡ true → s.phase < z.limits.last_phase)
+    → IsInPhase z s
 in_phase z s fits outside within last = record {
   runs = λ i. (fits i).runs;
   answered = λ i. (fits i).answered;
@@ -73,16 +80,26 @@ fits_runs phase likes none =
     record { runs = λ j is. (let same : j ≡ phase = cc in same); answered = λ j is. cc; unmerged = inl none }
 
 -- and some, where that is split
-fits_split : (phase : ℕ) (state : WorkerState) (old likes : List ℕ) → Fits phase state old → state ≡ Runs phase → IsSplit phase → Fits phase state likes
-fits_split phase state old likes f runs odd = record { runs = f.runs; answered = f.answered; unmerged = inr (runs, odd) }
+fits_split : (phase : ℕ) (state : WorkerState) (old likes : List ℕ)
+    → Fits phase state old
+    → state ≡ Runs phase
+    → IsSplit phase
+    → Fits phase state likes
+fits_split phase state old likes f runs odd =
+    record { runs = f.runs; answered = f.answered; unmerged = inr (runs, odd) }
 
 -- a worker that runs the present phase, which is joined, has no unmerged likes
-none_in_joined : (phase : ℕ) (state : WorkerState) (likes : List ℕ) → Fits phase state likes → IsJoined phase → likes ≡ []
+none_in_joined : (phase : ℕ) (state : WorkerState) (likes : List ℕ)
+    → Fits phase state likes
+    → IsJoined phase
+    → likes ≡ []
 none_in_joined phase state likes f joined =
     elim f.unmerged [ inl none ↦ none | inr some ↦ let odd = some.1 in absurd (omega arith) ]
 
 -- a look keeps it
-fits_looked : (phase : ℕ) (state : WorkerState) (likes : List ℕ) → Fits phase state likes → Fits phase (looked phase state) likes
+fits_looked : (phase : ℕ) (state : WorkerState) (likes : List ℕ)
+    → Fits phase state likes
+    → Fits phase (looked phase state) likes
 fits_looked phase (Runs j) likes f = f
 fits_looked phase (Answered j) likes f =
     let none : likes ≡ [] = elim f.unmerged [ inl none ↦ none | inr some ↦ let runs = some.0 in cc ] in
@@ -91,7 +108,10 @@ fits_looked phase (Answered j) likes f =
 fits_looked phase Gone likes f = f
 
 -- a release keeps it for a worker that is in
-fits_released : (phase : ℕ) (state : WorkerState) (likes : List ℕ) → IsIn phase state → Fits phase state likes → Fits (phase + 1) state likes
+fits_released : (phase : ℕ) (state : WorkerState) (likes : List ℕ)
+    → IsIn phase state
+    → Fits phase state likes
+    → Fits (phase + 1) state likes
 fits_released phase (Runs j) likes is_in f = absurd is_in
 fits_released phase (Answered j) likes is_in f =
     let none : likes ≡ [] = elim f.unmerged [ inl none ↦ none | inr some ↦ let runs = some.0 in cc ] in
@@ -115,34 +135,52 @@ start_in_phase z =
     (λ ending. cc)
 
 -- an event that changes one worker's state keeps the state in phase
-moves_state : (z : Opening) (s : CoreState) (i : ℕ) (state : WorkerState) → i < z.workers → IsInPhase z s → Fits s.phase state (s.unmerged i) → IsInPhase z (record s { state = update s.state i state })
+moves_state : (z : Opening) (s : CoreState) (i : ℕ) (state : WorkerState)
+    → i < z.workers
+    → IsInPhase z s
+    → Fits s.phase state (s.unmerged i)
+    → IsInPhase z (record s { state = update s.state i state })
 moves_state z s i state there p f =
     let P : ℕ → WorkerState → Type 0 = λ j st. Fits s.phase st (s.unmerged j) in
     in_phase z (record s { state = update s.state i state })
     (update_cases P s.state i state f (λ j other. fits_each z s p j))
-    (λ j past. let other : j ≢ i = λ same. absurd (omega arith) in update-other s.state i state j other ∙ p.outside j past)
+    (λ j past. let other : j ≢ i = λ same. absurd (omega arith) in
+    update-other s.state i state j other ∙ p.outside j past)
     p.within
     p.last
 
 -- an event that changes one worker's unmerged likes in a split phase keeps the state in phase
-moves_likes : (z : Opening) (s : CoreState) (i : ℕ) (likes : List ℕ) → IsInPhase z s → s.state i ≡ Runs s.phase → IsSplit s.phase → IsInPhase z (record s { unmerged = update s.unmerged i likes })
+moves_likes : (z : Opening) (s : CoreState) (i : ℕ) (likes : List ℕ)
+    → IsInPhase z s
+    → s.state i ≡ Runs s.phase
+    → IsSplit s.phase
+    → IsInPhase z (record s { unmerged = update s.unmerged i likes })
 moves_likes z s i likes p runs odd =
     let P : ℕ → List ℕ → Type 0 = λ j l. Fits s.phase (s.state j) l in
     in_phase z (record s { unmerged = update s.unmerged i likes })
-    (update_cases P s.unmerged i likes (fits_split s.phase (s.state i) (s.unmerged i) likes (fits_each z s p i) runs odd) (λ j other. fits_each z s p j))
+    (update_cases P s.unmerged i likes
+    (fits_split s.phase (s.state i) (s.unmerged i) likes (fits_each z s p i) runs odd)
+    (λ j other. fits_each z s p j))
     p.outside
     p.within
     p.last
 
 -- a state that is one of two is in phase where both are
-in_phase_either : (z : Opening) (b : Bool) (s t : CoreState) → (b ≡ true → IsInPhase z s) → IsInPhase z t → IsInPhase z (cond b s t)
+in_phase_either : (z : Opening) (b : Bool) (s t : CoreState)
+    → (b ≡ true → IsInPhase z s)
+    → IsInPhase z t
+    → IsInPhase z (cond b s t)
 in_phase_either z true s t p q = p refl
 in_phase_either z false s t p q = q
 
 -- each permitted event keeps the state in phase
-pub keeps_in_phase : (z : Opening) (s : CoreState) (event : Event) → IsInPhase z s → Permits (numbers z s) event → IsInPhase z (after z s event)
+pub keeps_in_phase : (z : Opening) (s : CoreState) (event : Event)
+    → IsInPhase z s
+    → Permits (numbers z s) event
+    → IsInPhase z (after z s event)
 keeps_in_phase z s (Look i) p may =
-    moves_state z s i (looked s.phase (s.state i)) may.there p (fits_looked s.phase (s.state i) (s.unmerged i) (fits_each z s p i))
+    moves_state z s i (looked s.phase (s.state i)) may.there p
+    (fits_looked s.phase (s.state i) (s.unmerged i) (fits_each z s p i))
 keeps_in_phase z s (Acknowledge i) p may =
     let none = none_in_joined s.phase (s.state i) (s.unmerged i) (fits_each z s p i) may.suits.1 in
     moves_state z s i (Answered s.phase) may.there p (fits_answered s.phase (s.unmerged i) none)
@@ -157,7 +195,8 @@ keeps_in_phase z s (Like i page) p may =
     let label : Label = record { worker = i; phase = s.phase } in
     let plain_like : CoreState = record s { applied = update s.applied page (s.applied page ++ label ∷ []) } in
     in_phase_either z (split (is_marked z.marks) s.hot s.phase page) sliced_like plain_like
-    (λ sliced. moves_likes z s i (s.unmerged i ++ page ∷ []) p may.suits (split-IsSplit (is_marked z.marks) s.hot s.phase page sliced))
+    (λ sliced. moves_likes z s i (s.unmerged i ++ page ∷ []) p may.suits
+    (split-IsSplit (is_marked z.marks) s.hot s.phase page sliced))
     (record {
       runs = p.runs;
       answered = p.answered;
@@ -205,7 +244,10 @@ keeps_in_phase z s (Release mask) p may =
     (λ ending. cc)
 
 -- every list of permitted events keeps the state in phase
-pub keeps_in_phase_all : (z : Opening) (s : CoreState) (events : List Event) → IsInPhase z s → PermitsAll z s events → IsInPhase z (after_all z s events)
+pub keeps_in_phase_all : (z : Opening) (s : CoreState) (events : List Event)
+    → IsInPhase z s
+    → PermitsAll z s events
+    → IsInPhase z (after_all z s events)
 keeps_in_phase_all z s [] p may = p
 keeps_in_phase_all z s (event ∷ events) p may =
     keeps_in_phase_all z (after z s event) events (keeps_in_phase z s event p may.0) may.1
@@ -241,7 +283,11 @@ in_phase_alike z s t same p =
     record {
       runs = now.runs;
       answered = now.answered;
-      unmerged = λ i. elim (now.unmerged i) [ inl none ↦ inl (empty_from_times (t.unmerged i) none) | inr some ↦ inr some ];
+      unmerged = λ i. elim (now.unmerged i) [
+        | inl none ↦ inl
+            (empty_from_times (t.unmerged i) none)
+        | inr some ↦ inr some
+      ];
       outside = now.outside;
       within = now.within;
       last = now.last;

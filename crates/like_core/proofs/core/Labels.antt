@@ -30,7 +30,8 @@ module _ {A : Type 0} (p : A → Bool) (a : A) where
       omega arith
 
 -- likes that are joined to others add what they have of each label
-pub labelled-append : (i phase : ℕ) (xs ys : List Label) → labelled i phase (xs ++ ys) ≡ labelled i phase xs + labelled i phase ys
+pub labelled-append : (i phase : ℕ) (xs ys : List Label)
+    → labelled i phase (xs ++ ys) ≡ labelled i phase xs + labelled i phase ys
 labelled-append i phase xs ys = sum_by-append (λ l. cond ((l.worker == i) && (l.phase == phase)) 1 0) xs ys
 
 -- likes of another worker do not count
@@ -40,32 +41,43 @@ labels_else i j now phase n other =
     (ap (λ b. b && (now == phase)) (ne_eqb i j (λ same. other (sym same))))
 
 -- likes of one's own count as the addition does
-pub labels_here : (i now phase page n : ℕ) → labelled i phase (replicate n (label i now)) ≡ cond ((now == phase) && (page == page)) n 0
+pub labels_here : (i now phase page n : ℕ)
+    → labelled i phase (replicate n (label i now)) ≡ cond ((now == phase) && (page == page)) n 0
 labels_here i now phase page n =
     let test : Label → Bool = λ l. (l.worker == i) && (l.phase == phase) in
     elim (cases_eq now phase) [
       | inl same ↦
           let own : test (label i now) ≡ true = λ m. eq-eqb i i refl m && eq-eqb now phase same m in
-          let there : ((now == phase) && (page == page)) ≡ true = λ m. eq-eqb now phase same m && eq-eqb page page refl m in
+          let there : ((now == phase) && (page == page)) ≡ true =
+          λ m. eq-eqb now phase same m && eq-eqb page page refl m in
           count_all test (label i now) n own ∙ sym (cond-true ((now == phase) && (page == page)) n 0 there)
       | inr other ↦
           let own : test (label i now) ≡ false = λ m. eq-eqb i i refl m && ne_eqb now phase other m in
-          let there : ((now == phase) && (page == page)) ≡ false = ap (λ b. b && (page == page)) (ne_eqb now phase other) in
+          let there : ((now == phase) && (page == page)) ≡ false =
+          ap (λ b. b && (page == page)) (ne_eqb now phase other) in
           count_none test (label i now) n own ∙ sym (cond-false ((now == phase) && (page == page)) n 0 there)
     ]
 
 -- one more addition
-pub added_in-push : (additions : List Addition) (now page old n phase q : ℕ) → added_in phase q (additions ++ addition now page old n ∷ []) ≡ added_in phase q additions + cond ((now == phase) && (page == q)) n 0
+pub added_in-push : (additions : List Addition) (now page old n phase q : ℕ)
+    → added_in phase q (additions ++ addition now page old n ∷ [])
+    ≡ added_in phase q additions + cond ((now == phase) && (page == q)) n 0
 added_in-push additions now page old n phase q =
-    sum_by_push (λ (a : Addition). cond ((a.phase == phase) && (a.page == q)) a.likes 0) additions (addition now page old n)
+    sum_by_push (λ (a : Addition). cond ((a.phase == phase) && (a.page == q)) a.likes 0) additions
+    (addition now page old n)
 
 -- how much one addition counts in the phases before one
-pub added_before-push : (additions : List Addition) (now page old n phase q : ℕ) → added_before phase q (additions ++ addition now page old n ∷ []) ≡ added_before phase q additions + cond (nat_lt now phase && (page == q)) n 0
+pub added_before-push : (additions : List Addition) (now page old n phase q : ℕ)
+    → added_before phase q (additions ++ addition now page old n ∷ [])
+    ≡ added_before phase q additions + cond (nat_lt now phase && (page == q)) n 0
 added_before-push additions now page old n phase q =
-    sum_by_push (λ (a : Addition). cond (nat_lt a.phase phase && (a.page == q)) a.likes 0) additions (addition now page old n)
+    sum_by_push (λ (a : Addition). cond (nat_lt a.phase phase && (a.page == q)) a.likes 0) additions
+    (addition now page old n)
 
 -- an addition before the next phase is one before this phase or in it
-pub one_before-next : (now phase n : ℕ) (page : Bool) → cond {A = ℕ} (nat_lt now (phase + 1) && page) n 0 ≡ cond (nat_lt now phase && page) n 0 + cond ((now == phase) && page) n 0
+pub one_before-next : (now phase n : ℕ) (page : Bool)
+    → cond {A = ℕ} (nat_lt now (phase + 1) && page) n 0
+    ≡ cond (nat_lt now phase && page) n 0 + cond ((now == phase) && page) n 0
 one_before-next now phase n page =
     let counts : Bool → ℕ = λ b. cond (b && page) n 0 in
     elim (cases_lt now phase) [
@@ -76,7 +88,8 @@ one_before-next now phase n page =
           omega arith
       | inr past ↦ elim (cases_eq now phase) [
         | inl same ↦
-            let next : counts (nat_lt now (phase + 1)) ≡ counts true = ap counts (lt-ltb now (phase + 1) (omega arith)) in
+            let next : counts (nat_lt now (phase + 1)) ≡ counts true =
+            ap counts (lt-ltb now (phase + 1) (omega arith)) in
             let before : counts (nat_lt now phase) ≡ 0 = ap counts (le-ltb now phase past) in
             let here : counts (now == phase) ≡ counts true = ap counts (eq-eqb now phase same) in
             omega arith
@@ -89,7 +102,8 @@ one_before-next now phase n page =
     ]
 
 -- what was added before the next phase was added before this one or in it
-pub added_before-next : (additions : List Addition) (phase q : ℕ) → added_before (phase + 1) q additions ≡ added_before phase q additions + added_in phase q additions
+pub added_before-next : (additions : List Addition) (phase q : ℕ)
+    → added_before (phase + 1) q additions ≡ added_before phase q additions + added_in phase q additions
 added_before-next [] phase q = refl
 added_before-next (a ∷ additions) phase q =
     let rest = added_before-next additions phase q in
@@ -102,10 +116,14 @@ added_before-next (a ∷ additions) phase q =
     )
 
 -- one more addition, of another page
-pub added_in_else : (additions : List Addition) (now page old n phase q : ℕ) → q ≢ page → added_in phase q (additions ++ addition now page old n ∷ []) ≡ added_in phase q additions
+pub added_in_else : (additions : List Addition) (now page old n phase q : ℕ)
+    → q ≢ page
+    → added_in phase q (additions ++ addition now page old n ∷ []) ≡ added_in phase q additions
 added_in_else additions now page old n phase q other =
-    let no_page : ((now == phase) && (page == q)) ≡ false = never (now == phase) (page == q) (ne_eqb page q (λ same. other (sym same))) in
-    let none : cond {A = ℕ} ((now == phase) && (page == q)) n 0 ≡ 0 = cond-false ((now == phase) && (page == q)) n 0 no_page in
+    let no_page : ((now == phase) && (page == q)) ≡ false =
+    never (now == phase) (page == q) (ne_eqb page q (λ same. other (sym same))) in
+    let none : cond {A = ℕ} ((now == phase) && (page == q)) n 0 ≡ 0 =
+    cond-false ((now == phase) && (page == q)) n 0 no_page in
     let more = added_in-push additions now page old n phase q in
     omega arith
   where
@@ -114,20 +132,25 @@ added_in_else additions now page old n phase q other =
     never false b is = refl
 
 -- one more addition, of some page
-pub added_to-push : (additions : List Addition) (now page old n q : ℕ) → added_to q (additions ++ addition now page old n ∷ []) ≡ added_to q additions + cond (page == q) n 0
+pub added_to-push : (additions : List Addition) (now page old n q : ℕ)
+    → added_to q (additions ++ addition now page old n ∷ []) ≡ added_to q additions + cond (page == q) n 0
 added_to-push additions now page old n q =
     sum_by_push (λ (a : Addition). cond (a.page == q) a.likes 0) additions (addition now page old n)
 
 -- one more addition counts for its page
-pub added_to_here : (additions : List Addition) (now page old n : ℕ) → added_to page (additions ++ addition now page old n ∷ []) ≡ added_to page additions + n
+pub added_to_here : (additions : List Addition) (now page old n : ℕ)
+    → added_to page (additions ++ addition now page old n ∷ []) ≡ added_to page additions + n
 added_to_here additions now page old n =
     let more = sum_by_push (λ (a : Addition). cond (a.page == page) a.likes 0) additions (addition now page old n) in
     let one : cond {A = ℕ} (page == page) n 0 ≡ n = cond-true (page == page) n 0 (eq-eqb page page refl) in
     omega arith
 
 -- and for no other
-pub added_to_else : (additions : List Addition) (now page old n q : ℕ) → q ≢ page → added_to q (additions ++ addition now page old n ∷ []) ≡ added_to q additions
+pub added_to_else : (additions : List Addition) (now page old n q : ℕ)
+    → q ≢ page
+    → added_to q (additions ++ addition now page old n ∷ []) ≡ added_to q additions
 added_to_else additions now page old n q other =
     let more = sum_by_push (λ (a : Addition). cond (a.page == q) a.likes 0) additions (addition now page old n) in
-    let none : cond {A = ℕ} (page == q) n 0 ≡ 0 = cond-false (page == q) n 0 (ne_eqb page q (λ same. other (sym same))) in
+    let none : cond {A = ℕ} (page == q) n 0 ≡ 0 =
+    cond-false (page == q) n 0 (ne_eqb page q (λ same. other (sym same))) in
     omega arith

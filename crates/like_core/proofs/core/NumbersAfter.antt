@@ -17,7 +17,11 @@ ap-cond f true x y v w then_is else_is = then_is
 ap-cond f false x y v w then_is else_is = else_is
 
 -- the numbers of unmerged likes where one worker's list changes
-pub times-update : (lists : ℕ → List ℕ) (i : ℕ) (list : List ℕ) (page likes : ℕ) → ((q : ℕ) → times q list ≡ update (λ r. times r (lists i)) page likes q) → (j q : ℕ) → times q (update lists i list j) ≡ update (λ k r. times r (lists k)) i (update (λ r. times r (lists i)) page likes) j q
+pub times-update : (lists : ℕ → List ℕ) (i : ℕ) (list : List ℕ) (page likes : ℕ)
+    → ((q : ℕ) → times q list ≡ update (λ r. times r (lists i)) page likes q)
+    → (j q : ℕ)
+    → times q (update lists i list j)
+    ≡ update (λ k r. times r (lists k)) i (update (λ r. times r (lists i)) page likes) j q
 times-update lists i list page likes same j q =
     let all : ℕ → ℕ → ℕ = λ k r. times r (lists k) in
     let row : ℕ → ℕ = update (all i) page likes in
@@ -28,7 +32,10 @@ times-update lists i list page likes same j q =
     j
 
 -- the counts where likes are added at the end of a page's list
-pub count-update : (counts : List ℕ) (lists : ℕ → List Label) (page : ℕ) (more : List Label) (q : ℕ) → slice_index counts q + length (update lists page (lists page ++ more) q) ≡ update (λ r. slice_index counts r + length (lists r)) page (slice_index counts page + length (lists page) + length more) q
+pub count-update : (counts : List ℕ) (lists : ℕ → List Label) (page : ℕ) (more : List Label) (q : ℕ)
+    → slice_index counts q + length (update lists page (lists page ++ more) q)
+    ≡ update (λ r. slice_index counts r + length (lists r)) page
+    (slice_index counts page + length (lists page) + length more) q
 count-update counts lists page more q =
     let all : ℕ → ℕ = λ r. slice_index counts r + length (lists r) in
     let sum : ℕ = slice_index counts page + length (lists page) + length more in
@@ -41,7 +48,8 @@ count-update counts lists page more q =
     q
 
 -- the numbers of the state after an event are the next numbers
-pub numbers-after : (z : Opening) (s : CoreState) (event : Event) → numbers z (after z s event) ≡ next (numbers z s) event
+pub numbers-after : (z : Opening) (s : CoreState) (event : Event)
+    → numbers z (after z s event) ≡ next (numbers z s) event
 numbers-after z s (Look i) = refl
 numbers-after z s (Acknowledge i) = refl
 numbers-after z s (Report i) = refl
@@ -52,7 +60,11 @@ numbers-after z s (Like i page) =
     let label : Label = record { worker = i; phase = s.phase } in
     let plain_like : CoreState = record s { applied = update s.applied page (s.applied page ++ label ∷ []) } in
     let in_slice : numbers z sliced_like ≡ with_unmerged n i page (n.unmerged i page + 1) =
-    λ m. record n { unmerged = λ j q. times-update s.unmerged i (s.unmerged i ++ page ∷ []) page (n.unmerged i page + 1) (times-push (s.unmerged i) page) j q m }
+    λ m. record n {
+      unmerged =
+          λ j q. times-update s.unmerged i (s.unmerged i ++ page ∷ []) page (n.unmerged i page + 1)
+          (times-push (s.unmerged i) page) j q m;
+    }
     in
     let in_count : numbers z plain_like ≡ with_count n page (n.count page + 1) =
     λ m. record n { count = λ q. count-update z.counts s.applied page (label ∷ []) q m }
@@ -65,13 +77,16 @@ numbers-after z s (Merge i page) =
     let likes = times page (s.unmerged i) in
     let label : Label = record { worker = i; phase = s.phase } in
     let size : length (replicate likes label) ≡ likes = length-replicate likes label in
-    let counts : (q : ℕ) → slice_index z.counts q + length (update s.applied page (s.applied page ++ replicate likes label) q) ≡ update n.count page (n.count page + likes) q =
+    let counts : (q : ℕ)
+    → slice_index z.counts q + length (update s.applied page (s.applied page ++ replicate likes label) q)
+    ≡ update n.count page (n.count page + likes) q =
     λ q.
     count-update z.counts s.applied page (replicate likes label) q ∙
     ap (λ l. update n.count page (n.count page + l) q) size
     in
     λ m. record n {
-      unmerged = λ j q. times-update s.unmerged i (without page (s.unmerged i)) page 0 (times-without (s.unmerged i) page) j q m;
+      unmerged = λ j q. times-update s.unmerged i (without page (s.unmerged i)) page 0
+          (times-without (s.unmerged i) page) j q m;
       count = λ q. counts q m;
     }
 numbers-after z s (Hot i) = refl

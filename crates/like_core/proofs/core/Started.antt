@@ -25,18 +25,24 @@ zeros-get pages page =
     ]
 
 -- rows of zeros read as 0 everywhere
-pub empty_rows-get : (workers pages i page : ℕ) → slice_index (get_or (replicate workers (replicate pages 0)) i []) page ≡ 0
+pub empty_rows-get : (workers pages i page : ℕ)
+    → slice_index (get_or (replicate workers (replicate pages 0)) i []) page ≡ 0
 empty_rows-get workers pages i page =
     elim (cases_lt i workers) [
       | inl within ↦
-          ap (λ (r : List ℕ). slice_index r page) (get_or-replicate workers i (replicate pages 0) [] within) ∙ zeros-get pages page
+          ap (λ (r : List ℕ). slice_index r page) (get_or-replicate workers i (replicate pages 0) [] within)
+          ∙ zeros-get pages page
       | inr past ↦
           ap (λ (r : List ℕ). slice_index r page)
           (get_or_past (replicate workers (replicate pages 0)) i [] (rw (length-replicate {A = List ℕ}) past))
     ]
 
 -- rows of zeros have a number for each page
-pub start_sizes : (rows : List (List ℕ)) (workers pages : ℕ) → rows ≡ replicate workers (replicate pages 0) → (i : ℕ) → i < length rows → length (get_or rows i []) ≡ pages
+pub start_sizes : (rows : List (List ℕ)) (workers pages : ℕ)
+    → rows ≡ replicate workers (replicate pages 0)
+    → (i : ℕ)
+    → i < length rows
+    → length (get_or rows i []) ≡ pages
 start_sizes rows workers pages is i within =
     let size : length rows ≡ workers = ap length is ∙ length-replicate workers (replicate pages 0) in
     let row : get_or rows i [] ≡ replicate pages 0 =
@@ -45,19 +51,33 @@ start_sizes rows workers pages is i within =
     ap length row ∙ length-replicate pages 0
 
 -- at the start a page's total is its count
-pub start_bounds : (limits : Limits) (states : List WorkerState) (rows : List (List ℕ)) (counts given : List ℕ) (marks : List Bool) (workers pages : ℕ) → rows ≡ replicate workers (replicate pages 0) → counts ≡ given → All (λ count. count < total_bound) given → (page : ℕ) → page < length counts → total (kept limits 0 false 0 states rows counts marks) page < total_bound
+pub start_bounds : (limits : Limits) (states : List WorkerState) (rows : List (List ℕ)) (counts given : List ℕ)
+    (marks : List Bool) (workers pages : ℕ)
+    → rows ≡ replicate workers (replicate pages 0)
+    → counts ≡ given
+    → All (λ count. count < total_bound) given
+    → (page : ℕ)
+    → page < length counts
+    → total (kept limits 0 false 0 states rows counts marks) page < total_bound
 start_bounds limits states rows counts given marks workers pages rows_are counts_are small page within =
     let zeros : (i : ℕ) → slice_index (get_or rows i []) page ≡ 0 =
     λ i. ap (λ (rs : List (List ℕ)). slice_index (get_or rs i []) page) rows_are ∙ empty_rows-get workers pages i page
     in
     let none = sum_below-zero (λ i. slice_index (get_or rows i []) page) (length rows) zeros in
     let size : length counts ≡ length given = ap length counts_are in
-    let same : slice_index counts page ≡ slice_index given page = ap (λ (cs : List ℕ). slice_index cs page) counts_are in
+    let same : slice_index counts page ≡ slice_index given page =
+    ap (λ (cs : List ℕ). slice_index cs page) counts_are in
     let count = small page 0 (omega arith) in
     omega arith
 
 -- a core that was just made stands for the start
-pub start_stands : (states : List WorkerState) (rows : List (List ℕ)) (counts : List ℕ) (marks : List Bool) (z : Opening) → states ≡ replicate z.workers (Runs 0) → rows ≡ replicate z.workers (replicate (length z.counts) 0) → counts ≡ z.counts → marks ≡ z.marks → kept z.limits 0 false 0 states rows counts marks ≡ numbers z (start z)
+pub start_stands : (states : List WorkerState) (rows : List (List ℕ)) (counts : List ℕ) (marks : List Bool)
+    (z : Opening)
+    → states ≡ replicate z.workers (Runs 0)
+    → rows ≡ replicate z.workers (replicate (length z.counts) 0)
+    → counts ≡ z.counts
+    → marks ≡ z.marks
+    → kept z.limits 0 false 0 states rows counts marks ≡ numbers z (start z)
 start_stands states rows counts marks z states_are rows_are counts_are marks_are =
     let workers : length rows ≡ z.workers =
     ap length rows_are ∙ length-replicate z.workers (replicate (length z.counts) 0)

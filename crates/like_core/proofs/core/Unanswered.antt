@@ -21,10 +21,12 @@ abbrev pub NoneAnswered : CoreState → Type 0
 NoneAnswered s = s.ending ≡ false → (i : ℕ) → has_answered s.phase (s.state i) ≡ false
 
 -- a look changes nobody's answer to this phase
-pub looked-has_answered : (phase : ℕ) (state : WorkerState) → has_answered phase (looked phase state) ≡ has_answered phase state
+pub looked-has_answered : (phase : ℕ) (state : WorkerState)
+    → has_answered phase (looked phase state) ≡ has_answered phase state
 looked-has_answered phase (Runs j) = refl
 looked-has_answered phase (Answered j) =
-    let P : Bool → Type 0 = λ b. (b ≡ true → (j == phase) ≡ false) → has_answered phase (cond b (Runs phase) (Answered j)) ≡ (j == phase) in
+    let P : Bool → Type 0 =
+    λ b. (b ≡ true → (j == phase) ≡ false) → has_answered phase (cond b (Runs phase) (Answered j)) ≡ (j == phase) in
     let Q : P (nat_lt j phase) =
     elim (nat_lt j phase) as P [
       | true ↦ λ earlier. sym (earlier refl)
@@ -43,13 +45,20 @@ looked-is_gone phase (Answered j) =
 looked-is_gone phase Gone = refl
 
 -- whether a worker has answered is told by its state
-answered_not : (phase : ℕ) (state : WorkerState) → ((j : ℕ) → state ≡ Answered j → j ≢ phase) → has_answered phase state ≡ false
+answered_not : (phase : ℕ) (state : WorkerState)
+    → ((j : ℕ) → state ≡ Answered j → j ≢ phase)
+    → has_answered phase state ≡ false
 answered_not phase (Runs j) other = refl
 answered_not phase (Answered j) other = ne_eqb j phase (other j refl)
 answered_not phase Gone other = refl
 
 -- of two states that agree in phase, ending and workers' states
-alike : (s t : CoreState) → s.phase ≡ t.phase → s.ending ≡ t.ending → s.state ≡ t.state → NoneAnswered s → NoneAnswered t
+alike : (s t : CoreState)
+    → s.phase ≡ t.phase
+    → s.ending ≡ t.ending
+    → s.state ≡ t.state
+    → NoneAnswered s
+    → NoneAnswered t
 alike s t phase ending state none running i =
     (λ m. has_answered (sym phase m) (sym state m i)) ∙ none (ending ∙ running) i
 
@@ -62,13 +71,20 @@ start_unanswered z running i =
     let P : Bool → Type 0 = λ b. has_answered 0 (cond b (Runs 0) Gone) ≡ false in
     elim (nat_lt i z.workers) as P [ true ↦ refl | false ↦ refl ]
 
-moves : (s : CoreState) (i : ℕ) (state : WorkerState) → NoneAnswered s → (has_answered s.phase (s.state i) ≡ false → has_answered s.phase state ≡ false) → NoneAnswered (record s { state = update s.state i state })
+moves : (s : CoreState) (i : ℕ) (state : WorkerState)
+    → NoneAnswered s
+    → (has_answered s.phase (s.state i) ≡ false → has_answered s.phase state ≡ false)
+    → NoneAnswered (record s { state = update s.state i state })
 moves s i state none here running =
     let P : ℕ → WorkerState → Type 0 = λ j st. has_answered s.phase st ≡ false in
     update_cases P s.state i state (here (none running i)) (λ j other. none running j)
 
 -- each permitted event keeps it so
-keeps_unanswered : (z : Opening) (s : CoreState) (event : Event) → IsInPhase z s → NoneAnswered s → Permits (numbers z s) event → NoneAnswered (after z s event)
+keeps_unanswered : (z : Opening) (s : CoreState) (event : Event)
+    → IsInPhase z s
+    → NoneAnswered s
+    → Permits (numbers z s) event
+    → NoneAnswered (after z s event)
 keeps_unanswered z s (Look i) p none may =
     moves s i (looked s.phase (s.state i)) none (λ was. looked-has_answered s.phase (s.state i) ∙ was)
 keeps_unanswered z s (Acknowledge i) p none may = λ running. let ends = may.suits.2 in absurd (cc)
@@ -92,10 +108,15 @@ keeps_unanswered z s (Release mask) p none may =
     λ running i. answered_not (s.phase + 1) (s.state i)
     (λ j is same. elim (p.answered i j is) [ inl now ↦ absurd (omega arith) | inr before ↦ absurd (omega arith) ])
 
-keeps_all : (z : Opening) (s : CoreState) (events : List Event) → IsInPhase z s → NoneAnswered s → PermitsAll z s events → NoneAnswered (after_all z s events)
+keeps_all : (z : Opening) (s : CoreState) (events : List Event)
+    → IsInPhase z s
+    → NoneAnswered s
+    → PermitsAll z s events
+    → NoneAnswered (after_all z s events)
 keeps_all z s [] p none may = none
 keeps_all z s (event ∷ events) p none may =
-    keeps_all z (after z s event) events (keeps_in_phase z s event p may.0) (keeps_unanswered z s event p none may.0) may.1
+    keeps_all z (after z s event) events (keeps_in_phase z s event p may.0)
+    (keeps_unanswered z s event p none may.0) may.1
 
 -- in every state that can be reached, nobody has answered a phase before its end was announced
 pub reached_unanswered : (z : Opening) (s : CoreState) → Reachable z s → NoneAnswered s

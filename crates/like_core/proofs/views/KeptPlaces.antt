@@ -25,7 +25,8 @@ use Rattle.like_core.proofs.views.ViewLists.{sum_part, sum_swap, sum_gathered, r
 
 module _ {A : Type 0} where
   -- an element that passes a test counts
-  pub counts_one : (p : A → Bool) (xs : List A) (i : ℕ) (d : A) → i < length xs → p (get_or xs i d) ≡ true → 1 ≤ count_by p xs
+  pub counts_one : (p : A → Bool) (xs : List A) (i : ℕ) (d : A) → i < length xs → p (get_or xs i d) ≡ true
+      → 1 ≤ count_by p xs
   counts_one p [] i d inside passes = absurd (omega arith)
   counts_one p (x ∷ xs) zero d inside passes =
       let here : cond {A = ℕ} (p x) 1 0 ≡ 1 = cond-true (p x) 1 0 passes in
@@ -48,7 +49,8 @@ at_most_one true = omega arith
 at_most_one false = omega arith
 
 -- a stretch that ends at a count has the number before, or none at all
-one_number : (page k : ℕ) (a : Addition) → cond {A = ℕ} (ends_at page (suc k) a) 1 0 ≤ cond (has_number page k a) 1 0 + cond (is_empty a) 1 0
+one_number : (page k : ℕ) (a : Addition)
+    → cond {A = ℕ} (ends_at page (suc k) a) 1 0 ≤ cond (has_number page k a) 1 0 + cond (is_empty a) 1 0
 one_number page k a = elim (cases_eq a.likes 0) [
   | inl none ↦
       let empty : cond {A = ℕ} (is_empty a) 1 0 ≡ 1 = cond-true (is_empty a) 1 0 (eq-eqb a.likes 0 none) in
@@ -59,12 +61,15 @@ one_number page k a = elim (cases_eq a.likes 0) [
         let from : nat_le a.old k ≡ true = le-leb a.old k (omega arith) in
         let to : nat_lt k (end_of a) ≡ true = lt-ltb k (end_of a) (omega arith) in
         let end : (end_of a == suc k) ≡ true = eq-eqb (end_of a) (suc k) ends in
-        let left : cond {A = ℕ} (ends_at page (suc k) a) 1 0 ≡ cond ((a.page == page) && true) 1 0 = ap (λ (b : Bool). cond {A = ℕ} ((a.page == page) && b) 1 0) end in
-        let right : cond {A = ℕ} (has_number page k a) 1 0 ≡ cond ((a.page == page) && true && true) 1 0 = λ m. cond {A = ℕ} ((a.page == page) && from m && to m) 1 0 in
+        let left : cond {A = ℕ} (ends_at page (suc k) a) 1 0 ≡ cond ((a.page == page) && true) 1 0 =
+        ap (λ (b : Bool). cond {A = ℕ} ((a.page == page) && b) 1 0) end in
+        let right : cond {A = ℕ} (has_number page k a) 1 0 ≡ cond ((a.page == page) && true && true) 1 0 =
+        λ m. cond {A = ℕ} ((a.page == page) && from m && to m) 1 0 in
         let both = same_test (a.page == page) in
         omega arith
     | inr other ↦
-        let none : cond {A = ℕ} (ends_at page (suc k) a) 1 0 ≡ cond ((a.page == page) && false) 1 0 = ap (λ (b : Bool). cond {A = ℕ} ((a.page == page) && b) 1 0) (ne_eqb (end_of a) (suc k) other) in
+        let none : cond {A = ℕ} (ends_at page (suc k) a) 1 0 ≡ cond ((a.page == page) && false) 1 0 =
+        ap (λ (b : Bool). cond {A = ℕ} ((a.page == page) && b) 1 0) (ne_eqb (end_of a) (suc k) other) in
         let nothing = no_test (a.page == page) in
         omega arith
   ]
@@ -83,29 +88,41 @@ abbrev from_to : ℕ → ℕ → ℕ → ℕ
 from_to first last n = cond (nat_le first n && nat_lt n last) 1 0
 
 -- a stretch more at the end
-from_to-more : (first last more n : ℕ) → first ≤ last → from_to first (last + more) n ≡ from_to first last n + from_to last (last + more) n
+from_to-more : (first last more n : ℕ)
+    → first ≤ last
+    → from_to first (last + more) n ≡ from_to first last n + from_to last (last + more) n
 from_to-more first last more n up = elim (cases_lt n first) [
   | inl low ↦
-      let a : from_to first (last + more) n ≡ 0 = ap (λ (b : Bool). cond {A = ℕ} (b && nat_lt n (last + more)) 1 0) (lt-leb first n low) in
-      let b : from_to first last n ≡ 0 = ap (λ (b : Bool). cond {A = ℕ} (b && nat_lt n last) 1 0) (lt-leb first n low) in
-      let c : from_to last (last + more) n ≡ 0 = ap (λ (b : Bool). cond {A = ℕ} (b && nat_lt n (last + more)) 1 0) (lt-leb last n (omega arith)) in
+      let a : from_to first (last + more) n ≡ 0 =
+      ap (λ (b : Bool). cond {A = ℕ} (b && nat_lt n (last + more)) 1 0) (lt-leb first n low) in
+      let b : from_to first last n ≡ 0 =
+      ap (λ (b : Bool). cond {A = ℕ} (b && nat_lt n last) 1 0) (lt-leb first n low) in
+      let c : from_to last (last + more) n ≡ 0 =
+      ap (λ (b : Bool). cond {A = ℕ} (b && nat_lt n (last + more)) 1 0) (lt-leb last n (omega arith)) in
       omega arith
   | inr up_from ↦ elim (cases_lt n last) [
     | inl inside ↦
-        let a : from_to first (last + more) n ≡ 1 = λ m. cond {A = ℕ} (le-leb first n up_from m && lt-ltb n (last + more) (omega arith) m) 1 0 in
+        let a : from_to first (last + more) n ≡ 1 =
+        λ m. cond {A = ℕ} (le-leb first n up_from m && lt-ltb n (last + more) (omega arith) m) 1 0 in
         let b : from_to first last n ≡ 1 = λ m. cond {A = ℕ} (le-leb first n up_from m && lt-ltb n last inside m) 1 0 in
-        let c : from_to last (last + more) n ≡ 0 = ap (λ (b : Bool). cond {A = ℕ} (b && nat_lt n (last + more)) 1 0) (lt-leb last n inside) in
+        let c : from_to last (last + more) n ≡ 0 =
+        ap (λ (b : Bool). cond {A = ℕ} (b && nat_lt n (last + more)) 1 0) (lt-leb last n inside) in
         omega arith
     | inr past ↦
-        let a : from_to first (last + more) n ≡ cond (true && nat_lt n (last + more)) 1 0 = ap (λ (b : Bool). cond {A = ℕ} (b && nat_lt n (last + more)) 1 0) (le-leb first n up_from) in
+        let a : from_to first (last + more) n ≡ cond (true && nat_lt n (last + more)) 1 0 =
+        ap (λ (b : Bool). cond {A = ℕ} (b && nat_lt n (last + more)) 1 0) (le-leb first n up_from) in
         let b : from_to first last n ≡ 0 = λ m. cond {A = ℕ} (le-leb first n up_from m && le-ltb n last past m) 1 0 in
-        let c : from_to last (last + more) n ≡ cond (true && nat_lt n (last + more)) 1 0 = ap (λ (b : Bool). cond {A = ℕ} (b && nat_lt n (last + more)) 1 0) (le-leb last n past) in
+        let c : from_to last (last + more) n ≡ cond (true && nat_lt n (last + more)) 1 0 =
+        ap (λ (b : Bool). cond {A = ℕ} (b && nat_lt n (last + more)) 1 0) (le-leb last n past) in
         omega arith
   ]
 ]
 
 -- no stretch of the views ends above the last count
-ends_within : (views : List View) (first last : ℕ → ℕ) (page count : ℕ) → AreTiles first last (all_passing views) → 1 ≤ all_passing views (ends_at page count) → count ≤ last page
+ends_within : (views : List View) (first last : ℕ → ℕ) (page count : ℕ)
+    → AreTiles first last (all_passing views)
+    → 1 ≤ all_passing views (ends_at page count)
+    → count ≤ last page
 ends_within views first last page zero tiles ends = omega arith
 ends_within views first last page (suc k) tiles ends =
     let either =
@@ -117,7 +134,8 @@ ends_within views first last page (suc k) tiles ends =
     elim (cases_lt k (last page)) [
       | inl inside ↦ omega arith
       | inr past ↦
-          let none : from_to (first page) (last page) k ≡ 0 = never (nat_le (first page) k) (nat_lt k (last page)) (le-ltb k (last page) past) in
+          let none : from_to (first page) (last page) k ≡ 0 =
+          never (nat_le (first page) k) (nat_lt k (last page)) (le-ltb k (last page) past) in
           absurd (omega arith)
     ]
   where
@@ -125,39 +143,56 @@ ends_within views first last page (suc k) tiles ends =
     never true b is = ap (λ (c : Bool). cond {A = ℕ} c 1 0) is
     never false b is = refl
 
-    own_either : (own : List Addition) → count_by (ends_at page (suc k)) own ≤ count_by (has_number page k) own + count_by is_empty own
+    own_either : (own : List Addition)
+        → count_by (ends_at page (suc k)) own ≤ count_by (has_number page k) own + count_by is_empty own
     own_either own =
-        sum_either (λ a. cond {A = ℕ} (ends_at page (suc k) a) 1 0) (λ a. cond {A = ℕ} (has_number page k a) 1 0) (λ a. cond {A = ℕ} (is_empty a) 1 0) own
+        sum_either (λ a. cond {A = ℕ} (ends_at page (suc k) a) 1 0) (λ a. cond {A = ℕ} (has_number page k a) 1 0)
+        (λ a. cond {A = ℕ} (is_empty a) 1 0) own
         (λ a. one_number page k a)
 
     view_either : (u : View) → passing (ends_at page (suc k)) u ≤ passing (has_number page k) u + passing is_empty u
     view_either (Coord c) =
-        sum_either (λ v. count_by (ends_at page (suc k)) v.additions) (λ v. count_by (has_number page k) v.additions) (λ v. count_by is_empty v.additions) c.joined
+        sum_either (λ v. count_by (ends_at page (suc k)) v.additions) (λ v. count_by (has_number page k) v.additions)
+        (λ v. count_by is_empty v.additions) c.joined
         (λ v. own_either v.additions)
     view_either (Worker v) = own_either v.additions
     view_either Spent = omega arith
 
 -- so a count that is the first or the end of a stretch is no larger than the last
-end_within : (counts : List ℕ) (views : List View) (page count : ℕ) → PlacesTile counts views → IsEnd (slice_index counts) (all_passing views) page count → count ≤ count_after counts views page
+end_within : (counts : List ℕ) (views : List View) (page count : ℕ)
+    → PlacesTile counts views
+    → IsEnd (slice_index counts) (all_passing views) page count
+    → count ≤ count_after counts views page
 end_within counts views page count p (inl is_first) = omega arith
-end_within counts views page count p (inr ends) = ends_within views (slice_index counts) (count_after counts views) page count p.tiles ends
+end_within counts views page count p (inr ends) =
+    ends_within views (slice_index counts) (count_after counts views) page count p.tiles ends
 
 -- where a worker's stretches end
-own_within : (counts : List ℕ) (views : List View) (place : ℕ) (v : WorkerSeatView) → get_elem? views place ≡ some (Worker v) → PlacesTile counts views → All (λ a. end_of a ≤ count_after counts views a.page) v.additions
+own_within : (counts : List ℕ) (views : List View) (place : ℕ) (v : WorkerSeatView)
+    → get_elem? views place ≡ some (Worker v)
+    → PlacesTile counts views
+    → All (λ a. end_of a ≤ count_after counts views a.page) v.additions
 own_within counts views place v at p i d inside =
     let a : Addition = get_or v.additions i d in
-    let passes : ends_at a.page (end_of a) a ≡ true = λ m. eq-eqb a.page a.page refl m && eq-eqb (end_of a) (end_of a) refl m in
+    let passes : ends_at a.page (end_of a) a ≡ true =
+    λ m. eq-eqb a.page a.page refl m && eq-eqb (end_of a) (end_of a) refl m in
     let one = counts_one (ends_at a.page (end_of a)) v.additions i d inside passes in
     let part = sum_part (passing (ends_at a.page (end_of a))) views place (Worker v) at in
     ends_within views (slice_index counts) (count_after counts views) a.page (end_of a) p.tiles (omega arith)
 
 -- a count stays the first or the end of a stretch, where there are more stretches
-end_on : (first : ℕ → ℕ) (f g : Counting) (page count : ℕ) → ((test : Addition → Bool) → f test ≤ g test) → IsEnd first f page count → IsEnd first g page count
+end_on : (first : ℕ → ℕ) (f g : Counting) (page count : ℕ)
+    → ((test : Addition → Bool) → f test ≤ g test)
+    → IsEnd first f page count
+    → IsEnd first g page count
 end_on first f g page count more (inl is_first) = inl is_first
 end_on first f g page count more (inr ends) = inr (let e = more (ends_at page count) in omega arith)
 
 -- and so do all that a worker read
-pub placed_on : (first : ℕ → ℕ) (f g : Counting) (own : List Addition) (reads : List PageRead) → ((test : Addition → Bool) → f test ≤ g test) → ArePlaced first f own reads → ArePlaced first g own reads
+pub placed_on : (first : ℕ → ℕ) (f g : Counting) (own : List Addition) (reads : List PageRead)
+    → ((test : Addition → Bool) → f test ≤ g test)
+    → ArePlaced first f own reads
+    → ArePlaced first g own reads
 placed_on first f g own reads more p = record {
   ends = λ i d inside.
       let r : PageRead = get_or reads i d in
@@ -166,37 +201,62 @@ placed_on first f g own reads more p = record {
 }
 
 -- and that it glanced at
-pub both_placed_on : (first : ℕ → ℕ) (f g : Counting) (v : WorkerSeatView) → ((test : Addition → Bool) → f test ≤ g test) → HavePlaced first f v → HavePlaced first g v
+pub both_placed_on : (first : ℕ → ℕ) (f g : Counting) (v : WorkerSeatView)
+    → ((test : Addition → Bool) → f test ≤ g test)
+    → HavePlaced first f v
+    → HavePlaced first g v
 both_placed_on first f g v more h = (
   placed_on first f g v.additions v.reads more h.0,
   placed_on first f g v.additions v.glances more h.1,
 )
 
-pub has_places_on : (first : ℕ → ℕ) (f g : Counting) (u : View) → ((test : Addition → Bool) → f test ≤ g test) → HasPlaces first f u → HasPlaces first g u
+pub has_places_on : (first : ℕ → ℕ) (f g : Counting) (u : View)
+    → ((test : Addition → Bool) → f test ≤ g test)
+    → HasPlaces first f u
+    → HasPlaces first g u
 has_places_on first f g (Coord c) more h = λ place v at. both_placed_on first f g v more (h place v at)
 has_places_on first f g (Worker v) more h = both_placed_on first f g v more h
 has_places_on first f g Spent more h = tt
 
 -- places tile after one view was replaced
-places_set : (counts : List ℕ) (views : List View) (place : ℕ) (b : View) → ((test : Addition → Bool) → all_passing views test ≤ all_passing (set views place b) test) → AreTiles (slice_index counts) (count_after counts (set views place b)) (all_passing (set views place b)) → ((page : ℕ) → IsEnd (slice_index counts) (all_passing (set views place b)) page (count_after counts (set views place b) page)) → HasPlaces (slice_index counts) (all_passing (set views place b)) b → PlacesTile counts views → PlacesTile counts (set views place b)
+places_set : (counts : List ℕ) (views : List View) (place : ℕ) (b : View)
+    → ((test : Addition → Bool) → all_passing views test ≤ all_passing (set views place b) test)
+    → AreTiles (slice_index counts) (count_after counts (set views place b)) (all_passing (set views place b))
+    → ((page : ℕ)
+    → IsEnd (slice_index counts) (all_passing (set views place b)) page (count_after counts (set views place b) page))
+    → HasPlaces (slice_index counts) (all_passing (set views place b)) b
+    → PlacesTile counts views
+    → PlacesTile counts (set views place b)
 places_set counts views place b more tiles last has p = record {
   tiles = tiles;
   last = last;
   each = λ j u found. elim (replaced views place j b u found) [
     | inl here ↦ subst (HasPlaces (slice_index counts) (all_passing (set views place b))) here.1 has
-    | inr there ↦ has_places_on (slice_index counts) (all_passing views) (all_passing (set views place b)) u more (p.each j u there.1)
+    | inr there ↦ has_places_on (slice_index counts) (all_passing views) (all_passing (set views place b)) u more
+        (p.each j u there.1)
   ];
 }
 
 -- tiles are those that they were, where all counts are
-pub tiles_on : (first f_last g_last : ℕ → ℕ) (f g : Counting) → ((page : ℕ) → g_last page ≡ f_last page) → ((test : Addition → Bool) → g test ≡ f test) → AreTiles first f_last f → AreTiles first g_last g
+pub tiles_on : (first f_last g_last : ℕ → ℕ) (f g : Counting)
+    → ((page : ℕ) → g_last page ≡ f_last page)
+    → ((test : Addition → Bool) → g test ≡ f test)
+    → AreTiles first f_last f
+    → AreTiles first g_last g
 tiles_on first f_last g_last f g same_last same t = record {
-  tiled = λ page n. same (has_number page n) ∙ (t.tiled page n ∙ sym (ap (λ (last : ℕ). from_to (first page) last n) (same_last page)));
+  tiled = λ page n. same (has_number page n)
+      ∙ (t.tiled page n ∙ sym (ap (λ (last : ℕ). from_to (first page) last n) (same_last page)));
   some = same is_empty ∙ t.some;
 }
 
 -- places tile where a view is replaced by one that has the same additions, and whose reads have their places
-places_with : (counts : List ℕ) (views : List View) (place : ℕ) (a b : View) → get_elem? views place ≡ some a → ((test : Addition → Bool) → passing test b ≡ passing test a) → ((page : ℕ) → paged page b ≡ paged page a) → HasPlaces (slice_index counts) (all_passing views) b → PlacesTile counts views → PlacesTile counts (set views place b)
+places_with : (counts : List ℕ) (views : List View) (place : ℕ) (a b : View)
+    → get_elem? views place ≡ some a
+    → ((test : Addition → Bool) → passing test b ≡ passing test a)
+    → ((page : ℕ) → paged page b ≡ paged page a)
+    → HasPlaces (slice_index counts) (all_passing views) b
+    → PlacesTile counts views
+    → PlacesTile counts (set views place b)
 places_with counts views place a b at same pages has p =
     let later : List View = set views place b in
     let all : (test : Addition → Bool) → all_passing later test ≡ all_passing views test =
@@ -205,22 +265,36 @@ places_with counts views place a b at same pages has p =
     let last : (page : ℕ) → count_after counts later page ≡ count_after counts views page =
     λ page. (let swap = sum_swap (paged page) views place a b at in let here = pages page in omega arith)
     in
-    let more : (test : Addition → Bool) → all_passing views test ≤ all_passing later test = λ test. (let e = all test in omega arith) in
+    let more : (test : Addition → Bool) → all_passing views test ≤ all_passing later test =
+    λ test. (let e = all test in omega arith) in
     places_set counts views place b more
-    (tiles_on (slice_index counts) (count_after counts views) (count_after counts later) (all_passing views) (all_passing later) last all p.tiles)
+    (tiles_on (slice_index counts) (count_after counts views) (count_after counts later) (all_passing views)
+    (all_passing later) last all p.tiles)
     (λ page.
     subst (IsEnd (slice_index counts) (all_passing later) page) (sym (last page))
-    (end_on (slice_index counts) (all_passing views) (all_passing later) page (count_after counts views page) more (p.last page)))
+    (end_on (slice_index counts) (all_passing views) (all_passing later) page (count_after counts views page) more
+    (p.last page)))
     (has_places_on (slice_index counts) (all_passing views) (all_passing later) b more has)
     p
 
 -- by a view with the same additions and reads
-pub places_same : (counts : List ℕ) (views : List View) (place : ℕ) (a b : View) → get_elem? views place ≡ some a → ((test : Addition → Bool) → passing test b ≡ passing test a) → ((page : ℕ) → paged page b ≡ paged page a) → ((first : ℕ → ℕ) (f : Counting) → HasPlaces first f a → HasPlaces first f b) → PlacesTile counts views → PlacesTile counts (set views place b)
+pub places_same : (counts : List ℕ) (views : List View) (place : ℕ) (a b : View)
+    → get_elem? views place ≡ some a
+    → ((test : Addition → Bool) → passing test b ≡ passing test a)
+    → ((page : ℕ) → paged page b ≡ paged page a)
+    → ((first : ℕ → ℕ) (f : Counting) → HasPlaces first f a → HasPlaces first f b)
+    → PlacesTile counts views
+    → PlacesTile counts (set views place b)
 places_same counts views place a b at same pages has p =
-    places_with counts views place a b at same pages (has (slice_index counts) (all_passing views) (p.each place a at)) p
+    places_with counts views place a b at same pages
+    (has (slice_index counts) (all_passing views) (p.each place a at)) p
 
 -- a worker's calls keep their order where it adds to a count that is at least what it left and read
-order-added : (own : List Addition) (reads : List PageRead) (phase page old n : ℕ) → All (λ a. page ≡ a.page → end_of a ≤ old) own → All (λ r. page ≡ r.page → r.count ≤ old) reads → AreInOrder own reads → AreInOrder (own ++ addition phase page old n ∷ []) reads
+order-added : (own : List Addition) (reads : List PageRead) (phase page old n : ℕ)
+    → All (λ a. page ≡ a.page → end_of a ≤ old) own
+    → All (λ r. page ≡ r.page → r.count ≤ old) reads
+    → AreInOrder own reads
+    → AreInOrder (own ++ addition phase page old n ∷ []) reads
 order-added own reads phase page old n left found o =
     let new : Addition = addition phase page old n in
     record {
@@ -234,14 +308,21 @@ order-added own reads phase page old n left found o =
           let within : r.after ≤ length (own ++ new ∷ []) = omega arith in
           record {
             after = within;
-            before = subst (All (λ (a : Addition). a.page ≡ r.page → end_of a ≤ r.count)) (sym (take-append-le r.after own (new ∷ []) after)) b.before;
-            later = subst (All (λ (a : Addition). a.page ≡ r.page → r.count ≤ a.old)) (sym (drop-append-le r.after own (new ∷ []) after))
-                (All-push (λ (a : Addition). a.page ≡ r.page → r.count ≤ a.old) (drop r.after own) new b.later (found i d inside));
+            before = subst (All (λ (a : Addition). a.page ≡ r.page → end_of a ≤ r.count))
+                (sym (take-append-le r.after own (new ∷ []) after)) b.before;
+            later = subst (All (λ (a : Addition). a.page ≡ r.page → r.count ≤ a.old))
+                (sym (drop-append-le r.after own (new ∷ []) after))
+                (All-push (λ (a : Addition). a.page ≡ r.page → r.count ≤ a.old) (drop r.after own) new b.later
+                (found i d inside));
           };
     }
 
 -- and where it reads such a count
-order-read : (own : List Addition) (reads : List PageRead) (phase page count : ℕ) → All (λ a. page ≡ a.page → end_of a ≤ count) own → All (λ r. page ≡ r.page → r.count ≤ count) reads → AreInOrder own reads → AreInOrder own (reads ++ record { phase = phase; page = page; count = count; after = length own } ∷ [])
+order-read : (own : List Addition) (reads : List PageRead) (phase page count : ℕ)
+    → All (λ a. page ≡ a.page → end_of a ≤ count) own
+    → All (λ r. page ≡ r.page → r.count ≤ count) reads
+    → AreInOrder own reads
+    → AreInOrder own (reads ++ record { phase = phase; page = page; count = count; after = length own } ∷ [])
 order-read own reads phase page count left found o =
     let new : PageRead = record { phase = phase; page = page; count = count; after = length own } in
     record {
@@ -249,13 +330,19 @@ order-read own reads phase page count left found o =
       read = all_pairs_push (λ (r s : PageRead). s.page ≡ r.page → r.count ≤ s.count) reads new o.read found;
       both = All-push (IsInPlace own) reads new o.both (record {
         after = omega arith;
-        before = subst (All (λ (a : Addition). a.page ≡ page → end_of a ≤ count)) (sym (take-length own)) (λ i d inside is. left i d inside (sym is));
-        later = subst (All (λ (a : Addition). a.page ≡ page → count ≤ a.old)) (sym (drop_all (length own) own (omega arith))) (All-nil (λ (a : Addition). a.page ≡ page → count ≤ a.old));
+        before = subst (All (λ (a : Addition). a.page ≡ page → end_of a ≤ count)) (sym (take-length own))
+            (λ i d inside is. left i d inside (sym is));
+        later = subst (All (λ (a : Addition). a.page ≡ page → count ≤ a.old))
+            (sym (drop_all (length own) own (omega arith))) (All-nil (λ (a : Addition). a.page ≡ page → count ≤ a.old));
       });
     }
 
 -- what a worker left of a page is at most the present count
-left_within : (counts : List ℕ) (views : List View) (place : ℕ) (v : WorkerSeatView) (page count : ℕ) → get_elem? views place ≡ some (Worker v) → count ≡ count_after counts views page → PlacesTile counts views → All (λ a. page ≡ a.page → end_of a ≤ count) v.additions
+left_within : (counts : List ℕ) (views : List View) (place : ℕ) (v : WorkerSeatView) (page count : ℕ)
+    → get_elem? views place ≡ some (Worker v)
+    → count ≡ count_after counts views page
+    → PlacesTile counts views
+    → All (λ a. page ≡ a.page → end_of a ≤ count) v.additions
 left_within counts views place v page count at is p =
     λ i d inside same.
     let low = own_within counts views place v at p i d inside in
@@ -263,7 +350,11 @@ left_within counts views place v page count at is p =
     omega arith
 
 -- and so is what it read of it
-found_within : (counts : List ℕ) (views : List View) (own : List Addition) (reads : List PageRead) (page count : ℕ) → count ≡ count_after counts views page → PlacesTile counts views → ArePlaced (slice_index counts) (all_passing views) own reads → All (λ r. page ≡ r.page → r.count ≤ count) reads
+found_within : (counts : List ℕ) (views : List View) (own : List Addition) (reads : List PageRead) (page count : ℕ)
+    → count ≡ count_after counts views page
+    → PlacesTile counts views
+    → ArePlaced (slice_index counts) (all_passing views) own reads
+    → All (λ r. page ≡ r.page → r.count ≤ count) reads
 found_within counts views own reads page count is p mine =
     λ i d inside same.
     let r : PageRead = get_or reads i d in
@@ -292,7 +383,9 @@ addition_keeps_places counts views place v page old n at is some_likes p =
     let push = added_to-push v.additions (phase_of v.state) page old n q in
     omega arith)
     in
-    let same_or : (q : ℕ) → ((page ≡ q) × (count_after counts later q ≡ old + n)) ⊎ ((page ≢ q) × (count_after counts later q ≡ count_after counts views q)) =
+    let same_or : (q : ℕ)
+    → ((page ≡ q) × (count_after counts later q ≡ old + n))
+    ⊎ ((page ≢ q) × (count_after counts later q ≡ count_after counts views q)) =
     λ q.
     elim (cases_eq page q) [
       | inl same ↦
@@ -314,20 +407,24 @@ addition_keeps_places counts views place v page old n at is some_likes p =
           let e = more (has_number q m) in
           let t = p.tiles.tiled q m in
           let count = is ∙ ap (count_after counts views) here.0 in
-          let before : from_to (first q) (count_after counts views q) m ≡ from_to (first q) old m = ap (λ (last : ℕ). from_to (first q) last m) (sym count) in
-          let own : cond {A = ℕ} (has_number q m new) 1 0 ≡ from_to old (old + n) m = ap (λ (b : Bool). cond {A = ℕ} (b && nat_le old m && nat_lt m (old + n)) 1 0) (eq-eqb page q here.0) in
+          let before : from_to (first q) (count_after counts views q) m ≡ from_to (first q) old m =
+          ap (λ (last : ℕ). from_to (first q) last m) (sym count) in
+          let own : cond {A = ℕ} (has_number q m new) 1 0 ≡ from_to old (old + n) m =
+          ap (λ (b : Bool). cond {A = ℕ} (b && nat_le old m && nat_lt m (old + n)) 1 0) (eq-eqb page q here.0) in
           let next = from_to-more (first q) old n m (omega arith) in
           let all : g (has_number q m) ≡ from_to (first q) (old + n) m = omega arith in
           all ∙ ap (λ (last : ℕ). from_to (first q) last m) (sym here.1)
       | inr else ↦
           let e = more (has_number q m) in
           let t = p.tiles.tiled q m in
-          let none : cond {A = ℕ} (has_number q m new) 1 0 ≡ 0 = ap (λ (b : Bool). cond {A = ℕ} (b && nat_le old m && nat_lt m (old + n)) 1 0) (ne_eqb page q else.0) in
+          let none : cond {A = ℕ} (has_number q m new) 1 0 ≡ 0 =
+          ap (λ (b : Bool). cond {A = ℕ} (b && nat_le old m && nat_lt m (old + n)) 1 0) (ne_eqb page q else.0) in
           let all : g (has_number q m) ≡ from_to (first q) (count_after counts views q) m = omega arith in
           all ∙ ap (λ (last : ℕ). from_to (first q) last m) (sym else.1)
     ]
     in
-    let full : cond {A = ℕ} (is_empty new) 1 0 ≡ 0 = ap (λ (b : Bool). cond {A = ℕ} b 1 0) (ne_eqb n 0 (λ none. absurd (omega arith))) in
+    let full : cond {A = ℕ} (is_empty new) 1 0 ≡ 0 =
+    ap (λ (b : Bool). cond {A = ℕ} b 1 0) (ne_eqb n 0 (λ none. absurd (omega arith))) in
     let tiles : AreTiles first (count_after counts later) g =
     record { tiled = tiled_now; some = (let e = more is_empty in let t = p.tiles.some in omega arith) }
     in
@@ -335,13 +432,15 @@ addition_keeps_places counts views place v page old n at is some_likes p =
     λ q.
     elim (same_or q) [
       | inl here ↦
-          let ends : ends_at q (old + n) new ≡ true = λ m. eq-eqb page q here.0 m && eq-eqb (old + n) (old + n) refl m in
+          let ends : ends_at q (old + n) new ≡ true =
+          λ m. eq-eqb page q here.0 m && eq-eqb (old + n) (old + n) refl m in
           let one : cond {A = ℕ} (ends_at q (old + n) new) 1 0 ≡ 1 = cond-true (ends_at q (old + n) new) 1 0 ends in
           let e = more (ends_at q (old + n)) in
           let P : ℕ → Type 0 = IsEnd first g q in
           let new_end : P (old + n) = inr (omega arith) in
           subst P (sym here.1) new_end
-      | inr else ↦ subst (IsEnd first g q) (sym else.1) (end_on first f g q (count_after counts views q) no_less (p.last q))
+      | inr else ↦ subst (IsEnd first g q) (sym else.1)
+          (end_on first f g q (count_after counts views q) no_less (p.last q))
     ]
     in
     let low = left_within counts views place v page old at is p in
@@ -350,12 +449,23 @@ addition_keeps_places counts views place v page old n at is some_likes p =
     λ reads placed.
     let found = found_within counts views v.additions reads page old is p placed in
     let now : ArePlaced first g v.additions reads = placed_on first f g v.additions reads no_less placed in
-    record { ends = now.ends; order = order-added v.additions reads (phase_of v.state) page old n low found placed.order }
+    record {
+      ends =
+          now.ends;
+      order = order-added v.additions reads (phase_of v.state) page old n low found placed.order;
+    }
     in
     places_set counts views place (Worker w) no_less tiles last_now (has v.reads mine.0, has v.glances mine.1) p
 
 -- a list of reads with one more, of the present count
-placed-read : (counts : List ℕ) (views : List View) (place : ℕ) (v : WorkerSeatView) (page count : ℕ) (reads : List PageRead) → get_elem? views place ≡ some (Worker v) → count ≡ count_after counts views page → PlacesTile counts views → ArePlaced (slice_index counts) (all_passing views) v.additions reads → ArePlaced (slice_index counts) (all_passing views) v.additions (reads ++ page_read (phase_of v.state) page count (length v.additions) ∷ [])
+placed-read : (counts : List ℕ) (views : List View) (place : ℕ) (v : WorkerSeatView) (page count : ℕ)
+    (reads : List PageRead)
+    → get_elem? views place ≡ some (Worker v)
+    → count ≡ count_after counts views page
+    → PlacesTile counts views
+    → ArePlaced (slice_index counts) (all_passing views) v.additions reads
+    → ArePlaced (slice_index counts) (all_passing views) v.additions
+    (reads ++ page_read (phase_of v.state) page count (length v.additions) ∷ [])
 placed-read counts views place v page count reads at is p mine =
     let first : ℕ → ℕ = slice_index counts in
     let r : PageRead = page_read (phase_of v.state) page count (length v.additions) in
@@ -363,7 +473,9 @@ placed-read counts views place v page count reads at is p mine =
     let end : P r = subst (IsEnd first (all_passing views) page) (sym is) (p.last page) in
     record {
       ends = All-push P reads r mine.ends end;
-      order = order-read v.additions reads (phase_of v.state) page count (left_within counts views place v page count at is p) (found_within counts views v.additions reads page count is p mine) mine.order;
+      order = order-read v.additions reads (phase_of v.state) page count
+          (left_within counts views place v page count at is p)
+          (found_within counts views v.additions reads page count is p mine) mine.order;
     }
 
 -- one read, of the present count
@@ -405,7 +517,8 @@ join_keeps_places counts views place other c v at mine p =
     let last : (q : ℕ) → count_after counts later q ≡ count_after counts views q =
     λ q.
     ap (λ (k : ℕ). slice_index counts q + k)
-    (sum_gathered (paged q) views place other c v at there refl (sum_by-cons (λ (x : WorkerSeatView). added_to q x.additions) v c.joined))
+    (sum_gathered (paged q) views place other c v at there refl
+    (sum_by-cons (λ (x : WorkerSeatView). added_to q x.additions) v c.joined))
     in
     let more : (test : Addition → Bool) → f test ≤ g test = λ test. (let e = all test in omega arith) in
     let on : (u : View) → HasPlaces first f u → HasPlaces first g u = λ u. has_places_on first f g u more in
@@ -414,7 +527,8 @@ join_keeps_places counts views place other c v at mine p =
     let has : HasPlaces first g (Coord d) = gathered_places first g own back in
     record {
       tiles = tiles_on first (count_after counts views) (count_after counts later) f g last all p.tiles;
-      last = λ q. subst (IsEnd first g q) (sym (last q)) (end_on first f g q (count_after counts views q) more (p.last q));
+      last = λ q. subst (IsEnd first g q) (sym (last q))
+          (end_on first f g q (count_after counts views q) more (p.last q));
       each = λ j u found. elim (replaced changed other j Spent u found) [
         | inl spent ↦ subst (HasPlaces first g) spent.1 tt
         | inr before ↦ elim (replaced views place j (Coord d) u before.1) [
@@ -424,13 +538,20 @@ join_keeps_places counts views place other c v at mine p =
       ];
     }
   where
-    gathered_places : (first : ℕ → ℕ) (g : Counting) → HasPlaces first g (Worker v) → HasPlaces first g (Coord c) → HasPlaces first g (Coord (gathered_coord c v))
+    gathered_places : (first : ℕ → ℕ) (g : Counting) → HasPlaces first g (Worker v) → HasPlaces first g (Coord c)
+        → HasPlaces first g (Coord (gathered_coord c v))
     gathered_places first g own back zero w found =
         subst (λ (x : WorkerSeatView). HavePlaced first g x) (some-injective v w found) own
     gathered_places first g own back (suc j) w found = back j w found
 
 -- one view more, that has added and read nothing
-pub places_push : (counts : List ℕ) (views : List View) (new : View) → ((test : Addition → Bool) → passing test new ≡ 0) → ((page : ℕ) → paged page new ≡ 0) → ((first : ℕ → ℕ) (f : Counting) → HasPlaces first f new) → ((j : ℕ) (u : View) → get_elem? (views ++ new ∷ []) j ≡ some u → (get_elem? views j ≡ some u) ⊎ (new ≡ u)) → PlacesTile counts views → PlacesTile counts (views ++ new ∷ [])
+pub places_push : (counts : List ℕ) (views : List View) (new : View)
+    → ((test : Addition → Bool) → passing test new ≡ 0)
+    → ((page : ℕ) → paged page new ≡ 0)
+    → ((first : ℕ → ℕ) (f : Counting) → HasPlaces first f new)
+    → ((j : ℕ) (u : View) → get_elem? (views ++ new ∷ []) j ≡ some u → (get_elem? views j ≡ some u) ⊎ (new ≡ u))
+    → PlacesTile counts views
+    → PlacesTile counts (views ++ new ∷ [])
 places_push counts views new none none_added has found p =
     let later : List View = views ++ new ∷ [] in
     let first : ℕ → ℕ = slice_index counts in
@@ -440,10 +561,13 @@ places_push counts views new none none_added has found p =
     let last : (q : ℕ) → count_after counts later q ≡ count_after counts views q =
     λ q. (let push = sum_by_push (paged q) views new in let here = none_added q in omega arith)
     in
-    let more : (test : Addition → Bool) → all_passing views test ≤ all_passing later test = λ test. (let e = all test in omega arith) in
+    let more : (test : Addition → Bool) → all_passing views test ≤ all_passing later test =
+    λ test. (let e = all test in omega arith) in
     record {
-      tiles = tiles_on first (count_after counts views) (count_after counts later) (all_passing views) (all_passing later) last all p.tiles;
-      last = λ q. subst (IsEnd first (all_passing later) q) (sym (last q)) (end_on first (all_passing views) (all_passing later) q (count_after counts views q) more (p.last q));
+      tiles = tiles_on first (count_after counts views) (count_after counts later) (all_passing views)
+          (all_passing later) last all p.tiles;
+      last = λ q. subst (IsEnd first (all_passing later) q) (sym (last q))
+          (end_on first (all_passing views) (all_passing later) q (count_after counts views q) more (p.last q));
       each = λ j u there. elim (found j u there) [
         | inl before ↦ has_places_on first (all_passing views) (all_passing later) u more (p.each j u before)
         | inr is ↦ subst (HasPlaces first (all_passing later)) is (has first (all_passing later))
@@ -454,7 +578,13 @@ places_push counts views new none none_added has found p =
 pub placed_nothing : (first : ℕ → ℕ) (f : Counting) → ArePlaced first f [] []
 placed_nothing first f = record {
   ends = All-nil (λ (r : PageRead). IsEnd first f r.page r.count);
-  order = record { added = λ i j d below inside. absurd (omega arith); read = λ i j d below inside. absurd (omega arith); both = All-nil (IsInPlace []) };
+  order = record {
+    added =
+        λ i j d below inside. absurd (omega arith);
+    read =
+        λ i j d below inside. absurd (omega arith);
+    both = All-nil (IsInPlace []);
+  };
 }
 
 -- no number is from a count on and below it
@@ -469,7 +599,8 @@ pub places_open : (counts : List ℕ) (c : CoordSeatView) → c.joined ≡ [] �
 places_open counts c none =
     let views : List View = Coord c ∷ [] in
     let all : (test : Addition → Bool) → all_passing views test ≡ 0 =
-    λ test. sum_by-cons (passing test) (Coord c) [] ∙ (let here = ap (sum_by (λ (v : WorkerSeatView). count_by test v.additions)) none in omega arith)
+    λ test. sum_by-cons (passing test) (Coord c) []
+    ∙ (let here = ap (sum_by (λ (v : WorkerSeatView). count_by test v.additions)) none in omega arith)
     in
     let last : (page : ℕ) → count_after counts views page ≡ slice_index counts page =
     λ page.
@@ -479,17 +610,20 @@ places_open counts c none =
     in
     record {
       tiles = record {
-        tiled = λ page n. all (has_number page n) ∙ sym (from_to-none (slice_index counts page) (count_after counts views page) n (last page));
+        tiled = λ page n. all (has_number page n)
+            ∙ sym (from_to-none (slice_index counts page) (count_after counts views page) n (last page));
         some = all is_empty;
       };
       last = λ page. inl (last page);
       each = each_first views;
     }
   where
-    each_first : (views : List View) (place : ℕ) (u : View) → get_elem? (Coord c ∷ []) place ≡ some u → HasPlaces (slice_index counts) (all_passing views) u
+    each_first : (views : List View) (place : ℕ) (u : View) → get_elem? (Coord c ∷ []) place ≡ some u
+        → HasPlaces (slice_index counts) (all_passing views) u
     each_first views zero u at =
         let has : HasPlaces (slice_index counts) (all_passing views) (Coord c) =
-        λ place w found. absurd (some-ne-none w (sym (sym (ap (λ (l : List WorkerSeatView). get_elem? l place) none) ∙ found)))
+        λ place w found. absurd (some-ne-none w
+        (sym (sym (ap (λ (l : List WorkerSeatView). get_elem? l place) none) ∙ found)))
         in
         subst (HasPlaces (slice_index counts) (all_passing views)) (some-injective (Coord c) u at) has
     each_first views (suc place) u at = absurd (some-ne-none u (sym at))

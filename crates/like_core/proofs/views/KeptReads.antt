@@ -22,7 +22,12 @@ use Rattle.like_core.proofs.core.Labels.{added_in-push, added_before-push, added
 use Rattle.like_core.proofs.views.ViewLists.{sum_mono, sum_more, sum_swap, sum_gathered, replaced, kept}
 
 -- reads stay between where no more was added before the present phase, and no less before any
-pub between_on : (counts : List ℕ) (f g : ℕ → ℕ → ℕ) (phase later : ℕ) (own : List Addition) (reads : List PageRead) → phase ≤ later → ((k p : ℕ) → k ≤ phase → g k p ≤ f k p) → ((k p : ℕ) → f k p ≤ g k p) → AreBetween counts f phase own reads → AreBetween counts g later own reads
+pub between_on : (counts : List ℕ) (f g : ℕ → ℕ → ℕ) (phase later : ℕ) (own : List Addition) (reads : List PageRead)
+    → phase ≤ later
+    → ((k p : ℕ) → k ≤ phase → g k p ≤ f k p)
+    → ((k p : ℕ) → f k p ≤ g k p)
+    → AreBetween counts f phase own reads
+    → AreBetween counts g later own reads
 between_on counts f g phase later own reads on no_more no_less each = λ i d inside.
     let old = each i d inside in
     let r : PageRead = get_or reads i d in
@@ -35,7 +40,12 @@ between_on counts f g phase later own reads on no_more no_less each = λ i d ins
     (omega arith, record { after = b.after; least = omega arith; most = omega arith })
 
 -- additions stand between as before, in the same way
-pub stand_on : (counts : List ℕ) (f g : ℕ → ℕ → ℕ) (phase later : ℕ) (additions : List Addition) → phase ≤ later → ((k p : ℕ) → k ≤ phase → g k p ≤ f k p) → ((k p : ℕ) → f k p ≤ g k p) → StandBetween counts f phase additions → StandBetween counts g later additions
+pub stand_on : (counts : List ℕ) (f g : ℕ → ℕ → ℕ) (phase later : ℕ) (additions : List Addition)
+    → phase ≤ later
+    → ((k p : ℕ) → k ≤ phase → g k p ≤ f k p)
+    → ((k p : ℕ) → f k p ≤ g k p)
+    → StandBetween counts f phase additions
+    → StandBetween counts g later additions
 stand_on counts f g phase later additions on no_more no_less each = λ i d inside.
     let old = each i d inside in
     let a : Addition = get_or additions i d in
@@ -48,7 +58,12 @@ stand_on counts f g phase later additions on no_more no_less each = λ i d insid
     (omega arith, record { least = omega arith; most = omega arith })
 
 -- and glances with them
-pub both_between_on : (counts : List ℕ) (f g : ℕ → ℕ → ℕ) (phase later : ℕ) (v : WorkerSeatView) → phase ≤ later → ((k p : ℕ) → k ≤ phase → g k p ≤ f k p) → ((k p : ℕ) → f k p ≤ g k p) → HaveBetween counts f phase v → HaveBetween counts g later v
+pub both_between_on : (counts : List ℕ) (f g : ℕ → ℕ → ℕ) (phase later : ℕ) (v : WorkerSeatView)
+    → phase ≤ later
+    → ((k p : ℕ) → k ≤ phase → g k p ≤ f k p)
+    → ((k p : ℕ) → f k p ≤ g k p)
+    → HaveBetween counts f phase v
+    → HaveBetween counts g later v
 both_between_on counts f g phase later v on no_more no_less h = (
   between_on counts f g phase later v.additions v.reads on no_more no_less h.0,
   between_on counts f g phase later v.additions v.glances on no_more no_less h.1,
@@ -56,7 +71,12 @@ both_between_on counts f g phase later v on no_more no_less h = (
 )
 
 -- and those that a view has
-pub has_reads_on : (counts : List ℕ) (f g : ℕ → ℕ → ℕ) (phase later : ℕ) (u : View) → phase ≤ later → ((k p : ℕ) → k ≤ phase → g k p ≤ f k p) → ((k p : ℕ) → f k p ≤ g k p) → HasReads counts f phase u → HasReads counts g later u
+pub has_reads_on : (counts : List ℕ) (f g : ℕ → ℕ → ℕ) (phase later : ℕ) (u : View)
+    → phase ≤ later
+    → ((k p : ℕ) → k ≤ phase → g k p ≤ f k p)
+    → ((k p : ℕ) → f k p ≤ g k p)
+    → HasReads counts f phase u
+    → HasReads counts g later u
 has_reads_on counts f g phase later (Coord c) on no_more no_less h =
     λ place v at. both_between_on counts f g phase later v on no_more no_less (h place v at)
 has_reads_on counts f g phase later (Worker v) on no_more no_less h =
@@ -64,29 +84,58 @@ has_reads_on counts f g phase later (Worker v) on no_more no_less h =
 has_reads_on counts f g phase later Spent on no_more no_less h = tt
 
 -- and those of all, where one view is replaced
-pub reads_set : (counts : List ℕ) (phase later : ℕ) (views : List View) (place : ℕ) (b : View) → phase ≤ later → ((k p : ℕ) → k ≤ phase → all_before (set views place b) k p ≤ all_before views k p) → ((k p : ℕ) → all_before views k p ≤ all_before (set views place b) k p) → HasReads counts (all_before (set views place b)) later b → ReadsFit counts phase views → ReadsFit counts later (set views place b)
-reads_set counts phase later views place b on no_more no_less has fit = λ j u found. elim (replaced views place j b u found) [
-  | inl here ↦ subst (HasReads counts (all_before (set views place b)) later) here.1 has
-  | inr there ↦ has_reads_on counts (all_before views) (all_before (set views place b)) phase later u on no_more no_less (fit j u there.1)
-]
+pub reads_set : (counts : List ℕ) (phase later : ℕ) (views : List View) (place : ℕ) (b : View)
+    → phase ≤ later
+    → ((k p : ℕ) → k ≤ phase → all_before (set views place b) k p ≤ all_before views k p)
+    → ((k p : ℕ) → all_before views k p ≤ all_before (set views place b) k p)
+    → HasReads counts (all_before (set views place b)) later b
+    → ReadsFit counts phase views
+    → ReadsFit counts later (set views place b)
+reads_set counts phase later views place b on no_more no_less has fit =
+    λ j u found. elim (replaced views place j b u found) [
+      | inl here ↦ subst (HasReads counts (all_before (set views place b)) later) here.1 has
+      | inr there ↦ has_reads_on counts (all_before views)
+          (all_before (set views place b)) phase later u on no_more no_less
+          (fit j u there.1)
+    ]
 
 -- a view that has added what the one before it had, in its place
-pub same_before : (views : List View) (place : ℕ) (a b : View) → get_elem? views place ≡ some a → ((k p : ℕ) → before_in k p b ≡ before_in k p a) → (k p : ℕ) → all_before (set views place b) k p ≡ all_before views k p
+pub same_before : (views : List View) (place : ℕ) (a b : View)
+    → get_elem? views place ≡ some a
+    → ((k p : ℕ) → before_in k p b ≡ before_in k p a)
+    → (k p : ℕ)
+    → all_before (set views place b) k p ≡ all_before views k p
 same_before views place a b at same k p =
     let swap = sum_swap (before_in k p) views place a b at in let here = same k p in omega arith
 
 -- one that also has the same reads
-pub reads_same : (counts : List ℕ) (phase later : ℕ) (views : List View) (place : ℕ) (a b : View) → phase ≤ later → get_elem? views place ≡ some a → ((k p : ℕ) → before_in k p b ≡ before_in k p a) → ((f : ℕ → ℕ → ℕ) → HasReads counts f later a → HasReads counts f later b) → ReadsFit counts phase views → ReadsFit counts later (set views place b)
+pub reads_same : (counts : List ℕ) (phase later : ℕ) (views : List View) (place : ℕ) (a b : View)
+    → phase ≤ later
+    → get_elem? views place ≡ some a
+    → ((k p : ℕ) → before_in k p b ≡ before_in k p a)
+    → ((f : ℕ → ℕ → ℕ) → HasReads counts f later a → HasReads counts f later b)
+    → ReadsFit counts phase views
+    → ReadsFit counts later (set views place b)
 reads_same counts phase later views place a b on at same has fit =
     let all = same_before views place a b at same in
-    let no_more : (k p : ℕ) → k ≤ phase → all_before (set views place b) k p ≤ all_before views k p = λ k p _. (let e = all k p in omega arith) in
-    let no_less : (k p : ℕ) → all_before views k p ≤ all_before (set views place b) k p = λ k p. (let e = all k p in omega arith) in
+    let no_more : (k p : ℕ) → k ≤ phase → all_before (set views place b) k p ≤ all_before views k p =
+    λ k p _. (let e = all k p in omega arith) in
+    let no_less : (k p : ℕ) → all_before views k p ≤ all_before (set views place b) k p =
+    λ k p. (let e = all k p in omega arith) in
     reads_set counts phase later views place b on no_more no_less
-    (has (all_before (set views place b)) (has_reads_on counts (all_before views) (all_before (set views place b)) phase later a on no_more no_less (fit place a at)))
+    (has (all_before (set views place b))
+    (has_reads_on counts (all_before views) (all_before (set views place b)) phase later a on no_more no_less
+    (fit place a at)))
     fit
 
 -- one view more, that added nothing
-pub reads_push : (counts : List ℕ) (phase : ℕ) (views : List View) (new : View) → ((k p : ℕ) → before_in k p new ≡ 0) → ((f : ℕ → ℕ → ℕ) → HasReads counts f phase new) → ReadsFit counts phase views → (j : ℕ) (u : View) → ((get_elem? views j ≡ some u) ⊎ (new ≡ u)) → HasReads counts (all_before (views ++ new ∷ [])) phase u
+pub reads_push : (counts : List ℕ) (phase : ℕ) (views : List View) (new : View)
+    → ((k p : ℕ) → before_in k p new ≡ 0)
+    → ((f : ℕ → ℕ → ℕ) → HasReads counts f phase new)
+    → ReadsFit counts phase views
+    → (j : ℕ) (u : View)
+    → ((get_elem? views j ≡ some u) ⊎ (new ≡ u))
+    → HasReads counts (all_before (views ++ new ∷ [])) phase u
 reads_push counts phase views new nothing has fit j u found =
     let more : (k p : ℕ) → all_before (views ++ new ∷ []) k p ≡ all_before views k p =
     λ k p. (let push = sum_by_push (before_in k p) views new in let none = nothing k p in omega arith)
@@ -97,11 +146,13 @@ reads_push counts phase views new nothing has fit j u found =
           (λ k p _. (let e = more k p in omega arith))
           (λ k p. (let e = more k p in omega arith))
           (fit j u before)
-      | inr last ↦ subst (HasReads counts (all_before (views ++ new ∷ [])) phase) last (has (all_before (views ++ new ∷ [])))
+      | inr last ↦ subst (HasReads counts (all_before (views ++ new ∷ [])) phase) last
+          (has (all_before (views ++ new ∷ [])))
     ]
 
 -- an addition counts for those of its phase no more than for all before the next
-own_later : (now phase n : ℕ) (page : Bool) → cond {A = ℕ} ((now == phase) && page) n 0 ≤ cond {A = ℕ} (nat_lt now (phase + 1) && page) n 0
+own_later : (now phase n : ℕ) (page : Bool)
+    → cond {A = ℕ} ((now == phase) && page) n 0 ≤ cond {A = ℕ} (nat_lt now (phase + 1) && page) n 0
 own_later now phase n page = let e = one_before-next now phase n page in omega arith
 
 -- it counts for none before its phase
@@ -109,7 +160,10 @@ not_before : (now phase n : ℕ) (page : Bool) → phase ≤ now → cond {A = �
 not_before now phase n page past = ap (λ (b : Bool). cond {A = ℕ} (b && page) n 0) (le-ltb now phase past)
 
 -- an addition counts for none before its phase, nor for one that is not later
-pub addition_before : (views : List View) (place : ℕ) (v : WorkerSeatView) (page old n k p : ℕ) → get_elem? views place ≡ some (Worker v) → k ≤ phase_of v.state → all_before (set views place (Worker (added_view v page old n))) k p ≡ all_before views k p
+pub addition_before : (views : List View) (place : ℕ) (v : WorkerSeatView) (page old n k p : ℕ)
+    → get_elem? views place ≡ some (Worker v)
+    → k ≤ phase_of v.state
+    → all_before (set views place (Worker (added_view v page old n))) k p ≡ all_before views k p
 addition_before views place v page old n k p at past =
     let now : ℕ = phase_of v.state in
     let swap = sum_swap (before_in k p) views place (Worker v) (Worker (added_view v page old n)) at in
@@ -118,13 +172,20 @@ addition_before views place v page old n k p at past =
     omega arith
 
 -- counts stay those up to their phases, where as much was added before
-pub counted_on : (counts : List ℕ) (f g : ℕ → ℕ → ℕ) (rs : List PageCount) → All (λ r. g (r.phase + 1) r.page ≡ f (r.phase + 1) r.page) rs → All (IsCounted counts f) rs → All (IsCounted counts g) rs
+pub counted_on : (counts : List ℕ) (f g : ℕ → ℕ → ℕ) (rs : List PageCount)
+    → All (λ r. g (r.phase + 1) r.page ≡ f (r.phase + 1) r.page) rs
+    → All (IsCounted counts f) rs
+    → All (IsCounted counts g) rs
 counted_on counts f g rs same all = λ i d inside.
     let r : PageCount = get_or rs i d in
     all i d inside ∙ ap (λ (n : ℕ). slice_index counts r.page + n) (sym (same i d inside))
 
 -- and where one view is replaced by one that has added as much
-pub counted_same : (counts : List ℕ) (views : List View) (place : ℕ) (a b : View) (rs : List PageCount) → get_elem? views place ≡ some a → ((k p : ℕ) → before_in k p b ≡ before_in k p a) → All (IsCounted counts (all_before views)) rs → All (IsCounted counts (all_before (set views place b))) rs
+pub counted_same : (counts : List ℕ) (views : List View) (place : ℕ) (a b : View) (rs : List PageCount)
+    → get_elem? views place ≡ some a
+    → ((k p : ℕ) → before_in k p b ≡ before_in k p a)
+    → All (IsCounted counts (all_before views)) rs
+    → All (IsCounted counts (all_before (set views place b))) rs
 counted_same counts views place a b rs at same =
     counted_on counts (all_before views) (all_before (set views place b)) rs
     (λ i d inside. let r : PageCount = get_or rs i d in same_before views place a b at same (r.phase + 1) r.page)
@@ -132,7 +193,8 @@ counted_same counts views place a b rs at same =
 -- what a view has added before a phase is in what it has added before the next
 before_in-next : (phase page : ℕ) (u : View) → before_in phase page u ≤ before_in (phase + 1) page u
 before_in-next phase page (Coord c) =
-    sum_mono (λ (v : WorkerSeatView). added_before phase page v.additions) (λ (v : WorkerSeatView). added_before (phase + 1) page v.additions) c.joined
+    sum_mono (λ (v : WorkerSeatView). added_before phase page v.additions)
+    (λ (v : WorkerSeatView). added_before (phase + 1) page v.additions) c.joined
     (λ v. (let e = added_before-next v.additions phase page in omega arith))
 before_in-next phase page (Worker v) = let e = added_before-next v.additions phase page in omega arith
 before_in-next phase page Spent = omega arith
@@ -156,7 +218,8 @@ addition_keeps_reads counts views place v page old n at begins fit =
     λ k p past. (let e = more k p in let none = not_before now k n (page == p) past in omega arith)
     in
     let no_less : (k p : ℕ) → f k p ≤ g k p = λ k p. (let e = more k p in omega arith) in
-    let has : (reads : List PageRead) → AreBetween counts f now v.additions reads → AreBetween counts g now w.additions reads =
+    let has : (reads : List PageRead) → AreBetween counts f now v.additions reads
+    → AreBetween counts g now w.additions reads =
     λ reads each i d inside.
     let fits = each i d inside in
     let r : PageRead = get_or reads i d in
@@ -184,20 +247,32 @@ addition_keeps_reads counts views place v page old n at begins fit =
     in
     let low = no_more now page (omega arith) in
     let high = more (now + 1) page in
-    let whole : one (now + 1) page ≡ n = ap (λ (b : Bool). cond {A = ℕ} (b && (page == page)) n 0) (lt-ltb now (now + 1) (omega arith)) ∙ ap (λ (b : Bool). cond {A = ℕ} b n 0) (eq-eqb page page refl) in
+    let whole : one (now + 1) page ≡ n =
+    ap (λ (b : Bool). cond {A = ℕ} (b && (page == page)) n 0) (lt-ltb now (now + 1) (omega arith))
+    ∙ ap (λ (b : Bool). cond {A = ℕ} b n 0) (eq-eqb page page refl) in
     let new : P a = (omega arith, record { least = omega arith; most = omega arith }) in
     let stand : StandBetween counts g now w.additions =
-    All-append P v.additions (a ∷ []) (stand_on counts f g now now v.additions (omega arith) no_more no_less mine.2) (All-cons P a [] new (All-nil P))
+    All-append P v.additions (a ∷ []) (stand_on counts f g now now v.additions (omega arith) no_more no_less mine.2)
+    (All-cons P a [] new (All-nil P))
     in
-    reads_set counts now now views place (Worker w) (omega arith) no_more no_less (has v.reads mine.0, has v.glances mine.1, stand) fit
+    reads_set counts now now views place (Worker w) (omega arith) no_more no_less
+    (has v.reads mine.0, has v.glances mine.1, stand) fit
 
 -- one read or glance in the present phase, which the view after has behind those before
-one_read : (counts : List ℕ) (views : List View) (place : ℕ) (v w : WorkerSeatView) (page count : ℕ) → get_elem? views place ≡ some (Worker v) → count ≡ slice_index counts page + all_before views (phase_of v.state + 1) page → w.additions ≡ v.additions → ((P : PageRead → Type 0) → P (page_read (phase_of v.state) page count (length v.additions)) → All P v.reads × All P v.glances → All P w.reads × All P w.glances) → ReadsFit counts (phase_of v.state) views → ReadsFit counts (phase_of v.state) (set views place (Worker w))
+one_read : (counts : List ℕ) (views : List View) (place : ℕ) (v w : WorkerSeatView) (page count : ℕ)
+    → get_elem? views place ≡ some (Worker v)
+    → count ≡ slice_index counts page + all_before views (phase_of v.state + 1) page
+    → w.additions ≡ v.additions
+    → ((P : PageRead → Type 0) → P (page_read (phase_of v.state) page count (length v.additions))
+    → All P v.reads × All P v.glances → All P w.reads × All P w.glances)
+    → ReadsFit counts (phase_of v.state) views
+    → ReadsFit counts (phase_of v.state) (set views place (Worker w))
 one_read counts views place v w page count at is same_additions with_read fit =
     let now : ℕ = phase_of v.state in
     let later : List View = set views place (Worker w) in
     let g : ℕ → ℕ → ℕ = all_before later in
-    let same : (k p : ℕ) → g k p ≡ all_before views k p = same_before views place (Worker v) (Worker w) at (λ k p. ap (added_before k p) same_additions) in
+    let same : (k p : ℕ) → g k p ≡ all_before views k p =
+    same_before views place (Worker v) (Worker w) at (λ k p. ap (added_before k p) same_additions) in
     let no_more : (k p : ℕ) → k ≤ now → g k p ≤ all_before views k p = λ k p _. (let e = same k p in omega arith) in
     let no_less : (k p : ℕ) → all_before views k p ≤ g k p = λ k p. (let e = same k p in omega arith) in
     let r : PageRead = page_read now page count (length v.additions) in
@@ -212,12 +287,15 @@ one_read counts views place v w page count at is same_additions with_read fit =
     let none : added_in now page (drop (length v.additions) v.additions) ≡ 0 =
     ap (added_in now page) (drop_all (length v.additions) v.additions (omega arith))
     in
-    let new : IsBetween counts g v.additions r = record { after = omega arith; least = omega arith; most = omega arith } in
+    let new : IsBetween counts g v.additions r =
+    record { after = omega arith; least = omega arith; most = omega arith } in
     let P : PageRead → Type 0 = λ x. (x.phase ≤ now) × IsBetween counts g v.additions x in
-    let old : HaveBetween counts g now v = both_between_on counts (all_before views) g now now v (omega arith) no_more no_less (fit place (Worker v) at) in
+    let old : HaveBetween counts g now v =
+    both_between_on counts (all_before views) g now now v (omega arith) no_more no_less (fit place (Worker v) at) in
     let has : All P w.reads × All P w.glances = with_read P (omega arith, new) (old.0, old.1) in
     reads_set counts now now views place (Worker w) (omega arith) no_more no_less
-    (subst (λ (own : List Addition). AreBetween counts g now own w.reads × AreBetween counts g now own w.glances × StandBetween counts g now own) (sym same_additions) (has.0, has.1, old.2))
+    (subst (λ (own : List Addition). AreBetween counts g now own w.reads × AreBetween counts g now own w.glances
+    × StandBetween counts g now own) (sym same_additions) (has.0, has.1, old.2))
     fit
 
 -- what holds of the reads before and of the new one
@@ -234,7 +312,10 @@ read_keeps_reads counts views place v page count at is =
 pub glance_keeps_reads : GlanceKeepsReads
 glance_keeps_reads counts views place v page count at is =
     one_read counts views place v (glanced_view v page count) page count at is refl
-    (λ P new old. (old.0, and_read P v.glances (page_read (phase_of v.state) page count (length v.additions)) new old.1))
+    (λ P new old. (
+      old.0,
+      and_read P v.glances (page_read (phase_of v.state) page count (length v.additions)) new old.1,
+    ))
 
 -- one seat that is given back
 pub join_keeps_reads : JoinKeepsReads
@@ -270,7 +351,8 @@ join_keeps_reads counts phase views place other c v at mine fit =
       ]
     ]
   where
-    gathered_reads : (g : ℕ → ℕ → ℕ) → HasReads counts g phase (Worker v) → HasReads counts g phase (Coord c) → HasReads counts g phase (Coord (gathered_coord c v))
+    gathered_reads : (g : ℕ → ℕ → ℕ) → HasReads counts g phase (Worker v) → HasReads counts g phase (Coord c)
+        → HasReads counts g phase (Coord (gathered_coord c v))
     gathered_reads g own back zero w found =
         subst (λ (x : WorkerSeatView). HaveBetween counts g phase x) (some-injective v w found) own
     gathered_reads g own back (suc j) w found = back j w found

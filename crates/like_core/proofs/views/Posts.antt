@@ -19,4 +19,15 @@ added_to-le additions page =
 
 -- the post of a fresh view is fresh
 pub post_fresh : (z : Opening) (i : ℕ) → IsFresh (post_of (fresh z i))
-post_fresh z i = record { runs = refl; never_looked = refl; no_looks = refl; added_nothing = refl; read_nothing = refl; glanced_nothing = refl; no_masks = refl }
+post_fresh z i =
+    record {
+      runs =
+          refl;
+      never_looked =
+          refl;
+      no_looks = refl;
+      added_nothing = refl;
+      read_nothing = refl;
+      glanced_nothing = refl;
+      no_masks = refl;
+    }

@@ -18,7 +18,8 @@ module _ {A : Type 0} where
   within (x ∷ xs) (suc i) a e = let rest = within xs i a e in omega arith
 
   -- what stands in a list after one element was replaced: the new one there, and elsewhere what stood there
-  pub replaced : (l : List A) (i j : ℕ) (a b : A) → get_elem? (set l i a) j ≡ some b → ((j ≡ i) × (a ≡ b)) ⊎ ((j ≢ i) × (get_elem? l j ≡ some b))
+  pub replaced : (l : List A) (i j : ℕ) (a b : A) → get_elem? (set l i a) j ≡ some b
+      → ((j ≡ i) × (a ≡ b)) ⊎ ((j ≢ i) × (get_elem? l j ≡ some b))
   replaced [] i j a b e = absurd (some-ne-none b (sym e))
   replaced (x ∷ xs) zero zero a b e = inl (refl, some-injective a b e)
   replaced (x ∷ xs) zero (suc j) a b e = inr ((λ same. absurd (omega arith)), e)
@@ -43,7 +44,8 @@ module _ {A : Type 0} where
   sum_part f (x ∷ xs) (suc i) a e = let rest = sum_part f xs i a e in omega (arith, sum_by-cons f x xs)
 
   -- two elements at two places count both
-  pub sum_two : (f : A → ℕ) (l : List A) (i j : ℕ) (a b : A) → i ≢ j → get_elem? l i ≡ some a → get_elem? l j ≡ some b → f a + f b ≤ sum_by f l
+  pub sum_two : (f : A → ℕ) (l : List A) (i j : ℕ) (a b : A) → i ≢ j → get_elem? l i ≡ some a → get_elem? l j ≡ some b
+      → f a + f b ≤ sum_by f l
   sum_two f [] i j a b other at_i at_j = absurd (some-ne-none a (sym at_i))
   sum_two f (x ∷ xs) zero zero a b other at_i at_j = absurd (other refl)
   sum_two f (x ∷ xs) zero (suc j) a b other at_i at_j =
@@ -59,7 +61,8 @@ module _ {A : Type 0} where
       omega (arith, sum_by-cons f x xs)
 
   -- the sum stays where an element is replaced by one that counts the same
-  pub sum_set : (f : A → ℕ) (l : List A) (i : ℕ) (a b : A) → get_elem? l i ≡ some a → f b ≡ f a → sum_by f (set l i b) ≡ sum_by f l
+  pub sum_set : (f : A → ℕ) (l : List A) (i : ℕ) (a b : A) → get_elem? l i ≡ some a → f b ≡ f a
+      → sum_by f (set l i b) ≡ sum_by f l
   sum_set f [] i a b e same = refl
   sum_set f (x ∷ xs) zero a b e same =
       let here = ap f (some-injective x a e) in
@@ -69,7 +72,8 @@ module _ {A : Type 0} where
       omega (arith, sum_by-cons f x xs, sum_by-cons f x (set xs i b))
 
   -- the sum changes by what the element counts that is replaced, and by what its replacement does
-  pub sum_swap : (f : A → ℕ) (l : List A) (i : ℕ) (a b : A) → get_elem? l i ≡ some a → sum_by f (set l i b) + f a ≡ sum_by f l + f b
+  pub sum_swap : (f : A → ℕ) (l : List A) (i : ℕ) (a b : A) → get_elem? l i ≡ some a
+      → sum_by f (set l i b) + f a ≡ sum_by f l + f b
   sum_swap f [] i a b e = absurd (some-ne-none a (sym e))
   sum_swap f (x ∷ xs) zero a b e =
       let here = ap f (some-injective x a e) in
@@ -87,7 +91,8 @@ module _ {A : Type 0} where
       omega (arith, sum_by-cons f x xs, sum_by-cons g x xs)
 
   -- and one term is this much more
-  pub sum_more : (f g : A → ℕ) (l : List A) (i : ℕ) (a : A) (more : ℕ) → ((b : A) → f b ≤ g b) → get_elem? l i ≡ some a → f a + more ≤ g a → sum_by f l + more ≤ sum_by g l
+  pub sum_more : (f g : A → ℕ) (l : List A) (i : ℕ) (a : A) (more : ℕ) → ((b : A) → f b ≤ g b) → get_elem? l i ≡ some a
+      → f a + more ≤ g a → sum_by f l + more ≤ sum_by g l
   sum_more f g [] i a more each e here = absurd (some-ne-none a (sym e))
   sum_more f g (x ∷ xs) zero a more each e here =
       let first = some-injective x a e in
@@ -109,7 +114,8 @@ module _ {A : Type 0} where
       omega (arith, sum_by-cons f x xs)
 
   -- an element beside which none counts is the whole sum
-  pub sum_lone : (f : A → ℕ) (l : List A) (i : ℕ) (a : A) → get_elem? l i ≡ some a → ((j : ℕ) (b : A) → j ≢ i → get_elem? l j ≡ some b → f b ≡ 0) → sum_by f l ≡ f a
+  pub sum_lone : (f : A → ℕ) (l : List A) (i : ℕ) (a : A) → get_elem? l i ≡ some a
+      → ((j : ℕ) (b : A) → j ≢ i → get_elem? l j ≡ some b → f b ≡ 0) → sum_by f l ≡ f a
   sum_lone f [] i a e none = absurd (some-ne-none a (sym e))
   sum_lone f (x ∷ xs) zero a e none =
       let here = ap f (some-injective x a e) in
@@ -121,7 +127,12 @@ module _ {A : Type 0} where
       omega (arith, sum_by-cons f x xs)
 
 -- a sum over the views where the seat at `other` was given back to the coordinator's at `place`
-pub sum_gathered : (f : View → ℕ) (views : List View) (place other : ℕ) (c : CoordSeatView) (v : WorkerSeatView) → get_elem? views place ≡ some (Coord c) → get_elem? (set views place (Coord (gathered_coord c v))) other ≡ some (Worker v) → f Spent ≡ 0 → f (Coord (gathered_coord c v)) ≡ f (Worker v) + f (Coord c) → sum_by f (set (set views place (Coord (gathered_coord c v))) other Spent) ≡ sum_by f views
+pub sum_gathered : (f : View → ℕ) (views : List View) (place other : ℕ) (c : CoordSeatView) (v : WorkerSeatView)
+    → get_elem? views place ≡ some (Coord c)
+    → get_elem? (set views place (Coord (gathered_coord c v))) other ≡ some (Worker v)
+    → f Spent ≡ 0
+    → f (Coord (gathered_coord c v)) ≡ f (Worker v) + f (Coord c)
+    → sum_by f (set (set views place (Coord (gathered_coord c v))) other Spent) ≡ sum_by f views
 sum_gathered f views place other c v at mine spent more =
     let first = sum_swap f views place (Coord c) (Coord (gathered_coord c v)) at in
     let second = sum_swap f (set views place (Coord (gathered_coord c v))) other (Worker v) Spent mine in

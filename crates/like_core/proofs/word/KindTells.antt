@@ -15,7 +15,11 @@ use Rattle.like_core.proofs.word.ShownEvents.{weight-lt}
 kind-high : (z : Opening) (s : CoreState) → (shown_fields z s).kind / 2 ≡ s.phase % 2
 kind-high z s = let below = weight-lt s.ending in omega arith
 
-told : (z : Opening) (s : CoreState) (i : ℕ) (state : WorkerState) → IsInPhase z s → s.state i ≡ state → state ≢ Gone → phase_told (shown_fields z s).kind state ≡ s.phase
+told : (z : Opening) (s : CoreState) (i : ℕ) (state : WorkerState)
+    → IsInPhase z s
+    → s.state i ≡ state
+    → state ≢ Gone
+    → phase_told (shown_fields z s).kind state ≡ s.phase
 told z s i (Runs j) p is there = p.runs i j is
 told z s i (Answered j) p is there =
     let high = kind-high z s in

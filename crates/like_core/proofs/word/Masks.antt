@@ -37,7 +37,8 @@ pub mask_none : (f : ℕ → Bool) (n : ℕ) → ((i : ℕ) → i < n → f i �
 mask_none f zero none = refl
 mask_none f (suc n) none =
     let rest = mask_none f n (λ i below. none i (omega arith)) in
-    let here : mask f n + weight (f n) * 2 ^ n ≡ mask f n + 0 * 2 ^ n = ap (λ b. mask f n + weight b * 2 ^ n) (none n (omega arith)) in
+    let here : mask f n + weight (f n) * 2 ^ n ≡ mask f n + 0 * 2 ^ n =
+    ap (λ b. mask f n + weight b * 2 ^ n) (none n (omega arith)) in
     omega (arith, zero-mul (2 ^ n))
 
 -- each bit of a mask is its test
@@ -50,8 +51,10 @@ mask_bit f (suc n) i below =
           let at : ℕ → Type 0 = λ k. bit_at (mask f (suc n)) k ≡ weight (f k) in
           let high = bit_at_cat_high (weight (f n)) n (mask f n) n (mask-lt f n) (omega arith) in
           let zeroth : n - n ≡ 0 = omega arith in
-          let lowest : bit_at (weight (f n)) 0 ≡ weight (f n) = bit_at_lowest (weight (f n)) ∙ omega (arith, weight-lt (f n)) in
-          let here : at n = ap (λ m. bit_at m n) turned ∙ (high ∙ (ap (λ j. bit_at (weight (f n)) j) zeroth ∙ lowest)) in
+          let lowest : bit_at (weight (f n)) 0 ≡ weight (f n) =
+          bit_at_lowest (weight (f n)) ∙ omega (arith, weight-lt (f n)) in
+          let here : at n =
+          ap (λ m. bit_at m n) turned ∙ (high ∙ (ap (λ j. bit_at (weight (f n)) j) zeroth ∙ lowest)) in
           subst at (sym same) here
       | inr other ↦
           ap (λ m. bit_at m i) turned ∙
@@ -70,7 +73,12 @@ pub mask_past : (f : ℕ → Bool) (n i : ℕ) → n ≤ i → bit_at (mask f n)
 mask_past f n i past = bit_at_above (mask f n) n i (mask-lt f n) past
 
 -- one test more that says yes adds its bit
-pub mask_more : (f g : ℕ → Bool) (n i : ℕ) → i < n → f i ≡ false → g i ≡ true → ((j : ℕ) → j ≢ i → g j ≡ f j) → mask g n ≡ mask f n + 2 ^ i
+pub mask_more : (f g : ℕ → Bool) (n i : ℕ)
+    → i < n
+    → f i ≡ false
+    → g i ≡ true
+    → ((j : ℕ) → j ≢ i → g j ≡ f j)
+    → mask g n ≡ mask f n + 2 ^ i
 mask_more f g zero i below was is others = absurd (omega arith)
 mask_more f g (suc n) i below was is others = elim (cases_eq i n) [
   | inl same ↦
@@ -83,7 +91,8 @@ mask_more f g (suc n) i below was is others = elim (cases_eq i n) [
       omega arith
   | inr other ↦
       let rest = mask_more f g n i (omega arith) was is others in
-      let top : weight (g n) * 2 ^ n ≡ weight (f n) * 2 ^ n = ap (λ b. weight b * 2 ^ n) (others n (λ eq. other (sym eq))) in
+      let top : weight (g n) * 2 ^ n ≡ weight (f n) * 2 ^ n =
+      ap (λ b. weight b * 2 ^ n) (others n (λ eq. other (sym eq))) in
       omega arith
 ]
 
@@ -102,13 +111,15 @@ mask_apart f g (suc n) apart =
     elim (f n) as Q [
       | true ↦ λ clash.
           subst (P true) (sym (clash refl))
-          ((λ m. bit_and (one_more (mask f n) m) (no_more (mask g n) m)) ∙ more_bits-apart (mask f n) (mask g n) n rest f_past g_past)
+          ((λ m. bit_and (one_more (mask f n) m) (no_more (mask g n) m))
+          ∙ more_bits-apart (mask f n) (mask g n) n rest f_past g_past)
       | false ↦ λ _.
           let R : Bool → Type 0 = P false in
           elim (g n) as R [
             | true ↦
                 (λ m. bit_and (no_more (mask f n) m) (one_more (mask g n) m)) ∙
-                (and_comm (mask f n) (mask g n + 2 ^ n) ∙ more_bits-apart (mask g n) (mask f n) n (and_comm (mask g n) (mask f n) ∙ rest) g_past f_past)
+                (and_comm (mask f n) (mask g n + 2 ^ n)
+                ∙ more_bits-apart (mask g n) (mask f n) n (and_comm (mask g n) (mask f n) ∙ rest) g_past f_past)
             | false ↦ (λ m. bit_and (no_more (mask f n) m) (no_more (mask g n) m)) ∙ rest
           ]
     ]

@@ -13,7 +13,8 @@ pub mod-parity : (n m : ℕ) → m % 2 ≡ 0 → n % m % 2 ≡ n % 2
 mod-parity n m even =
     let halves : m ≡ (m / 2) * 2 = omega arith in
     let parts = mod-add-div' n m in
-    let twice : (n / m) * m ≡ (n / m) * (m / 2) * 2 = ap (λ k. (n / m) * k) halves ∙ sym (mul_assoc (n / m) (m / 2) 2) in
+    let twice : (n / m) * m ≡ (n / m) * (m / 2) * 2 =
+    ap (λ k. (n / m) * k) halves ∙ sym (mul_assoc (n / m) (m / 2) 2) in
     let k : ℕ = (n / m) * (m / 2) in
     let rest : ℕ = n % m in
     let sum : rest + k * 2 ≡ n = ap (λ j. rest + j) (sym twice) ∙ parts in
@@ -40,7 +41,11 @@ number-within l phase lawful within = elim (cases_lt last_phase l.modulus) [
 ]
 
 -- the greatest of these numbers is the last phase's alone
-pub number-last : (l : Limits) (phase : ℕ) → AreLimits l → phase ≤ l.last_phase → number_of l phase ≡ last_phase → phase ≡ l.last_phase
+pub number-last : (l : Limits) (phase : ℕ)
+    → AreLimits l
+    → phase ≤ l.last_phase
+    → number_of l phase ≡ last_phase
+    → phase ≡ l.last_phase
 number-last l phase lawful within is = elim (cases_lt last_phase l.modulus) [
   | inl many ↦ let low = lawful.numbers many in let le = number-le l phase in omega arith
   | inr few ↦ let below = mod_below phase l.modulus lawful.some in absurd (omega arith)

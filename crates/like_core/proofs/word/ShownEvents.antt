@@ -54,7 +54,11 @@ not_both phase (Answered j) is = refl
 not_both phase Gone is = cc
 
 -- the word of a state is lawful
-pub shown_lawful : (z : Opening) (s : CoreState) → IsOpening z → IsInPhase z s → NoneAnswered s → IsLawful (shown_fields z s)
+pub shown_lawful : (z : Opening) (s : CoreState)
+    → IsOpening z
+    → IsInPhase z s
+    → NoneAnswered s
+    → IsLawful (shown_fields z s)
 shown_lawful z s opening p none =
     let below = weight-lt s.ending in
     let parity = number-parity z.limits s.phase opening.limits in
@@ -63,10 +67,12 @@ shown_lawful z s opening p none =
       few_workers = opening.few_workers;
       answered = mask-lt (λ i. has_answered s.phase (s.state i)) z.workers;
       retired = mask-lt (λ i. is_gone (s.state i)) z.workers;
-      apart = mask_apart (λ i. has_answered s.phase (s.state i)) (λ i. is_gone (s.state i)) z.workers (λ i. not_both s.phase (s.state i));
+      apart = mask_apart (λ i. has_answered s.phase (s.state i)) (λ i. is_gone (s.state i)) z.workers
+          (λ i. not_both s.phase (s.state i));
       kind = omega arith;
       joined = (λ low. omega arith, λ even. omega arith);
-      running = λ even. mask_none (λ i. has_answered s.phase (s.state i)) z.workers (λ i _. none (even_weight s.ending (s.phase % 2) even) i);
+      running = λ even. mask_none (λ i. has_answered s.phase (s.state i)) z.workers
+          (λ i _. none (even_weight s.ending (s.phase % 2) even) i);
       number = number-within z.limits s.phase opening.limits p.within;
       last = λ is.
           let at_last : s.phase ≡ z.limits.last_phase = number-last z.limits s.phase opening.limits p.within is in
@@ -82,7 +88,13 @@ shown_lawful z s opening p none =
     }
 
 -- the fields of a state from their parts
-fields_by : (f g : Fields) → f.kind ≡ g.kind → f.workers ≡ g.workers → f.answered ≡ g.answered → f.retired ≡ g.retired → f.number ≡ g.number → f ≡ g
+fields_by : (f g : Fields)
+    → f.kind ≡ g.kind
+    → f.workers ≡ g.workers
+    → f.answered ≡ g.answered
+    → f.retired ≡ g.retired
+    → f.number ≡ g.number
+    → f ≡ g
 fields_by f g kind workers answered retired number = λ m. record {
   kind = kind m;
   workers = workers m;
@@ -92,7 +104,10 @@ fields_by f g kind workers answered retired number = λ m. record {
 }
 
 -- the bit of a worker that runs the phase is set in neither mask
-pub runs_unset : (z : Opening) (s : CoreState) (i phase : ℕ) → i < z.workers → s.state i ≡ Runs phase → (bit_at (shown_fields z s).answered i ≡ 0) × (bit_at (shown_fields z s).retired i ≡ 0)
+pub runs_unset : (z : Opening) (s : CoreState) (i phase : ℕ)
+    → i < z.workers
+    → s.state i ≡ Runs phase
+    → (bit_at (shown_fields z s).answered i ≡ 0) × (bit_at (shown_fields z s).retired i ≡ 0)
 runs_unset z s i phase there runs = (
   mask_bit (λ j. has_answered s.phase (s.state j)) z.workers i there ∙ ap (λ st. weight (has_answered s.phase st)) runs,
   mask_bit (λ j. is_gone (s.state j)) z.workers i there ∙ ap (λ st. weight (is_gone st)) runs,
@@ -103,7 +118,10 @@ abbrev pub moved : CoreState → ℕ → WorkerState → CoreState
 moved s i state = record s { state = update s.state i state }
 
 -- what a test says of a state where one worker moved
-test_same : (test : WorkerState → Bool) (s : CoreState) (i : ℕ) (state : WorkerState) → test state ≡ test (s.state i) → (j : ℕ) → test (update s.state i state j) ≡ test (s.state j)
+test_same : (test : WorkerState → Bool) (s : CoreState) (i : ℕ) (state : WorkerState)
+    → test state ≡ test (s.state i)
+    → (j : ℕ)
+    → test (update s.state i state j) ≡ test (s.state j)
 test_same test s i state same j = elim (cases_eq j i) [
   | inl here ↦
       let at : ℕ → Type 0 = λ k. test (update s.state i state k) ≡ test (s.state k) in
@@ -113,11 +131,15 @@ test_same test s i state same j = elim (cases_eq j i) [
 ]
 
 -- an answer sets the worker's bit of `answered`
-pub fields_answered : (z : Opening) (s : CoreState) (i phase : ℕ) → i < z.workers → s.state i ≡ Runs phase → shown_fields z (moved s i (Answered s.phase)) ≡ answered_by (shown_fields z s) i
+pub fields_answered : (z : Opening) (s : CoreState) (i phase : ℕ)
+    → i < z.workers
+    → s.state i ≡ Runs phase
+    → shown_fields z (moved s i (Answered s.phase)) ≡ answered_by (shown_fields z s) i
 fields_answered z s i phase there runs =
     let st : WorkerState = Answered s.phase in
     fields_by (shown_fields z (moved s i st)) (answered_by (shown_fields z s) i) refl refl
-    (mask_more (λ j. has_answered s.phase (s.state j)) (λ j. has_answered s.phase (update s.state i st j)) z.workers i there
+    (mask_more (λ j. has_answered s.phase (s.state j))
+    (λ j. has_answered s.phase (update s.state i st j)) z.workers i there
     (ap (has_answered s.phase) runs)
     (ap (has_answered s.phase) (update-same s.state i st) ∙ eq-eqb s.phase s.phase refl)
     (λ j other. ap (has_answered s.phase) (update-other s.state i st j other)))
@@ -126,7 +148,10 @@ fields_answered z s i phase there runs =
     refl
 
 -- a retirement sets the worker's bit of `retired`
-pub fields_retired : (z : Opening) (s : CoreState) (i phase : ℕ) → i < z.workers → s.state i ≡ Runs phase → shown_fields z (moved s i Gone) ≡ retired_by (shown_fields z s) i
+pub fields_retired : (z : Opening) (s : CoreState) (i phase : ℕ)
+    → i < z.workers
+    → s.state i ≡ Runs phase
+    → shown_fields z (moved s i Gone) ≡ retired_by (shown_fields z s) i
 fields_retired z s i phase there runs =
     fields_by (shown_fields z (moved s i Gone)) (retired_by (shown_fields z s) i) refl refl
     (mask_same (λ j. has_answered s.phase (update s.state i Gone j)) (λ j. has_answered s.phase (s.state j)) z.workers
@@ -138,7 +163,8 @@ fields_retired z s i phase there runs =
     refl
 
 -- a look changes no field
-pub fields_looked : (z : Opening) (s : CoreState) (i : ℕ) → shown_fields z (moved s i (looked s.phase (s.state i))) ≡ shown_fields z s
+pub fields_looked : (z : Opening) (s : CoreState) (i : ℕ)
+    → shown_fields z (moved s i (looked s.phase (s.state i))) ≡ shown_fields z s
 fields_looked z s i =
     let st : WorkerState = looked s.phase (s.state i) in
     fields_by (shown_fields z (moved s i st)) (shown_fields z s) refl refl
@@ -149,7 +175,9 @@ fields_looked z s i =
     refl
 
 -- an announcement adds 1 to the kind
-pub fields_announced : (z : Opening) (s : CoreState) → s.ending ≡ false → shown_fields z (record s { ending = true }) ≡ announced (shown_fields z s)
+pub fields_announced : (z : Opening) (s : CoreState)
+    → s.ending ≡ false
+    → shown_fields z (record s { ending = true }) ≡ announced (shown_fields z s)
 fields_announced z s running =
     let no_weight : weight s.ending ≡ 0 = ap weight running in
     let kind : 2 * (s.phase % 2) + 1 ≡ 2 * (s.phase % 2) + weight s.ending + 1 = omega arith in
@@ -162,7 +190,11 @@ in_not_next phase (Answered j) is = ne_eqb j (phase + 1) (λ next. absurd (omega
 in_not_next phase Gone is = refl
 
 -- a release makes the released fields
-pub fields_released : (z : Opening) (s : CoreState) → s.ending ≡ true → AllIn (numbers z s) → shown_fields z (record s { phase = s.phase + 1; ending = false }) ≡ released_modulo z.limits.modulus (shown_fields z s)
+pub fields_released : (z : Opening) (s : CoreState)
+    → s.ending ≡ true
+    → AllIn (numbers z s)
+    → shown_fields z (record s { phase = s.phase + 1; ending = false })
+    ≡ released_modulo z.limits.modulus (shown_fields z s)
 fields_released z s ending all_in =
     let next : CoreState = record s { phase = s.phase + 1; ending = false } in
     let one : weight s.ending ≡ 1 = ap weight ending in
@@ -178,27 +210,40 @@ fields_released z s ending all_in =
     ]
     in
     fields_by (shown_fields z next) (released_modulo z.limits.modulus (shown_fields z s)) kind refl
-    (mask_none (λ i. has_answered (s.phase + 1) (s.state i)) z.workers (λ i there. in_not_next s.phase (s.state i) (all_in i there)))
+    (mask_none (λ i. has_answered (s.phase + 1) (s.state i)) z.workers
+    (λ i there. in_not_next s.phase (s.state i) (all_in i there)))
     refl
     (number-next z.limits s.phase)
 
 -- the word after an acknowledgement or a report
-pub word_answered : (z : Opening) (s : CoreState) (i phase : ℕ) → IsLawful (shown_fields z s) → i < z.workers → s.state i ≡ Runs phase → bit_or (shown_word z s) (answer_bit i) ≡ shown_word z (moved s i (Answered s.phase))
+pub word_answered : (z : Opening) (s : CoreState) (i phase : ℕ)
+    → IsLawful (shown_fields z s)
+    → i < z.workers
+    → s.state i ≡ Runs phase
+    → bit_or (shown_word z s) (answer_bit i) ≡ shown_word z (moved s i (Answered s.phase))
 word_answered z s i phase lawful there runs =
     packed-answered_by (shown_fields z s) i lawful there (runs_unset z s i phase there runs).0 ∙
     ap packed (sym (fields_answered z s i phase there runs))
 
 -- the word after a retirement
-pub word_retired : (z : Opening) (s : CoreState) (i phase : ℕ) → IsLawful (shown_fields z s) → i < z.workers → s.state i ≡ Runs phase → bit_or (shown_word z s) (retirement_bit i) ≡ shown_word z (moved s i Gone)
+pub word_retired : (z : Opening) (s : CoreState) (i phase : ℕ)
+    → IsLawful (shown_fields z s)
+    → i < z.workers
+    → s.state i ≡ Runs phase
+    → bit_or (shown_word z s) (retirement_bit i) ≡ shown_word z (moved s i Gone)
 word_retired z s i phase lawful there runs =
     packed-retired_by (shown_fields z s) i lawful there (runs_unset z s i phase there runs).1 ∙
     ap packed (sym (fields_retired z s i phase there runs))
 
 -- the word after an announcement
-pub word_announced : (z : Opening) (s : CoreState) → IsLawful (shown_fields z (record s { ending = true })) → s.ending ≡ false → (shown_word z s + 1) % 2 ^ 64 ≡ shown_word z (record s { ending = true })
+pub word_announced : (z : Opening) (s : CoreState)
+    → IsLawful (shown_fields z (record s { ending = true }))
+    → s.ending ≡ false
+    → (shown_word z s + 1) % 2 ^ 64 ≡ shown_word z (record s { ending = true })
 word_announced z s lawful running =
     let below = packed-lt (shown_fields z (record s { ending = true })) lawful in
-    let same : packed (announced (shown_fields z s)) ≡ shown_word z (record s { ending = true }) = ap packed (sym (fields_announced z s running)) in
+    let same : packed (announced (shown_fields z s)) ≡ shown_word z (record s { ending = true }) =
+    ap packed (sym (fields_announced z s running)) in
     let more : packed (announced (shown_fields z s)) ≡ shown_word z s + 1 = omega arith in
     let n : ℕ = shown_word z s in
     let w : ℕ = shown_word z (record s { ending = true }) in
@@ -209,7 +254,10 @@ word_announced z s lawful running =
 
 in_test : (phase : ℕ) (state : WorkerState) → (has_answered phase state || is_gone state) ≡ true → IsIn phase state
 in_test phase (Runs j) is = absurd (cc)
-in_test phase (Answered j) is = eqb-true j phase (let P : Bool → Type 0 = λ b. (b || false) ≡ true → b ≡ true in let Q : P (j == phase) = elim (j == phase) as P [ true ↦ λ e. refl | false ↦ λ e. e ] in Q is)
+in_test phase (Answered j) is =
+    eqb-true j phase
+    (let P : Bool → Type 0 = λ b. (b || false) ≡ true → b ≡ true in
+    let Q : P (j == phase) = elim (j == phase) as P [ true ↦ λ e. refl | false ↦ λ e. e ] in Q is)
 in_test phase Gone is = tt
 
 test_in : (phase : ℕ) (state : WorkerState) → IsIn phase state → (has_answered phase state || is_gone state) ≡ true
@@ -254,7 +302,9 @@ answered_weight phase (Answered j) is =
 answered_weight phase Gone is = absurd (omega arith)
 
 -- a worker sees what the state is
-pub worker_sees : (z : Opening) (s : CoreState) (i : ℕ) → i < z.workers → Sees (numbers z s) i (sight_of (shown_fields z s) i)
+pub worker_sees : (z : Opening) (s : CoreState) (i : ℕ)
+    → i < z.workers
+    → Sees (numbers z s) i (sight_of (shown_fields z s) i)
 worker_sees z s i there =
     let a : ℕ → Bool = λ j. has_answered s.phase (s.state j) in
     let bit = mask_bit a z.workers i there in

@@ -42,7 +42,11 @@ unpacked-packed f lawful =
     }
 
 -- where no word has the fields at the places of a number, no word packs to that number
-pub none_packs : (w kind : ℕ) → kind ≡ bit_and w 3 → (r : Option PhaseWord) → (IsLawful (record (unpacked w) { kind = kind }) → IsSome r) → IfNone r ((p : PhaseWord) → packed (fields_of p) ≢ w)
+pub none_packs : (w kind : ℕ)
+    → kind ≡ bit_and w 3
+    → (r : Option PhaseWord)
+    → (IsLawful (record (unpacked w) { kind = kind }) → IsSome r)
+    → IfNone r ((p : PhaseWord) → packed (fields_of p) ≢ w)
 none_packs w kind is (Some p) some = tt
 none_packs w kind is None some =
     λ p same.
@@ -53,7 +57,14 @@ none_packs w kind is None some =
     cc
 
 -- a word that packs to a number is found
-pub finds : (w kind : ℕ) → kind ≡ bit_and w 3 → (r : Option PhaseWord) → (IsLawful (record (unpacked w) { kind = kind }) → IsSome r) → IfSome r (λ q. fields_of q ≡ record (unpacked w) { kind = kind }) → (p : PhaseWord) → packed (fields_of p) ≡ w → IsSomeAnd r (λ q. fields_of q ≡ fields_of p)
+pub finds : (w kind : ℕ)
+    → kind ≡ bit_and w 3
+    → (r : Option PhaseWord)
+    → (IsLawful (record (unpacked w) { kind = kind }) → IsSome r)
+    → IfSome r (λ q. fields_of q ≡ record (unpacked w) { kind = kind })
+    → (p : PhaseWord)
+    → packed (fields_of p) ≡ w
+    → IsSomeAnd r (λ q. fields_of q ≡ fields_of p)
 finds w kind is (Some q) some fields p same =
     let parts : fields_of p ≡ unpacked w = sym (unpacked-packed (fields_of p) p.lawful) ∙ ap unpacked same in
     fields ∙ (ap (λ k. record (unpacked w) { kind = k }) is ∙ sym parts)

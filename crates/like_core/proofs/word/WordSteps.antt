@@ -15,13 +15,20 @@ pub or_unset : (n i : ℕ) → bit_at n i ≡ 0 → bit_or n (2 ^ i) ≡ n + 2 ^
 or_unset n i unset = or_disjoint n (2 ^ i) (and_unset n i unset)
 
 -- opening an unset bit of a number's high part adds it there
-pub or_unset_high : (high low k i : ℕ) → low < 2 ^ k → bit_at high i ≡ 0 → bit_or (high * 2 ^ k + low) (2 ^ (k + i)) ≡ high * 2 ^ k + low + 2 ^ (k + i)
+pub or_unset_high : (high low k i : ℕ)
+    → low < 2 ^ k
+    → bit_at high i ≡ 0
+    → bit_or (high * 2 ^ k + low) (2 ^ (k + i)) ≡ high * 2 ^ k + low + 2 ^ (k + i)
 or_unset_high high low k i below unset =
     or_unset (high * 2 ^ k + low) (k + i)
     (bit_at_cat_high high k low (k + i) below (omega arith) ∙ (ap (λ j. bit_at high j) (omega arith) ∙ unset))
 
 -- acknowledging or reporting sets one bit of `answered` and changes no other field
-pub packed-answered_by : (f : Fields) (i : ℕ) → IsLawful f → i < f.workers → bit_at f.answered i ≡ 0 → bit_or (packed f) (answer_bit i) ≡ packed (answered_by f i)
+pub packed-answered_by : (f : Fields) (i : ℕ)
+    → IsLawful f
+    → i < f.workers
+    → bit_at f.answered i ≡ 0
+    → bit_or (packed f) (answer_bit i) ≡ packed (answered_by f i)
 packed-answered_by f i lawful within unset =
     let narrow_answered : f.answered < 2 ^ 16 = narrow f f.answered lawful lawful.answered in
     let k = lawful.kind in
@@ -29,13 +36,18 @@ packed-answered_by f i lawful within unset =
     let high : ℕ = (f.retired + 2 ^ 16 * f.number) * 2 ^ 16 + f.answered in
     let low : ℕ = f.kind + 4 * f.workers in
     let parts : packed f ≡ high * 2 ^ 8 + low = omega arith in
-    let at_high : bit_at high i ≡ 0 = bit_at_cat_low (f.retired + 2 ^ 16 * f.number) 16 f.answered i (omega arith) ∙ unset in
+    let at_high : bit_at high i ≡ 0 =
+    bit_at_cat_low (f.retired + 2 ^ 16 * f.number) 16 f.answered i (omega arith) ∙ unset in
     let below : low < 2 ^ 8 = omega arith in
     let shifted : 2 ^ (8 + i) ≡ 2 ^ 8 * 2 ^ i = pow-add 2 8 i in
     ap (λ w. bit_or w (answer_bit i)) parts ∙ (or_unset_high high low 8 i below at_high ∙ omega arith)
 
 -- retiring sets one bit of `retired` and changes no other field
-pub packed-retired_by : (f : Fields) (i : ℕ) → IsLawful f → i < f.workers → bit_at f.retired i ≡ 0 → bit_or (packed f) (retirement_bit i) ≡ packed (retired_by f i)
+pub packed-retired_by : (f : Fields) (i : ℕ)
+    → IsLawful f
+    → i < f.workers
+    → bit_at f.retired i ≡ 0
+    → bit_or (packed f) (retirement_bit i) ≡ packed (retired_by f i)
 packed-retired_by f i lawful within unset =
     let narrow_answered : f.answered < 2 ^ 16 = narrow f f.answered lawful lawful.answered in
     let narrow_retired : f.retired < 2 ^ 16 = narrow f f.retired lawful lawful.retired in
@@ -57,13 +69,23 @@ more_bits-lt n mask i below within unset =
     omega arith
 
 -- a mask with one more bit has no bit in common with another, where that lacks the bit too
-pub more_bits-apart : (mask other i : ℕ) → bit_and mask other ≡ 0 → bit_at mask i ≡ 0 → bit_at other i ≡ 0 → bit_and (mask + 2 ^ i) other ≡ 0
+pub more_bits-apart : (mask other i : ℕ)
+    → bit_and mask other ≡ 0
+    → bit_at mask i ≡ 0
+    → bit_at other i ≡ 0
+    → bit_and (mask + 2 ^ i) other ≡ 0
 more_bits-apart mask other i apart unset lacks =
     ap (λ m. bit_and m other) (sym (or_unset mask i unset)) ∙
     (and_or_apart other mask (2 ^ i) (and_comm (2 ^ i) other ∙ and_unset other i lacks) ∙ apart)
 
 -- acknowledging or reporting keeps a word lawful
-pub lawful-answered_by : (f : Fields) (i : ℕ) → IsLawful f → f.kind % 2 ≡ 1 → i < f.workers → bit_at f.answered i ≡ 0 → bit_at f.retired i ≡ 0 → IsLawful (answered_by f i)
+pub lawful-answered_by : (f : Fields) (i : ℕ)
+    → IsLawful f
+    → f.kind % 2 ≡ 1
+    → i < f.workers
+    → bit_at f.answered i ≡ 0
+    → bit_at f.retired i ≡ 0
+    → IsLawful (answered_by f i)
 lawful-answered_by f i lawful ending within runs stays = record {
   some_worker = lawful.some_worker;
   few_workers = lawful.few_workers;
@@ -78,7 +100,12 @@ lawful-answered_by f i lawful ending within runs stays = record {
 }
 
 -- retiring keeps a word lawful
-pub lawful-retired_by : (f : Fields) (i : ℕ) → IsLawful f → i < f.workers → bit_at f.answered i ≡ 0 → bit_at f.retired i ≡ 0 → IsLawful (retired_by f i)
+pub lawful-retired_by : (f : Fields) (i : ℕ)
+    → IsLawful f
+    → i < f.workers
+    → bit_at f.answered i ≡ 0
+    → bit_at f.retired i ≡ 0
+    → IsLawful (retired_by f i)
 lawful-retired_by f i lawful within runs stays = record {
   some_worker = lawful.some_worker;
   few_workers = lawful.few_workers;

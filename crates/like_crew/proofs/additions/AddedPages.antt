@@ -27,43 +27,56 @@ got : {A : Type 0} (P : A → Type 0) (xs : List A) (k : ℕ) (x : A) → All P 
 got P xs k x all at = subst P (get_or_from_slice_get xs k x x at) (all k x (slice_get_within xs k x at))
 
 -- the page of a like is the one that its request knows
-page-of : (pages : List Page) (o : Op) (user : ℕ) (page : PageRef) (l : AcceptedLike) → IsThere (length pages) page → like_of o user page ≡ Some l → l.page < length pages
+page-of : (pages : List Page) (o : Op) (user : ℕ) (page : PageRef) (l : AcceptedLike)
+    → IsThere (length pages) page
+    → like_of o user page ≡ Some l
+    → l.page < length pages
 page-of pages op.Like user (Known page) l there is = subst (λ n. n < length pages) (cc is) there
 page-of pages op.Like user Unknown l there is = cc is
 page-of pages op.Look user page l there is = cc is
 
 module _ (service : Service) (plans : All (AreThere service.pages) service.plans) where
   -- the page of a request is there
-  numbered-there : (plan : List Request) (number : ℕ) (r : Request) → AreThere service.pages plan → numbered_in plan number ≡ Some r → IsThere (length service.pages) r.page
+  numbered-there : (plan : List Request) (number : ℕ) (r : Request) → AreThere service.pages plan
+      → numbered_in plan number ≡ Some r → IsThere (length service.pages) r.page
   numbered-there plan zero r all is = cc is
   numbered-there plan (suc n) r all is = got (λ x. IsThere (length service.pages) x.page) plan n r all is
 
-  asked-there : (submitter number : ℕ) (r : Request) → request_at service submitter number ≡ Some r → IsThere (length service.pages) r.page
+  asked-there : (submitter number : ℕ) (r : Request) → request_at service submitter number ≡ Some r
+      → IsThere (length service.pages) r.page
   asked-there submitter number r is = by_plan (slice_get service.plans submitter) refl is where
-    by_plan : (o : Option (List Request)) → slice_get service.plans submitter ≡ o → option_and_then (λ plan. numbered_in plan number) o ≡ Some r → IsThere (length service.pages) r.page
+    by_plan : (o : Option (List Request)) → slice_get service.plans submitter ≡ o
+        → option_and_then (λ plan. numbered_in plan number) o ≡ Some r → IsThere (length service.pages) r.page
     by_plan None at same = cc same
-    by_plan (Some plan) at same = numbered-there plan number r (got (AreThere service.pages) service.plans submitter plan plans at) same
+    by_plan (Some plan) at same =
+        numbered-there plan number r (got (AreThere service.pages) service.plans submitter plan plans at) same
 
   -- and so is that of an accepted like
   like-there : (e : Ran) (l : AcceptedLike) → like_ran service e ≡ Some l → l.page < length service.pages
   like-there e l is = by_request (request_of service e) refl is where
-    by_test : (b : Bool) (r : Request) → IsThere (length service.pages) r.page → cond b (like_of r.op r.user r.page) None ≡ Some l → l.page < length service.pages
+    by_test : (b : Bool) (r : Request) → IsThere (length service.pages) r.page
+        → cond b (like_of r.op r.user r.page) None ≡ Some l → l.page < length service.pages
     by_test true r there same = page-of service.pages r.op r.user r.page l there same
     by_test false r there same = cc same
 
-    by_request : (o : Option Request) → request_of service e ≡ o → option_and_then (accepted_like service.users (submitters service) e.submitter) o ≡ Some l → l.page < length service.pages
+    by_request : (o : Option Request) → request_of service e ≡ o
+        → option_and_then (accepted_like service.users (submitters service) e.submitter) o ≡ Some l
+        → l.page < length service.pages
     by_request None at same = cc same
     by_request (Some r) at same =
-        by_test (is_accepted service.users (submitters service) e.submitter r) r (asked-there e.submitter e.number r at) same
+        by_test (is_accepted service.users (submitters service) e.submitter r) r
+        (asked-there e.submitter e.number r at) same
 
   -- a page with a like is there
   one-there : (e : Ran) (page : ℕ) → 1 ≤ likes_among service page (e ∷ []) → page < length service.pages
   one-there e page some = by_like (like_ran service e) refl some where
-    by_like : (o : Option AcceptedLike) → like_ran service e ≡ o → 1 ≤ page_likes page (cons_option o []) → page < length service.pages
+    by_like : (o : Option AcceptedLike) → like_ran service e ≡ o → 1 ≤ page_likes page (cons_option o [])
+        → page < length service.pages
     by_like None at one = absurd (omega arith)
     by_like (Some l) at one = elim (cases_eq l.page page) [
       | inl same ↦ subst (λ n. n < length service.pages) same (like-there e l at)
-      | inr other ↦ absurd (let none : cond {A = ℕ} (l.page == page) 1 0 ≡ 0 = ap (λ (b : Bool). cond {A = ℕ} b 1 0) (ne_eqb l.page page other) in omega arith)
+      | inr other ↦ absurd (let none : cond {A = ℕ} (l.page == page) 1 0 ≡ 0 =
+          ap (λ (b : Bool). cond {A = ℕ} b 1 0) (ne_eqb l.page page other) in omega arith)
     ]
 
   pub liked-there : (ran : List Ran) (page : ℕ) → 1 ≤ likes_among service page ran → page < length service.pages
@@ -88,7 +101,8 @@ module _ (service : Service) (plans : All (AreThere service.pages) service.plans
       omega (arith, sum_by-cons (likes_among service page) ran runs)
 
   -- the additions are of pages that are there, where they are as many likes as a run list has of each page
-  pub adds-there : (additions : List Addition) (adds : List Added) (ran : List Ran) → additions ≡ map addition_of adds → ((page : ℕ) → likes_among service page ran ≡ added_to page additions)
+  pub adds-there : (additions : List Addition) (adds : List Added) (ran : List Ran) → additions ≡ map addition_of adds
+      → ((page : ℕ) → likes_among service page ran ≡ added_to page additions)
       → All (IsOfLikes service ran) adds → All (λ a. a.page < length service.pages) adds
   adds-there additions adds ran are many each k d within =
       let a : Added = get_or adds k d in
@@ -97,6 +111,7 @@ module _ (service : Service) (plans : All (AreThere service.pages) service.plans
       let own : weight a ≡ a.n = cond-true (a.page == a.page) a.n 0 (eq-eqb a.page a.page refl) in
       let part : weight a ≤ sum_by weight adds = get_or-le-sum_by weight adds k d within in
       let all : likes_among service a.page ran ≡ sum_by weight adds =
-      many a.page ∙ ap (added_to a.page) are ∙ sum-of-map (λ (x : Addition). cond (x.page == a.page) x.likes 0) addition_of adds
+      many a.page ∙ ap (added_to a.page) are
+      ∙ sum-of-map (λ (x : Addition). cond (x.page == a.page) x.likes 0) addition_of adds
       in
       liked-there ran a.page (omega arith)

@@ -20,7 +20,9 @@ read_after (shown, after) = record { phase = shown.phase; page = shown.page; cou
 -- the reads of the looks of a log are what they were shown, each after the additions before it
 module _ (service : Service) (log : WorkerLog) where
   shown_with : (places : List ℕ) → filter_map (read_at service log) places
-      ≡ map read_after (zip (filter_map (shown_at service log.ran.items) places) (filter_map (adds_before_look service log.adds.items log.ran.items) places))
+      ≡ map read_after
+      (zip (filter_map (shown_at service log.ran.items) places)
+      (filter_map (adds_before_look service log.adds.items log.ran.items) places))
   shown_with [] = refl
   shown_with (at ∷ places) = by_entry (slice_get log.ran.items at) (shown_with places) where
     reads : List PageRead
@@ -36,23 +38,41 @@ module _ (service : Service) (log : WorkerLog) where
     made = adds_before at log.adds.items
 
     by_look : (e : Ran) (look : Option ℕ) → reads ≡ map read_after (zip counts afters)
-        → cons_option (option_map (λ page. record { phase = e.phase; page = page; count = count_in e.reply; after = made }) look) reads
-        ≡ map read_after (zip (cons_option (option_map (λ page. record { phase = e.phase; page = page; count = count_in e.reply; before = likes_within service page (take at log.ran.items) e.phase }) look) counts) (cons_option (option_map (λ _. made) look) afters))
+        → cons_option
+        (option_map (λ page. record { phase = e.phase; page = page; count = count_in e.reply; after = made }) look)
+        reads
+        ≡ map read_after
+        (zip (cons_option
+        (option_map (λ page. record {
+          phase =
+              e.phase;
+          page =
+              page;
+          count = count_in e.reply;
+          before = likes_within service page (take at log.ran.items) e.phase;
+        }) look)
+        counts) (cons_option (option_map (λ _. made) look) afters))
     by_look e None rest = rest
-    by_look e (Some page) rest = ap (λ rs. (record { phase = e.phase; page = page; count = count_in e.reply; after = made }) ∷ rs) rest
+    by_look e (Some page) rest =
+        ap (λ rs. (record { phase = e.phase; page = page; count = count_in e.reply; after = made }) ∷ rs) rest
 
     by_entry : (o : Option Ran) → reads ≡ map read_after (zip counts afters)
         → cons_option (option_and_then (read_of service made) o) reads
-        ≡ map read_after (zip (cons_option (option_and_then (shown_to service (take at log.ran.items)) o) counts) (cons_option (option_map (λ _. made) (option_and_then (look_ran service) o)) afters))
+        ≡ map read_after
+        (zip (cons_option (option_and_then (shown_to service (take at log.ran.items)) o) counts)
+        (cons_option (option_map (λ _. made) (option_and_then (look_ran service) o)) afters))
     by_entry None rest = rest
     by_entry (Some e) rest = by_look e (look_ran service e) rest
 
 -- what a read shows, and how many additions were before it, are the read
-again : (additions : List Addition) (reads : List PageRead) → map read_after (zip (map (shown_by additions) reads) (map (λ r. r.after) reads)) ≡ reads
+again : (additions : List Addition) (reads : List PageRead)
+    → map read_after (zip (map (shown_by additions) reads) (map (λ r. r.after) reads)) ≡ reads
 again additions [] = refl
 again additions (r ∷ reads) = ap (λ rs. r ∷ rs) (again additions reads)
 
-pub reads-are : (service : Service) (log : WorkerLog) (additions : List Addition) (reads : List PageRead) → shown_in service log.ran.items ≡ map (shown_by additions) reads
+pub reads-are : (service : Service) (log : WorkerLog) (additions : List Addition) (reads : List PageRead)
+    → shown_in service log.ran.items ≡ map (shown_by additions) reads
     → map (λ r. r.after) reads ≡ adds_before_looks service log.adds.items log.ran.items → reads_of service log ≡ reads
 reads-are service log additions reads shown after =
-    shown_with service log (range_with_len 0 (length log.ran.items)) ∙ ((λ i. map read_after (zip (shown i) (sym after i))) ∙ again additions reads)
+    shown_with service log (range_with_len 0 (length log.ran.items))
+    ∙ ((λ i. map read_after (zip (shown i) (sym after i))) ∙ again additions reads)

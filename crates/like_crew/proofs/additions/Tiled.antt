@@ -44,145 +44,193 @@ abbrev additions_noted : WorkerLog → List Addition
 additions_noted log = map addition_of log.adds.items
 
 -- as many of the additions of all logs pass a test as of each log together
-count-all : (test : Addition → Bool) (logs : List WorkerLog) → sum_by (λ log. count_by test (additions_noted log)) logs ≡ count_by test (all_noted logs)
+count-all : (test : Addition → Bool) (logs : List WorkerLog)
+    → sum_by (λ log. count_by test (additions_noted log)) logs ≡ count_by test (all_noted logs)
 count-all test [] = refl
 count-all test (log ∷ logs) =
     let one : Addition → ℕ = λ a. cond (test a) 1 0 in
     sum_by-cons (λ (l : WorkerLog). count_by test (additions_noted l)) log logs
-    ∙ (ap (λ n. count_by test (additions_noted log) + n) (count-all test logs) ∙ sym (sum_by-append one (additions_noted log) (all_noted logs)))
+    ∙ (ap (λ n. count_by test (additions_noted log) + n) (count-all test logs)
+    ∙ sym (sum_by-append one (additions_noted log) (all_noted logs)))
 
 -- what a log has noted, where its worker notes its additions
-pub record HasNoted (setup : Setup) (plans : List (List Request)) (site : Site) (e : Ended) (h : IsEnded setup plans site e) (s : ServerView) (log : WorkerLog) : Type 0 where
+pub record HasNoted (setup : Setup) (plans : List (List Request)) (site : Site) (e : Ended)
+    (h : IsEnded setup plans site e) (s : ServerView) (log : WorkerLog) : Type 0 where
   pub of_log : IsLogOf s log
   pub worked : HasWorkedFor (known setup plans site e h) s
   pub additions : s.worker.post.additions ≡ additions_noted log
   pub adds : AreOfLikes (known setup plans site e h) log.ran.items log.adds.items
-  pub reads : map (λ r. r.after) s.worker.post.reads ≡ adds_before_looks (known setup plans site e h) log.adds.items log.ran.items
+  pub reads : map (λ r. r.after) s.worker.post.reads
+      ≡ adds_before_looks (known setup plans site e h) log.adds.items log.ran.items
 
 -- additions that stand between what all seats have added stand so between the likes of the run lists
-stand-noted : (service : Service) (runs : List (List Ran)) (counts : List ℕ) (before : ℕ → ℕ → ℕ) (last : ℕ) (adds : List Added) → ((page : ℕ) → get_or counts page 0 ≡ initial_count service.pages page)
-    → ((phase page : ℕ) → before phase page ≡ likes_below service page runs phase) → StandBetween counts before last (map addition_of adds)
+stand-noted : (service : Service) (runs : List (List Ran)) (counts : List ℕ) (before : ℕ → ℕ → ℕ) (last : ℕ)
+    (adds : List Added)
+    → ((page : ℕ) → get_or counts page 0 ≡ initial_count service.pages page)
+    → ((phase page : ℕ) → before phase page ≡ likes_below service page runs phase)
+    → StandBetween counts before last (map addition_of adds)
     → All (λ a. Between service runs a.phase a.page a.old 0 a.n) adds
 stand-noted service runs counts before last adds initial below stand k d within =
     let a : Added = get_or adds k d in
-    let b = (all-back addition_of (λ (x : Addition). (x.phase ≤ last) × StandsBetween counts before x) adds stand k d within).1 in
+    let b = (all-back addition_of
+    (λ (x : Addition). (x.phase ≤ last) × StandsBetween counts before x) adds stand k d within).1 in
     let first = initial a.page in
     let earlier = below a.phase a.page in
     let upto = below (a.phase + 1) a.page in
     record { lower = omega (arith, b.least); upper = omega (arith, b.most) }
 
-module _ (setup : Setup) (plans : List (List Request)) (site : Site) (e : Ended) (h : IsEnded setup plans site e) (masks : HaveReadMasks (coord_view e.coord).masks e.seats.items)
+module _ (setup : Setup) (plans : List (List Request)) (site : Site) (e : Ended) (h : IsEnded setup plans site e)
+    (masks : HaveReadMasks (coord_view e.coord).masks e.seats.items)
     (counted : AreCounted (coord_view e.coord) e.seats.items) (notes : site.notes ≡ true) where
   -- the log of each worker has
-  noted-by : (worker : ℕ) (s : ServerView) (log : WorkerLog) → slice_get h.servers worker ≡ Some s → IsLogOf s log → HasNoted setup plans site e h s log
+  noted-by : (worker : ℕ) (s : ServerView) (log : WorkerLog) → slice_get h.servers worker ≡ Some s → IsLogOf s log
+      → HasNoted setup plans site e h s log
   noted-by worker s log at of_log =
       let is = server-at setup plans site e h worker s at in
-      let worked : HasWorkedFor (known setup plans site e h) s = (is.works (hot_known setup plans site e h), right-at-server setup plans site e h masks worker s at) in
-      let noted : AreNoted (known setup plans site e h) s.worker = of_log.noted (is.notes_are ∙ notes) (known setup plans site e h) worked in
+      let worked : HasWorkedFor (known setup plans site e h) s =
+      (is.works (hot_known setup plans site e h), right-at-server setup plans site e h masks worker s at) in
+      let noted : AreNoted (known setup plans site e h) s.worker =
+      of_log.noted (is.notes_are ∙ notes) (known setup plans site e h) worked in
       record {
         of_log = of_log;
         worked = worked;
         additions = noted.additions ∙ ap (map addition_of) (sym of_log.adds);
         adds = subst (λ (ran : List Ran). AreOfLikes (known setup plans site e h) ran log.adds.items) (sym of_log.ran)
             (subst (AreOfLikes (known setup plans site e h) s.worker.ran) (sym of_log.adds) noted.adds);
-        reads = noted.reads ∙ (λ i. adds_before_looks (known setup plans site e h) (sym of_log.adds i) (sym of_log.ran i));
+        reads = noted.reads
+            ∙ (λ i. adds_before_looks (known setup plans site e h) (sym of_log.adds i) (sym of_log.ran i));
       }
 
-  noted-at : (worker : ℕ) (log : WorkerLog) → slice_get e.logs.items worker ≡ Some log → (s : ServerView) × ((slice_get h.servers worker ≡ Some s) × HasNoted setup plans site e h s log)
+  noted-at : (worker : ℕ) (log : WorkerLog) → slice_get e.logs.items worker ≡ Some log
+      → (s : ServerView) × ((slice_get h.servers worker ≡ Some s) × HasNoted setup plans site e h s log)
   noted-at worker log at =
       let s = left-at IsLogOf h.servers e.logs.items worker log h.logs at in
       (s.0, (s.1.0, noted-by worker s.0 log s.1.0 s.1.1))
 
   -- of its accepted likes
-  pub of-likes : All (λ seat. IfSome (seat_meaning seat).last (λ sight. sight.number ≤ (coord_view e.coord).phase)) e.seats.items
+  pub of-likes : All
+      (λ seat. IfSome (seat_meaning seat).last (λ sight. sight.number ≤ (coord_view e.coord).phase)) e.seats.items
       → All (λ log. AreOfLikes (served setup plans site e h) log.ran.items log.adds.items) e.logs.items
   of-likes phases worker d within =
       let log : WorkerLog = get_or e.logs.items worker d in
       let at : slice_get e.logs.items worker ≡ Some log = slice_get-get_or e.logs.items worker d within in
       let is = logs-are setup plans site e h masks counted phases worker log at in
-      of-likes-same (service_of setup plans) (hot_known setup plans site e h) (served setup plans site e h).hot e.phases (masks-known setup plans site e h masks counted) log.ran.items log.adds.items
+      of-likes-same (service_of setup plans) (hot_known setup plans site e h) (served setup plans site e h).hot e.phases
+      (masks-known setup plans site e h masks counted) log.ran.items log.adds.items
       (ran-within (served setup plans site e h) log.taken.items e.phases h.joined is.1 log.ran.items is.0.ran)
       (noted-at worker log at).1.1.adds
 
   -- to pages that are there
-  pub all-there : All (AreThere setup.pages) plans → All (λ log. All (λ a. a.page < length setup.pages) log.adds.items) e.logs.items
+  pub all-there : All (AreThere setup.pages) plans
+      → All (λ log. All (λ a. a.page < length setup.pages) log.adds.items) e.logs.items
   all-there there worker d within =
       let log : WorkerLog = get_or e.logs.items worker d in
       let n = noted-at worker log (slice_get-get_or e.logs.items worker d within) in
-      adds-there (known setup plans site e h) there n.0.worker.post.additions log.adds.items log.ran.items n.1.1.additions
+      adds-there (known setup plans site e h) there n.0.worker.post.additions log.adds.items log.ran.items
+      n.1.1.additions
       (n.1.1.of_log.additions (known setup plans site e h) n.1.1.worked) n.1.1.adds.each
 
   -- as many of the logs' additions pass a test as of the seats'
   passing-same : (test : Addition → Bool) → seats_passing e.seats.items test ≡ count_by test (all_noted e.logs.items)
   passing-same test =
-      sym (pairs-sum IsSeatOf (λ (s : ServerView). count_by test s.worker.post.additions) (λ (seat : WorkerSeat). count_by test (seat_meaning seat).additions) h.servers e.seats.items
+      sym (pairs-sum IsSeatOf (λ (s : ServerView). count_by test s.worker.post.additions)
+      (λ (seat : WorkerSeat). count_by test (seat_meaning seat).additions) h.servers e.seats.items
       (λ s seat m. ap (λ (p : PostView). count_by test p.additions) (sym m)) h.seats)
       ∙ pairs-sum (λ (s : ServerView) (log : WorkerLog). s.worker.post.additions ≡ additions_noted log)
-      (λ (s : ServerView). count_by test s.worker.post.additions) (λ (log : WorkerLog). count_by test (additions_noted log)) h.servers e.logs.items (λ s log m. ap (count_by test) m) matched
+      (λ (s : ServerView). count_by test s.worker.post.additions)
+      (λ (log : WorkerLog). count_by test (additions_noted log)) h.servers e.logs.items
+      (λ s log m. ap (count_by test) m) matched
       ∙ count-all test e.logs.items
     where
-      matches : (ss : List ServerView) (logs : List WorkerLog) → ((i : ℕ) (s : ServerView) (log : WorkerLog) → slice_get ss i ≡ Some s → IsLogOf s log → s.worker.post.additions ≡ additions_noted log)
-          → AllZip IsLogOf ss logs → AllZip (λ (s : ServerView) (log : WorkerLog). s.worker.post.additions ≡ additions_noted log) ss logs
+      matches : (ss : List ServerView) (logs : List WorkerLog)
+          → ((i : ℕ) (s : ServerView) (log : WorkerLog) → slice_get ss i ≡ Some s → IsLogOf s log
+          → s.worker.post.additions ≡ additions_noted log)
+          → AllZip IsLogOf ss logs
+          → AllZip (λ (s : ServerView) (log : WorkerLog). s.worker.post.additions ≡ additions_noted log) ss logs
       matches [] [] each all = tt
       matches [] (log ∷ logs) each all = absurd all
       matches (s ∷ ss) [] each all = absurd all
-      matches (s ∷ ss) (log ∷ logs) each all = (each 0 s log refl all.0, matches ss logs (λ i t l at of_log. each (suc i) t l at of_log) all.1)
+      matches (s ∷ ss) (log ∷ logs) each all =
+          (each 0 s log refl all.0, matches ss logs (λ i t l at of_log. each (suc i) t l at of_log) all.1)
 
-      matched : AllZip (λ (s : ServerView) (log : WorkerLog). s.worker.post.additions ≡ additions_noted log) h.servers e.logs.items
+      matched : AllZip
+          (λ (s : ServerView) (log : WorkerLog). s.worker.post.additions ≡ additions_noted log) h.servers e.logs.items
       matched = matches h.servers e.logs.items (λ i s log at of_log. (noted-by i s log at of_log).additions) h.logs
 
   -- each page's count at the start
   first-same : (page : ℕ) → get_or (coord_view e.coord).opening.counts page 0 ≡ initial_count setup.pages page
-  first-same page = ap (λ (x : Opening). get_or x.counts page 0) h.opening ∙ initial-at (known setup plans site e h) page
+  first-same page =
+      ap (λ (x : Opening). get_or x.counts page 0) h.opening ∙ initial-at (known setup plans site e h) page
 
   module _ (there : All (AreThere setup.pages) plans) (counts : List ℕ) (sized : length counts ≡ length setup.pages)
-      (told : (page : ℕ) → page < length setup.pages → get_or counts page 0 ≡ last_count (coord_view e.coord).opening e.seats.items page) where
+      (told : (page : ℕ) → page < length setup.pages
+      → get_or counts page 0 ≡ last_count (coord_view e.coord).opening e.seats.items page) where
     -- and its last one
     last-same : (page : ℕ) → last_count (coord_view e.coord).opening e.seats.items page ≡ get_or counts page 0
     last-same page = elim (cases_lt page (length setup.pages)) [
       | inl within ↦ sym (told page within)
       | inr past ↦
           let none = get_or_past counts page 0 (omega arith) in
-          let start = ap (λ (x : Opening). get_or x.counts page 0) h.opening ∙ get_or_past (z setup plans site e h).counts page 0 (omega (arith, length-map setup.pages (λ (p : Page). p.count))) in
-          let added = all-likes setup plans site e h masks page ∙ none-liked (known setup plans site e h) there (runs_of e.logs.items) page past in
+          let start = ap (λ (x : Opening). get_or x.counts page 0) h.opening
+          ∙ get_or_past (z setup plans site e h).counts page 0
+          (omega (arith, length-map setup.pages (λ (p : Page). p.count))) in
+          let added = all-likes setup plans site e h masks page
+          ∙ none-liked (known setup plans site e h) there (runs_of e.logs.items) page past in
           omega (arith, none, start, added)
     ]
 
     -- each number of a page is in the stretch of one addition
-    pub tiles-are : HavePlaces (coord_view e.coord).opening e.seats.items → (page n : ℕ) → count_by (has_number page n) (all_noted e.logs.items)
+    pub tiles-are : HavePlaces (coord_view e.coord).opening e.seats.items → (page n : ℕ)
+        → count_by (has_number page n) (all_noted e.logs.items)
         ≡ cond (nat_le (initial_count setup.pages page) n && nat_lt n (get_or counts page 0)) 1 0
     tiles-are places page n =
-        let first : (λ page. get_or (coord_view e.coord).opening.counts page 0) ≡ initial_count setup.pages = λ i page. first-same page i in
-        let last : last_count (coord_view e.coord).opening e.seats.items ≡ (λ page. get_or counts page 0) = λ i page. last-same page i in
+        let first : (λ page. get_or (coord_view e.coord).opening.counts page 0) ≡ initial_count setup.pages =
+        λ i page. first-same page i in
+        let last : last_count (coord_view e.coord).opening e.seats.items ≡ (λ page. get_or counts page 0) =
+        λ i page. last-same page i in
         sym (passing-same (has_number page n))
         ∙ (subst (λ (f : ℕ → ℕ). AreTiles (initial_count setup.pages) f (seats_passing e.seats.items)) last
-        (subst (λ (f : ℕ → ℕ). AreTiles f (last_count (coord_view e.coord).opening e.seats.items) (seats_passing e.seats.items)) first places.tiles)).tiled page n
+        (subst (λ (f : ℕ → ℕ). AreTiles f (last_count (coord_view e.coord).opening e.seats.items)
+        (seats_passing e.seats.items)) first places.tiles)).tiled page n
 
   -- the calls of each worker are placed
   pub placed-are : HavePlaces (coord_view e.coord).opening e.seats.items
-      → All (λ log. ArePlaced (initial_count setup.pages) (λ test. count_by test (all_noted e.logs.items)) (additions_noted log) (reads_of (served setup plans site e h) log)) e.logs.items
+      → All (λ log. ArePlaced (initial_count setup.pages) (λ test. count_by test (all_noted e.logs.items))
+      (additions_noted log) (reads_of (served setup plans site e h) log)) e.logs.items
   placed-are places worker d within =
       let log : WorkerLog = get_or e.logs.items worker d in
       let n = noted-at worker log (slice_get-get_or e.logs.items worker d within) in
       let seat = right-at IsSeatOf h.servers e.seats.items worker n.0 h.seats n.1.0 in
-      let P : PostView → Type 0 = λ p. ArePlaced (λ page. get_or (coord_view e.coord).opening.counts page 0) (seats_passing e.seats.items) p.additions p.reads in
+      let P : PostView → Type 0 =
+      λ p. ArePlaced (λ page. get_or (coord_view e.coord).opening.counts page 0)
+      (seats_passing e.seats.items) p.additions p.reads in
       let own : P (seat_meaning seat.0) =
       subst (λ (x : WorkerSeat). P (seat_meaning x)) (get_or_from_slice_get e.seats.items worker seat.0 seat.0 seat.1.0)
       (places.each worker seat.0 (slice_get_within e.seats.items worker seat.0 seat.1.0))
       in
       let post : P n.0.worker.post = subst P seat.1.1 own in
-      let first : (λ page. get_or (coord_view e.coord).opening.counts page 0) ≡ initial_count setup.pages = λ i page. first-same page i in
-      let passing : seats_passing e.seats.items ≡ (λ test. count_by test (all_noted e.logs.items)) = λ i test. passing-same test i in
+      let first : (λ page. get_or (coord_view e.coord).opening.counts page 0) ≡ initial_count setup.pages =
+      λ i page. first-same page i in
+      let passing : seats_passing e.seats.items ≡ (λ test. count_by test (all_noted e.logs.items)) =
+      λ i test. passing-same test i in
       let reads : reads_of (known setup plans site e h) log ≡ n.0.worker.post.reads =
-      reads-are (known setup plans site e h) log n.0.worker.post.additions n.0.worker.post.reads (n.1.1.of_log.looks (known setup plans site e h) n.1.1.worked) n.1.1.reads
+      reads-are (known setup plans site e h) log n.0.worker.post.additions n.0.worker.post.reads
+      (n.1.1.of_log.looks (known setup plans site e h) n.1.1.worked) n.1.1.reads
       in
-      subst (λ (c : Counting). ArePlaced (initial_count setup.pages) c (additions_noted log) (reads_of (known setup plans site e h) log)) passing
-      (subst (λ (f : ℕ → ℕ). ArePlaced f (seats_passing e.seats.items) (additions_noted log) (reads_of (known setup plans site e h) log)) first
-      (subst (λ (rs : List PageRead). ArePlaced (λ page. get_or (coord_view e.coord).opening.counts page 0) (seats_passing e.seats.items) (additions_noted log) rs) (sym reads)
-      (subst (λ (made : List Addition). ArePlaced (λ page. get_or (coord_view e.coord).opening.counts page 0) (seats_passing e.seats.items) made n.0.worker.post.reads) n.1.1.additions post)))
+      subst (λ (c : Counting). ArePlaced (initial_count setup.pages) c (additions_noted log)
+      (reads_of (known setup plans site e h) log)) passing
+      (subst (λ (f : ℕ → ℕ). ArePlaced f (seats_passing e.seats.items) (additions_noted log)
+      (reads_of (known setup plans site e h) log)) first
+      (subst (λ (rs : List PageRead). ArePlaced (λ page. get_or (coord_view e.coord).opening.counts page 0)
+      (seats_passing e.seats.items) (additions_noted log) rs) (sym reads)
+      (subst (λ (made : List Addition). ArePlaced (λ page. get_or (coord_view e.coord).opening.counts page 0)
+      (seats_passing e.seats.items) made n.0.worker.post.reads) n.1.1.additions post)))
 
   -- their stretches stand in the order of phases
-  pub stand-are : HaveAddedBetween (coord_view e.coord).opening (coord_view e.coord).phase e.seats.items → All (λ log. All (λ a. Between (served setup plans site e h) (runs_of e.logs.items) a.phase a.page a.old 0 a.n) log.adds.items) e.logs.items
+  pub stand-are : HaveAddedBetween (coord_view e.coord).opening (coord_view e.coord).phase e.seats.items
+      → All (λ log. All
+      (λ a. Between (served setup plans site e h) (runs_of e.logs.items) a.phase a.page a.old 0 a.n) log.adds.items)
+      e.logs.items
   stand-are stand worker d within =
       let log : WorkerLog = get_or e.logs.items worker d in
       let n = noted-at worker log (slice_get-get_or e.logs.items worker d within) in
@@ -191,9 +239,11 @@ module _ (setup : Setup) (plans : List (List Request)) (site : Site) (e : Ended)
       let last : ℕ = (coord_view e.coord).phase in
       let P : List Addition → Type 0 = StandBetween counts (seats_before e.seats.items) last in
       let own : P (seat_meaning seat.0).additions =
-      subst (λ (x : WorkerSeat). P (seat_meaning x).additions) (get_or_from_slice_get e.seats.items worker seat.0 seat.0 seat.1.0)
+      subst (λ (x : WorkerSeat). P (seat_meaning x).additions)
+      (get_or_from_slice_get e.seats.items worker seat.0 seat.0 seat.1.0)
       (stand worker seat.0 (slice_get_within e.seats.items worker seat.0 seat.1.0))
       in
       let post : P n.0.worker.post.additions = subst (λ (p : PostView). P p.additions) seat.1.1 own in
-      stand-noted (served setup plans site e h) (runs_of e.logs.items) counts (seats_before e.seats.items) last log.adds.items first-same (all-before setup plans site e h masks)
+      stand-noted (served setup plans site e h) (runs_of e.logs.items) counts
+      (seats_before e.seats.items) last log.adds.items first-same (all-before setup plans site e h masks)
       (subst P n.1.1.additions post)

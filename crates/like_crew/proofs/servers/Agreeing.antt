@@ -31,7 +31,11 @@ use Rattle.like_crew.proofs.servers.Unnoted.{gives-adds, turns-adds}
 use Rattle.like_crew.proofs.servers.Sights.{HasSeen, IsTrying, gives-seen, taken-rising, turns-seen}
 
 -- a turn that takes nothing
-pub agree-turn : (v w : WorkerView) (inboxes : List InboxView) (answer : Turn) → Turns v answer w → TakesNothing v w → Agree v inboxes → Agree w inboxes
+pub agree-turn : (v w : WorkerView) (inboxes : List InboxView) (answer : Turn)
+    → Turns v answer w
+    → TakesNothing v w
+    → Agree v inboxes
+    → Agree w inboxes
 agree-turn v w inboxes answer turns k a =
     let seen : HasSeen w = turns-seen v answer w turns (a.above, a.present) in
     record {
@@ -43,7 +47,8 @@ agree-turn v w inboxes answer turns k a =
           record {
             left = ap (λ xs. get_or xs place 0 + requests_taken i) k.left ∙ g.left;
             ended = ap (λ xs. get_or xs place true) k.ended ∙ g.ended;
-            there = subst (λ (marks : List Bool). All (λ (r : Request). IsThere (length marks) r.page) i.plan) (sym k.marks) g.there;
+            there = subst (λ (marks : List Bool). All (λ (r : Request). IsThere (length marks) r.page) i.plan)
+                (sym k.marks) g.there;
           };
       taken = λ s. ap (numbers_taken s) k.taken ∙ a.taken s ∙ ap (λ x. numbers_given x inboxes s) (sym k.share);
       rising = subst IsRising (sym k.taken) a.rising;
@@ -53,17 +58,27 @@ agree-turn v w inboxes answer turns k a =
     }
 
 -- a worker of the same run, with inboxes of the same plans, that follows the plans too
-serves-on : (service : Service) (v w : WorkerView) (before after : List InboxView) → w.last.share ≡ v.last.share → plans_of after ≡ plans_of before → (AreMasksOf service.hot w.post.masks → Follows service w)
-    → (opened more : List ℕ) → WorksFor service (record { worker = v; inboxes = before; opened = opened }) → WorksFor service (record { worker = w; inboxes = after; opened = more })
+serves-on : (service : Service) (v w : WorkerView) (before after : List InboxView)
+    → w.last.share ≡ v.last.share
+    → plans_of after ≡ plans_of before
+    → (AreMasksOf service.hot w.post.masks → Follows service w)
+    → (opened more : List ℕ)
+    → WorksFor service (record { worker = v; inboxes = before; opened = opened })
+    → WorksFor service (record { worker = w; inboxes = after; opened = more })
 serves-on service v w before after share plans follows opened more h = record {
   plans = plans ∙ h.plans ∙ ap (λ (s : Share). dealt s.workers s.worker service.plans) (sym share);
   follows = follows;
 }
 
-pub serves-turn : (service : Service) (v w : WorkerView) (inboxes : List InboxView) (opened : List ℕ) → TakesNothing v w → (AreMasksOf service.hot w.post.masks → Follows service v → Follows service w)
-    → WorksFor service (record { worker = v; inboxes = inboxes; opened = opened }) → WorksFor service (record { worker = w; inboxes = inboxes; opened = opened })
+pub serves-turn : (service : Service) (v w : WorkerView) (inboxes : List InboxView) (opened : List ℕ)
+    → TakesNothing v w
+    → (AreMasksOf service.hot w.post.masks → Follows service v → Follows service w)
+    → WorksFor service (record { worker = v; inboxes = inboxes; opened = opened })
+    → WorksFor service (record { worker = w; inboxes = inboxes; opened = opened })
 serves-turn service v w inboxes opened k follows h =
-    serves-on service v w inboxes inboxes k.share refl (λ right. follows right (h.follows (masks-before service.hot v.post.masks w.post.masks k.masks right))) opened opened h
+    serves-on service v w inboxes inboxes k.share refl
+    (λ right. follows right (h.follows (masks-before service.hot v.post.masks w.post.masks k.masks right))) opened
+    opened h
 
 -- what was taken from the inbox at a place, in the worker's own words
 record Changes (v w : WorkerView) (place left : ℕ) (ended : Bool) : Type 0 where
@@ -76,32 +91,48 @@ record Changes (v w : WorkerView) (place left : ℕ) (ended : Bool) : Type 0 whe
 abbrev taken_to : InboxView → ℕ → InboxView
 taken_to i n = record i { taken = n }
 
-module _ (v w : WorkerView) (inboxes : List InboxView) (place n : ℕ) (i : InboxView) (a : Agree v inboxes) (here : slice_get inboxes place ≡ Some i) where
+module _ (v w : WorkerView) (inboxes : List InboxView) (place n : ℕ) (i : InboxView) (a : Agree v inboxes)
+    (here : slice_get inboxes place ≡ Some i) where
   within : place < length inboxes
   within = slice_get_within inboxes place i here
 
-  agree-changed : (left : ℕ) (ended : Bool) → Changes v w place left ended → left + requests_taken (taken_to i n) ≡ length i.plan → ended ≡ ltb (length i.plan) n
-      → ((s : ℕ) → numbers_taken s w.taken ≡ numbers_given v.last.share (set inboxes place (taken_to i n)) s) → IsRising w.taken → HasSeen w → (w.notes ≡ false → w.adds ≡ [])
+  agree-changed : (left : ℕ) (ended : Bool) → Changes v w place left ended
+      → left + requests_taken (taken_to i n) ≡ length i.plan → ended ≡ ltb (length i.plan) n
+      → ((s : ℕ) → numbers_taken s w.taken ≡ numbers_given v.last.share (set inboxes place (taken_to i n)) s)
+      → IsRising w.taken
+      → HasSeen w
+      → (w.notes ≡ false → w.adds ≡ [])
       → Agree w (set inboxes place (taken_to i n))
   agree-changed left ended c lefts ends numbers rising seen unnoted = record {
     is_worker = subst (λ (s : Share). s.worker < s.workers) (sym c.share) a.is_worker;
-    lefts = ap (λ (xs : List ℕ). length xs) c.left_is ∙ length-set v.left place left ∙ a.lefts ∙ sym (length-set inboxes place (taken_to i n));
-    places = ap (λ (xs : List Bool). length xs) c.ended_is ∙ length-set v.ended place ended ∙ a.places ∙ sym (length-set inboxes place (taken_to i n));
+    lefts = ap (λ (xs : List ℕ). length xs) c.left_is ∙ length-set v.left place left ∙ a.lefts
+        ∙ sym (length-set inboxes place (taken_to i n));
+    places = ap (λ (xs : List Bool). length xs) c.ended_is ∙ length-set v.ended place ended ∙ a.places
+        ∙ sym (length-set inboxes place (taken_to i n));
     each = λ q j e. elim (cases_eq q place) [
       | inl same ↦
-          let it : taken_to i n ≡ j = same_Some _ _ (sym (slice_get-set_same inboxes place (taken_to i n) within) ∙ ap (slice_get (set inboxes place (taken_to i n))) (sym same) ∙ e) in
+          let it : taken_to i n ≡ j =
+          same_Some _ _
+          (sym (slice_get-set_same inboxes place (taken_to i n) within)
+          ∙ ap (slice_get (set inboxes place (taken_to i n))) (sym same) ∙ e) in
           subst (λ x. AgreesAt w q x) it (subst (λ x. AgreesAt w x (taken_to i n)) (sym same) (record {
             left = ap (λ xs. get_or xs place 0 + requests_taken (taken_to i n)) c.left_is
-                ∙ ap (λ x. x + requests_taken (taken_to i n)) (get_or-set_same v.left place left 0 (omega (arith, within, a.lefts))) ∙ lefts;
-            ended = ap (λ xs. get_or xs place true) c.ended_is ∙ get_or-set_same v.ended place ended true (omega (arith, within, a.places)) ∙ ends;
-            there = subst (λ (marks : List Bool). All (λ (r : Request). IsThere (length marks) r.page) i.plan) (sym c.marks) (a.each place i here).there;
+                ∙ ap (λ x. x + requests_taken (taken_to i n))
+                (get_or-set_same v.left place left 0 (omega (arith, within, a.lefts))) ∙ lefts;
+            ended = ap (λ xs. get_or xs place true) c.ended_is
+                ∙ get_or-set_same v.ended place ended true (omega (arith, within, a.places)) ∙ ends;
+            there = subst (λ (marks : List Bool). All (λ (r : Request). IsThere (length marks) r.page) i.plan)
+                (sym c.marks) (a.each place i here).there;
           }))
       | inr other ↦
           let g = a.each q j (sym (slice_get-set_other inboxes place q (taken_to i n) other) ∙ e) in
           record {
-            left = ap (λ xs. get_or xs q 0 + requests_taken j) c.left_is ∙ ap (λ x. x + requests_taken j) (get_or-set_other v.left place q left 0 other) ∙ g.left;
-            ended = ap (λ xs. get_or xs q true) c.ended_is ∙ get_or-set_other v.ended place q ended true other ∙ g.ended;
-            there = subst (λ (marks : List Bool). All (λ (r : Request). IsThere (length marks) r.page) j.plan) (sym c.marks) g.there;
+            left = ap (λ xs. get_or xs q 0 + requests_taken j) c.left_is
+                ∙ ap (λ x. x + requests_taken j) (get_or-set_other v.left place q left 0 other) ∙ g.left;
+            ended = ap (λ xs. get_or xs q true) c.ended_is ∙ get_or-set_other v.ended place q ended true other
+                ∙ g.ended;
+            there = subst (λ (marks : List Bool). All (λ (r : Request). IsThere (length marks) r.page) j.plan)
+                (sym c.marks) g.there;
           }
     ];
     taken = λ s. numbers s ∙ ap (λ x. numbers_given x (set inboxes place (taken_to i n)) s) (sym c.share);
@@ -112,19 +143,28 @@ module _ (v w : WorkerView) (inboxes : List InboxView) (place n : ℕ) (i : Inbo
   }
 
 -- what is given leaves the run as it is
-pub share-given : (v w : WorkerView) (place : ℕ) (took : Taken) → v.pending ≡ Some place → HasTaken v took w → w.last.share ≡ v.last.share
+pub share-given : (v w : WorkerView) (place : ℕ) (took : Taken)
+    → v.pending ≡ Some place
+    → HasTaken v took w
+    → w.last.share ≡ v.last.share
 share-given v w place (taken.Ask ask) trying has = (has place trying).share
 share-given v w place taken.End trying has = (has place trying).share
 share-given v w place taken.Nothing trying has = has.share
 
 -- and whether the worker notes its additions
-pub notes-given : (v w : WorkerView) (place : ℕ) (took : Taken) → v.pending ≡ Some place → HasTaken v took w → w.notes ≡ v.notes
+pub notes-given : (v w : WorkerView) (place : ℕ) (took : Taken)
+    → v.pending ≡ Some place
+    → HasTaken v took w
+    → w.notes ≡ v.notes
 notes-given v w place (taken.Ask ask) trying has = (has place trying).notes
 notes-given v w place taken.End trying has = (has place trying).notes
 notes-given v w place taken.Nothing trying has = has.notes
 
 -- and the masks that were read
-masks-given : (v w : WorkerView) (place : ℕ) (took : Taken) → v.pending ≡ Some place → HasTaken v took w → KeepsMasks v.post.masks w.post.masks
+masks-given : (v w : WorkerView) (place : ℕ) (took : Taken)
+    → v.pending ≡ Some place
+    → HasTaken v took w
+    → KeepsMasks v.post.masks w.post.masks
 masks-given v w place (taken.Ask ask) trying has = (has place trying).masks
 masks-given v w place taken.End trying has = (has place trying).masks
 masks-given v w place taken.Nothing trying has = has.masks
@@ -136,15 +176,22 @@ plan-taken i j taken.End t = ap (λ (x : InboxView). x.plan) t.1
 plan-taken i j taken.Nothing t = ap (λ (x : InboxView). x.plan) t.1
 
 -- the request that the inbox hands over is asked by the plan
-asked : (service : Service) (v : WorkerView) (inboxes : List InboxView) (place : ℕ) (i : InboxView) (ask : Numbered) → slice_get inboxes place ≡ Some i
-    → slice_get i.plan i.taken ≡ Some ask.request → ask.number ≡ i.taken + 1 → 1 ≤ v.last.share.workers → AreOwnPlans service v.last.share.workers v.last.share.worker inboxes
+asked : (service : Service) (v : WorkerView) (inboxes : List InboxView) (place : ℕ) (i : InboxView) (ask : Numbered)
+    → slice_get inboxes place ≡ Some i
+    → slice_get i.plan i.taken ≡ Some ask.request
+    → ask.number ≡ i.taken + 1
+    → 1 ≤ v.last.share.workers
+    → AreOwnPlans service v.last.share.workers v.last.share.worker inboxes
     → request_at service (submitter_at v place) ask.number ≡ Some ask.request
 asked service v inboxes place i ask here get number some h =
     let plan : slice_get service.plans (submitter_at v place) ≡ Some i.plan =
-    sym (plan-at service v.last.share.workers v.last.share.worker inboxes place some h) ∙ slice_get-map (λ (x : InboxView). x.plan) inboxes place ∙ ap (option_map (λ (x : InboxView). x.plan)) here in
-    ap (λ o. option_and_then (λ p. numbered_in p ask.number) o) plan ∙ ap (numbered_in i.plan) (number ∙ add-one i.taken) ∙ get
+    sym (plan-at service v.last.share.workers v.last.share.worker inboxes place some h)
+    ∙ slice_get-map (λ (x : InboxView). x.plan) inboxes place ∙ ap (option_map (λ (x : InboxView). x.plan)) here in
+    ap (λ o. option_and_then (λ p. numbered_in p ask.number) o) plan
+    ∙ ap (numbered_in i.plan) (number ∙ add-one i.taken) ∙ get
 
-module _ (v : WorkerView) (inboxes : List InboxView) (place : ℕ) (i j : InboxView) (a : Agree v inboxes) (trying : v.pending ≡ Some place)
+module _ (v : WorkerView) (inboxes : List InboxView) (place : ℕ) (i j : InboxView) (a : Agree v inboxes)
+    (trying : v.pending ≡ Some place)
     (here : slice_get inboxes place ≡ Some i) (open_yet : get_or v.ended place true ≡ false) where
   -- its end mark was not taken
   not_over : i.taken ≤ length i.plan
@@ -165,7 +212,8 @@ module _ (v : WorkerView) (inboxes : List InboxView) (place : ℕ) (i j : InboxV
       subst (λ q. IsNext v q ask) it (record {
         number = t.1 ∙ ap (λ n. n + 1) (sym (count-taken (submitter_at v place) v.taken i.taken numbers-here));
         some = omega (arith, some, left);
-        there = subst (λ (r : Request). IsThere (pages_of v.post) r.page) (get_or_from_slice_get i.plan i.taken ask.request ask.request t.0)
+        there = subst (λ (r : Request). IsThere (pages_of v.post) r.page)
+            (get_or_from_slice_get i.plan i.taken ask.request ask.request t.0)
             ((a.each place i here).there i.taken ask.request some);
       })
   can-give taken.End t = tt
@@ -182,7 +230,8 @@ module _ (v : WorkerView) (inboxes : List InboxView) (place : ℕ) (i j : InboxV
     within_here : place < length inboxes
     within_here = slice_get_within inboxes place i here
 
-    pub agree-give : (took : Taken) → HandsOver i took j → Gives v took answer w → HasTaken v took w → Agree w (set inboxes place j)
+    pub agree-give : (took : Taken) → HandsOver i took j → Gives v took answer w → HasTaken v took w
+        → Agree w (set inboxes place j)
     agree-give (taken.Ask ask) t gives has =
         let k : TakesNothing (with_taken v place ask) w = has place trying in
         let seen : HasSeen w = gives-seen v (taken.Ask ask) answer w gives looked (a.above, a.present) in
@@ -193,11 +242,21 @@ module _ (v : WorkerView) (inboxes : List InboxView) (place : ℕ) (i j : InboxV
         let one : Took = record { phase = phase_at v; submitter = submitter_at v place; number = ask.number } in
         subst (λ x. Agree w (set inboxes place x)) (sym t.2)
         (agree-changed v w inboxes place (i.taken + 1) i a here (get_or v.left place 0 - 1) false
-        (record { share = k.share; marks = k.marks; left_is = k.left; ended_is = k.ended ∙ sym (set-get_or v.ended place true) ∙ ap (set v.ended place) open_yet })
+        (record {
+          share =
+              k.share;
+          marks =
+              k.marks;
+          left_is =
+              k.left;
+          ended_is = k.ended ∙ sym (set-get_or v.ended place true) ∙ ap (set v.ended place) open_yet;
+        })
         (omega (arith, some, left)) (sym (le-ltb (length i.plan) (i.taken + 1) (omega (arith, some))))
         (λ s. ap (numbers_taken s) k.taken
-        ∙ numbers-next v.last.share a.is_worker inboxes v.taken place i next within_here here a.taken one refl (t.1 ∙ omega (arith, not_over)) more s)
-        (subst IsRising (sym k.taken) (taken-rising v place ask looked (a.above, a.present) a.rising)) seen (none-noted (taken.Ask ask) gives has))
+        ∙ numbers-next v.last.share a.is_worker inboxes v.taken place i next within_here here a.taken one refl
+        (t.1 ∙ omega (arith, not_over)) more s)
+        (subst IsRising (sym k.taken) (taken-rising v place ask looked (a.above, a.present) a.rising)) seen
+        (none-noted (taken.Ask ask) gives has))
     agree-give taken.End t gives has =
         let k : TakesNothing (record v { ended = set v.ended place true }) w = has place trying in
         let seen : HasSeen w = gives-seen v taken.End answer w gives looked (a.above, a.present) in
@@ -206,9 +265,17 @@ module _ (v : WorkerView) (inboxes : List InboxView) (place : ℕ) (i j : InboxV
         let same : requests_taken (record i { taken = item_count i.plan }) ≡ requests_taken i = omega (arith, all) in
         subst (λ x. Agree w (set inboxes place x)) (sym t.1)
         (agree-changed v w inboxes place (item_count i.plan) i a here (get_or v.left place 0) true
-        (record { share = k.share; marks = k.marks; left_is = k.left ∙ sym (set-get_or v.left place 0); ended_is = k.ended })
+        (record {
+          share =
+              k.share;
+          marks = k.marks;
+          left_is = k.left ∙ sym (set-get_or v.left place 0);
+          ended_is = k.ended;
+        })
         (omega (arith, left, all)) (sym (lt-ltb (length i.plan) (length i.plan + 1) (omega arith)))
-        (λ s. ap (numbers_taken s) k.taken ∙ numbers-same v.last.share a.is_worker inboxes v.taken place i (record i { taken = item_count i.plan }) within_here here a.taken same s)
+        (λ s. ap (numbers_taken s) k.taken
+        ∙ numbers-same v.last.share a.is_worker inboxes v.taken place i
+        (record i { taken = item_count i.plan }) within_here here a.taken same s)
         (subst IsRising (sym k.taken) a.rising) seen (none-noted taken.End gives has))
     agree-give taken.Nothing t gives has =
         let k : TakesNothing v w = has in
@@ -216,27 +283,49 @@ module _ (v : WorkerView) (inboxes : List InboxView) (place : ℕ) (i j : InboxV
         let left : get_or v.left place 0 + requests_taken i ≡ length i.plan = (a.each place i here).left in
         subst (λ x. Agree w (set inboxes place x)) (sym t.1)
         (agree-changed v w inboxes place i.taken i a here (get_or v.left place 0) false
-        (record { share = k.share; marks = k.marks; left_is = k.left ∙ sym (set-get_or v.left place 0); ended_is = k.ended ∙ sym (set-get_or v.ended place true) ∙ ap (set v.ended place) open_yet })
+        (record {
+          share =
+              k.share;
+          marks =
+              k.marks;
+          left_is =
+              k.left ∙ sym (set-get_or v.left place 0);
+          ended_is =
+              k.ended ∙ sym (set-get_or v.ended place true) ∙ ap (set v.ended place) open_yet;
+        })
         left (sym (le-ltb (length i.plan) i.taken not_over))
-        (λ s. ap (numbers_taken s) k.taken ∙ numbers-same v.last.share a.is_worker inboxes v.taken place i i within_here here a.taken refl s)
+        (λ s. ap (numbers_taken s) k.taken
+        ∙ numbers-same v.last.share a.is_worker inboxes v.taken place i i within_here here a.taken refl s)
         (subst IsRising (sym k.taken) a.rising) seen (none-noted taken.Nothing gives has))
 
   -- and the worker follows the plans on
-  pub serves-give : (service : Service) (w : WorkerView) (took : Taken) → HandsOver i took j → HasTaken v took w → (IsAskedBy service v took → Follows service v → Follows service w)
-      → (opened more : List ℕ) → WorksFor service (record { worker = v; inboxes = inboxes; opened = opened }) → WorksFor service (record { worker = w; inboxes = set inboxes place j; opened = more })
+  pub serves-give : (service : Service) (w : WorkerView) (took : Taken) → HandsOver i took j → HasTaken v took w
+      → (IsAskedBy service v took → Follows service v → Follows service w)
+      → (opened more : List ℕ)
+      → WorksFor service (record { worker = v; inboxes = inboxes; opened = opened })
+      → WorksFor service (record { worker = w; inboxes = set inboxes place j; opened = more })
   serves-give service w took t has follows opened more h =
       let plans : plans_of (set inboxes place j) ≡ plans_of inboxes =
-      map-set_same (λ (x : InboxView). x.plan) inboxes place j i (plan-taken i j took t ∙ ap (λ (x : InboxView). x.plan) (sym (get_or_from_slice_get inboxes place i i here))) in
+      map-set_same (λ (x : InboxView). x.plan) inboxes place j i
+      (plan-taken i j took t
+      ∙ ap (λ (x : InboxView). x.plan) (sym (get_or_from_slice_get inboxes place i i here))) in
       serves-on service v w inboxes (set inboxes place j) (share-given v w place took trying has) plans
-      (λ right. follows (asks took t) (h.follows (masks-before service.hot v.post.masks w.post.masks (masks-given v w place took trying has) right))) opened more h where
+      (λ right. follows (asks took t)
+      (h.follows (masks-before service.hot v.post.masks w.post.masks
+      (masks-given v w place took trying has) right))) opened more h where
         asks : (x : Taken) → HandsOver i x j → IsAskedBy service v x
         asks (taken.Ask ask) u = λ p e.
-            subst (λ q. request_at service (submitter_at v q) ask.number ≡ Some ask.request) (same_Some _ _ (sym trying ∙ e)) (asked service v inboxes place i ask here u.0 u.1 (omega (arith, a.is_worker)) h.plans)
+            subst (λ q. request_at service (submitter_at v q) ask.number ≡ Some ask.request)
+            (same_Some _ _ (sym trying ∙ e))
+            (asked service v inboxes place i ask here u.0 u.1 (omega (arith, a.is_worker)) h.plans)
         asks taken.End u = tt
         asks taken.Nothing u = tt
 
 -- an answer that is no try leaves none pending
-pub none-pending : (answer : Turn) (v : WorkerView) → Pends answer v → ((submitter : ℕ) → answer ≡ turn.Try submitter → ⊥) → v.pending ≡ None
+pub none-pending : (answer : Turn) (v : WorkerView)
+    → Pends answer v
+    → ((submitter : ℕ) → answer ≡ turn.Try submitter → ⊥)
+    → v.pending ≡ None
 none-pending turn.Ran v p other = p
 none-pending turn.Stashed v p other = p
 none-pending turn.TookEnd v p other = p

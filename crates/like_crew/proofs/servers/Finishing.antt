@@ -26,38 +26,61 @@ use Rattle.like_crew.proofs.servers.Numbers.{own-place}
 use Rattle.like_crew.proofs.Counted.{plan_of}
 
 -- the whole plan of a submitter was taken
-whole-plan : (service : Service) (s : ServerView) (submitter : ℕ) → Agree s.worker s.inboxes → WorksFor service s → IsDone service s.worker → serves s.worker.last.share submitter ≡ true
-    → option_map_or requests_taken (slice_get s.inboxes (place_of s.worker.last.share.workers submitter)) 0 ≡ length (plan_of service submitter)
+whole-plan : (service : Service) (s : ServerView) (submitter : ℕ)
+    → Agree s.worker s.inboxes
+    → WorksFor service s
+    → IsDone service s.worker
+    → serves s.worker.last.share submitter ≡ true
+    → option_map_or requests_taken (slice_get s.inboxes (place_of s.worker.last.share.workers submitter)) 0
+    ≡ length (plan_of service submitter)
 whole-plan service s submitter a h done mine =
     let share : Share = s.worker.last.share in
     let place : ℕ = place_of share.workers submitter in
     let it : submitter ≡ share.worker + share.workers * place = own-place share a.is_worker submitter mine in
     let plan : slice_get service.plans submitter ≡ option_map (λ (i : InboxView). i.plan) (slice_get s.inboxes place) =
-    ap (slice_get service.plans) it ∙ sym (plan-at service share.workers share.worker s.inboxes place (omega (arith, a.is_worker)) h.plans) ∙ slice_get-map (λ (i : InboxView). i.plan) s.inboxes place in
+    ap (slice_get service.plans) it
+    ∙ sym (plan-at service share.workers share.worker s.inboxes place (omega (arith, a.is_worker)) h.plans)
+    ∙ slice_get-map (λ (i : InboxView). i.plan) s.inboxes place in
     by_inbox (slice_get s.inboxes place) refl plan where
-      by_inbox : (o : Option InboxView) → slice_get s.inboxes (place_of s.worker.last.share.workers submitter) ≡ o → slice_get service.plans submitter ≡ option_map (λ (i : InboxView). i.plan) o
+      by_inbox : (o : Option InboxView) → slice_get s.inboxes (place_of s.worker.last.share.workers submitter) ≡ o
+          → slice_get service.plans submitter ≡ option_map (λ (i : InboxView). i.plan) o
           → option_map_or requests_taken o 0 ≡ length (plan_of service submitter)
-      by_inbox None e p = ap (λ (xs : List Request). length xs) (ap (λ o. unwrap_or o []) (sym p) ∙ unwrap_or-slice_get service.plans submitter [])
+      by_inbox None e p =
+          ap (λ (xs : List Request). length xs)
+          (ap (λ o. unwrap_or o []) (sym p) ∙ unwrap_or-slice_get service.plans submitter [])
       by_inbox (Some i) e p =
           let place : ℕ = place_of s.worker.last.share.workers submitter in
           let within : place < length s.inboxes = slice_get_within s.inboxes place i e in
-          let over : length i.plan < i.taken = ltb-true (length i.plan) i.taken (sym (a.each place i e).ended ∙ done.ended place (omega (arith, within, a.places))) in
+          let over : length i.plan < i.taken =
+          ltb-true (length i.plan) i.taken
+          (sym (a.each place i e).ended ∙ done.ended place (omega (arith, within, a.places))) in
           let all : requests_taken i ≡ length i.plan = omega (arith, over) in
           all ∙ ap (λ (xs : List Request). length xs) (sym (get_or_from_slice_get service.plans submitter i.plan [] p))
 
-takes-plans : (service : Service) (s : ServerView) → Agree s.worker s.inboxes → WorksFor service s → IsDone service s.worker
+takes-plans : (service : Service) (s : ServerView)
+    → Agree s.worker s.inboxes
+    → WorksFor service s
+    → IsDone service s.worker
     → TakesPlans service s.worker.last.share.workers s.worker.last.share.worker s.worker.taken
 takes-plans service s a h done submitter =
     let share : Share = s.worker.last.share in
     let given : ℕ = option_map_or requests_taken (slice_get s.inboxes (place_of share.workers submitter)) 0 in
     a.taken submitter ∙ elim (cases_Bool (serves share submitter)) [
-      | inl mine ↦ ap (λ n. cond (serves share submitter) (range_with_len 1 n) []) (whole-plan service s submitter a h done mine)
-      | inr other ↦ ap (λ b. cond b (range_with_len 1 given) []) other ∙ sym (ap (λ b. cond b (range_with_len 1 (length (plan_of service submitter))) []) other)
+      | inl mine ↦ ap (λ n. cond (serves share submitter) (range_with_len 1 n) [])
+          (whole-plan service s submitter a h done mine)
+      | inr other ↦ ap (λ b. cond b (range_with_len 1 given) []) other
+          ∙ sym (ap (λ b. cond b (range_with_len 1 (length (plan_of service submitter))) []) other)
     ]
 
 -- the log
-pub log-is : (service : Service) (s : ServerView) (log : WorkerLog) → Agree s.worker s.inboxes → WorksFor service s → IsDone service s.worker
-    → log.taken.items ≡ s.worker.taken → log.ran.items ≡ s.worker.ran → log.last ≡ s.worker.last → IsLog service s.worker.last.share.workers s.worker.last.share.worker log
+pub log-is : (service : Service) (s : ServerView) (log : WorkerLog)
+    → Agree s.worker s.inboxes
+    → WorksFor service s
+    → IsDone service s.worker
+    → log.taken.items ≡ s.worker.taken
+    → log.ran.items ≡ s.worker.ran
+    → log.last ≡ s.worker.last
+    → IsLog service s.worker.last.share.workers s.worker.last.share.worker log
 log-is service s log a h done taken ran last = record {
   taken = rw taken (takes-plans service s a h done);
   rising = rw taken a.rising;
@@ -68,50 +91,84 @@ log-is service s log a h done taken ran last = record {
 }
 
 -- an untouched inbox has handed over nothing
-nothing-given : (s : Setup) (inboxes : List InboxView) → All (λ i. i.taken ≡ 0) inboxes → (place : ℕ) → option_map_or requests_taken (slice_get inboxes place) 0 ≡ 0
+nothing-given : (s : Setup) (inboxes : List InboxView)
+    → All (λ i. i.taken ≡ 0) inboxes
+    → (place : ℕ)
+    → option_map_or requests_taken (slice_get inboxes place) 0 ≡ 0
 nothing-given s inboxes untouched place = by_inbox (slice_get inboxes place) refl where
   by_inbox : (o : Option InboxView) → slice_get inboxes place ≡ o → option_map_or requests_taken o 0 ≡ 0
   by_inbox None e = refl
   by_inbox (Some i) e =
-      let none : i.taken ≡ 0 = subst (λ (x : InboxView). x.taken ≡ 0) (get_or_from_slice_get inboxes place i i e) (untouched place i (slice_get_within inboxes place i e)) in
+      let none : i.taken ≡ 0 =
+      subst (λ (x : InboxView). x.taken ≡ 0) (get_or_from_slice_get inboxes place i i e)
+      (untouched place i (slice_get_within inboxes place i e)) in
       omega (arith, none)
 
 -- a page that is there is below the number of marks
-there-too : (pages : List Page) (marks : List Bool) → marks ≡ marks_of pages → (r : Request) → IsThere (length pages) r.page → IsThere (length marks) r.page
-there-too pages marks e r = subst (λ many. IsThere many r.page) (sym (ap (λ (xs : List Bool). length xs) e ∙ length-map pages (λ (p : Page). p.split)))
+there-too : (pages : List Page) (marks : List Bool)
+    → marks ≡ marks_of pages
+    → (r : Request)
+    → IsThere (length pages) r.page
+    → IsThere (length marks) r.page
+there-too pages marks e r =
+    subst (λ many. IsThere many r.page)
+    (sym (ap (λ (xs : List Bool). length xs) e ∙ length-map pages (λ (p : Page). p.split)))
 
 -- a worker that has done nothing yet agrees with untouched inboxes
-pub agree-new : (s : Setup) (sizes : List ℕ) (number : ℕ) (post : PostView) (notes : Bool) (v : WorkerView) (inboxes : List InboxView) → number < s.workers → IsPostOf number s.pages post → AreInboxesFor s sizes number inboxes
+pub agree-new : (s : Setup) (sizes : List ℕ) (number : ℕ) (post : PostView) (notes : Bool) (v : WorkerView)
+    (inboxes : List InboxView)
+    → number < s.workers
+    → IsPostOf number s.pages post
+    → AreInboxesFor s sizes number inboxes
     → IsNew s sizes number post notes v → Agree v inboxes
 agree-new s sizes number post notes v inboxes is_worker fresh i new =
-    let share : v.last.share ≡ share_of s.users (length sizes) s.workers number = ap (λ (x : UserTable). x.share) new.last in
+    let share : v.last.share ≡ share_of s.users (length sizes) s.workers number =
+    ap (λ (x : UserTable). x.share) new.last in
     let marks : v.post.marks ≡ marks_of s.pages = ap (λ (x : PostView). x.marks) new.at_post ∙ fresh.marks in
     let sizes_are : v.left ≡ map length (plans_of inboxes) = new.left ∙ sym i.sized in
-    let lefts : length v.left ≡ length inboxes = ap (λ (xs : List ℕ). length xs) sizes_are ∙ length-map (plans_of inboxes) length ∙ length-map inboxes (λ (x : InboxView). x.plan) in
-    let places : length v.ended ≡ length inboxes = ap (λ (xs : List Bool). length xs) new.ended ∙ length-replicate (length v.left) false ∙ lefts in
+    let lefts : length v.left ≡ length inboxes =
+    ap (λ (xs : List ℕ). length xs) sizes_are ∙ length-map (plans_of inboxes) length
+    ∙ length-map inboxes (λ (x : InboxView). x.plan) in
+    let places : length v.ended ≡ length inboxes =
+    ap (λ (xs : List Bool). length xs) new.ended ∙ length-replicate (length v.left) false ∙ lefts in
     record {
       is_worker = rw share is_worker;
       lefts = lefts;
       places = places;
       each = λ place j e.
           let within : place < length inboxes = slice_get_within inboxes place j e in
-          let none : j.taken ≡ 0 = subst (λ (x : InboxView). x.taken ≡ 0) (get_or_from_slice_get inboxes place j j e) (i.untouched place j within) in
-          let plan : IsPlan s.pages j.plan = subst (λ (x : InboxView). IsPlan s.pages x.plan) (get_or_from_slice_get inboxes place j j e) (i.plans place j within) in
+          let none : j.taken ≡ 0 =
+          subst (λ (x : InboxView). x.taken ≡ 0) (get_or_from_slice_get inboxes place j j e)
+          (i.untouched place j within) in
+          let plan : IsPlan s.pages j.plan =
+          subst (λ (x : InboxView). IsPlan s.pages x.plan) (get_or_from_slice_get inboxes place j j e)
+          (i.plans place j within) in
           let left : get_or v.left place 0 ≡ length j.plan =
-          get_or_from_slice_get v.left place (length j.plan) 0 (ap (λ (xs : List ℕ). slice_get xs place) sizes_are ∙ slice_get-map length (plans_of inboxes) place
-          ∙ ap (option_map length) (slice_get-map (λ (x : InboxView). x.plan) inboxes place ∙ ap (option_map (λ (x : InboxView). x.plan)) e)) in
+          get_or_from_slice_get v.left place (length j.plan) 0
+          (ap (λ (xs : List ℕ). slice_get xs place) sizes_are ∙ slice_get-map length (plans_of inboxes) place
+          ∙ ap (option_map length)
+          (slice_get-map (λ (x : InboxView). x.plan) inboxes place
+          ∙ ap (option_map (λ (x : InboxView). x.plan)) e)) in
           record {
             left = omega (arith, left, none);
-            ended = ap (λ xs. get_or xs place true) new.ended ∙ get_or-replicate (length v.left) place false true (omega (arith, within, lefts)) ∙ sym (le-ltb (length j.plan) j.taken (omega (arith, none)));
+            ended = ap (λ xs. get_or xs place true) new.ended
+                ∙ get_or-replicate (length v.left) place false true (omega (arith, within, lefts))
+                ∙ sym (le-ltb (length j.plan) j.taken (omega (arith, none)));
             there = λ k d h. there-too s.pages v.post.marks marks (get_or j.plan k d) (plan.there k d h);
           };
-      taken = λ submitter. ap (numbers_taken submitter) new.taken ∙ sym (by_test s inboxes i.untouched v.last.share submitter (serves v.last.share submitter));
+      taken = λ submitter. ap (numbers_taken submitter) new.taken
+          ∙ sym (by_test s inboxes i.untouched v.last.share submitter (serves v.last.share submitter));
       rising = λ a b d before within. absurd (omega (arith, within, ap (λ (xs : List Took). length xs) new.taken));
-      above = subst (λ l. NoneAbove l v.taken) (sym (ap (λ (x : PostView). x.last) new.at_post ∙ fresh.fresh.never_looked)) new.taken;
+      above = subst (λ l. NoneAbove l v.taken)
+          (sym (ap (λ (x : PostView). x.last) new.at_post ∙ fresh.fresh.never_looked)) new.taken;
       unnoted = λ _. new.adds;
-      present = λ _. subst (λ l. IfSome l (λ sight. sight.number ≡ phase_at v)) (sym (ap (λ (x : PostView). x.last) new.at_post ∙ fresh.fresh.never_looked)) tt;
+      present = λ _. subst (λ l. IfSome l (λ sight. sight.number ≡ phase_at v))
+          (sym (ap (λ (x : PostView). x.last) new.at_post ∙ fresh.fresh.never_looked)) tt;
     } where
-      by_test : (s : Setup) (inboxes : List InboxView) → All (λ i. i.taken ≡ 0) inboxes → (share : Share) (submitter : ℕ) (b : Bool)
-          → cond b (range_with_len 1 (option_map_or requests_taken (slice_get inboxes (place_of share.workers submitter)) 0)) [] ≡ []
-      by_test s inboxes untouched share submitter true = ap (range_with_len 1) (nothing-given s inboxes untouched (place_of share.workers submitter))
+      by_test : (s : Setup) (inboxes : List InboxView) → All (λ i. i.taken ≡ 0) inboxes
+          → (share : Share) (submitter : ℕ) (b : Bool)
+          → cond b (range_with_len 1
+          (option_map_or requests_taken (slice_get inboxes (place_of share.workers submitter)) 0)) [] ≡ []
+      by_test s inboxes untouched share submitter true =
+          ap (range_with_len 1) (nothing-given s inboxes untouched (place_of share.workers submitter))
       by_test s inboxes untouched share submitter false = refl

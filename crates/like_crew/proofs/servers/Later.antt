@@ -25,7 +25,11 @@ all-same [] = tt
 all-same (s ∷ ss) = (goes-same s, all-same ss)
 
 -- all servers, of which one goes further
-pub all-further : (ss ts : List ServerView) (k : ℕ) (t u : ServerView) → AllZip ServerGoesOn ss ts → slice_get ts k ≡ Some t → ServerGoesOn t u → AllZip ServerGoesOn ss (set ts k u)
+pub all-further : (ss ts : List ServerView) (k : ℕ) (t u : ServerView)
+    → AllZip ServerGoesOn ss ts
+    → slice_get ts k ≡ Some t
+    → ServerGoesOn t u
+    → AllZip ServerGoesOn ss (set ts k u)
 all-further [] [] k t u all e g = cc e
 all-further [] (t0 ∷ ts) k t u all e g = absurd all
 all-further (s ∷ ss) [] k t u all e g = absurd all
@@ -34,7 +38,10 @@ all-further (s ∷ ss) (t0 ∷ ts) zero t u all e g =
     (goes-further s t0 u all.0 (subst (λ x. ServerGoesOn x u) (sym same) g), all.1)
 all-further (s ∷ ss) (t0 ∷ ts) (suc k) t u all e g = (all.0, all-further ss ts k t u all.1 e g)
 
-pub all-further-both : (ss ts us : List ServerView) → AllZip ServerGoesOn ss ts → AllZip ServerGoesOn ts us → AllZip ServerGoesOn ss us
+pub all-further-both : (ss ts us : List ServerView)
+    → AllZip ServerGoesOn ss ts
+    → AllZip ServerGoesOn ts us
+    → AllZip ServerGoesOn ss us
 all-further-both [] [] us a b = b
 all-further-both [] (t ∷ ts) us a b = absurd a
 all-further-both (s ∷ ss) [] us a b = absurd a
@@ -42,10 +49,17 @@ all-further-both (s ∷ ss) (t ∷ ts) [] a b = absurd b
 all-further-both (s ∷ ss) (t ∷ ts) (u ∷ us) a b = (goes-further s t u a.0 b.0, all-further-both ss ts us a.1 b.1)
 
 -- the workers of the first servers are gone, and one more
-pub gone-more : (servers : List ServerView) (i : ℕ) (s : ServerView) → i < length servers → ((k : ℕ) (d : ServerView) → k < i → (get_or servers k d).worker.post.state ≡ Gone)
-    → s.worker.post.state ≡ Gone → (k : ℕ) (d : ServerView) → k < i + 1 → (get_or (set servers i s) k d).worker.post.state ≡ Gone
+pub gone-more : (servers : List ServerView) (i : ℕ) (s : ServerView)
+    → i < length servers
+    → ((k : ℕ) (d : ServerView) → k < i → (get_or servers k d).worker.post.state ≡ Gone)
+    → s.worker.post.state ≡ Gone
+    → (k : ℕ) (d : ServerView)
+    → k < i + 1
+    → (get_or (set servers i s) k d).worker.post.state ≡ Gone
 gone-more servers i s within before gone k d below =
     elim (cases_eq k i) [
-      | inl same ↦ ap (λ (x : ServerView). x.worker.post.state) (ap (λ n. get_or (set servers i s) n d) same ∙ get_or-set_same servers i s d within) ∙ gone
-      | inr other ↦ ap (λ (x : ServerView). x.worker.post.state) (get_or-set_other servers i k s d other) ∙ before k d (omega (arith, below, other))
+      | inl same ↦ ap (λ (x : ServerView). x.worker.post.state)
+          (ap (λ n. get_or (set servers i s) n d) same ∙ get_or-set_same servers i s d within) ∙ gone
+      | inr other ↦ ap (λ (x : ServerView). x.worker.post.state) (get_or-set_other servers i k s d other)
+          ∙ before k d (omega (arith, below, other))
     ]

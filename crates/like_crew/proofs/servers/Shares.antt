@@ -7,9 +7,12 @@ use Rattle.like_service.specs.Service.{Service}
 use Rattle.like_crew.specs.Server.{AreOwnPlans, plans_of, untouched}
 
 -- the plan at a place
-pub plan-at : (service : Service) (workers worker : ℕ) (inboxes : List InboxView) (place : ℕ) → 1 ≤ workers → AreOwnPlans service workers worker inboxes
+pub plan-at : (service : Service) (workers worker : ℕ) (inboxes : List InboxView) (place : ℕ)
+    → 1 ≤ workers
+    → AreOwnPlans service workers worker inboxes
     → slice_get (plans_of inboxes) place ≡ slice_get service.plans (worker + workers * place)
-plan-at service workers worker inboxes place some own = ap (λ xs. slice_get xs place) own ∙ get-dealt workers worker service.plans place some
+plan-at service workers worker inboxes place some own =
+    ap (λ xs. slice_get xs place) own ∙ get-dealt workers worker service.plans place some
 
 -- the plans of untouched inboxes
 pub plans-untouched : (plans : List (List Request)) → plans_of (map untouched plans) ≡ plans

@@ -33,9 +33,15 @@ abbrev pub HasSeen : WorkerView → Type 0
 HasSeen v = Seen v.post.state v.post.last v.taken
 
 -- a worker of the same state that saw the same and took the same
-alike : (v w : WorkerView) → w.post.state ≡ v.post.state → w.post.last ≡ v.post.last → w.taken ≡ v.taken → HasSeen v → HasSeen w
+alike : (v w : WorkerView)
+    → w.post.state ≡ v.post.state
+    → w.post.last ≡ v.post.last
+    → w.taken ≡ v.taken
+    → HasSeen v
+    → HasSeen w
 alike v w s l t h =
-    subst (λ x. Seen x w.post.last w.taken) (sym s) (subst (λ x. Seen v.post.state x w.taken) (sym l) (subst (λ x. Seen v.post.state v.post.last x) (sym t) h))
+    subst (λ x. Seen x w.post.last w.taken) (sym s)
+    (subst (λ x. Seen v.post.state x w.taken) (sym l) (subst (λ x. Seen v.post.state v.post.last x) (sym t) h))
 
 -- a look shows no earlier phase
 later_by : (b : Bool) (n k : ℕ) → MatchBool b (n ≡ k) (n ≡ k + 1) → k ≤ n
@@ -48,7 +54,9 @@ later (state.Answered k) sight h = later_by sight.waits sight.number k h
 later state.Gone sight h = absurd h
 
 -- a look shows the phase that the worker runs or has answered after it
-present_by : (b : Bool) (n k : ℕ) → MatchBool b (n ≡ k) (n ≡ k + 1) → n ≡ phase_of (cond b (state.Answered k) (state.Runs (k + 1)))
+present_by : (b : Bool) (n k : ℕ)
+    → MatchBool b (n ≡ k) (n ≡ k + 1)
+    → n ≡ phase_of (cond b (state.Answered k) (state.Runs (k + 1)))
 present_by true n k h = h
 present_by false n k h = h
 
@@ -57,11 +65,17 @@ present_after (state.Runs k) sight h = h.0
 present_after (state.Answered k) sight h = present_by sight.waits sight.number k h
 present_after state.Gone sight h = absurd h
 
-above-look : (last : Option Sight) (taken : List Took) (n : ℕ) → NoneAbove last taken → IfSome last (λ sight. sight.number ≤ n) → All (λ t. t.phase ≤ n) taken
+above-look : (last : Option Sight) (taken : List Took) (n : ℕ)
+    → NoneAbove last taken
+    → IfSome last (λ sight. sight.number ≤ n)
+    → All (λ t. t.phase ≤ n) taken
 above-look None taken n none h = λ k d within. absurd (omega (arith, within, ap (λ (xs : List Took). length xs) none))
 above-look (Some old) taken n all h = λ k d within. omega (arith, all k d within, h)
 
-if_some_le : (last : Option Sight) (k n : ℕ) → IfSome last (λ sight. sight.number ≡ k) → k ≤ n → IfSome last (λ sight. sight.number ≤ n)
+if_some_le : (last : Option Sight) (k n : ℕ)
+    → IfSome last (λ sight. sight.number ≡ k)
+    → k ≤ n
+    → IfSome last (λ sight. sight.number ≤ n)
 if_some_le None k n h le = tt
 if_some_le (Some sight) k n h le = omega (arith, h, le)
 
@@ -70,10 +84,14 @@ not_gone (state.Runs k) sight h = λ e. cc e
 not_gone (state.Answered k) sight h = λ e. cc e
 not_gone state.Gone sight h = absurd h
 
-seen-look : (v : WorkerView) (sight : Sight) (mask : ℕ) → IsSightOf v.post.state sight → HasSeen v → HasSeen (saw v sight mask)
+seen-look : (v : WorkerView) (sight : Sight) (mask : ℕ)
+    → IsSightOf v.post.state sight
+    → HasSeen v
+    → HasSeen (saw v sight mask)
 seen-look v sight mask i h = (
   above-look v.post.last v.taken sight.number h.0
-      (if_some_le v.post.last (phase_of v.post.state) sight.number (h.1 (not_gone v.post.state sight i)) (later v.post.state sight i)),
+      (if_some_le v.post.last (phase_of v.post.state) sight.number (h.1 (not_gone v.post.state sight i))
+      (later v.post.state sight i)),
   λ _. present_after v.post.state sight i,
 )
 
@@ -86,41 +104,63 @@ running_here P state.Gone r = absurd r
 -- a request that runs leaves the last sight
 liked-last : (v : WorkerView) (user page old : ℕ) → (liked v user page old).post.last ≡ v.post.last
 liked-last v user page old = by_test (slices v.post page) where
-  by_test : (b : Bool) → (cond b (record v { slice = set v.slice page (get_or v.slice page 0 + 1) }) (with_addition v page old 1)).post.last ≡ v.post.last
+  by_test : (b : Bool)
+      → (cond b (record v { slice = set v.slice page (get_or v.slice page 0 + 1) })
+      (with_addition v page old 1)).post.last ≡ v.post.last
   by_test true = refl
   by_test false = refl
 
-serves-last : (v : WorkerView) (submitter : ℕ) (r : Request) (reply : Reply) (w : WorkerView) → GivesReply v submitter r reply w → w.post.last ≡ v.post.last
+serves-last : (v : WorkerView) (submitter : ℕ) (r : Request) (reply : Reply) (w : WorkerView)
+    → GivesReply v submitter r reply w
+    → w.post.last ≡ v.post.last
 serves-last v submitter r reply w (refuses n a e) = ap (λ x. x.post.last) e
 serves-last v submitter r reply w (likes page a o p l e) = ap (λ x. x.post.last) e.1 ∙ liked-last v r.user page e.0
 serves-last v submitter r reply w (looks page count a o p s n e) = ap (λ x. x.post.last) e
 
-runs-seen : (v : WorkerView) (h : Held) (stashed : Bool) (after : WorkerView) → Runs v h stashed after → HasSeen v → HasSeen after
+runs-seen : (v : WorkerView) (h : Held) (stashed : Bool) (after : WorkerView)
+    → Runs v h stashed after
+    → HasSeen v
+    → HasSeen after
 runs-seen v h stashed after run k =
     let e = Runs-effects v h stashed after run in
-    let last : after.post.last ≡ v.post.last = ap (λ x. x.post.last) run.noted ∙ serves-last v h.submitter h.ask.request run.reply run.served run.serves in
+    let last : after.post.last ≡ v.post.last =
+    ap (λ x. x.post.last) run.noted ∙ serves-last v h.submitter h.ask.request run.reply run.served run.serves in
     alike v after e.state last e.taken k
 
 -- a worker that answers its phase still knows it
-answered-seen : (v : WorkerView) (P : ℕ → Type 0) → RunsSome P v.post.state → HasSeen v → Seen (state.Answered (phase_of v.post.state)) v.post.last v.taken
+answered-seen : (v : WorkerView) (P : ℕ → Type 0)
+    → RunsSome P v.post.state
+    → HasSeen v
+    → Seen (state.Answered (phase_of v.post.state)) v.post.last v.taken
 answered-seen v P run h = (h.0, λ _. h.1 (running_here P v.post.state run))
 
-works-seen : (v : WorkerView) (ending : Bool) (answer : Turn) (after : WorkerView) → Works v ending answer after → HasSeen v → HasSeen after
-works-seen v ending answer after (turns.runs_held first rest j e a run) h = runs-seen (without_first v rest) first true after run h
-works-seen v ending answer after (turns.retires j e ended a x) h = subst HasSeen (sym x) (h.0, λ here. absurd (here refl))
-works-seen v ending answer after (turns.acknowledges j e ended seen a x) h = subst HasSeen (sym x) (answered-seen v IsJoined j h)
+works-seen : (v : WorkerView) (ending : Bool) (answer : Turn) (after : WorkerView)
+    → Works v ending answer after
+    → HasSeen v
+    → HasSeen after
+works-seen v ending answer after (turns.runs_held first rest j e a run) h =
+    runs-seen (without_first v rest) first true after run h
+works-seen v ending answer after (turns.retires j e ended a x) h =
+    subst HasSeen (sym x) (h.0, λ here. absurd (here refl))
+works-seen v ending answer after (turns.acknowledges j e ended seen a x) h =
+    subst HasSeen (sym x) (answered-seen v IsJoined j h)
 works-seen v ending answer after (turns.tries_joined place j e next seen a x) h = subst HasSeen (sym x) h
 works-seen v ending answer after (turns.reports now s seen a m x) h =
-    let is : after ≡ record (merged v m.0) { post = answered (merged v m.0).post } = x ∙ ap {A = WorkerView} (λ w. record w { post = answered w.post }) m.1.1 in
+    let is : after ≡ record (merged v m.0) { post = answered (merged v m.0).post } =
+    x ∙ ap {A = WorkerView} (λ w. record w { post = answered w.post }) m.1.1 in
     subst HasSeen (sym is) (answered-seen v IsSplit s h)
 works-seen v ending answer after (turns.idles s seen stuck a x) h = subst HasSeen (sym x) h
 works-seen v ending answer after (turns.tries_split place s seen room next a x) h = subst HasSeen (sym x) h
 
 -- a turn
-pub turns-seen : (v : WorkerView) (answer : Turn) (after : WorkerView) → Turns v answer after → HasSeen v → HasSeen after
+pub turns-seen : (v : WorkerView) (answer : Turn) (after : WorkerView)
+    → Turns v answer after
+    → HasSeen v
+    → HasSeen after
 turns-seen v answer after (turns.is_gone gone a x) h = subst HasSeen (sym x) h
 turns-seen v answer after (turns.waits sight here i w a x) h = subst HasSeen (sym x) (seen-look v sight 0 i h)
-turns-seen v answer after (turns.works sight mask here i w x) h = works-seen (saw v sight mask) sight.ending answer after x (seen-look v sight mask i h)
+turns-seen v answer after (turns.works sight mask here i w x) h =
+    works-seen (saw v sight mask) sight.ending answer after x (seen-look v sight mask i h)
 
 -- a worker that tries a submitter has looked, and is there
 pub record IsTrying (v : WorkerView) : Type 0 where
@@ -128,7 +168,9 @@ pub record IsTrying (v : WorkerView) : Type 0 where
   pub saw_it : v.post.last ≡ Some sight
   pub here : v.post.state ≢ state.Gone
 
-works-tries : (v : WorkerView) (ending : Bool) (answer : Turn) (after : WorkerView) (sight : Sight) (submitter : ℕ) → v.post.last ≡ Some sight → Works v ending answer after
+works-tries : (v : WorkerView) (ending : Bool) (answer : Turn) (after : WorkerView) (sight : Sight) (submitter : ℕ)
+    → v.post.last ≡ Some sight
+    → Works v ending answer after
     → answer ≡ turn.Try submitter → IsTrying after
 works-tries v ending answer after sight submitter l (turns.runs_held first rest j e a run) r = cc (a, r)
 works-tries v ending answer after sight submitter l (turns.retires j e ended a x) r = cc (a, r)
@@ -140,35 +182,63 @@ works-tries v ending answer after sight submitter l (turns.idles s seen stuck a 
 works-tries v ending answer after sight submitter l (turns.tries_split place s seen room next a x) r =
     subst IsTrying (sym x) (record { sight = sight; saw_it = l; here = running_here IsSplit v.post.state s })
 
-pub turns-tries : (v : WorkerView) (answer : Turn) (after : WorkerView) (submitter : ℕ) → Turns v answer after → answer ≡ turn.Try submitter → IsTrying after
+pub turns-tries : (v : WorkerView) (answer : Turn) (after : WorkerView) (submitter : ℕ)
+    → Turns v answer after
+    → answer ≡ turn.Try submitter
+    → IsTrying after
 turns-tries v answer after submitter (turns.is_gone gone a x) r = cc (a, r)
 turns-tries v answer after submitter (turns.waits sight here i w a x) r = cc (a, r)
-turns-tries v answer after submitter (turns.works sight mask here i w x) r = works-tries (saw v sight mask) sight.ending answer after sight submitter refl x r
+turns-tries v answer after submitter (turns.works sight mask here i w x) r =
+    works-tries (saw v sight mask) sight.ending answer after sight submitter refl x r
 
 -- what was taken so far was taken in no later phase than the present one
-earlier : (v : WorkerView) → IsTrying v → HasSeen v → (k : ℕ) (d : Took) → k < length v.taken → (get_or v.taken k d).phase ≤ phase_at v
+earlier : (v : WorkerView)
+    → IsTrying v
+    → HasSeen v
+    → (k : ℕ) (d : Took)
+    → k < length v.taken
+    → (get_or v.taken k d).phase ≤ phase_at v
 earlier v t h k d within =
     let all : All (λ u. u.phase ≤ t.sight.number) v.taken = subst (λ l. NoneAbove l v.taken) t.saw_it h.0 in
-    let now : t.sight.number ≡ phase_at v = subst (λ l. IfSome l (λ sight. sight.number ≡ phase_at v)) t.saw_it (h.1 t.here) in
+    let now : t.sight.number ≡ phase_at v =
+    subst (λ l. IfSome l (λ sight. sight.number ≡ phase_at v)) t.saw_it (h.1 t.here) in
     omega (arith, all k d within, now)
 
 taken-seen : (v : WorkerView) (place : ℕ) (ask : Numbered) → IsTrying v → HasSeen v → HasSeen (with_taken v place ask)
 taken-seen v place ask t h =
     let u : Took = record { phase = phase_at v; submitter = submitter_at v place; number = ask.number } in
-    let now : t.sight.number ≡ phase_at v = subst (λ l. IfSome l (λ sight. sight.number ≡ phase_at v)) t.saw_it (h.1 t.here) in
-    let all : All (λ x. x.phase ≤ t.sight.number) v.taken = subst (λ l. NoneAbove l v.taken) t.saw_it h.0 in
-    (subst (λ l. NoneAbove l (v.taken ++ u ∷ [])) (sym t.saw_it) (All-push (λ (x : Took). x.phase ≤ t.sight.number) v.taken u all (omega (arith, now))), h.1)
+    let now : t.sight.number ≡ phase_at v =
+    subst (λ l. IfSome l (λ sight. sight.number ≡ phase_at v)) t.saw_it (h.1 t.here) in
+    let all : All (λ x. x.phase ≤ t.sight.number) v.taken = subst (λ l. NoneAbove l v.taken) t.saw_it h.0 in (
+      subst (λ l. NoneAbove l (v.taken ++ u ∷ [])) (sym t.saw_it)
+          (All-push (λ (x : Took). x.phase ≤ t.sight.number) v.taken u all (omega (arith, now))),
+      h.1,
+    )
 
-pub taken-rising : (v : WorkerView) (place : ℕ) (ask : Numbered) → IsTrying v → HasSeen v → IsRising v.taken → IsRising (with_taken v place ask).taken
+pub taken-rising : (v : WorkerView) (place : ℕ) (ask : Numbered)
+    → IsTrying v
+    → HasSeen v
+    → IsRising v.taken
+    → IsRising (with_taken v place ask).taken
 taken-rising v place ask t h rising =
-    all_pairs_push (λ (s u : Took). s.phase ≤ u.phase) v.taken (record { phase = phase_at v; submitter = submitter_at v place; number = ask.number }) rising (earlier v t h)
+    all_pairs_push (λ (s u : Took). s.phase ≤ u.phase) v.taken
+    (record { phase = phase_at v; submitter = submitter_at v place; number = ask.number }) rising (earlier v t h)
 
-takes-seen : (v : WorkerView) (place : ℕ) (ask : Numbered) (answer : Turn) (after : WorkerView) → TakesAsk v place ask answer after → IsTrying v → HasSeen v → HasSeen after
+takes-seen : (v : WorkerView) (place : ℕ) (ask : Numbered) (answer : Turn) (after : WorkerView)
+    → TakesAsk v place ask answer after
+    → IsTrying v
+    → HasSeen v
+    → HasSeen after
 takes-seen v place ask answer after (turns.stashes w a x) t h = subst HasSeen (sym x) (taken-seen v place ask t h)
-takes-seen v place ask answer after (turns.runs w a run) t h = runs-seen (with_taken v place ask) (turns.held_from v place ask) false after run (taken-seen v place ask t h)
+takes-seen v place ask answer after (turns.runs w a run) t h =
+    runs-seen (with_taken v place ask) (turns.held_from v place ask) false after run (taken-seen v place ask t h)
 
 -- what is given
-pub gives-seen : (v : WorkerView) (took : Taken) (answer : Turn) (after : WorkerView) → Gives v took answer after → IsTrying v → HasSeen v → HasSeen after
+pub gives-seen : (v : WorkerView) (took : Taken) (answer : Turn) (after : WorkerView)
+    → Gives v took answer after
+    → IsTrying v
+    → HasSeen v
+    → HasSeen after
 gives-seen v took answer after (turns.nothing g a x) t h = subst HasSeen (sym x) h
 gives-seen v took answer after (turns.ends place p g a x) t h = subst HasSeen (sym x) h
 gives-seen v took answer after (turns.asks place ask p g x) t h =

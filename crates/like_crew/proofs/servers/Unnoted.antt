@@ -24,37 +24,62 @@ noted-none v adds n = ap (λ (b : Bool). v.adds ++ noted_if b (length v.ran) add
 
 liked-adds : (v : WorkerView) (user page old : ℕ) → v.notes ≡ false → adds_of (liked v user page old) ≡ v.adds
 liked-adds v user page old n = by_test (slices v.post page) where
-  by_test : (b : Bool) → adds_of (cond b (record v { slice = set v.slice page (get_or v.slice page 0 + 1) }) (with_addition v page old 1)) ≡ v.adds
+  by_test : (b : Bool)
+      → adds_of (cond b (record v { slice = set v.slice page (get_or v.slice page 0 + 1) })
+      (with_addition v page old 1)) ≡ v.adds
   by_test true = refl
   by_test false = noted-none v (record { phase = phase_at v; page = page; old = old; likes = 1 } ∷ []) n
 
-serves-adds : (v : WorkerView) (submitter : ℕ) (r : Request) (reply : Reply) (w : WorkerView) → v.notes ≡ false → GivesReply v submitter r reply w → w.adds ≡ v.adds
+serves-adds : (v : WorkerView) (submitter : ℕ) (r : Request) (reply : Reply) (w : WorkerView)
+    → v.notes ≡ false
+    → GivesReply v submitter r reply w
+    → w.adds ≡ v.adds
 serves-adds v submitter r reply w n (refuses not a e) = ap adds_of e
 serves-adds v submitter r reply w n (likes page a o p l e) = ap adds_of e.1 ∙ liked-adds v r.user page e.0 n
 serves-adds v submitter r reply w n (looks page count a o p s least e) = ap adds_of e
 
-runs-adds : (v : WorkerView) (h : Held) (stashed : Bool) (after : WorkerView) → v.notes ≡ false → Runs v h stashed after → after.adds ≡ v.adds
-runs-adds v h stashed after n run = ap adds_of run.noted ∙ serves-adds v h.submitter h.ask.request run.reply run.served n run.serves
+runs-adds : (v : WorkerView) (h : Held) (stashed : Bool) (after : WorkerView)
+    → v.notes ≡ false
+    → Runs v h stashed after
+    → after.adds ≡ v.adds
+runs-adds v h stashed after n run =
+    ap adds_of run.noted ∙ serves-adds v h.submitter h.ask.request run.reply run.served n run.serves
 
-works-adds : (v : WorkerView) (ending : Bool) (answer : Turn) (after : WorkerView) → v.notes ≡ false → Works v ending answer after → after.adds ≡ v.adds
-works-adds v ending answer after n (turns.runs_held first rest j e a run) = runs-adds (without_first v rest) first true after n run
+works-adds : (v : WorkerView) (ending : Bool) (answer : Turn) (after : WorkerView)
+    → v.notes ≡ false
+    → Works v ending answer after
+    → after.adds ≡ v.adds
+works-adds v ending answer after n (turns.runs_held first rest j e a run) =
+    runs-adds (without_first v rest) first true after n run
 works-adds v ending answer after n (turns.retires j e ended a x) = ap adds_of x
 works-adds v ending answer after n (turns.acknowledges j e ended seen a x) = ap adds_of x
 works-adds v ending answer after n (turns.tries_joined place j e next seen a x) = ap adds_of x
-works-adds v ending answer after n (turns.reports now s seen a m x) = ap adds_of x ∙ ap adds_of m.1.1 ∙ noted-none v m.0 n
+works-adds v ending answer after n (turns.reports now s seen a m x) =
+    ap adds_of x ∙ ap adds_of m.1.1 ∙ noted-none v m.0 n
 works-adds v ending answer after n (turns.idles s seen stuck a x) = ap adds_of x
 works-adds v ending answer after n (turns.tries_split place s seen room next a x) = ap adds_of x
 
-pub turns-adds : (v : WorkerView) (answer : Turn) (after : WorkerView) → v.notes ≡ false → Turns v answer after → after.adds ≡ v.adds
+pub turns-adds : (v : WorkerView) (answer : Turn) (after : WorkerView)
+    → v.notes ≡ false
+    → Turns v answer after
+    → after.adds ≡ v.adds
 turns-adds v answer after n (turns.is_gone gone a x) = ap adds_of x
 turns-adds v answer after n (turns.waits sight here i w a x) = ap adds_of x
-turns-adds v answer after n (turns.works sight mask here i w x) = works-adds (saw v sight mask) sight.ending answer after n x
+turns-adds v answer after n (turns.works sight mask here i w x) =
+    works-adds (saw v sight mask) sight.ending answer after n x
 
-takes-adds : (v : WorkerView) (place : ℕ) (ask : Numbered) (answer : Turn) (after : WorkerView) → v.notes ≡ false → TakesAsk v place ask answer after → after.adds ≡ v.adds
+takes-adds : (v : WorkerView) (place : ℕ) (ask : Numbered) (answer : Turn) (after : WorkerView)
+    → v.notes ≡ false
+    → TakesAsk v place ask answer after
+    → after.adds ≡ v.adds
 takes-adds v place ask answer after n (turns.stashes w a x) = ap adds_of x
-takes-adds v place ask answer after n (turns.runs w a run) = runs-adds (with_taken v place ask) (turns.held_from v place ask) false after n run
+takes-adds v place ask answer after n (turns.runs w a run) =
+    runs-adds (with_taken v place ask) (turns.held_from v place ask) false after n run
 
-pub gives-adds : (v : WorkerView) (took : Taken) (answer : Turn) (after : WorkerView) → v.notes ≡ false → Gives v took answer after → after.adds ≡ v.adds
+pub gives-adds : (v : WorkerView) (took : Taken) (answer : Turn) (after : WorkerView)
+    → v.notes ≡ false
+    → Gives v took answer after
+    → after.adds ≡ v.adds
 gives-adds v took answer after n (turns.nothing g a x) = ap adds_of x
 gives-adds v took answer after n (turns.ends place p g a x) = ap adds_of x
 gives-adds v took answer after n (turns.asks place ask p g x) = takes-adds (settled v) place ask answer after n x

@@ -1,8 +1,8 @@
 ghost use Rattle.std.specs.Prelude.{◌≡◌, IsTrue};
 ghost use Rattle.like_driver.specs.Fault.{of_files, program_status, ShowsProgramLine};
 
-use like_files::{DriverFault, WRITE_FAILED};
 use like_command::{OUT_OF_MEMORY, Options, ParseFault};
+use like_files::{DriverFault, WRITE_FAILED};
 use std::alloc::{AllocError, AllocFailed};
 use std::io::Write;
 

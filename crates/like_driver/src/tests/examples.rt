@@ -4,8 +4,8 @@ ghost use Rattle.std.specs.Prelude.{◌≡◌, IfOk, is_some, length, None};
 pub mod cases;
 
 use crate::tests::examples::cases::{Case, cases};
-use like_files::{DriverFault, replay_files};
 use like_command::Options;
+use like_files::{DriverFault, replay_files};
 use std::alloc::{AllocError, Global};
 use std::process::Abort;
 

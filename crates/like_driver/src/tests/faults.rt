@@ -2,13 +2,13 @@
 use super::examples::options;
 use crate::program::fault::ProgramFault;
 use crate::program::tell;
-use test_devices::Narrow;
+use like_command::Options;
 use like_files::DriverFault;
 use like_requests::{PagesFault, RequestsFault, SettingsFault};
 use like_run::ScriptFault;
-use like_command::Options;
 use std::alloc::Global;
 use std::process::Abort;
+use test_devices::Narrow;
 
 // What the lines say of a pages file.
 const OF_PAGES: &[(PagesFault, &str)] = &[

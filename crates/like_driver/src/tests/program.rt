@@ -1,7 +1,6 @@
 //! The program on files, by `serve_words`.
 use super::examples::cases::LATE_WORKER;
 use crate::program::serve_words;
-use test_devices::Narrow;
 use std::alloc::Global;
 use std::fs;
 use std::fs::Files;
@@ -10,6 +9,7 @@ use std::process::Abort;
 use std::rt::Clock;
 use std::sync::Wait;
 use std::thread::Threads;
+use test_devices::Narrow;
 
 // What the program writes to a stream: a text, or one that begins or ends with it.
 #[derive(Clone, Copy)]

@@ -2,13 +2,13 @@
 ghost use Rattle.std.specs.Prelude.{◌≡◌, None, length};
 
 use super::examples::{copies, options};
-use test_devices::{Narrow, Trickle};
+use like_command::Options;
 use like_files::{DriverFault, replay_files};
 use like_requests::{PagesFault, RequestsFault, SettingsFault};
 use like_run::ScriptFault;
-use like_command::Options;
 use std::alloc::Global;
 use std::process::Abort;
+use test_devices::{Narrow, Trickle};
 
 const PAGES: &str = "name,count,split\na,10,no\n";
 

@@ -1,13 +1,13 @@
 //! Runs on threads, by `run_files`.
 use super::examples::{copies, options};
-use test_devices::Narrow;
-use like_files::{DriverFault, run_files};
 use like_command::Options;
+use like_files::{DriverFault, run_files};
 use std::alloc::{AllocError, Global};
 use std::io::Write;
 use std::process::Abort;
 use std::sync::Wait;
 use std::thread::Threads;
+use test_devices::Narrow;
 
 const PAGES: &str = "name,count,split\na,10,no\n";
 

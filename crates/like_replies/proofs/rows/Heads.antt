@@ -21,7 +21,8 @@ last_digit n fits = elim (cases_lt n 10) [
     front = [];
     digit = n;
     is = decimal_digit n low;
-    next = λ below. decimal_digit (n + 1) (omega arith) ∙ ap (λ d. d ∷ []) (let e : 48 + (n + 1) ≡ 49 + n = omega arith in e);
+    next = λ below. decimal_digit (n + 1) (omega arith)
+        ∙ ap (λ d. d ∷ []) (let e : 48 + (n + 1) ≡ 49 + n = omega arith in e);
   }
   | inr high ↦
       let tens : n % 10 < 9 → (n + 1) / 10 ≡ n / 10 = λ below. omega (arith, below) in
@@ -30,7 +31,9 @@ last_digit n fits = elim (cases_lt n 10) [
         front = decimal (n / 10);
         digit = n % 10;
         is = decimal_step n high (omega arith);
-        next = λ below. decimal_step (n + 1) (omega arith) fits ∙ ap (λ t. decimal t ++ (48 + (n + 1) % 10) ∷ []) (tens below) ∙ ap (λ d. decimal (n / 10) ++ d ∷ []) (unit below);
+        next = λ below. decimal_step (n + 1) (omega arith) fits
+            ∙ ap (λ t. decimal t ++ (48 + (n + 1) % 10) ∷ []) (tens below)
+            ∙ ap (λ d. decimal (n / 10) ++ d ∷ []) (unit below);
       }
 ]
 
@@ -41,7 +44,10 @@ pub record EndsIn (text : List ℕ) (place number : ℕ) : Type 0 where
   pub within : place < length text
   pub is : text ≡ take place text ++ number_text number
 
-pub ends_in : (text : List ℕ) (place number : ℕ) (head : RowHead) → (let own : RowHead = record { start = take place text; number = number } in own) ≡ head → head.number + 1 < 2 ^ 64 → drop place text ≡ number_text number
+pub ends_in : (text : List ℕ) (place number : ℕ) (head : RowHead)
+    → (let own : RowHead = record { start = take place text; number = number } in own) ≡ head
+    → head.number + 1 < 2 ^ 64
+    → drop place text ≡ number_text number
     → EndsIn text place number
 ends_in text place number head own fits tail =
     let same : number ≡ head.number = ap (λ (h : RowHead). h.number) own in
@@ -57,28 +63,52 @@ ends_in text place number head own fits tail =
 
 -- the last byte of a text, and the text with another one in its place
 last_byte : (start front : List ℕ) (byte more last d : ℕ) → last + 1 ≡ length (start ++ (front ++ byte ∷ []))
-    → (get_or (start ++ (front ++ byte ∷ [])) last d ≡ byte) × (set (start ++ (front ++ byte ∷ [])) last more ≡ start ++ (front ++ more ∷ []))
+    → (get_or (start ++ (front ++ byte ∷ [])) last d ≡ byte)
+    × (set (start ++ (front ++ byte ∷ [])) last more ≡ start ++ (front ++ more ∷ []))
 last_byte start front byte more last d size =
-    let same : start ++ (front ++ byte ∷ []) ≡ (start ++ front) ++ byte ∷ [] = sym (append_assoc start front (byte ∷ [])) in
-    let long : length (start ++ front) ≡ last = omega (arith, size, ap length same, length-append (start ++ front) (byte ∷ [])) in
-    rw same (get_or_at (start ++ front) byte [] d last long, set_at (start ++ front) byte [] more last long ∙ append_assoc start front (more ∷ []))
+    let same : start ++ (front ++ byte ∷ []) ≡ (start ++ front) ++ byte ∷ [] =
+    sym (append_assoc start front (byte ∷ [])) in
+    let long : length (start ++ front) ≡ last =
+    omega (arith, size, ap length same, length-append (start ++ front) (byte ∷ [])) in
+    rw same (
+      get_or_at (start ++ front) byte [] d last long,
+      set_at (start ++ front) byte [] more last long ∙ append_assoc start front (more ∷ []),
+    )
 
 -- raising a last digit below nine gives the next number after the same start
-pub raised : (text : List ℕ) (place number last byte : ℕ) → EndsIn text place number → last + 1 ≡ length text → byte ≡ get_or text last byte → byte < 57
-    → (take place (set text last (byte + 1)) ≡ take place text) × (drop place (set text last (byte + 1)) ≡ number_text (number + 1))
+pub raised : (text : List ℕ) (place number last byte : ℕ)
+    → EndsIn text place number
+    → last + 1 ≡ length text
+    → byte ≡ get_or text last byte
+    → byte < 57
+    → (take place (set text last (byte + 1)) ≡ take place text)
+    × (drop place (set text last (byte + 1)) ≡ number_text (number + 1))
 raised text place number last byte ends size is low =
     let d = last_digit number ends.fits in
     let start : List ℕ = take place text in
-    let same : text ≡ start ++ (d.front ++ (48 + d.digit) ∷ []) = ends.is ∙ ap (λ t. start ++ t) (field_text-decimal number (omega (arith, ends.fits)) ∙ d.is) in
+    let same : text ≡ start ++ (d.front ++ (48 + d.digit) ∷ []) =
+    ends.is ∙ ap (λ t. start ++ t) (field_text-decimal number (omega (arith, ends.fits)) ∙ d.is) in
     let parts = last_byte start d.front (48 + d.digit) (byte + 1) last byte (size ∙ ap length same) in
     let digit : byte ≡ 48 + d.digit = is ∙ ap (λ t. get_or t last byte) same ∙ parts.0 in
     let more : byte + 1 ≡ 49 + d.digit = omega (arith, digit) in
-    let next : number_text (number + 1) ≡ d.front ++ (byte + 1) ∷ [] = field_text-decimal (number + 1) ends.fits ∙ d.next (omega (arith, digit, low)) ∙ ap (λ b. d.front ++ b ∷ []) (sym more) in
-    let now : set text last (byte + 1) ≡ start ++ number_text (number + 1) = ap (λ t. set t last (byte + 1)) same ∙ parts.1 ∙ ap (λ t. start ++ t) (sym next) in
-    rw now (take_at start (number_text (number + 1)) place ends.size, drop_at start (number_text (number + 1)) place ends.size)
+    let next : number_text (number + 1) ≡ d.front ++ (byte + 1) ∷ [] =
+    field_text-decimal (number + 1) ends.fits ∙ d.next (omega (arith, digit, low))
+    ∙ ap (λ b. d.front ++ b ∷ []) (sym more) in
+    let now : set text last (byte + 1) ≡ start ++ number_text (number + 1) =
+    ap (λ t. set t last (byte + 1)) same ∙ parts.1 ∙ ap (λ t. start ++ t) (sym next) in
+    rw now (
+      take_at start (number_text (number + 1)) place ends.size,
+      drop_at start (number_text (number + 1)) place ends.size,
+    )
 
 -- writing the next number after the start does so too
-pub renewed : (text now : List ℕ) (place number : ℕ) → EndsIn text place number → now ≡ take place text ++ decimal (number + 1) → (take place now ≡ take place text) × (drop place now ≡ number_text (number + 1))
+pub renewed : (text now : List ℕ) (place number : ℕ)
+    → EndsIn text place number
+    → now ≡ take place text ++ decimal (number + 1)
+    → (take place now ≡ take place text) × (drop place now ≡ number_text (number + 1))
 renewed text now place number ends is =
     let start : List ℕ = take place text in
-    rw is (take_at start (decimal (number + 1)) place ends.size, drop_at start (decimal (number + 1)) place ends.size ∙ sym (field_text-decimal (number + 1) ends.fits))
+    rw is (
+      take_at start (decimal (number + 1)) place ends.size,
+      drop_at start (decimal (number + 1)) place ends.size ∙ sym (field_text-decimal (number + 1) ends.fits),
+    )

@@ -53,33 +53,44 @@ seen_in_parts : (page count : List ℕ) → (page ++ 44 ∷ (count ++ [])) ++ 10
 seen_in_parts page count = simp (append_assoc, append-nil)
 
 pub seen-text : (pages : List Page) (last : Option ℕ) (count : ℕ)
-    → shown_text pages (Seen last count) ≡ codes ",seen," ++ (field_text default_writer (option_map_or (name_of pages) last []) ++ 44 ∷ (number_text count ++ 10 ∷ []))
+    → shown_text pages (Seen last count)
+    ≡ codes ",seen,"
+    ++ (field_text default_writer (option_map_or (name_of pages) last []) ++ 44 ∷ (number_text count ++ 10 ∷ []))
 unfolding fields_text
-seen-text pages last count = ap (λ t. codes ",seen," ++ t) (seen_in_parts (field_text default_writer (option_map_or (name_of pages) last [])) (number_text count))
+seen-text pages last count =
+    ap (λ t. codes ",seen," ++ t)
+    (seen_in_parts (field_text default_writer (option_map_or (name_of pages) last [])) (number_text count))
 
 -- the row of a request: its head, its phase and what its reply shows
 reply_in_parts : (submitter number phase answer page count : List ℕ)
     → (submitter ++ 44 ∷ (number ++ 44 ∷ (phase ++ 44 ∷ (answer ++ 44 ∷ (page ++ 44 ∷ (count ++ [])))))) ++ 10 ∷ []
-    ≡ (((submitter ++ []) ++ 44 ∷ []) ++ number) ++ (44 ∷ (phase ++ []) ++ ((44 ∷ (answer ++ 44 ∷ (page ++ 44 ∷ (count ++ [])))) ++ 10 ∷ []))
+    ≡ (((submitter ++ []) ++ 44 ∷ []) ++ number)
+    ++ (44 ∷ (phase ++ []) ++ ((44 ∷ (answer ++ 44 ∷ (page ++ 44 ∷ (count ++ [])))) ++ 10 ∷ []))
 reply_in_parts submitter number phase answer page count = simp (append_assoc, append-nil)
 
 pub reply-text : (pages : List Page) (submitter number : ℕ) (a : Answer)
-    → row_text default_writer (reply_row pages submitter number a) ≡ (reply_start submitter ++ number_text number) ++ (phase_text a.phase ++ shown_text pages a.reply)
+    → row_text default_writer (reply_row pages submitter number a)
+    ≡ (reply_start submitter ++ number_text number) ++ (phase_text a.phase ++ shown_text pages a.reply)
 unfolding fields_text is_blank
 reply-text pages submitter number a =
     ap (λ t. codes "reply," ++ t)
     (reply_in_parts (number_text submitter) (number_text number) (number_text a.phase)
-    (field_text default_writer (answer_word a.reply)) (field_text default_writer (shown_page pages a.reply)) (field_text default_writer (shown_count a.reply)))
+    (field_text default_writer (answer_word a.reply)) (field_text default_writer (shown_page pages a.reply))
+    (field_text default_writer (shown_count a.reply)))
 
 -- the row of a page
 page_in_parts : (page name count : List ℕ)
-    → (page ++ 44 ∷ 44 ∷ 44 ∷ 44 ∷ (name ++ 44 ∷ (count ++ []))) ++ 10 ∷ [] ≡ page ++ 44 ∷ 44 ∷ 44 ∷ 44 ∷ (name ++ 44 ∷ (count ++ 10 ∷ []))
+    → (page ++ 44 ∷ 44 ∷ 44 ∷ 44 ∷ (name ++ 44 ∷ (count ++ []))) ++ 10 ∷ []
+    ≡ page ++ 44 ∷ 44 ∷ 44 ∷ 44 ∷ (name ++ 44 ∷ (count ++ 10 ∷ []))
 page_in_parts page name count = simp (append_assoc, append-nil)
 
 pub page-text : (pages : List Page) (page count : ℕ)
-    → row_text default_writer (page_row pages page count) ≡ codes "page," ++ (number_text page ++ (codes ",,,," ++ (name_text pages page ++ 44 ∷ (number_text count ++ 10 ∷ []))))
+    → row_text default_writer (page_row pages page count)
+    ≡ codes "page,"
+    ++ (number_text page ++ (codes ",,,," ++ (name_text pages page ++ 44 ∷ (number_text count ++ 10 ∷ []))))
 unfolding fields_text is_blank
-page-text pages page count = ap (λ t. codes "page," ++ t) (page_in_parts (number_text page) (name_text pages page) (number_text count))
+page-text pages page count =
+    ap (λ t. codes "page," ++ t) (page_in_parts (number_text page) (name_text pages page) (number_text count))
 
 -- the row of a user
 user_in_parts : (user name : List ℕ)
@@ -87,19 +98,25 @@ user_in_parts : (user name : List ℕ)
 user_in_parts user name = simp append_assoc
 
 pub user-text : (pages : List Page) (user page : ℕ)
-    → row_text default_writer (user_row pages user page) ≡ codes "user," ++ (number_text user ++ (codes ",,,," ++ (name_text pages page ++ codes ",\n")))
+    → row_text default_writer (user_row pages user page)
+    ≡ codes "user," ++ (number_text user ++ (codes ",,,," ++ (name_text pages page ++ codes ",\n")))
 unfolding fields_text is_blank
 user-text pages user page = ap (λ t. codes "user," ++ t) (user_in_parts (number_text user) (name_text pages page))
 
 -- the row of a hot page
 hot_in_parts : (page phase name : List ℕ)
-    → (page ++ 44 ∷ 44 ∷ (phase ++ 44 ∷ 44 ∷ (name ++ 44 ∷ []))) ++ 10 ∷ [] ≡ page ++ 44 ∷ 44 ∷ (phase ++ 44 ∷ 44 ∷ (name ++ 44 ∷ 10 ∷ []))
+    → (page ++ 44 ∷ 44 ∷ (phase ++ 44 ∷ 44 ∷ (name ++ 44 ∷ []))) ++ 10 ∷ []
+    ≡ page ++ 44 ∷ 44 ∷ (phase ++ 44 ∷ 44 ∷ (name ++ 44 ∷ 10 ∷ []))
 hot_in_parts page phase name = simp append_assoc
 
 pub hot-text : (pages : List Page) (phase page : ℕ)
-    → row_text default_writer (hot_row pages phase page) ≡ codes "hot," ++ (number_text page ++ (codes ",," ++ (number_text phase ++ (codes ",," ++ (name_text pages page ++ codes ",\n")))))
+    → row_text default_writer (hot_row pages phase page)
+    ≡ codes "hot,"
+    ++ (number_text page
+    ++ (codes ",," ++ (number_text phase ++ (codes ",," ++ (name_text pages page ++ codes ",\n")))))
 unfolding fields_text is_blank
-hot-text pages phase page = ap (λ t. codes "hot," ++ t) (hot_in_parts (number_text page) (number_text phase) (name_text pages page))
+hot-text pages phase page =
+    ap (λ t. codes "hot," ++ t) (hot_in_parts (number_text page) (number_text phase) (name_text pages page))
 
 -- how the row of a place begins
 start_in_parts : (page worker phase : List ℕ)
@@ -107,9 +124,11 @@ start_in_parts : (page worker phase : List ℕ)
 start_in_parts page worker phase = simp (append_assoc, append-nil)
 
 pub place_start-text : (page : ℕ) (p : Place)
-    → place_start page p ≡ codes "place," ++ (number_text page ++ 44 ∷ (number_text p.worker ++ 44 ∷ (number_text p.phase ++ 44 ∷ [])))
+    → place_start page p
+    ≡ codes "place," ++ (number_text page ++ 44 ∷ (number_text p.worker ++ 44 ∷ (number_text p.phase ++ 44 ∷ [])))
 unfolding fields_text
-place_start-text page p = ap (λ t. codes "place," ++ t) (start_in_parts (number_text page) (number_text p.worker) (number_text p.phase))
+place_start-text page p =
+    ap (λ t. codes "place," ++ t) (start_in_parts (number_text page) (number_text p.worker) (number_text p.phase))
 
 -- the row of a place
 place_in_parts : (page worker phase old name n : List ℕ)
@@ -123,4 +142,5 @@ pub place-text : (pages : List Page) (page : ℕ) (p : Place)
 unfolding fields_text is_blank
 place-text pages page p =
     ap (λ t. codes "place," ++ t)
-    (place_in_parts (number_text page) (number_text p.worker) (number_text p.phase) (number_text p.old) (name_text pages page) (number_text p.n))
+    (place_in_parts (number_text page) (number_text p.worker) (number_text p.phase) (number_text p.old)
+    (name_text pages page) (number_text p.n))

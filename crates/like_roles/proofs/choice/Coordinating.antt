@@ -13,7 +13,10 @@ use Rattle.like_roles.proofs.choice.Releasing.{release-on}
 use Rattle.like_roles.specs.coordinator.CoordTurns.{Acts, ends, counts, stays, announces, releases, waits, ChoseByCounts, CoordinatorView, CoordTurns, HasEndedJoined, IsBeforeEnd, IsCoordSight, looks, surveyed, coordinator_of}
 
 -- no turn releases a split phase after all are gone
-pub before_end : (v : CoordinatorView) (answer : CoordTurn) (after : CoordinatorView) → CoordTurns v answer after → IsBeforeEnd v → IsBeforeEnd after
+pub before_end : (v : CoordinatorView) (answer : CoordTurn) (after : CoordinatorView)
+    → CoordTurns v answer after
+    → IsBeforeEnd v
+    → IsBeforeEnd after
 before_end v answer after t before = kept t.acts
   where
     kept : Acts (surveyed v t.word t.sight) t.sight answer after → IsBeforeEnd after
@@ -29,7 +32,11 @@ joined : (phase : ℕ) → (IsSplit phase → ⊥) → IsJoined phase
 joined phase other = omega arith
 
 -- where the turn answers that all are gone, the phase is joined
-pub ended_joined : (v : CoordinatorView) (answer : CoordTurn) (after : CoordinatorView) → CoordTurns v answer after → IsBeforeEnd v → answer ≡ Ended → HasEndedJoined after
+pub ended_joined : (v : CoordinatorView) (answer : CoordTurn) (after : CoordinatorView)
+    → CoordTurns v answer after
+    → IsBeforeEnd v
+    → answer ≡ Ended
+    → HasEndedJoined after
 ended_joined v answer after t before is = shown t.acts
   where
     shown : Acts (surveyed v t.word t.sight) t.sight answer after → HasEndedJoined after
@@ -38,7 +45,9 @@ ended_joined v answer after t before is = shown t.acts
         record {
           gone = g;
           phase = t.shows.number;
-          joined = subst IsJoined (sym t.shows.number) (joined v.seat.phase (λ split. let clash : true ≡ false = sym (t.shows.all_gone split g) ∙ before split in cc));
+          joined = subst IsJoined (sym t.shows.number)
+              (joined v.seat.phase
+              (λ split. let clash : true ≡ false = sym (t.shows.all_gone split g) ∙ before split in cc));
         }
         in
         subst HasEndedJoined (sym e) at
@@ -49,8 +58,14 @@ ended_joined v answer after t before is = shown t.acts
     shown (waits g n i a e) = absurd (let clash = sym a ∙ is in cc)
 
 -- what the coordinator does whose lead looked is a turn case
-pub by_case : (v : CoordinatorView) (lead after : LeadView) (turns left phase : ℕ) (chosen : List Chosen) (sight : CoordSight) (answer : CoordTurn) (w : CoordinatorView) → coordinator_of lead turns left phase chosen ≡ v
-    → IsCoordSight lead.seat sight → Surveys lead.seat sight after.seat → after ≡ saw_word lead after.seat.word sight → Acts (coordinator_of after turns left sight.number chosen) sight answer w → CoordTurns v answer w
+pub by_case : (v : CoordinatorView) (lead after : LeadView) (turns left phase : ℕ) (chosen : List Chosen)
+    (sight : CoordSight) (answer : CoordTurn) (w : CoordinatorView)
+    → coordinator_of lead turns left phase chosen ≡ v
+    → IsCoordSight lead.seat sight
+    → Surveys lead.seat sight after.seat
+    → after ≡ saw_word lead after.seat.word sight
+    → Acts (coordinator_of after turns left sight.number chosen) sight answer w
+    → CoordTurns v answer w
 by_case v lead after turns left phase chosen sight answer w is shows event saw acts =
     subst (λ (x : CoordinatorView). CoordTurns x answer w) is (record {
       word = after.seat.word;
@@ -61,7 +76,9 @@ by_case v lead after turns left phase chosen sight answer w is shows event saw a
     })
 
 -- a turn steps on its own board
-pub same_board : (v : CoordinatorView) (answer : CoordTurn) (after : CoordinatorView) → CoordTurns v answer after → after.board ≡ v.board
+pub same_board : (v : CoordinatorView) (answer : CoordTurn) (after : CoordinatorView)
+    → CoordTurns v answer after
+    → after.board ≡ v.board
 same_board v answer after t = kept t.acts
   where
     kept : Acts (surveyed v t.word t.sight) t.sight answer after → after.board ≡ v.board
@@ -73,19 +90,26 @@ same_board v answer after t = kept t.acts
     kept (waits g n i a e) = ap (λ (x : CoordinatorView). x.board) e
 
 -- a turn keeps that it chose by its counts
-pub chose-on : (v : CoordinatorView) (answer : CoordTurn) (after : CoordinatorView) → CoordTurns v answer after → ChoseByCounts v → ChoseByCounts after
+pub chose-on : (v : CoordinatorView) (answer : CoordTurn) (after : CoordinatorView)
+    → CoordTurns v answer after
+    → ChoseByCounts v
+    → ChoseByCounts after
 chose-on v answer after t old = kept t.acts
   where
     looked : ChoseByCounts (surveyed v t.word t.sight)
-    looked total all = let h = old total all in record { masks = h.masks; chosen = h.chosen; sized = h.sized; before = h.before }
+    looked total all = let h = old total all in
+        record { masks = h.masks; chosen = h.chosen; sized = h.sized; before = h.before }
 
-    announced : ChoseByCounts (record (surveyed v t.word t.sight) { seat = announced_coord (surveyed v t.word t.sight).seat })
-    announced total all = let h = old total all in record { masks = h.masks; chosen = h.chosen; sized = h.sized; before = h.before }
+    announced : ChoseByCounts
+        (record (surveyed v t.word t.sight) { seat = announced_coord (surveyed v t.word t.sight).seat })
+    announced total all = let h = old total all in
+        record { masks = h.masks; chosen = h.chosen; sized = h.sized; before = h.before }
 
     kept : Acts (surveyed v t.word t.sight) t.sight answer after → ChoseByCounts after
     kept (ends g a e) = subst ChoseByCounts (sym e) looked
     kept (counts g n l a e) = subst ChoseByCounts (sym e) looked
     kept (stays g n l k a e) = subst ChoseByCounts (sym e) looked
     kept (announces g n l k a e) = subst ChoseByCounts (sym e) announced
-    kept (releases g n i seat choice r a e) = subst ChoseByCounts (sym e) (release-on (surveyed v t.word t.sight).seat seat v.choice choice r looked)
+    kept (releases g n i seat choice r a e) =
+        subst ChoseByCounts (sym e) (release-on (surveyed v t.word t.sight).seat seat v.choice choice r looked)
     kept (waits g n i a e) = subst ChoseByCounts (sym e) looked

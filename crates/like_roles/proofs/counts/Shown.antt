@@ -26,7 +26,8 @@ module _ {Y : Type 0} where
   cons_option-nil (Some y) = refl
 
   -- what tests that agree on numbers find among them
-  pub range-same : (f g : ℕ → Option Y) (a n : ℕ) → ((i : ℕ) → a ≤ i → i < a + n → f i ≡ g i) → filter_map f (range_with_len a n) ≡ filter_map g (range_with_len a n)
+  pub range-same : (f g : ℕ → Option Y) (a n : ℕ) → ((i : ℕ) → a ≤ i → i < a + n → f i ≡ g i)
+      → filter_map f (range_with_len a n) ≡ filter_map g (range_with_len a n)
   range-same f g a zero same = refl
   range-same f g a (suc n) same =
       let here = same a (omega arith) (omega arith) in
@@ -34,27 +35,33 @@ module _ {Y : Type 0} where
       λ m. cons_option (here m) (rest m)
 
   -- what is found among one number more
-  pub range-more : (f : ℕ → Option Y) (a n : ℕ) → filter_map f (range_with_len a (n + 1)) ≡ filter_map f (range_with_len a n) ++ option_to_list (f (a + n))
+  pub range-more : (f : ℕ → Option Y) (a n : ℕ)
+      → filter_map f (range_with_len a (n + 1)) ≡ filter_map f (range_with_len a n) ++ option_to_list (f (a + n))
   range-more f a zero = cons_option-nil (f a) ∙ ap (λ (k : ℕ). option_to_list (f k)) (omega arith)
   range-more f a (suc n) =
       let rest = range-more f (a + 1) n in
       let same : (a + 1) + n ≡ a + suc n = omega arith in
       let sized : suc n + 1 ≡ suc (n + 1) = omega arith in
-      let goes : filter_map f (range_with_len a (suc (n + 1))) ≡ filter_map f (range_with_len a (suc n)) ++ option_to_list (f (a + suc n)) =
-      ap (cons_option (f a)) (rest ∙ ap (λ (k : ℕ). filter_map f (range_with_len (a + 1) n) ++ option_to_list (f k)) same)
+      let goes : filter_map f (range_with_len a (suc (n + 1)))
+      ≡ filter_map f (range_with_len a (suc n)) ++ option_to_list (f (a + suc n)) =
+      ap (cons_option (f a))
+      (rest ∙ ap (λ (k : ℕ). filter_map f (range_with_len (a + 1) n) ++ option_to_list (f k)) same)
       ∙ cons_option-append (f a) (filter_map f (range_with_len (a + 1) n)) (option_to_list (f (a + suc n)))
       in
-      subst (λ (k : ℕ). filter_map f (range_with_len a k) ≡ filter_map f (range_with_len a (suc n)) ++ option_to_list (f (a + suc n))) (sym sized) goes
+      subst (λ (k : ℕ). filter_map f (range_with_len a k)
+      ≡ filter_map f (range_with_len a (suc n)) ++ option_to_list (f (a + suc n))) (sym sized) goes
 
 -- one entry more is shown what its look is, after all before it
-pub shown_in-push : (service : Service) (ran : List Ran) (e : Ran) → shown_in service (ran ++ e ∷ []) ≡ shown_in service ran ++ option_to_list (shown_to service ran e)
+pub shown_in-push : (service : Service) (ran : List Ran) (e : Ran)
+    → shown_in service (ran ++ e ∷ []) ≡ shown_in service ran ++ option_to_list (shown_to service ran e)
 shown_in-push service ran e =
     let all : List Ran = ran ++ e ∷ [] in
     let long : length all ≡ length ran + 1 = length-append ran (e ∷ []) in
     let before : (i : ℕ) → 0 ≤ i → i < 0 + length ran → shown_at service all i ≡ shown_at service ran i =
     λ i low high.
     (let within : i < length ran = omega arith in
-    (λ m. option_and_then (shown_to service (take-append-le i ran (e ∷ []) (omega arith) m)) (slice_get-before ran (e ∷ []) i within m)))
+    (λ m. option_and_then (shown_to service (take-append-le i ran (e ∷ []) (omega arith) m))
+    (slice_get-before ran (e ∷ []) i within m)))
     in
     let last : shown_at service all (0 + length ran) ≡ shown_to service ran e =
     ap (λ (k : ℕ). shown_at service all k) (zero-add (length ran)) ∙
@@ -62,25 +69,49 @@ shown_in-push service ran e =
     in
     ap (λ (n : ℕ). filter_map (shown_at service all) (range_with_len 0 n)) long
     ∙ (range-more (shown_at service all) 0 (length ran)
-    ∙ (λ m. range-same (shown_at service all) (shown_at service ran) 0 (length ran) before m ++ option_to_list (last m)))
+    ∙ (λ m. range-same (shown_at service all) (shown_at service ran) 0 (length ran) before m
+    ++ option_to_list (last m)))
 
 -- one that ran no look is shown nothing
-pub shown_in-none : (service : Service) (ran : List Ran) (e : Ran) → look_ran service e ≡ None → shown_in service (ran ++ e ∷ []) ≡ shown_in service ran
+pub shown_in-none : (service : Service) (ran : List Ran) (e : Ran)
+    → look_ran service e ≡ None
+    → shown_in service (ran ++ e ∷ []) ≡ shown_in service ran
 shown_in-none service ran e none =
-    let nothing : shown_to service ran e ≡ None = ap (option_map (λ (page : ℕ). record { phase = e.phase; page = page; count = count_in e.reply; before = likes_within service page ran e.phase })) none in
-    shown_in-push service ran e ∙ (ap (λ o. shown_in service ran ++ option_to_list o) nothing ∙ append-nil (shown_in service ran))
+    let nothing : shown_to service ran e ≡ None =
+    ap (option_map
+    (λ (page : ℕ). record {
+      phase =
+          e.phase;
+      page = page;
+      count = count_in e.reply;
+      before = likes_within service page ran e.phase;
+    })) none in
+    shown_in-push service ran e
+    ∙ (ap (λ o. shown_in service ran ++ option_to_list o) nothing ∙ append-nil (shown_in service ran))
 
 -- reads come before later additions
-pub after-more : (xs ys : List Addition) (reads : List PageRead) → All (λ r. r.after ≤ length xs) reads → All (λ r. r.after ≤ length (xs ++ ys)) reads
-after-more xs ys reads after = λ i d inside. (let old = after i d inside in let long = length-append xs ys in omega arith)
+pub after-more : (xs ys : List Addition) (reads : List PageRead)
+    → All (λ r. r.after ≤ length xs) reads
+    → All (λ r. r.after ≤ length (xs ++ ys)) reads
+after-more xs ys reads after =
+    λ i d inside. (let old = after i d inside in let long = length-append xs ys in omega arith)
 
 -- and show what they did
-pub shown_by-more : (xs ys : List Addition) (reads : List PageRead) → All (λ r. r.after ≤ length xs) reads → map (shown_by (xs ++ ys)) reads ≡ map (shown_by xs) reads
+pub shown_by-more : (xs ys : List Addition) (reads : List PageRead)
+    → All (λ r. r.after ≤ length xs) reads
+    → map (shown_by (xs ++ ys)) reads ≡ map (shown_by xs) reads
 shown_by-more xs ys [] after = refl
 shown_by-more xs ys (r ∷ reads) after =
     let here : r.after ≤ length xs = after 0 r (omega arith) in
     let rest = shown_by-more xs ys reads (λ i d inside. after (suc i) d (omega arith)) in
     let same : shown_by (xs ++ ys) r ≡ shown_by xs r =
-    ap (λ (front : List Addition). record { phase = r.phase; page = r.page; count = r.count; before = added_in r.phase r.page front }) (take-append-le r.after xs ys here)
+    ap (λ (front : List Addition). record {
+      phase =
+          r.phase;
+      page = r.page;
+      count = r.count;
+      before = added_in r.phase r.page front;
+    })
+    (take-append-le r.after xs ys here)
     in
     λ m. same m ∷ rest m

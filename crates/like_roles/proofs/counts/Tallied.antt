@@ -48,71 +48,104 @@ abbrev last_page : ℕ → List AcceptedLike → Option ℕ
 last_page user given = last_in (map (λ l. l.page) (filter (λ l. l.user == user) given))
 
 -- one more like counts for its page alone
-pub page_likes-push : (page : ℕ) (given : List AcceptedLike) (l : AcceptedLike) → page_likes page (given ++ l ∷ []) ≡ page_likes page given + cond (eqb l.page page) 1 0
+pub page_likes-push : (page : ℕ) (given : List AcceptedLike) (l : AcceptedLike)
+    → page_likes page (given ++ l ∷ []) ≡ page_likes page given + cond (eqb l.page page) 1 0
 page_likes-push page given l = sum_by-append (λ x. cond (eqb x.page page) 1 0) given (l ∷ []) ∙ omega arith
 
 -- one more like is its user's last
-pub last_page-push_same : (user : ℕ) (given : List AcceptedLike) (l : AcceptedLike) → eqb l.user user ≡ true → last_page user (given ++ l ∷ []) ≡ Some l.page
+pub last_page-push_same : (user : ℕ) (given : List AcceptedLike) (l : AcceptedLike)
+    → eqb l.user user ≡ true
+    → last_page user (given ++ l ∷ []) ≡ Some l.page
 last_page-push_same user given l h =
     simp (filter-append, h, map-append) (last_in-push (map (λ x. x.page) (filter (λ x. eqb x.user user) given)) l.page)
 
 -- and no other user's
-pub last_page-push_other : (user : ℕ) (given : List AcceptedLike) (l : AcceptedLike) → eqb l.user user ≡ false → last_page user (given ++ l ∷ []) ≡ last_page user given
+pub last_page-push_other : (user : ℕ) (given : List AcceptedLike) (l : AcceptedLike)
+    → eqb l.user user ≡ false
+    → last_page user (given ++ l ∷ []) ≡ last_page user given
 last_page-push_other user given l h = simp (filter-append, h, append-nil)
 
 -- the likes among entries, and then that of one more entry
-pub likes_ran-push : (service : Service) (ran : List Ran) (e : Ran) (o : Option AcceptedLike) → like_ran service e ≡ o → likes_ran service (ran ++ e ∷ []) ≡ likes_ran service ran ++ option_to_list o
+pub likes_ran-push : (service : Service) (ran : List Ran) (e : Ran) (o : Option AcceptedLike)
+    → like_ran service e ≡ o
+    → likes_ran service (ran ++ e ∷ []) ≡ likes_ran service ran ++ option_to_list o
 likes_ran-push service ran e o h =
-    filter_map-append (like_ran service) ran (e ∷ []) ∙ ap (λ x. likes_ran service ran ++ x) (ap (λ x. cons_option x []) h ∙ one o) where
+    filter_map-append (like_ran service) ran (e ∷ [])
+    ∙ ap (λ x. likes_ran service ran ++ x) (ap (λ x. cons_option x []) h ∙ one o) where
       one : (x : Option AcceptedLike) → cons_option x [] ≡ option_to_list x
       one None = refl
       one (Some x) = refl
 
 -- the likes among two lists of entries
-pub likes_among-append : (service : Service) (page : ℕ) (xs ys : List Ran) → likes_among service page (xs ++ ys) ≡ likes_among service page xs + likes_among service page ys
+pub likes_among-append : (service : Service) (page : ℕ) (xs ys : List Ran)
+    → likes_among service page (xs ++ ys) ≡ likes_among service page xs + likes_among service page ys
 likes_among-append service page xs ys =
     ap (page_likes page) (filter_map-append (like_ran service) xs ys)
     ∙ sum_by-append (λ x. cond (eqb x.page page) 1 0) (likes_ran service xs) (likes_ran service ys)
 
 -- the verdict of the worker is that of the service
-pub verdict_at-served : (service : Service) (v : WorkerView) (submitter : ℕ) (r : Request) → IsServed service v → verdict_at v submitter r ≡ verdict_of service.users (submitters service) submitter r
+pub verdict_at-served : (service : Service) (v : WorkerView) (submitter : ℕ) (r : Request)
+    → IsServed service v
+    → verdict_at v submitter r ≡ verdict_of service.users (submitters service) submitter r
 verdict_at-served service v submitter r s =
-    ap (λ u. verdict_of u v.last.share.submitters submitter r) (sym s.users) ∙ ap (λ m. verdict_of service.users m submitter r) (sym s.submitters_alike)
+    ap (λ u. verdict_of u v.last.share.submitters submitter r) (sym s.users)
+    ∙ ap (λ m. verdict_of service.users m submitter r) (sym s.submitters_alike)
 
 -- a request is accepted where its verdict says so
-pub accepted-true : (users submitters submitter : ℕ) (r : Request) → verdict_of users submitters submitter r ≡ verdict.Accepted → is_accepted users submitters submitter r ≡ true
-accepted-true users submitters submitter r h = by_tests (ltb r.user users) (eqb (home submitters r.user) submitter) (is_known r.page) h where
-  by_tests : (a b k : Bool) → cond (not a) verdict.UnknownUser (cond (not b) verdict.OtherHome (cond (not k) verdict.UnknownPage verdict.Accepted)) ≡ verdict.Accepted → (a && b && k) ≡ true
-  by_tests true true true e = refl
-  by_tests true true false e = cc e
-  by_tests true false k e = cc e
-  by_tests false b k e = cc e
+pub accepted-true : (users submitters submitter : ℕ) (r : Request)
+    → verdict_of users submitters submitter r ≡ verdict.Accepted
+    → is_accepted users submitters submitter r ≡ true
+accepted-true users submitters submitter r h =
+    by_tests (ltb r.user users) (eqb (home submitters r.user) submitter) (is_known r.page) h where
+      by_tests : (a b k : Bool)
+          → cond (not a) verdict.UnknownUser
+          (cond (not b) verdict.OtherHome (cond (not k) verdict.UnknownPage verdict.Accepted)) ≡ verdict.Accepted
+          → (a && b && k) ≡ true
+      by_tests true true true e = refl
+      by_tests true true false e = cc e
+      by_tests true false k e = cc e
+      by_tests false b k e = cc e
 
-pub accepted-false : (users submitters submitter : ℕ) (r : Request) → verdict_of users submitters submitter r ≢ verdict.Accepted → is_accepted users submitters submitter r ≡ false
-accepted-false users submitters submitter r h = by_tests (ltb r.user users) (eqb (home submitters r.user) submitter) (is_known r.page) h where
-  by_tests : (a b k : Bool) → cond (not a) verdict.UnknownUser (cond (not b) verdict.OtherHome (cond (not k) verdict.UnknownPage verdict.Accepted)) ≢ verdict.Accepted → (a && b && k) ≡ false
-  by_tests true true true e = absurd (e refl)
-  by_tests true true false e = refl
-  by_tests true false k e = refl
-  by_tests false b k e = refl
+pub accepted-false : (users submitters submitter : ℕ) (r : Request)
+    → verdict_of users submitters submitter r ≢ verdict.Accepted
+    → is_accepted users submitters submitter r ≡ false
+accepted-false users submitters submitter r h =
+    by_tests (ltb r.user users) (eqb (home submitters r.user) submitter) (is_known r.page) h where
+      by_tests : (a b k : Bool)
+          → cond (not a) verdict.UnknownUser
+          (cond (not b) verdict.OtherHome (cond (not k) verdict.UnknownPage verdict.Accepted)) ≢ verdict.Accepted
+          → (a && b && k) ≡ false
+      by_tests true true true e = absurd (e refl)
+      by_tests true true false e = refl
+      by_tests true false k e = refl
+      by_tests false b k e = refl
 
 -- an accepted request's user is there
-pub accepted_user : (users submitters submitter : ℕ) (r : Request) → is_accepted users submitters submitter r ≡ true → r.user < users
+pub accepted_user : (users submitters submitter : ℕ) (r : Request)
+    → is_accepted users submitters submitter r ≡ true
+    → r.user < users
 accepted_user users submitters submitter r a =
     let both = and_parts (ltb r.user users && eqb (home submitters r.user) submitter) (is_known r.page) a in
     let first = and_parts (ltb r.user users) (eqb (home submitters r.user) submitter) both.0 in
     ltb-true r.user users first.0
 
 -- the like that an entry of a known request ran
-pub like_ran-is : (service : Service) (e : Ran) (r : Request) → request_of service e ≡ Some r → like_ran service e ≡ accepted_like service.users (submitters service) e.submitter r
+pub like_ran-is : (service : Service) (e : Ran) (r : Request)
+    → request_of service e ≡ Some r
+    → like_ran service e ≡ accepted_like service.users (submitters service) e.submitter r
 like_ran-is service e r h = ap (option_and_then (accepted_like service.users (submitters service) e.submitter)) h
 
 -- the look that an entry of a known request ran
-pub look_ran-is : (service : Service) (e : Ran) (r : Request) → request_of service e ≡ Some r → look_ran service e ≡ accepted_look service.users (submitters service) e.submitter r
+pub look_ran-is : (service : Service) (e : Ran) (r : Request)
+    → request_of service e ≡ Some r
+    → look_ran service e ≡ accepted_look service.users (submitters service) e.submitter r
 look_ran-is service e r h = ap (option_and_then (accepted_look service.users (submitters service) e.submitter)) h
 
 -- one more right answer
-pub HasRightAnswers-push : (service : Service) (ran : List Ran) (e : Ran) → HasRightAnswers service ran → IsRightAnswer service ran e → HasRightAnswers service (ran ++ e ∷ [])
+pub HasRightAnswers-push : (service : Service) (ran : List Ran) (e : Ran)
+    → HasRightAnswers service ran
+    → IsRightAnswer service ran e
+    → HasRightAnswers service (ran ++ e ∷ [])
 HasRightAnswers-push service ran e all right i f h =
     let n : i < length (ran ++ e ∷ []) = slice_get_within (ran ++ e ∷ []) i f h in
     let m : i < length ran + 1 = simp length-append at n in
@@ -123,9 +156,11 @@ HasRightAnswers-push service ran e all right i f h =
           rw take-append-le (all i f old)
       | inr at_end ↦
           let same : length ran ≡ i = omega arith in
-          let g : Some e ≡ Some f = sym (subst (λ k. slice_get (ran ++ e ∷ []) k ≡ Some e) same (slice_get-at_end ran e)) ∙ h in
+          let g : Some e ≡ Some f =
+          sym (subst (λ k. slice_get (ran ++ e ∷ []) k ≡ Some e) same (slice_get-at_end ran e)) ∙ h in
           let it : e ≡ f = cc g in
-          let front : take i (ran ++ e ∷ []) ≡ ran = subst (λ k. take k (ran ++ e ∷ []) ≡ ran) same (take-append_seam ran (e ∷ [])) in
+          let front : take i (ran ++ e ∷ []) ≡ ran =
+          subst (λ k. take k (ran ++ e ∷ []) ≡ ran) same (take-append_seam ran (e ∷ [])) in
           rw (front, ← it) right
     ]
 
@@ -135,12 +170,15 @@ right-by_request : (service : Service) (ran : List Ran) (e : Ran) (r : Request) 
 right-by_request service ran e r h a = subst (λ o. IsSomeAnd o (λ q. e.reply ≡ answer_to service ran e q)) (sym h) a
 
 -- one more of a number that stands at a place
-one_more-at : (xs : List ℕ) (page other : ℕ) → page < length xs → get_or (set xs page (get_or xs page 0 + 1)) other 0 ≡ get_or xs other 0 + cond (eqb page other) 1 0
+one_more-at : (xs : List ℕ) (page other : ℕ)
+    → page < length xs
+    → get_or (set xs page (get_or xs page 0 + 1)) other 0 ≡ get_or xs other 0 + cond (eqb page other) 1 0
 one_more-at xs page other h =
     elim (cases_eq page other) [
       | inl same ↦
           let e = eq-eqb page other same in
-          rw e (subst (λ k. get_or (set xs page (get_or xs page 0 + 1)) k 0 ≡ get_or xs k 0 + 1) same (get_or-set_same xs page (get_or xs page 0 + 1) 0 h))
+          rw e (subst (λ k. get_or (set xs page (get_or xs page 0 + 1)) k 0 ≡ get_or xs k 0 + 1) same
+          (get_or-set_same xs page (get_or xs page 0 + 1) 0 h))
       | inr differs ↦
           let e = ne_eqb page other differs in
           rw e (get_or-set_other xs page other (get_or xs page 0 + 1) 0 (λ k. differs (sym k)) ∙ omega arith)
@@ -148,19 +186,27 @@ one_more-at xs page other h =
 
 -- one more accepted like in the slice or on the board
 counted-one : (v : WorkerView) (page old other : ℕ) → page < length v.slice
-    → additions_of (counted v page old).post other + get_or (counted v page old).slice other 0 ≡ (additions_of v.post other + get_or v.slice other 0) + cond (eqb page other) 1 0
+    → additions_of (counted v page old).post other + get_or (counted v page old).slice other 0
+    ≡ (additions_of v.post other + get_or v.slice other 0) + cond (eqb page other) 1 0
 counted-one v page old other in_slice =
-    counted_by (λ w. additions_of w.post other + get_or w.slice other 0 ≡ (additions_of v.post other + get_or v.slice other 0) + cond (eqb page other) 1 0)
+    counted_by (λ w. additions_of w.post other + get_or w.slice other 0
+    ≡ (additions_of v.post other + get_or v.slice other 0) + cond (eqb page other) 1 0)
     v page old (omega (arith, one_more-at v.slice page other in_slice))
-    (let push : additions_of (with_addition v page old 1).post other ≡ additions_of v.post other + cond (eqb page other) 1 0 = added_to-push v.post.additions (phase_of v.post.state) page old 1 other in
+    (let push : additions_of (with_addition v page old 1).post other
+    ≡ additions_of v.post other + cond (eqb page other) 1 0 =
+    added_to-push v.post.additions (phase_of v.post.state) page old 1 other in
     omega arith)
 
 -- and in its phase
 counted-in : (v : WorkerView) (page old other phase : ℕ) → page < length v.slice
-    → additions_in (counted v page old).post phase other + cond (phase_at (counted v page old) == phase) (get_or (counted v page old).slice other 0) 0
-    ≡ (additions_in v.post phase other + cond (phase_at v == phase) (get_or v.slice other 0) 0) + cond (phase_at v == phase) (cond (page == other) 1 0) 0
+    → additions_in (counted v page old).post phase other
+    + cond (phase_at (counted v page old) == phase) (get_or (counted v page old).slice other 0) 0
+    ≡ (additions_in v.post phase other + cond (phase_at v == phase) (get_or v.slice other 0) 0)
+    + cond (phase_at v == phase) (cond (page == other) 1 0) 0
 counted-in v page old other phase in_slice =
-    counted_by (λ w. additions_in w.post phase other + cond (phase_at w == phase) (get_or w.slice other 0) 0 ≡ (additions_in v.post phase other + cond (phase_at v == phase) (get_or v.slice other 0) 0) + cond (phase_at v == phase) (cond (page == other) 1 0) 0)
+    counted_by (λ w. additions_in w.post phase other + cond (phase_at w == phase) (get_or w.slice other 0) 0
+    ≡ (additions_in v.post phase other + cond (phase_at v == phase) (get_or v.slice other 0) 0)
+    + cond (phase_at v == phase) (cond (page == other) 1 0) 0)
     v page old
     (let more = ap (λ (k : ℕ). cond (phase_at v == phase) k 0) (one_more-at v.slice page other in_slice) in
     let parts = cond_sum (phase_at v == phase) (get_or v.slice other 0) (cond (page == other) 1 0) in
@@ -178,15 +224,21 @@ counted-in v page old other phase in_slice =
     cond_both false c = refl
 
 -- it comes after all reads
-counted-after : (v : WorkerView) (page old : ℕ) → All (λ r. r.after ≤ length v.post.additions) v.post.reads → All (λ r. r.after ≤ length (counted v page old).post.additions) (counted v page old).post.reads
+counted-after : (v : WorkerView) (page old : ℕ)
+    → All (λ r. r.after ≤ length v.post.additions) v.post.reads
+    → All (λ r. r.after ≤ length (counted v page old).post.additions) (counted v page old).post.reads
 counted-after v page old after =
     counted_by (λ w. All (λ r. r.after ≤ length w.post.additions) w.post.reads) v page old after
     (after-more v.post.additions (addition (phase_at v) page old 1 ∷ []) v.post.reads after)
 
 -- and changes nothing that they show
-counted-shown : (v : WorkerView) (page old : ℕ) → All (λ r. r.after ≤ length v.post.additions) v.post.reads → map (shown_by v.post.additions) v.post.reads ≡ map (shown_by (counted v page old).post.additions) (counted v page old).post.reads
+counted-shown : (v : WorkerView) (page old : ℕ)
+    → All (λ r. r.after ≤ length v.post.additions) v.post.reads
+    → map (shown_by v.post.additions) v.post.reads
+    ≡ map (shown_by (counted v page old).post.additions) (counted v page old).post.reads
 counted-shown v page old after =
-    counted_by (λ w. map (shown_by v.post.additions) v.post.reads ≡ map (shown_by w.post.additions) w.post.reads) v page old refl
+    counted_by (λ w. map (shown_by v.post.additions) v.post.reads ≡ map (shown_by w.post.additions) w.post.reads) v page
+    old refl
     (sym (shown_by-more v.post.additions (addition (phase_at v) page old 1 ∷ []) v.post.reads after))
 
 -- a like that is counted changes no size, and whom the worker serves as little
@@ -196,9 +248,12 @@ counted-sized v page old s =
     (record { slice = length-set v.slice page _ ∙ s.slice; users = s.users })
     (record { slice = s.slice; users = s.users })
 
-counted-served : (service : Service) (v : WorkerView) (page old : ℕ) → IsServed service v → IsServed service (counted v page old)
+counted-served : (service : Service) (v : WorkerView) (page old : ℕ)
+    → IsServed service v
+    → IsServed service (counted v page old)
 counted-served service v page old s =
-    let same : (w : WorkerView) → w.last ≡ v.last → w.post.marks ≡ v.post.marks → w.post.masks ≡ v.post.masks → w.held ≡ v.held → IsServed service w = λ w last marks masks held. record {
+    let same : (w : WorkerView) → w.last ≡ v.last → w.post.marks ≡ v.post.marks → w.post.masks ≡ v.post.masks
+    → w.held ≡ v.held → IsServed service w = λ w last marks masks held. record {
       users = s.users ∙ ap (λ x. x.share.users) (sym last);
       submitters_alike = s.submitters_alike ∙ ap (λ x. x.share.submitters) (sym last);
       marks_alike = s.marks_alike ∙ sym marks;
@@ -208,25 +263,33 @@ counted-served service v page old s =
     counted_by (IsServed service) v page old (same _ refl refl refl refl) (same _ refl refl refl refl)
 
 -- one more entry that ran no like changes no number of a phase
-pub within-none : (service : Service) (ran : List Ran) (e : Ran) (page phase : ℕ) → like_ran service e ≡ None → likes_within service page (ran ++ e ∷ []) phase ≡ likes_within service page ran phase
+pub within-none : (service : Service) (ran : List Ran) (e : Ran) (page phase : ℕ)
+    → like_ran service e ≡ None
+    → likes_within service page (ran ++ e ∷ []) phase ≡ likes_within service page ran phase
 within-none service ran e page phase none =
     let p : Ran → Bool = λ x. x.phase == phase in
     let last : (b : Bool) → page_likes page (likes_ran service (cond b (e ∷ []) [])) ≡ 0 = last_is in
     let e_is = last (p e) in
-    ap (likes_among service page) (filter-append p ran (e ∷ [])) ∙ (likes_among-append service page (filter p ran) (cond (p e) (e ∷ []) []) ∙ omega arith)
+    ap (likes_among service page) (filter-append p ran (e ∷ []))
+    ∙ (likes_among-append service page (filter p ran) (cond (p e) (e ∷ []) []) ∙ omega arith)
   where
     last_is : (b : Bool) → page_likes page (likes_ran service (cond b (e ∷ []) [])) ≡ 0
     last_is true = ap (page_likes page) (ap (λ (x : Option AcceptedLike). cons_option x []) none)
     last_is false = refl
 
 -- one that ran a like adds it to those of its phase
-pub within-one : (service : Service) (ran : List Ran) (e : Ran) (l : AcceptedLike) (page phase : ℕ) → like_ran service e ≡ Some l → likes_within service page (ran ++ e ∷ []) phase ≡ likes_within service page ran phase + cond (e.phase == phase) (cond (l.page == page) 1 0) 0
+pub within-one : (service : Service) (ran : List Ran) (e : Ran) (l : AcceptedLike) (page phase : ℕ)
+    → like_ran service e ≡ Some l
+    → likes_within service page (ran ++ e ∷ []) phase
+    ≡ likes_within service page ran phase + cond (e.phase == phase) (cond (l.page == page) 1 0) 0
 within-one service ran e l page phase is =
     let p : Ran → Bool = λ x. x.phase == phase in
     let e_is = last_is (p e) in
-    ap (likes_among service page) (filter-append p ran (e ∷ [])) ∙ (likes_among-append service page (filter p ran) (cond (p e) (e ∷ []) []) ∙ omega arith)
+    ap (likes_among service page) (filter-append p ran (e ∷ []))
+    ∙ (likes_among-append service page (filter p ran) (cond (p e) (e ∷ []) []) ∙ omega arith)
   where
-    last_is : (b : Bool) → page_likes page (likes_ran service (cond b (e ∷ []) [])) ≡ cond b (cond (l.page == page) 1 0) 0
+    last_is : (b : Bool)
+        → page_likes page (likes_ran service (cond b (e ∷ []) [])) ≡ cond b (cond (l.page == page) 1 0) 0
     last_is true =
         let one : page_likes page (l ∷ []) ≡ cond (l.page == page) 1 0 = omega arith in
         ap (page_likes page) (ap (λ (x : Option AcceptedLike). cons_option x []) is) ∙ one
@@ -234,21 +297,36 @@ within-one service ran e l page phase is =
 
 -- what holds after an answer that is noted
 abbrev IsAfter : Service → WorkerView → Held → Bool → Reply → WorkerView → Type 0
-IsAfter service v h stashed answer w = IsServed service w × IsSized w × IsTallied service (record w { ran = v.ran ++ ran_now v h stashed answer ∷ [] })
+IsAfter service v h stashed answer w =
+    IsServed service w × IsSized w × IsTallied service (record w { ran = v.ran ++ ran_now v h stashed answer ∷ [] })
 
 -- the worker, whose post has made these reads
 abbrev with_reads : WorkerView → List PageRead → WorkerView
 with_reads v reads = record v { post = record v.post { reads = reads } }
 
 -- an entry that is no accepted like changes neither likes nor last likes; these are the post's reads then
-unchanged : (service : Service) (v : WorkerView) (h : Held) (stashed : Bool) (answer : Reply) (reads : List PageRead) → IsServed service v → IsSized v → IsTallied service v
+unchanged : (service : Service) (v : WorkerView) (h : Held) (stashed : Bool) (answer : Reply) (reads : List PageRead)
+    → IsServed service v
+    → IsSized v
+    → IsTallied service v
     → like_ran service (ran_now v h stashed answer) ≡ None → IsRightAnswer service v.ran (ran_now v h stashed answer)
-    → shown_in service (v.ran ++ ran_now v h stashed answer ∷ []) ≡ map (shown_by v.post.additions) reads → All (λ r. r.after ≤ length v.post.additions) reads
+    → shown_in service (v.ran ++ ran_now v h stashed answer ∷ []) ≡ map (shown_by v.post.additions) reads
+    → All (λ r. r.after ≤ length v.post.additions) reads
     → IsAfter service v h stashed answer (with_reads v reads)
 unchanged service v h stashed answer reads served sized t none right shows later =
     let e = ran_now v h stashed answer in
-    let same : likes_ran service (v.ran ++ e ∷ []) ≡ likes_ran service v.ran = likes_ran-push service v.ran e None none ∙ append-nil _ in (
-      record { users = served.users; submitters_alike = served.submitters_alike; marks_alike = served.marks_alike; hot_alike = served.hot_alike; stash_alike = served.stash_alike },
+    let same : likes_ran service (v.ran ++ e ∷ []) ≡ likes_ran service v.ran =
+    likes_ran-push service v.ran e None none ∙ append-nil _ in (
+      record {
+        users =
+            served.users;
+        submitters_alike =
+            served.submitters_alike;
+        marks_alike =
+            served.marks_alike;
+        hot_alike = served.hot_alike;
+        stash_alike = served.stash_alike;
+      },
       record { slice = sized.slice; users = sized.users },
       record {
         likes = λ page. ap (page_likes page) same ∙ t.likes page;
@@ -261,10 +339,16 @@ unchanged service v h stashed answer reads served sized t none right shows later
     )
 
 -- an accepted like
-one_like : (service : Service) (v : WorkerView) (h : Held) (stashed : Bool) (page old : ℕ) → IsServed service v → IsSized v → IsTallied service v
-    → like_ran service (ran_now v h stashed reply.Liked) ≡ Some (record { user = h.ask.request.user; page = page }) → look_ran service (ran_now v h stashed reply.Liked) ≡ None
+one_like : (service : Service) (v : WorkerView) (h : Held) (stashed : Bool) (page old : ℕ)
+    → IsServed service v
+    → IsSized v
+    → IsTallied service v
+    → like_ran service (ran_now v h stashed reply.Liked) ≡ Some (record { user = h.ask.request.user; page = page })
+    → look_ran service (ran_now v h stashed reply.Liked) ≡ None
     → IsRightAnswer service v.ran (ran_now v h stashed reply.Liked)
-    → page < pages_of v.post → h.ask.request.user < v.last.share.users → IsAfter service v h stashed reply.Liked (liked v h.ask.request.user page old)
+    → page < pages_of v.post
+    → h.ask.request.user < v.last.share.users
+    → IsAfter service v h stashed reply.Liked (liked v h.ask.request.user page old)
 one_like service v h stashed page old served sized t like no_look right in_pages in_users =
     let e = ran_now v h stashed reply.Liked in
     let user = h.ask.request.user in
@@ -274,10 +358,19 @@ one_like service v h stashed page old served sized t like no_look right in_pages
     let in_table : user < length v.last.last = omega (arith, sized.users) in
     let s = counted-served service v page old served in
     let z = counted-sized v page old sized in (
-      record { users = served.users; submitters_alike = served.submitters_alike; marks_alike = s.marks_alike; hot_alike = s.hot_alike; stash_alike = s.stash_alike },
+      record {
+        users =
+            served.users;
+        submitters_alike =
+            served.submitters_alike;
+        marks_alike = s.marks_alike;
+        hot_alike = s.hot_alike;
+        stash_alike = s.stash_alike;
+      },
       record { slice = z.slice; users = length-set v.last.last user (Some page) ∙ sized.users },
       record {
-        likes = λ other. ap (page_likes other) more ∙ page_likes-push other (likes_ran service v.ran) l ∙ ap (λ n. n + cond (eqb page other) 1 0) (t.likes other)
+        likes = λ other. ap (page_likes other) more ∙ page_likes-push other (likes_ran service v.ran) l
+            ∙ ap (λ n. n + cond (eqb page other) 1 0) (t.likes other)
             ∙ sym (counted-one v page old other in_slice);
         by_phase = λ phase other.
             within-one service v.ran e l other phase like
@@ -289,41 +382,58 @@ one_like service v h stashed page old served sized t like no_look right in_pages
         last = λ other. elim (cases_eq user other) [
           | inl same ↦
               let now = last_page-push_same other (likes_ran service v.ran) l (eq-eqb user other same) in
-              subst (λ k. get_or (set v.last.last user (Some page)) k None ≡ Some page) same (get_or-set_same v.last.last user (Some page) None in_table)
+              subst (λ k. get_or (set v.last.last user (Some page)) k None ≡ Some page) same
+              (get_or-set_same v.last.last user (Some page) None in_table)
               ∙ sym now ∙ ap (last_page other) (sym more)
           | inr differs ↦
               let now = last_page-push_other other (likes_ran service v.ran) l (ne_eqb user other differs) in
-              get_or-set_other v.last.last user other (Some page) None (λ k. differs (sym k)) ∙ t.last other ∙ sym now ∙ ap (last_page other) (sym more)
+              get_or-set_other v.last.last user other (Some page) None (λ k. differs (sym k)) ∙ t.last other ∙ sym now
+              ∙ ap (last_page other) (sym more)
         ];
       },
     )
 
 -- whatever the answer is
-pub GivesReply-tallied : (service : Service) (v : WorkerView) (h : Held) (stashed : Bool) (answer : Reply) (w : WorkerView) → IsServed service v → IsSized v → IsTallied service v → IsAsked service h
-    → ((page : ℕ) → verdict_at v h.submitter h.ask.request ≡ verdict.Accepted → page_looked_at h.ask.request.op h.ask.request.page ≡ Some page → get_or v.slice page 0 ≡ 0)
+pub GivesReply-tallied : (service : Service) (v : WorkerView) (h : Held) (stashed : Bool) (answer : Reply)
+    (w : WorkerView)
+    → IsServed service v
+    → IsSized v
+    → IsTallied service v
+    → IsAsked service h
+    → ((page : ℕ) → verdict_at v h.submitter h.ask.request ≡ verdict.Accepted
+    → page_looked_at h.ask.request.op h.ask.request.page ≡ Some page → get_or v.slice page 0 ≡ 0)
     → GivesReply v h.submitter h.ask.request answer w → IsAfter service v h stashed answer w
 GivesReply-tallied service v h stashed answer w served sized t asked clear (refuses n a e) =
     let r = h.ask.request in
     let V = verdict_at v h.submitter r in
     let V-is = verdict_at-served service v h.submitter r served in
     let x = ran_now v h stashed (reply.Refused V) in
-    let no : is_accepted service.users (submitters service) h.submitter r ≡ false = accepted-false service.users (submitters service) h.submitter r (λ k. n (V-is ∙ k)) in
+    let no : is_accepted service.users (submitters service) h.submitter r ≡ false =
+    accepted-false service.users (submitters service) h.submitter r (λ k. n (V-is ∙ k)) in
     let none : like_ran service x ≡ None = like_ran-is service x r asked.asked ∙ rw no refl in
     let no_look : look_ran service x ≡ None = look_ran-is service x r asked.asked ∙ rw no refl in
     let right = right-by_request service v.ran x r asked.asked (ap reply.Refused V-is ∙ rw no refl) in
-    subst (λ y. IsAfter service v h stashed answer y) (sym e) (subst (λ y. IsAfter service v h stashed y v) (sym a) (unchanged service v h stashed (reply.Refused V) v.post.reads served sized t none right (shown_in-none service v.ran x no_look ∙ t.looks) t.after))
+    subst (λ y. IsAfter service v h stashed answer y) (sym e)
+    (subst (λ y. IsAfter service v h stashed y v) (sym a)
+    (unchanged service v h stashed (reply.Refused V) v.post.reads served sized t none right
+    (shown_in-none service v.ran x no_look ∙ t.looks) t.after))
 GivesReply-tallied service v h stashed answer w served sized t asked clear (likes page a o p l e) =
     let r = h.ask.request in
     let V-is = sym (verdict_at-served service v h.submitter r served) ∙ a in
     let yes = accepted-true service.users (submitters service) h.submitter r V-is in
     let x = ran_now v h stashed reply.Liked in
-    let like : like_ran service x ≡ Some (record { user = r.user; page = page }) = like_ran-is service x r asked.asked ∙ rw (yes, o, p) refl in
+    let like : like_ran service x ≡ Some (record { user = r.user; page = page }) =
+    like_ran-is service x r asked.asked ∙ rw (yes, o, p) refl in
     let no_look : look_ran service x ≡ None = look_ran-is service x r asked.asked ∙ rw (yes, o) refl in
     let right = right-by_request service v.ran x r asked.asked (rw (yes, o) refl) in
-    let in_marks : IsThere (length (marks_of service.pages)) (ref.Known page) = subst (λ q. IsThere (length (marks_of service.pages)) q) p asked.there in
+    let in_marks : IsThere (length (marks_of service.pages)) (ref.Known page) =
+    subst (λ q. IsThere (length (marks_of service.pages)) q) p asked.there in
     let in_pages : page < pages_of v.post = omega (arith, ap length served.marks_alike) in
-    let in_users : r.user < v.last.share.users = omega (arith, accepted_user service.users (submitters service) h.submitter r yes, served.users) in
-    subst (λ y. IsAfter service v h stashed answer y) (sym e.1) (subst (λ y. IsAfter service v h stashed y (liked v r.user page e.0)) (sym l) (one_like service v h stashed page e.0 served sized t like no_look right in_pages in_users))
+    let in_users : r.user < v.last.share.users =
+    omega (arith, accepted_user service.users (submitters service) h.submitter r yes, served.users) in
+    subst (λ y. IsAfter service v h stashed answer y) (sym e.1)
+    (subst (λ y. IsAfter service v h stashed y (liked v r.user page e.0)) (sym l)
+    (one_like service v h stashed page e.0 served sized t like no_look right in_pages in_users))
 GivesReply-tallied service v h stashed answer w served sized t asked clear (looks page count a o p s n e) =
     let r = h.ask.request in
     let V-is = sym (verdict_at-served service v h.submitter r served) ∙ a in
@@ -331,18 +441,25 @@ GivesReply-tallied service v h stashed answer w served sized t asked clear (look
     let seen = reply.Seen (last_of v.last r.user) count in
     let x = ran_now v h stashed seen in
     let none : like_ran service x ≡ None = like_ran-is service x r asked.asked ∙ rw (yes, o) refl in
-    let right = right-by_request service v.ran x r asked.asked (ap (λ l. reply.Seen l count) (t.last r.user) ∙ rw (yes, o) refl) in
+    let right = right-by_request service v.ran x r asked.asked
+    (ap (λ l. reply.Seen l count) (t.last r.user) ∙ rw (yes, o) refl) in
     let look : look_ran service x ≡ Some page = look_ran-is service x r asked.asked ∙ rw (yes, o, p) refl in
     let now : ℕ = phase_at v in
     let looked : page_looked_at r.op r.page ≡ Some page = rw (o, p) refl in
     let as_many : likes_within service page v.ran now ≡ additions_in v.post now page =
-    t.by_phase now page ∙ (let none_kept = ap (λ (k : ℕ). cond (now == now) k 0) (clear page a looked) in let zero_is = cond_same (now == now) 0 in omega arith)
+    t.by_phase now page
+    ∙ (let none_kept = ap (λ (k : ℕ). cond (now == now) k 0) (clear page a looked) in
+    let zero_is = cond_same (now == now) 0 in omega arith)
     in
     let read : PageRead = record { phase = now; page = page; count = count; after = length v.post.additions } in
-    let c : ShownCount = record { phase = now; page = page; count = count; before = likes_within service page v.ran now } in
-    let to_it : shown_to service v.ran x ≡ Some c = ap (option_map (λ (q : ℕ). record { phase = now; page = q; count = count; before = likes_within service q v.ran now })) look in
+    let c : ShownCount =
+    record { phase = now; page = page; count = count; before = likes_within service page v.ran now } in
+    let to_it : shown_to service v.ran x ≡ Some c =
+    ap (option_map
+    (λ (q : ℕ). record { phase = now; page = q; count = count; before = likes_within service q v.ran now })) look in
     let by_it : c ≡ shown_by v.post.additions read =
-    ap (λ (k : ℕ). record { phase = now; page = page; count = count; before = k }) (as_many ∙ sym (ap (added_in now page) (take-length v.post.additions)))
+    ap (λ (k : ℕ). record { phase = now; page = page; count = count; before = k })
+    (as_many ∙ sym (ap (added_in now page) (take-length v.post.additions)))
     in
     let shows : shown_in service (v.ran ++ x ∷ []) ≡ map (shown_by v.post.additions) (v.post.reads ++ read ∷ []) =
     shown_in-push service v.ran x
@@ -354,4 +471,5 @@ GivesReply-tallied service v h stashed answer w served sized t asked clear (look
     let after = All-push (λ q. q.after ≤ length v.post.additions) v.post.reads read t.after (omega arith) in
     let P : Reply → Type 0 = λ y. IsAfter service v h stashed y (shown v page count) in
     subst (λ y. IsAfter service v h stashed answer y) (sym e)
-    (subst P (sym s) (unchanged service v h stashed seen (v.post.reads ++ read ∷ []) served sized t none right shows after))
+    (subst P (sym s)
+    (unchanged service v h stashed seen (v.post.reads ++ read ∷ []) served sized t none right shows after))

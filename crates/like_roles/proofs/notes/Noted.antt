@@ -57,37 +57,51 @@ module _ {A : Type 0} where
       omega (arith, sum_by-cons (λ y. cond {A = ℕ} (p y) 1 0) x xs)
 
 -- where additions are noted, each is
-pub noted-each : (v : WorkerView) (adds : List Addition) → v.notes ≡ true → noted v adds ≡ map (noted_at (length v.ran)) adds
+pub noted-each : (v : WorkerView) (adds : List Addition)
+    → v.notes ≡ true
+    → noted v adds ≡ map (noted_at (length v.ran)) adds
 noted-each v adds notes = cond-true v.notes (map (noted_at (length v.ran)) adds) [] notes
 
 -- of two pages in phases one of which is split and the other is not, one is not the other
-pub apart : (service : Service) (k p phase page : ℕ) (s t : Bool) → is_split_in service k p ≡ s → is_split_in service phase page ≡ t → s ≢ t → ((k == phase) && (p == page)) ≡ false
+pub apart : (service : Service) (k p phase page : ℕ) (s t : Bool)
+    → is_split_in service k p ≡ s
+    → is_split_in service phase page ≡ t
+    → s ≢ t
+    → ((k == phase) && (p == page)) ≡ false
 apart service k p phase page s t is other differ = by_test ((k == phase) && (p == page)) refl
   where
     by_test : (b : Bool) → ((k == phase) && (p == page)) ≡ b → ((k == phase) && (p == page)) ≡ false
     by_test false e = e
     by_test true e =
         let both = and_parts (k == phase) (p == page) e in
-        let same : is_split_in service k p ≡ is_split_in service phase page = λ m. is_split_in service (eqb-true k phase both.0 m) (eqb-true p page both.1 m) in
+        let same : is_split_in service k p ≡ is_split_in service phase page =
+        λ m. is_split_in service (eqb-true k phase both.0 m) (eqb-true p page both.1 m) in
         absurd (differ (sym is ∙ (same ∙ other)))
 
 -- how many likes an entry that runs now is, by phase and page
 abbrev pub AddsLikes : Service → Ran → (ℕ → ℕ → ℕ) → Type 0
 AddsLikes service e likes =
-    (xs : List Ran) (phase page : ℕ) → likes_within service page (xs ++ e ∷ []) phase ≡ likes_within service page xs phase + likes phase page
+    (xs : List Ran) (phase page : ℕ)
+    → likes_within service page (xs ++ e ∷ []) phase ≡ likes_within service page xs phase + likes phase page
 
 -- the likes at a place after one entry more
-likes_at-push : (service : Service) (ran : List Ran) (e : Ran) (likes : ℕ → ℕ → ℕ) (phase page at : ℕ) → AddsLikes service e likes → likes_at service phase page at (ran ++ e ∷ []) ≡ likes_at service phase page at ran + cond (at == length ran) (likes phase page) 0
+likes_at-push : (service : Service) (ran : List Ran) (e : Ran) (likes : ℕ → ℕ → ℕ) (phase page at : ℕ)
+    → AddsLikes service e likes
+    → likes_at service phase page at (ran ++ e ∷ [])
+    ≡ likes_at service phase page at ran + cond (at == length ran) (likes phase page) 0
 likes_at-push service ran e likes phase page at adds =
     let of : Option Ran → ℕ = λ o. likes_within service page (option_to_list o) phase in
     elim (cases_lt at (length ran)) [
       | inl before ↦
-          let no : cond {A = ℕ} (at == length ran) (likes phase page) 0 ≡ 0 = ap (λ (b : Bool). cond {A = ℕ} b (likes phase page) 0) (ne_eqb at (length ran) (λ same. absurd (omega arith))) in
+          let no : cond {A = ℕ} (at == length ran) (likes phase page) 0 ≡ 0 =
+          ap (λ (b : Bool). cond {A = ℕ} b (likes phase page) 0)
+          (ne_eqb at (length ran) (λ same. absurd (omega arith))) in
           let same = ap of (slice_get-before ran (e ∷ []) at before) in
           omega arith
       | inr past ↦ elim (cases_eq at (length ran)) [
         | inl end ↦
-            let yes : cond {A = ℕ} (at == length ran) (likes phase page) 0 ≡ likes phase page = cond-true (at == length ran) (likes phase page) 0 (eq-eqb at (length ran) end) in
+            let yes : cond {A = ℕ} (at == length ran) (likes phase page) 0 ≡ likes phase page =
+            cond-true (at == length ran) (likes phase page) 0 (eq-eqb at (length ran) end) in
             let none = ap of (slice_get_past ran at (omega arith)) in
             let one : likes_at service phase page at (ran ++ e ∷ []) ≡ likes_within service page (e ∷ []) phase =
             ap (λ (i : ℕ). of (slice_get (ran ++ e ∷ []) i)) end ∙ ap of (slice_get-at_end ran e)
@@ -95,7 +109,8 @@ likes_at-push service ran e likes phase page at adds =
             let all = adds [] phase page in
             omega arith
         | inr other ↦
-            let no : cond {A = ℕ} (at == length ran) (likes phase page) 0 ≡ 0 = ap (λ (b : Bool). cond {A = ℕ} b (likes phase page) 0) (ne_eqb at (length ran) other) in
+            let no : cond {A = ℕ} (at == length ran) (likes phase page) 0 ≡ 0 =
+            ap (λ (b : Bool). cond {A = ℕ} b (likes phase page) 0) (ne_eqb at (length ran) other) in
             let long = length-append ran (e ∷ []) in
             let none = ap of (slice_get_past ran at (omega arith)) in
             let none_now = ap of (slice_get_past (ran ++ e ∷ []) at (omega arith)) in
@@ -104,17 +119,23 @@ likes_at-push service ran e likes phase page at adds =
     ]
 
 -- additions that were all made at one place
-adds_at-all : (more : List Added) (n phase page at : ℕ) → All (λ a. a.at ≡ n) more → adds_at phase page at more ≡ cond (at == n) (adds_to phase page more) 0
+adds_at-all : (more : List Added) (n phase page at : ℕ)
+    → All (λ a. a.at ≡ n) more
+    → adds_at phase page at more ≡ cond (at == n) (adds_to phase page more) 0
 adds_at-all more n phase page at all = elim (cases_eq at n) [
   | inl here ↦
-      let yes : cond {A = ℕ} (at == n) (adds_to phase page more) 0 ≡ adds_to phase page more = cond-true (at == n) (adds_to phase page more) 0 (eq-eqb at n here) in
+      let yes : cond {A = ℕ} (at == n) (adds_to phase page more) 0 ≡ adds_to phase page more =
+      cond-true (at == n) (adds_to phase page more) 0 (eq-eqb at n here) in
       count-same (λ a. is_add_to phase page a && (a.at == at)) (is_add_to phase page) more
-      (λ i d inside. let a : Added = get_or more i d in and_true (is_add_to phase page a) (a.at == at) (eq-eqb a.at at (all i d inside ∙ sym here)))
+      (λ i d inside. let a : Added = get_or more i d in
+      and_true (is_add_to phase page a) (a.at == at) (eq-eqb a.at at (all i d inside ∙ sym here)))
       ∙ sym yes
   | inr other ↦
-      let no : cond {A = ℕ} (at == n) (adds_to phase page more) 0 ≡ 0 = ap (λ (b : Bool). cond {A = ℕ} b (adds_to phase page more) 0) (ne_eqb at n other) in
+      let no : cond {A = ℕ} (at == n) (adds_to phase page more) 0 ≡ 0 =
+      ap (λ (b : Bool). cond {A = ℕ} b (adds_to phase page more) 0) (ne_eqb at n other) in
       count-none (λ a. is_add_to phase page a && (a.at == at)) more
-      (λ i d inside. let a : Added = get_or more i d in and_false (is_add_to phase page a) (a.at == at) (ne_eqb a.at at (λ same. other (sym same ∙ all i d inside))))
+      (λ i d inside. let a : Added = get_or more i d in
+      and_false (is_add_to phase page a) (a.at == at) (ne_eqb a.at at (λ same. other (sym same ∙ all i d inside))))
       ∙ sym no
 ]
   where
@@ -127,7 +148,10 @@ adds_at-all more n phase page at all = elim (cases_eq at n) [
     and_false false c is = refl
 
 -- additions at a later place do not come before an entry
-before-more : (adds more : List Added) (n at : ℕ) → at < n → All (λ a. a.at ≡ n) more → adds_before at (adds ++ more) ≡ adds_before at adds
+before-more : (adds more : List Added) (n at : ℕ)
+    → at < n
+    → All (λ a. a.at ≡ n) more
+    → adds_before at (adds ++ more) ≡ adds_before at adds
 before-more adds more n at earlier all =
     let both = sum_by-append (λ (a : Added). cond {A = ℕ} (nat_le a.at at) 1 0) adds more in
     let none =
@@ -137,48 +161,73 @@ before-more adds more n at earlier all =
     omega arith
 
 -- nor before any look of the run list, where they were made at its end
-pub looks-adds : (service : Service) (adds more : List Added) (ran : List Ran) → All (λ a. a.at ≡ length ran) more → adds_before_looks service (adds ++ more) ran ≡ adds_before_looks service adds ran
+pub looks-adds : (service : Service) (adds more : List Added) (ran : List Ran)
+    → All (λ a. a.at ≡ length ran) more
+    → adds_before_looks service (adds ++ more) ran ≡ adds_before_looks service adds ran
 looks-adds service adds more ran all =
     range-same (adds_before_look service (adds ++ more) ran) (adds_before_look service adds ran) 0 (length ran)
-    (λ i low high. ap (λ (n : ℕ). option_map (λ _. n) (option_and_then (look_ran service) (slice_get ran i))) (before-more adds more (length ran) i (omega arith) all))
+    (λ i low high. ap (λ (n : ℕ). option_map (λ _. n) (option_and_then (look_ran service) (slice_get ran i)))
+    (before-more adds more (length ran) i (omega arith) all))
 
 -- one entry more
-pub looks-push : (service : Service) (adds : List Added) (ran : List Ran) (e : Ran) → adds_before_looks service adds (ran ++ e ∷ []) ≡ adds_before_looks service adds ran ++ option_to_list (option_map (λ _. adds_before (length ran) adds) (look_ran service e))
+pub looks-push : (service : Service) (adds : List Added) (ran : List Ran) (e : Ran)
+    → adds_before_looks service adds (ran ++ e ∷ [])
+    ≡ adds_before_looks service adds ran
+    ++ option_to_list (option_map (λ _. adds_before (length ran) adds) (look_ran service e))
 looks-push service adds ran e =
     let all : List Ran = ran ++ e ∷ [] in
     let long : length all ≡ length ran + 1 = length-append ran (e ∷ []) in
-    let before : (i : ℕ) → 0 ≤ i → i < 0 + length ran → adds_before_look service adds all i ≡ adds_before_look service adds ran i =
-    λ i low high. ap (λ o. option_map (λ _. adds_before i adds) (option_and_then (look_ran service) o)) (slice_get-before ran (e ∷ []) i (omega arith))
+    let before : (i : ℕ) → 0 ≤ i → i < 0 + length ran
+    → adds_before_look service adds all i ≡ adds_before_look service adds ran i =
+    λ i low high. ap (λ o. option_map (λ _. adds_before i adds) (option_and_then (look_ran service) o))
+    (slice_get-before ran (e ∷ []) i (omega arith))
     in
-    let last : adds_before_look service adds all (0 + length ran) ≡ option_map (λ _. adds_before (length ran) adds) (look_ran service e) =
+    let last : adds_before_look service adds all (0 + length ran)
+    ≡ option_map (λ _. adds_before (length ran) adds) (look_ran service e) =
     ap (λ (k : ℕ). adds_before_look service adds all k) (zero-add (length ran)) ∙
-    ap (λ o. option_map (λ _. adds_before (length ran) adds) (option_and_then (look_ran service) o)) (slice_get-at_end ran e)
+    ap (λ o. option_map (λ _. adds_before (length ran) adds) (option_and_then (look_ran service) o))
+    (slice_get-at_end ran e)
     in
     ap (λ (n : ℕ). filter_map (adds_before_look service adds all) (range_with_len 0 n)) long
     ∙ (range-more (adds_before_look service adds all) 0 (length ran)
-    ∙ (λ m. range-same (adds_before_look service adds all) (adds_before_look service adds ran) 0 (length ran) before m ++ option_to_list (last m)))
+    ∙ (λ m. range-same (adds_before_look service adds all) (adds_before_look service adds ran) 0 (length ran) before m
+    ++ option_to_list (last m)))
 
 -- what is known of additions that are noted after these
-pub record AreMore (service : Service) (ran : List Ran) (adds more : List Added) (at : ℕ) (likes : ℕ → ℕ → ℕ) : Type 0 where
+pub record AreMore (service : Service) (ran : List Ran) (adds more : List Added) (at : ℕ)
+    (likes : ℕ → ℕ → ℕ) : Type 0 where
   pub at_end : All (λ a. a.at ≡ at) more
   pub each : All (IsOfLikes service ran) more
   pub plain : (phase page : ℕ) → is_split_in service phase page ≡ false → adds_to phase page more ≡ likes phase page
-  pub split : (phase page : ℕ) → is_split_in service phase page ≡ true → adds_to phase page adds + adds_to phase page more ≤ 1
+  pub split : (phase page : ℕ) → is_split_in service phase page ≡ true
+      → adds_to phase page adds + adds_to phase page more ≤ 1
 
 -- none
-pub no-more : (service : Service) (ran : List Ran) (adds : List Added) (at : ℕ) (likes : ℕ → ℕ → ℕ) → ((phase page : ℕ) → is_split_in service phase page ≡ false → likes phase page ≡ 0) → ((phase page : ℕ) → is_split_in service phase page ≡ true → adds_to phase page adds ≤ 1) → AreMore service ran adds [] at likes
+pub no-more : (service : Service) (ran : List Ran) (adds : List Added) (at : ℕ) (likes : ℕ → ℕ → ℕ)
+    → ((phase page : ℕ) → is_split_in service phase page ≡ false → likes phase page ≡ 0)
+    → ((phase page : ℕ) → is_split_in service phase page ≡ true → adds_to phase page adds ≤ 1)
+    → AreMore service ran adds [] at likes
 no-more service ran adds at likes none once = record {
   at_end = λ i d inside. absurd (omega arith);
   each = λ i d inside. absurd (omega arith);
   plain = λ phase page is. sym (none phase page is);
-  split = λ phase page is. let few = once phase page is in let nothing : adds_to phase page [] ≡ 0 = refl in omega arith;
+  split = λ phase page is. let few = once phase page is in
+      let nothing : adds_to phase page [] ≡ 0 = refl in omega arith;
 }
 
 -- an entry runs, and these additions are noted before
-pub noted-push : (service : Service) (additions later_additions : List Addition) (reads later_reads : List PageRead) (adds more all : List Added) (ran : List Ran) (e : Ran) (likes : ℕ → ℕ → ℕ) → IsNoted service additions reads adds ran → AddsLikes service e likes → all ≡ adds ++ more
-    → AreMore service (ran ++ e ∷ []) adds more (length ran) likes → All (λ a. is_split_in service a.phase a.page ≡ true → (likes a.phase a.page ≡ 0) × (a.phase < e.phase)) adds
-    → later_additions ≡ map addition_of all → map (λ r. r.after) later_reads ≡ adds_before_looks service all (ran ++ e ∷ []) → IsNoted service later_additions later_reads all (ran ++ e ∷ [])
-noted-push service additions later_additions reads later_reads adds more all ran e likes old by all_is new kept are looks =
+pub noted-push : (service : Service) (additions later_additions : List Addition) (reads later_reads : List PageRead)
+    (adds more all : List Added) (ran : List Ran) (e : Ran) (likes : ℕ → ℕ → ℕ)
+    → IsNoted service additions reads adds ran
+    → AddsLikes service e likes
+    → all ≡ adds ++ more
+    → AreMore service (ran ++ e ∷ []) adds more (length ran) likes
+    → All (λ a. is_split_in service a.phase a.page ≡ true → (likes a.phase a.page ≡ 0) × (a.phase < e.phase)) adds
+    → later_additions ≡ map addition_of all
+    → map (λ r. r.after) later_reads ≡ adds_before_looks service all (ran ++ e ∷ [])
+    → IsNoted service later_additions later_reads all (ran ++ e ∷ [])
+noted-push service additions later_additions reads later_reads adds more all ran e likes old by all_is new kept are
+    looks =
     let now : List Ran = ran ++ e ∷ [] in
     let long = length-append ran (e ∷ []) in
     let noted : IsNoted service later_additions later_reads (adds ++ more) now =
@@ -197,13 +246,16 @@ noted-push service additions later_additions reads later_reads adds more all ran
             split = λ is.
                 let none = (kept i d inside is).0 in
                 let later_phase = lt-leb e.phase a.phase (kept i d inside is).1 in
-                let uncounted : cond {A = ℕ} (nat_le e.phase a.phase) 1 0 ≡ 0 = ap (λ (b : Bool). cond {A = ℕ} b 1 0) later_phase in
+                let uncounted : cond {A = ℕ} (nat_le e.phase a.phase) 1 0 ≡ 0 =
+                ap (λ (b : Bool). cond {A = ℕ} b 1 0) later_phase in
                 let counted = sum_by_push (λ (x : Ran). cond {A = ℕ} (nat_le x.phase a.phase) 1 0) ran e in
                 let at_is = (o.split is).2 in
                 let all_likes = by ran a.phase a.page in
                 let later = by (drop a.at ran) a.phase a.page in
-                let behind : likes_within service a.page (drop a.at now) a.phase ≡ likes_within service a.page (drop a.at ran ++ e ∷ []) a.phase =
-                ap (λ (xs : List Ran). likes_within service a.page xs a.phase) (drop-append-le a.at ran (e ∷ []) (old.at i d inside))
+                let behind : likes_within service a.page (drop a.at now) a.phase
+                ≡ likes_within service a.page (drop a.at ran ++ e ∷ []) a.phase =
+                ap (λ (xs : List Ran). likes_within service a.page xs a.phase)
+                (drop-append-le a.at ran (e ∷ []) (old.at i d inside))
                 in
                 let n_is = (o.split is).0 in
                 let none_behind = (o.split is).1 in
@@ -211,7 +263,8 @@ noted-push service additions later_additions reads later_reads adds more all ran
           })
           new.each;
       plain = λ phase page at is.
-          let both = sum_by-append (λ (a : Added). cond {A = ℕ} (is_add_to phase page a && (a.at == at)) 1 0) adds more in
+          let both = sum_by-append
+          (λ (a : Added). cond {A = ℕ} (is_add_to phase page a && (a.at == at)) 1 0) adds more in
           let here = old.plain phase page at is in
           let last = adds_at-all more (length ran) phase page at new.at_end in
           let count = ap (λ (k : ℕ). cond {A = ℕ} (at == length ran) k 0) (new.plain phase page is) in
@@ -227,10 +280,16 @@ noted-push service additions later_additions reads later_reads adds more all ran
     subst (λ (xs : List Added). IsNoted service later_additions later_reads xs now) (sym all_is) noted
 
 -- additions are noted while no entry runs
-pub noted-merged : (service : Service) (additions new_additions : List Addition) (reads : List PageRead) (adds more : List Added) (ran : List Ran) → IsNoted service additions reads adds ran → AreMore service ran adds more (length ran) (λ _ _. 0) → additions ++ new_additions ≡ map addition_of (adds ++ more) → IsNoted service (additions ++ new_additions) reads (adds ++ more) ran
+pub noted-merged : (service : Service) (additions new_additions : List Addition) (reads : List PageRead)
+    (adds more : List Added) (ran : List Ran)
+    → IsNoted service additions reads adds ran
+    → AreMore service ran adds more (length ran) (λ _ _. 0)
+    → additions ++ new_additions ≡ map addition_of (adds ++ more)
+    → IsNoted service (additions ++ new_additions) reads (adds ++ more) ran
 noted-merged service additions new_additions reads adds more ran old new are = record {
   additions_are = are;
-  at = All-append (λ a. a.at ≤ length ran) adds more old.at (λ i d inside. let here = new.at_end i d inside in omega arith);
+  at = All-append (λ a. a.at ≤ length ran) adds more old.at
+      (λ i d inside. let here = new.at_end i d inside in omega arith);
   each = All-append (IsOfLikes service ran) adds more old.each new.each;
   plain = λ phase page at is.
       let both = sum_by-append (λ (a : Added). cond {A = ℕ} (is_add_to phase page a && (a.at == at)) 1 0) adds more in

@@ -34,14 +34,19 @@ module _ {A B : Type 0} (f : A → B) where
 
   All-map : (P : B → Type 0) (xs : List A) → All (λ x. P (f x)) xs → All P (map f xs)
   All-map P [] all = All-nil P
-  All-map P (x ∷ xs) all = All-cons P (f x) (map f xs) (All-head (λ y. P (f y)) x xs all) (All-map P xs (All-tail (λ y. P (f y)) x xs all))
+  All-map P (x ∷ xs) all =
+      All-cons P (f x) (map f xs) (All-head (λ y. P (f y)) x xs all) (All-map P xs (All-tail (λ y. P (f y)) x xs all))
 
   -- how many images pass a test
   count-map : (p : B → Bool) (xs : List A) → count_by p (map f xs) ≡ count_by (λ x. p (f x)) xs
   count-map p [] = refl
   count-map p (x ∷ xs) =
       let rest = count-map p xs in
-      omega (arith, sum_by-cons (λ y. cond {A = ℕ} (p y) 1 0) (f x) (map f xs), sum_by-cons (λ y. cond {A = ℕ} (p (f y)) 1 0) x xs)
+      omega (
+        arith,
+        sum_by-cons (λ y. cond {A = ℕ} (p y) 1 0) (f x) (map f xs),
+        sum_by-cons (λ y. cond {A = ℕ} (p (f y)) 1 0) x xs,
+      )
 
 -- what an addition of a merge is
 abbrev IsOfSlice : ℕ → List ℕ → Addition → Type 0
@@ -55,18 +60,21 @@ merging-each k slice (suc n) =
     subst (λ (m : ℕ). All (IsOfSlice k slice) (merging k slice m)) (sym e)
     (elim (cases_eq (get_or slice n 0) 0) [
       | inl none ↦ subst (All (IsOfSlice k slice)) (sym (merging-none k slice n none)) before
-      | inr some ↦ subst (All (IsOfSlice k slice)) (sym (merging-more k slice n some)) (All-push (IsOfSlice k slice) (merging k slice n) (slice_addition k slice n) before (refl, refl, some))
+      | inr some ↦ subst (All (IsOfSlice k slice)) (sym (merging-more k slice n some))
+          (All-push (IsOfSlice k slice) (merging k slice n) (slice_addition k slice n) before (refl, refl, some))
     ])
 
 -- it makes at most one to each page
-merging-once : (k : ℕ) (slice : List ℕ) (phase page n : ℕ) → count_by (λ b. (b.phase == phase) && (b.page == page)) (merging k slice n) ≤ cond (nat_lt page n && true) 1 0
+merging-once : (k : ℕ) (slice : List ℕ) (phase page n : ℕ)
+    → count_by (λ b. (b.phase == phase) && (b.page == page)) (merging k slice n) ≤ cond (nat_lt page n && true) 1 0
 merging-once k slice phase page zero = omega arith
 merging-once k slice phase page (suc n) =
     let e : suc n ≡ n + 1 = omega arith in
     let p : Addition → Bool = λ b. (b.phase == phase) && (b.page == page) in
     let none : Bool = get_or slice n 0 == 0 in
     let last : List Addition = cond (not none) (slice_addition k slice n ∷ []) [] in
-    let more : count_by p (merging k slice (n + 1)) ≡ count_by p (merging k slice n ++ last) = ap (count_by p) (merging-next k slice n) in
+    let more : count_by p (merging k slice (n + 1)) ≡ count_by p (merging k slice n ++ last) =
+    ap (count_by p) (merging-next k slice n) in
     let both = sum_by-append (λ b. cond {A = ℕ} (p b) 1 0) (merging k slice n) last in
     let before = merging-once k slice phase page n in
     let one : count_by p last ≤ cond ((page == n) && true) 1 0 = at_most (not none) in
@@ -81,13 +89,17 @@ merging-once k slice phase page (suc n) =
     none_of true c is = ap (λ (x : Bool). cond {A = ℕ} x 1 0) is
     none_of false c is = refl
 
-    at_most : (b : Bool) → count_by (λ (x : Addition). (x.phase == phase) && (x.page == page)) (cond b (slice_addition k slice n ∷ []) []) ≤ cond ((page == n) && true) 1 0
+    at_most : (b : Bool)
+        → count_by (λ (x : Addition). (x.phase == phase) && (x.page == page))
+        (cond b (slice_addition k slice n ∷ []) []) ≤ cond ((page == n) && true) 1 0
     at_most false = omega arith
     at_most true =
-        let single = sum_by-cons (λ (x : Addition). cond {A = ℕ} ((x.phase == phase) && (x.page == page)) 1 0) (slice_addition k slice n) [] in
+        let single = sum_by-cons (λ (x : Addition). cond {A = ℕ} ((x.phase == phase) && (x.page == page)) 1 0)
+        (slice_addition k slice n) [] in
         elim (cases_eq n page) [
           | inl same ↦
-              let yes : cond {A = ℕ} ((page == n) && true) 1 0 ≡ 1 = ap (λ (b : Bool). cond {A = ℕ} (b && true) 1 0) (eq-eqb page n (sym same)) in
+              let yes : cond {A = ℕ} ((page == n) && true) 1 0 ≡ 1 =
+              ap (λ (b : Bool). cond {A = ℕ} (b && true) 1 0) (eq-eqb page n (sym same)) in
               let low = few ((k == phase) && (n == page)) in
               omega arith
           | inr other ↦
@@ -96,14 +108,22 @@ merging-once k slice phase page (suc n) =
         ]
 
 -- where nothing was added to a page in a phase, nothing is its sum
-added-none : (phase page : ℕ) (adds : List Added) → All (λ a. is_add_to phase page a ≡ false) adds → added_in phase page (map addition_of adds) ≡ 0
+added-none : (phase page : ℕ) (adds : List Added)
+    → All (λ a. is_add_to phase page a ≡ false) adds
+    → added_in phase page (map addition_of adds) ≡ 0
 added-none phase page [] none = refl
 added-none phase page (a ∷ adds) none =
     let here = ap (λ (b : Bool). cond {A = ℕ} b a.n 0) (All-head (λ b. is_add_to phase page b ≡ false) a adds none) in
     let rest = added-none phase page adds (All-tail (λ b. is_add_to phase page b ≡ false) a adds none) in
-    omega (arith, sum_by-cons (λ (x : Addition). cond {A = ℕ} ((x.phase == phase) && (x.page == page)) x.likes 0) (addition_of a) (map addition_of adds))
+    omega (
+      arith,
+      sum_by-cons (λ (x : Addition). cond {A = ℕ} ((x.phase == phase) && (x.page == page)) x.likes 0)
+          (addition_of a) (map addition_of adds),
+    )
 
-pub nothing-added : (phase page : ℕ) (adds : List Added) → adds_to phase page adds ≡ 0 → added_in phase page (map addition_of adds) ≡ 0
+pub nothing-added : (phase page : ℕ) (adds : List Added)
+    → adds_to phase page adds ≡ 0
+    → added_in phase page (map addition_of adds) ≡ 0
 nothing-added phase page adds none = added-none phase page adds (none-passes (is_add_to phase page) adds none)
 
 -- what is noted are the additions
@@ -112,21 +132,34 @@ noted-are n [] = refl
 noted-are n (b ∷ adds) = ap (λ (xs : List Addition). b ∷ xs) (noted-are n adds)
 
 -- the additions of a merge are noted, by a worker that notes them
-pub merge-noted : (service : Service) (v : WorkerView) (adds : List Addition) → Merges (phase_at v) v.slice (pages_of v.post) adds → IsTallied service v → v.notes ≡ true → IsNoted service v.post.additions v.post.reads v.adds v.ran → IsUnmerged service v.adds v.ran (state.Runs (phase_at v)) → IsSliceInSplit v.post v.slice → ((page : ℕ) → is_split_in service (phase_at v) page ≡ slices v.post page)
-    → IsNoted service (v.post.additions ++ adds) v.post.reads (v.adds ++ noted v adds) v.ran × IsUnmerged service (v.adds ++ noted v adds) v.ran (state.Answered (phase_at v))
+pub merge-noted : (service : Service) (v : WorkerView) (adds : List Addition)
+    → Merges (phase_at v) v.slice (pages_of v.post) adds
+    → IsTallied service v
+    → v.notes ≡ true
+    → IsNoted service v.post.additions v.post.reads v.adds v.ran
+    → IsUnmerged service v.adds v.ran (state.Runs (phase_at v))
+    → IsSliceInSplit v.post v.slice
+    → ((page : ℕ) → is_split_in service (phase_at v) page ≡ slices v.post page)
+    → IsNoted service (v.post.additions ++ adds) v.post.reads (v.adds ++ noted v adds) v.ran
+    × IsUnmerged service (v.adds ++ noted v adds) v.ran (state.Answered (phase_at v))
 merge-noted service v adds merges t notes was un kept alike =
     let k = phase_at v in
     let note : Addition → Added = noted_at (length v.ran) in
     let more : List Added = map note adds in
     let Q : Addition → Type 0 = IsOfSlice k v.slice in
-    let each : All Q adds = All-of_map from_zero Q adds (subst (All Q) (sym merges) (merging-each k v.slice (pages_of v.post))) in
-    let is_split : (i : ℕ) (d : Addition) → i < length adds → is_split_in service (get_or adds i d).phase (get_or adds i d).page ≡ true =
+    let each : All Q adds =
+    All-of_map from_zero Q adds (subst (All Q) (sym merges) (merging-each k v.slice (pages_of v.post))) in
+    let is_split : (i : ℕ) (d : Addition) → i < length adds
+    → is_split_in service (get_or adds i d).phase (get_or adds i d).page ≡ true =
     λ i d inside.
     (let b : Addition = get_or adds i d in
     let q = each i d inside in
-    ap (λ (phase : ℕ). is_split_in service phase b.page) q.0 ∙ (alike b.page ∙ (kept b.page (λ none. q.2 (q.1 ∙ none))).1))
+    ap (λ (phase : ℕ). is_split_in service phase b.page) q.0
+    ∙ (alike b.page ∙ (kept b.page (λ none. q.2 (q.1 ∙ none))).1))
     in
-    let count : (phase page : ℕ) → adds_to phase page more ≡ count_by (λ b. (b.phase == phase) && (b.page == page)) adds = λ phase page. count-map note (is_add_to phase page) adds in
+    let count : (phase page : ℕ)
+    → adds_to phase page more ≡ count_by (λ b. (b.phase == phase) && (b.page == page)) adds =
+    λ phase page. count-map note (is_add_to phase page) adds in
     let once : (phase page : ℕ) → adds_to phase page more ≤ 1 =
     λ phase page.
     (let p : Addition → Bool = λ b. (b.phase == phase) && (b.page == page) in
@@ -140,7 +173,9 @@ merge-noted service v adds merges t notes was un kept alike =
     let none_in : (phase page : ℕ) → phase ≢ k → adds_to phase page more ≡ 0 =
     λ phase page other.
     count phase page ∙ count-none (λ (b : Addition). (b.phase == phase) && (b.page == page)) adds
-    (λ i d inside. let b : Addition = get_or adds i d in ap (λ (x : Bool). x && (b.page == page)) (ne_eqb b.phase phase (λ same. other (sym same ∙ (each i d inside).0))))
+    (λ i d inside. let b : Addition = get_or adds i d in
+    ap (λ (x : Bool). x && (b.page == page))
+    (ne_eqb b.phase phase (λ same. other (sym same ∙ (each i d inside).0))))
     in
     let new : AreMore service v.ran v.adds more (length v.ran) (λ _ _. 0) =
     record {
@@ -153,27 +188,36 @@ merge-noted service v adds merges t notes was un kept alike =
             some = (let more_than = q.2 in positive b.likes more_than);
             plain = λ plain. (let m : false ≡ true = sym plain ∙ split_here in cc m);
             split = λ _.
-                let all : likes_within service b.page v.ran b.phase ≡ likes_within service b.page v.ran k = ap (likes_within service b.page v.ran) q.0 in
+                let all : likes_within service b.page v.ran b.phase ≡ likes_within service b.page v.ran k =
+                ap (likes_within service b.page v.ran) q.0 in
                 let by = t.by_phase k b.page in
                 let none : additions_in v.post k b.page ≡ 0 =
-                ap (added_in k b.page) was.additions_are ∙ nothing-added k b.page v.adds (un.1 b.page (ap (λ (phase : ℕ). is_split_in service phase b.page) (sym q.0) ∙ split_here))
+                ap (added_in k b.page) was.additions_are
+                ∙ nothing-added k b.page v.adds
+                (un.1 b.page (ap (λ (phase : ℕ). is_split_in service phase b.page) (sym q.0) ∙ split_here))
                 in
-                let here : cond {A = ℕ} (k == k) (get_or v.slice b.page 0) 0 ≡ get_or v.slice b.page 0 = cond-true (k == k) (get_or v.slice b.page 0) 0 (eq-eqb k k refl) in
+                let here : cond {A = ℕ} (k == k) (get_or v.slice b.page 0) 0 ≡ get_or v.slice b.page 0 =
+                cond-true (k == k) (get_or v.slice b.page 0) 0 (eq-eqb k k refl) in
                 let likes = q.1 in
                 let behind : likes_within service b.page (drop (length v.ran) v.ran) b.phase ≡ 0 =
-                ap (λ (xs : List Ran). likes_within service b.page xs b.phase) (drop_all (length v.ran) v.ran (omega arith))
+                ap (λ (xs : List Ran). likes_within service b.page xs b.phase)
+                (drop_all (length v.ran) v.ran (omega arith))
                 in
                 let all_before : length v.ran ≡ count_by (λ (e : Ran). nat_le e.phase b.phase) v.ran =
-                sym (count-all (λ (e : Ran). nat_le e.phase b.phase) v.ran (λ j x within. let e : Ran = get_or v.ran j x in let low = un.2 j x within in let same = q.0 in le-leb e.phase b.phase (omega arith)))
+                sym (count-all (λ (e : Ran). nat_le e.phase b.phase) v.ran
+                (λ j x within. let e : Ran = get_or v.ran j x in
+                let low = un.2 j x within in let same = q.0 in le-leb e.phase b.phase (omega arith)))
                 in
                 (omega arith, behind, all_before);
           });
       plain = λ phase page is.
           count phase page ∙ count-none (λ (b : Addition). (b.phase == phase) && (b.page == page)) adds
-          (λ i d inside. let b : Addition = get_or adds i d in apart service b.phase b.page phase page true false (is_split i d inside) is (λ m. cc m));
+          (λ i d inside. let b : Addition = get_or adds i d in
+          apart service b.phase b.page phase page true false (is_split i d inside) is (λ m. cc m));
       split = λ phase page is. elim (cases_eq phase k) [
         | inl same ↦
-            let none = ap (λ (j : ℕ). adds_to j page v.adds) same ∙ un.1 page (ap (λ (j : ℕ). is_split_in service j page) (sym same) ∙ is) in
+            let none = ap (λ (j : ℕ). adds_to j page v.adds) same
+            ∙ un.1 page (ap (λ (j : ℕ). is_split_in service j page) (sym same) ∙ is) in
             let few = once phase page in
             omega arith
         | inr other ↦
@@ -183,11 +227,14 @@ merge-noted service v adds merges t notes was un kept alike =
       ];
     }
     in
-    subst (λ (xs : List Added). IsNoted service (v.post.additions ++ adds) v.post.reads (v.adds ++ xs) v.ran × IsUnmerged service (v.adds ++ xs) v.ran (state.Answered (phase_at v))) (sym (noted-each v adds notes)) (
+    subst (λ (xs : List Added). IsNoted service (v.post.additions ++ adds) v.post.reads (v.adds ++ xs) v.ran
+    × IsUnmerged service (v.adds ++ xs) v.ran (state.Answered (phase_at v))) (sym (noted-each v adds notes)) (
       noted-merged service v.post.additions adds v.post.reads v.adds more v.ran was new
-          ((λ m. was.additions_are m ++ sym (noted-are (length v.ran) adds) m) ∙ sym (map-append addition_of v.adds more)),
+          ((λ m. was.additions_are m ++ sym (noted-are (length v.ran) adds) m)
+          ∙ sym (map-append addition_of v.adds more)),
       (
-        All-append (λ a. a.phase ≤ k) v.adds more un.0 (All-map note (λ a. a.phase ≤ k) adds (λ i d inside. let q = (each i d inside).0 in omega arith)),
+        All-append (λ a. a.phase ≤ k) v.adds more un.0
+            (All-map note (λ a. a.phase ≤ k) adds (λ i d inside. let q = (each i d inside).0 in omega arith)),
         un.2,
       ),
     )
@@ -206,31 +253,42 @@ noted-nothing service = record {
   additions_are = refl;
   at = λ i d inside. absurd (omega arith);
   each = λ i d inside. absurd (omega arith);
-  plain = λ phase page at is. sym (ap (λ o. likes_within service page (option_to_list o) phase) (slice_get_past [] at (omega arith)));
+  plain = λ phase page at
+      is. sym (ap (λ o. likes_within service page (option_to_list o) phase) (slice_get_past [] at (omega arith)));
   split = λ phase page is. omega arith;
   looks = refl;
 }
 
 -- where all likes were added, there is one addition to a page that is split in the phase, if it has any
-pub one-of_likes : (service : Service) (additions : List Addition) (reads : List PageRead) (adds : List Added) (ran : List Ran) (phase page : ℕ) → IsNoted service additions reads adds ran → is_split_in service phase page ≡ true → likes_within service page ran phase ≡ added_in phase page additions → adds_to phase page adds ≡ cond (likes_within service page ran phase == 0) 0 1
+pub one-of_likes : (service : Service) (additions : List Addition) (reads : List PageRead) (adds : List Added)
+    (ran : List Ran) (phase page : ℕ)
+    → IsNoted service additions reads adds ran
+    → is_split_in service phase page ≡ true
+    → likes_within service page ran phase ≡ added_in phase page additions
+    → adds_to phase page adds ≡ cond (likes_within service page ran phase == 0) 0 1
 one-of_likes service additions reads adds ran phase page noted is sums =
     let likes : ℕ = likes_within service page ran phase in
     elim (cases_eq likes 0) [
       | inl none ↦
-          let zero_is : cond {A = ℕ} (likes == 0) 0 1 ≡ 0 = ap (λ (b : Bool). cond {A = ℕ} b 0 1) (eq-eqb likes 0 none) in
-          count-none (is_add_to phase page) adds (λ i d inside. no_add (get_or adds i d) (noted.each i d inside) none) ∙ sym zero_is
+          let zero_is : cond {A = ℕ} (likes == 0) 0 1 ≡ 0 =
+          ap (λ (b : Bool). cond {A = ℕ} b 0 1) (eq-eqb likes 0 none) in
+          count-none (is_add_to phase page) adds (λ i d inside. no_add (get_or adds i d) (noted.each i d inside) none)
+          ∙ sym zero_is
       | inr some ↦
-          let one_is : cond {A = ℕ} (likes == 0) 0 1 ≡ 1 = ap (λ (b : Bool). cond {A = ℕ} b 0 1) (ne_eqb likes 0 some) in
+          let one_is : cond {A = ℕ} (likes == 0) 0 1 ≡ 1 =
+          ap (λ (b : Bool). cond {A = ℕ} b 0 1) (ne_eqb likes 0 some) in
           let few = noted.split phase page is in
           elim (cases_eq (adds_to phase page adds) 0) [
             | inl nothing ↦
-                let none = sums ∙ (ap (added_in phase page) noted.additions_are ∙ nothing-added phase page adds nothing) in
+                let none = sums
+                ∙ (ap (added_in phase page) noted.additions_are ∙ nothing-added phase page adds nothing) in
                 absurd (some none)
             | inr one ↦ omega arith
           ]
     ]
   where
-    no_add : (a : Added) → IsOfLikes service ran a → likes_within service page ran phase ≡ 0 → is_add_to phase page a ≡ false
+    no_add : (a : Added) → IsOfLikes service ran a → likes_within service page ran phase ≡ 0
+        → is_add_to phase page a ≡ false
     no_add a o none = by_test (is_add_to phase page a) refl
       where
         by_test : (b : Bool) → is_add_to phase page a ≡ b → is_add_to phase page a ≡ false
@@ -239,8 +297,10 @@ one-of_likes service additions reads adds ran phase page noted is sums =
             let both = and_parts (a.phase == phase) (a.page == page) e in
             let in_phase = eqb-true a.phase phase both.0 in
             let of_page = eqb-true a.page page both.1 in
-            let here : is_split_in service a.phase a.page ≡ true = (λ m. is_split_in service (in_phase m) (of_page m)) ∙ is in
-            let all : likes_within service a.page ran a.phase ≡ likes_within service page ran phase = λ m. likes_within service (of_page m) ran (in_phase m) in
+            let here : is_split_in service a.phase a.page ≡ true =
+            (λ m. is_split_in service (in_phase m) (of_page m)) ∙ is in
+            let all : likes_within service a.page ran a.phase ≡ likes_within service page ran phase =
+            λ m. likes_within service (of_page m) ran (in_phase m) in
             let n_is = (o.split here).0 in
             let likes = o.some in
             absurd (omega arith)

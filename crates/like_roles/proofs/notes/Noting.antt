@@ -35,9 +35,12 @@ flip a b = elim (cases_eq a b) [
 ]
 
 -- an entry that ran an accepted like is one of its page in its phase
-adds-like : (service : Service) (e : Ran) (l : AcceptedLike) → like_ran service e ≡ Some l → AddsLikes service e (λ phase page. cond ((e.phase == phase) && (l.page == page)) 1 0)
+adds-like : (service : Service) (e : Ran) (l : AcceptedLike)
+    → like_ran service e ≡ Some l
+    → AddsLikes service e (λ phase page. cond ((e.phase == phase) && (l.page == page)) 1 0)
 adds-like service e l is xs phase page =
-    within-one service xs e l page phase is ∙ ap (λ (n : ℕ). likes_within service page xs phase + n) (both (e.phase == phase) (l.page == page))
+    within-one service xs e l page phase is
+    ∙ ap (λ (n : ℕ). likes_within service page xs phase + n) (both (e.phase == phase) (l.page == page))
   where
     both : (b c : Bool) → cond {A = ℕ} b (cond c 1 0) 0 ≡ cond (b && c) 1 0
     both true c = refl
@@ -49,10 +52,13 @@ adds-none service e none xs phase page = within-none service xs e page phase non
 
 -- what stands of the additions, where an entry is noted
 abbrev IsNotedNow : Service → ℕ → WorkerView → List Ran → Type 0
-IsNotedNow service phase w ran = IsNoted service w.post.additions w.post.reads w.adds ran × IsUnmerged service w.adds ran (state.Runs phase)
+IsNotedNow service phase w ran =
+    IsNoted service w.post.additions w.post.reads w.adds ran × IsUnmerged service w.adds ran (state.Runs phase)
 
 -- additions to pages that are split in their phase are of earlier phases than the one that runs
-earlier : (service : Service) (adds : List Added) (ran : List Ran) (k : ℕ) → IsUnmerged service adds ran (state.Runs k) → All (λ a. is_split_in service a.phase a.page ≡ true → a.phase < k) adds
+earlier : (service : Service) (adds : List Added) (ran : List Ran) (k : ℕ)
+    → IsUnmerged service adds ran (state.Runs k)
+    → All (λ a. is_split_in service a.phase a.page ≡ true → a.phase < k) adds
 earlier service adds ran k un i d inside is =
     let a : Added = get_or adds i d in
     let low = un.0 i d inside in
@@ -60,33 +66,55 @@ earlier service adds ran k un i d inside is =
       | inl less ↦ less
       | inr past ↦
           let same : a.phase ≡ k = omega arith in
-          let none = none-passes (is_add_to k a.page) adds (un.1 a.page (ap (λ (j : ℕ). is_split_in service j a.page) (sym same) ∙ is)) i d inside in
+          let none = none-passes (is_add_to k a.page) adds
+          (un.1 a.page (ap (λ (j : ℕ). is_split_in service j a.page) (sym same) ∙ is)) i d inside in
           let yes : is_add_to k a.page a ≡ true = λ m. eq-eqb a.phase k same m && eq-eqb a.page a.page refl m in
           let both : true ≡ false = sym yes ∙ none in
           absurd (cc both)
     ]
 
 -- one entry more of that phase
-unmerged-push : (service : Service) (adds : List Added) (ran : List Ran) (e : Ran) (k : ℕ) → e.phase ≡ k → IsUnmerged service adds ran (state.Runs k) → IsUnmerged service adds (ran ++ e ∷ []) (state.Runs k)
+unmerged-push : (service : Service) (adds : List Added) (ran : List Ran) (e : Ran) (k : ℕ)
+    → e.phase ≡ k
+    → IsUnmerged service adds ran (state.Runs k)
+    → IsUnmerged service adds (ran ++ e ∷ []) (state.Runs k)
 unmerged-push service adds ran e k now un = (un.0, un.1, All-push (λ x. x.phase ≤ k) ran e un.2 (omega arith))
 
 -- an entry that is no accepted like
-no_like : (service : Service) (v : WorkerView) (e : Ran) (reads : List PageRead) → IsNoted service v.post.additions v.post.reads v.adds v.ran → All (λ a. is_split_in service a.phase a.page ≡ true → a.phase < e.phase) v.adds → like_ran service e ≡ None → map (λ r. r.after) reads ≡ adds_before_looks service v.adds (v.ran ++ e ∷ []) → IsNoted service v.post.additions reads v.adds (v.ran ++ e ∷ [])
+no_like : (service : Service) (v : WorkerView) (e : Ran) (reads : List PageRead)
+    → IsNoted service v.post.additions v.post.reads v.adds v.ran
+    → All (λ a. is_split_in service a.phase a.page ≡ true → a.phase < e.phase) v.adds
+    → like_ran service e ≡ None
+    → map (λ r. r.after) reads ≡ adds_before_looks service v.adds (v.ran ++ e ∷ [])
+    → IsNoted service v.post.additions reads v.adds (v.ran ++ e ∷ [])
 no_like service v e reads old before none shows =
-    noted-push service v.post.additions v.post.additions v.post.reads reads v.adds [] v.adds v.ran e (λ _ _. 0) old (adds-none service e none) (sym (append-nil v.adds))
+    noted-push service v.post.additions v.post.additions v.post.reads reads v.adds [] v.adds v.ran e (λ _ _. 0) old
+    (adds-none service e none) (sym (append-nil v.adds))
     (no-more service (v.ran ++ e ∷ []) v.adds (length v.ran) (λ _ _. 0) (λ _ _ _. refl) old.split)
     (λ i d inside is. (refl, before i d inside is))
     old.additions_are
     shows
 
 -- one that ran no look has none before it
-no_look : (service : Service) (adds : List Added) (ran : List Ran) (e : Ran) → look_ran service e ≡ None → adds_before_looks service adds (ran ++ e ∷ []) ≡ adds_before_looks service adds ran
+no_look : (service : Service) (adds : List Added) (ran : List Ran) (e : Ran)
+    → look_ran service e ≡ None
+    → adds_before_looks service adds (ran ++ e ∷ []) ≡ adds_before_looks service adds ran
 no_look service adds ran e none =
     looks-push service adds ran e
-    ∙ (ap (λ o. adds_before_looks service adds ran ++ option_to_list (option_map (λ _. adds_before (length ran) adds) o)) none ∙ append-nil (adds_before_looks service adds ran))
+    ∙ (ap (λ o. adds_before_looks service adds ran
+    ++ option_to_list (option_map (λ _. adds_before (length ran) adds) o)) none
+    ∙ append-nil (adds_before_looks service adds ran))
 
 -- an accepted like
-one_like : (service : Service) (v : WorkerView) (e : Ran) (page old user : ℕ) → v.notes ≡ true → IsNoted service v.post.additions v.post.reads v.adds v.ran → IsUnmerged service v.adds v.ran (state.Runs (phase_at v)) → e.phase ≡ phase_at v → like_ran service e ≡ Some (record { user = user; page = page }) → look_ran service e ≡ None → is_split_in service (phase_at v) page ≡ slices v.post page → IsNotedNow service (phase_at v) (counted v page old) (v.ran ++ e ∷ [])
+one_like : (service : Service) (v : WorkerView) (e : Ran) (page old user : ℕ)
+    → v.notes ≡ true
+    → IsNoted service v.post.additions v.post.reads v.adds v.ran
+    → IsUnmerged service v.adds v.ran (state.Runs (phase_at v))
+    → e.phase ≡ phase_at v
+    → like_ran service e ≡ Some (record { user = user; page = page })
+    → look_ran service e ≡ None
+    → is_split_in service (phase_at v) page ≡ slices v.post page
+    → IsNotedNow service (phase_at v) (counted v page old) (v.ran ++ e ∷ [])
 one_like service v e page old user notes was un now like no_look_ran alike = by_test (slices v.post page) refl
   where
     k : ℕ
@@ -102,22 +130,32 @@ one_like service v e page old user notes was un now like no_look_ran alike = by_
     one phase q = cond ((k == phase) && (page == q)) 1 0
 
     by : AddsLikes service e one
-    by xs phase q = adds-like service e (record { user = user; page = page }) like xs phase q ∙ ap (λ (j : ℕ). likes_within service q xs phase + cond ((j == phase) && (page == q)) 1 0) now
+    by xs phase q =
+        adds-like service e (record { user = user; page = page }) like xs phase q
+        ∙ ap (λ (j : ℕ). likes_within service q xs phase + cond ((j == phase) && (page == q)) 1 0) now
 
     before : All (λ a. is_split_in service a.phase a.page ≡ true → a.phase < e.phase) v.adds
     before i d inside is = let low = earlier service v.adds v.ran k un i d inside is in omega arith
 
-    none_else : (phase q : ℕ) (s t : Bool) → is_split_in service k page ≡ s → is_split_in service phase q ≡ t → s ≢ t → one phase q ≡ 0
-    none_else phase q s t is other differ = ap (λ (b : Bool). cond {A = ℕ} b 1 0) (apart service k page phase q s t is other differ)
+    none_else : (phase q : ℕ) (s t : Bool) → is_split_in service k page ≡ s → is_split_in service phase q ≡ t → s ≢ t
+        → one phase q ≡ 0
+    none_else phase q s t is other differ =
+        ap (λ (b : Bool). cond {A = ℕ} b 1 0) (apart service k page phase q s t is other differ)
 
-    in_slice : is_split_in service k page ≡ true → IsNoted service v.post.additions v.post.reads v.adds (v.ran ++ e ∷ []) × IsUnmerged service v.adds (v.ran ++ e ∷ []) (state.Runs k)
+    in_slice : is_split_in service k page ≡ true
+        → IsNoted service v.post.additions v.post.reads v.adds (v.ran ++ e ∷ [])
+        × IsUnmerged service v.adds (v.ran ++ e ∷ []) (state.Runs k)
     in_slice is = (
-      noted-push service v.post.additions v.post.additions v.post.reads v.post.reads v.adds [] v.adds v.ran e one was by (sym (append-nil v.adds))
-          (no-more service (v.ran ++ e ∷ []) v.adds (length v.ran) one (λ phase q other. none_else phase q true false is other (λ m. cc m)) was.split)
+      noted-push service v.post.additions v.post.additions v.post.reads v.post.reads v.adds [] v.adds v.ran e one was by
+          (sym (append-nil v.adds))
+          (no-more service (v.ran ++ e ∷ []) v.adds (length v.ran) one
+          (λ phase q other. none_else phase q true false is other (λ m. cc m)) was.split)
           (λ i d inside split.
           let a : Added = get_or v.adds i d in
-          let none = none-passes (is_add_to k page) v.adds (un.1 page is) i d inside in
-          (ap (λ (b : Bool). cond {A = ℕ} b 1 0) ((λ m. flip k a.phase m && flip page a.page m) ∙ none), before i d inside split))
+          let none = none-passes (is_add_to k page) v.adds (un.1 page is) i d inside in (
+            ap (λ (b : Bool). cond {A = ℕ} b 1 0) ((λ m. flip k a.phase m && flip page a.page m) ∙ none),
+            before i d inside split,
+          ))
           was.additions_are
           (was.looks ∙ sym (no_look service v.adds v.ran e no_look_ran)),
       unmerged-push service v.adds v.ran e k now un,
@@ -130,12 +168,21 @@ one_like service v e page old user notes was un now like no_look_ran alike = by_
     on_board is =
         let a : Added = noted_at (length v.ran) new in
         let all : List Added = v.adds ++ a ∷ [] in
-        let count : (phase q : ℕ) → adds_to phase q (a ∷ []) ≡ one phase q = λ phase q. (sum_by-cons (λ (b : Added). cond {A = ℕ} (is_add_to phase q b) 1 0) a [] ∙ omega arith) in
-        subst (λ (xs : List Added). P (record (with_addition v page old 1) { adds = v.adds ++ xs })) (sym (noted-each v (new ∷ []) notes)) (
-          noted-push service v.post.additions (v.post.additions ++ new ∷ []) v.post.reads v.post.reads v.adds (a ∷ []) all v.ran e one was by refl
+        let count : (phase q : ℕ) → adds_to phase q (a ∷ []) ≡ one phase q =
+        λ phase q. (sum_by-cons (λ (b : Added). cond {A = ℕ} (is_add_to phase q b) 1 0) a [] ∙ omega arith) in
+        subst (λ (xs : List Added). P (record (with_addition v page old 1) { adds = v.adds ++ xs }))
+        (sym (noted-each v (new ∷ []) notes)) (
+          noted-push service v.post.additions (v.post.additions ++ new ∷ []) v.post.reads v.post.reads v.adds
+              (a ∷ []) all v.ran e one was by refl
               (record {
                 at_end = one_of (λ b. b.at ≡ length v.ran) a refl;
-                each = one_of (IsOfLikes service (v.ran ++ e ∷ [])) a (record { some = omega arith; plain = λ _. refl; split = λ split. (let m = sym is ∙ split in cc m) });
+                each = one_of (IsOfLikes service (v.ran ++ e ∷ [])) a
+                    (record {
+                      some =
+                          omega arith;
+                      plain = λ _. refl;
+                      split = λ split. (let m = sym is ∙ split in cc m);
+                    });
                 plain = λ phase q other. count phase q;
                 split = λ phase q other.
                     let none = none_else phase q false true is other (λ m. cc m) in
@@ -143,9 +190,12 @@ one_like service v e page old user notes was un now like no_look_ran alike = by_
                     let same = count phase q in
                     omega arith;
               })
-              (λ i d inside other. let b : Added = get_or v.adds i d in (none_else b.phase b.page false true is other (λ m. cc m), before i d inside other))
-              (ap (λ (xs : List Addition). xs ++ new ∷ []) was.additions_are ∙ sym (map-append addition_of v.adds (a ∷ [])))
-              (was.looks ∙ sym (no_look service all v.ran e no_look_ran ∙ looks-adds service v.adds (a ∷ []) v.ran (one_of (λ b. b.at ≡ length v.ran) a refl))),
+              (λ i d inside other. let b : Added = get_or v.adds i d in
+              (none_else b.phase b.page false true is other (λ m. cc m), before i d inside other))
+              (ap (λ (xs : List Addition). xs ++ new ∷ []) was.additions_are
+              ∙ sym (map-append addition_of v.adds (a ∷ [])))
+              (was.looks ∙ sym (no_look service all v.ran e no_look_ran
+              ∙ looks-adds service v.adds (a ∷ []) v.ran (one_of (λ b. b.at ≡ length v.ran) a refl))),
           (
             All-push (λ b. b.phase ≤ k) v.adds a un.0 (omega arith),
             λ q other.
@@ -163,12 +213,22 @@ one_like service v e page old user notes was un now like no_look_ran alike = by_
         one_of Q a q (suc i) d inside = absurd (omega arith)
 
     by_test : (b : Bool) → slices v.post page ≡ b → P (counted v page old)
-    by_test true e' = subst (λ (b : Bool). P (cond b sliced (with_addition v page old 1))) (sym e') (in_slice (alike ∙ e'))
-    by_test false e' = subst (λ (b : Bool). P (cond b sliced (with_addition v page old 1))) (sym e') (on_board (alike ∙ e'))
+    by_test true e' =
+        subst (λ (b : Bool). P (cond b sliced (with_addition v page old 1))) (sym e') (in_slice (alike ∙ e'))
+    by_test false e' =
+        subst (λ (b : Bool). P (cond b sliced (with_addition v page old 1))) (sym e') (on_board (alike ∙ e'))
 
 -- whatever the answer is, of a worker that notes its additions
-pub GivesReply-noted : (service : Service) (v : WorkerView) (h : Held) (stashed : Bool) (answer : Reply) (w : WorkerView) → IsServed service v → v.notes ≡ true → IsNoted service v.post.additions v.post.reads v.adds v.ran → IsUnmerged service v.adds v.ran (state.Runs (phase_at v)) → IsAsked service h
-    → ((page : ℕ) → is_split_in service (phase_at v) page ≡ slices v.post page) → GivesReply v h.submitter h.ask.request answer w → IsNotedNow service (phase_at v) w (v.ran ++ ran_now v h stashed answer ∷ [])
+pub GivesReply-noted : (service : Service) (v : WorkerView) (h : Held) (stashed : Bool) (answer : Reply)
+    (w : WorkerView)
+    → IsServed service v
+    → v.notes ≡ true
+    → IsNoted service v.post.additions v.post.reads v.adds v.ran
+    → IsUnmerged service v.adds v.ran (state.Runs (phase_at v))
+    → IsAsked service h
+    → ((page : ℕ) → is_split_in service (phase_at v) page ≡ slices v.post page)
+    → GivesReply v h.submitter h.ask.request answer w
+    → IsNotedNow service (phase_at v) w (v.ran ++ ran_now v h stashed answer ∷ [])
 GivesReply-noted service v h stashed answer w served notes was un asked alike (refuses n a e) =
     let r = h.ask.request in
     let V-is = verdict_at-served service v h.submitter r served in
@@ -176,14 +236,18 @@ GivesReply-noted service v h stashed answer w served notes was un asked alike (r
     let no = accepted-false service.users (submitters service) h.submitter r (λ k. n (V-is ∙ k)) in
     let none : like_ran service x ≡ None = like_ran-is service x r asked.asked ∙ rw no refl in
     let no_look_ran : look_ran service x ≡ None = look_ran-is service x r asked.asked ∙ rw no refl in
-    subst (λ u. IsNotedNow service (phase_at v) u (v.ran ++ x ∷ [])) (sym e)
-    (no_like service v x v.post.reads was (earlier service v.adds v.ran (phase_at v) un) none (was.looks ∙ sym (no_look service v.adds v.ran x no_look_ran)), unmerged-push service v.adds v.ran x (phase_at v) refl un)
+    subst (λ u. IsNotedNow service (phase_at v) u (v.ran ++ x ∷ [])) (sym e) (
+      no_like service v x v.post.reads was (earlier service v.adds v.ran (phase_at v) un) none
+          (was.looks ∙ sym (no_look service v.adds v.ran x no_look_ran)),
+      unmerged-push service v.adds v.ran x (phase_at v) refl un,
+    )
 GivesReply-noted service v h stashed answer w served notes was un asked alike (likes page a o p l e) =
     let r = h.ask.request in
     let V-is = sym (verdict_at-served service v h.submitter r served) ∙ a in
     let yes = accepted-true service.users (submitters service) h.submitter r V-is in
     let x = ran_now v h stashed answer in
-    let like : like_ran service x ≡ Some (record { user = r.user; page = page }) = like_ran-is service x r asked.asked ∙ rw (yes, o, p) refl in
+    let like : like_ran service x ≡ Some (record { user = r.user; page = page }) =
+    like_ran-is service x r asked.asked ∙ rw (yes, o, p) refl in
     let no_look_ran : look_ran service x ≡ None = look_ran-is service x r asked.asked ∙ rw (yes, o) refl in
     let counts = one_like service v x page e.0 r.user notes was un refl like no_look_ran (alike page) in
     subst (λ u. IsNotedNow service (phase_at v) u (v.ran ++ x ∷ [])) (sym e.1) (counts.0, counts.1)
@@ -196,32 +260,46 @@ GivesReply-noted service v h stashed answer w served notes was un asked alike (l
     let look : look_ran service x ≡ Some page = look_ran-is service x r asked.asked ∙ rw (yes, o, p) refl in
     let read : PageRead = record { phase = phase_at v; page = page; count = count; after = length v.post.additions } in
     let all_before : adds_before (length v.ran) v.adds ≡ length v.adds =
-    count-all (λ (b : Added). nat_le b.at (length v.ran)) v.adds (λ i d inside. let b : Added = get_or v.adds i d in le-leb b.at (length v.ran) (was.at i d inside))
+    count-all (λ (b : Added). nat_le b.at (length v.ran)) v.adds
+    (λ i d inside. let b : Added = get_or v.adds i d in le-leb b.at (length v.ran) (was.at i d inside))
     in
     let as_many : length v.post.additions ≡ adds_before (length v.ran) v.adds =
     ap (λ (xs : List Addition). length xs) was.additions_are ∙ (length-map v.adds addition_of ∙ sym all_before)
     in
-    let shows : map (λ (q : PageRead). q.after) (v.post.reads ++ read ∷ []) ≡ adds_before_looks service v.adds (v.ran ++ x ∷ []) =
+    let shows : map (λ (q : PageRead). q.after) (v.post.reads ++ read ∷ [])
+    ≡ adds_before_looks service v.adds (v.ran ++ x ∷ []) =
     map-append (λ (q : PageRead). q.after) v.post.reads (read ∷ [])
     ∙ ((λ m. was.looks m ++ as_many m ∷ [])
-    ∙ sym (looks-push service v.adds v.ran x ∙ ap (λ o. adds_before_looks service v.adds v.ran ++ option_to_list (option_map (λ _. adds_before (length v.ran) v.adds) o)) look))
+    ∙ sym (looks-push service v.adds v.ran x
+    ∙ ap (λ o. adds_before_looks service v.adds v.ran
+    ++ option_to_list (option_map (λ _. adds_before (length v.ran) v.adds) o)) look))
     in
-    subst (λ u. IsNotedNow service (phase_at v) u (v.ran ++ x ∷ [])) (sym e)
-    (no_like service v x (v.post.reads ++ read ∷ []) was (earlier service v.adds v.ran (phase_at v) un) none shows, unmerged-push service v.adds v.ran x (phase_at v) refl un)
+    subst (λ u. IsNotedNow service (phase_at v) u (v.ran ++ x ∷ [])) (sym e) (
+      no_like service v x (v.post.reads ++ read ∷ []) was (earlier service v.adds v.ran (phase_at v) un) none shows,
+      unmerged-push service v.adds v.ran x (phase_at v) refl un,
+    )
 
 -- what stands where a phase runs is what stands of the worker's state
-pub unmerged-running : (service : Service) (adds : List Added) (ran : List Ran) (P : ℕ → Type 0) (s : WorkerState) → RunsSome P s → IsUnmerged service adds ran s → IsUnmerged service adds ran (state.Runs (phase_of s))
+pub unmerged-running : (service : Service) (adds : List Added) (ran : List Ran) (P : ℕ → Type 0) (s : WorkerState)
+    → RunsSome P s
+    → IsUnmerged service adds ran s
+    → IsUnmerged service adds ran (state.Runs (phase_of s))
 unmerged-running service adds ran P (state.Runs k) r u = u
 unmerged-running service adds ran P (state.Answered k) r u = absurd r
 unmerged-running service adds ran P state.Gone r u = absurd r
 
-pub running-unmerged : (service : Service) (adds : List Added) (ran : List Ran) (P : ℕ → Type 0) (s : WorkerState) → RunsSome P s → IsUnmerged service adds ran (state.Runs (phase_of s)) → IsUnmerged service adds ran s
+pub running-unmerged : (service : Service) (adds : List Added) (ran : List Ran) (P : ℕ → Type 0) (s : WorkerState)
+    → RunsSome P s
+    → IsUnmerged service adds ran (state.Runs (phase_of s))
+    → IsUnmerged service adds ran s
 running-unmerged service adds ran P (state.Runs k) r u = u
 running-unmerged service adds ran P (state.Answered k) r u = absurd r
 running-unmerged service adds ran P state.Gone r u = absurd r
 
 -- after a look
-pub unmerged-seen : (service : Service) (adds : List Added) (ran : List Ran) (sight : Sight) (s : WorkerState) → IsUnmerged service adds ran s → IsUnmerged service adds ran (seen s sight)
+pub unmerged-seen : (service : Service) (adds : List Added) (ran : List Ran) (sight : Sight) (s : WorkerState)
+    → IsUnmerged service adds ran s
+    → IsUnmerged service adds ran (seen s sight)
 unmerged-seen service adds ran sight (state.Runs k) u = u
 unmerged-seen service adds ran sight state.Gone u = u
 unmerged-seen service adds ran sight (state.Answered k) u = by_test sight.waits

@@ -12,8 +12,10 @@ join_seat-requires c =
     let board = c.args.board.now in
     let seat : WorkerSeat = c.in-Some.seat in (
       c.loop-seat.invariant.board ∙ c.requires.here,
-      All-last (λ (s : WorkerSeat). seat_board s ≡ board_id board) _ _ seat c.in-Some.ensures.items c.loop-seat.invariant.seats,
+      All-last (λ (s : WorkerSeat). seat_board s ≡ board_id board) _ _ seat c.in-Some.ensures.items
+          c.loop-seat.invariant.seats,
       ap (λ (m : Me (Unit {0}) View). m.1) seat.is_worker,
       board.some_word,
-      gathering board.table.shared.key _ _ _ _ (as_coord _ _ (λ m. (c.loop-seat.invariant.coord m).0)) (λ m. (seat.is_worker m).0),
+      gathering board.table.shared.key _ _ _ _ (as_coord _ _ (λ m. (c.loop-seat.invariant.coord m).0))
+          (λ m. (seat.is_worker m).0),
     )

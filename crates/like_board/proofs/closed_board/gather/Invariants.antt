@@ -7,8 +7,10 @@ use Rattle.like_board.proofs.closed_board.gather.Given as goal
 abbrev pub invariant-loop-seat : goal.invariant-loop-seat
 invariant-loop-seat l = record {
   board : l.coord.table_id ≡ l.fn.coord.table_id;
-  coord : l.coord.me ≡ (Coord (record (coord_view_of l.fn.coord.me.0) { joined = (coord_view_of l.coord.me.0).joined }), []);
-  joined : map seat_view l.seats.items ++ (coord_view_of l.coord.me.0).joined ≡ map seat_view l.fn.seats.items ++ (coord_view_of l.fn.coord.me.0).joined;
+  coord : l.coord.me
+      ≡ (Coord (record (coord_view_of l.fn.coord.me.0) { joined = (coord_view_of l.coord.me.0).joined }), []);
+  joined : map seat_view l.seats.items ++ (coord_view_of l.coord.me.0).joined
+      ≡ map seat_view l.fn.seats.items ++ (coord_view_of l.fn.coord.me.0).joined;
   seats : All (λ seat. seat_board seat ≡ board_id l.board) l.seats.items;
 }
 

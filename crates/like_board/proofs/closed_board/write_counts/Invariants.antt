@@ -9,5 +9,7 @@ abbrev pub invariant-loop-page : goal.invariant-loop-page
 invariant-loop-page l = record {
   board : l.coord.table_id ≡ l.fn.coord.table_id;
   view : l.coord.me.0 ≡ l.fn.coord.me.0;
-  counts : (c : CoordSeatView) (seats : List WorkerSeat) → HasAllBack l.fn.coord.me.0 c seats → length c.opening.counts ≡ length l.fn.counts → (k : ℕ) → k < l.page → slice_index l.counts k ≡ last_count c.opening seats k;
+  counts : (c : CoordSeatView) (seats : List WorkerSeat) → HasAllBack l.fn.coord.me.0 c seats
+      → length c.opening.counts ≡ length l.fn.counts → (k : ℕ) → k < l.page
+      → slice_index l.counts k ≡ last_count c.opening seats k;
 }

@@ -23,7 +23,9 @@ loop-page-init c =
       len = length-set words.items 0 c.args.phase_word ∙ omega arith;
       phase_word = get_or-set_same words.items 0 c.args.phase_word 0 (omega arith);
       mask_word = get_or-set_other words.items 0 mask_place c.args.phase_word 0 (λ eq. absurd (omega (arith, eq)))
-          ∙ ap (λ (xs : List ℕ). get_or xs mask_place 0) (c.in_ok-words.ensures.items_if_clones_equal (λ y same. search rules)) ∙ get_or-replicate c.word_of.result mask_place 0 0 (omega arith);
+          ∙ ap (λ (xs : List ℕ). get_or xs mask_place 0)
+          (c.in_ok-words.ensures.items_if_clones_equal (λ y same. search rules))
+          ∙ get_or-replicate c.word_of.result mask_place 0 0 (omega arith);
       counts = λ k none. absurd (omega arith);
     }
 
@@ -42,7 +44,10 @@ loop-page-preserved c =
     let words = c.loop-page.words.items in
     rw c.word_of-in-loop-page.ensures record {
       len = length-set words (word_of page) (get_or counts page 0) ∙ c.loop-page.invariant.len;
-      phase_word = get_or-set_other words (word_of page) 0 (get_or counts page 0) 0 (λ eq. absurd (omega arith)) ∙ c.loop-page.invariant.phase_word;
-      mask_word = get_or-set_other words (word_of page) mask_place (get_or counts page 0) 0 (λ eq. absurd (omega arith)) ∙ c.loop-page.invariant.mask_word;
-      counts = counts_written words counts page c.loop-page.invariant.len c.loop-page-test.true c.loop-page.invariant.counts;
+      phase_word = get_or-set_other words (word_of page) 0 (get_or counts page 0) 0 (λ eq. absurd (omega arith))
+          ∙ c.loop-page.invariant.phase_word;
+      mask_word = get_or-set_other words (word_of page) mask_place (get_or counts page 0) 0 (λ eq. absurd (omega arith))
+          ∙ c.loop-page.invariant.mask_word;
+      counts = counts_written words counts page c.loop-page.invariant.len c.loop-page-test.true
+          c.loop-page.invariant.counts;
     }

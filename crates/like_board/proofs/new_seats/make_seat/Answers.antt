@@ -9,7 +9,8 @@ split_seat-seat-requires c =
     let known = coord_view_of c.args.coord.now.me.0 in (
       c.requires.here,
       c.args.board.now.some_word,
-      making c.args.board.now.table.shared.key _ _ (λ m. (c.requires.coord m).0) (subst (λ (n : ℕ). n < known.opening.workers) c.requires.next c.requires.room),
+      making c.args.board.now.table.shared.key _ _ (λ m. (c.requires.coord m).0)
+          (subst (λ (n : ℕ). n < known.opening.workers) c.requires.next c.requires.room),
     )
 
 pub returns-clause-fresh : goal.returns-clause-fresh

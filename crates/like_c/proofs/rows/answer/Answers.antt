@@ -9,6 +9,7 @@ returns-in-Liked-clause-row c = row_like Liked c.if-request-ne0.false c.in-Liked
 
 pub returns-in_default : goal.returns-in_default
 returns-in_default c = record {
-  row = row_like c.like.result c.if-request-ne0.false c.like.ensures.case (c.of-in_default.ensures ∙ ap status_row c.of_like.ensures);
+  row = row_like c.like.result c.if-request-ne0.false c.like.ensures.case
+      (c.of-in_default.ensures ∙ ap status_row c.of_like.ensures);
   waits = c.is_to_wait-in_default.ensures;
 }

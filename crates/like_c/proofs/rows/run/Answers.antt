@@ -18,7 +18,8 @@ returns-then-answer-clause-rows c =
     (subst (λ (rows : List AnswerRow). RowsAnswered c.args.seat.now (take i requests) rows c.loop-done.seat)
     (sym (take-before i c.loop-done.answers row)) c.loop-done.invariant.ran)
     (slice_get-get_or requests i none (omega (arith, c.loop-done-test.true, c.min-rows.ensures)))
-    (set-there i c.loop-done.answers row (omega (arith, c.loop-done-test.true, c.min-rows.ensures, c.loop-done.auto.answers)))
+    (set-there i c.loop-done.answers row
+    (omega (arith, c.loop-done-test.true, c.min-rows.ensures, c.loop-done.auto.answers)))
     c.answer.ensures.row
     (c.answer.ensures.waits.0 c.if-answer.true)
 
@@ -34,8 +35,10 @@ loop-done-preserved c =
     let i = c.loop-done.done in
     let requests = c.args.requests.now in
     record {
-      rest = λ k past. set-behind c.loop-done.answers i k c.answer.new.row (omega arith) ∙ c.loop-done.invariant.rest k (omega arith);
-      ran = rows-more i requests c.loop-done.answers c.args.seat.now c.loop-done.seat c.answer.new.seat (get_or requests i none) c.answer.new.row
+      rest = λ k past. set-behind c.loop-done.answers i k c.answer.new.row (omega arith)
+          ∙ c.loop-done.invariant.rest k (omega arith);
+      ran = rows-more i requests c.loop-done.answers c.args.seat.now c.loop-done.seat c.answer.new.seat
+          (get_or requests i none) c.answer.new.row
           (slice_get-get_or requests i none (omega (arith, c.loop-done-test.true, c.min-rows.ensures)))
           (omega (arith, c.loop-done-test.true, c.min-rows.ensures, c.loop-done.auto.answers))
           c.loop-done.invariant.ran c.answer.ensures.row

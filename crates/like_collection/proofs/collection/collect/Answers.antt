@@ -21,7 +21,8 @@ returns-in_err-put_all c =
     let sizes = c.args.sizes.now in
     let refused = c.in_err-put_all.ensures sizes (entries_in (take i logs)) c.loop-log.invariant in
     let fault : IsCollectFault sizes (entries_in logs) c.in_err-put_all.field-0.0 =
-    IsCollectFault-log sizes logs i log c.in_err-put_all.field-0.0 c.loop-log-test.true c.log-item.is (rw c.deref.ensures.value at refused)
+    IsCollectFault-log sizes logs i log c.in_err-put_all.field-0.0 c.loop-log-test.true c.log-item.is
+    (rw c.deref.ensures.value at refused)
     in search (rules, fault)
 
 pub loop-log-preserved : goal.loop-log-preserved
@@ -34,7 +35,8 @@ loop-log-preserved c =
     rw (entries_in-more logs i log c.loop-log-test.true c.log-item.is) (rw c.deref.ensures.value at held)
 
 pub into_replies-requires-clause-short : goal.into_replies-requires-clause-short
-into_replies-requires-clause-short c = short_rows c.args.sizes.now c.loop-log.slots c.loop-log.invariant.sized (λ k. Fits-lt-pow (c.type_inv.sizes k))
+into_replies-requires-clause-short c =
+    short_rows c.args.sizes.now c.loop-log.slots c.loop-log.invariant.sized (λ k. Fits-lt-pow (c.type_inv.sizes k))
 
 pub returns : goal.returns
 returns c =

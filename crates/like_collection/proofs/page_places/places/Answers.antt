@@ -14,12 +14,14 @@ loop-log-preserved c =
     let log : WorkerLog = c.log-item.result in
     let done : List WorkerLog = take w logs in
     let size : length done ≡ w = length-take-le w logs (omega (arith, c.loop-log-test.true)) in
-    let more : take (w + 1) logs ≡ done ++ log ∷ [] = take_more logs w log c.loop-log-test.true ∙ ap (λ (l : WorkerLog). done ++ l ∷ []) (sym c.log-item.is) in
+    let more : take (w + 1) logs ≡ done ++ log ∷ [] =
+    take_more logs w log c.loop-log-test.true ∙ ap (λ (l : WorkerLog). done ++ l ∷ []) (sym c.log-item.is) in
     record {
       worker = omega (arith, i.worker);
       sized = c.in_ok-put_adds.ensures.len ∙ i.sized;
       each = λ page below.
-          let pushed = places_in-push page done log ∙ ap (λ n. places_in page done ++ places_of page n log.adds.items) size in
+          let pushed = places_in-push page done log
+          ∙ ap (λ n. places_in page done ++ places_of page n log.adds.items) size in
           c.in_ok-put_adds.ensures.each page (omega (arith, i.sized))
           ∙ (ap (λ n. get_or (lists_in c.loop-log.rows.items) page [] ++ places_of page n c.deref.result.now) i.worker
           ∙ (ap (λ (xs : List Place). xs ++ places_of page w c.deref.result.now) (i.each page below)

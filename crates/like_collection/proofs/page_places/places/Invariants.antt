@@ -6,5 +6,6 @@ abbrev pub invariant-loop-log : goal.invariant-loop-log
 invariant-loop-log l = record {
   worker : l.worker ≡ l.log-index;
   sized : length (lists_in l.rows.items) ≡ l.pages;
-  each : (page : ℕ) → page < l.pages → get_or (lists_in l.rows.items) page [] ≡ places_in page (take l.log-index l.logs);
+  each : (page : ℕ) → page < l.pages
+      → get_or (lists_in l.rows.items) page [] ≡ places_in page (take l.log-index l.logs);
 }

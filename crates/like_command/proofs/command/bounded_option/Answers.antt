@@ -22,8 +22,10 @@ returns c =
     let name : Text = c.args.name.now in
     let made : c.signed.result ≡ vp.Signed (pos c.args.least) (pos c.args.most) = search rules in
     let given = c.value_parser.ensures.given in
-    parsing c.action.result c.value_parser.result (rule3 name) (vp.Signed (pos c.args.least) (pos c.args.most)) c.value_parser.ensures.others
+    parsing c.action.result c.value_parser.result (rule3 name)
+    (vp.Signed (pos c.args.least) (pos c.args.most)) c.value_parser.ensures.others
     (given.1 ∙ ap Some (given.2 ∙ made))
     (acting c.value_name.result c.action.result (rule2 name) _ c.action.ensures
     (valued c.long.result c.value_name.result (rule1 name) _ c.value_name.ensures
-    (spelled c.new.result c.long.result (rule0 name) _ c.long.ensures (record { rule_is = c.new.ensures.rule; local = c.new.ensures.optional.1 }))))
+    (spelled c.new.result c.long.result (rule0 name) _ c.long.ensures
+    (record { rule_is = c.new.ensures.rule; local = c.new.ensures.optional.1 }))))

@@ -14,4 +14,5 @@ pub returns : goal.returns
 returns c =
     let name : Text = c.args.name.now in
     acting c.long.result c.action.result (rule1 name) (Some SetTrue) c.action.ensures
-    (spelled c.new.result c.long.result (rule0 name) _ c.long.ensures (record { rule_is = c.new.ensures.rule; local = c.new.ensures.optional.1 }))
+    (spelled c.new.result c.long.result (rule0 name) _ c.long.ensures
+    (record { rule_is = c.new.ensures.rule; local = c.new.ensures.optional.1 }))

@@ -4,5 +4,6 @@ use Rattle.like_command.proofs.command.number_option.Goals as goal
 
 pub returns : goal.returns
 returns c =
-    defaulted c.bounded_option.result c.default_value.result (bounded_rule c.args.name.now c.args.least c.args.most) _ c.default_value.ensures
+    defaulted c.bounded_option.result c.default_value.result
+    (bounded_rule c.args.name.now c.args.least c.args.most) _ c.default_value.ensures
     c.bounded_option.ensures

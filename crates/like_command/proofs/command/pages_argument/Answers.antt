@@ -21,4 +21,5 @@ returns c =
     helped c.action.result c.help.result rule3 _ c.help.ensures
     (acting c.required.result c.action.result rule2 _ c.action.ensures
     (needed c.value_name.result c.required.result rule1 c.required.ensures
-    (valued c.new.result c.value_name.result rule0 _ c.value_name.ensures (record { rule_is = c.new.ensures.rule; local = c.new.ensures.optional.1 }))))
+    (valued c.new.result c.value_name.result rule0 _ c.value_name.ensures
+    (record { rule_is = c.new.ensures.rule; local = c.new.ensures.optional.1 }))))

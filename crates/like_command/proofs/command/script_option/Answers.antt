@@ -21,4 +21,5 @@ returns c =
     helped c.action.result c.help.result rule3 _ c.help.ensures
     (acting c.value_name.result c.action.result rule2 _ c.action.ensures
     (valued c.long.result c.value_name.result rule1 _ c.value_name.ensures
-    (spelled c.new.result c.long.result rule0 _ c.long.ensures (record { rule_is = c.new.ensures.rule; local = c.new.ensures.optional.1 }))))
+    (spelled c.new.result c.long.result rule0 _ c.long.ensures
+    (record { rule_is = c.new.ensures.rule; local = c.new.ensures.optional.1 }))))

@@ -32,7 +32,8 @@ returns c =
     let app0 : App = new_app c.args.name.now in
     let s0 : IsCommand app0 c.after_help.result = record {
       app_is = ap app_of_fields c.after_help.ensures ∙ (ap app_of_fields c.about.ensures ∙ c.new.ensures.app);
-      local = ap (λ (f : Command-F Command). f.has_globals) c.after_help.ensures ∙ (ap (λ (f : Command-F Command). f.has_globals) c.about.ensures ∙ c.new.ensures.local);
+      local = ap (λ (f : Command-F Command). f.has_globals) c.after_help.ensures
+          ∙ (ap (λ (f : Command-F Command). f.has_globals) c.about.ensures ∙ c.new.ensures.local);
     } in
     let a1 = helped c.number_option.result c.help.result _ _ c.help.ensures c.number_option.ensures in
     let a2 = helped c.number_option-2.result c.help-2.result _ _ c.help-2.ensures c.number_option-2.ensures in
@@ -42,9 +43,15 @@ returns c =
     let a6 = helped c.flag.result c.help-6.result _ _ c.help-6.ensures c.flag.ensures in
     let a7 = helped c.flag-2.result c.help-7.result _ _ c.help-7.ensures c.flag-2.ensures in
     let s1 = added c.after_help.result c.in_ok-arg.field-0 c.help.result _ app0 c.in_ok-arg.ensures a1 s0 in
-    let s2 = added c.in_ok-arg.field-0 c.in_ok-arg-2.field-0 c.help-2.result _ (app1 app0) c.in_ok-arg-2.ensures a2 s1 in
-    let s3 = added c.in_ok-arg-2.field-0 c.in_ok-arg-3.field-0 c.help-3.result _ (app2 app0) c.in_ok-arg-3.ensures a3 s2 in
-    let s4 = added c.in_ok-arg-3.field-0 c.in_ok-arg-4.field-0 c.help-4.result _ (app3 app0) c.in_ok-arg-4.ensures a4 s3 in
-    let s5 = added c.in_ok-arg-4.field-0 c.in_ok-arg-5.field-0 c.help-5.result _ (app4 app0) c.in_ok-arg-5.ensures a5 s4 in
-    let s6 = added c.in_ok-arg-5.field-0 c.in_ok-arg-6.field-0 c.help-6.result _ (app5 app0) c.in_ok-arg-6.ensures a6 s5 in
-    IfOk-weaker c.arg-7.result _ _ (λ x h. added c.in_ok-arg-6.field-0 x c.help-7.result _ (app6 app0) h a7 s6) c.arg-7.ensures
+    let s2 = added c.in_ok-arg.field-0 c.in_ok-arg-2.field-0 c.help-2.result _
+    (app1 app0) c.in_ok-arg-2.ensures a2 s1 in
+    let s3 = added c.in_ok-arg-2.field-0 c.in_ok-arg-3.field-0 c.help-3.result _
+    (app2 app0) c.in_ok-arg-3.ensures a3 s2 in
+    let s4 = added c.in_ok-arg-3.field-0 c.in_ok-arg-4.field-0 c.help-4.result _
+    (app3 app0) c.in_ok-arg-4.ensures a4 s3 in
+    let s5 = added c.in_ok-arg-4.field-0 c.in_ok-arg-5.field-0 c.help-5.result _
+    (app4 app0) c.in_ok-arg-5.ensures a5 s4 in
+    let s6 = added c.in_ok-arg-5.field-0 c.in_ok-arg-6.field-0 c.help-6.result _
+    (app5 app0) c.in_ok-arg-6.ensures a6 s5 in
+    IfOk-weaker c.arg-7.result _ _
+    (λ x h. added c.in_ok-arg-6.field-0 x c.help-7.result _ (app6 app0) h a7 s6) c.arg-7.ensures

@@ -7,7 +7,8 @@ pub returns-clause-values : goal.returns-clause-values
 returns-clause-values c =
     let names = c.requires.requests.0 in
     let items = c.in_ok-requests.requests.items in
-    let same : names ≡ map string_bytes items = same_Some names (map string_bytes items) (sym c.requires.requests.1 ∙ c.in_ok-requests.ensures) in
+    let same : names ≡ map string_bytes items =
+    same_Some names (map string_bytes items) (sym c.requires.requests.1 ∙ c.in_ok-requests.ensures) in
     let size : length names ≡ length items = ap length same ∙ length-map items string_bytes in
     record {
       workers = c.number-workers.ensures 1 16 (omega arith) c.requires.workers;

@@ -20,16 +20,24 @@ use Rattle.like_crew.proofs.report.report_of.Goals as goal
 pub final_counts-counts-requires-clause-left : goal.final_counts-counts-requires-clause-left
 final_counts-counts-requires-clause-left c = record {
   coord_here = c.requires.ended.coord;
-  seats_here = all-here c.args.setup.now (lists_of c.args.plans.now.value.items) c.args.site c.args.ended c.requires.ended;
+  seats_here = all-here c.args.setup.now
+      (lists_of c.args.plans.now.value.items) c.args.site c.args.ended c.requires.ended;
   all = are-all c.args.setup.now (lists_of c.args.plans.now.value.items) c.args.site c.args.ended c.requires.ended refl;
   gone = all-gone c.args.setup.now (lists_of c.args.plans.now.value.items) c.args.site c.args.ended c.requires.ended;
 }
 
 pub final_counts-counts-requires-clause-places : goal.final_counts-counts-requires-clause-places
-final_counts-counts-requires-clause-places c = ap (λ (xs : List ℕ). length xs) (c.requires.site.counts ∙ sym (ap (λ (z : Opening). z.counts) c.requires.ended.opening))
+final_counts-counts-requires-clause-places c =
+    ap (λ (xs : List ℕ). length xs)
+    (c.requires.site.counts ∙ sym (ap (λ (z : Opening). z.counts) c.requires.ended.opening))
 
 pub replies_of-requires-clause-few : goal.replies_of-requires-clause-few
-replies_of-requires-clause-few c = omega (arith, ap (λ (xs : List ℕ). length xs) (c.deref.ensures.value ∙ c.requires.site.sizes), c.requires.within.numbers.submitters.1)
+replies_of-requires-clause-few c =
+    omega (
+      arith,
+      ap (λ (xs : List ℕ). length xs) (c.deref.ensures.value ∙ c.requires.site.sizes),
+      c.requires.within.numbers.submitters.1,
+    )
 
 pub replies_of-requires-clause-once : goal.replies_of-requires-clause-once
 replies_of-requires-clause-once c =
@@ -37,27 +45,43 @@ replies_of-requires-clause-once c =
     let workers : ℕ = c.args.setup.now.workers in
     let e = c.args.ended in
     subst (λ (logs : List WorkerLog). RunsOnce c.deref.result.now (entries_in logs)) (sym c.deref-2.ensures.value)
-    (runs-once (known c.args.setup.now plans c.args.site e c.requires.ended) workers e.logs.items c.deref.result.now (c.deref.ensures.value ∙ c.requires.site.sizes) (logs-size c.args.setup.now plans c.args.site e c.requires.ended)
-    c.requires.within.numbers.workers.0 (log-at c.args.setup.now plans c.args.site e c.requires.ended c.final_counts-counts.ensures.masks))
+    (runs-once (known c.args.setup.now plans c.args.site e c.requires.ended) workers e.logs.items c.deref.result.now
+    (c.deref.ensures.value ∙ c.requires.site.sizes)
+    (logs-size c.args.setup.now plans c.args.site e c.requires.ended)
+    c.requires.within.numbers.workers.0
+    (log-at c.args.setup.now plans c.args.site e c.requires.ended c.final_counts-counts.ensures.masks))
 
 -- the number of submitters
-submitters-are : (many : ℕ) (sizes : List ℕ) (plans : List (List Request)) → many ≡ length sizes → sizes ≡ map length plans → many ≡ length plans
+submitters-are : (many : ℕ) (sizes : List ℕ) (plans : List (List Request))
+    → many ≡ length sizes
+    → sizes ≡ map length plans
+    → many ≡ length plans
 submitters-are many sizes plans is sized = is ∙ ap (λ (xs : List ℕ). length xs) sized ∙ length-map plans length
 
 pub last_likes-requires-clause-submitters : goal.last_likes-requires-clause-submitters
-last_likes-requires-clause-submitters c = omega (arith, c.len.ensures, c.args.site.sizes.ok.0, ap (λ (xs : List ℕ). length xs) c.requires.site.sizes, c.requires.within.numbers.submitters.0)
+last_likes-requires-clause-submitters c =
+    omega (
+      arith,
+      c.len.ensures,
+      c.args.site.sizes.ok.0,
+      ap (λ (xs : List ℕ). length xs) c.requires.site.sizes,
+      c.requires.within.numbers.submitters.0,
+    )
 
 pub last_likes-requires-clause-logs : goal.last_likes-requires-clause-logs
 last_likes-requires-clause-logs c =
-    let size = logs-size c.args.setup.now (lists_of c.args.plans.now.value.items) c.args.site c.args.ended c.requires.ended in
-    let same : length c.deref-3.result.now ≡ c.args.setup.now.workers = ap (λ (xs : List WorkerLog). length xs) c.deref-3.ensures.value ∙ size in
+    let size = logs-size c.args.setup.now
+    (lists_of c.args.plans.now.value.items) c.args.site c.args.ended c.requires.ended in
+    let same : length c.deref-3.result.now ≡ c.args.setup.now.workers =
+    ap (λ (xs : List WorkerLog). length xs) c.deref-3.ensures.value ∙ size in
     let some : 1 ≤ c.args.setup.now.workers = c.requires.within.numbers.workers.0 in
     omega (arith, same, some)
 
 pub last_likes-requires-clause-tables : goal.last_likes-requires-clause-tables
 last_likes-requires-clause-tables c =
     let plans : List (List Request) = lists_of c.args.plans.now.value.items in
-    let many = submitters-are c.len.result c.args.site.sizes.items (lists_of c.args.plans.now.value.items) (c.len.ensures ∙ c.args.site.sizes.ok.0) c.requires.site.sizes in
+    let many = submitters-are c.len.result c.args.site.sizes.items (lists_of c.args.plans.now.value.items)
+    (c.len.ensures ∙ c.args.site.sizes.ok.0) c.requires.site.sizes in
     subst (λ (logs : List WorkerLog). AreTables c.args.setup.now.users c.len.result logs) (sym c.deref-3.ensures.value)
     (subst (λ n. AreTables c.args.setup.now.users n c.args.ended.logs.items) (sym many)
     (tables c.args.setup.now plans c.args.site c.args.ended c.requires.ended))
@@ -69,39 +93,60 @@ returns-clause-report c =
     let e = c.args.ended in
     let h = c.requires.ended in
     let size : length e.logs.items ≡ workers = logs-size c.args.setup.now plans c.args.site e h in
-    let sized : c.deref.result.now ≡ map length (lists_of c.args.plans.now.value.items) = c.deref.ensures.value ∙ c.requires.site.sizes in
-    let many = submitters-are c.len.result c.args.site.sizes.items (lists_of c.args.plans.now.value.items) (c.len.ensures ∙ c.args.site.sizes.ok.0) c.requires.site.sizes in
-    let before : length c.args.site.counts.items ≡ length c.args.setup.now.pages = ap (λ (xs : List ℕ). length xs) c.requires.site.counts ∙ length-map c.args.setup.now.pages (λ (p : Page). p.count) in
-    let logs = logs-are c.args.setup.now plans c.args.site e h c.final_counts-counts.ensures.masks c.final_counts-counts.ensures.counted c.final_counts-counts.ensures.phases in
+    let sized : c.deref.result.now ≡ map length (lists_of c.args.plans.now.value.items) =
+    c.deref.ensures.value ∙ c.requires.site.sizes in
+    let many = submitters-are c.len.result c.args.site.sizes.items (lists_of c.args.plans.now.value.items)
+    (c.len.ensures ∙ c.args.site.sizes.ok.0) c.requires.site.sizes in
+    let before : length c.args.site.counts.items ≡ length c.args.setup.now.pages =
+    ap (λ (xs : List ℕ). length xs) c.requires.site.counts
+    ∙ length-map c.args.setup.now.pages (λ (p : Page). p.count) in
+    let logs = logs-are c.args.setup.now plans c.args.site e h c.final_counts-counts.ensures.masks
+    c.final_counts-counts.ensures.counted c.final_counts-counts.ensures.phases in
     record {
       workers_all = size;
       logs = logs;
       replies = subst (λ sizes. IsCollected sizes (entries_in e.logs.items) (rows_of c.in_ok-replies.replies)) sized
-          (subst (λ (logs : List WorkerLog). IsCollected c.deref.result.now (entries_in logs) (rows_of c.in_ok-replies.replies)) c.deref-2.ensures.value c.in_ok-replies.ensures);
-      counts = counts-are c.args.setup.now plans c.args.site e h c.final_counts-counts.ensures.masks c.final_counts-counts.result.items refl (c.final_counts-counts.ensures.len ∙ before)
+          (subst (λ (logs : List WorkerLog). IsCollected c.deref.result.now (entries_in logs)
+          (rows_of c.in_ok-replies.replies)) c.deref-2.ensures.value c.in_ok-replies.ensures);
+      counts = counts-are c.args.setup.now plans c.args.site e h c.final_counts-counts.ensures.masks
+          c.final_counts-counts.result.items refl (c.final_counts-counts.ensures.len ∙ before)
           (λ page there. c.final_counts-counts.ensures.counts page (omega (arith, there, before)));
-      last = last-likes-are (asked c.args.setup.now plans (runs_of e.logs.items)) workers e.logs.items c.in_ok-last.last.items size c.requires.within.numbers.workers.0 (λ worker log at. (logs worker log at).0) c.in_ok-last.ensures.len
+      last = last-likes-are
+          (asked c.args.setup.now plans (runs_of e.logs.items)) workers e.logs.items c.in_ok-last.last.items size
+          c.requires.within.numbers.workers.0 (λ worker log at. (logs worker log at).0) c.in_ok-last.ensures.len
           (λ user log there at.
           c.in_ok-last.ensures.last user log there
-          (ap (λ (logs : List WorkerLog). slice_get logs (worker_of (length logs) (home c.len.result user))) c.deref-3.ensures.value
+          (ap (λ (logs : List WorkerLog). slice_get logs (worker_of (length logs) (home c.len.result user)))
+          c.deref-3.ensures.value
           ∙ ap (λ n. slice_get e.logs.items (worker_of (length e.logs.items) (home n user))) many ∙ at));
       joined = h.joined;
-      seen = seen-counts c.args.setup.now plans c.args.site e h c.final_counts-counts.ensures.masks refl c.final_counts-counts.ensures.reads;
-      hot = chosen-are c.args.setup.now plans c.args.site e h c.final_counts-counts.ensures.masks c.final_counts-counts.ensures.counted;
+      seen = seen-counts c.args.setup.now plans c.args.site e h c.final_counts-counts.ensures.masks refl
+          c.final_counts-counts.ensures.reads;
+      hot = chosen-are c.args.setup.now plans c.args.site e h c.final_counts-counts.ensures.masks
+          c.final_counts-counts.ensures.counted;
     }
 
 pub places_of-requires-clause-few : goal.places_of-requires-clause-few
 places_of-requires-clause-few c =
     let plans : List (List Request) = lists_of c.args.plans.now.value.items in
     let size = logs-size c.args.setup.now plans c.args.site c.args.ended c.requires.ended in
-    omega (arith, ap (λ (xs : List WorkerLog). length xs) c.deref-4.ensures.value, size, c.requires.within.numbers.workers.1)
+    omega (
+      arith,
+      ap (λ (xs : List WorkerLog). length xs) c.deref-4.ensures.value,
+      size,
+      c.requires.within.numbers.workers.1,
+    )
 
 pub places_of-requires-clause-there : goal.places_of-requires-clause-there
 places_of-requires-clause-there c notes =
     let plans : List (List Request) = lists_of c.args.plans.now.value.items in
-    let there = all-there c.args.setup.now plans c.args.site c.args.ended c.requires.ended c.final_counts-counts.ensures.masks c.final_counts-counts.ensures.counted notes c.requires.within.there in
-    subst (λ (n : ℕ). All (λ (log : WorkerLog). All (λ (a : Added). a.page < n) log.adds.items) c.deref-4.result.now) (sym c.len-2.ensures.len)
-    (subst (λ (logs : List WorkerLog). All (λ (log : WorkerLog). All (λ (a : Added). a.page < length c.args.setup.now.pages) log.adds.items) logs) (sym c.deref-4.ensures.value) there)
+    let there = all-there c.args.setup.now plans c.args.site c.args.ended c.requires.ended
+    c.final_counts-counts.ensures.masks c.final_counts-counts.ensures.counted notes c.requires.within.there in
+    subst (λ (n : ℕ). All (λ (log : WorkerLog). All (λ (a : Added). a.page < n) log.adds.items) c.deref-4.result.now)
+    (sym c.len-2.ensures.len)
+    (subst (λ (logs : List WorkerLog). All
+    (λ (log : WorkerLog). All (λ (a : Added). a.page < length c.args.setup.now.pages) log.adds.items) logs)
+    (sym c.deref-4.ensures.value) there)
 
 pub returns-clause-places : goal.returns-clause-places
 returns-clause-places c notes =
@@ -110,20 +155,28 @@ returns-clause-places c notes =
     let e = c.args.ended in
     let h = c.requires.ended in
     let counts = c.final_counts-counts in
-    let before : length c.args.site.counts.items ≡ length setup.pages = ap (λ (xs : List ℕ). length xs) c.requires.site.counts ∙ length-map setup.pages (λ (p : Page). p.count) in
+    let before : length c.args.site.counts.items ≡ length setup.pages =
+    ap (λ (xs : List ℕ). length xs) c.requires.site.counts ∙ length-map setup.pages (λ (p : Page). p.count) in
     let P : ℕ → List WorkerLog → Type 0 = λ pages logs. ArePlaces pages logs (lists_in c.in_ok-places.places.items) in
-    let placed = placed-are setup plans c.args.site e h counts.ensures.masks counts.ensures.counted notes counts.ensures.places in
+    let placed = placed-are setup plans c.args.site e h counts.ensures.masks counts.ensures.counted notes
+    counts.ensures.places in
     record {
-      likes = of-likes setup plans c.args.site e h counts.ensures.masks counts.ensures.counted notes counts.ensures.phases;
-      tiles = tiles-are setup plans c.args.site e h counts.ensures.masks counts.ensures.counted notes c.requires.within.there counts.result.items (counts.ensures.len ∙ before)
+      likes = of-likes setup plans c.args.site e h counts.ensures.masks counts.ensures.counted notes
+          counts.ensures.phases;
+      tiles = tiles-are setup plans c.args.site e h counts.ensures.masks counts.ensures.counted notes
+          c.requires.within.there counts.result.items (counts.ensures.len ∙ before)
           (λ page there. counts.ensures.counts page (omega (arith, there, before))) counts.ensures.places;
       ends = λ worker d within. (placed worker d within).ends;
       order = λ worker d within. (placed worker d within).order;
-      in_time = stand-are setup plans c.args.site e h counts.ensures.masks counts.ensures.counted notes counts.ensures.stand;
-      rows = subst (λ (n : ℕ). P n e.logs.items) c.len-2.ensures.len (subst (P c.len-2.result) c.deref-4.ensures.value (c.in_ok-places.ensures.noted notes));
+      in_time = stand-are setup plans c.args.site e h counts.ensures.masks counts.ensures.counted notes
+          counts.ensures.stand;
+      rows = subst (λ (n : ℕ). P n e.logs.items) c.len-2.ensures.len
+          (subst (P c.len-2.result) c.deref-4.ensures.value (c.in_ok-places.ensures.noted notes));
     }
 
 pub returns-clause-none : goal.returns-clause-none
 returns-clause-none c unasked =
-    let h = c.requires.ended in
-    (c.in_ok-places.ensures.none unasked, none-noted c.args.setup.now (lists_of c.args.plans.now.value.items) c.args.site c.args.ended h unasked)
+    let h = c.requires.ended in (
+      c.in_ok-places.ensures.none unasked,
+      none-noted c.args.setup.now (lists_of c.args.plans.now.value.items) c.args.site c.args.ended h unasked,
+    )

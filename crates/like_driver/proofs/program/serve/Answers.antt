@@ -12,41 +12,51 @@ returns-in_err-options-clause-fault g c =
     let words : Words = map string_bytes c.args.words.now in
     let some = some-words string_bytes c.args.words.now (sym c.is_empty.ensures ∙ c.if-is_empty.false) in
     let p = err_from_is_err_and c.from_residual.result c.from_residual.ensures.1 in
-    rw (p.1, p.2) (not_served words _ _ (program.Words c.in_err-options.field-0.0) some (c.in_err-options.ensures.fault, refl))
+    rw (p.1, p.2)
+    (not_served words _ _ (program.Words c.in_err-options.field-0.0) some (c.in_err-options.ensures.fault, refl))
 
 pub returns-in-Run-clause-served : goal.returns-in-Run-clause-served
 returns-in-Run-clause-served g c =
     let words : Words = map string_bytes c.args.words.now in
     let some = some-words string_bytes c.args.words.now (sym c.is_empty.ensures ∙ c.if-is_empty.false) in
     let asks = rw c.in-Run.is at c.in_ok-options.ensures.asked in
-    rw c.with_options.ensures (files-served words _ _ c.in-Run.options (Run c.in-Run.options) c.run_named-done.result some asks
-    (IfOk-weaker c.run_named-done.result _ _ (λ summary done. some-run _ _ c.in-Run.options _ _ summary done) c.run_named-done.ensures.run))
+    rw c.with_options.ensures
+    (files-served words _ _ c.in-Run.options (Run c.in-Run.options) c.run_named-done.result some asks
+    (IfOk-weaker c.run_named-done.result _ _
+    (λ summary done. some-run _ _ c.in-Run.options _ _ summary done) c.run_named-done.ensures.run))
 
 pub returns-in-Run-clause-fault : goal.returns-in-Run-clause-fault
 returns-in-Run-clause-fault g c =
     let words : Words = map string_bytes c.args.words.now in
     let some = some-words string_bytes c.args.words.now (sym c.is_empty.ensures ∙ c.if-is_empty.false) in
     let asks = rw c.in-Run.is at c.in_ok-options.ensures.asked in
-    rw c.with_options.ensures (files-fault g.W.Write.contents words c.in-Run.options c.run_named-done.result c.args.out.now c.run_named-done.new.out some (inl asks) c.run_named-done.ensures.untouched)
+    rw c.with_options.ensures
+    (files-fault g.W.Write.contents words c.in-Run.options c.run_named-done.result c.args.out.now
+    c.run_named-done.new.out some (inl asks) c.run_named-done.ensures.untouched)
 
 pub returns-in-Replay-clause-served : goal.returns-in-Replay-clause-served
 returns-in-Replay-clause-served g c =
     let words : Words = map string_bytes c.args.words.now in
     let some = some-words string_bytes c.args.words.now (sym c.is_empty.ensures ∙ c.if-is_empty.false) in
     let asks = rw c.in-Replay.is at c.in_ok-options.ensures.asked in
-    rw c.with_options-in-Replay.ensures (files-served words _ _ c.in-Replay.options (Replay c.in-Replay.options) c.replay_named-done.result some asks
-    (IfOk-weaker c.replay_named-done.result _ _ (λ summary done. some-replay _ _ c.in-Replay.options _ _ summary done) c.replay_named-done.ensures.replayed))
+    rw c.with_options-in-Replay.ensures
+    (files-served words _ _ c.in-Replay.options (Replay c.in-Replay.options) c.replay_named-done.result some asks
+    (IfOk-weaker c.replay_named-done.result _ _
+    (λ summary done. some-replay _ _ c.in-Replay.options _ _ summary done) c.replay_named-done.ensures.replayed))
 
 pub returns-in-Replay-clause-fault : goal.returns-in-Replay-clause-fault
 returns-in-Replay-clause-fault g c =
     let words : Words = map string_bytes c.args.words.now in
     let some = some-words string_bytes c.args.words.now (sym c.is_empty.ensures ∙ c.if-is_empty.false) in
     let asks = rw c.in-Replay.is at c.in_ok-options.ensures.asked in
-    rw c.with_options-in-Replay.ensures (files-fault g.W.Write.contents words c.in-Replay.options c.replay_named-done.result c.args.out.now c.replay_named-done.new.out some (inr asks) c.replay_named-done.ensures.untouched)
+    rw c.with_options-in-Replay.ensures
+    (files-fault g.W.Write.contents words c.in-Replay.options c.replay_named-done.result c.args.out.now
+    c.replay_named-done.new.out some (inr asks) c.replay_named-done.ensures.untouched)
 
 pub returns-in_ok-show-in-Help-clause-served : goal.returns-in_ok-show-in-Help-clause-served
 returns-in_ok-show-in-Help-clause-served g c =
     let words : Words = map string_bytes c.args.words.now in
     let some = some-words string_bytes c.args.words.now (sym c.is_empty.ensures ∙ c.if-is_empty.false) in
     let asks = rw c.in-Help.is at c.in_ok-options.ensures.asked in
-    served words _ _ (Help c.in-Help.text) None some asks (rw c.deref.ensures at c.in_ok-show-in-Help.ensures.shown, refl)
+    served words _ _ (Help c.in-Help.text) None some asks
+    (rw c.deref.ensures at c.in_ok-show-in-Help.ensures.shown, refl)

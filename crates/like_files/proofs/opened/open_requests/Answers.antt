@@ -8,14 +8,18 @@ pub returns-in_default : goal.returns-in_default
 returns-in_default g c =
     let there : c.loop-place.place < length c.args.names.now = omega arith in
     rw c.of_requests.ensures
-    (unopened-next (g.O.Opener.opens c.args.opener.now) c.args.names.now c.loop-place.opened.items c.loop-place.place c.index-names-place.result there c.index-names-place.is c.loop-place.invariant
+    (unopened-next
+    (g.O.Opener.opens c.args.opener.now) c.args.names.now c.loop-place.opened.items c.loop-place.place
+    c.index-names-place.result there c.index-names-place.is c.loop-place.invariant
     (g.O.Opener.refuses c.args.opener.now) Read (inl (refl, rw c.as_str.ensures.value at c.in_default.ensures)))
 
 pub returns-then-is_err : goal.returns-then-is_err
 returns-then-is_err g c =
     let there : c.loop-place.place < length c.args.names.now = omega arith in
     rw c.of_requests-then-is_err.ensures
-    (unopened-next (g.O.Opener.opens c.args.opener.now) c.args.names.now c.loop-place.opened.items c.loop-place.place c.index-names-place.result there c.index-names-place.is c.loop-place.invariant
+    (unopened-next
+    (g.O.Opener.opens c.args.opener.now) c.args.names.now c.loop-place.opened.items c.loop-place.place
+    c.index-names-place.result there c.index-names-place.is c.loop-place.invariant
     (g.O.Opener.refuses c.args.opener.now) Memory (inr refl))
 
 pub loop-place-preserved : goal.loop-place-preserved
@@ -23,5 +27,6 @@ loop-place-preserved g c =
     let there : c.loop-place.place < length c.args.names.now = omega arith in
     let pushed : is_ok c.push.result ≡ true = c.is_err.ensures.negation ∙ ap not c.if-is_err.false in
     rw (rw pushed at c.push.ensures.items)
-    (opened-more (g.O.Opener.opens c.args.opener.now) c.args.names.now c.loop-place.opened.items c.loop-place.place c.index-names-place.result there c.index-names-place.is c.loop-place.invariant
+    (opened-more (g.O.Opener.opens c.args.opener.now) c.args.names.now c.loop-place.opened.items c.loop-place.place
+    c.index-names-place.result there c.index-names-place.is c.loop-place.invariant
     c.in-Some.file (rw c.as_str.ensures.value at c.in-Some.ensures))

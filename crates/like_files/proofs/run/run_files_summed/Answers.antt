@@ -13,13 +13,19 @@ use Rattle.like_files.proofs.FailedReads.{run-told}
 use Rattle.like_files.proofs.run.run_files_summed.Goals as goal
 
 -- what was run of these values was run of the files
-was-run : (options : Options) (inputs : Inputs) (pages : List Page) (plans : List (List Request)) (old new : Option (List ℕ)) (r : Result (Option Summary) DriverFault)
-    → GivesLists inputs.pages inputs.requests pages plans → IfOk r (HasRunLists options (setup_of options pages) plans old new) → IfOk r (HasRun options inputs old new)
-was-run options inputs pages plans old new (Ok summary) given done = record { pages = pages; plans = plans; given = given; within = done.within; reported = done.reported }
+was-run : (options : Options) (inputs : Inputs) (pages : List Page) (plans : List (List Request))
+    (old new : Option (List ℕ)) (r : Result (Option Summary) DriverFault)
+    → GivesLists inputs.pages inputs.requests pages plans
+    → IfOk r (HasRunLists options (setup_of options pages) plans old new)
+    → IfOk r (HasRun options inputs old new)
+was-run options inputs pages plans old new (Ok summary) given done =
+    record { pages = pages; plans = plans; given = given; within = done.within; reported = done.reported }
 was-run options inputs pages plans old new (Err fault) given done = tt
 
 -- and so is why it was not
-refused : (options : Options) (inputs : Inputs) (pages : List Page) (plans : List (List Request)) (r : Result (Option Summary) DriverFault) → GivesLists inputs.pages inputs.requests pages plans
+refused : (options : Options) (inputs : Inputs) (pages : List Page) (plans : List (List Request))
+    (r : Result (Option Summary) DriverFault)
+    → GivesLists inputs.pages inputs.requests pages plans
     → IfErr r (IsRunListsFault (setup_of options pages) plans) → IfErr r (IsRunFilesFault options inputs)
 refused options inputs pages plans (Ok summary) given why = tt
 refused options inputs pages plans (Err fault) given why = run-fault options inputs pages plans given fault why
@@ -27,17 +33,24 @@ refused options inputs pages plans (Err fault) given why = run-fault options inp
 pub returns-in_err-pages-clause-fault : goal.returns-in_err-pages-clause-fault
 returns-in_err-pages-clause-fault g c =
     let p = err_from_is_err_and c.from_residual.result c.from_residual.ensures.1 in
-    rw (p.1, p.2) (run-unread c.args.options.now (inputs_of g.R.Read.remaining c.args.pages c.args.requests.items None) c.in_err-pages.field-0.0 c.in_err-pages.ensures.lists)
+    rw (p.1, p.2)
+    (run-unread c.args.options.now
+    (inputs_of g.R.Read.remaining c.args.pages c.args.requests.items None) c.in_err-pages.field-0.0
+    c.in_err-pages.ensures.lists)
 
 pub returns-clause-run : goal.returns-clause-run
 returns-clause-run g c =
     let inputs : Inputs = inputs_of g.R.Read.remaining c.args.pages c.args.requests.items None in
-    was-run c.args.options.now inputs c.in_ok-pages.pages (lists_of c.in_ok-pages.plans.items) _ _ c.run_lists.result c.in_ok-pages.ensures.lists (rw c.with_pages-setup.ensures at c.run_lists.ensures.run)
+    was-run c.args.options.now inputs c.in_ok-pages.pages
+    (lists_of c.in_ok-pages.plans.items) _ _ c.run_lists.result c.in_ok-pages.ensures.lists
+    (rw c.with_pages-setup.ensures at c.run_lists.ensures.run)
 
 pub returns-clause-fault : goal.returns-clause-fault
 returns-clause-fault g c =
     let inputs : Inputs = inputs_of g.R.Read.remaining c.args.pages c.args.requests.items None in
-    refused c.args.options.now inputs c.in_ok-pages.pages (lists_of c.in_ok-pages.plans.items) c.run_lists.result c.in_ok-pages.ensures.lists (rw c.with_pages-setup.ensures at c.run_lists.ensures.fault)
+    refused c.args.options.now inputs c.in_ok-pages.pages
+    (lists_of c.in_ok-pages.plans.items) c.run_lists.result c.in_ok-pages.ensures.lists
+    (rw c.with_pages-setup.ensures at c.run_lists.ensures.fault)
 
 pub returns-in_err-pages-clause-read : goal.returns-in_err-pages-clause-read
 returns-in_err-pages-clause-read g c =
@@ -45,4 +58,6 @@ returns-in_err-pages-clause-read g c =
     rw (p.1, p.2) c.in_err-pages.ensures.read
 
 pub returns-clause-read : goal.returns-clause-read
-returns-clause-read g c = run-told c.args.pages c.args.requests.items c.with_pages-setup.result (lists_of c.in_ok-pages.plans.items) c.run_lists.result c.run_lists.ensures.fault
+returns-clause-read g c =
+    run-told c.args.pages c.args.requests.items c.with_pages-setup.result
+    (lists_of c.in_ok-pages.plans.items) c.run_lists.result c.run_lists.ensures.fault

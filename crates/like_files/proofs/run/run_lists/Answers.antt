@@ -8,25 +8,35 @@ use Rattle.like_files.proofs.run.run_lists.Goals as goal
 
 pub write_text_at_once-requires-clause-writable : goal.write_text_at_once-requires-clause-writable
 write_text_at_once-requires-clause-writable g c κs lives =
-    IsWritable-end_to_end (asked c.args.setup.now (lists_of c.args.plans.items) (runs_of c.in_ok-report.report.logs.items)) (plans-within _ _ (fits-run _ _ c.in_ok-report.ensures.within))
+    IsWritable-end_to_end
+    (asked c.args.setup.now (lists_of c.args.plans.items) (runs_of c.in_ok-report.report.logs.items))
+    (plans-within _ _ (fits-run _ _ c.in_ok-report.ensures.within))
     c.args.setup.now.workers c.in_ok-report.report c.in_ok-report.ensures.report
 
 pub write_text_at_once-requires-clause-placed : goal.write_text_at_once-requires-clause-placed
 write_text_at_once-requires-clause-placed g c κs lives wanted =
-    one_list_a_page c.args.setup.now (lists_of c.args.plans.items) c.in_ok-report.report (c.in_ok-report.ensures.places wanted)
+    one_list_a_page c.args.setup.now (lists_of c.args.plans.items) c.in_ok-report.report
+    (c.in_ok-report.ensures.places wanted)
 
 pub asked_summary-requires : goal.asked_summary-requires
-asked_summary-requires g c = few_requests c.args.setup.now (lists_of c.args.plans.items) c.in_ok-report.report c.in_ok-report.ensures.within c.in_ok-report.ensures.report
+asked_summary-requires g c =
+    few_requests c.args.setup.now
+    (lists_of c.args.plans.items) c.in_ok-report.report c.in_ok-report.ensures.within c.in_ok-report.ensures.report
 
 pub returns-in_err-report-clause-fault : goal.returns-in_err-report-clause-fault
 returns-in_err-report-clause-fault g c =
     let p = err_from_is_err_and c.from_residual.result c.from_residual.ensures.1 in
-    rw (p.1, p.2) (run-refused c.args.setup.now (lists_of c.args.plans.items) c.in_err-report.field-0.0 c.in_err-report.ensures.fault)
+    rw (p.1, p.2)
+    (run-refused c.args.setup.now
+    (lists_of c.args.plans.items) c.in_err-report.field-0.0 c.in_err-report.ensures.fault)
 
 pub returns-in_err-write_text_at_once-clause-fault : goal.returns-in_err-write_text_at_once-clause-fault
 returns-in_err-write_text_at_once-clause-fault g c =
-    let p = err_from_is_err_and c.from_residual-in_err-write_text_at_once.result c.from_residual-in_err-write_text_at_once.ensures.1 in
-    rw (p.1, p.2) (run-unwritten c.args.setup.now (lists_of c.args.plans.items) c.in_err-write_text_at_once.field-0.0 c.in_ok-report.ensures.within)
+    let p = err_from_is_err_and c.from_residual-in_err-write_text_at_once.result
+    c.from_residual-in_err-write_text_at_once.ensures.1 in
+    rw (p.1, p.2)
+    (run-unwritten c.args.setup.now
+    (lists_of c.args.plans.items) c.in_err-write_text_at_once.field-0.0 c.in_ok-report.ensures.within)
 
 pub returns-clause-run : goal.returns-clause-run
 returns-clause-run g c = record {

@@ -8,31 +8,46 @@ use Rattle.like_lines.specs.Lines.{new_ends}
 use Rattle.like_lines.proofs.lines.ends_of.Goals as goal
 
 -- an end more, of a line more
-ends-more : {A : Type 0} (end_of : Sender × Taker → A) (ends now : List A) (end : A) (passes : List (Sender × Taker)) (pass : Sender × Taker) → now ≡ ends ++ end ∷ [] → ends ≡ map end_of passes → end ≡ end_of pass
+ends-more : {A : Type 0} (end_of : Sender × Taker → A) (ends now : List A) (end : A) (passes : List (Sender × Taker))
+    (pass : Sender × Taker)
+    → now ≡ ends ++ end ∷ []
+    → ends ≡ map end_of passes
+    → end ≡ end_of pass
     → now ≡ map end_of (passes ++ pass ∷ [])
 ends-more end_of ends now end passes pass pushed before is =
-    pushed ∙ ap (λ xs. xs ++ end ∷ []) before ∙ ap (λ e. map end_of passes ++ e ∷ []) is ∙ sym (map_push end_of passes pass)
+    pushed ∙ ap (λ xs. xs ++ end ∷ []) before ∙ ap (λ e. map end_of passes ++ e ∷ []) is
+    ∙ sym (map_push end_of passes pass)
 
 pub loop-send-preserved : goal.loop-send-preserved
 loop-send-preserved c =
     let l = c.loop-send in
     record {
-      sends = ends-more (λ (p : Sender × Taker). p.0) l.sends.items _ _ l.yielded (c.in-Some.send, c.in-Some.take) c.in_ok-push.ensures.items l.invariant.sends c.at.ensures;
-      takes = ends-more (λ (p : Sender × Taker). p.1) l.takes.items _ _ l.yielded (c.in-Some.send, c.in-Some.take) c.in_ok-push-2.ensures.items l.invariant.takes c.at-in-loop-send.ensures;
+      sends = ends-more (λ (p : Sender × Taker). p.0) l.sends.items _ _ l.yielded
+          (c.in-Some.send, c.in-Some.take) c.in_ok-push.ensures.items l.invariant.sends c.at.ensures;
+      takes = ends-more (λ (p : Sender × Taker). p.1) l.takes.items _ _ l.yielded
+          (c.in-Some.send, c.in-Some.take) c.in_ok-push-2.ensures.items l.invariant.takes c.at-in-loop-send.ensures;
     }
 
 pub returns-clause-sends : goal.returns-clause-sends
 returns-clause-sends c =
     let from = c.into_iter-send-iterator.ensures.into_iter_gives in
-    let all = YieldsList-from_vec {s = c.into_iter-send-iterator.result} c.args.passes.items from.0 (from.1 ∙ c.args.passes.ok.0) in
-    let t = YieldsList-end all c.loop-send.yielded _ c.loop-send.yielded_by _ c.next.new.self c.in-None.is c.next.ensures.steps in
-    let whole : c.loop-send.yielded ≡ map new_ends c.args.lines.now = sym (map-id c.loop-send.yielded) ∙ t.0 ∙ c.requires in
-    c.loop-send.invariant.sends ∙ ap (map (λ (p : Sender × Taker). p.0)) whole ∙ map-map (λ (p : Sender × Taker). p.0) new_ends c.args.lines.now
+    let all = YieldsList-from_vec {s = c.into_iter-send-iterator.result} c.args.passes.items from.0
+    (from.1 ∙ c.args.passes.ok.0) in
+    let t = YieldsList-end all c.loop-send.yielded _ c.loop-send.yielded_by _ c.next.new.self c.in-None.is
+    c.next.ensures.steps in
+    let whole : c.loop-send.yielded ≡ map new_ends c.args.lines.now =
+    sym (map-id c.loop-send.yielded) ∙ t.0 ∙ c.requires in
+    c.loop-send.invariant.sends ∙ ap (map (λ (p : Sender × Taker). p.0)) whole
+    ∙ map-map (λ (p : Sender × Taker). p.0) new_ends c.args.lines.now
 
 pub returns-clause-takes : goal.returns-clause-takes
 returns-clause-takes c =
     let from = c.into_iter-send-iterator.ensures.into_iter_gives in
-    let all = YieldsList-from_vec {s = c.into_iter-send-iterator.result} c.args.passes.items from.0 (from.1 ∙ c.args.passes.ok.0) in
-    let t = YieldsList-end all c.loop-send.yielded _ c.loop-send.yielded_by _ c.next.new.self c.in-None.is c.next.ensures.steps in
-    let whole : c.loop-send.yielded ≡ map new_ends c.args.lines.now = sym (map-id c.loop-send.yielded) ∙ t.0 ∙ c.requires in
-    c.loop-send.invariant.takes ∙ ap (map (λ (p : Sender × Taker). p.1)) whole ∙ map-map (λ (p : Sender × Taker). p.1) new_ends c.args.lines.now
+    let all = YieldsList-from_vec {s = c.into_iter-send-iterator.result} c.args.passes.items from.0
+    (from.1 ∙ c.args.passes.ok.0) in
+    let t = YieldsList-end all c.loop-send.yielded _ c.loop-send.yielded_by _ c.next.new.self c.in-None.is
+    c.next.ensures.steps in
+    let whole : c.loop-send.yielded ≡ map new_ends c.args.lines.now =
+    sym (map-id c.loop-send.yielded) ∙ t.0 ∙ c.requires in
+    c.loop-send.invariant.takes ∙ ap (map (λ (p : Sender × Taker). p.1)) whole
+    ∙ map-map (λ (p : Sender × Taker). p.1) new_ends c.args.lines.now

@@ -7,7 +7,10 @@ use Rattle.like_queue.specs.declared.refused.PushRefused.TheVariants.{Ended, Ful
 use Rattle.like_lines.proofs.submitter.send.Goals as goal
 
 -- a push sends one request, and none where it is refused
-sent : (v w : Sender) (request : Request) (r : Result ℕ PushRefused) → Pushes v request r w → is_ok r ≡ true → w ≡ one_sent v
+sent : (v w : Sender) (request : Request) (r : Result ℕ PushRefused)
+    → Pushes v request r w
+    → is_ok r ≡ true
+    → w ≡ one_sent v
 sent v w request (Ok number) pushes done = pushes.2
 sent v w request (Err (Full back)) pushes done = absurd (cc done)
 sent v w request (Err (Ended back)) pushes done = absurd (cc done)
@@ -22,8 +25,10 @@ push-requires g c = inr (subst (λ (v : Sender). next_of v ≡ Some c.args.reque
 
 pub loop-preserved : goal.loop-preserved
 loop-preserved g c =
-    refused c.loop.end c.push.new.self c.args.request c.push.result c.push.ensures (sym c.is_ok.ensures.value ∙ c.if-is_ok.false) ∙ c.loop.invariant
+    refused c.loop.end c.push.new.self c.args.request c.push.result c.push.ensures
+    (sym c.is_ok.ensures.value ∙ c.if-is_ok.false) ∙ c.loop.invariant
 
 pub returns-then-is_ok : goal.returns-then-is_ok
 returns-then-is_ok g c =
-    sent c.loop.end c.push.new.self c.args.request c.push.result c.push.ensures (sym c.is_ok.ensures.value ∙ c.if-is_ok.true) ∙ ap one_sent c.loop.invariant
+    sent c.loop.end c.push.new.self c.args.request c.push.result c.push.ensures
+    (sym c.is_ok.ensures.value ∙ c.if-is_ok.true) ∙ ap one_sent c.loop.invariant

@@ -8,14 +8,16 @@ use Rattle.like_records.proofs.number.decimal.Goals as goal
 pub overflow_mul-value : goal.overflow_mul-value
 overflow_mul-value c =
     let size = length-take-le c.loop-byte.byte-index c.args.text.now (omega arith) in
-    let below = decimal_value-few (take c.loop-byte.byte-index c.args.text.now) c.loop-byte.invariant.plain (omega arith) in
+    let below = decimal_value-few (take c.loop-byte.byte-index c.args.text.now) c.loop-byte.invariant.plain
+    (omega arith) in
     let value = c.loop-byte.invariant.value in
     omega arith
 
 pub overflow_add-value : goal.overflow_add-value
 overflow_add-value c =
     let size = length-take-le c.loop-byte.byte-index c.args.text.now (omega arith) in
-    let below = decimal_value-few (take c.loop-byte.byte-index c.args.text.now) c.loop-byte.invariant.plain (omega arith) in
+    let below = decimal_value-few (take c.loop-byte.byte-index c.args.text.now) c.loop-byte.invariant.plain
+    (omega arith) in
     let value = c.loop-byte.invariant.value in
     let digit : IsAsciiDigit (get_or c.args.text.now c.loop-byte.byte-index 0) = search rules in
     omega (arith, digit, c.from.ensures)

@@ -21,7 +21,9 @@ returns-then-is_some g c =
         inl (
           refl,
           λ other.
-              other (Contains-found _ _ (looked_up c.args.entries.now c.args.records.now.fields _ _ _ _ true c.find.ensures c.as_bytes.ensures.value c.in-Some.ensures.1 c.field.ensures c.if-is_some.ensures)),
+              other (Contains-found _ _
+              (looked_up c.args.entries.now c.args.records.now.fields _ _ _ _ true c.find.ensures
+              c.as_bytes.ensures.value c.in-Some.ensures.1 c.field.ensures c.if-is_some.ensures)),
         ),
       ),
     )
@@ -33,7 +35,9 @@ returns-in_default-decimal g c =
       inr (
         rw (field_at _ 0 _ c.field.ensures) c.in-Some.ensures.0,
         inr (
-          found-Contains _ _ (looked_up c.args.entries.now c.args.records.now.fields _ _ _ _ false c.find.ensures c.as_bytes.ensures.value c.in-Some.ensures.1 c.field.ensures c.if-is_some.ensures),
+          found-Contains _ _
+              (looked_up c.args.entries.now c.args.records.now.fields _ _ _ _ false c.find.ensures
+              c.as_bytes.ensures.value c.in-Some.ensures.1 c.field.ensures c.if-is_some.ensures),
           inl (refl, rw (field_at _ 1 _ c.field-2.ensures) c.in_default-decimal.ensures),
         ),
       ),
@@ -46,7 +50,9 @@ returns-in_default-split_mark g c =
       inr (
         rw (field_at _ 0 _ c.field.ensures) c.in-Some.ensures.0,
         inr (
-          found-Contains _ _ (looked_up c.args.entries.now c.args.records.now.fields _ _ _ _ false c.find.ensures c.as_bytes.ensures.value c.in-Some.ensures.1 c.field.ensures c.if-is_some.ensures),
+          found-Contains _ _
+              (looked_up c.args.entries.now c.args.records.now.fields _ _ _ _ false c.find.ensures
+              c.as_bytes.ensures.value c.in-Some.ensures.1 c.field.ensures c.if-is_some.ensures),
           inr (
             rw (field_at _ 1 _ c.field-2.ensures) c.in-Some-decimal.ensures.0,
             inl (refl, rw (field_at _ 2 _ c.field-3.ensures) c.in_default-split_mark.ensures),
@@ -62,7 +68,9 @@ returns-then-row-gt-MAX_PAGES g c =
       inr (
         rw (field_at _ 0 _ c.field.ensures) c.in-Some.ensures.0,
         inr (
-          found-Contains _ _ (looked_up c.args.entries.now c.args.records.now.fields _ _ _ _ false c.find.ensures c.as_bytes.ensures.value c.in-Some.ensures.1 c.field.ensures c.if-is_some.ensures),
+          found-Contains _ _
+              (looked_up c.args.entries.now c.args.records.now.fields _ _ _ _ false c.find.ensures
+              c.as_bytes.ensures.value c.in-Some.ensures.1 c.field.ensures c.if-is_some.ensures),
           inr (
             rw (field_at _ 1 _ c.field-2.ensures) c.in-Some-decimal.ensures.0,
             inr (
@@ -81,7 +89,9 @@ returns g c = (
     (
       rw (field_at _ 0 _ c.field.ensures) c.in-Some.ensures.0,
       (
-        found-Contains _ _ (looked_up c.args.entries.now c.args.records.now.fields _ _ _ _ false c.find.ensures c.as_bytes.ensures.value c.in-Some.ensures.1 c.field.ensures c.if-is_some.ensures),
+        found-Contains _ _
+            (looked_up c.args.entries.now c.args.records.now.fields _ _ _ _ false c.find.ensures
+            c.as_bytes.ensures.value c.in-Some.ensures.1 c.field.ensures c.if-is_some.ensures),
         (
           rw (field_at _ 1 _ c.field-2.ensures) c.in-Some-decimal.ensures.0,
           (
@@ -95,5 +105,12 @@ returns g c = (
       ),
     ),
   ),
-  rw (field_at _ 0 _ c.field.ensures, field_at _ 1 _ c.field-2.ensures, field_at _ 2 _ c.field-3.ensures, c.in-Some.ensures.1, c.in-Some-decimal.ensures.1, c.in-Some-split_mark.ensures.1) refl,
+  rw (
+    field_at _ 0 _ c.field.ensures,
+    field_at _ 1 _ c.field-2.ensures,
+    field_at _ 2 _ c.field-3.ensures,
+    c.in-Some.ensures.1,
+    c.in-Some-decimal.ensures.1,
+    c.in-Some-split_mark.ensures.1,
+  ) refl,
 )

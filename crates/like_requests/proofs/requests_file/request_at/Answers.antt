@@ -17,5 +17,12 @@ returns g c = (
       ),
     ),
   ),
-  rw (field_at _ 0 _ c.field.ensures, field_at _ 1 _ c.field-2.ensures, field_at _ 2 _ c.field-3.ensures, c.in-Some.ensures.1, c.in-Some-decimal.ensures.1, c.page_named.ensures) refl,
+  rw (
+    field_at _ 0 _ c.field.ensures,
+    field_at _ 1 _ c.field-2.ensures,
+    field_at _ 2 _ c.field-3.ensures,
+    c.in-Some.ensures.1,
+    c.in-Some-decimal.ensures.1,
+    c.page_named.ensures,
+  ) refl,
 )

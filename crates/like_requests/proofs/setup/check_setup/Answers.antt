@@ -8,11 +8,14 @@ use Rattle.like_requests.proofs.setup.check_setup.Goals as goal
 pub loop-submitter-preserved : goal.loop-submitter-preserved
 loop-submitter-preserved c = λ k d below. kept k below d
   where
-    here : (d : List Request) → IsPlan c.args.setup.now.pages (slice_index_or (map (λ plan. plan.items) c.args.plans.now) c.loop-submitter.submitter d)
+    here : (d : List Request)
+        → IsPlan c.args.setup.now.pages
+        (slice_index_or (map (λ plan. plan.items) c.args.plans.now) c.loop-submitter.submitter d)
     here d =
         let within : c.loop-submitter.submitter < length c.args.plans.now = omega arith in
         rw (
-          get_or-map (λ plan. plan.items) c.args.plans.now c.loop-submitter.submitter c.index-plans-submitter.result d within,
+          get_or-map (λ plan. plan.items) c.args.plans.now c.loop-submitter.submitter c.index-plans-submitter.result d
+              within,
           ← c.index-plans-submitter.is,
           ← c.deref.ensures.value,
         )
@@ -20,7 +23,9 @@ loop-submitter-preserved c = λ k d below. kept k below d
 
     kept : (k : ℕ) → k < c.loop-submitter.submitter + 1 → (d : List Request)
         → IsPlan c.args.setup.now.pages (slice_index_or (map (λ plan. plan.items) c.args.plans.now) k d)
-    kept = below_more (λ k. (d : List Request) → IsPlan c.args.setup.now.pages (slice_index_or (map (λ plan. plan.items) c.args.plans.now) k d))
+    kept = below_more
+        (λ k. (d : List Request)
+        → IsPlan c.args.setup.now.pages (slice_index_or (map (λ plan. plan.items) c.args.plans.now) k d))
         c.loop-submitter.submitter (λ k below d. c.loop-submitter.invariant k d below) here
 
 pub returns-then-not-is_plan : goal.returns-then-not-is_plan
@@ -32,9 +37,11 @@ returns-then-not-is_plan c =
     get_or-map (λ plan. plan.items) c.args.plans.now c.loop-submitter.submitter c.index-plans-submitter.result [] within
     ∙ (ap (λ (plan : Vec Request Global). plan.items) (sym c.index-plans-submitter.is) ∙ sym c.deref.ensures.value)
     in
-    first-plan c.args.setup.now lists c.loop-submitter.submitter (c.in_default.ensures.broken lists many) (omega (arith, within, many)) (λ k below. c.loop-submitter.invariant k [] below)
+    first-plan c.args.setup.now lists c.loop-submitter.submitter (c.in_default.ensures.broken lists many)
+    (omega (arith, within, many)) (λ k below. c.loop-submitter.invariant k [] below)
     (λ good.
-    let is = (c.is_plan.ensures c.args.setup.now.pages (sym c.len.ensures.len)).1 (subst (IsPlan c.args.setup.now.pages) here good) in
+    let is = (c.is_plan.ensures c.args.setup.now.pages (sym c.len.ensures.len)).1
+    (subst (IsPlan c.args.setup.now.pages) here good) in
     cc (is, c.if-not-is_plan.true))
 
 pub returns-then-not-is_hot_limit : goal.returns-then-not-is_hot_limit

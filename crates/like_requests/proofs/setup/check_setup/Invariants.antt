@@ -4,4 +4,6 @@ use Rattle.like_requests.specs.declared.request.Request.{Request}
 use Rattle.like_requests.proofs.setup.check_setup.Given as goal
 
 abbrev pub invariant-loop-submitter : goal.invariant-loop-submitter
-invariant-loop-submitter l = (k : ℕ) (d : List Request) → k < l.submitter → IsPlan l.setup.pages (slice_index_or (map (λ plan. plan.items) l.plans) k d)
+invariant-loop-submitter l =
+    (k : ℕ) (d : List Request) → k < l.submitter
+    → IsPlan l.setup.pages (slice_index_or (map (λ plan. plan.items) l.plans) k d)

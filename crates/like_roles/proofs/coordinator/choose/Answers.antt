@@ -13,5 +13,7 @@ returns-clause-case c =
     let noted : c.note.new.self ≡ with_chosen chosen (lead.seat.phase + 1) (within_limit chosen c.choose-risen.result) =
     c.note.ensures ∙ (λ i. with_chosen chosen (c.requires.phase i + 1) (c.limited-mask.ensures i)) in
     let published_is = c.publish.ensures ∙ ap (published c.choose-risen.new.self) c.limited-mask.ensures in
-    subst (λ (xs : List Chosen). Chooses lead.seat (choice_of lead chosen) c.publish.new.self.seat (choice_of c.publish.new.self xs)) (sym noted)
-    (chooses-limited lead c.choose-risen.new.self c.publish.new.self chosen c.choose-risen.result c.choose-risen.ensures.chooses published_is)
+    subst (λ (xs : List Chosen). Chooses lead.seat (choice_of lead chosen) c.publish.new.self.seat
+    (choice_of c.publish.new.self xs)) (sym noted)
+    (chooses-limited lead c.choose-risen.new.self c.publish.new.self chosen c.choose-risen.result
+    c.choose-risen.ensures.chooses published_is)

@@ -10,7 +10,8 @@ returns-clause-shows c =
     record {
       number =
           shows.number ∙
-          number-exact known.opening.limits known.phase (subst AreExact (sym c.requires.run) (omega arith)) shows.within;
+          number-exact known.opening.limits known.phase
+          (subst AreExact (sym c.requires.run) (omega arith)) shows.within;
       ending = shows.ending;
       all_in = shows.all_in;
       all_gone = shows.all_gone;

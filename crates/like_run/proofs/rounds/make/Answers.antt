@@ -12,7 +12,8 @@ turn_of-requires c = subst (λ (entry : Turned). CanMake c.args.crew.now.servers
 
 pub returns-in-OpenOne : goal.returns-in-OpenOne
 returns-in-OpenOne c = record {
-  makes = subst (λ (entry : Turned). Makes entry c.args.crew.now c.open_one.new.self) (sym c.in-OpenOne.is) (c.open_one.ensures.opens, c.open_one.ensures.rest);
+  makes = subst (λ (entry : Turned). Makes entry c.args.crew.now c.open_one.new.self) (sym c.in-OpenOne.is)
+      (c.open_one.ensures.opens, c.open_one.ensures.rest);
   goes_on = c.open_one.ensures.goes_on;
 }
 
@@ -20,13 +21,23 @@ pub returns-in-Worker : goal.returns-in-Worker
 returns-in-Worker c =
     let t = c.turn_of.ensures.case in
     record {
-      makes = subst (λ (entry : Turned). Makes entry c.args.crew.now c.turn_of.new.self) (sym c.in-Worker.is)
-          (record { before = t.before; after = t.after; here = t.here; step = (c.turn_of.result, t.step); rest = t.rest }, c.turn_of.ensures.rest);
+      makes = subst (λ (entry : Turned). Makes entry c.args.crew.now c.turn_of.new.self) (sym c.in-Worker.is) (
+        record {
+          before =
+              t.before;
+          after = t.after;
+          here = t.here;
+          step = (c.turn_of.result, t.step);
+          rest = t.rest;
+        },
+        c.turn_of.ensures.rest,
+      );
       goes_on = c.turn_of.ensures.goes_on;
     }
 
 pub returns-in-Coordinator : goal.returns-in-Coordinator
 returns-in-Coordinator c = record {
-  makes = subst (λ (entry : Turned). Makes entry c.args.crew.now c.turn.new.self) (sym c.in-Coordinator.is) ((c.turn.result, c.turn.ensures.case), c.turn.ensures.rest);
+  makes = subst (λ (entry : Turned). Makes entry c.args.crew.now c.turn.new.self) (sym c.in-Coordinator.is)
+      ((c.turn.result, c.turn.ensures.case), c.turn.ensures.rest);
   goes_on = c.turn.ensures.goes_on;
 }

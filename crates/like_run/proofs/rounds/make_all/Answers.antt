@@ -16,18 +16,23 @@ loop-entry-preserved c =
     let l = c.loop-entry in
     let script : List Turned = c.args.script.now in
     record {
-      makes = subst (λ (xs : List Turned). MakesAll xs c.args.crew.now c.make.new.crew) (sym (take_more script l.entry-index (OpenOne 0) c.loop-entry-test.true))
-          (makes-more (take l.entry-index script) (get_or script l.entry-index (OpenOne 0)) c.args.crew.now l.crew c.make.new.crew l.invariant.makes c.make.ensures.makes);
+      makes = subst (λ (xs : List Turned). MakesAll xs c.args.crew.now c.make.new.crew)
+          (sym (take_more script l.entry-index (OpenOne 0) c.loop-entry-test.true))
+          (makes-more (take l.entry-index script)
+          (get_or script l.entry-index (OpenOne 0)) c.args.crew.now l.crew c.make.new.crew l.invariant.makes
+          c.make.ensures.makes);
       goes_on = crew-further _ l.crew c.make.new.crew l.invariant.goes_on c.make.ensures.goes_on;
     }
 
 pub make-requires : goal.make-requires
 make-requires c =
-    can-make-later c.args.crew.now.servers.items c.loop-entry.crew.servers.items (get_or c.args.script.now c.loop-entry.entry-index (OpenOne 0)) c.loop-entry.invariant.goes_on.servers
+    can-make-later c.args.crew.now.servers.items c.loop-entry.crew.servers.items
+    (get_or c.args.script.now c.loop-entry.entry-index (OpenOne 0)) c.loop-entry.invariant.goes_on.servers
     (c.requires c.loop-entry.entry-index (OpenOne 0) c.loop-entry-test.true)
 
 pub returns-clause-makes : goal.returns-clause-makes
 returns-clause-makes c =
     let script : List Turned = c.args.script.now in
-    let whole : take c.loop-entry.entry-index script ≡ script = take_all c.loop-entry.entry-index script c.loop-entry-test.false in
+    let whole : take c.loop-entry.entry-index script ≡ script =
+    take_all c.loop-entry.entry-index script c.loop-entry-test.false in
     subst (λ (xs : List Turned). MakesAll xs c.args.crew.now c.loop-entry.crew) whole c.loop-entry.invariant.makes

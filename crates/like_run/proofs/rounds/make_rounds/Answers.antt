@@ -20,4 +20,5 @@ returns-then-round-clause-rounds c =
     (suc made.0, rounds-more made.0 _ c.loop.crew c.round.new.self made.1 c.round.ensures.round)
 
 pub returns-then-round-clause-goes_on : goal.returns-then-round-clause-goes_on
-returns-then-round-clause-goes_on c = crew-further _ c.loop.crew c.round.new.self c.loop.invariant.goes_on c.round.ensures.goes_on
+returns-then-round-clause-goes_on c =
+    crew-further _ c.loop.crew c.round.new.self c.loop.invariant.goes_on c.round.ensures.goes_on

@@ -19,4 +19,5 @@ pub returns-clause-ended : goal.returns-clause-ended
 returns-clause-ended c =
     ended-later c.args.crew c.make_rounds.new.crew _
     (crew-further c.args.crew c.open_all.new.self c.make_rounds.new.crew
-    (crew-further c.args.crew c.make_all.new.crew c.open_all.new.self c.make_all.ensures.goes_on c.open_all.ensures.goes_on) c.make_rounds.ensures.goes_on) c.in_ok-finish.ensures
+    (crew-further c.args.crew c.make_all.new.crew c.open_all.new.self c.make_all.ensures.goes_on
+    c.open_all.ensures.goes_on) c.make_rounds.ensures.goes_on) c.in_ok-finish.ensures

@@ -12,19 +12,28 @@ use Rattle.like_run.proofs.Entries.{can-make}
 use Rattle.like_run.proofs.rounds.replay_within.Goals as goal
 
 pub new-requires : goal.new-requires
-new-requires c = subst (λ (xs : List (Vec Request Global)). FitsRun c.args.setup.now (lists_of xs)) (sym c.deref.ensures.value) c.requires.within
+new-requires c =
+    subst (λ (xs : List (Vec Request Global)). FitsRun c.args.setup.now (lists_of xs))
+    (sym c.deref.ensures.value) c.requires.within
 
 pub play-requires : goal.play-requires
 play-requires c = λ k d within.
-    can-make c.args.setup.now (lists_of c.args.plans.items) c.in_ok-site.site c.in_ok-crew.crew (get_or c.args.script.now k d) c.in_ok-crew.ensures c.requires.within.numbers.workers.0
-    (subst (λ n. IsInRun c.args.setup.now.workers n (get_or c.args.script.now k d)) (sym (length-map c.args.plans.items requests_of)) (c.requires.script k d within))
+    can-make c.args.setup.now (lists_of c.args.plans.items) c.in_ok-site.site c.in_ok-crew.crew
+    (get_or c.args.script.now k d) c.in_ok-crew.ensures c.requires.within.numbers.workers.0
+    (subst (λ n. IsInRun c.args.setup.now.workers n (get_or c.args.script.now k d))
+    (sym (length-map c.args.plans.items requests_of)) (c.requires.script k d within))
 
 pub report_of-requires-clause-site : goal.report_of-requires-clause-site
 report_of-requires-clause-site c =
-    subst (λ (v : Vec (Vec Request Global) Global). IsSite c.args.setup.now (lists_of v.items) c.in_ok-site.site) (sym c.of-lists.ensures)
-    (subst (λ (xs : List (Vec Request Global)). IsSite c.args.setup.now (lists_of xs) c.in_ok-site.site) c.deref.ensures.value c.in_ok-site.ensures.site)
+    subst (λ (v : Vec (Vec Request Global) Global). IsSite c.args.setup.now (lists_of v.items) c.in_ok-site.site)
+    (sym c.of-lists.ensures)
+    (subst (λ (xs : List (Vec Request Global)). IsSite c.args.setup.now (lists_of xs) c.in_ok-site.site)
+    c.deref.ensures.value c.in_ok-site.ensures.site)
 
 pub report_of-requires-clause-ended : goal.report_of-requires-clause-ended
 report_of-requires-clause-ended c =
-    subst (λ (v : Vec (Vec Request Global) Global). IsEnded c.args.setup.now (lists_of v.items) c.in_ok-site.site c.in_ok-ended.ended) (sym c.of-lists.ensures)
-    (has-ended c.args.setup.now (lists_of c.args.plans.items) c.in_ok-site.site c.in_ok-crew.crew c.in_ok-ended.ended c.in_ok-crew.ensures c.in_ok-ended.ensures.ended)
+    subst (λ (v : Vec (Vec Request Global) Global). IsEnded c.args.setup.now
+    (lists_of v.items) c.in_ok-site.site c.in_ok-ended.ended) (sym c.of-lists.ensures)
+    (has-ended c.args.setup.now
+    (lists_of c.args.plans.items) c.in_ok-site.site c.in_ok-crew.crew c.in_ok-ended.ended c.in_ok-crew.ensures
+    c.in_ok-ended.ensures.ended)

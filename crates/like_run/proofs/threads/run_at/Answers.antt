@@ -26,20 +26,36 @@ use Rattle.like_run.proofs.Lines.{ends-new, inboxes-of, many-ends}
 use Rattle.like_run.proofs.threads.run_at.Goals as goal
 
 -- the inboxes at which the workers take have the plans of the lines
-plans-taken : (plans : List (List Request)) (l : Lines) (takes : List Taker) → AreLines plans l → takes ≡ map new_taker l.lines.items → plans_of (map inbox_of takes) ≡ plans
+plans-taken : (plans : List (List Request)) (l : Lines) (takes : List Taker)
+    → AreLines plans l
+    → takes ≡ map new_taker l.lines.items
+    → plans_of (map inbox_of takes) ≡ plans
 plans-taken plans l takes are is = plans-are (map inbox_of takes) plans (inboxes-of plans l takes are is)
 
 -- a crew of these plans that has ended on threads has ended at its site
-ended-at : {I : Type 0} (setup : Setup) (plans : List (List Request)) (site : Site) (starts : ℕ) (crew : Crew I) (ends : List Sender) (r : Result Ended RunFault) → IsCrew setup plans site crew → IfOk r (HasEndedOn starts crew ends)
+ended-at : {I : Type 0} (setup : Setup) (plans : List (List Request)) (site : Site) (starts : ℕ) (crew : Crew I)
+    (ends : List Sender) (r : Result Ended RunFault)
+    → IsCrew setup plans site crew
+    → IfOk r (HasEndedOn starts crew ends)
     → IfOk r (IsEnded setup plans site)
 ended-at setup plans site starts crew ends r is h =
-    IfOk-weaker r (HasEndedOn starts crew ends) (IsEnded setup plans site) (λ e on. has-ended setup plans site crew e is on.ended) h
+    IfOk-weaker r (HasEndedOn starts crew ends) (IsEnded setup plans site)
+    (λ e on. has-ended setup plans site crew e is on.ended) h
 
 -- and enough threads could be started
-enough-started : {I : Type 0} (setup : Setup) (plans : List (List Request)) (site : Site) (starts : ℕ) (crew : Crew I) (ends : List Sender) (r : Result Ended RunFault) → IsCrew setup plans site crew → length ends ≡ length plans
+enough-started : {I : Type 0} (setup : Setup) (plans : List (List Request)) (site : Site) (starts : ℕ) (crew : Crew I)
+    (ends : List Sender) (r : Result Ended RunFault)
+    → IsCrew setup plans site crew
+    → length ends ≡ length plans
     → IfOk r (HasEndedOn starts crew ends) → OnOk r (setup.workers + length plans ≤ starts)
 enough-started setup plans site starts crew ends (Ok e) is many on =
-    omega (arith, on.enough, many, as-many (service_of setup plans) setup.workers (board_numbers (board_id site.board)) site.notes crew.servers.items is.servers)
+    omega (
+      arith,
+      on.enough,
+      many,
+      as-many (service_of setup plans) setup.workers
+          (board_numbers (board_id site.board)) site.notes crew.servers.items is.servers,
+    )
 enough-started setup plans site starts crew ends (Err fault) is many h = tt
 
 pub new-requires : goal.new-requires
@@ -47,35 +63,54 @@ new-requires g c = all-small c.args.setup.now c.args.plans.items c.requires.with
 
 pub of_inboxes-requires-clause-within : goal.of_inboxes-requires-clause-within
 of_inboxes-requires-clause-within g c =
-    let plans = plans-taken (lists_of c.args.plans.items) c.in_ok-lines.field-0 c.in_ok-sends.takes.items c.in_ok-lines.ensures (c.in_ok-sends.ensures.takes ∙ ap (map new_taker) c.deref.ensures.value) in
+    let plans = plans-taken
+    (lists_of c.args.plans.items) c.in_ok-lines.field-0 c.in_ok-sends.takes.items c.in_ok-lines.ensures
+    (c.in_ok-sends.ensures.takes ∙ ap (map new_taker) c.deref.ensures.value) in
     subst (FitsRun c.args.setup.now) (sym plans) c.requires.within
 
 pub of_inboxes-requires-clause-untouched : goal.of_inboxes-requires-clause-untouched
 of_inboxes-requires-clause-untouched g c =
     are-untouched (map inbox_of c.in_ok-sends.takes.items) (lists_of c.args.plans.items)
-    (inboxes-of (lists_of c.args.plans.items) c.in_ok-lines.field-0 c.in_ok-sends.takes.items c.in_ok-lines.ensures (c.in_ok-sends.ensures.takes ∙ ap (map new_taker) c.deref.ensures.value))
+    (inboxes-of (lists_of c.args.plans.items) c.in_ok-lines.field-0 c.in_ok-sends.takes.items c.in_ok-lines.ensures
+    (c.in_ok-sends.ensures.takes ∙ ap (map new_taker) c.deref.ensures.value))
 
 pub of_inboxes-requires-clause-site : goal.of_inboxes-requires-clause-site
 of_inboxes-requires-clause-site g c =
-    let plans = plans-taken (lists_of c.args.plans.items) c.in_ok-lines.field-0 c.in_ok-sends.takes.items c.in_ok-lines.ensures (c.in_ok-sends.ensures.takes ∙ ap (map new_taker) c.deref.ensures.value) in
+    let plans = plans-taken
+    (lists_of c.args.plans.items) c.in_ok-lines.field-0 c.in_ok-sends.takes.items c.in_ok-lines.ensures
+    (c.in_ok-sends.ensures.takes ∙ ap (map new_taker) c.deref.ensures.value) in
     subst (λ asked. IsSite c.args.setup.now asked c.args.site.now) (sym plans) c.requires.site
 
 pub on_threads-requires-after_bounds : goal.on_threads-requires-after_bounds
 on_threads-requires-after_bounds g c κs within =
-    let few : length (lists_of c.args.plans.items) ≤ max_submitters = omega (arith, c.requires.within.numbers.submitters.1, length-map (lists_of c.args.plans.items) length) in
-    ends-new (lists_of c.args.plans.items) c.in_ok-lines.field-0 c.in_ok-sends.sends.items c.in_ok-lines.ensures few (c.in_ok-sends.ensures.sends ∙ ap (map new_sender) c.deref.ensures.value)
+    let few : length (lists_of c.args.plans.items) ≤ max_submitters =
+    omega (arith, c.requires.within.numbers.submitters.1, length-map (lists_of c.args.plans.items) length) in
+    ends-new (lists_of c.args.plans.items) c.in_ok-lines.field-0 c.in_ok-sends.sends.items c.in_ok-lines.ensures few
+    (c.in_ok-sends.ensures.sends ∙ ap (map new_sender) c.deref.ensures.value)
 
 pub returns-clause-ended : goal.returns-clause-ended
 returns-clause-ended g c =
-    let plans = plans-taken (lists_of c.args.plans.items) c.in_ok-lines.field-0 c.in_ok-sends.takes.items c.in_ok-lines.ensures (c.in_ok-sends.ensures.takes ∙ ap (map new_taker) c.deref.ensures.value) in
-    let crew = subst (λ asked. IsCrew c.args.setup.now asked c.args.site.now c.in_ok-crew.crew) plans c.in_ok-crew.ensures in
-    ended-at c.args.setup.now (lists_of c.args.plans.items) c.args.site.now c.args.starts c.in_ok-crew.crew c.in_ok-sends.sends.items c.on_threads.result crew c.on_threads.ensures.ended
+    let plans = plans-taken
+    (lists_of c.args.plans.items) c.in_ok-lines.field-0 c.in_ok-sends.takes.items c.in_ok-lines.ensures
+    (c.in_ok-sends.ensures.takes ∙ ap (map new_taker) c.deref.ensures.value) in
+    let crew = subst (λ asked. IsCrew c.args.setup.now asked c.args.site.now c.in_ok-crew.crew) plans
+    c.in_ok-crew.ensures in
+    ended-at c.args.setup.now
+    (lists_of c.args.plans.items) c.args.site.now c.args.starts c.in_ok-crew.crew c.in_ok-sends.sends.items
+    c.on_threads.result crew c.on_threads.ensures.ended
 
 pub returns-clause-enough : goal.returns-clause-enough
 returns-clause-enough g c =
-    let plans = plans-taken (lists_of c.args.plans.items) c.in_ok-lines.field-0 c.in_ok-sends.takes.items c.in_ok-lines.ensures (c.in_ok-sends.ensures.takes ∙ ap (map new_taker) c.deref.ensures.value) in
-    let crew = subst (λ asked. IsCrew c.args.setup.now asked c.args.site.now c.in_ok-crew.crew) plans c.in_ok-crew.ensures in
-    let many = many-ends (lists_of c.args.plans.items) c.in_ok-lines.field-0 c.in_ok-sends.sends.items c.in_ok-lines.ensures (c.in_ok-sends.ensures.sends ∙ ap (map new_sender) c.deref.ensures.value) in
+    let plans = plans-taken
+    (lists_of c.args.plans.items) c.in_ok-lines.field-0 c.in_ok-sends.takes.items c.in_ok-lines.ensures
+    (c.in_ok-sends.ensures.takes ∙ ap (map new_taker) c.deref.ensures.value) in
+    let crew = subst (λ asked. IsCrew c.args.setup.now asked c.args.site.now c.in_ok-crew.crew) plans
+    c.in_ok-crew.ensures in
+    let many = many-ends
+    (lists_of c.args.plans.items) c.in_ok-lines.field-0 c.in_ok-sends.sends.items c.in_ok-lines.ensures
+    (c.in_ok-sends.ensures.sends ∙ ap (map new_sender) c.deref.ensures.value) in
     let same = length-map c.args.plans.items requests_of in
     subst (λ (n : ℕ). OnOk c.on_threads.result (c.args.setup.now.workers + n ≤ c.args.starts)) same
-    (enough-started c.args.setup.now (lists_of c.args.plans.items) c.args.site.now c.args.starts c.in_ok-crew.crew c.in_ok-sends.sends.items c.on_threads.result crew many c.on_threads.ensures.ended)
+    (enough-started c.args.setup.now
+    (lists_of c.args.plans.items) c.args.site.now c.args.starts c.in_ok-crew.crew c.in_ok-sends.sends.items
+    c.on_threads.result crew many c.on_threads.ensures.ended)

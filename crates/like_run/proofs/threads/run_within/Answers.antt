@@ -7,13 +7,18 @@ use Rattle.like_crew.specs.Site.{IsSite}
 use Rattle.like_run.proofs.threads.run_within.Goals as goal
 
 pub new-requires : goal.new-requires
-new-requires g c = subst (λ (xs : List (Vec Request Global)). FitsRun c.args.setup.now (lists_of xs)) (sym c.deref.ensures.value) c.requires
+new-requires g c =
+    subst (λ (xs : List (Vec Request Global)). FitsRun c.args.setup.now (lists_of xs))
+    (sym c.deref.ensures.value) c.requires
 
 pub report_of-requires-clause-site : goal.report_of-requires-clause-site
 report_of-requires-clause-site g c =
-    subst (λ (v : Vec (Vec Request Global) Global). IsSite c.args.setup.now (lists_of v.items) c.in_ok-site.site) (sym c.of-lists.ensures)
-    (subst (λ (xs : List (Vec Request Global)). IsSite c.args.setup.now (lists_of xs) c.in_ok-site.site) c.deref.ensures.value c.in_ok-site.ensures.site)
+    subst (λ (v : Vec (Vec Request Global) Global). IsSite c.args.setup.now (lists_of v.items) c.in_ok-site.site)
+    (sym c.of-lists.ensures)
+    (subst (λ (xs : List (Vec Request Global)). IsSite c.args.setup.now (lists_of xs) c.in_ok-site.site)
+    c.deref.ensures.value c.in_ok-site.ensures.site)
 
 pub report_of-requires-clause-ended : goal.report_of-requires-clause-ended
 report_of-requires-clause-ended g c =
-    subst (λ (v : Vec (Vec Request Global) Global). IsEnded c.args.setup.now (lists_of v.items) c.in_ok-site.site c.in_ok-ended.ended) (sym c.of-lists.ensures) c.in_ok-ended.ensures.ended
+    subst (λ (v : Vec (Vec Request Global) Global). IsEnded c.args.setup.now
+    (lists_of v.items) c.in_ok-site.site c.in_ok-ended.ended) (sym c.of-lists.ensures) c.in_ok-ended.ensures.ended

@@ -9,7 +9,9 @@ use Rattle.like_script.proofs.ScriptRead.{few-entries, script-only-failed, scrip
 use Rattle.like_script.proofs.file.read_script.Goals as goal
 
 -- where entries were read, they are not too many
-few : (r : Result (Vec Turned Global) ScriptFault) → IfOk r (λ entries. MadeOf AsksEntryRecord entry_tests (λ body. entries.items ≡ map turned_of body)) → IfOk r (λ entries. length entries.items ≤ max_entries)
+few : (r : Result (Vec Turned Global) ScriptFault)
+    → IfOk r (λ entries. MadeOf AsksEntryRecord entry_tests (λ body. entries.items ≡ map turned_of body))
+    → IfOk r (λ entries. length entries.items ≤ max_entries)
 few (Ok entries) made = few-entries entries.items made
 few (Err fault) made = tt
 

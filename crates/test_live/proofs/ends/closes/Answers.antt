@@ -9,10 +9,17 @@ use Rattle.test_live.proofs.ends.closes.Goals as goal
 pub close-requires-clause-whole : goal.close-requires-clause-whole
 close-requires-clause-whole g c =
     let none = c.pop-2.new.self in
-    let empty : length none.items ≡ 0 = sym none.ok.0 ∙ eqb-true none.len 0 (sym c.is_empty.ensures ∙ c.if-not-is_empty.false) in
-    let all = two-of c.args.service.seats.items c.pop.new.self.items none.items c.pop.result c.pop-2.result c.expect-first.result c.expect-second.result c.pop.ensures.items c.pop-2.ensures.items c.expect-second.ensures c.expect-first.ensures empty in
+    let empty : length none.items ≡ 0 =
+    sym none.ok.0 ∙ eqb-true none.len 0 (sym c.is_empty.ensures ∙ c.if-not-is_empty.false) in
+    let all = two-of c.args.service.seats.items c.pop.new.self.items none.items c.pop.result c.pop-2.result
+    c.expect-first.result c.expect-second.result c.pop.ensures.items c.pop-2.ensures.items c.expect-second.ensures
+    c.expect-first.ensures empty in
     let back = c.in_ok-push-2.ensures.items
-    ∙ ap (λ (xs : List LiveView). xs ++ c.plays.new.first ∷ []) (c.in_ok-push.ensures.items ∙ ap (λ (xs : List LiveView). xs ++ c.plays.new.second ∷ []) (nil_from_length none.items empty)) in
+    ∙ ap (λ (xs : List LiveView). xs ++ c.plays.new.first ∷ [])
+    (c.in_ok-push.ensures.items
+    ∙ ap (λ (xs : List LiveView). xs ++ c.plays.new.second ∷ []) (nil_from_length none.items empty)) in
     subst (AreItsSeats c.plays.new.driver) (sym back)
-    (turned-after c.args.service.driver c.plays.new.driver c.expect-first.result c.expect-second.result c.plays.new.first c.plays.new.second
-    (subst (AreItsSeats c.args.service.driver) all c.requires) c.plays.ensures.driver c.plays.ensures.first c.plays.ensures.second)
+    (turned-after c.args.service.driver c.plays.new.driver c.expect-first.result c.expect-second.result
+    c.plays.new.first c.plays.new.second
+    (subst (AreItsSeats c.args.service.driver) all c.requires) c.plays.ensures.driver c.plays.ensures.first
+    c.plays.ensures.second)

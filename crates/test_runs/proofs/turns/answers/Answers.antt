@@ -12,7 +12,10 @@ requests_of plan = plan.items
 pub answers_within-requires-clause-within : goal.answers_within-requires-clause-within
 answers_within-requires-clause-within c =
     fits-run c.args.setup.now (map requests_of c.args.plans.items)
-    (subst (λ (xs : List (Vec Request Global)). IsWithinLimits c.args.setup.now (map requests_of xs)) c.deref.ensures.value c.in_ok-check_setup.ensures)
+    (subst (λ (xs : List (Vec Request Global)). IsWithinLimits c.args.setup.now (map requests_of xs))
+    c.deref.ensures.value c.in_ok-check_setup.ensures)
 
 pub answers_within-requires-clause-script : goal.answers_within-requires-clause-script
-answers_within-requires-clause-script c = subst (λ n. All (IsInRun c.args.setup.now.workers n) c.args.script.now) (c.len.ensures ∙ c.args.plans.ok.0) c.in_ok-check_script.ensures
+answers_within-requires-clause-script c =
+    subst (λ n. All (IsInRun c.args.setup.now.workers n) c.args.script.now)
+    (c.len.ensures ∙ c.args.plans.ok.0) c.in_ok-check_script.ensures

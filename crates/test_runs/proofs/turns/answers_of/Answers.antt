@@ -8,9 +8,11 @@ pub loop-entry-init : goal.loop-entry-init
 loop-entry-init c = crew-same c.args.crew.now
 
 pub loop-entry-preserved : goal.loop-entry-preserved
-loop-entry-preserved c = crew-further _ c.loop-entry.crew c.answer_of.new.crew c.loop-entry.invariant c.answer_of.ensures
+loop-entry-preserved c =
+    crew-further _ c.loop-entry.crew c.answer_of.new.crew c.loop-entry.invariant c.answer_of.ensures
 
 pub answer_of-requires : goal.answer_of-requires
 answer_of-requires c =
-    can-make-later c.args.crew.now.servers.items c.loop-entry.crew.servers.items (get_or c.args.script.now c.loop-entry.entry-index (OpenOne 0)) c.loop-entry.invariant.servers
+    can-make-later c.args.crew.now.servers.items c.loop-entry.crew.servers.items
+    (get_or c.args.script.now c.loop-entry.entry-index (OpenOne 0)) c.loop-entry.invariant.servers
     (c.requires c.loop-entry.entry-index (OpenOne 0) c.loop-entry-test.true)

@@ -9,9 +9,13 @@ use Rattle.like_run.proofs.Entries.{can-make}
 use Rattle.test_runs.proofs.turns.answers_within.Goals as goal
 
 pub new-requires : goal.new-requires
-new-requires c = subst (λ (xs : List (Vec Request Global)). FitsRun c.args.setup.now (lists_of xs)) (sym c.deref.ensures.value) c.requires.within
+new-requires c =
+    subst (λ (xs : List (Vec Request Global)). FitsRun c.args.setup.now (lists_of xs))
+    (sym c.deref.ensures.value) c.requires.within
 
 pub answers_of-requires : goal.answers_of-requires
 answers_of-requires c = λ k d within.
-    can-make c.args.setup.now (lists_of c.args.plans.items) c.in_ok-site.site c.in_ok-crew.crew (get_or c.args.script.now k d) c.in_ok-crew.ensures c.requires.within.numbers.workers.0
-    (subst (λ n. IsInRun c.args.setup.now.workers n (get_or c.args.script.now k d)) (sym (length-map c.args.plans.items requests_of)) (c.requires.script k d within))
+    can-make c.args.setup.now (lists_of c.args.plans.items) c.in_ok-site.site c.in_ok-crew.crew
+    (get_or c.args.script.now k d) c.in_ok-crew.ensures c.requires.within.numbers.workers.0
+    (subst (λ n. IsInRun c.args.setup.now.workers n (get_or c.args.script.now k d))
+    (sym (length-map c.args.plans.items requests_of)) (c.requires.script k d within))

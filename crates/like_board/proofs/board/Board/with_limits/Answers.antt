@@ -21,8 +21,12 @@ of_words-requires c =
     c.in_ok-from_slice.ensures.items
     c.in_ok-from_slice-2.ensures.items
     (c.pack.ensures ∙ ap packed c.first-first.ensures)
-    c.as_slice.ensures.value
-    (c.in_ok-words.ensures.len, c.in_ok-words.ensures.phase_word, c.in_ok-words.ensures.counts, c.in_ok-words.ensures.mask_word)
+    c.as_slice.ensures.value (
+      c.in_ok-words.ensures.len,
+      c.in_ok-words.ensures.phase_word,
+      c.in_ok-words.ensures.counts,
+      c.in_ok-words.ensures.mask_word,
+    )
     c.requires.some_worker
     c.requires.few_workers
     c.requires.same_pages

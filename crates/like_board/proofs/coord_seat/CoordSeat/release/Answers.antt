@@ -10,5 +10,8 @@ store-requires c =
     let seat = c.args.self.now in (
       c.requires.here,
       c.args.board.now.some_word,
-      releasing c.args.board.now.table.shared.key _ _ _ seat.limits.modulus (fields_of seat.seen) _ (ap (λ (l : Limits). l.modulus) seat.limited) (c.pack.ensures ∙ ap packed c.released_modulo-next.ensures.fields) seat.seen.lawful seat.saw seat.is_coord c.requires.may,
+      releasing c.args.board.now.table.shared.key _ _ _ seat.limits.modulus (fields_of seat.seen) _
+          (ap (λ (l : Limits). l.modulus) seat.limited)
+          (c.pack.ensures ∙ ap packed c.released_modulo-next.ensures.fields) seat.seen.lawful seat.saw seat.is_coord
+          c.requires.may,
     )

@@ -8,5 +8,6 @@ fetch_or-requires c =
     let seat = c.args.self.now in (
       c.requires.here,
       c.args.board.now.some_word,
-      acknowledging c.args.board.now.table.shared.key _ _ _ _ (c.answer_bit-bit.ensures ∙ ap answer_bit seat.numbered) seat.is_worker c.requires.runs c.requires.ending,
+      acknowledging c.args.board.now.table.shared.key _ _ _ _
+          (c.answer_bit-bit.ensures ∙ ap answer_bit seat.numbered) seat.is_worker c.requires.runs c.requires.ending,
     )

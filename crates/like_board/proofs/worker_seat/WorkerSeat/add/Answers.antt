@@ -15,5 +15,6 @@ fetch_add-requires c =
     let there = word_of-order c.args.page _ c.requires.may.there in (
       c.requires.here,
       omega arith,
-      adding_to board.table.shared.key _ _ _ c.args.page _ c.args.n word seat.is_worker (may_add _ _ c.args.page c.args.n c.requires.may),
+      adding_to board.table.shared.key _ _ _ c.args.page _ c.args.n word seat.is_worker
+          (may_add _ _ c.args.page c.args.n c.requires.may),
     )

@@ -15,7 +15,8 @@ load-requires c =
     let there = word_of-order c.args.page _ c.requires.may.there in (
       c.requires.here,
       omega arith,
-      glancing board.table.shared.key _ _ _ c.args.page _ word seat.is_worker (may_glance _ _ c.args.page c.requires.may),
+      glancing board.table.shared.key _ _ _ c.args.page _ word seat.is_worker
+          (may_glance _ _ c.args.page c.requires.may),
     )
 
 pub invariant_of-self : goal.invariant_of-self

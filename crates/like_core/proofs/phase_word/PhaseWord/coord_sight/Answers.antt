@@ -15,7 +15,8 @@ returns c =
     let ending : c.is_ending.result ≡ (code_of p.kind % 2 == 1) =
     same_truth _ _ (λ is. eq-eqb _ _ (c.is_ending.ensures.0 is)) (λ is. c.is_ending.ensures.1 (eqb-true _ _ is))
     in
-    let in_or_gone : (bit_or p.answered p.retired == 2 ^ n - 1) ≡ each_below (λ i. has_bit p.answered i || has_bit p.retired i) n =
+    let in_or_gone : (bit_or p.answered p.retired == 2 ^ n - 1)
+    ≡ each_below (λ i. has_bit p.answered i || has_bit p.retired i) n =
     full_bits (bit_or p.answered p.retired) n (or_lt n p.answered p.retired p.lawful.answered p.lawful.retired) ∙
     each_below-same _ _ n (λ i _. has_bit-or p.answered p.retired i)
     in

@@ -14,4 +14,5 @@ returns-clause-moved c =
     let likes = c.take_unmerged-likes.result in
     c.add_count.ensures.added ∙
     (ap (λ (n : Numbers). with_count n page (n.count page + likes)) c.take_unmerged-likes.ensures.empty ∙
-    ap (λ (l : ℕ). with_count (with_unmerged old c.args.worker page 0) page (old.count page + l)) c.take_unmerged-likes.ensures.likes)
+    ap (λ (l : ℕ). with_count (with_unmerged old c.args.worker page 0) page (old.count page + l))
+    c.take_unmerged-likes.ensures.likes)

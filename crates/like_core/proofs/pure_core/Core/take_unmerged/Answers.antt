@@ -10,7 +10,8 @@ use Rattle.like_core.proofs.pure_core.Core.take_unmerged.Goals as goal
 pub invariant_of-self-clause-rows_sized : goal.invariant_of-self-clause-rows_sized
 invariant_of-self-clause-rows_sized c =
     let core = c.args.self.now in
-    let row = get_or_read core.unmerged.items c.args.worker c.index_mut-row.result.now c.requires.worker c.index_mut-row.ensures.value [] in
+    let row = get_or_read core.unmerged.items c.args.worker c.index_mut-row.result.now c.requires.worker
+    c.index_mut-row.ensures.value [] in
     let read : c.get-likes.result ≡ (numbers_of core).unmerged c.args.worker c.args.page =
     c.get-likes.ensures ∙ ap (λ (r : List ℕ). slice_index r c.args.page) row
     in
@@ -27,7 +28,8 @@ invariant_of-self-clause-rows_sized c =
 pub invariant_of-self-clause-bounded : goal.invariant_of-self-clause-bounded
 invariant_of-self-clause-bounded c =
     let core = c.args.self.now in
-    let row = get_or_read core.unmerged.items c.args.worker c.index_mut-row.result.now c.requires.worker c.index_mut-row.ensures.value [] in
+    let row = get_or_read core.unmerged.items c.args.worker c.index_mut-row.result.now c.requires.worker
+    c.index_mut-row.ensures.value [] in
     let read : c.get-likes.result ≡ (numbers_of core).unmerged c.args.worker c.args.page =
     c.get-likes.ensures ∙ ap (λ (r : List ℕ). slice_index r c.args.page) row
     in
@@ -39,12 +41,14 @@ invariant_of-self-clause-bounded c =
       is = c.set.ensures;
     }
     in
-    let bounds = core.bounded c.args.page c.requires.page in written_bounds core c.args.worker c.args.page (0) _ _ writes (omega arith)
+    let bounds = core.bounded c.args.page c.requires.page in
+    written_bounds core c.args.worker c.args.page (0) _ _ writes (omega arith)
 
 pub returns-clause-empty : goal.returns-clause-empty
 returns-clause-empty c =
     let core = c.args.self.now in
-    let row = get_or_read core.unmerged.items c.args.worker c.index_mut-row.result.now c.requires.worker c.index_mut-row.ensures.value [] in
+    let row = get_or_read core.unmerged.items c.args.worker c.index_mut-row.result.now c.requires.worker
+    c.index_mut-row.ensures.value [] in
     let read : c.get-likes.result ≡ (numbers_of core).unmerged c.args.worker c.args.page =
     c.get-likes.ensures ∙ ap (λ (r : List ℕ). slice_index r c.args.page) row
     in
@@ -61,7 +65,8 @@ returns-clause-empty c =
 pub returns-clause-room : goal.returns-clause-room
 returns-clause-room c =
     let core = c.args.self.now in
-    let row = get_or_read core.unmerged.items c.args.worker c.index_mut-row.result.now c.requires.worker c.index_mut-row.ensures.value [] in
+    let row = get_or_read core.unmerged.items c.args.worker c.index_mut-row.result.now c.requires.worker
+    c.index_mut-row.ensures.value [] in
     let read : c.get-likes.result ≡ (numbers_of core).unmerged c.args.worker c.args.page =
     c.get-likes.ensures ∙ ap (λ (r : List ℕ). slice_index r c.args.page) row
     in

@@ -14,7 +14,8 @@ overflow_add-sum c =
     let items = c.deref-row-items.ensures.value in
     let is = c.row-item.is ∙ ap (λ (rows : List (List ℕ)). slice_index_or rows i c.row-item.result) items in
     let row = get_or_read core.unmerged.items i c.row-item.result (omega arith) is [] in
-    let read : c.get-sum-in-loop-row.result ≡ f i = c.get-sum-in-loop-row.ensures ∙ ap (λ (r : List ℕ). slice_index r page) row in
+    let read : c.get-sum-in-loop-row.result ≡ f i =
+    c.get-sum-in-loop-row.ensures ∙ ap (λ (r : List ℕ). slice_index r page) row in
     let more = sum_below-suc f i in
     let fewer = sum_below-mono f (i + 1) n.workers (omega arith) in
     let room = core.bounded page c.requires in

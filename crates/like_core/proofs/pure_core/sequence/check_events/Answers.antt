@@ -19,7 +19,8 @@ returns-in-Err-clause-permitted c =
     let reached = c.loop-index.invariant.1 in
     let refused = subst (λ (n : Numbers). Refuses n event c.in-Err.reason) reached c.in-Err.ensures.refused in (
       λ differ. cc,
-      λ all. absurd (Refuses-Permits _ event c.in-Err.reason refused (PermitsEach-at (numbers_of c.args.core.now) events i event at all)),
+      λ all. absurd (Refuses-Permits _ event c.in-Err.reason refused
+          (PermitsEach-at (numbers_of c.args.core.now) events i event at all)),
     )
 
 pub returns-in-Err-clause-wrong : goal.returns-in-Err-clause-wrong
@@ -42,7 +43,8 @@ returns-in-Err-clause-states_before c =
 
 pub returns-in-Err-clause-reachable : goal.returns-in-Err-clause-reachable
 returns-in-Err-clause-reachable c =
-    keeps_reachable_all c.args.core.now c.step.new.self (take c.loop-index.index c.args.events.now) c.loop-index.invariant.0
+    keeps_reachable_all c.args.core.now c.step.new.self
+    (take c.loop-index.index c.args.events.now) c.loop-index.invariant.0
     (ap numbers_of c.in-Err.ensures.unchanged ∙ c.loop-index.invariant.1)
 
 pub loop-index-preserved : goal.loop-index-preserved
@@ -57,7 +59,8 @@ loop-index-preserved c =
     let e : i + 1 ≡ suc i = omega arith in
     rw e (
       PermitsEach-take old events i event at c.loop-index.invariant.0 may,
-      c.in_default.ensures.next ∙ (ap (λ (n : Numbers). next n event) reached ∙ sym (next_all-take old events i event at)),
+      c.in_default.ensures.next
+          ∙ (ap (λ (n : Numbers). next n event) reached ∙ sym (next_all-take old events i event at)),
     )
 
 pub returns-clause-states : goal.returns-clause-states

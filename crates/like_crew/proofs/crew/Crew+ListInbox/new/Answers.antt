@@ -12,16 +12,22 @@ list_inboxes-requires c = all-small c.args.setup.now c.args.plans.items c.requir
 
 pub of_inboxes-requires-clause-within : goal.of_inboxes-requires-clause-within
 of_inboxes-requires-clause-within c =
-    subst (FitsRun c.args.setup.now) (sym (plans-are (map view_of c.in_ok-inboxes.inboxes.items) (lists_of c.args.plans.items) c.in_ok-inboxes.ensures)) c.requires.within
+    subst (FitsRun c.args.setup.now)
+    (sym (plans-are (map view_of c.in_ok-inboxes.inboxes.items)
+    (lists_of c.args.plans.items) c.in_ok-inboxes.ensures)) c.requires.within
 
 pub of_inboxes-requires-clause-untouched : goal.of_inboxes-requires-clause-untouched
-of_inboxes-requires-clause-untouched c = are-untouched (map view_of c.in_ok-inboxes.inboxes.items) (lists_of c.args.plans.items) c.in_ok-inboxes.ensures
+of_inboxes-requires-clause-untouched c =
+    are-untouched (map view_of c.in_ok-inboxes.inboxes.items) (lists_of c.args.plans.items) c.in_ok-inboxes.ensures
 
 pub of_inboxes-requires-clause-site : goal.of_inboxes-requires-clause-site
 of_inboxes-requires-clause-site c =
-    subst (λ plans. IsSite c.args.setup.now plans c.args.site.now) (sym (plans-are (map view_of c.in_ok-inboxes.inboxes.items) (lists_of c.args.plans.items) c.in_ok-inboxes.ensures)) c.requires.site
+    subst (λ plans. IsSite c.args.setup.now plans c.args.site.now)
+    (sym (plans-are (map view_of c.in_ok-inboxes.inboxes.items)
+    (lists_of c.args.plans.items) c.in_ok-inboxes.ensures)) c.requires.site
 
 pub returns : goal.returns
 returns c =
-    subst (λ plans. IfOk c.of_inboxes.result (IsCrew c.args.setup.now plans c.args.site.now)) (plans-are (map view_of c.in_ok-inboxes.inboxes.items) (lists_of c.args.plans.items) c.in_ok-inboxes.ensures)
+    subst (λ plans. IfOk c.of_inboxes.result (IsCrew c.args.setup.now plans c.args.site.now))
+    (plans-are (map view_of c.in_ok-inboxes.inboxes.items) (lists_of c.args.plans.items) c.in_ok-inboxes.ensures)
     c.of_inboxes.ensures

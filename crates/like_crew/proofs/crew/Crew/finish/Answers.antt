@@ -16,8 +16,10 @@ returns g c =
         servers = servers;
         later = all-same servers;
         gone = c.requires.gone;
-        logs_are = subst (λ (logs : Vec WorkerLog Global). AllZip IsLogOf servers logs.items) (sym c.new.ensures.logs) c.in_ok-logs.ensures.logs;
-        seats_are = subst (λ (seats : Vec WorkerSeat Global). AllZip IsSeatOf servers seats.items) (sym c.new.ensures.seats) c.in_ok-logs.ensures.seats;
+        logs_are = subst (λ (logs : Vec WorkerLog Global). AllZip IsLogOf servers logs.items)
+            (sym c.new.ensures.logs) c.in_ok-logs.ensures.logs;
+        seats_are = subst (λ (seats : Vec WorkerSeat Global). AllZip IsSeatOf servers seats.items)
+            (sym c.new.ensures.seats) c.in_ok-logs.ensures.seats;
       };
       captain = c.args.self.captain;
       later = captain-same c.args.self.captain;

@@ -24,16 +24,22 @@ loop-item-preserved g c =
     record {
       next = omega (arith, l.invariant.next, length_push l.yielded c.in-Some.item);
       sized = length-set l.hands.items (l.submitter % c.args.workers) c.push.new.self ∙ l.invariant.sized;
-      dealt = deal-pushed held l.hands.items c.index_mut.result.now c.push.new.self l.yielded c.in-Some.item c.args.workers (l.submitter % c.args.workers)
-          c.requires l.invariant.sized (ap (λ n. n % c.args.workers) l.invariant.next) c.index_mut.ensures.value c.in_ok-push.ensures.items l.invariant.dealt;
+      dealt = deal-pushed held l.hands.items c.index_mut.result.now c.push.new.self l.yielded c.in-Some.item
+          c.args.workers (l.submitter % c.args.workers)
+          c.requires l.invariant.sized
+          (ap (λ n. n % c.args.workers) l.invariant.next) c.index_mut.ensures.value c.in_ok-push.ensures.items
+          l.invariant.dealt;
     }
 
 pub returns-clause-dealt : goal.returns-clause-dealt
 returns-clause-dealt g c =
     let from = c.into_iter-item-iterator.ensures.into_iter_gives in
-    let all = YieldsList-from_vec {s = c.into_iter-item-iterator.result} c.args.items.items from.0 (from.1 ∙ c.args.items.ok.0) in
-    let t = YieldsList-end all c.loop-item.yielded _ c.loop-item.yielded_by _ c.next.new.self c.in-None.is c.next.ensures.steps in
+    let all = YieldsList-from_vec {s = c.into_iter-item-iterator.result} c.args.items.items from.0
+    (from.1 ∙ c.args.items.ok.0) in
+    let t = YieldsList-end all c.loop-item.yielded _ c.loop-item.yielded_by _ c.next.new.self c.in-None.is
+    c.next.ensures.steps in
     let whole : c.loop-item.yielded ≡ c.args.items.items = sym (map-id c.loop-item.yielded) ∙ t.0 in
     λ worker below.
     subst (λ xs. get_or (map held c.loop-item.hands.items) worker [] ≡ dealt c.args.workers worker xs) whole
-    (is-dealt c.args.workers worker c.loop-item.yielded (get_or (map held c.loop-item.hands.items) worker []) c.requires (c.loop-item.invariant.dealt worker below))
+    (is-dealt c.args.workers worker c.loop-item.yielded (get_or (map held c.loop-item.hands.items) worker []) c.requires
+    (c.loop-item.invariant.dealt worker below))

@@ -10,7 +10,12 @@ IsEmpty hand = hand.items ≡ []
 none-yet : {A : Type 0} (hands : List (Vec A Global)) → hands ≡ [] → (length hands ≡ 0) × All IsEmpty hands
 none-yet hands none = (ap length none, subst (All IsEmpty) (sym none) (λ k d within. absurd (omega (arith, within))))
 
-one-more : {A : Type 0} (hands now : List (Vec A Global)) (hand : Vec A Global) (n : ℕ) → now ≡ hands ++ hand ∷ [] → length hands ≡ n → All IsEmpty hands → IsEmpty hand → (length now ≡ n + 1) × All IsEmpty now
+one-more : {A : Type 0} (hands now : List (Vec A Global)) (hand : Vec A Global) (n : ℕ)
+    → now ≡ hands ++ hand ∷ []
+    → length hands ≡ n
+    → All IsEmpty hands
+    → IsEmpty hand
+    → (length now ≡ n + 1) × All IsEmpty now
 one-more hands now hand n pushed many all empty = (
   ap length pushed ∙ length_push hands hand ∙ ap (λ k. k + 1) many,
   subst (All IsEmpty) (sym pushed) (All-push IsEmpty hands hand all empty),
@@ -23,5 +28,6 @@ loop-init g c =
 
 pub loop-preserved : goal.loop-preserved
 loop-preserved g c =
-    let more = one-more c.loop.hands.items c.push.new.self.items c.new.result c.loop.counter c.in_ok-push.ensures.items c.loop.invariant.len c.loop.invariant.none c.new.ensures.items in
+    let more = one-more c.loop.hands.items c.push.new.self.items c.new.result c.loop.counter c.in_ok-push.ensures.items
+    c.loop.invariant.len c.loop.invariant.none c.new.ensures.items in
     record { len = more.0; none = more.1 }

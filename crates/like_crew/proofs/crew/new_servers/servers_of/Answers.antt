@@ -25,32 +25,52 @@ abbrev held : {A : Type 0} → Vec A Global → List A
 held hand = hand.items
 
 -- the next hand has what is dealt to its worker
-hand-is : {A : Type 0} (view : A → InboxView) (hands left : List (Vec A Global)) (k workers : ℕ) (hand : Vec A Global) (items : List A)
-    → ((worker : ℕ) → worker < workers → get_or (map held hands) worker [] ≡ dealt workers worker items) → length hands ≡ workers → k < workers
+hand-is : {A : Type 0} (view : A → InboxView) (hands left : List (Vec A Global)) (k workers : ℕ) (hand : Vec A Global)
+    (items : List A)
+    → ((worker : ℕ) → worker < workers → get_or (map held hands) worker [] ≡ dealt workers worker items)
+    → length hands ≡ workers
+    → k < workers
     → left ≡ drop k hands → hand ≡ get_or left 0 hand → map view (held hand) ≡ dealt workers k (map view items)
 hand-is view hands left k workers hand items own sized below rest first =
-    ap (map view) (hand-at held hands left k workers hand items own sized below rest first) ∙ map-dealt view workers k items
+    ap (map view) (hand-at held hands left k workers hand items own sized below rest first)
+    ∙ map-dealt view workers k items
 
 -- and the others are left
-others : {A : Type 0} (hands left rest : List A) (k next : ℕ) → left ≡ drop k hands → rest ≡ remove left 0 → next ≡ k + 1 → rest ≡ drop next hands
+others : {A : Type 0} (hands left rest : List A) (k next : ℕ)
+    → left ≡ drop k hands
+    → rest ≡ remove left 0
+    → next ≡ k + 1
+    → rest ≡ drop next hands
 others hands left rest k next before taken more =
     taken ∙ ap (λ xs. remove xs 0) before ∙ remove-drop k hands ∙ ap (λ n. drop n hands) (sym (add-one k) ∙ sym more)
 
 -- untouched inboxes for a worker, where the number of its server is that of its seat
-inboxes-at : (setup : Setup) (sizes : List ℕ) (number k : ℕ) (inboxes own : List InboxView) → number ≡ k → FitsRun setup (plans_of inboxes) → sizes ≡ map length (plans_of inboxes)
+inboxes-at : (setup : Setup) (sizes : List ℕ) (number k : ℕ) (inboxes own : List InboxView)
+    → number ≡ k
+    → FitsRun setup (plans_of inboxes)
+    → sizes ≡ map length (plans_of inboxes)
     → AreUntouched inboxes → own ≡ dealt setup.workers k inboxes → AreInboxesFor setup sizes number own
 inboxes-at setup sizes number k inboxes own same within sized none is =
     subst (λ n. AreInboxesFor setup sizes n own) (sym same)
-    (inboxes-for setup sizes k inboxes own within.numbers.workers.0 sized none (plans-within setup (plans_of inboxes) within) is)
+    (inboxes-for setup sizes k inboxes own within.numbers.workers.0 sized none
+    (plans-within setup (plans_of inboxes) within) is)
 
 -- its server, at the post of a new seat
-server-at : (setup : Setup) (sizes : List ℕ) (number k : ℕ) (inboxes own : List InboxView) (post : PostView) (board : List ℕ) (notes : Bool) (s : ServerView) → number ≡ k → sizes ≡ map length (plans_of inboxes)
-    → own ≡ dealt setup.workers k inboxes → IsPostOf k setup.pages post → post.board ≡ board → s.worker.last.share ≡ share_of setup.users (length sizes) setup.workers number
+server-at : (setup : Setup) (sizes : List ℕ) (number k : ℕ) (inboxes own : List InboxView) (post : PostView)
+    (board : List ℕ) (notes : Bool) (s : ServerView)
+    → number ≡ k
+    → sizes ≡ map length (plans_of inboxes)
+    → own ≡ dealt setup.workers k inboxes
+    → IsPostOf k setup.pages post
+    → post.board ≡ board
+    → s.worker.last.share ≡ share_of setup.users (length sizes) setup.workers number
     → s.worker.post ≡ post → s.worker.notes ≡ notes
-    → ((service : Service) → IsServiceOf setup sizes service → AreOwnPlans service setup.workers number own → WorksFor service s)
+    → ((service : Service) → IsServiceOf setup sizes service → AreOwnPlans service setup.workers number own
+    → WorksFor service s)
     → IsServer (service_of setup (plans_of inboxes)) setup.workers board notes k s
 server-at setup sizes number k inboxes own post board notes s same sized is fresh here share at noting works =
-    is-server setup sizes k inboxes own post board notes s sized is fresh here (share ∙ ap (λ n. share_of setup.users (length sizes) setup.workers n) same) at noting
+    is-server setup sizes k inboxes own post board notes s sized is fresh here
+    (share ∙ ap (λ n. share_of setup.users (length sizes) setup.workers n) same) at noting
     (λ service of mine. works service of (subst (λ n. AreOwnPlans service setup.workers n own) (sym same) mine))
 
 pub new-requires-clause-within : goal.new-requires-clause-within
@@ -61,9 +81,12 @@ new-requires-clause-post g c =
     let l = c.loop-seat in
     let k : ℕ = length l.yielded in
     let from = c.into_iter-seat-iterator.ensures.into_iter_gives in
-    let all = YieldsList-from_vec {s = c.into_iter-seat-iterator.result} c.args.seats.items from.0 (from.1 ∙ c.args.seats.ok.0) in
-    let turn = YieldsList-turn all l.yielded _ l.yielded_by _ c.next.new.self c.in-Some.seat c.in-Some.is c.next.ensures.steps in
-    let fresh = c.requires.seats k c.in-Some.seat (slice_get_read c.args.seats.items (length c.args.seats.items) k c.in-Some.seat refl turn.0 turn.1) in
+    let all = YieldsList-from_vec {s = c.into_iter-seat-iterator.result} c.args.seats.items from.0
+    (from.1 ∙ c.args.seats.ok.0) in
+    let turn = YieldsList-turn all l.yielded _ l.yielded_by _ c.next.new.self c.in-Some.seat c.in-Some.is
+    c.next.ensures.steps in
+    let fresh = c.requires.seats k c.in-Some.seat
+    (slice_get_read c.args.seats.items (length c.args.seats.items) k c.in-Some.seat refl turn.0 turn.1) in
     let same : c.len-number.result ≡ k = c.len-number.ensures ∙ l.servers.ok.0 ∙ l.invariant.len in
     subst (IsPostOf c.len-number.result c.args.setup.now.pages) (sym c.at.ensures.meaning)
     (subst (λ n. IsPostOf n c.args.setup.now.pages (seat_meaning c.in-Some.seat)) (sym same) fresh.1)
@@ -73,37 +96,54 @@ new-requires-clause-inboxes g c =
     let l = c.loop-seat in
     let k : ℕ = length l.yielded in
     let from = c.into_iter-seat-iterator.ensures.into_iter_gives in
-    let all = YieldsList-from_vec {s = c.into_iter-seat-iterator.result} c.args.seats.items from.0 (from.1 ∙ c.args.seats.ok.0) in
-    let turn = YieldsList-turn all l.yielded _ l.yielded_by _ c.next.new.self c.in-Some.seat c.in-Some.is c.next.ensures.steps in
+    let all = YieldsList-from_vec {s = c.into_iter-seat-iterator.result} c.args.seats.items from.0
+    (from.1 ∙ c.args.seats.ok.0) in
+    let turn = YieldsList-turn all l.yielded _ l.yielded_by _ c.next.new.self c.in-Some.seat c.in-Some.is
+    c.next.ensures.steps in
     let workers : ℕ = c.args.setup.now.workers in
     let below : k < workers = subst (λ n. k < n) c.requires.len turn.0 in
-    inboxes-at c.args.setup.now c.args.sizes.now c.len-number.result k (map g.I.Inbox.view c.args.inboxes.items) (map g.I.Inbox.view c.remove-inboxes.result.items)
+    inboxes-at c.args.setup.now c.args.sizes.now c.len-number.result k (map g.I.Inbox.view c.args.inboxes.items)
+    (map g.I.Inbox.view c.remove-inboxes.result.items)
     (c.len-number.ensures ∙ l.servers.ok.0 ∙ l.invariant.len) c.requires.within c.requires.sizes c.requires.untouched
-    (hand-is g.I.Inbox.view c.in_ok-hands.hands.items l.hands.items k workers c.remove-inboxes.result c.args.inboxes.items c.in_ok-hands.ensures.dealt c.in_ok-hands.ensures.len below l.invariant.hands c.remove-inboxes.ensures.value)
+    (hand-is g.I.Inbox.view c.in_ok-hands.hands.items l.hands.items k workers c.remove-inboxes.result
+    c.args.inboxes.items c.in_ok-hands.ensures.dealt c.in_ok-hands.ensures.len below l.invariant.hands
+    c.remove-inboxes.ensures.value)
 
 pub loop-seat-preserved : goal.loop-seat-preserved
 loop-seat-preserved g c =
     let l = c.loop-seat in
     let k : ℕ = length l.yielded in
     let from = c.into_iter-seat-iterator.ensures.into_iter_gives in
-    let all = YieldsList-from_vec {s = c.into_iter-seat-iterator.result} c.args.seats.items from.0 (from.1 ∙ c.args.seats.ok.0) in
-    let turn = YieldsList-turn all l.yielded _ l.yielded_by _ c.next.new.self c.in-Some.seat c.in-Some.is c.next.ensures.steps in
+    let all = YieldsList-from_vec {s = c.into_iter-seat-iterator.result} c.args.seats.items from.0
+    (from.1 ∙ c.args.seats.ok.0) in
+    let turn = YieldsList-turn all l.yielded _ l.yielded_by _ c.next.new.self c.in-Some.seat c.in-Some.is
+    c.next.ensures.steps in
     let workers : ℕ = c.args.setup.now.workers in
     let inboxes : List InboxView = map g.I.Inbox.view c.args.inboxes.items in
     let own : List InboxView = map g.I.Inbox.view c.remove-inboxes.result.items in
     let board : List ℕ = board_numbers (board_id c.args.board.now) in
-    let R : ℕ → ServerView → Type 0 = IsServer (service_of c.args.setup.now (plans_of inboxes)) workers board c.args.notes in
+    let R : ℕ → ServerView → Type 0 =
+    IsServer (service_of c.args.setup.now (plans_of inboxes)) workers board c.args.notes in
     let below : k < workers = subst (λ n. k < n) c.requires.len turn.0 in
     let is : own ≡ dealt workers k inboxes =
-    hand-is g.I.Inbox.view c.in_ok-hands.hands.items l.hands.items k workers c.remove-inboxes.result c.args.inboxes.items c.in_ok-hands.ensures.dealt c.in_ok-hands.ensures.len below l.invariant.hands c.remove-inboxes.ensures.value in
-    let fresh = c.requires.seats k c.in-Some.seat (slice_get_read c.args.seats.items (length c.args.seats.items) k c.in-Some.seat refl turn.0 turn.1) in
+    hand-is g.I.Inbox.view c.in_ok-hands.hands.items l.hands.items k workers c.remove-inboxes.result
+    c.args.inboxes.items c.in_ok-hands.ensures.dealt c.in_ok-hands.ensures.len below l.invariant.hands
+    c.remove-inboxes.ensures.value in
+    let fresh = c.requires.seats k c.in-Some.seat
+    (slice_get_read c.args.seats.items (length c.args.seats.items) k c.in-Some.seat refl turn.0 turn.1) in
     let longer : length (l.yielded ++ c.in-Some.seat ∷ []) ≡ k + 1 = length_push l.yielded c.in-Some.seat in
     let server : R k c.in-Ok.server =
-    server-at c.args.setup.now c.args.sizes.now c.len-number.result k inboxes own (seat_meaning c.in-Some.seat) board c.args.notes c.in-Ok.server (c.len-number.ensures ∙ l.servers.ok.0 ∙ l.invariant.len) c.requires.sizes is
-    fresh.1 (ap board_numbers fresh.0) c.in-Ok.ensures.share (c.in-Ok.ensures.at_post ∙ c.at.ensures.meaning) c.in-Ok.ensures.notes c.in-Ok.ensures.works in
-    let both = one-pushed R k (length (l.yielded ++ c.in-Some.seat ∷ [])) l.servers.items _ c.in-Ok.server c.in_ok-push-in-Ok.ensures.items l.invariant.len longer l.invariant.servers server in
+    server-at c.args.setup.now c.args.sizes.now c.len-number.result k inboxes own
+    (seat_meaning c.in-Some.seat) board c.args.notes c.in-Ok.server
+    (c.len-number.ensures ∙ l.servers.ok.0 ∙ l.invariant.len) c.requires.sizes is
+    fresh.1 (ap board_numbers fresh.0) c.in-Ok.ensures.share
+    (c.in-Ok.ensures.at_post ∙ c.at.ensures.meaning) c.in-Ok.ensures.notes c.in-Ok.ensures.works in
+    let both = one-pushed R k
+    (length (l.yielded ++ c.in-Some.seat ∷ [])) l.servers.items _ c.in-Ok.server c.in_ok-push-in-Ok.ensures.items
+    l.invariant.len longer l.invariant.servers server in
     record {
-      hands = others c.in_ok-hands.hands.items l.hands.items _ k _ l.invariant.hands c.remove-inboxes.ensures.items longer;
+      hands = others c.in_ok-hands.hands.items l.hands.items _ k _ l.invariant.hands c.remove-inboxes.ensures.items
+          longer;
       len = both.0;
       servers = both.1;
     }

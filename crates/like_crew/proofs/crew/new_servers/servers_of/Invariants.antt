@@ -10,5 +10,7 @@ abbrev pub invariant-loop-seat : goal.invariant-loop-seat
 invariant-loop-seat g l = record {
   hands : l.hands.items ≡ drop (length l.yielded) l.initial.hands.items;
   len : length l.servers.items ≡ length l.yielded;
-  servers : AllZip (IsServer (service_of l.setup (plans_of (map g.I.Inbox.view l.fn.inboxes.items))) l.setup.workers (board_numbers (board_id l.board)) l.notes) (range_with_len 0 (length l.yielded)) l.servers.items;
+  servers : AllZip
+      (IsServer (service_of l.setup (plans_of (map g.I.Inbox.view l.fn.inboxes.items))) l.setup.workers
+      (board_numbers (board_id l.board)) l.notes) (range_with_len 0 (length l.yielded)) l.servers.items;
 }

@@ -15,12 +15,16 @@ pub loop-worker-preserved : goal.loop-worker-preserved
 loop-worker-preserved g c =
     let l = c.loop-worker in
     let within : l.worker < length l.servers.items = omega (arith, l.invariant.opened.len) in
-    let at = slice_get_read l.servers.items (length l.servers.items) l.worker c.index_mut.result.now refl within c.index_mut.ensures.value in
+    let at = slice_get_read l.servers.items
+    (length l.servers.items) l.worker c.index_mut.result.now refl within c.index_mut.ensures.value in
     record {
-      opened = stepped-more OpensAll _ l.servers.items l.worker c.index_mut.result.now c.open_all.new.self at c.open_all.ensures.opens l.invariant.opened;
-      go_on = all-further _ l.servers.items l.worker c.index_mut.result.now c.open_all.new.self l.invariant.go_on at c.open_all.ensures.goes_on;
+      opened = stepped-more OpensAll _ l.servers.items l.worker c.index_mut.result.now c.open_all.new.self at
+          c.open_all.ensures.opens l.invariant.opened;
+      go_on = all-further _ l.servers.items l.worker c.index_mut.result.now c.open_all.new.self l.invariant.go_on at
+          c.open_all.ensures.goes_on;
     }
 
 pub returns-clause-opens : goal.returns-clause-opens
 returns-clause-opens g c =
-    stepped-all OpensAll c.args.servers.now.items c.loop-worker.servers.items c.loop-worker.worker (omega (arith, c.loop-worker.invariant.opened.len)) c.loop-worker.invariant.opened
+    stepped-all OpensAll c.args.servers.now.items c.loop-worker.servers.items c.loop-worker.worker
+    (omega (arith, c.loop-worker.invariant.opened.len)) c.loop-worker.invariant.opened

@@ -13,7 +13,8 @@ open_one-requires g c =
     let servers = c.args.servers.now.items in
     let sized : c.len.result ≡ length servers = c.len.ensures ∙ c.args.servers.now.ok.0 in
     let within : c.args.submitter % length servers < length servers = mod-lt c.args.submitter c.requires.0 in
-    c.requires.1 c.index_mut.result.now (slice_get_read servers (length servers) (c.args.submitter % length servers) c.index_mut.result.now refl within
+    c.requires.1 c.index_mut.result.now
+    (slice_get_read servers (length servers) (c.args.submitter % length servers) c.index_mut.result.now refl within
     (c.index_mut.ensures.value ∙ ap (λ n. get_or servers (c.args.submitter % n) c.index_mut.result.now) sized))
 
 pub returns-clause-opens : goal.returns-clause-opens
@@ -21,10 +22,12 @@ returns-clause-opens g c =
     let servers = c.args.servers.now.items in
     let sized : c.len.result ≡ length servers = c.len.ensures ∙ c.args.servers.now.ok.0 in
     let within : c.args.submitter % length servers < length servers = mod-lt c.args.submitter c.requires.0 in
-    subst (λ n. AtServer (c.args.submitter % length servers) (OpensOne c.args.submitter) servers (set servers (c.args.submitter % n) c.open_one.new.self)) (sym sized) (record {
+    subst (λ n. AtServer (c.args.submitter % length servers) (OpensOne c.args.submitter) servers
+    (set servers (c.args.submitter % n) c.open_one.new.self)) (sym sized) (record {
       before = c.index_mut.result.now;
       after = c.open_one.new.self;
-      here = slice_get_read servers (length servers) (c.args.submitter % length servers) c.index_mut.result.now refl within
+      here = slice_get_read servers (length servers)
+          (c.args.submitter % length servers) c.index_mut.result.now refl within
           (c.index_mut.ensures.value ∙ ap (λ n. get_or servers (c.args.submitter % n) c.index_mut.result.now) sized);
       step = c.open_one.ensures.opens;
       rest = refl;
@@ -36,6 +39,8 @@ returns-clause-go_on g c =
     let sized : c.len.result ≡ length servers = c.len.ensures ∙ c.args.servers.now.ok.0 in
     let within : c.args.submitter % length servers < length servers = mod-lt c.args.submitter c.requires.0 in
     subst (λ n. AllZip ServerGoesOn servers (set servers (c.args.submitter % n) c.open_one.new.self)) (sym sized)
-    (all-further servers servers (c.args.submitter % length servers) c.index_mut.result.now c.open_one.new.self (all-same servers)
+    (all-further servers servers (c.args.submitter % length servers) c.index_mut.result.now c.open_one.new.self
+    (all-same servers)
     (slice_get_read servers (length servers) (c.args.submitter % length servers) c.index_mut.result.now refl within
-    (c.index_mut.ensures.value ∙ ap (λ n. get_or servers (c.args.submitter % n) c.index_mut.result.now) sized)) c.open_one.ensures.goes_on)
+    (c.index_mut.ensures.value ∙ ap (λ n. get_or servers (c.args.submitter % n) c.index_mut.result.now) sized))
+    c.open_one.ensures.goes_on)

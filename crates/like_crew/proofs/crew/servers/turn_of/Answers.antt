@@ -9,7 +9,8 @@ returns-clause-case g c =
     record {
       before = c.index_mut.result.now;
       after = c.turn.new.self;
-      here = slice_get_read servers (length servers) c.args.worker c.index_mut.result.now refl c.requires c.index_mut.ensures.value;
+      here = slice_get_read servers
+          (length servers) c.args.worker c.index_mut.result.now refl c.requires c.index_mut.ensures.value;
       step = c.turn.ensures.case;
       rest = refl;
     }
@@ -18,4 +19,6 @@ pub returns-clause-go_on : goal.returns-clause-go_on
 returns-clause-go_on g c =
     let servers = c.args.servers.now.items in
     all-further servers servers c.args.worker c.index_mut.result.now c.turn.new.self (all-same servers)
-    (slice_get_read servers (length servers) c.args.worker c.index_mut.result.now refl c.requires c.index_mut.ensures.value) c.turn.ensures.goes_on
+    (slice_get_read servers
+    (length servers) c.args.worker c.index_mut.result.now refl c.requires c.index_mut.ensures.value)
+    c.turn.ensures.goes_on

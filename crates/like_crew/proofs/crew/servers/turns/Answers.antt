@@ -17,16 +17,21 @@ pub loop-worker-preserved : goal.loop-worker-preserved
 loop-worker-preserved g c =
     let l = c.loop-worker in
     let within : l.worker < length l.servers.items = omega (arith, l.invariant.turned.len) in
-    let at = slice_get_read l.servers.items (length l.servers.items) l.worker c.index_mut.result.now refl within c.index_mut.ensures.value in
+    let at = slice_get_read l.servers.items
+    (length l.servers.items) l.worker c.index_mut.result.now refl within c.index_mut.ensures.value in
     record {
-      turned = stepped-more MakesTurn _ l.servers.items l.worker c.index_mut.result.now c.retires-retired.new.server at c.retires-retired.ensures.turns l.invariant.turned;
-      go_on = all-further _ l.servers.items l.worker c.index_mut.result.now c.retires-retired.new.server l.invariant.go_on at c.retires-retired.ensures.goes_on;
+      turned = stepped-more MakesTurn _ l.servers.items l.worker c.index_mut.result.now c.retires-retired.new.server at
+          c.retires-retired.ensures.turns l.invariant.turned;
+      go_on = all-further _ l.servers.items l.worker c.index_mut.result.now c.retires-retired.new.server
+          l.invariant.go_on at c.retires-retired.ensures.goes_on;
       gone = elim c.if-gone.branch [
-        | then-gone w ↦ λ e. gone-more l.servers.items l.worker c.retires-retired.new.server within (l.invariant.gone w.if-gone.true) (c.retires-retired.ensures.gone (sym w.gone-is ∙ e))
+        | then-gone w ↦ λ e. gone-more l.servers.items l.worker c.retires-retired.new.server within
+            (l.invariant.gone w.if-gone.true) (c.retires-retired.ensures.gone (sym w.gone-is ∙ e))
         | else-gone w ↦ λ e. absurd (cc (w.if-gone.false, w.gone-is, e))
       ];
     }
 
 pub returns-clause-turns : goal.returns-clause-turns
 returns-clause-turns g c =
-    stepped-all MakesTurn c.args.servers.now.items c.loop-worker.servers.items c.loop-worker.worker (omega (arith, c.loop-worker.invariant.turned.len)) c.loop-worker.invariant.turned
+    stepped-all MakesTurn c.args.servers.now.items c.loop-worker.servers.items c.loop-worker.worker
+    (omega (arith, c.loop-worker.invariant.turned.len)) c.loop-worker.invariant.turned

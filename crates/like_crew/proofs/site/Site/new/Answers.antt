@@ -15,7 +15,8 @@ requests_of plan = plan.items
 
 pub sizes_of-requires : goal.sizes_of-requires
 sizes_of-requires c =
-    all-back requests_of (λ plan. length plan ≤ max_requests) c.args.plans.now (all-back length (λ n. n ≤ max_requests) (map requests_of c.args.plans.now) c.requires.numbers.small)
+    all-back requests_of (λ plan. length plan ≤ max_requests) c.args.plans.now
+    (all-back length (λ n. n ≤ max_requests) (map requests_of c.args.plans.now) c.requires.numbers.small)
 
 pub new-requires-clause-counts : goal.new-requires-clause-counts
 new-requires-clause-counts c =
@@ -30,16 +31,21 @@ returns-clause-site c = record {
 
 pub returns-clause-seats : goal.returns-clause-seats
 returns-clause-seats c =
-    let counts : c.deref.result.now ≡ map (λ (p : Page). p.count) c.args.setup.now.pages = c.deref.ensures.value ∙ c.in_ok-counts.ensures.counts in
-    let marks : c.deref-2.result.now ≡ map (λ (p : Page). p.split) c.args.setup.now.pages = c.deref-2.ensures.value ∙ c.in_ok-marks.ensures.marks in
+    let counts : c.deref.result.now ≡ map (λ (p : Page). p.count) c.args.setup.now.pages =
+    c.deref.ensures.value ∙ c.in_ok-counts.ensures.counts in
+    let marks : c.deref-2.result.now ≡ map (λ (p : Page). p.split) c.args.setup.now.pages =
+    c.deref-2.ensures.value ∙ c.in_ok-marks.ensures.marks in
     record {
       board = c.in_ok-board.ensures.coord_here;
       start = ap (λ (v : CoordSeatView). v.phase) c.in_ok-board.ensures.coord;
       no_masks = ap (λ (v : CoordSeatView). v.masks) c.in_ok-board.ensures.coord;
       opening = ap (λ (v : CoordSeatView). v.opening) c.in_ok-board.ensures.coord
           ∙ ap (λ (xs : List ℕ). opening c.args.setup.now.workers xs c.deref-2.result.now) counts
-          ∙ ap (λ (xs : List Bool). opening c.args.setup.now.workers (map (λ (p : Page). p.count) c.args.setup.now.pages) xs) marks;
+          ∙ ap (λ (xs : List Bool). opening c.args.setup.now.workers
+          (map (λ (p : Page). p.count) c.args.setup.now.pages) xs) marks;
       workers = c.in_ok-board.ensures.seats;
-      new = new_seats (board_id c.in_ok-board.board) (opening c.args.setup.now.workers c.deref.result.now c.deref-2.result.now) c.args.setup.now.pages c.in_ok-board.workers.items marks refl
+      new = new_seats (board_id c.in_ok-board.board)
+          (opening c.args.setup.now.workers c.deref.result.now c.deref-2.result.now) c.args.setup.now.pages
+          c.in_ok-board.workers.items marks refl
           c.in_ok-board.ensures.views;
     }

@@ -12,4 +12,7 @@ written (Err fault) h e = absurd (true≢false (sym e))
 pub returns-in-None : goal.returns-in-None
 returns-in-None g c told =
     let none : own_line c.args.self.now ≡ None = sym c.own_line.ensures ∙ ap (option_map _) c.in-None.is in
-    rw (none, ← c.file-file.ensures) (c.as_str-text.result.now, written c.writeln.result c.writeln.ensures.bytes (sym c.is_ok-in-None.ensures.value ∙ told))
+    rw (none, ← c.file-file.ensures) (
+      c.as_str-text.result.now,
+      written c.writeln.result c.writeln.ensures.bytes (sym c.is_ok-in-None.ensures.value ∙ told),
+    )

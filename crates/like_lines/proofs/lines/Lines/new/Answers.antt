@@ -18,32 +18,46 @@ abbrev plan_of : LineId → List Request
 plan_of line = line.plan
 
 -- one line more, of one plan more
-plans-more : (lines now : List LineId) (line : LineId) (plans : List (Vec Request Global)) (plan : Vec Request Global) → now ≡ lines ++ line ∷ [] → map plan_of lines ≡ lists_of plans → line.plan ≡ plan.items
+plans-more : (lines now : List LineId) (line : LineId) (plans : List (Vec Request Global)) (plan : Vec Request Global)
+    → now ≡ lines ++ line ∷ []
+    → map plan_of lines ≡ lists_of plans
+    → line.plan ≡ plan.items
     → map plan_of now ≡ lists_of (plans ++ plan ∷ [])
 plans-more lines now line plans plan pushed before is =
-    ap (map plan_of) pushed ∙ map_push plan_of lines line ∙ ap (λ xs. xs ++ line.plan ∷ []) before ∙ ap (λ requests. lists_of plans ++ requests ∷ []) is ∙ sym (map_push requests_of plans plan)
+    ap (map plan_of) pushed ∙ map_push plan_of lines line ∙ ap (λ xs. xs ++ line.plan ∷ []) before
+    ∙ ap (λ requests. lists_of plans ++ requests ∷ []) is ∙ sym (map_push requests_of plans plan)
 
 -- and the passes of its ends
-passes-more : (lines now : List LineId) (line : LineId) (passes more : List (Sender × Taker)) (send : Sender) (take : Taker) → now ≡ lines ++ line ∷ [] → more ≡ passes ++ (send, take) ∷ [] → passes ≡ map new_ends lines
+passes-more : (lines now : List LineId) (line : LineId) (passes more : List (Sender × Taker)) (send : Sender)
+    (take : Taker)
+    → now ≡ lines ++ line ∷ []
+    → more ≡ passes ++ (send, take) ∷ []
+    → passes ≡ map new_ends lines
     → send ≡ new_sender line → take ≡ new_taker line → more ≡ map new_ends now
 passes-more lines now line passes more send take pushed added before sends takes =
-    added ∙ ap (λ xs. xs ++ (send, take) ∷ []) before ∙ ap (λ s. map new_ends lines ++ (s, take) ∷ []) sends ∙ ap (λ t. map new_ends lines ++ (new_sender line, t) ∷ []) takes ∙ sym (map_push new_ends lines line)
+    added ∙ ap (λ xs. xs ++ (send, take) ∷ []) before ∙ ap (λ s. map new_ends lines ++ (s, take) ∷ []) sends
+    ∙ ap (λ t. map new_ends lines ++ (new_sender line, t) ∷ []) takes ∙ sym (map_push new_ends lines line)
     ∙ sym (ap (map new_ends) pushed)
 
 pub new-requires : goal.new-requires
 new-requires c =
     let l = c.loop-plan in
     let from = c.into_iter-plan-iterator.ensures.into_iter_gives in
-    let all = YieldsList-from_vec {s = c.into_iter-plan-iterator.result} c.args.plans.items from.0 (from.1 ∙ c.args.plans.ok.0) in
-    let turn = YieldsList-turn all l.yielded _ l.yielded_by _ c.next.new.self c.in-Some.plan c.in-Some.is c.next.ensures.steps in
-    subst (λ (plan : Vec Request Global). length plan.items ≤ max_requests) (sym turn.1) (c.requires (length l.yielded) c.in-Some.plan turn.0)
+    let all = YieldsList-from_vec {s = c.into_iter-plan-iterator.result} c.args.plans.items from.0
+    (from.1 ∙ c.args.plans.ok.0) in
+    let turn = YieldsList-turn all l.yielded _ l.yielded_by _ c.next.new.self c.in-Some.plan c.in-Some.is
+    c.next.ensures.steps in
+    subst (λ (plan : Vec Request Global). length plan.items ≤ max_requests) (sym turn.1)
+    (c.requires (length l.yielded) c.in-Some.plan turn.0)
 
 pub loop-plan-preserved : goal.loop-plan-preserved
 loop-plan-preserved c =
     let l = c.loop-plan in
     record {
-      plans_are = plans-more l.lines.items c.push.new.self.items c.in_ok-line.line l.yielded c.in-Some.plan c.in_ok-push.ensures.items l.invariant.plans_are c.in_ok-line.ensures.line;
-      passes = passes-more l.lines.items c.push.new.self.items c.in_ok-line.line l.passes.items _ c.in_ok-line.send c.in_ok-line.take c.in_ok-push.ensures.items c.in_ok-push-2.ensures.items l.invariant.passes
+      plans_are = plans-more l.lines.items c.push.new.self.items c.in_ok-line.line l.yielded c.in-Some.plan
+          c.in_ok-push.ensures.items l.invariant.plans_are c.in_ok-line.ensures.line;
+      passes = passes-more l.lines.items c.push.new.self.items c.in_ok-line.line l.passes.items _ c.in_ok-line.send
+          c.in_ok-line.take c.in_ok-push.ensures.items c.in_ok-push-2.ensures.items l.invariant.passes
           c.in_ok-line.ensures.send c.in_ok-line.ensures.take;
     }
 
@@ -51,7 +65,8 @@ pub returns : goal.returns
 returns c =
     let l = c.loop-plan in
     let from = c.into_iter-plan-iterator.ensures.into_iter_gives in
-    let all = YieldsList-from_vec {s = c.into_iter-plan-iterator.result} c.args.plans.items from.0 (from.1 ∙ c.args.plans.ok.0) in
+    let all = YieldsList-from_vec {s = c.into_iter-plan-iterator.result} c.args.plans.items from.0
+    (from.1 ∙ c.args.plans.ok.0) in
     let end = YieldsList-end all l.yielded _ l.yielded_by _ c.next.new.self c.in-None.is c.next.ensures.steps in
     record {
       plans_are = l.invariant.plans_are ∙ ap lists_of (sym (map-id l.yielded) ∙ end.0);

@@ -7,25 +7,30 @@ use Rattle.like_live.proofs.driver.Driver.finish.Goals as goal
 
 pub last_counts-requires-clause-seats_here : goal.last_counts-requires-clause-seats_here
 last_counts-requires-clause-seats_here c = λ k d below.
-    back-here c.args.self c.args.seats.items c.give_back.new.back.items c.give_back.ensures.back c.requires.whole k d below
+    back-here c.args.self c.args.seats.items c.give_back.new.back.items c.give_back.ensures.back c.requires.whole k d
+    below
     ∙ sym (ap (λ (l : LeadView). l.board) c.self.view_is) ∙ c.self.invariant.0.here ∙ ap board_id (sym c.deref.ensures)
 
 pub last_counts-requires-clause-all : goal.last_counts-requires-clause-all
 last_counts-requires-clause-all c = λ i there.
-    let seat_is : coord_view c.finish.result ≡ c.args.self.seat = c.finish.ensures.view ∙ ap (λ (l : LeadView). l.seat) c.self.view_is in
-    back-all c.args.self c.args.seats.items c.give_back.new.back.items c.give_back.ensures.back c.requires.whole i (subst (λ (d : CoordSeatView). i < d.opening.workers) seat_is there)
+    let seat_is : coord_view c.finish.result ≡ c.args.self.seat =
+    c.finish.ensures.view ∙ ap (λ (l : LeadView). l.seat) c.self.view_is in
+    back-all c.args.self c.args.seats.items c.give_back.new.back.items c.give_back.ensures.back c.requires.whole i
+    (subst (λ (d : CoordSeatView). i < d.opening.workers) seat_is there)
 
 pub returns : goal.returns
 returns c =
     let back = c.give_back.new.back.items in
     let is = c.last_counts.ensures in
-    let seat_is : coord_view c.finish.result ≡ c.args.self.seat = c.finish.ensures.view ∙ ap (λ (l : LeadView). l.seat) c.self.view_is in
+    let seat_is : coord_view c.finish.result ≡ c.args.self.seat =
+    c.finish.ensures.view ∙ ap (λ (l : LeadView). l.seat) c.self.view_is in
     record {
       len = is.len ∙ c.requires.places;
       totals = λ page there.
           is.counts page (subst (λ n. page < n) is.len there)
           ∙ ap (λ (d : CoordSeatView). last_count d.opening back page) seat_is
-          ∙ last-total c.args.self c.args.seats.items back page c.give_back.ensures.back c.give_back.ensures.merged c.requires.gone;
+          ∙ last-total c.args.self c.args.seats.items back page c.give_back.ensures.back c.give_back.ensures.merged
+          c.requires.gone;
       back = back;
       posts = c.give_back.ensures.back;
       added = subst (λ (d : CoordSeatView). HaveAddedWithin d.phase back) seat_is is.added;

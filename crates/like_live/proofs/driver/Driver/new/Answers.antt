@@ -12,7 +12,8 @@ invariant_of-result c =
     let o = c.args.opening.now in
     let lead = c.in-Ok.ensures.new in
     let seat : c.in-Ok.lead.seat ≡ coord_view c.args.coord = ap (λ (l : LeadView). l.seat) lead in
-    let opening : c.in-Ok.lead.seat.opening ≡ board_opening o = ap (λ (d : CoordSeatView). d.opening) (seat ∙ c.requires.new) in
+    let opening : c.in-Ok.lead.seat.opening ≡ board_opening o =
+    ap (λ (d : CoordSeatView). d.opening) (seat ∙ c.requires.new) in
     let within = c.requires.within in (
       record {
         here = ap (λ (l : LeadView). l.board) lead ∙ c.requires.here;

@@ -13,4 +13,6 @@ pub returns-clause-keeps : goal.returns-clause-keeps
 returns-clause-keeps c = stays-service _ _ (snapshot-stays _ _ _ _ _ c.read_boundary.ensures) c.self.invariant.0.service
 
 pub returns-clause-same : goal.returns-clause-same
-returns-clause-same c = subst (λ (v : LeadView). IsSameDriver v c.read_boundary.new.lead) c.self.view_is (snapshot-stays _ _ _ _ _ c.read_boundary.ensures).same
+returns-clause-same c =
+    subst (λ (v : LeadView). IsSameDriver v c.read_boundary.new.lead) c.self.view_is
+    (snapshot-stays _ _ _ _ _ c.read_boundary.ensures).same

@@ -13,4 +13,5 @@ pub returns-clause-keeps : goal.returns-clause-keeps
 returns-clause-keeps c = stays-service _ _ (turn-stays _ _ _ _ c.act.ensures) c.self.invariant.0.service
 
 pub returns-clause-same : goal.returns-clause-same
-returns-clause-same c = subst (λ (v : LeadView). IsSameDriver v c.act.new.lead) c.self.view_is (turn-stays _ _ _ _ c.act.ensures).same
+returns-clause-same c =
+    subst (λ (v : LeadView). IsSameDriver v c.act.new.lead) c.self.view_is (turn-stays _ _ _ _ c.act.ensures).same

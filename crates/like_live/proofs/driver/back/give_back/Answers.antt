@@ -18,7 +18,8 @@ loop-seat-preserved c =
       back =
           ap (map seat_meaning) items ∙ map-append seat_meaning l.back.items (c.back.result ∷ [])
           ∙ (λ i. l.invariant.back i ++ meaning i ∷ []) ∙ sym (map-append post_at l.yielded (seat ∷ []));
-      len = ap length items ∙ length_push l.back.items c.back.result ∙ ap (λ n. n + 1) l.invariant.len ∙ sym (length_push l.yielded seat);
+      len = ap length items ∙ length_push l.back.items c.back.result ∙ ap (λ n. n + 1) l.invariant.len
+          ∙ sym (length_push l.yielded seat);
       room = c.push_reserved.ensures.capacity ∙ l.invariant.room;
       merged = All-push HasMergedOnceGone l.yielded seat l.invariant.merged c.leave.ensures.slice;
     }

@@ -10,10 +10,13 @@ pub returns-then-not-sight : goal.returns-then-not-sight
 returns-then-not-sight c =
     let seen = c.look-sight.new.self in
     let not_at : ¬ IsBoundary seen c.look-sight.result = λ b. elim c.then-not-sight.branch [
-      | then-not-sight-via-then-not-sight w ↦ let clash : true ≡ false = sym b.ending ∙ not-true _ w.if-not-sight.true in cc
-      | then-not-sight-via-else-not-sight+then-not-sight-2 w ↦ let clash : true ≡ false = sym b.all_in ∙ not-true _ w.if-not-sight-2.true in cc
+      | then-not-sight-via-then-not-sight w ↦ let clash : true ≡ false =
+          sym b.ending ∙ not-true _ w.if-not-sight.true in cc
+      | then-not-sight-via-else-not-sight+then-not-sight-2 w ↦ let clash : true ≡ false =
+          sym b.all_in ∙ not-true _ w.if-not-sight-2.true in cc
       | then-not-sight-via-else-not-sight+else-not-sight-2+then-not-is_joined w ↦
-          let clash : true ≡ false = sym (eq-eqb (seen.seat.phase % 2) 0 b.joined) ∙ sym w.is_joined.ensures ∙ w.if-not-is_joined.true in cc
+          let clash : true ≡ false =
+          sym (eq-eqb (seen.seat.phase % 2) 0 b.joined) ∙ sym w.is_joined.ensures ∙ w.if-not-is_joined.true in cc
     ] in
     record {
       sight = c.look-sight.result;
@@ -31,7 +34,9 @@ returns c =
       ending = not-false _ c.if-not-sight.false;
       all_in = not-false _ c.if-not-sight-2.false;
     } in
-    let phase : c.phase.result ≡ seen.seat.phase = c.phase.ensures ∙ ap (λ (l : LeadView). l.seat.phase) reads ∙ (reads-only seen.seat c.read_counts.new.counts).phase in
+    let phase : c.phase.result ≡ seen.seat.phase =
+    c.phase.ensures ∙ ap (λ (l : LeadView). l.seat.phase) reads
+    ∙ (reads-only seen.seat c.read_counts.new.counts).phase in
     record {
       sight = c.look-sight.result;
       seen = seen;

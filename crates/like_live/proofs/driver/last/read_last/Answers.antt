@@ -9,12 +9,16 @@ returns-in-Some c =
     let now = c.end_gone.new.lead in
     counted now c.in-Some.field-0
     (subst (λ (b : Bool). LooksForGone c.args.lead.now b now) c.if-not-end_gone.false c.end_gone.ensures)
-    (subst (λ (p : Option ℕ). TakesSnapshot now old p c.read_boundary.new.lead c.read_boundary.new.counts) c.in-Some.is c.read_boundary.ensures) refl
+    (subst (λ (p : Option ℕ). TakesSnapshot now old p c.read_boundary.new.lead c.read_boundary.new.counts) c.in-Some.is
+    c.read_boundary.ensures) refl
 
 pub returns-in-None : goal.returns-in-None
 returns-in-None c =
     let old = c.args.counts.now in
     let now = c.end_gone.new.lead in
     let looks = subst (λ (b : Bool). LooksForGone c.args.lead.now b now) c.if-not-end_gone.false c.end_gone.ensures in
-    let takes = subst (λ (p : Option ℕ). TakesSnapshot now old p c.read_boundary.new.lead c.read_boundary.new.counts) c.in-None.is c.read_boundary.ensures in
-    not_at_end now looks takes (last-not-at-end c.args.lead.now now c.read_boundary.new.lead old c.read_boundary.new.counts c.requires.before_end c.requires.limits looks takes) refl
+    let takes = subst (λ (p : Option ℕ). TakesSnapshot now old p c.read_boundary.new.lead c.read_boundary.new.counts)
+    c.in-None.is c.read_boundary.ensures in
+    not_at_end now looks takes
+    (last-not-at-end c.args.lead.now now c.read_boundary.new.lead old c.read_boundary.new.counts
+    c.requires.before_end c.requires.limits looks takes) refl

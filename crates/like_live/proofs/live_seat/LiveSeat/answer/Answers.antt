@@ -21,7 +21,8 @@ returns-in_default g c = record {
 
 pub returns-in-Between-look-clause-case : goal.returns-in-Between-look-clause-case
 returns-in-Between-look-clause-case g c =
-    let at : LookAnswer → Type 0 = λ a. LookCase c.args.self.now c.in-Look.user c.in-Look.page c.in-Look.tag a c.look.new.self in
+    let at : LookAnswer → Type 0 =
+    λ a. LookCase c.args.self.now c.in-Look.user c.in-Look.page c.in-Look.tag a c.look.new.self in
     subst (λ x. IsPutOff c.args.self.now x c.look.new.self) (sym c.in-Look.is)
     (elim c.in-Between-look.is [
       | inl between ↦ inl (subst at between c.look.ensures.case)
@@ -31,8 +32,10 @@ returns-in-Between-look-clause-case g c =
 pub returns-in_default-look : goal.returns-in_default-look
 returns-in_default-look g c = record {
   case =
-      subst (λ x. IsDone c.args.self.now x (Look c.look.result) c.look.new.self) (sym c.in-Look.is)
-      (look c.in-Look.user c.in-Look.page c.in-Look.tag c.look.result, ((c.in_default-look.not-Between, c.in_default-look.not-NoRoom, refl), c.look.ensures.case));
+      subst (λ x. IsDone c.args.self.now x (Look c.look.result) c.look.new.self) (sym c.in-Look.is) (
+        look c.in-Look.user c.in-Look.page c.in-Look.tag c.look.result,
+        ((c.in_default-look.not-Between, c.in_default-look.not-NoRoom, refl), c.look.ensures.case),
+      );
   keeps = c.look.ensures.keeps;
   same = c.look.ensures.same;
 }
@@ -44,8 +47,10 @@ returns-in-Between-glance-clause-case g c =
 pub returns-in_default-glance : goal.returns-in_default-glance
 returns-in_default-glance g c = record {
   case =
-      subst (λ x. IsDone c.args.self.now x (Glance c.glance.result) c.glance.new.self) (sym c.in-Glance.is)
-      (glance c.in-Glance.user c.in-Glance.page c.glance.result, ((c.in_default-glance.not-Between, refl), c.glance.ensures.case));
+      subst (λ x. IsDone c.args.self.now x (Glance c.glance.result) c.glance.new.self) (sym c.in-Glance.is) (
+        glance c.in-Glance.user c.in-Glance.page c.glance.result,
+        ((c.in_default-glance.not-Between, refl), c.glance.ensures.case),
+      );
   keeps = c.glance.ensures.keeps;
   same = c.glance.ensures.same;
 }

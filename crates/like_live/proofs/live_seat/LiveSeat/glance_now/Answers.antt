@@ -15,7 +15,8 @@ returns-then-is_sliced-clause-case g c =
     split c.glance.result c.glance.new.self (c.accepts.ensures.verdict.0 c.if-not-accepts.false)
     (subst (λ (t : SeatView Asked). slices t.post c.args.page ≡ true) same sliced)
     refl
-    (subst (λ (t : SeatView Asked). Glances t c.args.user c.args.page c.glance.result c.glance.new.self) same c.glance.ensures.glances)
+    (subst (λ (t : SeatView Asked). Glances t c.args.user c.args.page c.glance.result c.glance.new.self) same
+    c.glance.ensures.glances)
     (ap (λ (w : LiveView). with_seat w c.glance.new.self) c.self.view_is)
 
 pub returns-clause-case : goal.returns-clause-case
@@ -26,5 +27,6 @@ returns-clause-case g c =
     plain c.read_for.result c.read_for.new.self (c.accepts.ensures.verdict.0 c.if-not-accepts.false)
     (subst (λ (t : SeatView Asked). slices t.post c.args.page ≡ false) same whole)
     refl
-    (subst (λ (t : SeatView Asked). Reads t c.args.user c.args.page c.read_for.result c.read_for.new.self) same c.read_for.ensures.reads)
+    (subst (λ (t : SeatView Asked). Reads t c.args.user c.args.page c.read_for.result c.read_for.new.self) same
+    c.read_for.ensures.reads)
     (ap (λ (w : LiveView). with_seat w c.read_for.new.self) c.self.view_is)

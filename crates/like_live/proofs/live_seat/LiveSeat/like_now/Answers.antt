@@ -16,5 +16,6 @@ returns-clause-case g c =
     liked c.count_like.result c.count_like.new.self (c.accepts.ensures.verdict.0 c.if-not-accepts.false)
     (subst (λ (t : SeatView Asked). likes_of t < t.post.limits.likes) same few)
     refl
-    (subst (λ (t : SeatView Asked). CountsLike t c.args.user c.args.page c.count_like.result c.count_like.new.self) same c.count_like.ensures.counts)
+    (subst (λ (t : SeatView Asked). CountsLike t c.args.user c.args.page c.count_like.result c.count_like.new.self) same
+    c.count_like.ensures.counts)
     (ap (λ (w : LiveView). with_seat w c.count_like.new.self) c.self.view_is)

@@ -15,5 +15,6 @@ returns-then-not-is_sliced-clause-case g c =
     seen c.read_for.result c.read_for.new.self (c.accepts.ensures.verdict.0 c.if-not-accepts.false)
     (subst (λ (t : SeatView Asked). slices t.post c.args.page ≡ false) same plain)
     refl
-    (subst (λ (t : SeatView Asked). Reads t c.args.user c.args.page c.read_for.result c.read_for.new.self) same c.read_for.ensures.reads)
+    (subst (λ (t : SeatView Asked). Reads t c.args.user c.args.page c.read_for.result c.read_for.new.self) same
+    c.read_for.ensures.reads)
     (ap (λ (w : LiveView). with_seat w c.read_for.new.self) c.self.view_is)

@@ -9,20 +9,25 @@ pub read_for-seen-requires-clause-there : goal.read_for-seen-requires-clause-the
 read_for-seen-requires-clause-there g c =
     let v = live_of c.args.seat.now c.args.found.now in
     let now = live_of c.loop-asked.seat c.loop-asked.found in
-    (Finding-first v now c.next_held.new.self c.in-Some.asked c.loop-asked.invariant.finding c.requires.looked.own (sym c.in-Some.ensures.first) c.in-Some.ensures.rest).there
+    (Finding-first v now c.next_held.new.self c.in-Some.asked c.loop-asked.invariant.finding c.requires.looked.own
+    (sym c.in-Some.ensures.first) c.in-Some.ensures.rest).there
 
 pub read_for-seen-requires-clause-owned : goal.read_for-seen-requires-clause-owned
 read_for-seen-requires-clause-owned g c =
     let v = live_of c.args.seat.now c.args.found.now in
     let now = live_of c.loop-asked.seat c.loop-asked.found in
-    (Finding-first v now c.next_held.new.self c.in-Some.asked c.loop-asked.invariant.finding c.requires.looked.own (sym c.in-Some.ensures.first) c.in-Some.ensures.rest).owned
+    (Finding-first v now c.next_held.new.self c.in-Some.asked c.loop-asked.invariant.finding c.requires.looked.own
+    (sym c.in-Some.ensures.first) c.in-Some.ensures.rest).owned
 
 pub loop-asked-preserved : goal.loop-asked-preserved
 loop-asked-preserved g c =
     let v = live_of c.args.seat.now c.args.found.now in
     let now = live_of c.loop-asked.seat c.loop-asked.found in
     record {
-      finding = Finding-next v now c.next_held.new.self c.read_for-seen.new.self c.push.new.self.held c.in-Some.asked c.read_for-seen.result c.phase-phase.result c.loop-asked.invariant.finding (sym c.in-Some.ensures.first) c.in-Some.ensures.rest c.read_for-seen.ensures.reads c.phase-phase.ensures.phase (ap (λ (w : Waiting Found). w.held) c.push.ensures);
+      finding = Finding-next v now c.next_held.new.self c.read_for-seen.new.self c.push.new.self.held c.in-Some.asked
+          c.read_for-seen.result c.phase-phase.result c.loop-asked.invariant.finding
+          (sym c.in-Some.ensures.first) c.in-Some.ensures.rest c.read_for-seen.ensures.reads c.phase-phase.ensures.phase
+          (ap (λ (w : Waiting Found). w.held) c.push.ensures);
       seat = c.read_for-seen.ensures.seat;
       capacity = ap (λ (w : Waiting Found). w.capacity) c.push.ensures ∙ c.loop-asked.invariant.capacity;
     }
@@ -32,4 +37,5 @@ returns-clause-next g c =
     let v = live_of c.args.seat.now c.args.found.now in
     let now = live_of c.loop-asked.seat c.loop-asked.found in
     let looked = c.requires.looked in
-    Finding-ran v now c.loop-asked.invariant.finding (looked.before (joined_phase c.args.seat.now.post.state c.requires.joined)) looked.next
+    Finding-ran v now c.loop-asked.invariant.finding
+    (looked.before (joined_phase c.args.seat.now.post.state c.requires.joined)) looked.next

@@ -5,5 +5,6 @@ use Rattle.like_live.proofs.live_seat.moves.joined_work.Goals as goal
 
 pub returns-clause-works : goal.returns-clause-works
 returns-clause-works g c =
-    acknowledges (live_of c.find_all.new.seat c.find_all.new.found) c.requires.joined c.if-not-ending.false refl c.find_all.ensures.finds
+    acknowledges (live_of c.find_all.new.seat c.find_all.new.found) c.requires.joined c.if-not-ending.false refl
+    c.find_all.ensures.finds
     (λ m. live_of (c.acknowledge.ensures.stops m) c.find_all.new.found)

@@ -13,8 +13,10 @@ pub overflow_cast-number : goal.overflow_cast-number
 overflow_cast-number c =
     let l = c.loop-worker in
     let from = c.into_iter-worker-iterator.ensures.into_iter_gives in
-    let all = YieldsList-from_vec {s = c.into_iter-worker-iterator.result} c.args.workers.items from.0 (from.1 ∙ c.args.workers.ok.0) in
-    let turn = YieldsList-turn all l.yielded _ l.yielded_by _ c.next.new.self c.in-Some.worker c.in-Some.is c.next.ensures.steps in
+    let all = YieldsList-from_vec {s = c.into_iter-worker-iterator.result} c.args.workers.items from.0
+    (from.1 ∙ c.args.workers.ok.0) in
+    let turn = YieldsList-turn all l.yielded _ l.yielded_by _ c.next.new.self c.in-Some.worker c.in-Some.is
+    c.next.ensures.steps in
     let few : length c.args.workers.items ≤ 16 = subst (λ n. n ≤ 16) (sym c.requires.len) c.requires.within.1.1.1.0.1 in
     omega (arith, turn.0, few, c.len-number.ensures, l.seats.ok.0, l.invariant.len)
 
@@ -26,7 +28,8 @@ loop-worker-preserved c =
     let Is : ℕ → LiveView → Type 0 = IsNewSeat c.args.opening.now (board_id (arc_value c.args.board.now)) in
     let number : c.len-number.result ≡ length l.seats.items = c.len-number.ensures ∙ l.seats.ok.0 in
     record {
-      len = ap length items ∙ length_push l.seats.items seat ∙ ap (λ n. n + 1) l.invariant.len ∙ sym (length_push l.yielded c.in-Some.worker);
+      len = ap length items ∙ length_push l.seats.items seat ∙ ap (λ n. n + 1) l.invariant.len
+          ∙ sym (length_push l.yielded c.in-Some.worker);
       each = subst (λ (xs : List LiveView). (i : ℕ) (s : LiveView) → slice_get xs i ≡ Some s → Is i s) (sym items)
           (each-pushed Is l.seats.items seat l.invariant.each (subst (λ n. Is n seat) number c.in_ok-seat.ensures));
     }

@@ -14,7 +14,9 @@ abbrev answer-of : Item → Taken
 answer-of (Some ask) = taken.Ask ask
 answer-of None = taken.End
 
-hands-item : (plan : List Request) (n : ℕ) (item : Item) → slice_get (items_of plan) n ≡ Some item → HandsOver (record { plan = plan; taken = n }) (answer-of item) (record { plan = plan; taken = n + 1 })
+hands-item : (plan : List Request) (n : ℕ) (item : Item)
+    → slice_get (items_of plan) n ≡ Some item
+    → HandsOver (record { plan = plan; taken = n }) (answer-of item) (record { plan = plan; taken = n + 1 })
 hands-item plan n (Some ask) h =
     let r = request-of-item 1 plan n ask h in
     let number : 1 + n ≡ n + 1 = omega arith in
@@ -24,7 +26,10 @@ hands-item plan n None h =
     (omega arith, ap (λ m. record { plan = plan; taken = m + 1 }) all)
 
 -- who has taken more than all requests has taken the end mark
-at-end : (t : Taker) → length t.line.plan < t.taken → t.taken ≤ item_count t.line.plan → HandsOver (inbox_of t) taken.End (inbox_of t)
+at-end : (t : Taker)
+    → length t.line.plan < t.taken
+    → t.taken ≤ item_count t.line.plan
+    → HandsOver (inbox_of t) taken.End (inbox_of t)
 at-end t past few = (omega arith, ap (λ n. record { plan = t.line.plan; taken = n }) (omega arith))
 
 pub returns-then-taken-len-clause-taken : goal.returns-then-taken-len-clause-taken
@@ -32,8 +37,11 @@ returns-then-taken-len-clause-taken g c =
     let t : Taker = c.args.self.now in
     let took : c.taken.result ≡ t.taken = c.taken.ensures.taken ∙ ap (λ (p : Taker). p.taken) c.self.view_is in
     let plan : length c.line.inside.plan.items ≡ length t.line.plan =
-    ap (λ (l : LineId). length l.plan) (c.line.view_is ∙ sym c.self.invariant) ∙ ap (λ (p : Taker). length p.line.plan) c.self.view_is in
-    let few : t.taken ≤ item_count t.line.plan = subst (λ (p : Taker). p.taken ≤ item_count p.line.plan) c.self.view_is (rw (sym c.taken.ensures.taken) c.taken.ensures.few) in
+    ap (λ (l : LineId). length l.plan) (c.line.view_is ∙ sym c.self.invariant)
+    ∙ ap (λ (p : Taker). length p.line.plan) c.self.view_is in
+    let few : t.taken ≤ item_count t.line.plan =
+    subst (λ (p : Taker). p.taken ≤ item_count p.line.plan) c.self.view_is
+    (rw (sym c.taken.ensures.taken) c.taken.ensures.few) in
     at-end t (omega (arith, c.if-taken-len.true, took, plan, c.len.ensures, c.line.inside.plan.ok.0)) few
 
 pub returns-clause-taken : goal.returns-clause-taken
@@ -46,4 +54,5 @@ returns-clause-taken g c =
     let next = c.in-Some.ensures.next in
     subst (λ (t : Taker). HandsOver (inbox_of t) c.match-item.result (inbox_of c.pop.new.self)) c.self.view_is
     (subst (λ x. HandsOver (inbox_of p) x (inbox_of c.pop.new.self)) (sym answer)
-    (subst (λ (t : Taker). HandsOver (inbox_of p) (answer-of c.in-Some.item) (inbox_of t)) (sym next.1) (hands-item p.line.plan p.taken c.in-Some.item next.0)))
+    (subst (λ (t : Taker). HandsOver (inbox_of p) (answer-of c.in-Some.item) (inbox_of t)) (sym next.1)
+    (hands-item p.line.plan p.taken c.in-Some.item next.0)))

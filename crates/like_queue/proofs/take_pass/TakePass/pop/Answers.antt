@@ -12,6 +12,7 @@ pop_as-requires-clause-rule g c = (takes _ _ (ap (λ (v : Known). v.role) c.self
 pub invariant_of-self-2 : goal.invariant_of-self-2
 invariant_of-self-2 g c =
     let next : slice_get (items_of (known_by c.self.inside.pass).plan) c.self.inside.taken ≡ Some c.in_ok-item.item =
-    subst (λ (v : Known). slice_get (items_of v.plan) v.count ≡ Some c.in_ok-item.item) c.self.invariant.1.0 c.in_ok-item.ensures.rule.0 in
+    subst (λ (v : Known). slice_get (items_of v.plan) v.count ≡ Some c.in_ok-item.item) c.self.invariant.1.0
+    c.in_ok-item.ensures.rule.0 in
     let within = item-within 1 (known_by c.self.inside.pass).plan c.self.inside.taken c.in_ok-item.item next in
     search rules

@@ -8,7 +8,9 @@ pub returns-in-Ok-true : goal.returns-in-Ok-true
 returns-in-Ok-true g c =
     let gives : GivesEach c.self.inside.reader = rw c.in-Open.is at c.self.invariant in
     let read = rw c.in-Ok-true.field-0-test at (c.in-Ok-true.ensures.reads gives.trim gives.ready) in (
-      (λ rows left. rw c.in-Open.is (record-taken g.R.Read.remaining c.self.inside.reader c.read_byte_record.new.self (fields_of c.read_byte_record.new.row) gives read rows (rw (← c.self.view_is, c.in-Open.is) at left))),
+      (λ rows left. rw c.in-Open.is
+          (record-taken g.R.Read.remaining c.self.inside.reader c.read_byte_record.new.self
+          (fields_of c.read_byte_record.new.row) gives read rows (rw (← c.self.view_is, c.in-Open.is) at left))),
       rw c.in-Open.is refl,
     )
 
@@ -16,6 +18,7 @@ pub returns-in-Ok-false : goal.returns-in-Ok-false
 returns-in-Ok-false g c =
     let gives : GivesEach c.self.inside.reader = rw c.in-Open.is at c.self.invariant in
     let read = rw c.in-Ok-false.field-0-test at (c.in-Ok-false.ensures.reads gives.trim gives.ready) in (
-      (λ rows left. none-taken g.R.Read.remaining c.self.inside.reader c.read_byte_record.new.self (fields_of c.read_byte_record.new.row) gives read rows (rw (← c.self.view_is, c.in-Open.is) at left)),
+      (λ rows left. none-taken g.R.Read.remaining c.self.inside.reader c.read_byte_record.new.self
+          (fields_of c.read_byte_record.new.row) gives read rows (rw (← c.self.view_is, c.in-Open.is) at left)),
       rw c.clear.ensures.fields refl,
     )

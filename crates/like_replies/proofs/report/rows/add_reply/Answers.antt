@@ -11,6 +11,8 @@ returns c = λ submitter starts.
     let pages = c.args.names.now in
     let head = c.args.head.now in
     let a = c.args.answer.now in
-    let text : row_text default_writer (reply_row pages submitter head.number a) ≡ (head.start ++ number_text head.number) ++ (phase_text a.phase ++ shown_text pages a.reply) =
-    reply-text pages submitter head.number a ∙ ap (λ s. (s ++ number_text head.number) ++ (phase_text a.phase ++ shown_text pages a.reply)) (sym starts) in
+    let text : row_text default_writer (reply_row pages submitter head.number a)
+    ≡ (head.start ++ number_text head.number) ++ (phase_text a.phase ++ shown_text pages a.reply) =
+    reply-text pages submitter head.number a
+    ∙ ap (λ s. (s ++ number_text head.number) ++ (phase_text a.phase ++ shown_text pages a.reply)) (sym starts) in
     rw text (search (rules, IfOk-equal, append_assoc))

@@ -8,10 +8,12 @@ returns-in-Liked c = rw (c.in-Liked.is, ← c.liked.ensures c.args.names.now) c.
 
 pub returns-in_ok-add_number-in-Seen : goal.returns-in_ok-add_number-in-Seen
 returns-in_ok-add_number-in-Seen c =
-    rw (c.in-Seen.is, seen-text c.args.names.now c.in-Seen.last c.in-Seen.count, ← c.text_of_last.ensures) (search (rules, IfOk-equal, append_assoc))
+    rw (c.in-Seen.is, seen-text c.args.names.now c.in-Seen.last c.in-Seen.count, ← c.text_of_last.ensures)
+    (search (rules, IfOk-equal, append_assoc))
 
 pub refusal-requires : goal.refusal-requires
 refusal-requires c = rw c.in-Refused.is at c.requires.answer
 
 pub returns-in_ok-add-in-Refused : goal.returns-in_ok-add-in-Refused
-returns-in_ok-add-in-Refused c = rw (c.in-Refused.is, ← c.refusal.ensures c.args.names.now) (search (rules, IfOk-equal, append_assoc))
+returns-in_ok-add-in-Refused c =
+    rw (c.in-Refused.is, ← c.refusal.ensures c.args.names.now) (search (rules, IfOk-equal, append_assoc))

@@ -17,7 +17,8 @@ loop-chosen-preserved c =
     let next = get_or c.args.hot.now i past in
     let more = take_more c.args.hot.now i past c.loop-chosen-test.true in
     rw (more, hot_rows-push pages done next)
-    (AddsRows _ _ _ (hot_rows pages done) (hot_rows_below pages next (length pages)) c.loop-chosen.invariant c.in_ok-add_chosen.ensures)
+    (AddsRows _ _ _ (hot_rows pages done)
+    (hot_rows_below pages next (length pages)) c.loop-chosen.invariant c.in_ok-add_chosen.ensures)
 
 pub returns : goal.returns
 returns c = rw (← take_all c.loop-chosen.chosen-index c.args.hot.now c.loop-chosen-test.false) c.loop-chosen.invariant

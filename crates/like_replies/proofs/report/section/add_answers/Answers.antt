@@ -20,7 +20,8 @@ loop-answer-preserved c =
     let head = c.loop-answer.head in
     let done = take place c.args.answers.now in
     let next = get_or c.args.answers.now place past in
-    let number : before + length done + 1 ≡ head.number = omega (arith, length-take-le place c.args.answers.now (omega arith), c.loop-answer.invariant.number) in
+    let number : before + length done + 1 ≡ head.number =
+    omega (arith, length-take-le place c.args.answers.now (omega arith), c.loop-answer.invariant.number) in
     let more = take_more c.args.answers.now place past c.loop-answer-test.true in
     let later = ap (λ (h : RowHead). h.number) c.next.ensures in
     record {
@@ -33,4 +34,5 @@ loop-answer-preserved c =
     }
 
 pub returns : goal.returns
-returns c = rw (← take_all c.loop-answer.answer-index c.args.answers.now c.loop-answer-test.false) c.loop-answer.invariant.added
+returns c = rw (← take_all c.loop-answer.answer-index c.args.answers.now c.loop-answer-test.false)
+    c.loop-answer.invariant.added

@@ -8,9 +8,12 @@ loop-page-preserved c =
     let pages = c.args.names.now in
     let page = c.loop-page.page in
     let chosen = c.args.chosen in
-    let more = hot_rows-more pages chosen page ∙ ap (λ b. hot_rows_below pages chosen page ++ map (hot_row pages chosen.phase) (cond b (page ∷ []) [])) (sym c.is_hot.ensures ∙ c.if-not-is_hot.false) in
+    let more = hot_rows-more pages chosen page
+    ∙ ap (λ b. hot_rows_below pages chosen page ++ map (hot_row pages chosen.phase) (cond b (page ∷ []) []))
+    (sym c.is_hot.ensures ∙ c.if-not-is_hot.false) in
     rw more
-    (AddsRow _ _ _ (hot_rows_below pages chosen page) (hot_row pages chosen.phase page) c.loop-page.invariant c.in_ok-add_hot.ensures)
+    (AddsRow _ _ _ (hot_rows_below pages chosen page)
+    (hot_row pages chosen.phase page) c.loop-page.invariant c.in_ok-add_hot.ensures)
 
 pub loop-page-preserved-then-not-is_hot : goal.loop-page-preserved-then-not-is_hot
 loop-page-preserved-then-not-is_hot c =
@@ -18,6 +21,7 @@ loop-page-preserved-then-not-is_hot c =
     let page = c.loop-page.page in
     let chosen = c.args.chosen in
     let more = hot_rows-more pages chosen page
-    ∙ ap (λ b. hot_rows_below pages chosen page ++ map (hot_row pages chosen.phase) (cond b (page ∷ []) [])) (sym c.is_hot.ensures ∙ c.if-not-is_hot.true)
+    ∙ ap (λ b. hot_rows_below pages chosen page ++ map (hot_row pages chosen.phase) (cond b (page ∷ []) []))
+    (sym c.is_hot.ensures ∙ c.if-not-is_hot.true)
     ∙ append-nil (hot_rows_below pages chosen page) in
     rw more c.loop-page.invariant

@@ -15,9 +15,11 @@ loop-place-preserved c =
     let i = c.loop-place.place-index in
     let done = take i c.args.places.now in
     let next = get_or c.args.places.now i past in
-    let more = ap (page_place_rows pages c.args.page) (take_more c.args.places.now i past c.loop-place-test.true) ∙ map-append (place_row pages c.args.page) done (next ∷ []) in
+    let more = ap (page_place_rows pages c.args.page) (take_more c.args.places.now i past c.loop-place-test.true)
+    ∙ map-append (place_row pages c.args.page) done (next ∷ []) in
     rw more
-    (AddsRow _ _ _ (page_place_rows pages c.args.page done) (place_row pages c.args.page next) c.loop-place.invariant c.in_ok-add_place.ensures)
+    (AddsRow _ _ _ (page_place_rows pages c.args.page done)
+    (place_row pages c.args.page next) c.loop-place.invariant c.in_ok-add_place.ensures)
 
 pub returns : goal.returns
 returns c = rw (← take_all c.loop-place.place-index c.args.places.now c.loop-place-test.false) c.loop-place.invariant

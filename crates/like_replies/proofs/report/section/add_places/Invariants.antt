@@ -4,4 +4,5 @@ use Rattle.like_replies.specs.Rows.{rows_text}
 use Rattle.like_replies.proofs.report.section.add_places.Given as goal
 
 abbrev pub invariant-loop-place : goal.invariant-loop-place
-invariant-loop-place l = l.sheet ≡ l.initial.sheet ++ rows_text (page_place_rows l.names l.page (take l.place-index l.places))
+invariant-loop-place l =
+    l.sheet ≡ l.initial.sheet ++ rows_text (page_place_rows l.names l.page (take l.place-index l.places))

@@ -16,7 +16,8 @@ loop-page-preserved c =
     let head = c.loop-page.head in
     let done = take place c.args.last.now in
     let next = get_or c.args.last.now place None in
-    let number : before + length done ≡ head.number = omega (arith, length-take-le place c.args.last.now (omega arith), c.loop-page.invariant.number) in
+    let number : before + length done ≡ head.number =
+    omega (arith, length-take-le place c.args.last.now (omega arith), c.loop-page.invariant.number) in
     let more = take_more c.args.last.now place None c.loop-page-test.true in
     let later = ap (λ (h : RowHead). h.number) c.next.ensures in
     record {
@@ -24,7 +25,8 @@ loop-page-preserved c =
       number = omega (arith, later, c.loop-page.invariant.number);
       added =
           rw (more, liker_rows-append pages before done (next ∷ []), number)
-          (AddsRows _ _ _ (liker_rows pages before done) (liker_rows pages head.number (next ∷ [])) c.loop-page.invariant.added c.in_ok-add_last.ensures);
+          (AddsRows _ _ _ (liker_rows pages before done)
+          (liker_rows pages head.number (next ∷ [])) c.loop-page.invariant.added c.in_ok-add_last.ensures);
     }
 
 pub returns : goal.returns

@@ -20,9 +20,12 @@ loop-page-preserved c = λ named same.
     let done : List (List Place) = lists_in (take n rows) in
     let size : length done ≡ n = simp length-map (length-take-le n rows (omega arith)) in
     let more : lists_in (take (n + 1) rows) ≡ done ++ places_in_row row ∷ [] =
-    ap lists_in (take_more rows n row there ∙ ap (λ x. take n rows ++ x ∷ []) (sym is)) ∙ map-append places_in_row (take n rows) (row ∷ []) in
+    ap lists_in (take_more rows n row there ∙ ap (λ x. take n rows ++ x ∷ []) (sym is))
+    ∙ map-append places_in_row (take n rows) (row ∷ []) in
     rw (more, place_rows-push named done (places_in_row row), size)
-    (rw c.deref.ensures.value at (c.in_ok-push_places.ensures named (place_rows named done) (c.loop-page.invariant named same) (omega (arith, same))))
+    (rw c.deref.ensures.value at
+    (c.in_ok-push_places.ensures named (place_rows named done) (c.loop-page.invariant named same)
+    (omega (arith, same))))
 
 pub returns : goal.returns
 returns c = λ named same.

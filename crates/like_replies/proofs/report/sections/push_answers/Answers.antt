@@ -29,10 +29,15 @@ loop-part-preserved c =
       whole ∙ sym (append_assoc done part rest),
       omega (arith, length-append done part, c.loop-part.invariant.4),
       λ pages rows are shown.
-          let has : HasRows pages section = (room, All-part (λ a. IsShowable pages a.reply) done part rest (rw (← whole) shown)) in
-          let more : rows ++ submitter_rows pages submitter (done ++ part) ≡ (rows ++ submitter_rows pages submitter done) ++ answer_rows pages submitter before part =
-          ap (λ r. rows ++ r) (answer_rows-append pages submitter 0 done part ∙ ap (λ n. submitter_rows pages submitter done ++ answer_rows pages submitter n part) number)
+          let has : HasRows pages section =
+          (room, All-part (λ a. IsShowable pages a.reply) done part rest (rw (← whole) shown)) in
+          let more : rows ++ submitter_rows pages submitter (done ++ part)
+          ≡ (rows ++ submitter_rows pages submitter done) ++ answer_rows pages submitter before part =
+          ap (λ r. rows ++ r)
+          (answer_rows-append pages submitter 0 done part
+          ∙ ap (λ n. submitter_rows pages submitter done ++ answer_rows pages submitter n part) number)
           ∙ sym (append_assoc rows (submitter_rows pages submitter done) (answer_rows pages submitter before part)) in
           rw (c.in_ok-push.ensures.items, more)
-          (AreSections-push pages (rows ++ submitter_rows pages submitter done) c.loop-part.all.items section (c.loop-part.invariant.5 pages rows are shown) has),
+          (AreSections-push pages (rows ++ submitter_rows pages submitter done) c.loop-part.all.items section
+          (c.loop-part.invariant.5 pages rows are shown) has),
     )

@@ -10,5 +10,6 @@ abbrev pub invariant-loop-part : goal.invariant-loop-part
 invariant-loop-part l =
     (goal.iterator-loop-part).can_next l.part-iterator × (goal.iterator-loop-part).is_finite l.part-iterator
     × (done : List Answer) × (l.answers ≡ done ++ chunks_rest l.part-iterator) × (l.before ≡ length done)
-    × ((pages : List Page) (rows : List (List (List ℕ))) → AreSections pages rows l.initial.all.items → All (λ a. IsShowable pages a.reply) l.answers
+    × ((pages : List Page) (rows : List (List (List ℕ))) → AreSections pages rows l.initial.all.items
+    → All (λ a. IsShowable pages a.reply) l.answers
     → AreSections pages (rows ++ submitter_rows pages l.submitter done) l.all.items)

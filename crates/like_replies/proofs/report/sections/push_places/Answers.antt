@@ -20,8 +20,11 @@ loop-part-preserved c =
       done ++ part,
       whole ∙ sym (append_assoc done part rest),
       λ pages rows are there.
-          let more : rows ++ page_place_rows pages page (done ++ part) ≡ (rows ++ page_place_rows pages page done) ++ page_place_rows pages page part =
-          ap (λ r. rows ++ r) (map-append (place_row pages page) done part) ∙ sym (append_assoc rows (page_place_rows pages page done) (page_place_rows pages page part)) in
+          let more : rows ++ page_place_rows pages page (done ++ part)
+          ≡ (rows ++ page_place_rows pages page done) ++ page_place_rows pages page part =
+          ap (λ r. rows ++ r) (map-append (place_row pages page) done part)
+          ∙ sym (append_assoc rows (page_place_rows pages page done) (page_place_rows pages page part)) in
           rw (c.in_ok-push.ensures.items, more)
-          (AreSections-push pages (rows ++ page_place_rows pages page done) c.loop-part.all.items (Places page c.in-Some.part) (c.loop-part.invariant.4 pages rows are there) there),
+          (AreSections-push pages (rows ++ page_place_rows pages page done) c.loop-part.all.items
+          (Places page c.in-Some.part) (c.loop-part.invariant.4 pages rows are there) there),
     )

@@ -10,5 +10,6 @@ abbrev pub invariant-loop-part : goal.invariant-loop-part
 invariant-loop-part l =
     (goal.iterator-loop-part).can_next l.part-iterator × (goal.iterator-loop-part).is_finite l.part-iterator
     × (done : List Place) × (l.places ≡ done ++ chunks_rest l.part-iterator)
-    × ((pages : List Page) (rows : List (List (List ℕ))) → AreSections pages rows l.initial.all.items → l.page < length pages
+    × ((pages : List Page) (rows : List (List (List ℕ))) → AreSections pages rows l.initial.all.items
+    → l.page < length pages
     → AreSections pages (rows ++ page_place_rows pages l.page done) l.all.items)

@@ -28,10 +28,17 @@ loop-part-preserved c =
       whole ∙ sym (append_assoc done part rest),
       omega (arith, length-append done part, c.loop-part.invariant.4),
       λ pages rows are there.
-          let has : HasRows pages section = (room, All-part (λ last. ForSome last (λ page. page < length pages)) done part rest (rw (← whole) there)) in
-          let more : rows ++ user_rows pages (done ++ part) ≡ (rows ++ user_rows pages done) ++ liker_rows pages before part =
-          ap (λ r. rows ++ r) (liker_rows-append pages 0 done part ∙ ap (λ n. user_rows pages done ++ liker_rows pages n part) number)
+          let has : HasRows pages section = (
+            room,
+            All-part (λ last. ForSome last (λ page. page < length pages)) done part rest
+                (rw (← whole) there),
+          ) in
+          let more : rows ++ user_rows pages (done ++ part)
+          ≡ (rows ++ user_rows pages done) ++ liker_rows pages before part =
+          ap (λ r. rows ++ r)
+          (liker_rows-append pages 0 done part ∙ ap (λ n. user_rows pages done ++ liker_rows pages n part) number)
           ∙ sym (append_assoc rows (user_rows pages done) (liker_rows pages before part)) in
           rw (c.in_ok-push.ensures.items, more)
-          (AreSections-push pages (rows ++ user_rows pages done) c.loop-part.all.items section (c.loop-part.invariant.5 pages rows are there) has),
+          (AreSections-push pages (rows ++ user_rows pages done) c.loop-part.all.items section
+          (c.loop-part.invariant.5 pages rows are there) has),
     )

@@ -10,5 +10,6 @@ abbrev pub invariant-loop-part : goal.invariant-loop-part
 invariant-loop-part l =
     (goal.iterator-loop-part).can_next l.part-iterator × (goal.iterator-loop-part).is_finite l.part-iterator
     × (done : List (Option ℕ)) × (l.users ≡ done ++ chunks_rest l.part-iterator) × (l.before ≡ length done)
-    × ((pages : List Page) (rows : List (List (List ℕ))) → AreSections pages rows l.initial.all.items → All (λ last. ForSome last (λ page. page < length pages)) l.users
+    × ((pages : List Page) (rows : List (List (List ℕ))) → AreSections pages rows l.initial.all.items
+    → All (λ last. ForSome last (λ page. page < length pages)) l.users
     → AreSections pages (rows ++ user_rows pages done) l.all.items)

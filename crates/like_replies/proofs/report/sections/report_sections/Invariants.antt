@@ -7,4 +7,6 @@ use Rattle.like_replies.proofs.report.sections.report_sections.Given as goal
 
 abbrev pub invariant-loop-submitter : goal.invariant-loop-submitter
 invariant-loop-submitter l = (pages : List Page) → IsWritable pages (reported l.report)
-    → AreSections pages (header_row ∷ reply_rows pages (map (λ row. row.items) (take l.submitter l.report.replies.rows.items))) l.all.items
+    → AreSections pages
+    (header_row ∷ reply_rows pages (map (λ row. row.items) (take l.submitter l.report.replies.rows.items)))
+    l.all.items

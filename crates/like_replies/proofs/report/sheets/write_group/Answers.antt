@@ -18,6 +18,7 @@ returns g c =
     let texts : List (List ℕ) = made.0 in
     let text : flat_map (λ t. t) texts ≡ rows_text (rows_in pages group) =
     texts-at_once pages group sheets.items texts same
-    (λ i d there. let given = (c.in_ok-map_chunks.ensures.each i d there).1 in record { part = given.argument.now; is_part = given.argument_is.value; text = given.call }) made.1 in
+    (λ i d there. let given = (c.in_ok-map_chunks.ensures.each i d there).1 in
+    record { part = given.argument.now; is_part = given.argument_is.value; text = given.call }) made.1 in
     rw text at made.2)
     c.hand_on_all.ensures

@@ -6,4 +6,5 @@ use Rattle.like_replies.proofs.report.sheets.write_rows.Given as goal
 
 abbrev pub invariant-loop-section : goal.invariant-loop-section
 invariant-loop-section g l = (l.sheet ≡ [])
-    × Appends (g.W.Write.contents l.initial.out) (g.W.Write.contents l.out) (rows_text (rows_in l.names (take l.section-index l.sections)))
+    × Appends (g.W.Write.contents l.initial.out) (g.W.Write.contents l.out)
+    (rows_text (rows_in l.names (take l.section-index l.sections)))

@@ -12,7 +12,8 @@ write_group-requires-clause-has g c κs lives =
     let done : List Section = c.loop-group.invariant.2 in
     let group : List Section = c.in-Some.group.now in
     let rest : List Section = chunks_rest c.next.new.self in
-    let whole : c.args.sections.now ≡ done ++ (group ++ rest) = c.loop-group.invariant.3 ∙ ap (λ r. done ++ r) c.in-Some.ensures.steps.1.0 in
+    let whole : c.args.sections.now ≡ done ++ (group ++ rest) =
+    c.loop-group.invariant.3 ∙ ap (λ r. done ++ r) c.in-Some.ensures.steps.1.0 in
     All-part (HasRows c.args.names.now) done group rest (rw (← whole) c.requires.has)
 
 pub loop-group-preserved : goal.loop-group-preserved
@@ -22,11 +23,14 @@ loop-group-preserved g c =
     let done : List Section = c.loop-group.invariant.2 in
     let group : List Section = c.in-Some.group.now in
     let rest : List Section = chunks_rest c.next.new.self in
-    let whole : c.args.sections.now ≡ done ++ (group ++ rest) = c.loop-group.invariant.3 ∙ ap (λ r. done ++ r) step.1.0 in
-    let more : rows_in pages (done ++ group) ≡ rows_in pages done ++ rows_in pages group = flat_map-append (section_rows pages) done group in (
+    let whole : c.args.sections.now ≡ done ++ (group ++ rest) =
+    c.loop-group.invariant.3 ∙ ap (λ r. done ++ r) step.1.0 in
+    let more : rows_in pages (done ++ group) ≡ rows_in pages done ++ rows_in pages group =
+    flat_map-append (section_rows pages) done group in (
       rw step.0 c.loop-group.invariant.0,
       tt,
       done ++ group,
       whole ∙ sym (append_assoc done group rest),
-      rw more (Appends-rows _ _ _ (rows_in pages done) (rows_in pages group) c.loop-group.invariant.4 c.in_ok-write_group.ensures),
+      rw more (Appends-rows _ _ _ (rows_in pages done)
+          (rows_in pages group) c.loop-group.invariant.4 c.in_ok-write_group.ensures),
     )

@@ -5,7 +5,8 @@ pub place_sections-requires : goal.place_sections-requires
 place_sections-requires g c = rw c.deref.ensures.value (c.requires ∙ sym c.len.ensures)
 
 pub write_rows-requires : goal.write_rows-requires
-write_rows-requires g c = rw c.deref-2.ensures.value (c.in_ok-sections.ensures c.args.names.now (sym c.len.ensures)).each
+write_rows-requires g c =
+    rw c.deref-2.ensures.value (c.in_ok-sections.ensures c.args.names.now (sym c.len.ensures)).each
 
 pub returns : goal.returns
 returns g c =

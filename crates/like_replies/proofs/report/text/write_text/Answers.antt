@@ -20,12 +20,14 @@ pub returns : goal.returns
 returns g c =
     let report = c.args.report.now in
     let rows : List Page → List ℕ = λ pages. report_text pages (reported report) in
-    let places : List Page → List ℕ = λ pages. if c.args.places then rows_text (place_rows pages (lists_in report.places.items)) else [] in
+    let places : List Page → List ℕ =
+    λ pages. if c.args.places then rows_text (place_rows pages (lists_in report.places.items)) else [] in
     let old = g.W.Write.contents c.args.out.now in
     let middle = g.W.Write.contents c.write_report_rows.new.out in
     let new = g.W.Write.contents c.write_asked_rows.new.out in
     on_ok_weaker c.write_asked_rows.result
     (λ second.
     subst (λ (pages : List Page). Appends old new (rows pages ++ places pages)) c.in_ok-names.ensures
-    (Appends-trans old middle new (rows c.in_ok-names.names) (places c.in_ok-names.names) c.in_ok-write_report_rows.ensures second))
+    (Appends-trans old middle new (rows c.in_ok-names.names)
+    (places c.in_ok-names.names) c.in_ok-write_report_rows.ensures second))
     c.write_asked_rows.ensures

@@ -7,10 +7,25 @@ use Rattle.like_replies.specs.Summary.{number_line}
 use Rattle.like_replies.proofs.summary.Summary.write.Goals as goal
 
 -- nine texts, one behind the other
-nine : (c0 c1 c2 c3 c4 c5 c6 c7 c8 c9 : Option (List ℕ)) (t1 t2 t3 t4 t5 t6 t7 t8 t9 : List ℕ) → Appends c0 c1 t1 → Appends c1 c2 t2 → Appends c2 c3 t3 → Appends c3 c4 t4
-    → Appends c4 c5 t5 → Appends c5 c6 t6 → Appends c6 c7 t7 → Appends c7 c8 t8 → Appends c8 c9 t9 → Appends c0 c9 (t1 ++ t2 ++ t3 ++ t4 ++ t5 ++ t6 ++ t7 ++ t8 ++ t9)
+nine : (c0 c1 c2 c3 c4 c5 c6 c7 c8 c9 : Option (List ℕ)) (t1 t2 t3 t4 t5 t6 t7 t8 t9 : List ℕ)
+    → Appends c0 c1 t1
+    → Appends c1 c2 t2
+    → Appends c2 c3 t3
+    → Appends c3 c4 t4
+    → Appends c4 c5 t5
+    → Appends c5 c6 t6
+    → Appends c6 c7 t7
+    → Appends c7 c8 t8
+    → Appends c8 c9 t9
+    → Appends c0 c9 (t1 ++ t2 ++ t3 ++ t4 ++ t5 ++ t6 ++ t7 ++ t8 ++ t9)
 nine c0 c1 c2 c3 c4 c5 c6 c7 c8 c9 t1 t2 t3 t4 t5 t6 t7 t8 t9 h1 h2 h3 h4 h5 h6 h7 h8 h9 =
-    Appends-trans c0 c8 c9 _ t9 (Appends-trans c0 c7 c8 _ t8 (Appends-trans c0 c6 c7 _ t7 (Appends-trans c0 c5 c6 _ t6 (Appends-trans c0 c4 c5 _ t5 (Appends-trans c0 c3 c4 _ t4 (Appends-trans c0 c2 c3 _ t3 (Appends-trans c0 c1 c2 _ t2 h1 h2) h3) h4) h5) h6) h7) h8) h9
+    Appends-trans c0 c8 c9 _ t9
+    (Appends-trans c0 c7 c8 _ t8
+    (Appends-trans c0 c6 c7 _ t7
+    (Appends-trans c0 c5 c6 _ t6
+    (Appends-trans c0 c4 c5 _ t5
+    (Appends-trans c0 c3 c4 _ t4 (Appends-trans c0 c2 c3 _ t3 (Appends-trans c0 c1 c2 _ t2 h1 h2) h3) h4) h5) h6)
+    h7) h8) h9
 
 pub returns : goal.returns
 returns g c =

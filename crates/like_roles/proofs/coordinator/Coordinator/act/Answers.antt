@@ -10,23 +10,29 @@ use Rattle.like_roles.proofs.coordinator.Coordinator.act.Goals.{else-sight-2-via
 
 pub invariant_of-self-then-sight-3 : goal.invariant_of-self-then-sight-3
 invariant_of-self-then-sight-3 c =
-    ap (λ (z : Opening). z.limits) (release-opening _ _ _ _ c.release.ensures.releases ∙ ap (λ (l : LeadView). l.seat.opening) c.look_at_run-sight.ensures.saw)
+    ap (λ (z : Opening). z.limits)
+    (release-opening _ _ _ _ c.release.ensures.releases
+    ∙ ap (λ (l : LeadView). l.seat.opening) c.look_at_run-sight.ensures.saw)
     ∙ c.self.invariant
 
 pub returns-then-sight : goal.returns-then-sight
 returns-then-sight c =
     let i = c.self.inside in
     let look = c.look_at_run-sight in
-    by_case _ i.lead look.new.lead i.turns i.left i.phase i.choices look.result _ _ c.self.view_is look.ensures.shows look.ensures.event look.ensures.saw
+    by_case _ i.lead look.new.lead i.turns i.left i.phase i.choices look.result _ _ c.self.view_is look.ensures.shows
+    look.ensures.event look.ensures.saw
     (ends c.if-sight.true refl refl)
 
 pub returns-then-sight-3 : goal.returns-then-sight-3
 returns-then-sight-3 c =
     let i = c.self.inside in
     let look = c.look_at_run-sight in
-    let after : CoordinatorView = coordinator_of c.release.new.lead i.turns i.turns look.result.number c.release.new.choices in
-    by_case _ i.lead look.new.lead i.turns i.left i.phase i.choices look.result _ _ c.self.view_is look.ensures.shows look.ensures.event look.ensures.saw
-    (releases c.if-sight.false c.if-sight-2.true c.if-sight-3.true after.seat after.choice c.release.ensures.releases refl (λ m. record after { board = c.release.ensures.board m }))
+    let after : CoordinatorView =
+    coordinator_of c.release.new.lead i.turns i.turns look.result.number c.release.new.choices in
+    by_case _ i.lead look.new.lead i.turns i.left i.phase i.choices look.result _ _ c.self.view_is look.ensures.shows
+    look.ensures.event look.ensures.saw
+    (releases c.if-sight.false c.if-sight-2.true c.if-sight-3.true after.seat after.choice c.release.ensures.releases
+    refl (λ m. record after { board = c.release.ensures.board m }))
 
 pub returns-then-sight-4 : goal.returns-then-sight-4
 returns-then-sight-4 c =
@@ -36,21 +42,24 @@ returns-then-sight-4 c =
       | else-sight-2-via-then-sight-2+else-sight-3 x ↦ x.if-sight-3.false
       | else-sight-2-via-else-sight-2 x ↦ let clash : true ≡ false = sym c.if-sight-4.true ∙ x.if-sight-2.false in cc
     ] in
-    by_case _ i.lead look.new.lead i.turns i.left i.phase i.choices look.result _ _ c.self.view_is look.ensures.shows look.ensures.event look.ensures.saw
+    by_case _ i.lead look.new.lead i.turns i.left i.phase i.choices look.result _ _ c.self.view_is look.ensures.shows
+    look.ensures.event look.ensures.saw
     (waits c.if-sight.false c.if-sight-4.true not_in refl refl)
 
 pub returns-then-self-gt0 : goal.returns-then-self-gt0
 returns-then-self-gt0 c =
     let i = c.self.inside in
     let look = c.look_at_run-sight in
-    by_case _ i.lead look.new.lead i.turns i.left i.phase i.choices look.result _ _ c.self.view_is look.ensures.shows look.ensures.event look.ensures.saw
+    by_case _ i.lead look.new.lead i.turns i.left i.phase i.choices look.result _ _ c.self.view_is look.ensures.shows
+    look.ensures.event look.ensures.saw
     (counts c.if-sight.false c.if-sight-4.false c.if-self-gt0.true refl refl)
 
 pub returns-then-sight-eq-LAST_PHASE : goal.returns-then-sight-eq-LAST_PHASE
 returns-then-sight-eq-LAST_PHASE c =
     let i = c.self.inside in
     let look = c.look_at_run-sight in
-    by_case _ i.lead look.new.lead i.turns i.left i.phase i.choices look.result _ _ c.self.view_is look.ensures.shows look.ensures.event look.ensures.saw
+    by_case _ i.lead look.new.lead i.turns i.left i.phase i.choices look.result _ _ c.self.view_is look.ensures.shows
+    look.ensures.event look.ensures.saw
     (stays c.if-sight.false c.if-sight-4.false (omega arith) c.if-sight-eq-LAST_PHASE.true refl refl)
 
 pub returns : goal.returns
@@ -61,5 +70,7 @@ returns c =
     let number = look.ensures.shows.number in
     let other = c.if-sight-eq-LAST_PHASE.false in
     let below : look.result.number < last_phase = omega arith in
-    by_case _ i.lead look.new.lead i.turns i.left i.phase i.choices look.result _ _ c.self.view_is look.ensures.shows look.ensures.event look.ensures.saw
-    (announces c.if-sight.false c.if-sight-4.false (omega arith) below refl (ap (λ (l : LeadView). coordinator_of l i.turns i.left look.result.number i.choices) c.announce.ensures))
+    by_case _ i.lead look.new.lead i.turns i.left i.phase i.choices look.result _ _ c.self.view_is look.ensures.shows
+    look.ensures.event look.ensures.saw
+    (announces c.if-sight.false c.if-sight-4.false (omega arith) below refl
+    (ap (λ (l : LeadView). coordinator_of l i.turns i.left look.result.number i.choices) c.announce.ensures))

@@ -8,13 +8,19 @@ use Rattle.like_roles.proofs.Followed.{follows-give}
 use Rattle.like_roles.proofs.worker.Worker.give.Goals as goal
 
 pub returns-clause-case : goal.returns-clause-case
-returns-clause-case g c = subst (λ v. Gives v c.args.taken c.give.result (view_of c.give.new.seat c.give.new.self)) c.self.view_is c.give.ensures.case
+returns-clause-case g c =
+    subst (λ v. Gives v c.args.taken c.give.result (view_of c.give.new.seat c.give.new.self)) c.self.view_is
+    c.give.ensures.case
 
 pub returns-clause-follows : goal.returns-clause-follows
 returns-clause-follows g c = λ service asked f.
     let kept = subst (λ (v : WorkerView). IsSliceInSplit v.post v.slice) c.self.view_is c.self.invariant.seat.split in
     let has = subst (λ (v : WorkerView). HasPhaseMask v.post) c.self.view_is c.self.invariant.seat.masked in
-    follows-give service c.args.self.now c.args.taken c.give.result (view_of c.give.new.seat c.give.new.self) c.requires.next asked kept has c.give.ensures.sound.seat.waiting.within (returns-clause-case g c) f
+    follows-give service c.args.self.now c.args.taken c.give.result
+    (view_of c.give.new.seat c.give.new.self) c.requires.next asked kept has
+    c.give.ensures.sound.seat.waiting.within (returns-clause-case g c) f
 
 pub returns-clause-takes : goal.returns-clause-takes
-returns-clause-takes g c = gives-takes c.args.self.now c.args.taken c.give.result (view_of c.give.new.seat c.give.new.self) (returns-clause-case g c)
+returns-clause-takes g c =
+    gives-takes c.args.self.now c.args.taken c.give.result (view_of c.give.new.seat c.give.new.self)
+    (returns-clause-case g c)

@@ -18,28 +18,44 @@ abbrev start_of : PromisedHandle Served Owes → ℕ
 start_of thread = thread.promise.start.now.id
 
 -- the servers with which the threads began, of which there is one more
-servers-more : (old new : List (PromisedHandle Served Owes)) (thread : PromisedHandle Served Owes) (servers : List ServerView) (server : ServerView) → new ≡ old ++ thread ∷ [] → map first_of old ≡ servers
+servers-more : (old new : List (PromisedHandle Served Owes)) (thread : PromisedHandle Served Owes)
+    (servers : List ServerView) (server : ServerView)
+    → new ≡ old ++ thread ∷ []
+    → map first_of old ≡ servers
     → first_of thread ≡ server → map first_of new ≡ servers ++ server ∷ []
 servers-more old new thread servers server pushed before first =
-    ap (map first_of) pushed ∙ map_push first_of old thread ∙ ap (λ xs. xs ++ first_of thread ∷ []) before ∙ ap (λ s. servers ++ s ∷ []) first
+    ap (map first_of) pushed ∙ map_push first_of old thread ∙ ap (λ xs. xs ++ first_of thread ∷ []) before
+    ∙ ap (λ s. servers ++ s ∷ []) first
 
 -- as many threads as servers
-as-many : (threads : List (PromisedHandle Served Owes)) (servers : List ServerView) → map first_of threads ≡ servers → length threads ≡ length servers
+as-many : (threads : List (PromisedHandle Served Owes)) (servers : List ServerView)
+    → map first_of threads ≡ servers
+    → length threads ≡ length servers
 as-many threads servers are = sym (length-map threads first_of) ∙ ap (λ (xs : List ServerView). length xs) are
 
 pub push_reserved-requires : goal.push_reserved-requires
 push_reserved-requires g c =
     let l = c.loop-server in
     let from = c.into_iter-server-iterator.ensures.into_iter_gives in
-    let all = YieldsList-from_vec {s = c.into_iter-server-iterator.result} c.args.servers.items from.0 (from.1 ∙ c.args.servers.ok.0) in
-    let turn = YieldsList-turn all l.yielded _ l.yielded_by _ c.next.new.self c.in-Some.server c.in-Some.is c.next.ensures.steps in
-    omega (arith, turn.0, as-many l.threads.items l.yielded l.invariant.servers, l.threads.ok.0, l.invariant.room, c.requires.room)
+    let all = YieldsList-from_vec {s = c.into_iter-server-iterator.result} c.args.servers.items from.0
+    (from.1 ∙ c.args.servers.ok.0) in
+    let turn = YieldsList-turn all l.yielded _ l.yielded_by _ c.next.new.self c.in-Some.server c.in-Some.is
+    c.next.ensures.steps in
+    omega (
+      arith,
+      turn.0,
+      as-many l.threads.items l.yielded l.invariant.servers,
+      l.threads.ok.0,
+      l.invariant.room,
+      c.requires.room,
+    )
 
 pub returns-clause-servers : goal.returns-clause-servers
 returns-clause-servers g c = λ started.
     let l = c.loop-server in
     let from = c.into_iter-server-iterator.ensures.into_iter_gives in
-    let all = YieldsList-from_vec {s = c.into_iter-server-iterator.result} c.args.servers.items from.0 (from.1 ∙ c.args.servers.ok.0) in
+    let all = YieldsList-from_vec {s = c.into_iter-server-iterator.result} c.args.servers.items from.0
+    (from.1 ∙ c.args.servers.ok.0) in
     let end = YieldsList-end all l.yielded _ l.yielded_by _ c.next.new.self c.in-None.is c.next.ensures.steps in
     l.invariant.servers ∙ sym (map-id l.yielded) ∙ end.0
 
@@ -55,6 +71,8 @@ loop-server-preserved g c =
     record {
       few = grind (arith, length-append, pushed, l.invariant.few);
       room = omega (arith, c.push_reserved.ensures.capacity, l.invariant.room);
-      told = subst (All Told) (sym pushed) (All-append Told l.threads.items (thread ∷ []) l.invariant.told (all-one Told thread told));
-      servers = servers-more l.threads.items c.push_reserved.new.self.items thread l.yielded c.in-Some.server pushed l.invariant.servers first;
+      told = subst (All Told) (sym pushed)
+          (All-append Told l.threads.items (thread ∷ []) l.invariant.told (all-one Told thread told));
+      servers = servers-more l.threads.items c.push_reserved.new.self.items thread l.yielded c.in-Some.server pushed
+          l.invariant.servers first;
     }

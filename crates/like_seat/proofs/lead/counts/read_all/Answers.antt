@@ -15,7 +15,8 @@ count-requires-clause-may c =
     let l = c.loop-page in
     let known = coord_view c.args.seat.now in
     subst (λ (v : CoordSeatView). MayCount v l.page) (sym l.invariant.view)
-    (may-count known 0 (take l.page l.counts) l.page (c.requires.saw, c.requires.joined, omega (arith, c.loop-page-test.true, c.requires.there)))
+    (may-count known 0 (take l.page l.counts) l.page
+    (c.requires.saw, c.requires.joined, omega (arith, c.loop-page-test.true, c.requires.there)))
 
 pub loop-page-preserved : goal.loop-page-preserved
 loop-page-preserved c =
@@ -27,7 +28,8 @@ loop-page-preserved c =
       board = c.count.ensures.board ∙ l.invariant.board;
       view =
           c.count.ensures.view ∙ ap (λ (v : CoordSeatView). counted_coord v l.page count) l.invariant.view
-          ∙ ap (λ p. counted_coord (counted_from known 0 (take l.page l.counts)) p count) (omega (arith, length-take-le l.page l.counts (omega (arith, there))))
+          ∙ ap (λ p. counted_coord (counted_from known 0 (take l.page l.counts)) p count)
+          (omega (arith, length-take-le l.page l.counts (omega (arith, there))))
           ∙ sym (counted-more known 0 (take l.page l.counts) count)
           ∙ ap (counted_from known 0) (sym (take_more_set l.counts l.page count there));
     }

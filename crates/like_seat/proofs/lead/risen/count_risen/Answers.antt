@@ -20,7 +20,11 @@ count-count-requires-clause-may c =
 pub overflow_add-mask : goal.overflow_add-mask
 overflow_add-mask c =
     let l = c.loop-page in
-    omega (arith, bit-fits (has_risen c.args.least c.args.counts.now l.counts) l.page l.mask (omega (arith, c.loop-page-test.true, l.invariant.len, c.requires.few)) l.invariant.risen)
+    omega (
+      arith,
+      bit-fits (has_risen c.args.least c.args.counts.now l.counts) l.page l.mask
+          (omega (arith, c.loop-page-test.true, l.invariant.len, c.requires.few)) l.invariant.risen,
+    )
 
 pub loop-page-preserved : goal.loop-page-preserved
 loop-page-preserved c =
@@ -29,20 +33,28 @@ loop-page-preserved c =
     let first = c.args.counts.now in
     let there : l.page < length l.counts = omega (arith, c.loop-page-test.true) in
     let few : l.page < 64 = omega (arith, there, l.invariant.len, c.requires.few) in
-    let by : c.saturating_sub.result ≡ count - get_or first l.page 0 = c.saturating_sub.ensures ∙ ap (λ n. count - n) (l.invariant.rest l.page (omega arith)) in
-    let rose : c.if-saturating_sub-from.mask ≡ l.mask + weight (leb c.args.least (count - get_or first l.page 0)) * 2 ^ l.page =
+    let by : c.saturating_sub.result ≡ count - get_or first l.page 0 =
+    c.saturating_sub.ensures ∙ ap (λ n. count - n) (l.invariant.rest l.page (omega arith)) in
+    let rose : c.if-saturating_sub-from.mask
+    ≡ l.mask + weight (leb c.args.least (count - get_or first l.page 0)) * 2 ^ l.page =
     elim c.if-saturating_sub-from.branch [
       | then-saturating_sub-from w ↦
-          let yes_ : leb c.args.least (count - get_or first l.page 0) ≡ true = le-leb c.args.least (count - get_or first l.page 0) (omega (arith, w.if-saturating_sub-from.true, c.from.ensures, by)) in
+          let yes_ : leb c.args.least (count - get_or first l.page 0) ≡ true =
+          le-leb c.args.least (count - get_or first l.page 0)
+          (omega (arith, w.if-saturating_sub-from.true, c.from.ensures, by)) in
           w.mask-is ∙ ap (λ n. l.mask + n) (bit-is l.page few ∙ omega (arith, ap (λ b. weight b * 2 ^ l.page) yes_))
       | else-saturating_sub-from w ↦
-          let no : leb c.args.least (count - get_or first l.page 0) ≡ false = lt-leb c.args.least (count - get_or first l.page 0) (omega (arith, w.if-saturating_sub-from.false, c.from.ensures, by)) in
+          let no : leb c.args.least (count - get_or first l.page 0) ≡ false =
+          lt-leb c.args.least (count - get_or first l.page 0)
+          (omega (arith, w.if-saturating_sub-from.false, c.from.ensures, by)) in
           w.mask-is ∙ omega (arith, ap (λ b. weight b * 2 ^ l.page) no)
     ]
     in
-    let view : coord_view c.count-count.new.self ≡ counted_from (coord_view c.args.seat.now) 0 (take (l.page + 1) (set l.counts l.page count)) =
+    let view : coord_view c.count-count.new.self
+    ≡ counted_from (coord_view c.args.seat.now) 0 (take (l.page + 1) (set l.counts l.page count)) =
     c.count-count.ensures.view ∙ ap (λ (v : CoordSeatView). counted_coord v l.page count) l.invariant.view
-    ∙ ap (λ p. counted_coord (counted_from (coord_view c.args.seat.now) 0 (take l.page l.counts)) p count) (omega (arith, length-take-le l.page l.counts (omega (arith, there))))
+    ∙ ap (λ p. counted_coord (counted_from (coord_view c.args.seat.now) 0 (take l.page l.counts)) p count)
+    (omega (arith, length-take-le l.page l.counts (omega (arith, there))))
     ∙ sym (counted-more (coord_view c.args.seat.now) 0 (take l.page l.counts) count)
     ∙ ap (counted_from (coord_view c.args.seat.now) 0) (sym (take_more_set l.counts l.page count there))
     in
@@ -50,6 +62,7 @@ loop-page-preserved c =
       board = c.count-count.ensures.board ∙ l.invariant.board;
       view = view;
       len = length-set l.counts l.page count ∙ l.invariant.len;
-      rest = λ k past. get_or-set_other l.counts l.page k count 0 (omega (arith, past)) ∙ l.invariant.rest k (omega (arith, past));
+      rest = λ k past. get_or-set_other l.counts l.page k count 0 (omega (arith, past))
+          ∙ l.invariant.rest k (omega (arith, past));
       risen = rose ∙ mask-more c.args.least l.page count l.mask first l.counts there l.invariant.risen;
     }

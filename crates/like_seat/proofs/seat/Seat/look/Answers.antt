@@ -13,6 +13,8 @@ returns-then-not-sight-clause-looks g c =
     let sight = c.look-sight.result in
     let k = c.in-Answered.phase in
     let after : g.P.Post.view c.enter.new.post ≡ saw_at p sight hot =
-    c.enter.ensures.post ∙ ap (λ (q : PostView). record q { masks = masks_entered q.masks (k + 1) hot }) c.look-sight.ensures.view
-    ∙ sym (saw-next p sight hot k (c.self.invariant.state ∙ c.in-Answered.is) (not-true sight.waits c.if-not-sight.true)) in
+    c.enter.ensures.post
+    ∙ ap (λ (q : PostView). record q { masks = masks_entered q.masks (k + 1) hot }) c.look-sight.ensures.view
+    ∙ sym (saw-next p sight hot k (c.self.invariant.state ∙ c.in-Answered.is)
+    (not-true sight.waits c.if-not-sight.true)) in
     (hot, (λ m. view_of (after m) (c.enter.ensures.rest m)) ∙ ap (λ s. saw s sight hot) c.self.view_is)

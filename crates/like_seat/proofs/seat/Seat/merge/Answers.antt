@@ -26,7 +26,8 @@ loop-merged-preserved g c =
     let sized = ap (λ (x : SeatView g.row.W.Denot). length x.slice) merges.merged ∙ length-set s.slice m.page 0 in
     record {
       within = omega (arith, sized, merges.next.there);
-      likes = ap (λ (x : SeatView g.row.W.Denot). likes_of x) merges.merged ∙ merged_page-likes s m.page m.old merges.next.there ∙ i.likes;
+      likes = ap (λ (x : SeatView g.row.W.Denot). likes_of x) merges.merged
+          ∙ merged_page-likes s m.page m.old merges.next.there ∙ i.likes;
       merging = (
         adds ++ merge_of s m.page m.old ∷ [],
         Merging-next c.args.self.now s t c.loop-merged.from m.page m.old adds i.merging.1 merges.next merges.merged,
@@ -34,9 +35,14 @@ loop-merged-preserved g c =
     }
 
 -- the slice had a number for each page
-sized : {W : Type 0} (s0 s t : SeatView W) (n : ℕ) (adds : List Addition) → Merging s0 s n adds → t ≡ s → IsSeat t → length s0.slice ≡ pages_of s0.post
+sized : {W : Type 0} (s0 s t : SeatView W) (n : ℕ) (adds : List Addition)
+    → Merging s0 s n adds
+    → t ≡ s
+    → IsSeat t
+    → length s0.slice ≡ pages_of s0.post
 sized {W} s0 s t n adds m is seat =
-    sym m.sized ∙ sym (ap (λ (x : SeatView W). length x.slice) is) ∙ seat.sized ∙ ap (λ (x : SeatView W). pages_of x.post) (is ∙ m.rest)
+    sym m.sized ∙ sym (ap (λ (x : SeatView W). length x.slice) is) ∙ seat.sized
+    ∙ ap (λ (x : SeatView W). pages_of x.post) (is ∙ m.rest)
 
 pub returns-clause-merges : goal.returns-clause-merges
 returns-clause-merges g c =

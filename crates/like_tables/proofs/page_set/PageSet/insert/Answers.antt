@@ -14,5 +14,8 @@ returns c =
     record {
       len = length-set words (page / 64) _ ∙ ap length c.self.view_is;
       here = bit_of-written words page _ there ∙ bit_at_set_same w64 _ (page % 64) (omega arith);
-      others = λ other apart. rw (← c.self.view_is) (bit_of-others words page _ other there (λ i small differs. bit_at_set_other w64 _ (page % 64) (omega arith) i differs ∙ ap (λ w. bit_at w i) read) apart);
+      others = λ other apart. rw (← c.self.view_is)
+          (bit_of-others words page _ other there
+          (λ i small differs. bit_at_set_other w64 _ (page % 64) (omega arith) i differs ∙ ap (λ w. bit_at w i) read)
+          apart);
     }

@@ -15,24 +15,28 @@ loop-page-init c = record {
 
 pub overflow_add-round : goal.overflow_add-round
 overflow_add-round c =
-    let there = IsAt-there _ _ _ _ (c.loop-page.invariant.at c.loop-page-test.true) (omega (arith, c.requires.places.enough)) in
+    let there = IsAt-there _ _ _ _ (c.loop-page.invariant.at c.loop-page-test.true)
+    (omega (arith, c.requires.places.enough)) in
     let lt = rw (← c.self.view_is) at there in
     omega arith
 
 pub bounds-last-round : goal.bounds-last-round
 bounds-last-round c =
-    let there = IsAt-there _ _ _ _ (c.loop-page.invariant.at c.loop-page-test.true) (omega (arith, c.requires.places.enough)) in
+    let there = IsAt-there _ _ _ _ (c.loop-page.invariant.at c.loop-page-test.true)
+    (omega (arith, c.requires.places.enough)) in
     omega (arith, c.requires.users)
 
 pub offset_bounds-last-round : goal.offset_bounds-last-round
 offset_bounds-last-round c =
-    let there = IsAt-there _ _ _ _ (c.loop-page.invariant.at c.loop-page-test.true) (omega (arith, c.requires.places.enough)) in
+    let there = IsAt-there _ _ _ _ (c.loop-page.invariant.at c.loop-page-test.true)
+    (omega (arith, c.requires.places.enough)) in
     let lt = rw (← c.self.view_is) at there in
     omega arith
 
 pub overflow_add-round-then-submitter-submitters : goal.overflow_add-round-then-submitter-submitters
 overflow_add-round-then-submitter-submitters c =
-    let there = IsAt-there _ _ _ _ (c.loop-page.invariant.at c.loop-page-test.true) (omega (arith, c.requires.places.enough)) in
+    let there = IsAt-there _ _ _ _ (c.loop-page.invariant.at c.loop-page-test.true)
+    (omega (arith, c.requires.places.enough)) in
     let lt = rw (← c.self.view_is) at there in
     omega arith
 
@@ -40,16 +44,23 @@ pub loop-page-preserved : goal.loop-page-preserved
 loop-page-preserved c =
     let i = c.loop-page.invariant in
     let at = i.at c.loop-page-test.true in
-    let submitters : c.self.inside.submitters ≡ c.args.self.now.submitters = ap (λ (s : Share). s.submitters) c.self.view_is in
+    let submitters : c.self.inside.submitters ≡ c.args.self.now.submitters =
+    ap (λ (s : Share). s.submitters) c.self.view_is in
     let workers : c.self.inside.workers ≡ c.args.self.now.workers = ap (λ (s : Share). s.workers) c.self.view_is in
     let worker : c.self.inside.worker ≡ c.args.self.now.worker = ap (λ (s : Share). s.worker) c.self.view_is in
     record {
-      given = IsGiven-more _ _ _ c.loop-page.last _ _ c.loop-page.page-index _ i.given at (omega (arith, c.requires.places.enough, c.loop-page-test.true)) (omega (arith, c.requires.users)) (c.page.ensures ∙ get_or_read c.args.pages.now c.loop-page.page-index c.page-item.result c.loop-page-test.true c.page-item.is None);
+      given = IsGiven-more _ _ _ c.loop-page.last _ _ c.loop-page.page-index _ i.given at
+          (omega (arith, c.requires.places.enough, c.loop-page-test.true)) (omega (arith, c.requires.users))
+          (c.page.ensures
+          ∙ get_or_read c.args.pages.now c.loop-page.page-index c.page-item.result c.loop-page-test.true c.page-item.is
+          None);
       at = λ more. elim c.if-submitter-submitters.branch [
         | then-submitter-submitters w ↦
-            rw (w.round-is, w.submitter-is, submitters, worker) (IsAt-round _ _ _ _ at (omega (arith, w.if-submitter-submitters.true)))
+            rw (w.round-is, w.submitter-is, submitters, worker)
+            (IsAt-round _ _ _ _ at (omega (arith, w.if-submitter-submitters.true)))
         | else-submitter-submitters w ↦
-            rw (w.round-is, w.submitter-is, workers) (IsAt-next _ _ _ _ at (omega (arith, w.if-submitter-submitters.false)))
+            rw (w.round-is, w.submitter-is, workers)
+            (IsAt-next _ _ _ _ at (omega (arith, w.if-submitter-submitters.false)))
       ];
     }
 

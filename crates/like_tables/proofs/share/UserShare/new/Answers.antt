@@ -26,7 +26,12 @@ loop-submitter-preserved c =
         | then-submitter-workers w ↦
             omega (arith, w.homes-is, i.homes, homes_below-own s c.loop-submitter.submitter w.if-submitter-workers.true)
         | else-submitter-workers w ↦
-            omega (arith, w.homes-is, i.homes, homes_below-other s c.loop-submitter.submitter w.if-submitter-workers.false)
+            omega (
+              arith,
+              w.homes-is,
+              i.homes,
+              homes_below-other s c.loop-submitter.submitter w.if-submitter-workers.false,
+            )
       ];
       len = omega (arith, i.len, c.in_ok-push.ensures.len);
       below = λ n less. rw c.in_ok-push.ensures.items (homes-push s _ _ _ i.len i.below i.homes n less);

@@ -6,5 +6,6 @@ abbrev pub invariant-loop-submitter : goal.invariant-loop-submitter
 invariant-loop-submitter l = record {
   homes : l.homes ≡ homes_below (share_of l.users l.submitters l.workers l.worker) l.submitter;
   len : length l.homes_below.items ≡ l.submitter;
-  below : (n : ℕ) → n < l.submitter → slice_index l.homes_below.items n ≡ homes_below (share_of l.users l.submitters l.workers l.worker) n;
+  below : (n : ℕ) → n < l.submitter
+      → slice_index l.homes_below.items n ≡ homes_below (share_of l.users l.submitters l.workers l.worker) n;
 }

@@ -10,7 +10,8 @@ overflow_mul-result c =
 
 pub overflow_add-result : goal.overflow_add-result
 overflow_add-result c =
-    let place = rw c.self.view_is at (read-place _ _ c.args.user _ _ c.self.invariant c.index.ensures c.index-2.ensures) in
+    let place = rw c.self.view_is at
+    (read-place _ _ c.args.user _ _ c.self.invariant c.index.ensures c.index-2.ensures) in
     omega (arith, place, owned_below-le c.args.self.now c.args.user)
 
 pub returns : goal.returns

@@ -5,4 +5,8 @@ pub overflow_cast-result : goal.overflow_cast-result
 overflow_cast-result c =
     let share = c.self.inside in
     let there : share.worker + share.workers * c.args.place < share.submitters = rw (← c.self.view_is) at c.requires in
-    omega (arith, c.self.invariant.fits, mul-le-mul_right {m = 1} {n = share.workers} c.args.place c.self.invariant.lawful.workers)
+    omega (
+      arith,
+      c.self.invariant.fits,
+      mul-le-mul_right {m = 1} {n = share.workers} c.args.place c.self.invariant.lawful.workers,
+    )

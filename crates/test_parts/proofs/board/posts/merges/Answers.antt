@@ -11,4 +11,5 @@ add-requires g c =
     let v = looked_at (g.P.Post.view c.args.post.now) sight in
     let runs = ap (λ (state : WorkerState). seen state sight) c.requires.state in
     subst (λ (w : PostView). MayAdd w 0 c.args.likes) (sym c.look-sight.ensures.view)
-    (may_merge v c.args.likes runs c.requires.page c.requires.split c.requires.added_nothing c.requires.some c.requires.few (not_false sight.ending c.if-not-sight.false))
+    (may_merge v c.args.likes runs c.requires.page c.requires.split c.requires.added_nothing c.requires.some
+    c.requires.few (not_false sight.ending c.if-not-sight.false))

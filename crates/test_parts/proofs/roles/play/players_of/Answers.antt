@@ -15,5 +15,6 @@ loop-seat-preserved c =
       seats = λ worker seat at.
           let still = slice_get-before left (c.in-Some.seat ∷ []) worker (slice_get_within left worker seat at) in
           c.loop-seat.invariant.seats worker seat (ap (λ xs. slice_get xs worker) popped ∙ (still ∙ at));
-      len = (let whole : length (left ++ c.in-Some.seat ∷ []) ≤ c.args.setup.now.workers = rw popped at before in omega arith);
+      len = (let whole : length (left ++ c.in-Some.seat ∷ []) ≤ c.args.setup.now.workers = rw popped at before in
+          omega arith);
     }

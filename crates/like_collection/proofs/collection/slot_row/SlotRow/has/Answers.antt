@@ -13,4 +13,6 @@ returns c =
     let inside = c.self.inside in
     let size = length-there inside.there.items inside.answers.items c.self.invariant in
     let within : c.args.place < length inside.answers.items = omega (arith, size, ap length c.self.view_is) in
-    rw (← c.self.view_is) (is_some-there inside.there.items inside.answers.items c.args.place c.index.result.now c.self.invariant within c.index.ensures)
+    rw (← c.self.view_is)
+    (is_some-there inside.there.items inside.answers.items c.args.place c.index.result.now c.self.invariant within
+    c.index.ensures)

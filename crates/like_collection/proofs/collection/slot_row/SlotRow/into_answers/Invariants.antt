@@ -3,4 +3,5 @@ use Rattle.like_collection.specs.Slots.{answers_there}
 use Rattle.like_collection.proofs.collection.slot_row.SlotRow.into_answers.Given as goal
 
 abbrev pub invariant-loop-place : goal.invariant-loop-place
-invariant-loop-place l = take l.place (answers_there l.is_there-items l.answers.items) ≡ map Some (take l.place l.answers.items)
+invariant-loop-place l =
+    take l.place (answers_there l.is_there-items l.answers.items) ≡ map Some (take l.place l.answers.items)

@@ -17,4 +17,5 @@ index_mut-requires-2 c =
 pub returns : goal.returns
 returns c =
     let inside = c.self.inside in
-    there-set inside.there.items inside.answers.items c.args.place c.args.answer c.self.invariant ∙ ap (λ slots. set slots c.args.place (Some c.args.answer)) c.self.view_is
+    there-set inside.there.items inside.answers.items c.args.place c.args.answer c.self.invariant
+    ∙ ap (λ slots. set slots c.args.place (Some c.args.answer)) c.self.view_is

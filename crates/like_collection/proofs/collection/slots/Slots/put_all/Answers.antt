@@ -19,10 +19,12 @@ returns-in_err-put c = λ sizes before held.
     let ran = c.args.ran.now in
     let e = get_or ran i past in
     let parts : before ++ ran ≡ (before ++ take i ran) ++ e ∷ drop (i + 1) ran =
-    ap (λ (r : List Ran). before ++ r) (parts_at ran i past c.loop-entry-test.true) ∙ sym (append_assoc before (take i ran) (e ∷ drop (i + 1) ran))
+    ap (λ (r : List Ran). before ++ r) (parts_at ran i past c.loop-entry-test.true)
+    ∙ sym (append_assoc before (take i ran) (e ∷ drop (i + 1) ran))
     in
     let fault : IsEntryFault sizes (before ++ ran) c.in_err-put.field-0.0 =
-    IsEntryFault-refused sizes (before ++ take i ran) c.loop-entry.self e (drop (i + 1) ran) (before ++ ran) c.in_err-put.field-0.0 (c.loop-entry.invariant sizes before held) parts c.in_err-put.ensures
+    IsEntryFault-refused sizes (before ++ take i ran) c.loop-entry.self e (drop (i + 1) ran)
+    (before ++ ran) c.in_err-put.field-0.0 (c.loop-entry.invariant sizes before held) parts c.in_err-put.ensures
     in search (rules, fault)
 
 pub loop-entry-preserved : goal.loop-entry-preserved
@@ -31,12 +33,16 @@ loop-entry-preserved c = λ sizes before held.
     let ran = c.args.ran.now in
     let e = get_or ran i past in
     let more : before ++ take (i + 1) ran ≡ (before ++ take i ran) ++ e ∷ [] =
-    ap (λ (r : List Ran). before ++ r) (take_more ran i past c.loop-entry-test.true) ∙ sym (append_assoc before (take i ran) (e ∷ []))
+    ap (λ (r : List Ran). before ++ r) (take_more ran i past c.loop-entry-test.true)
+    ∙ sym (append_assoc before (take i ran) (e ∷ []))
     in
-    let held_more = HoldsAll-put sizes (before ++ take i ran) c.loop-entry.self e c.put.new.self (c.loop-entry.invariant sizes before held) c.in_ok-put.ensures in
+    let held_more =
+    HoldsAll-put sizes (before ++ take i ran) c.loop-entry.self e c.put.new.self
+    (c.loop-entry.invariant sizes before held) c.in_ok-put.ensures in
     subst (λ (l : List Ran). HoldsAll sizes l c.put.new.self) (sym more) held_more
 
 pub returns : goal.returns
 returns c = λ sizes before held.
     let whole = take_all c.loop-entry.entry-index c.args.ran.now c.loop-entry-test.false in
-    subst (λ (r : List Ran). HoldsAll sizes (before ++ r) c.loop-entry.self) whole (c.loop-entry.invariant sizes before held)
+    subst (λ (r : List Ran). HoldsAll sizes (before ++ r) c.loop-entry.self) whole
+    (c.loop-entry.invariant sizes before held)

@@ -16,4 +16,5 @@ returns-clause-case c = subst (λ v. CoordTurns v c.turn.result c.turn.new.self)
 
 pub returns-clause-goes_on : goal.returns-clause-goes_on
 returns-clause-goes_on c =
-    subst (λ v. CaptainGoesOn v c.turn.new.self) c.self.view_is (captain-goes-on c.self.inside.coordinator c.turn.result c.turn.new.self c.turn.ensures.case)
+    subst (λ v. CaptainGoesOn v c.turn.new.self) c.self.view_is
+    (captain-goes-on c.self.inside.coordinator c.turn.result c.turn.new.self c.turn.ensures.case)

@@ -9,12 +9,18 @@ use Rattle.like_crew.proofs.servers.Later.{goes-further, goes-same}
 use Rattle.like_crew.proofs.crew.server.Server+P+ListInbox.open_all.Goals as goal
 
 -- one list more is open
-opened-more : (first s t : ServerView) (n : ℕ) → ((place : ℕ) (inbox : InboxView) → place < n → slice_get first.inboxes place ≡ Some inbox → slice_get s.opened place ≡ Some (item_count inbox.plan))
+opened-more : (first s t : ServerView) (n : ℕ)
+    → ((place : ℕ) (inbox : InboxView) → place < n → slice_get first.inboxes place ≡ Some inbox
+    → slice_get s.opened place ≡ Some (item_count inbox.plan))
     → s ≡ record first { opened = s.opened } → OpensWhole n s t
-    → (place : ℕ) (inbox : InboxView) → place < n + 1 → slice_get first.inboxes place ≡ Some inbox → slice_get t.opened place ≡ Some (item_count inbox.plan)
+    → (place : ℕ) (inbox : InboxView)
+    → place < n + 1
+    → slice_get first.inboxes place ≡ Some inbox
+    → slice_get t.opened place ≡ Some (item_count inbox.plan)
 opened-more first s t n before rest o place inbox below at = elim (cases_eq place n) [
   | inl same ↦
-      let found : slice_get s.inboxes n ≡ Some inbox = ap (λ (x : ServerView). slice_get x.inboxes n) rest ∙ ap (slice_get first.inboxes) (sym same) ∙ at in
+      let found : slice_get s.inboxes n ≡ Some inbox =
+      ap (λ (x : ServerView). slice_get x.inboxes n) rest ∙ ap (slice_get first.inboxes) (sym same) ∙ at in
       let it : o.inbox ≡ inbox = same_Some _ _ (sym o.here ∙ found) in
       ap (slice_get t.opened) same ∙ o.all ∙ ap (λ (i : InboxView). Some (item_count i.plan)) it
   | inr other ↦ o.others place other ∙ before place inbox (omega (arith, below, other)) at
@@ -43,6 +49,7 @@ loop-place-preserved g c =
 pub returns-clause-opens : goal.returns-clause-opens
 returns-clause-opens g c = record {
   all = λ place inbox at.
-      c.loop-place.invariant.opened place inbox (omega (arith, c.loop-place.invariant.places, slice_get_within c.args.self.now.inboxes place inbox at)) at;
+      c.loop-place.invariant.opened place inbox
+      (omega (arith, c.loop-place.invariant.places, slice_get_within c.args.self.now.inboxes place inbox at)) at;
   rest = c.loop-place.invariant.rest;
 }

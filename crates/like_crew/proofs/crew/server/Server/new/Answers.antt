@@ -12,6 +12,8 @@ pub invariant_of-result : goal.invariant_of-result
 invariant_of-result g c =
     let new = c.in_ok-worker.ensures.new in (
       new.pending,
-      workers-new _ (share_of c.args.setup.now.users (length c.args.sizes.now) c.args.setup.now.workers c.args.number) new.last,
-      agree-new c.args.setup.now c.args.sizes.now c.args.number _ c.args.notes c.in_ok-worker.worker (map g.I.Inbox.view c.args.inboxes.items) c.requires.is_worker c.requires.post c.requires.inboxes new,
+      workers-new _
+          (share_of c.args.setup.now.users (length c.args.sizes.now) c.args.setup.now.workers c.args.number) new.last,
+      agree-new c.args.setup.now c.args.sizes.now c.args.number _ c.args.notes c.in_ok-worker.worker
+          (map g.I.Inbox.view c.args.inboxes.items) c.requires.is_worker c.requires.post c.requires.inboxes new,
     )

@@ -7,7 +7,9 @@ use Rattle.like_files.proofs.plans.fn.read_plans_at_once.read.Goals as goal
 
 pub returns : goal.returns
 returns g c = record {
-  plan = of_records (g.R.Read.remaining c.args.reader) (λ (rows : List Record) (plan : Vec Request Global). IsRequestsFile c.captures.pages.now rows plan.items) IsRequestsFault
+  plan = of_records (g.R.Read.remaining c.args.reader)
+      (λ (rows : List Record) (plan : Vec Request Global). IsRequestsFile c.captures.pages.now rows plan.items)
+      IsRequestsFault
       c.read_requests.result c.read_requests.ensures.file;
   read = c.read_requests.ensures.read;
 }

@@ -13,8 +13,10 @@ returns-clause-merged g c =
     let l = c.loop-merged in
     let i = l.invariant in
     let adds = i.merging.0 in
-    let done = subst (λ r. MergesNext l.seat l.from r c.merge_next.new.self) c.in_default.is c.merge_next.ensures.merges in
-    let whole = Merging-done c.args.seat.now l.seat c.merge_next.new.self l.from adds i.merging.1.0 i.within done.0 done.1 c.requires.settled.sound.seat.sized in
+    let done = subst (λ r. MergesNext l.seat l.from r c.merge_next.new.self) c.in_default.is
+    c.merge_next.ensures.merges in
+    let whole = Merging-done c.args.seat.now l.seat c.merge_next.new.self l.from adds i.merging.1.0 i.within done.0
+    done.1 c.requires.settled.sound.seat.sized in
     IsMerged-noted c.args.seat.now c.merge_next.new.self c.args.self.now l.self adds whole.0 whole.1 i.merging.1.1
 
 pub loop-merged-init : goal.loop-merged-init
@@ -35,17 +37,21 @@ loop-merged-preserved g c =
     let m = c.in-Some.merged in
     let merges = subst (λ r. MergesNext s c.loop-merged.from r t) c.in-Some.is c.merge_next.ensures.merges in
     let n = c.note_addition.ensures in
-    let phase_is : c.phase_of_run-phase.result ≡ phase_at s = c.phase_of_run-phase.ensures ∙ sym (ap (λ (x : SeatView Held). phase_at x) i.merging.1.0.rest) in
-    let noted : HasNoted d e c.phase_of_run-phase.result m.page m.old m.likes = record { noted = n.noted; len = n.len; capacity = n.capacity; rest = n.rest } in
+    let phase_is : c.phase_of_run-phase.result ≡ phase_at s =
+    c.phase_of_run-phase.ensures ∙ sym (ap (λ (x : SeatView Held). phase_at x) i.merging.1.0.rest) in
+    let noted : HasNoted d e c.phase_of_run-phase.result m.page m.old m.likes =
+    record { noted = n.noted; len = n.len; capacity = n.capacity; rest = n.rest } in
     let sized = ap (λ (x : SeatView Held). length x.slice) merges.merged ∙ length-set s.slice m.page 0 in
     record {
-      settled = merged-settled s t d e c.loop-merged.from c.phase_of_run-phase.result m i.settled c.merge_next.ensures.seat merges noted;
+      settled = merged-settled s t d e c.loop-merged.from c.phase_of_run-phase.result m i.settled
+          c.merge_next.ensures.seat merges noted;
       within = omega (arith, sized, merges.next.there);
       merging = (
         adds ++ merge_of s m.page m.old ∷ [],
         (
           Merging-next c.args.seat.now s t c.loop-merged.from m.page m.old adds i.merging.1.0 merges.next merges.merged,
-          HaveNoted-more s c.args.self.now d e adds c.phase_of_run-phase.result m.page m.old m.likes i.merging.1.1 noted phase_is merges.likes,
+          HaveNoted-more s c.args.self.now d e adds c.phase_of_run-phase.result m.page m.old m.likes i.merging.1.1 noted
+              phase_is merges.likes,
         ),
       );
     }

@@ -11,4 +11,5 @@ returns-clause-ran g c =
     let gives = c.serve-reply.ensures.serves in
     let state = GivesReply-state v c.args.held.submitter c.args.held.ask.request c.serve-reply.result w gives in
     let now = sym (ap phase_of state) ∙ sym c.phase_of_run.ensures in
-    Runs-noted v w c.args.held c.args.stashed c.serve-reply.result c.phase_of_run.result c.push_reserved.new.self.items gives now c.push_reserved.ensures.items
+    Runs-noted v w c.args.held c.args.stashed c.serve-reply.result c.phase_of_run.result c.push_reserved.new.self.items
+    gives now c.push_reserved.ensures.items

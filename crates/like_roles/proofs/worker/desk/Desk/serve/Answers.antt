@@ -14,11 +14,13 @@ returns-in-Like-clause-serves g c =
 
 pub returns-in-Look-clause-settled : goal.returns-in-Look-clause-settled
 returns-in-Look-clause-settled g c =
-    read-settled c.args.seat.now c.read_for-seen.new.self c.args.self.now c.in-Known.page c.read_for-seen.result.count c.requires.settled c.read_for-seen.ensures.seat c.read_for-seen.ensures.reads.read
+    read-settled c.args.seat.now c.read_for-seen.new.self c.args.self.now c.in-Known.page c.read_for-seen.result.count
+    c.requires.settled c.read_for-seen.ensures.seat c.read_for-seen.ensures.reads.read
 
 pub returns-in-Look-clause-serves : goal.returns-in-Look-clause-serves
 returns-in-Look-clause-serves g c =
     let accepted = sym c.requires.can.judged.is ∙ c.in-Accepted.is in
     let reads = c.read_for-seen.ensures.reads in
-    looks c.in-Known.page c.read_for-seen.result.count accepted c.in-Look.is c.in-Known.is (ap (λ x. Seen x c.read_for-seen.result.count) reads.last) reads.own
+    looks c.in-Known.page c.read_for-seen.result.count accepted c.in-Look.is c.in-Known.is
+    (ap (λ x. Seen x c.read_for-seen.result.count) reads.last) reads.own
     (ap (λ (s : SeatView Held). view_of s c.args.self.now) reads.read)

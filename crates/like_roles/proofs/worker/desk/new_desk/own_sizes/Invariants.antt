@@ -4,7 +4,8 @@ use Rattle.like_roles.proofs.worker.desk.new_desk.own_sizes.Given as goal
 abbrev pub invariant-loop-submitter : goal.invariant-loop-submitter
 invariant-loop-submitter l = record {
   at : l.submitter ≡ l.worker + l.workers * length l.own.items;
-  each : (place : ℕ) → place < length l.own.items → get_or l.own.items place 0 ≡ get_or l.sizes (l.worker + l.workers * place) 0;
+  each : (place : ℕ) → place < length l.own.items
+      → get_or l.own.items place 0 ≡ get_or l.sizes (l.worker + l.workers * place) 0;
   there : (place : ℕ) → place < length l.own.items → l.worker + l.workers * place < length l.sizes;
   short : length l.own.items ≤ length l.sizes;
   few : sum l.own.items ≤ 1000000 * length l.own.items;

@@ -4,4 +4,5 @@ use Rattle.test_parts.proofs.roles.player.Player.new.Goals as goal
 
 pub invariant_of-result : goal.invariant_of-result
 invariant_of-result c =
-    plays_new c.args.setup.now c.args.plan.now _ c.args.number _ _ _ c.requires.within (omega arith) c.requires.post c.in-Ok.ensures
+    plays_new c.args.setup.now c.args.plan.now _ c.args.number _ _ _ c.requires.within
+    (omega arith) c.requires.post c.in-Ok.ensures
