@@ -141,6 +141,7 @@ follows-done service v f gone s =
             additions = noted.additions_are;
             adds = record {
               each = noted.each;
+              rising = noted.rising;
               plain = noted.plain;
               split = λ phase page is.
                   one-of_likes service v.post.additions v.post.reads v.adds v.ran phase page noted is

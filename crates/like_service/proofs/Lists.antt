@@ -1,7 +1,9 @@
 -- Elements of lists by their places.
-use Rattle.std.proofs.Common.{◌≡◌, ℕ, zero, suc, ◌-◌, ◌<◌, List, [], ◌∷◌, ◌++◌, length, Some, refl, arith}
+use Rattle.std.proofs.Common.{◌≡◌, ℕ, zero, suc, ◌-◌, ◌<◌, List, [], ◌∷◌, ◌++◌, All, length, Some, refl, arith}
 use Rattle.std.proofs.lemmas.List.{length-append}
-use Rattle.std.specs.List.{slice_get}
+use Rattle.std.proofs.lemmas.List.Elements.{All-append}
+use Rattle.std.proofs.lemmas.List.Kept.{AllPairs-cons}
+use Rattle.std.specs.List.{AllPairs, slice_get}
 use Rattle.like_service.specs.Likes.{last_in}
 
 -- an element of the first list keeps its place where another list follows
@@ -20,3 +22,16 @@ pub last_in-push : {X : Type 0} (xs : List X) (x : X) → last_in (xs ++ x ∷ [
 last_in-push xs x =
     let n : length (xs ++ x ∷ []) - 1 ≡ length xs = simp length-append (omega arith) in
     rw n (slice_get-at_end xs x)
+
+-- what holds of all pairs of each of two lists, and across, holds of all pairs of one put after the other
+pub pairs-append : {X : Type 0} (R : X → X → Type 0) (xs ys : List X)
+    → AllPairs R xs
+    → AllPairs R ys
+    → All (λ x. All (R x) ys) xs
+    → AllPairs R (xs ++ ys)
+pairs-append R [] ys first second across = second
+pairs-append R (x ∷ xs) ys first second across =
+    AllPairs-cons R x (xs ++ ys)
+    (All-append (R x) xs ys (λ j d inside. first zero (suc j) d (omega arith) (omega arith)) (across zero x (omega arith)))
+    (pairs-append R xs ys (λ i j d lt inside. first (suc i) (suc j) d (omega arith) (omega arith)) second
+    (λ k d inside. across (suc k) d (omega arith)))

@@ -40,7 +40,7 @@ pub record AreLastLikes (service : Service) (workers : ℕ) (logs : List WorkerL
       → slice_get last user ≡ Some (last_like service user
       (slice_index_or (runs_of logs) (worker_of workers (home (submitters service) user)) []))
 
--- end to end: all logs, answers, final counts, last likes and shown counts are right, and the hot pages are listed
+-- end to end: logs, answers, final counts, last likes, shown counts, hot pages are right, and the last phase is joined
 pub record IsEndToEnd (service : Service) (workers : ℕ) (r : Report) : Type 0 where
   pub workers_all : length r.logs.items ≡ workers
   pub logs : AreLogs service workers r.phases r.logs.items
@@ -51,7 +51,7 @@ pub record IsEndToEnd (service : Service) (workers : ℕ) (r : Report) : Type 0 
   pub seen : All (λ log. HasRightCounts service (runs_of r.logs.items) log.ran.items) r.logs.items
   pub hot : r.hot.items ≡ chosen_below service.hot r.phases
 
--- a right report of settings and plans: end to end, with the hot pages that its own run lists tell
+-- a right report of settings and plans: end to end, with the hot pages that follow from its own run lists
 abbrev pub IsRightReport : Setup → List (List Request) → Report → Type 0
 IsRightReport setup plans r =
     IsEndToEnd (asked setup plans (runs_of r.logs.items)) setup.workers r

@@ -36,6 +36,6 @@ likes_lately service runs phase page =
     sum_by (λ ran. likes_among service page
     (filter (λ e. (e.phase + 2 == phase) || (e.phase + 1 == phase)) ran)) runs
 
--- hot pages: the mask of each phase's, by the likes that ran in the two phases before it
+-- hot pages: each phase's mask, by the likes that ran in the two phases before it
 abbrev pub hot_in : Option ℕ → Service → List (List Ran) → ℕ → ℕ
 hot_in hot service runs = hot_by hot (length service.pages) (likes_lately service runs)

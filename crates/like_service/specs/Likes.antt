@@ -55,7 +55,7 @@ likes_among service page entries = count_by (λ l. l.page == page) (likes_ran se
 abbrev pub likes : Service → ℕ → List (List Ran) → ℕ
 likes service page runs = sum_by (likes_among service page) runs
 
--- how many of them ran in an earlier phase
+-- how many accepted likes of the page ran in earlier phases, in all run lists
 abbrev pub likes_below : Service → ℕ → List (List Ran) → ℕ → ℕ
 likes_below service page runs phase =
     sum_by (λ ran. likes_among service page (filter (λ e. nat_lt e.phase phase) ran)) runs
@@ -69,7 +69,7 @@ likes_within service page entries phase =
 abbrev pub initial_count : List Page → ℕ → ℕ
 initial_count pages page = option_map_or (λ p. p.count) (slice_get pages page) 0
 
--- a count in a phase: at least all likes of earlier ones and `before` more, at most all up to it but for `after`
+-- between: at least the initial count, all earlier likes and `before`; at most that and all of this phase, less `after`
 pub record Between (service : Service) (runs : List (List Ran)) (phase page count before after : ℕ)
     : Type 0 where
   pub lower : initial_count service.pages page + likes_below service page runs phase + before

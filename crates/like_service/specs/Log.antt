@@ -20,7 +20,7 @@ TakesPlans service workers worker taken =
     (submitter : ℕ) → numbers_taken submitter taken
     ≡ (if worker_of workers submitter == worker then range_with_len 1 (length (slice_index_or service.plans submitter [])) else [])
 
--- a worker's log: it took its submitters' plans, by rising phases, ran that in run order, and answered it right
+-- a worker's log: it took its submitters' plans, in phases that never fall, ran them in run order, and answered right
 pub record IsLog (service : Service) (workers worker : ℕ) (log : WorkerLog) : Type 0 where
   pub taken : TakesPlans service workers worker log.taken.items
   pub rising : AllPairs (λ s t. s.phase ≤ t.phase) log.taken.items

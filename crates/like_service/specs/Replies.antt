@@ -23,7 +23,7 @@ answer_to service before e r =
     then reply_to r.op (last_like service r.user before) (count_in e.reply)
     else Refused (verdict_of service.users (submitters service) e.submitter r)
 
--- right answer: the entry's reply is that to its request, with some count
+-- right answer: the entry's reply is that to its request, with the count that it shows, which right counts bound
 abbrev pub IsRightAnswer : Service → List Ran → Ran → Type 0
 IsRightAnswer service before e =
     IsSomeAnd (request_of service e) (λ r. e.reply ≡ answer_to service before e r)
@@ -33,7 +33,7 @@ abbrev pub HasRightAnswers : Service → List Ran → Type 0
 HasRightAnswers service ran =
     (i : ℕ) (e : Ran) → slice_get ran i ≡ Some e → IsRightAnswer service (take i ran) e
 
--- right counts: each accepted look is shown one between the bounds of its phase and of the entries before and after it
+-- right counts: the count in the reply to an accepted look is between the bounds, by the likes before and after it
 abbrev pub HasRightCounts : Service → List (List Ran) → List Ran → Type 0
 HasRightCounts service runs ran =
     (i page : ℕ) (e : Ran) → slice_get ran i ≡ Some e → look_at service e.submitter e.number ≡ Some page

@@ -5,7 +5,7 @@ use Rattle.like_requests.specs.declared.request.Request.{Request}
 use Rattle.like_core.specs.Phase.{is_marked, split}
 use Rattle.like_service.specs.declared.log.Ran.{Ran}
 
--- what a run serves: how many users, which pages, how many looks wait at a worker, the hot pages of phases, the plans
+-- what a run serves: how many users, which pages, how many looks may wait at a worker, hot pages of phases, plans
 pub record Service : Type 0 where
   pub users : ℕ
   pub pages : List Page
@@ -31,7 +31,7 @@ request_at service submitter number =
 abbrev pub request_of : Service → Ran → Option Request
 request_of service e = request_at service e.submitter e.number
 
--- split pages: whether a page is split in a phase, which no page is in an even one
+-- split pages: whether a page is split in a phase (in an even one no page is)
 abbrev pub is_split_in : Service → ℕ → ℕ → Bool
 is_split_in service phase page =
     split (is_marked (marks_of service.pages)) service.hot phase page

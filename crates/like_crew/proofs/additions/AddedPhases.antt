@@ -138,6 +138,7 @@ module _ (service : Service) (hot other : ℕ → ℕ) (last : ℕ) (same : (k :
             plain = λ is. o.plain (sym alike ∙ is);
             split = λ is. o.split (sym alike ∙ is);
           };
+      rising = of.rising;
       plain = λ phase page at is. elim (cases_lt last phase) [
         | inl past ↦
             count-none (λ a. is_add_to phase page a && (a.at == at)) adds

@@ -20,7 +20,7 @@ use Rattle.like_service.specs.Likes.{likes_within}
 use Rattle.like_roles.specs.worker.Serve.{noted, noted_at}
 use Rattle.like_service.specs.Service.{Service, is_split_in}
 use Rattle.like_roles.specs.worker.WorkerView.{WorkerView}
-use Rattle.like_service.proofs.Lists.{slice_get-at_end, slice_get-before}
+use Rattle.like_service.proofs.Lists.{pairs-append, slice_get-at_end, slice_get-before}
 use Rattle.like_roles.proofs.counts.Shown.{range-more, range-same}
 
 module _ {A : Type 0} where
@@ -236,6 +236,9 @@ noted-push service additions later_additions reads later_reads adds more all ran
       at = All-append (λ a. a.at ≤ length now) adds more
           (λ i d inside. let low = old.at i d inside in omega arith)
           (λ i d inside. let here = new.at_end i d inside in omega arith);
+      rising = pairs-append (λ a b. a.at ≤ b.at) adds more old.rising
+          (λ i j d lt inside. let one = new.at_end i d (omega arith) in let other = new.at_end j d inside in omega arith)
+          (λ i d inside j b there. let low = old.at i d inside in let last = new.at_end j b there in omega arith);
       each = All-append (IsOfLikes service now) adds more
           (λ i d inside.
           let a : Added = get_or adds i d in
@@ -290,6 +293,9 @@ noted-merged service additions new_additions reads adds more ran old new are = r
   additions_are = are;
   at = All-append (λ a. a.at ≤ length ran) adds more old.at
       (λ i d inside. let here = new.at_end i d inside in omega arith);
+  rising = pairs-append (λ a b. a.at ≤ b.at) adds more old.rising
+      (λ i j d lt inside. let one = new.at_end i d (omega arith) in let other = new.at_end j d inside in omega arith)
+      (λ i d inside j b there. let low = old.at i d inside in let last = new.at_end j b there in omega arith);
   each = All-append (IsOfLikes service ran) adds more old.each new.each;
   plain = λ phase page at is.
       let both = sum_by-append (λ (a : Added). cond {A = ℕ} (is_add_to phase page a && (a.at == at)) 1 0) adds more in

@@ -252,6 +252,7 @@ pub noted-nothing : (service : Service) → IsNoted service [] [] [] []
 noted-nothing service = record {
   additions_are = refl;
   at = λ i d inside. absurd (omega arith);
+  rising = λ i j d lt inside. absurd (omega arith);
   each = λ i d inside. absurd (omega arith);
   plain = λ phase page at
       is. sym (ap (λ o. likes_within service page (option_to_list o) phase) (slice_get_past [] at (omega arith)));

@@ -1,5 +1,6 @@
 -- What a worker has done, as the plans of its submitters say it should.
 use Rattle.std.specs.Prelude.{◌≡◌, ℕ, ◌+◌, ◌%◌, ◌≤◌, ◌==◌, ◌&&◌, if◌then◌else◌, true, false, List, [], ◌++◌, length, map, count_by, slice_get, slice_index, All, Some, ⊤}
+use Rattle.std.specs.List.{AllPairs}
 use Rattle.std.specs.Option.{option_to_list}
 use Rattle.like_requests.specs.Pages.{marks_of}
 use Rattle.like_requests.specs.declared.setup.Setup.{Setup}
@@ -76,6 +77,7 @@ pub record IsNoted (service : Service) (additions : List Addition) (reads : List
     (adds : List Added) (ran : List Ran) : Type 0 where
   pub additions_are : additions ≡ map addition_of adds
   pub at : All (λ a. a.at ≤ length ran) adds
+  pub rising : AllPairs (λ a b. a.at ≤ b.at) adds
   pub each : All (IsOfLikes service ran) adds
   pub plain : (phase page at : ℕ) → is_split_in service phase page ≡ false
       → adds_at phase page at adds ≡ likes_at service phase page at ran

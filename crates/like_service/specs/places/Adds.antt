@@ -1,5 +1,6 @@
 -- What a worker's additions are of: its accepted likes.
 use Rattle.std.specs.Prelude.{◌≡◌, ℕ, ◌≤◌, ◌==◌, ◌&&◌, nat_le, Bool, true, false, if◌then◌else◌, All, List, drop, count_by, slice_get}
+use Rattle.std.specs.List.{AllPairs}
 use Rattle.std.specs.Option.{option_to_list}
 use Rattle.like_core.specs.declared.view.Addition.{Addition}
 use Rattle.like_service.specs.declared.log.Added.{Added}
@@ -15,7 +16,7 @@ addition_of a = record { phase = a.phase; page = a.page; old = a.old; likes = a.
 abbrev pub is_add_to : ℕ → ℕ → Added → Bool
 is_add_to phase page a = (a.phase == phase) && (a.page == page)
 
--- an addition is of one like or, if its page is split, of all likes of the phase, after the entries up to the phase
+-- an addition is of one like or, if its page is split, of all its likes of the phase, after all entries up to it
 pub record IsOfLikes (service : Service) (ran : List Ran) (a : Added) : Type 0 where
   pub some : 1 ≤ a.n
   pub plain : is_split_in service a.phase a.page ≡ false → a.n ≡ 1
@@ -24,9 +25,10 @@ pub record IsOfLikes (service : Service) (ran : List Ran) (a : Added) : Type 0 w
       × (likes_within service a.page (drop a.at ran) a.phase ≡ 0)
       × (a.at ≡ count_by (λ e. nat_le e.phase a.phase) ran)
 
--- additions are the accepted likes: one at each like of a page that is not split, one a phase for all of a split page
+-- additions are the likes, in order: one at each like of a page that is not split, one a phase for all of a split page
 pub record AreOfLikes (service : Service) (ran : List Ran) (adds : List Added) : Type 0 where
   pub each : All (IsOfLikes service ran) adds
+  pub rising : AllPairs (λ a b. a.at ≤ b.at) adds
   pub plain : (phase page at : ℕ) → is_split_in service phase page ≡ false
       → count_by (λ a. is_add_to phase page a && (a.at == at)) adds
       ≡ likes_within service page (option_to_list (slice_get ran at)) phase

@@ -42,7 +42,7 @@ abbrev pub IsAtEnd : (ℕ → ℕ) → List Addition → PageRead → Type 0
 IsAtEnd first adds r =
     (r.count ≡ first r.page) ⊎ (1 ≤ count_by (ends_at r.page r.count) adds)
 
--- places tile: additions are the likes and in the order of phases, stretches tile counts, looks are where stretches end
+-- places tile: additions are the likes, their stretches tile the counts, and looks show the first or where one ends
 pub record ArePlacesTiled (service : Service) (r : Report) : Type 0 where
   pub likes : All (λ log. AreOfLikes service log.ran.items log.adds.items) r.logs.items
   pub tiles : (page n : ℕ) → count_by (has_number page n) (all_noted r.logs.items)
@@ -54,7 +54,7 @@ pub record ArePlacesTiled (service : Service) (r : Report) : Type 0 where
       log.adds.items) r.logs.items
   pub rows : ArePlaces (length service.pages) r.logs.items (lists_in r.places.items)
 
--- the places of a report of settings and plans are right, with the hot pages that its own run lists tell
+-- the places of a report of settings and plans are right, with the hot pages that follow from its own run lists
 abbrev pub HasRightPlaces : Setup → List (List Request) → Report → Type 0
 HasRightPlaces setup plans r = ArePlacesTiled (asked setup plans (runs_of r.logs.items)) r
 
