@@ -45,7 +45,7 @@ worker_opening : (z : Opening) (words : List ℕ) (views : List View) (place : �
     → get_elem? views place ≡ some (Worker v)
     → v.opening ≡ z
 worker_opening z words views place v some_state at =
-    let fits : FitsWorker z some_state.state v = some_state.shows.each place (Worker v) at in fits.opening
+    let fits : FitsWorker z some_state.state v = some_state.shows.seats.each place (Worker v) at in fits.opening
 
 -- the opening in the coordinator's view is the board's
 coord_opening : (z : Opening) (words : List ℕ) (views : List View) (place : ℕ) (c : CoordSeatView)
@@ -53,7 +53,7 @@ coord_opening : (z : Opening) (words : List ℕ) (views : List View) (place : �
     → get_elem? views place ≡ some (Coord c)
     → c.opening ≡ z
 coord_opening z words views place c some_state at =
-    let fits : FitsCoord z some_state.state c = some_state.shows.each place (Coord c) at in fits.opening
+    let fits : FitsCoord z some_state.state c = some_state.shows.seats.each place (Coord c) at in fits.seats.opening
 
 pub looking : {S : Type 0} (key : Key) (slots id : ℕ) (me : Me S View)
     → me ≡ (Worker (worker_view_of me.0), [])

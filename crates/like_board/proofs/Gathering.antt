@@ -24,6 +24,7 @@ use Rattle.like_core.proofs.views.ViewLists.{within, sum_two, sum_lone, sum_gath
 use Rattle.like_core.proofs.views.KeptPlaces.{join_keeps_places, both_placed_on, tiles_on}
 use Rattle.like_core.proofs.views.KeptReads.{both_between_on, counted_on, join_keeps_reads}
 use Rattle.like_board.proofs.worker.Moves.{same_coord, has_seat, once_at_most}
+use Rattle.like_board.proofs.coordinator.Fitting.{same_phase, same_choice}
 use Rattle.like_board.proofs.coordinator.Leads.{of_coord}
 
 -- the views after the seat at `other` was given back to the coordinator's at `place`
@@ -36,26 +37,21 @@ fits_gathered : (z : Opening) (s : CoreState) (c : CoordSeatView) (v : WorkerSea
     → FitsWorker z s v
     → FitsCoord z s (gathered_coord c v)
 fits_gathered z s c v f g = record {
-  opening = f.opening;
-  made = f.made;
-  unmade = f.unmade;
-  unlabelled = f.unlabelled;
-  phase = f.phase;
-  ending = f.ending;
-  last = f.last;
-  stays = f.stays;
-  all_in = f.all_in;
-  gone = f.gone;
-  counted = f.counted;
-  published = f.published;
-  masks = f.masks;
-  joined = either f g;
+  seats = record {
+    opening = f.seats.opening;
+    made = f.seats.made;
+    unmade = f.seats.unmade;
+    unlabelled = f.seats.unlabelled;
+    joined = either f g;
+  };
+  phase = same_phase z s c (gathered_coord c v) refl f.phase;
+  choice = same_choice z s c (gathered_coord c v) refl f.choice;
 }
   where
     either : FitsCoord z s c → FitsWorker z s v → (at : ℕ) (w : WorkerSeatView) → get_elem? (v ∷ c.joined) at ≡ some w
         → FitsWorker z s w
     either f g zero w found = subst (FitsWorker z s) (some-injective v w found) g
-    either f g (suc at) w found = f.joined at w found
+    either f g (suc at) w found = f.seats.joined at w found
 
 -- a seat that is given back changes nothing that is shown
 pub gathers : (z : Opening) (words : List ℕ) (views : List View) (place other : ℕ) (c : CoordSeatView)
@@ -72,9 +68,9 @@ gathers z words views place other c v some_state at apart mine =
     let changed : List View = set views place (Coord d) in
     let is = same_coord z s words views place c sh at in
     let known = of_coord z s words views place c sh at in
-    let old : FitsCoord z s c = sh.each place (Coord c) at in
+    let old : FitsCoord z s c = sh.seats.each place (Coord c) at in
     let there : get_elem? views other ≡ some (Worker v) = sym (set_else views place other (Coord d) apart) ∙ mine in
-    let own : FitsWorker z s v = sh.each other (Worker v) there in
+    let own : FitsWorker z s v = sh.seats.each other (Worker v) there in
     let fits : FitsCoord z s d = fits_gathered z s c v old own in
     let here : get_elem? changed 0 ≡ some (Coord d) =
     ap (get_elem? changed) (sym is.0) ∙ set_here views place (Coord d) (within views place (Coord c) at)
@@ -84,40 +80,41 @@ gathers z words views place other c v some_state at apart mine =
       reachable = some_state.reachable;
       shows = record {
         opening = sh.opening;
-        width = sh.width;
-        word = sh.word;
-        pages = sh.pages;
-        mask = sh.mask;
         merged = sh.merged;
         coord = d;
-        first = set_else changed other 0 Spent (λ same. apart (sym same ∙ sym is.0)) ∙ here;
-        only = λ j e found. elim (at_set changed other j Spent (Coord e) found) [
-          | inl spent ↦ let clash = spent.1 in absurd (cc)
-          | inr before ↦ elim (at_set views place j (Coord d) (Coord e) before.1) [
-            | inl first ↦ first.0 ∙ is.0
-            | inr rest ↦ sh.only j e rest.1
-          ]
-        ];
-        each = λ j u found. elim (at_set changed other j Spent u found) [
-          | inl spent ↦ subst (Fits z s) spent.1 tt
-          | inr before ↦ elim (at_set views place j (Coord d) u before.1) [
-            | inl first ↦ subst (Fits z s) first.1 fits
-            | inr rest ↦ sh.each j u rest.1
-          ]
-        ];
-        once = λ i.
-            sum_gathered (seats_of i) views place other c v at mine refl
-            (sum_by-cons (λ (w : WorkerSeatView). cond (w.worker == i) 1 0) v c.joined) ∙
-            (sh.once i ∙ ap (λ (e : CoordSeatView). cond (nat_lt i e.made) 1 0) is.1);
         published = known.0;
-        reads = join_keeps_reads z.counts s.phase views place other c v at there sh.reads;
-        counted = counted_on z.counts (all_before views) (all_before (gathered views place other c v)) c.counted
-            (λ i r inside.
-            let k : ℕ = (get_or c.counted i r).phase + 1 in
-            let p : ℕ = (get_or c.counted i r).page in
-            sum_gathered (before_in k p) views place other c v at mine refl
-            (sum_by-cons (λ (w : WorkerSeatView). added_before k p w.additions) v c.joined))
-            known.1;
+        board = sh.board;
+        seats = record {
+          first = set_else changed other 0 Spent (λ same. apart (sym same ∙ sym is.0)) ∙ here;
+          only = λ j e found. elim (at_set changed other j Spent (Coord e) found) [
+            | inl spent ↦ let clash = spent.1 in absurd (cc)
+            | inr before ↦ elim (at_set views place j (Coord d) (Coord e) before.1) [
+              | inl first ↦ first.0 ∙ is.0
+              | inr rest ↦ sh.seats.only j e rest.1
+            ]
+          ];
+          each = λ j u found. elim (at_set changed other j Spent u found) [
+            | inl spent ↦ subst (Fits z s) spent.1 tt
+            | inr before ↦ elim (at_set views place j (Coord d) u before.1) [
+              | inl first ↦ subst (Fits z s) first.1 fits
+              | inr rest ↦ sh.seats.each j u rest.1
+            ]
+          ];
+          once = λ i.
+              sum_gathered (seats_of i) views place other c v at mine refl
+              (sum_by-cons (λ (w : WorkerSeatView). cond (w.worker == i) 1 0) v c.joined) ∙
+              (sh.seats.once i ∙ ap (λ (e : CoordSeatView). cond (nat_lt i e.made) 1 0) is.1);
+        };
+        reads = record {
+          workers = join_keeps_reads z.counts s.phase views place other c v at there sh.reads.workers;
+          coordinator = counted_on z.counts (all_before views) (all_before (gathered views place other c v)) c.counted
+              (λ i r inside.
+              let k : ℕ = (get_or c.counted i r).phase + 1 in
+              let p : ℕ = (get_or c.counted i r).page in
+              sum_gathered (before_in k p) views place other c v at mine refl
+              (sum_by-cons (λ (w : WorkerSeatView). added_before k p w.additions) v c.joined))
+              known.1;
+        };
       };
       tallied = record {
         sums = λ page.
@@ -151,12 +148,12 @@ others_spent : (z : Opening) (s : CoreState) (words : List ℕ) (views : List Vi
     → get_elem? views j ≡ some u
     → u ≡ Spent
 others_spent z s words views place c sh at all j (Coord e) other found =
-    absurd (other (sh.only j e found ∙ sym (sh.only place c at)))
+    absurd (other (sh.seats.only j e found ∙ sym (sh.seats.only place c at)))
 others_spent z s words views place c sh at all j (Worker v) other found =
     let is = same_coord z s words views place c sh at in
     let seated = subst (λ (d : CoordSeatView). v.worker < d.made) is.1 (has_seat z s words views j v sh found) in
     let two = sum_two (seats_of v.worker) views place j (Coord c) (Worker v) (λ same. other (sym same)) at found in
-    let once = sh.once v.worker in
+    let once = sh.seats.once v.worker in
     let most = once_at_most (nat_lt v.worker sh.coord.made) in
     let one : seats_of v.worker (Worker v) ≡ 1 = cond-true (v.worker == v.worker) 1 0 (eq-eqb v.worker v.worker refl) in
     let back = all v.worker seated in
@@ -188,7 +185,7 @@ last_word z words views place c some_state at all page on =
     let sh = some_state.shows in
     let lone = sum_coord (paged page) z s words views place c refl sh at all in
     let sums = some_state.tallied.sums page in
-    let found = sh.pages page on in
+    let found = sh.board.pages page on in
     omega arith
 
 -- and each count that was read or glanced at lies between what they have added
@@ -207,7 +204,7 @@ last_reads z words views place c some_state at all j w found =
     both_between_on z.counts (all_before views) (λ k p. before_in k p (Coord c)) s.phase s.phase w (omega arith)
     (λ k p _. (let e = lone k p in omega arith))
     (λ k p. (let e = lone k p in omega arith))
-    (sh.reads place (Coord c) at j w found)
+    (sh.reads.workers place (Coord c) at j w found)
 
 -- and each count that the coordinator read is the one at the start and what they have added up to its phase
 pub last_counted : (z : Opening) (words : List ℕ) (views : List View) (place : ℕ) (c : CoordSeatView)
@@ -263,8 +260,8 @@ pub last_past : (z : Opening) (words : List ℕ) (views : List View) (place : �
 last_past z words views place c some_state at all page =
     let s = some_state.state in
     let sh = some_state.shows in
-    let old : FitsCoord z s c = sh.each place (Coord c) at in
-    let phase = old.phase in
+    let old : FitsCoord z s c = sh.seats.each place (Coord c) at in
+    let phase = old.phase.present in
     sym (sum_coord (before_in (c.phase + 1) page) z s words views place c refl sh at all) ∙
     (some_state.tallied.past (c.phase + 1) page (omega arith)
     ∙ sum_coord (paged page) z s words views place c refl sh at all)

@@ -124,8 +124,8 @@ closed_word : (z : Opening) (words : List ℕ) (views : List View) (place : ℕ)
     → get_or words (word_of page) 0
     ≡ get_or c.opening.counts page 0 + sum_by (λ w. additions_of (post_of w) page) c.joined
 closed_word z words views place c some_state at made all page on =
-    let old : FitsCoord z some_state.state c = some_state.shows.each place (Coord c) at in
-    let same : c.opening ≡ z = old.opening in
+    let old : FitsCoord z some_state.state c = some_state.shows.seats.each place (Coord c) at in
+    let same : c.opening ≡ z = old.seats.opening in
     let sized = ap (λ (y : Opening). length y.counts) same in
     let word =
     last_word z words views place c some_state at (λ i below. all i (omega arith)) page (omega arith)
@@ -141,9 +141,9 @@ closed_phase : (z : Opening) (words : List ℕ) (views : List View) (place : ℕ
     → get_elem? c.joined k ≡ some w
     → IfSome w.last (λ sight. sight.number ≤ c.phase)
 closed_phase z words views place c some_state at k w found =
-    let old : FitsCoord z some_state.state c = some_state.shows.each place (Coord c) at in
-    let fits : FitsWorker z some_state.state w = old.joined k w found in
-    let same = old.phase in
+    let old : FitsCoord z some_state.state c = some_state.shows.seats.each place (Coord c) at in
+    let fits : FitsWorker z some_state.state w = old.seats.joined k w found in
+    let same = old.phase.present in
     if_some w.last (λ (sight : Sight). sight.number ≤ some_state.state.phase)
     (λ (sight : Sight). sight.number ≤ c.phase)
     (λ sight below. omega arith)
@@ -160,10 +160,10 @@ closed_reads : (z : Opening) (words : List ℕ) (views : List View) (place : ℕ
     → get_elem? c.joined k ≡ some w
     → HaveBetween c.opening.counts before c.phase w
 closed_reads z words views place c before some_state at made all same k w found =
-    let old : FitsCoord z some_state.state c = some_state.shows.each place (Coord c) at in
-    let phase = old.phase in
+    let old : FitsCoord z some_state.state c = some_state.shows.seats.each place (Coord c) at in
+    let phase = old.phase.present in
     let reads = last_reads z words views place c some_state at (λ i below. all i (omega arith)) k w found in
-    subst (λ (y : Opening). HaveBetween y.counts before c.phase w) (sym old.opening)
+    subst (λ (y : Opening). HaveBetween y.counts before c.phase w) (sym old.seats.opening)
     (both_between_on z.counts (λ k p. before_in k p (Coord c)) before some_state.state.phase c.phase w (omega arith)
     (λ k p _. (let e = same k p in omega arith))
     (λ k p. (let e = same k p in omega arith))
@@ -178,8 +178,8 @@ closed_counted : (z : Opening) (words : List ℕ) (views : List View) (place : �
     → ((k p : ℕ) → before_in k p (Coord c) ≡ before k p)
     → All (IsCounted c.opening.counts before) c.counted
 closed_counted z words views place c before some_state at made all same =
-    let old : FitsCoord z some_state.state c = some_state.shows.each place (Coord c) at in
-    subst (λ (y : Opening). All (IsCounted y.counts before) c.counted) (sym old.opening)
+    let old : FitsCoord z some_state.state c = some_state.shows.seats.each place (Coord c) at in
+    subst (λ (y : Opening). All (IsCounted y.counts before) c.counted) (sym old.seats.opening)
     (counted_on z.counts (λ k p. before_in k p (Coord c)) before c.counted
     (λ i r inside. sym (same ((get_or c.counted i r).phase + 1) (get_or c.counted i r).page))
     (last_counted z words views place c some_state at (λ i below. all i (omega arith))))
@@ -192,9 +192,9 @@ closed_masks : (z : Opening) (words : List ℕ) (views : List View) (place : ℕ
     → get_elem? c.joined k ≡ some w
     → AreMasksOf (mask_of c.masks) w.masks
 closed_masks z words views place c some_state at k w found =
-    let old : FitsCoord z some_state.state c = some_state.shows.each place (Coord c) at in
-    let fits : FitsWorker z some_state.state w = old.joined k w found in
-    λ i m inside. (fits.masks i m inside).1 ∙ sym (old.masks (get_or w.masks i m).phase)
+    let old : FitsCoord z some_state.state c = some_state.shows.seats.each place (Coord c) at in
+    let fits : FitsWorker z some_state.state w = old.seats.joined k w found in
+    λ i m inside. (fits.masks i m inside).1 ∙ sym (old.choice.masks (get_or w.masks i m).phase)
 
 -- the stretches of what those workers have added tile the counts of each page, and all their calls have their places
 closed_places : (z : Opening) (words : List ℕ) (views : List View) (place : ℕ) (c : CoordSeatView) (last : ℕ → ℕ)
@@ -209,15 +209,16 @@ closed_places : (z : Opening) (words : List ℕ) (views : List View) (place : �
     × ((k : ℕ) (w : WorkerSeatView) → get_elem? c.joined k ≡ some w
     → HavePlaced (slice_index c.opening.counts) counting w)
 closed_places z words views place c last counting some_state at made all last_is same =
-    let old : FitsCoord z some_state.state c = some_state.shows.each place (Coord c) at in
+    let old : FitsCoord z some_state.state c = some_state.shows.seats.each place (Coord c) at in
     let P : Opening → Type 0 =
     λ y.
     AreTiles (slice_index y.counts) last counting
     × ((k : ℕ) (w : WorkerSeatView) → get_elem? c.joined k ≡ some w → HavePlaced (slice_index y.counts) counting w)
     in
-    subst P (sym old.opening)
+    subst P (sym old.seats.opening)
     (last_places z words views place c last counting some_state at (λ i below. all i (omega arith))
-    (λ page. ap (λ (y : Opening). slice_index y.counts page + paged page (Coord c)) (sym old.opening) ∙ last_is page)
+    (λ page.
+    ap (λ (y : Opening). slice_index y.counts page + paged page (Coord c)) (sym old.seats.opening) ∙ last_is page)
     same)
 
 -- the last words, phases and reads, where the coordinator's seat has all workers' seats
@@ -253,7 +254,7 @@ closes z words views place v c seats shows at_view back =
     closed_reads z words views place d (seats_before seats) shows at back.made each added
     k (seat_view (get_or seats k seat)) (at_mapped seat_view seats k seat below)
     in
-    let old : FitsCoord z shows.state d = shows.shows.each place (Coord d) at in
+    let old : FitsCoord z shows.state d = shows.shows.seats.each place (Coord d) at in
     let past : (page : ℕ)
     → seats_before seats (c.phase + 1) page ≡ sum_by (λ seat. additions_of (seat_meaning seat) page) seats =
     λ page.
@@ -264,7 +265,7 @@ closes z words views place v c seats shows at_view back =
     in (
       record {
         few_pages = subst (λ (y : Opening). length y.counts ≤ max_pages)
-            (sym old.opening) shows.shows.opening.few_pages;
+            (sym old.seats.opening) shows.shows.opening.few_pages;
         phases = λ k seat below.
             closed_phase z words views place d shows at k (seat_view (get_or seats k seat))
             (at_mapped seat_view seats k seat below);

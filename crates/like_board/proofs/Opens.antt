@@ -65,20 +65,26 @@ opens z words opening width word pages mask_word =
     let c : CoordSeatView = fresh_coord z (packed (first_fields z.workers)) in
     let fits : FitsCoord z (start z) c =
     record {
-      opening = refl;
-      made = omega arith;
-      unmade = λ i _ below. cond-true (nat_lt i z.workers) (Runs 0) Gone (lt-ltb i z.workers below);
-      unlabelled = λ i phase page _ _. refl;
-      phase = refl;
-      ending = refl;
-      last = tt;
-      stays = tt;
-      all_in = λ is. absurd (cc);
-      gone = λ split _. absurd (omega arith);
-      counted = All-nil (λ (r : PageCount). (r.phase ≤ 0) × (r.phase ≡ 0 → AllIn (numbers z (start z))));
-      published = tt;
-      masks = λ phase. refl;
-      joined = λ place v at. absurd (some-ne-none v (sym at));
+      seats = record {
+        opening = refl;
+        made = omega arith;
+        unmade = λ i _ below. cond-true (nat_lt i z.workers) (Runs 0) Gone (lt-ltb i z.workers below);
+        unlabelled = λ i phase page _ _. refl;
+        joined = λ place v at. absurd (some-ne-none v (sym at));
+      };
+      phase = record {
+        present = refl;
+        ending = refl;
+        last = tt;
+        stays = tt;
+        all_in = λ is. absurd (cc);
+        gone = λ split _. absurd (omega arith);
+      };
+      choice = record {
+        counted = All-nil (λ (r : PageCount). (r.phase ≤ 0) × (r.phase ≡ 0 → AllIn (numbers z (start z))));
+        published = tt;
+        masks = λ phase. refl;
+      };
     }
     in
     record {
@@ -86,19 +92,25 @@ opens z words opening width word pages mask_word =
       reachable = start_reached z;
       shows = record {
         opening = opening;
-        width = width;
-        word = word ∙ ap packed (sym (start_fields z));
-        pages = λ page below. pages page below ∙ sym (add-zero (get_or z.counts page 0));
-        mask = λ _. mask_word;
         merged = λ i. refl;
         coord = c;
-        first = refl;
-        only = only_first c;
-        each = each_first z c fits;
-        once = λ i. sym (counts_none (nat_lt i 0) (le-ltb i 0 (omega arith)));
         published = tt;
-        reads = no_reads z c refl;
-        counted = All-nil (IsCounted z.counts (all_before (Coord c ∷ [])));
+        board = record {
+          width = width;
+          phase = word ∙ ap packed (sym (start_fields z));
+          pages = λ page below. pages page below ∙ sym (add-zero (get_or z.counts page 0));
+          mask = λ _. mask_word;
+        };
+        seats = record {
+          first = refl;
+          only = only_first c;
+          each = each_first z c fits;
+          once = λ i. sym (counts_none (nat_lt i 0) (le-ltb i 0 (omega arith)));
+        };
+        reads = record {
+          workers = no_reads z c refl;
+          coordinator = All-nil (IsCounted z.counts (all_before (Coord c ∷ [])));
+        };
       };
       tallied = record { sums = λ page. refl; rooms = λ page. omega arith; past = λ phase page later. refl };
       places = places_open z.counts c refl;

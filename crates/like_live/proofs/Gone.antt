@@ -15,7 +15,7 @@ all-in-once-gone : (v seen : LeadView) (sight : CoordSight)
     → sight.all_gone ≡ true
     → sight.all_in ≡ true
 all-in-once-gone v seen sight sees gone =
-    let told = sees.event.tells in
+    let told = sees.event.happen.tells in
     let same : told.0 ≡ sight = cc (told.1) in
     let known = told.2 in
     let all = known.all_gone.0 (ap (λ (s : CoordSight). s.all_gone) same ∙ gone) in

@@ -21,8 +21,9 @@ use Rattle.like_core.specs.views.Layout.{mask_place, word_of}
 use Rattle.like_core.specs.views.Shows.{Shows, ShowsSome, FitsCoord, IsStep}
 use Rattle.like_core.proofs.views.Apart.{word_of-past}
 use Rattle.like_core.proofs.views.KeptPlaces.{places_same}
-use Rattle.like_board.proofs.worker.Moves.{if_some}
+use Rattle.like_board.proofs.worker.Moves.{moment_of, if_some}
 use Rattle.like_board.proofs.Tallying.{tallied_on}
+use Rattle.like_board.proofs.coordinator.Fitting.{same_seats, same_phase}
 use Rattle.like_board.proofs.coordinator.Leads.{of_coord, leads}
 use Rattle.like_board.proofs.coordinator.CoordSteps.{AllAreIn, saw_all_in}
 
@@ -41,34 +42,27 @@ counts z words views place c page some_state at may =
     let found : ℕ = get_or words (word_of page) 0 in
     let d : CoordSeatView = counted_coord c page found in
     let r : PageCount = record { phase = c.phase; page = page; count = found } in
-    let old : FitsCoord z s c = sh.each place (Coord c) at in
+    let old : FitsCoord z s c = sh.seats.each place (Coord c) at in
     let now : AllAreIn z s c = saw_all_in z s c old may.0 in
     let known = of_coord z s words views place c sh at in
-    let on : page < length z.counts = subst (λ (y : Opening). page < length y.counts) old.opening may.2 in
-    let found_is = sh.pages page on in
+    let on : page < length z.counts = subst (λ (y : Opening). page < length y.counts) old.seats.opening may.2 in
+    let found_is = sh.board.pages page on in
     let sums = some_state.tallied.sums page in
     let past = some_state.tallied.past (s.phase + 1) page (omega arith) in
     let P : PageCount → Type 0 = λ x. (x.phase ≤ s.phase) × (x.phase ≡ s.phase → AllIn (numbers z s)) in
     let Q : ℕ → Type 0 = λ k. found ≡ slice_index z.counts page + all_before views (k + 1) page in
     let all_found : Q s.phase = omega arith in
-    let counted : IsCounted z.counts (all_before views) r = subst Q (sym old.phase) all_found in
-    let phase = old.phase in
+    let counted : IsCounted z.counts (all_before views) r = subst Q (sym old.phase.present) all_found in
+    let phase = old.phase.present in
     let fits : FitsCoord z s d =
     record {
-      opening = old.opening;
-      made = old.made;
-      unmade = old.unmade;
-      unlabelled = old.unlabelled;
-      phase = old.phase;
-      ending = old.ending;
-      last = old.last;
-      stays = old.stays;
-      all_in = old.all_in;
-      gone = old.gone;
-      counted = All-cons P r c.counted (omega arith, λ _. now.all_in) old.counted;
-      published = old.published;
-      masks = old.masks;
-      joined = old.joined;
+      seats = same_seats z s c d refl old.seats;
+      phase = same_phase z s c d refl old.phase;
+      choice = record {
+        counted = All-cons P r c.counted (omega arith, λ _. now.all_in) old.choice.counted;
+        published = old.choice.published;
+        masks = old.choice.masks;
+      };
     }
     in
     let same : (i : ℕ) → get_or (set words (word_of page) found) i 0 ≡ get_or words i 0 =
@@ -77,9 +71,9 @@ counts z words views place c page some_state at may =
     let last : ℕ = mask_place in
     let after_it : Shows z s (set words (word_of page) found) (set views place (Coord d)) =
     leads z s words views place c d s.phase s.ending s.hot (word_of page) found sh at refl refl (omega arith)
-    (same 0 ∙ sh.word)
+    (same 0 ∙ sh.board.phase)
     (λ q _. same (word_of q))
-    (λ odd. same last ∙ sh.mask odd)
+    (λ odd. same last ∙ sh.board.mask odd)
     (if_some c.published (λ mask. get_or words last 0 ≡ mask)
     (λ mask. get_or (set words (word_of page) found) last 0 ≡ mask) (λ mask is. same last ∙ is) known.0)
     (All-cons (IsCounted z.counts (all_before views)) r c.counted counted known.1)
@@ -89,16 +83,10 @@ counts z words views place c page some_state at may =
     let permits : Permits (numbers z s) (CoordRead page) =
     record { there = on; suits = tt; leaves_last = tt; room = tt } in (
       record {
-        words = words;
-        views = views;
+        moment = moment_of z words views some_state;
         place = place;
-        state = s;
-        reachable = some_state.reachable;
-        shows = sh;
         mine = at;
-        before = tt;
-        permits = permits;
-        tells = ap Count found_is;
+        happen = record { before = tt; permits = permits; tells = ap Count found_is };
         changed = word_of page;
         word = found;
         shows_after = after_it;
@@ -124,29 +112,22 @@ publishes z words views place c mask some_state at may =
     let s = some_state.state in
     let sh = some_state.shows in
     let d : CoordSeatView = published_coord c mask in
-    let old : FitsCoord z s c = sh.each place (Coord c) at in
-    let even : IsJoined s.phase = subst IsJoined old.phase may.1 in
+    let old : FitsCoord z s c = sh.seats.each place (Coord c) at in
+    let even : IsJoined s.phase = subst IsJoined old.phase.present may.1 in
     let now : AllAreIn z s c = saw_all_in z s c old may.0 in
     let known = of_coord z s words views place c sh at in
     let last : ℕ = mask_place in
-    let wide = sh.width in
+    let wide = sh.board.width in
     let past = word_of-past (length z.counts) in
     let fits : FitsCoord z s d =
     record {
-      opening = old.opening;
-      made = old.made;
-      unmade = old.unmade;
-      unlabelled = old.unlabelled;
-      phase = old.phase;
-      ending = old.ending;
-      last = old.last;
-      stays = old.stays;
-      all_in = old.all_in;
-      gone = old.gone;
-      counted = old.counted;
-      published = subst (λ (y : Opening). mask < 2 ^ length y.counts) old.opening may.2;
-      masks = old.masks;
-      joined = old.joined;
+      seats = same_seats z s c d refl old.seats;
+      phase = same_phase z s c d refl old.phase;
+      choice = record {
+        counted = old.choice.counted;
+        published = subst (λ (y : Opening). mask < 2 ^ length y.counts) old.seats.opening may.2;
+        masks = old.choice.masks;
+      };
     }
     in
     record {
@@ -154,7 +135,7 @@ publishes z words views place c mask some_state at may =
       reachable = some_state.reachable;
       shows =
           leads z s words views place c d s.phase s.ending s.hot last mask sh at refl refl (omega arith)
-          (get_or-set_other words last 0 mask 0 (λ eq. absurd (omega arith)) ∙ sh.word)
+          (get_or-set_other words last 0 mask 0 (λ eq. absurd (omega arith)) ∙ sh.board.phase)
           (λ page below. get_or-set_other words last (word_of page) mask 0
           (λ eq. let far = word_of-past page in absurd (omega arith)))
           (λ fixed. elim fixed [

@@ -35,8 +35,9 @@ use Rattle.like_core.proofs.core.Unanswered.{reached_unanswered}
 use Rattle.like_core.proofs.word.ShownEvents.{shown_lawful, same_fields, fields_released, word_announced, coord_sees}
 use Rattle.like_core.proofs.views.KeptPlaces.{places_same}
 use Rattle.like_board.specs.Plays.{Surveyed}
-use Rattle.like_board.proofs.worker.Moves.{if_some}
+use Rattle.like_board.proofs.worker.Moves.{moment_of, if_some}
 use Rattle.like_board.proofs.Tallying.{tallied_on}
+use Rattle.like_board.proofs.coordinator.Fitting.{same_seats}
 use Rattle.like_board.proofs.coordinator.Leads.{phased, of_coord, leads_word}
 use Rattle.like_board.proofs.worker.WorkerSteps.{running_is}
 
@@ -52,7 +53,7 @@ surveys z words views place c some_state at =
     let sh = some_state.shows in
     let p = reached_in_phase z s some_state.reachable in
     let lawful = shown_lawful z s sh.opening p (reached_unanswered z s some_state.reachable) in
-    let old : FitsCoord z s c = sh.each place (Coord c) at in
+    let old : FitsCoord z s c = sh.seats.each place (Coord c) at in
     let f : Fields = shown_fields z s in
     let sight : CoordSight = coord_sight_of f in
     let sees : CoordSees (numbers z s) sight = coord_sees z s in
@@ -60,47 +61,37 @@ surveys z words views place c some_state at =
     let d : CoordSeatView = looked_coord c found sight in
     let fits : FitsCoord z s d =
     record {
-      opening = old.opening;
-      made = old.made;
-      unmade = old.unmade;
-      unlabelled = old.unlabelled;
-      phase = old.phase;
-      ending = old.ending;
-      last = (sees.number, sees.ending);
-      stays = λ _. (sees, sh.word);
-      all_in = λ is. sees.all_in.0 is;
-      gone = old.gone;
-      counted = old.counted;
-      published = tt;
-      masks = old.masks;
-      joined = old.joined;
+      seats = same_seats z s c d refl old.seats;
+      phase = record {
+        present = old.phase.present;
+        ending = old.phase.ending;
+        last = (sees.number, sees.ending);
+        stays = λ _. (sees, sh.board.phase);
+        all_in = λ is. sees.all_in.0 is;
+        gone = old.phase.gone;
+      };
+      choice = record { counted = old.choice.counted; published = tt; masks = old.choice.masks };
     }
     in
     let after_it : Shows z s (set words 0 found) (set views place (Coord d)) =
     leads_word z s words views place c d s.phase s.ending s.hot found sh at refl refl refl
-    (omega arith) sh.word sh.mask tt fits (λ v f. f)
+    (omega arith) sh.board.phase sh.board.mask tt fits (λ v f. f)
     in
     let permits : Permits (numbers z s) CoordLook = record { there = tt; suits = tt; leaves_last = tt; room = tt } in (
       record {
         fields = f;
         lawful = lawful;
-        found_is = sh.word;
-        number = sees.number ∙ sym (ap (number_of z.limits) old.phase);
-        within = subst (λ n. n ≤ z.limits.last_phase) (sym old.phase) p.within;
-        ending = sees.ending ∙ sym old.ending;
-        all_in = λ is. sees.all_in.1 (old.all_in is);
-        gone = λ split all. old.gone (subst IsSplit old.phase split) (sees.all_gone.0 all);
+        found_is = sh.board.phase;
+        number = sees.number ∙ sym (ap (number_of z.limits) old.phase.present);
+        within = subst (λ n. n ≤ z.limits.last_phase) (sym old.phase.present) p.within;
+        ending = sees.ending ∙ sym old.phase.ending;
+        all_in = λ is. sees.all_in.1 (old.phase.all_in is);
+        gone = λ split all. old.phase.gone (subst IsSplit old.phase.present split) (sees.all_gone.0 all);
         step = record {
-          words = words;
-          views = views;
+          moment = moment_of z words views some_state;
           place = place;
-          state = s;
-          reachable = some_state.reachable;
-          shows = sh;
           mine = at;
-          before = tt;
-          permits = permits;
-          tells = (sight, refl, sees);
+          happen = record { before = tt; permits = permits; tells = (sight, refl, sees) };
           changed = 0;
           word = found;
           shows_after = after_it;
@@ -136,17 +127,17 @@ pub announces : (z : Opening) (words : List ℕ) (views : List View) (place : �
 announces z words views place c some_state at may =
     let s = some_state.state in
     let sh = some_state.shows in
-    let old : FitsCoord z s c = sh.each place (Coord c) at in
+    let old : FitsCoord z s c = sh.seats.each place (Coord c) at in
     let last = some_and c.last
     (λ (sight : CoordSight). sight.ending ≡ false)
     (λ (sight : CoordSight). (sight.number ≡ number_of z.limits s.phase) × (sight.ending ≡ s.ending))
     (λ (sight : CoordSight). sight.all_in ≡ true → CoordSees (numbers z s) sight × (c.word ≡ shown_word z s))
-    may.0 old.last old.stays
+    may.0 old.phase.last old.phase.stays
     in
     let running : s.ending ≡ false = sym last.3.1 ∙ last.2 in
-    let last_is = ap (λ (y : Opening). y.limits.last_phase) old.opening in
+    let last_is = ap (λ (y : Opening). y.limits.last_phase) old.seats.opening in
     let not_last = may.1 in
-    let phase = old.phase in
+    let phase = old.phase.present in
     let below : s.phase < z.limits.last_phase = omega arith in
     let permits : Permits (numbers z s) Announce =
     record { there = tt; suits = running; leaves_last = below; room = tt } in
@@ -168,27 +159,33 @@ announces z words views place c some_state at may =
     in
     let fits : FitsCoord z t d =
     record {
-      opening = old.opening;
-      made = old.made;
-      unmade = old.unmade;
-      unlabelled = old.unlabelled;
-      phase = old.phase;
-      ending = refl;
-      last = tt;
-      stays = tt;
-      all_in = old.all_in;
-      gone = old.gone;
-      counted = old.counted;
-      published = old.published;
-      masks = old.masks;
-      joined = λ at_place v found. workers v (old.joined at_place v found);
+      seats = record {
+        opening = old.seats.opening;
+        made = old.seats.made;
+        unmade = old.seats.unmade;
+        unlabelled = old.seats.unlabelled;
+        joined = λ at_place v found. workers v (old.seats.joined at_place v found);
+      };
+      phase = record {
+        present = old.phase.present;
+        ending = refl;
+        last = tt;
+        stays = tt;
+        all_in = old.phase.all_in;
+        gone = old.phase.gone;
+      };
+      choice = record {
+        counted = old.choice.counted;
+        published = old.choice.published;
+        masks = old.choice.masks;
+      };
     }
     in
     let after_it : Shows z t (set words 0 word) (set views place (Coord d)) =
     leads_word z s words views place c d s.phase true s.hot word sh at refl refl refl (omega arith)
-    (ap (λ n. (n + 1) % 2 ^ 64) sh.word ∙ word_announced z s lawful running)
+    (ap (λ n. (n + 1) % 2 ^ 64) sh.board.phase ∙ word_announced z s lawful running)
     (λ fixed. elim fixed [
-      | inl odd ↦ sh.mask (inl odd)
+      | inl odd ↦ sh.board.mask (inl odd)
       | inr first ↦ let clash = first.1 in absurd (cc)
     ])
     (of_coord z s words views place c sh at).0
@@ -196,16 +193,10 @@ announces z words views place c some_state at may =
     workers
     in (
       record {
-        words = words;
-        views = views;
+        moment = moment_of z words views some_state;
         place = place;
-        state = s;
-        reachable = some_state.reachable;
-        shows = sh;
         mine = at;
-        before = tt;
-        permits = permits;
-        tells = refl;
+        happen = record { before = tt; permits = permits; tells = refl };
         changed = 0;
         word = word;
         shows_after = after_it;
@@ -235,7 +226,7 @@ saw_all_in z s c f saw =
     (λ (sight : CoordSight). (sight.ending ≡ true) × (sight.all_in ≡ true))
     (λ (sight : CoordSight). (sight.number ≡ number_of z.limits s.phase) × (sight.ending ≡ s.ending))
     (λ (sight : CoordSight). sight.all_in ≡ true → CoordSees (numbers z s) sight × (c.word ≡ shown_word z s))
-    saw f.last f.stays
+    saw f.phase.last f.phase.stays
     in
     let now = last.4 last.2.1 in
     record {
@@ -245,8 +236,8 @@ saw_all_in z s c f saw =
       gone = λ all. ap saw_all_gone last.1 ∙ now.0.all_gone.1 all;
     }
 
--- of the mask with which a phase is released: its bits are of pages that are there, it is 0 for a joined phase, and for a
--- split one it is the word that was published
+-- the mask with which a phase is released has only bits of pages that exist; it is 0 for a joined phase, and the word
+-- that was published for a split one
 record IsReleased (z : Opening) (c : CoordSeatView) (word : ℕ) : Type 0 where
   pub there : mask_released c < 2 ^ length z.counts
   pub none : IsSplit c.phase → mask_released c ≡ 0
@@ -296,15 +287,15 @@ pub releases : (z : Opening) (words : List ℕ) (views : List View) (place : ℕ
 releases z words views place c modulus seen modulus_is some_state at may seen_lawful seen_is =
     let s = some_state.state in
     let sh = some_state.shows in
-    let old : FitsCoord z s c = sh.each place (Coord c) at in
+    let old : FitsCoord z s c = sh.seats.each place (Coord c) at in
     let now : AllAreIn z s c = saw_all_in z s c old may.0 in
     let mask : ℕ = mask_released c in
     let published = of_coord z s words views place c sh at in
-    let is : IsReleased z c (get_or words mask_place 0) = is_released z c _ may.1 old.published published.0 in
+    let is : IsReleased z c (get_or words mask_place 0) = is_released z c _ may.1 old.choice.published published.0 in
     let permits : Permits (numbers z s) (Release mask) =
     record {
       there = is.there;
-      suits = (now.ending, now.all_in, λ odd. is.none (subst IsSplit (sym old.phase) odd));
+      suits = (now.ending, now.all_in, λ odd. is.none (subst IsSplit (sym old.phase.present) odd));
       leaves_last = tt;
       room = tt;
     }
@@ -337,20 +328,28 @@ releases z words views place c modulus seen modulus_is some_state at may seen_la
     in
     let fits : FitsCoord z t d =
     record {
-      opening = old.opening;
-      made = old.made;
-      unmade = old.unmade;
-      unlabelled = old.unlabelled;
-      phase = ap (λ n. n + 1) old.phase;
-      ending = refl;
-      last = tt;
-      stays = tt;
-      all_in = λ is. absurd (cc);
-      gone = λ _ all. now.gone all;
-      counted = λ i r inside. (let before = (old.counted i r inside).0 in (omega arith, λ later. absurd (omega arith)));
-      published = old.published;
-      masks = λ phase m. cond (phase == old.phase m + 1) mask (old.masks phase m);
-      joined = λ at_place v found. workers v (old.joined at_place v found);
+      seats = record {
+        opening = old.seats.opening;
+        made = old.seats.made;
+        unmade = old.seats.unmade;
+        unlabelled = old.seats.unlabelled;
+        joined = λ at_place v found. workers v (old.seats.joined at_place v found);
+      };
+      phase = record {
+        present = ap (λ n. n + 1) old.phase.present;
+        ending = refl;
+        last = tt;
+        stays = tt;
+        all_in = λ is. absurd (cc);
+        gone = λ _ all. now.gone all;
+      };
+      choice = record {
+        counted = λ i r inside.
+            let before = (old.choice.counted i r inside).0 in
+            (omega arith, λ later. absurd (omega arith));
+        published = old.choice.published;
+        masks = λ phase m. cond (phase == old.phase.present m + 1) mask (old.choice.masks phase m);
+      };
     }
     in
     let after_it : Shows z t (set words 0 (packed (released_modulo modulus seen))) (set views place (Coord d)) =
@@ -360,7 +359,7 @@ releases z words views place c modulus seen modulus_is some_state at may seen_la
     ∙ ap packed (sym (fields_released z s now.ending now.all_in)))
     (λ fixed. elim fixed [
       | inl odd ↦
-          let phase = old.phase in
+          let phase = old.phase.present in
           let even : IsJoined c.phase = omega arith in
           is.word_is even ∙ sym (update-same s.hot (s.phase + 1) mask)
       | inr first ↦ let none = first.0 in absurd (omega arith)
@@ -370,16 +369,10 @@ releases z words views place c modulus seen modulus_is some_state at may seen_la
     workers
     in (
       record {
-        words = words;
-        views = views;
+        moment = moment_of z words views some_state;
         place = place;
-        state = s;
-        reachable = some_state.reachable;
-        shows = sh;
         mine = at;
-        before = tt;
-        permits = permits;
-        tells = refl;
+        happen = record { before = tt; permits = permits; tells = refl };
         changed = 0;
         word = packed (released_modulo modulus seen);
         shows_after = after_it;

@@ -28,6 +28,7 @@ use Rattle.like_core.proofs.views.Apart.{word_of-past}
 use Rattle.like_core.proofs.views.ViewLists.{within, sum_set}
 use Rattle.like_core.proofs.views.KeptReads.{reads_same, reads_push, counted_on, counted_same}
 use Rattle.like_board.proofs.worker.Moves.{if_some, same_coord, counts_none, counts_one}
+use Rattle.like_board.proofs.coordinator.Fitting.{same_phase, same_choice}
 
 -- the reads and glances of the views of seats that were given back lie between
 abbrev HasJoinedReads : List ℕ → (ℕ → ℕ → ℕ) → ℕ → List WorkerSeatView → Type 0
@@ -47,11 +48,11 @@ pub of_coord : (z : Opening) (s : CoreState) (words : List ℕ) (views : List Vi
 of_coord z s words views place c sh at =
     let is = same_coord z s words views place c sh at in (
       subst (λ (e : CoordSeatView). IfSome e.published (λ mask. get_or words mask_place 0 ≡ mask)) is.1 sh.published,
-      subst (λ (e : CoordSeatView). All (IsCounted z.counts (all_before views)) e.counted) is.1 sh.counted,
+      subst (λ (e : CoordSeatView). All (IsCounted z.counts (all_before views)) e.counted) is.1 sh.reads.coordinator,
     )
 
--- after the coordinator led to this phase, with a new view of its own that fits, the words, of which one was written, and
--- the views show the state after, where the words do and all workers' views fit that too
+-- after the coordinator led to this phase and wrote one word, the words and the views show the state after, if the
+-- words are right, its own new view fits, and all workers' views still fit
 pub leads : (z : Opening) (s : CoreState) (words : List ℕ) (views : List View) (place : ℕ) (c d : CoordSeatView)
     (phase : ℕ) (ending : Bool) (hot : ℕ → ℕ) (changed word : ℕ)
     → Shows z s words views
@@ -85,35 +86,41 @@ leads z s words views place c d phase ending hot changed word sh at made joined 
       | Spent ↦ λ _ _. tt
     ]
     in
-    by_view (λ e same. other (sh.only j e (found ∙ ap some same) ∙ sym is.0)) f
+    by_view (λ e same. other (sh.seats.only j e (found ∙ ap some same) ∙ sym is.0)) f
     in
     record {
       opening = sh.opening;
-      width = length-set words changed word ∙ sh.width;
-      word = word_is;
-      pages = λ page below. pages_are page below ∙ sh.pages page below;
-      mask = mask_is;
       merged = sh.merged;
       coord = d;
-      first = ap (get_elem? (set views place (Coord d))) (sym is.0)
-          ∙ set_here views place (Coord d) (within views place (Coord c) at);
-      only = λ j e found. elim (at_set views place j (Coord d) (Coord e) found) [
-        | inl here ↦ here.0 ∙ is.0
-        | inr there ↦ sh.only j e there.1
-      ];
-      each = λ j u found. elim (at_set views place j (Coord d) u found) [
-        | inl here ↦ subst (Fits z t) here.1 fits
-        | inr there ↦ others j u there.0 there.1 (sh.each j u there.1)
-      ];
-      once = λ i.
-          sum_set (seats_of i) views place (Coord c) (Coord d) at
-          (ap (count_by (λ (w : WorkerSeatView). w.worker == i)) joined) ∙
-          (sh.once i ∙ ap (λ n. cond (nat_lt i n) 1 0) (ap (λ (e : CoordSeatView). e.made) is.1 ∙ sym made));
       published = published_is;
-      reads = reads_same z.counts s.phase phase views place (Coord c) (Coord d) on at same_additions
-          (λ f has. subst (HasJoinedReads z.counts f phase) (sym joined) has)
-          sh.reads;
-      counted = counted_same z.counts views place (Coord c) (Coord d) d.counted at same_additions counted_are;
+      board = record {
+        width = length-set words changed word ∙ sh.board.width;
+        phase = word_is;
+        pages = λ page below. pages_are page below ∙ sh.board.pages page below;
+        mask = mask_is;
+      };
+      seats = record {
+        first = ap (get_elem? (set views place (Coord d))) (sym is.0)
+            ∙ set_here views place (Coord d) (within views place (Coord c) at);
+        only = λ j e found. elim (at_set views place j (Coord d) (Coord e) found) [
+          | inl here ↦ here.0 ∙ is.0
+          | inr there ↦ sh.seats.only j e there.1
+        ];
+        each = λ j u found. elim (at_set views place j (Coord d) u found) [
+          | inl here ↦ subst (Fits z t) here.1 fits
+          | inr there ↦ others j u there.0 there.1 (sh.seats.each j u there.1)
+        ];
+        once = λ i.
+            sum_set (seats_of i) views place (Coord c) (Coord d) at
+            (ap (count_by (λ (w : WorkerSeatView). w.worker == i)) joined) ∙
+            (sh.seats.once i ∙ ap (λ n. cond (nat_lt i n) 1 0) (ap (λ (e : CoordSeatView). e.made) is.1 ∙ sym made));
+      };
+      reads = record {
+        workers = reads_same z.counts s.phase phase views place (Coord c) (Coord d) on at same_additions
+            (λ f has. subst (HasJoinedReads z.counts f phase) (sym joined) has)
+            sh.reads.workers;
+        coordinator = counted_same z.counts views place (Coord c) (Coord d) d.counted at same_additions counted_are;
+      };
     }
 
 -- the same of a step on the phase word
@@ -133,7 +140,7 @@ pub leads_word : (z : Opening) (s : CoreState) (words : List ℕ) (views : List 
     → Shows z (phased s phase ending hot) (set words 0 word) (set views place (Coord d))
 leads_word z s words views place c d phase ending hot word sh at made joined counted on word_is mask_is published_is
     fits workers =
-    let wide = sh.width in
+    let wide = sh.board.width in
     let past = word_of-past (length z.counts) in
     let last : ℕ = mask_place in
     let same : get_or (set words 0 word) last 0 ≡ get_or words last 0 =
@@ -181,82 +188,78 @@ splits z s words views place c sh at room =
     let d : CoordSeatView = made_coord c in
     let changed : List View = set views place (Coord d) in
     let new : WorkerSeatView = fresh z c.made in
-    let old : FitsCoord z s c = sh.each place (Coord c) at in
+    let old : FitsCoord z s c = sh.seats.each place (Coord c) at in
     let fits : FitsCoord z s d =
     record {
-      opening = old.opening;
-      made = omega arith;
-      unmade = λ i past below. old.unmade i (omega arith) below;
-      unlabelled = λ i phase page past below. old.unlabelled i phase page (omega arith) below;
-      phase = old.phase;
-      ending = old.ending;
-      last = old.last;
-      stays = old.stays;
-      all_in = old.all_in;
-      gone = old.gone;
-      counted = old.counted;
-      published = old.published;
-      masks = old.masks;
-      joined = old.joined;
+      seats = record {
+        opening = old.seats.opening;
+        made = omega arith;
+        unmade = λ i past below. old.seats.unmade i (omega arith) below;
+        unlabelled = λ i phase page past below. old.seats.unlabelled i phase page (omega arith) below;
+        joined = old.seats.joined;
+      };
+      phase = same_phase z s c d refl old.phase;
+      choice = same_choice z s c d refl old.choice;
     }
     in
     let fits_new : FitsWorker z s new =
     record {
       opening = refl;
       there = room;
-      state = old.unmade c.made (omega arith) room;
+      state = old.seats.unmade c.made (omega arith) room;
       number = tt;
       ending = λ _ saw. absurd (saw);
-      labels = λ phase page. old.unlabelled c.made phase page (omega arith) room;
+      labels = λ phase page. old.seats.unlabelled c.made phase page (omega arith) room;
       masks = All-nil (λ (m : PhaseMask). (m.phase ≤ s.phase) × (m.mask ≡ s.hot m.phase));
     }
     in
     record {
       opening = sh.opening;
-      width = sh.width;
-      word = sh.word;
-      pages = sh.pages;
-      mask = sh.mask;
       merged = sh.merged;
       coord = d;
-      first = at_longer changed (Worker new ∷ []) 0 (Coord d)
-          (ap (get_elem? changed) (sym is.0) ∙ set_here views place (Coord d) (within views place (Coord c) at));
-      only = λ j e found. elim (at_snoc changed (Worker new) (Coord e) j found) [
-        | inl before ↦ elim (at_set views place j (Coord d) (Coord e) before) [
-          | inl here ↦ here.0 ∙ is.0
-          | inr there ↦ sh.only j e there.1
-        ]
-        | inr last ↦ absurd (cc)
-      ];
-      each = λ j u found. elim (at_snoc changed (Worker new) u j found) [
-        | inl before ↦ elim (at_set views place j (Coord d) u before) [
-          | inl here ↦ subst (Fits z s) here.1 fits
-          | inr there ↦ sh.each j u there.1
-        ]
-        | inr last ↦ subst (Fits z s) last fits_new
-      ];
-      once = λ i.
-          sum_by_push (seats_of i) changed (Worker new) ∙
-          (ap (λ n. n + cond (c.made == i) 1 0)
-          (sum_set (seats_of i) views place (Coord c) (Coord d) at refl ∙
-          (sh.once i ∙ ap (λ (e : CoordSeatView). cond (nat_lt i e.made) 1 0) is.1)) ∙
-          one_more i c.made);
-      reads = λ j u found.
-          reads_push z.counts s.phase changed (Worker new) (λ k p. refl)
-          (λ f. let none = All-nil (λ (r : PageRead). (r.phase ≤ s.phase) × IsBetween z.counts f [] r) in
-          (none, none, All-nil (λ (a : Addition). (a.phase ≤ s.phase) × StandsBetween z.counts f a)))
-          (reads_same z.counts s.phase s.phase views place (Coord c) (Coord d) (omega arith) at (λ k p. refl)
-          (λ f has. has) sh.reads)
-          j u
-          (at_snoc changed (Worker new) u j found);
       published = (of_coord z s words views place c sh at).0;
-      counted = counted_on z.counts (all_before views) (all_before (changed ++ Worker new ∷ [])) c.counted
-          (λ i r inside.
-          let k : ℕ = (get_or c.counted i r).phase + 1 in
-          let p : ℕ = (get_or c.counted i r).page in
-          let push = sum_by_push (before_in k p) changed (Worker new) in
-          let none : before_in k p (Worker new) ≡ 0 = refl in
-          let same = sum_set (before_in k p) views place (Coord c) (Coord d) at refl in
-          omega arith)
-          (of_coord z s words views place c sh at).1;
+      board = sh.board;
+      seats = record {
+        first = at_longer changed (Worker new ∷ []) 0 (Coord d)
+            (ap (get_elem? changed) (sym is.0) ∙ set_here views place (Coord d) (within views place (Coord c) at));
+        only = λ j e found. elim (at_snoc changed (Worker new) (Coord e) j found) [
+          | inl before ↦ elim (at_set views place j (Coord d) (Coord e) before) [
+            | inl here ↦ here.0 ∙ is.0
+            | inr there ↦ sh.seats.only j e there.1
+          ]
+          | inr last ↦ absurd (cc)
+        ];
+        each = λ j u found. elim (at_snoc changed (Worker new) u j found) [
+          | inl before ↦ elim (at_set views place j (Coord d) u before) [
+            | inl here ↦ subst (Fits z s) here.1 fits
+            | inr there ↦ sh.seats.each j u there.1
+          ]
+          | inr last ↦ subst (Fits z s) last fits_new
+        ];
+        once = λ i.
+            sum_by_push (seats_of i) changed (Worker new) ∙
+            (ap (λ n. n + cond (c.made == i) 1 0)
+            (sum_set (seats_of i) views place (Coord c) (Coord d) at refl ∙
+            (sh.seats.once i ∙ ap (λ (e : CoordSeatView). cond (nat_lt i e.made) 1 0) is.1)) ∙
+            one_more i c.made);
+      };
+      reads = record {
+        workers = λ j u found.
+            reads_push z.counts s.phase changed (Worker new) (λ k p. refl)
+            (λ f. let none = All-nil (λ (r : PageRead). (r.phase ≤ s.phase) × IsBetween z.counts f [] r) in
+            (none, none, All-nil (λ (a : Addition). (a.phase ≤ s.phase) × StandsBetween z.counts f a)))
+            (reads_same z.counts s.phase s.phase views place (Coord c) (Coord d) (omega arith) at (λ k p. refl)
+            (λ f has. has) sh.reads.workers)
+            j u
+            (at_snoc changed (Worker new) u j found);
+        coordinator = counted_on z.counts (all_before views) (all_before (changed ++ Worker new ∷ [])) c.counted
+            (λ i r inside.
+            let k : ℕ = (get_or c.counted i r).phase + 1 in
+            let p : ℕ = (get_or c.counted i r).page in
+            let push = sum_by_push (before_in k p) changed (Worker new) in
+            let none : before_in k p (Worker new) ≡ 0 = refl in
+            let same = sum_set (before_in k p) views place (Coord c) (Coord d) at refl in
+            omega arith)
+            (of_coord z s words views place c sh at).1;
+      };
     }

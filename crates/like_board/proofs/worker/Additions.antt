@@ -36,6 +36,7 @@ use Rattle.like_core.proofs.views.KeptPlaces.{addition_keeps_places}
 use Rattle.like_core.proofs.views.KeptReads.{addition_before, counted_on, addition_keeps_reads}
 use Rattle.like_core.proofs.views.Posts.{added_to-le}
 use Rattle.like_core.proofs.views.ViewLists.{sum_part, sum_set, sum_swap}
+use Rattle.like_board.proofs.worker.Moves.{moment_of}
 use Rattle.like_board.proofs.worker.WorkerSteps.{running_is}
 use Rattle.like_board.proofs.worker.Pages.{KeepsOthers, slices_are, page_steps}
 
@@ -173,20 +174,20 @@ counted_added : (z : Opening) (s : CoreState) (words : List ℕ) (views : List V
     → phase_of v.state ≡ s.phase
     → All (IsCounted z.counts (all_before (set views place (Worker (added_view v page count n))))) sh.coord.counted
 counted_added z s words views place v page count n sh at runs present =
-    let old : FitsWorker z s v = sh.each place (Worker v) at in
-    let coord : FitsCoord z s sh.coord = sh.each 0 (Coord sh.coord) sh.first in
+    let old : FitsWorker z s v = sh.seats.each place (Worker v) at in
+    let coord : FitsCoord z s sh.coord = sh.seats.each 0 (Coord sh.coord) sh.seats.first in
     counted_on z.counts (all_before views)
     (all_before (set views place (Worker (added_view v page count n)))) sh.coord.counted
     (λ k d inside.
     let r : PageCount = get_or sh.coord.counted k d in
-    let of = coord.counted k d inside in
+    let of = coord.choice.counted k d inside in
     elim (cases_lt r.phase s.phase) [
       | inl over ↦ addition_before views place v page count n (r.phase + 1) r.page at (omega arith)
       | inr not ↦
           let within = of.0 in
           absurd (subst (IsIn s.phase) runs (of.1 (omega arith) v.worker old.there))
     ])
-    sh.counted
+    sh.reads.coordinator
 
 -- a count is at most as large as counts may be at the start
 pub count_low : (counts : List ℕ) (page : ℕ)
@@ -217,7 +218,7 @@ adds z words views place v page n some_state at may =
     let s = some_state.state in
     let sh = some_state.shows in
     let i = v.worker in
-    let old : FitsWorker z s v = sh.each place (Worker v) at in
+    let old : FitsWorker z s v = sh.seats.each place (Worker v) at in
     let runs = running_is (λ _. Unit {0}) v.state may.runs in
     let here : s.state i ≡ Runs runs.0 = old.state ∙ runs.1 in
     let now : runs.0 ≡ s.phase = (reached_in_phase z s some_state.reachable).runs i runs.0 here in
@@ -239,7 +240,8 @@ adds z words views place v page n some_state at may =
     let full = some_state.tallied.rooms page in
     let sums = some_state.tallied.sums page in
     let part = sum_part (paged page) views place (Worker v) at in
-    let found : get_or words (word_of page) 0 ≡ get_or z.counts page 0 + length (s.applied page) = sh.pages page on in
+    let found : get_or words (word_of page) 0 ≡ get_or z.counts page 0 + length (s.applied page) =
+    sh.board.pages page on in
     let same : split (is_marked z.marks) s.hot s.phase page ≡ slices (post_of v) page =
     slices_are z s v page old present may.known in
     let a : Adding z s i page n (likes_merged v page n) (adding v page) =
@@ -265,7 +267,7 @@ adds z words views place v page n some_state at may =
     (fits_added z s v page count n a.rest old present)
     (subst (λ (now : ℕ). ReadsFit z.counts now (set views place (Worker w))) present
     (addition_keeps_reads z.counts views place v page count n at begins
-    (subst (λ (now : ℕ). ReadsFit z.counts now views) (sym present) sh.reads)))
+    (subst (λ (now : ℕ). ReadsFit z.counts now views) (sym present) sh.reads.workers)))
     (counted_added z s words views place v page count n sh at (here ∙ ap Runs now) present)
     in
     let last : CoreState = after z (after_all z s (likes_merged v page n)) (adding v page) in
@@ -275,25 +277,23 @@ adds z words views place v page n some_state at may =
     a.permits
     in (
       record {
-        words = words;
-        views = views;
+        moment = moment_of z words views some_state;
         place = place;
-        state = s;
-        reachable = some_state.reachable;
-        shows = sh;
         mine = at;
-        before = a.before;
-        permits = a.permits;
-        tells = subst (λ (k : ℕ). IsShown (numbers z (after_all z s (likes_merged v page n))) (adding v page) (Old k))
-            (sym found) a.tells;
+        happen = record {
+          before = a.before;
+          permits = a.permits;
+          tells = subst (λ (k : ℕ). IsShown (numbers z (after_all z s (likes_merged v page n))) (adding v page) (Old k))
+              (sym found) a.tells;
+        };
         changed = word_of page;
         word = word;
         shows_after = subst (λ (u : CoreState). Shows z u (set words (word_of page) word) (set views place (Worker w)))
-            (sym a.leads) shows;
+            {x = t} {y = last} (sym {a = last} {b = t} a.leads) shows;
       },
       record {
         state = t;
-        reachable = subst (Reachable z) a.leads reached;
+        reachable = subst (Reachable z) {x = last} {y = t} a.leads reached;
         shows = shows;
         tallied = tallied_added z.limits.likes s views place v page count n a.rest at present few some_state.tallied;
         places = addition_keeps_places z.counts views place v page count n at (omega arith)

@@ -24,12 +24,22 @@ use Rattle.like_core.specs.Additions.{added_before}
 use Rattle.like_core.specs.views.Views.{seats_of}
 use Rattle.like_core.specs.views.Reads.{all_before, HaveBetween, IsCounted, ReadsFit}
 use Rattle.like_core.specs.views.Layout.{mask_place, word_of}
-use Rattle.like_core.specs.views.Shows.{Shows, Fits, FitsWorker, FitsCoord, FixesMask}
+use Rattle.like_core.specs.views.Shows.{Shows, ShowsSome, Moment, Fits, FitsWorker, FitsCoord, FixesMask}
 use Rattle.like_core.proofs.Updates.{update-same, update-other, update_cases}
 use Rattle.like_core.proofs.word.ShownEvents.{moved}
 use Rattle.like_core.proofs.views.KeptReads.{reads_same, counted_same}
 use Rattle.like_core.proofs.views.Apart.{word_of-past}
 use Rattle.like_core.proofs.views.ViewLists.{sum_part, sum_two, sum_set}
+
+-- the moment at which words and views show some state
+abbrev pub moment_of : (z : Opening) (words : List ℕ) (views : List View) → ShowsSome z words views → Moment z
+moment_of z words views some_state = record {
+  words = words;
+  views = views;
+  state = some_state.state;
+  reachable = some_state.reachable;
+  shows = some_state.shows;
+}
 
 -- what holds of the value of an option may be exchanged for what follows from it
 pub if_some : {A : Type 0} (o : Option A) (P Q : A → Type 0) → ((a : A) → P a → Q a) → IfSome o P → IfSome o Q
@@ -82,42 +92,50 @@ fits_coord_moved z s c i state there has_seat none stays gone f =
     let t : CoreState = moved s i state in
     let same : AllIn (numbers z s) → t ≡ s = λ all. moved_same s i state (stays (all i there)) in
     record {
-      opening = f.opening;
-      made = f.made;
-      unmade = λ j past below. update-other s.state i state j (λ eq. absurd (omega arith)) ∙ f.unmade j past below;
-      unlabelled = f.unlabelled;
-      phase = f.phase;
-      ending = f.ending;
-      last = f.last;
-      stays = if_some c.last
-          (λ (sight : CoordSight). sight.all_in ≡ true → CoordSees (numbers z s) sight × (c.word ≡ shown_word z s))
-          (λ (sight : CoordSight). sight.all_in ≡ true → CoordSees (numbers z t) sight × (c.word ≡ shown_word z t))
-          (λ sight before all_in.
-          let now = before all_in in
-          let P : CoreState → Type 0 = λ u. CoordSees (numbers z u) sight × (c.word ≡ shown_word z u) in
-          subst P (sym (same (now.0.all_in.0 all_in))) now)
-          f.stays;
-      all_in = λ is.
-          let P : CoreState → Type 0 = λ u. AllIn (numbers z u) in
-          subst P (sym (same (f.all_in is))) (f.all_in is);
-      gone = λ split all.
-          f.gone split
-          (λ j below. elim (cases_eq j i) [
-            | inl here ↦
-                let now : state ≡ Gone = sym (update-same s.state i state) ∙ all i there in
-                ap s.state here ∙ gone split now
-            | inr other ↦ sym (update-other s.state i state j other) ∙ all j below
-          ]);
-      counted = λ k d inside.
-          let before = f.counted k d inside in (
-            before.0,
-            λ now.
-                let P : CoreState → Type 0 = λ u. AllIn (numbers z u) in
-                subst P (sym (same (before.1 now))) (before.1 now),
-          );
-      published = f.published;
-      masks = f.masks;
-      joined = λ place v at. fits_worker_moved z s i state v (joined_other c i place v none at) (f.joined place v at);
+      seats = record {
+        opening = f.seats.opening;
+        made = f.seats.made;
+        unmade = λ j past below.
+            update-other s.state i state j (λ eq. absurd (omega arith)) ∙ f.seats.unmade j past below;
+        unlabelled = f.seats.unlabelled;
+        joined = λ place v at.
+            fits_worker_moved z s i state v (joined_other c i place v none at) (f.seats.joined place v at);
+      };
+      phase = record {
+        present = f.phase.present;
+        ending = f.phase.ending;
+        last = f.phase.last;
+        stays = if_some c.last
+            (λ (sight : CoordSight). sight.all_in ≡ true → CoordSees (numbers z s) sight × (c.word ≡ shown_word z s))
+            (λ (sight : CoordSight). sight.all_in ≡ true → CoordSees (numbers z t) sight × (c.word ≡ shown_word z t))
+            (λ sight before all_in.
+            let now = before all_in in
+            let P : CoreState → Type 0 = λ u. CoordSees (numbers z u) sight × (c.word ≡ shown_word z u) in
+            subst P (sym (same (now.0.all_in.0 all_in))) now)
+            f.phase.stays;
+        all_in = λ is.
+            let P : CoreState → Type 0 = λ u. AllIn (numbers z u) in
+            subst P (sym (same (f.phase.all_in is))) (f.phase.all_in is);
+        gone = λ split all.
+            f.phase.gone split
+            (λ j below. elim (cases_eq j i) [
+              | inl here ↦
+                  let now : state ≡ Gone = sym (update-same s.state i state) ∙ all i there in
+                  ap s.state here ∙ gone split now
+              | inr other ↦ sym (update-other s.state i state j other) ∙ all j below
+            ]);
+      };
+      choice = record {
+        counted = λ k d inside.
+            let before = f.choice.counted k d inside in (
+              before.0,
+              λ now.
+                  let P : CoreState → Type 0 = λ u. AllIn (numbers z u) in
+                  subst P (sym (same (before.1 now))) (before.1 now),
+            );
+        published = f.choice.published;
+        masks = f.choice.masks;
+      };
     }
 
 -- a view that is no seat of a worker's is of another
@@ -159,7 +177,7 @@ pub has_seat : (z : Opening) (s : CoreState) (words : List ℕ) (views : List Vi
 has_seat z s words views place v sh at =
     let part = sum_part (seats_of v.worker) views place (Worker v) at in
     let one : seats_of v.worker (Worker v) ≡ 1 = cond-true (v.worker == v.worker) 1 0 (eq-eqb v.worker v.worker refl) in
-    let once = sh.once v.worker in
+    let once = sh.seats.once v.worker in
     elim (cases_lt v.worker sh.coord.made) [
       | inl less ↦ less
       | inr past ↦
@@ -178,9 +196,9 @@ pub same_coord : (z : Opening) (s : CoreState) (words : List ℕ) (views : List 
     → get_elem? views place ≡ some (Coord c)
     → (place ≡ 0) × (sh.coord ≡ c)
 same_coord z s words views place c sh at =
-    let zeroth = sh.only place c at in
+    let zeroth = sh.seats.only place c at in
     let here : get_elem? views 0 ≡ some (Coord c) = ap (get_elem? views) (sym zeroth) ∙ at in
-    let same : some (Coord sh.coord) ≡ some (Coord c) = sym sh.first ∙ here in
+    let same : some (Coord sh.coord) ≡ some (Coord c) = sym sh.seats.first ∙ here in
     let inner : Coord sh.coord ≡ Coord c = some-injective (Coord sh.coord) (Coord c) same in
     (zeroth, cc)
 
@@ -209,45 +227,49 @@ worker_steps z s t words later views place v w sh at number width word pages sam
     let seated = has_seat z s words views place v sh at in
     let not_first : place ≢ 0 = λ zeroth.
     let here : get_elem? views 0 ≡ some (Worker v) = ap (get_elem? views) (sym zeroth) ∙ at in
-    let same : some (Coord sh.coord) ≡ some (Worker v) = sym sh.first ∙ here in
+    let same : some (Coord sh.coord) ≡ some (Worker v) = sym sh.seats.first ∙ here in
     let inner : Coord sh.coord ≡ Worker v = some-injective (Coord sh.coord) (Worker v) same in
     cc
     in
     record {
       opening = sh.opening;
-      width = width ∙ sh.width;
-      word = word;
-      pages = pages;
-      mask = λ odd. same_mask ∙ mask odd;
       merged = merged;
       coord = sh.coord;
-      first = set_else views place 0 (Worker w) (λ eq. not_first (sym eq)) ∙ sh.first;
-      only = λ j c found. elim (at_set views place j (Worker w) (Coord c) found) [
-        | inl here ↦ let clash = here.1 in absurd (cc)
-        | inr there ↦ sh.only j c there.1
-      ];
-      each = λ j u found. elim (at_set views place j (Worker w) u found) [
-        | inl here ↦ subst (Fits z t) here.1 fits
-        | inr there ↦
-            let two = sum_two (seats_of v.worker) views place j (Worker v) u (λ eq. there.0 (sym eq)) at there.1 in
-            let once = sh.once v.worker in
-            let most = once_at_most (nat_lt v.worker sh.coord.made) in
-            let one : seats_of v.worker (Worker v) ≡ 1 =
-            cond-true (v.worker == v.worker) 1 0 (eq-eqb v.worker v.worker refl) in
-            others u (omega arith)
-            (λ c is. subst (λ (d : CoordSeatView). v.worker < d.made)
-            (same_coord z s words views j c sh (there.1 ∙ ap some is)).1 seated)
-            (sh.each j u there.1)
-      ];
-      once = λ i.
-          sum_set (seats_of i) views place (Worker v) (Worker w) at (ap (λ k. cond (k == i) 1 0) number) ∙ sh.once i;
       published = if_some sh.coord.published
           (λ mask. get_or words mask_place 0 ≡ mask)
           (λ mask. get_or later mask_place 0 ≡ mask)
           (λ mask is. same_mask ∙ is)
           sh.published;
-      reads = reads;
-      counted = counted;
+      board = record {
+        width = width ∙ sh.board.width;
+        phase = word;
+        pages = pages;
+        mask = λ odd. same_mask ∙ mask odd;
+      };
+      seats = record {
+        first = set_else views place 0 (Worker w) (λ eq. not_first (sym eq)) ∙ sh.seats.first;
+        only = λ j c found. elim (at_set views place j (Worker w) (Coord c) found) [
+          | inl here ↦ let clash = here.1 in absurd (cc)
+          | inr there ↦ sh.seats.only j c there.1
+        ];
+        each = λ j u found. elim (at_set views place j (Worker w) u found) [
+          | inl here ↦ subst (Fits z t) here.1 fits
+          | inr there ↦
+              let two = sum_two (seats_of v.worker) views place j (Worker v) u (λ eq. there.0 (sym eq)) at there.1 in
+              let once = sh.seats.once v.worker in
+              let most = once_at_most (nat_lt v.worker sh.coord.made) in
+              let one : seats_of v.worker (Worker v) ≡ 1 =
+              cond-true (v.worker == v.worker) 1 0 (eq-eqb v.worker v.worker refl) in
+              others u (omega arith)
+              (λ c is. subst (λ (d : CoordSeatView). v.worker < d.made)
+              (same_coord z s words views j c sh (there.1 ∙ ap some is)).1 seated)
+              (sh.seats.each j u there.1)
+        ];
+        once = λ i.
+            sum_set (seats_of i) views place (Worker v) (Worker w) at (ap (λ k. cond (k == i) 1 0) number) ∙
+            sh.seats.once i;
+      };
+      reads = record { workers = reads; coordinator = counted };
     }
 
 -- after worker i moved, with a new view of its own that fits and has the same additions and reads, the words and the
@@ -263,24 +285,24 @@ pub worker_moves : (z : Opening) (s : CoreState) (words : List ℕ) (views : Lis
     → (IsSplit s.phase → state ≡ Gone → s.state v.worker ≡ Gone)
     → Shows z (moved s v.worker state) (set words 0 word) (set views place (Worker w))
 worker_moves z s words views place v w state word sh at rest word_is fits stays gone =
-    let wide = sh.width in
+    let wide = sh.board.width in
     let past = word_of-past (length z.counts) in
-    let old : FitsWorker z s v = sh.each place (Worker v) at in
+    let old : FitsWorker z s v = sh.seats.each place (Worker v) at in
     worker_steps z s (moved s v.worker state) words (set words 0 word) views place v w sh at
     (ap (λ (x : WorkerSeatView). x.worker) rest)
     (length-set words 0 word)
     (get_or-set_same words 0 word 0 (omega arith) ∙ word_is)
     (λ page below. get_or-set_other words 0 (word_of page) word 0
-    (λ eq. let far = word_of-past page in absurd (omega arith)) ∙ sh.pages page below)
+    (λ eq. let far = word_of-past page in absurd (omega arith)) ∙ sh.board.pages page below)
     (get_or-set_other words 0 mask_place word 0 (λ eq. absurd (omega arith)))
-    sh.mask
+    sh.board.mask
     sh.merged
     fits
     (λ u none seat f. fits_other z s v.worker state old.there stays gone u none seat f)
     (reads_same z.counts s.phase s.phase views place (Worker v) (Worker w) (omega arith) at
     (λ k p. ap (λ (x : WorkerSeatView). added_before k p x.additions) rest)
     (λ f has. subst (λ (x : WorkerSeatView). HaveBetween z.counts f s.phase x) (sym rest) has)
-    sh.reads)
+    sh.reads.workers)
     (counted_same z.counts views place (Worker v) (Worker w) sh.coord.counted at
     (λ k p. ap (λ (x : WorkerSeatView). added_before k p x.additions) rest)
-    sh.counted)
+    sh.reads.coordinator)

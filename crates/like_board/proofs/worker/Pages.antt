@@ -74,30 +74,37 @@ fits_else z s unmerged applied i keeps (Coord c) none has_seat f =
     let seated = has_seat c refl in
     let t : CoreState = with_likes s unmerged applied in
     record {
-      opening = f.opening;
-      made = f.made;
-      unmade = f.unmade;
-      unlabelled = λ j phase page past below.
-          keeps j phase page (λ same. absurd (omega arith)) ∙ f.unlabelled j phase page past below;
-      phase = f.phase;
-      ending = f.ending;
-      last = f.last;
-      stays = if_some c.last
-          (λ (sight : CoordSight). sight.all_in ≡ true → CoordSees (numbers z s) sight × (c.word ≡ shown_word z s))
-          (λ (sight : CoordSight). sight.all_in ≡ true → CoordSees (numbers z t) sight × (c.word ≡ shown_word z t))
-          (λ sight before all_in.
-          let now = before all_in in (
-            record { number = now.0.number; ending = now.0.ending; all_in = now.0.all_in; all_gone = now.0.all_gone },
-            now.1,
-          ))
-          f.stays;
-      all_in = f.all_in;
-      gone = f.gone;
-      counted = f.counted;
-      published = f.published;
-      masks = f.masks;
-      joined = λ place v at.
-          fits_worker_else z s unmerged applied i v keeps (joined_other c i place v none at) (f.joined place v at);
+      seats = record {
+        opening = f.seats.opening;
+        made = f.seats.made;
+        unmade = f.seats.unmade;
+        unlabelled = λ j phase page past below.
+            keeps j phase page (λ same. absurd (omega arith)) ∙ f.seats.unlabelled j phase page past below;
+        joined = λ place v at.
+            fits_worker_else z s unmerged applied i v keeps (joined_other c i place v none at)
+            (f.seats.joined place v at);
+      };
+      phase = record {
+        present = f.phase.present;
+        ending = f.phase.ending;
+        last = f.phase.last;
+        stays = if_some c.last
+            (λ (sight : CoordSight). sight.all_in ≡ true → CoordSees (numbers z s) sight × (c.word ≡ shown_word z s))
+            (λ (sight : CoordSight). sight.all_in ≡ true → CoordSees (numbers z t) sight × (c.word ≡ shown_word z t))
+            (λ sight before all_in.
+            let now = before all_in in (
+              record { number = now.0.number; ending = now.0.ending; all_in = now.0.all_in; all_gone = now.0.all_gone },
+              now.1,
+            ))
+            f.phase.stays;
+        all_in = f.phase.all_in;
+        gone = f.phase.gone;
+      };
+      choice = record {
+        counted = f.choice.counted;
+        published = f.choice.published;
+        masks = f.choice.masks;
+      };
     }
 fits_else z s unmerged applied i keeps (Worker v) none has_seat f =
     fits_worker_else z s unmerged applied i v keeps (worker_other i v none) f
@@ -120,7 +127,7 @@ pub page_steps : (z : Opening) (s : CoreState) (unmerged : ℕ → List ℕ) (ap
     → Shows z (with_likes s unmerged applied) (set words (word_of page) word) (set views place (Worker w))
 page_steps z s unmerged applied words views place v w page word sh at number on word_is others merged keeps fits reads
     counted =
-    let wide = sh.width in
+    let wide = sh.board.width in
     let past = word_of-past page in
     let inside = word_of-order page (length z.counts) on in
     let t : CoreState = with_likes s unmerged applied in
@@ -131,15 +138,15 @@ page_steps z s unmerged applied words views place v w page word sh at number on 
       | inl same ↦ rw same (get_or-set_same words (word_of page) word 0 (omega arith) ∙ word_is)
       | inr other ↦
           get_or-set_other words (word_of page) (word_of q) word 0 (λ eq. other (word_of-injective q page eq)) ∙
-          (sh.pages q below ∙ ap (λ (n : ℕ). get_or z.counts q 0 + n) (sym (others q other)))
+          (sh.board.pages q below ∙ ap (λ (n : ℕ). get_or z.counts q 0 + n) (sym (others q other)))
     ]
     in
     worker_steps z s t words later views place v w sh at number
     (length-set words (word_of page) word)
-    (get_or-set_other words (word_of page) 0 word 0 (λ eq. absurd (omega arith)) ∙ sh.word)
+    (get_or-set_other words (word_of page) 0 word 0 (λ eq. absurd (omega arith)) ∙ sh.board.phase)
     pages
     (get_or-set_other words (word_of page) mask_place word 0 (λ eq. absurd (omega arith)))
-    sh.mask
+    sh.board.mask
     merged
     fits
     (λ u none seat f. fits_else z s unmerged applied v.worker keeps u none seat f)

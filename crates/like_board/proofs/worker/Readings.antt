@@ -34,13 +34,13 @@ use Rattle.like_core.proofs.views.KeptPlaces.{read_keeps_places, glance_keeps_pl
 use Rattle.like_core.proofs.views.KeptReads.{read_keeps_reads, glance_keeps_reads, reads_same, counted_same}
 use Rattle.like_core.proofs.views.ViewLists.{sum_part}
 use Rattle.like_board.proofs.worker.Additions.{count_low}
-use Rattle.like_board.proofs.worker.Moves.{worker_steps}
+use Rattle.like_board.proofs.worker.Moves.{moment_of, worker_steps}
 use Rattle.like_board.proofs.worker.WorkerSteps.{running_is}
 use Rattle.like_board.proofs.worker.Pages.{slices_are, page_steps}
 use Rattle.like_board.proofs.Tallying.{tallied_on}
 
--- a step of a worker that finds a page's count, and after which its view is w: it is the event, keeps what is shown, and
--- the count has the worker's own additions and is within the bound of all counts
+-- a step of a worker that finds a page's count, after which its view is w, is the event and keeps what is shown; and
+-- the count has the worker's own additions and is below the bound of all counts
 abbrev pub IsRead : Opening → List ℕ → List View → ℕ → WorkerSeatView → ℕ → Event → WorkerSeatView → Type 0
 IsRead z words views place v page event w =
     IsStep z event (Count (get_or words (word_of page) 0)) (Worker v) (Worker w)
@@ -48,8 +48,8 @@ IsRead z words views place v page event w =
     × (added_to page v.additions ≤ get_or words (word_of page) 0)
     × (get_or words (word_of page) 0 < total_bound)
 
--- a read or a glance, which gives the view these reads and glances, is the event, where the event changes nothing, shows
--- the count and is permitted, and where the view's reads and glances stay between what was added and in their places
+-- a read or a glance, after which the view has these reads and glances, is the event, if that changes nothing, shows
+-- the count and is permitted, and if the reads and glances stay between what was added and in their places
 reads_word : (z : Opening) (words : List ℕ) (views : List View) (place : ℕ) (v : WorkerSeatView) (page : ℕ)
     (event : Event) (rs gs : List PageRead)
     → (some_state : ShowsSome z words views)
@@ -74,7 +74,7 @@ reads_word z words views place v page event rs gs some_state at running may_ther
     let s = some_state.state in
     let sh = some_state.shows in
     let i = v.worker in
-    let old : FitsWorker z s v = sh.each place (Worker v) at in
+    let old : FitsWorker z s v = sh.seats.each place (Worker v) at in
     let runs = running_is (λ _. Unit {0}) v.state running in
     let here : s.state i ≡ Runs runs.0 = old.state ∙ runs.1 in
     let now : runs.0 ≡ s.phase = (reached_in_phase z s some_state.reachable).runs i runs.0 here in
@@ -88,14 +88,14 @@ reads_word z words views place v page event rs gs some_state at running may_ther
     let sums = some_state.tallied.sums page in
     let part = sum_part (paged page) views place (Worker v) at in
     let count : ℕ = get_or words (word_of page) 0 in
-    let found : count ≡ get_or z.counts page 0 + length (s.applied page) = sh.pages page on in
+    let found : count ≡ get_or z.counts page 0 + length (s.applied page) = sh.board.pages page on in
     let w : WorkerSeatView = record v { reads = rs; glances = gs } in
     let past = some_state.tallied.past (s.phase + 1) page (omega arith) in
     let P : ℕ → Type 0 = λ now. count ≡ get_or z.counts page 0 + all_before views (now + 1) page in
     let Q : ℕ → List View → Type 0 = λ now later. ReadsFit z.counts now later in
     let all_found : P s.phase = omega arith in
     let kept : ReadsFit z.counts (phase_of v.state) (set views place (Worker w)) =
-    keep_reads (subst P (sym present) all_found) (subst (λ (now : ℕ). Q now views) (sym present) sh.reads)
+    keep_reads (subst P (sym present) all_found) (subst (λ (now : ℕ). Q now views) (sym present) sh.reads.workers)
     in
     let fits : FitsWorker z s w =
     record {
@@ -115,19 +115,17 @@ reads_word z words views place v page event rs gs some_state at running may_ther
     (λ j phase q other. refl)
     fits
     (subst (λ (now : ℕ). Q now (set views place (Worker w))) present kept)
-    (counted_same z.counts views place (Worker v) (Worker w) sh.coord.counted at (λ k p. refl) sh.counted)
+    (counted_same z.counts views place (Worker v) (Worker w) sh.coord.counted at (λ k p. refl) sh.reads.coordinator)
     in (
       record {
-        words = words;
-        views = views;
+        moment = moment_of z words views some_state;
         place = place;
-        state = s;
-        reachable = some_state.reachable;
-        shows = sh;
         mine = at;
-        before = tt;
-        permits = permitted (here ∙ ap Runs now) old.there on same;
-        tells = subst (λ (n : ℕ). IsShown (numbers z s) event (Count n)) (sym found) shown;
+        happen = record {
+          before = tt;
+          permits = permitted (here ∙ ap Runs now) old.there on same;
+          tells = subst (λ (n : ℕ). IsShown (numbers z s) event (Count n)) (sym found) shown;
+        };
         changed = word_of page;
         word = count;
         shows_after = subst (λ (t : CoreState). Shows z t (set words (word_of page) count) (set views place (Worker w)))
@@ -200,14 +198,14 @@ reads_mask z words views place v some_state at split_phase =
     let found : ℕ = get_or words last 0 in
     let later : List ℕ = set words last found in
     let w : WorkerSeatView = masked_view v found in
-    let old : FitsWorker z s v = sh.each place (Worker v) at in
+    let old : FitsWorker z s v = sh.seats.each place (Worker v) at in
     let runs = running_is IsSplit v.state split_phase in
     let here : s.state i ≡ Runs runs.0 = old.state ∙ runs.1 in
     let now : runs.0 ≡ s.phase = (reached_in_phase z s some_state.reachable).runs i runs.0 here in
     let present : phase_of v.state ≡ s.phase = ap phase_of runs.1 ∙ now in
     let odd : IsSplit s.phase = subst IsSplit now runs.2 in
-    let found_is : found ≡ s.hot s.phase = sh.mask (inl odd) in
-    let wide = sh.width in
+    let found_is : found ≡ s.hot s.phase = sh.board.mask (inl odd) in
+    let wide = sh.board.width in
     let past = word_of-past (length z.counts) in
     let P : PhaseMask → Type 0 = λ m. (m.phase ≤ s.phase) × (m.mask ≡ s.hot m.phase) in
     let fits : FitsWorker z s w =
@@ -228,29 +226,23 @@ reads_mask z words views place v some_state at split_phase =
     let shows : Shows z s later (set views place (Worker w)) =
     worker_steps z s s words later views place v w sh at refl
     (length-set words last found)
-    (get_or-set_other words last 0 found 0 (λ eq. absurd (omega arith)) ∙ sh.word)
+    (get_or-set_other words last 0 found 0 (λ eq. absurd (omega arith)) ∙ sh.board.phase)
     (λ page below. get_or-set_other words last (word_of page) found 0
-    (λ eq. let far = word_of-past page in absurd (omega arith)) ∙ sh.pages page below)
+    (λ eq. let far = word_of-past page in absurd (omega arith)) ∙ sh.board.pages page below)
     (get_or-set_same words last found 0 (omega arith))
-    sh.mask
+    sh.board.mask
     sh.merged
     fits
     (λ u none seat f. f)
     (reads_same z.counts s.phase s.phase views place (Worker v) (Worker w) (omega arith) at (λ k p. refl)
-    (λ f has. has) sh.reads)
-    (counted_same z.counts views place (Worker v) (Worker w) sh.coord.counted at (λ k p. refl) sh.counted)
+    (λ f has. has) sh.reads.workers)
+    (counted_same z.counts views place (Worker v) (Worker w) sh.coord.counted at (λ k p. refl) sh.reads.coordinator)
     in (
       record {
-        words = words;
-        views = views;
+        moment = moment_of z words views some_state;
         place = place;
-        state = s;
-        reachable = some_state.reachable;
-        shows = sh;
         mine = at;
-        before = tt;
-        permits = permits;
-        tells = ap HotShown found_is;
+        happen = record { before = tt; permits = permits; tells = ap HotShown found_is };
         changed = last;
         word = found;
         shows_after = shows;

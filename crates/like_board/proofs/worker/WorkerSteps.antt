@@ -34,7 +34,7 @@ use Rattle.like_core.proofs.word.Numbering.{number-le}
 use Rattle.like_core.proofs.word.ShownEvents.{moved, shown_lawful, fields_looked, word_answered, word_retired, worker_sees}
 use Rattle.like_core.proofs.views.KeptPlaces.{places_same}
 use Rattle.like_board.specs.Plays.{Looked}
-use Rattle.like_board.proofs.worker.Moves.{worker_moves}
+use Rattle.like_board.proofs.worker.Moves.{moment_of, worker_moves}
 use Rattle.like_board.proofs.Tallying.{tallied_on}
 
 -- the phase that a worker runs
@@ -131,7 +131,7 @@ looks z words views place v some_state at there =
     let i = v.worker in
     let p = reached_in_phase z s some_state.reachable in
     let lawful = shown_lawful z s sh.opening p (reached_unanswered z s some_state.reachable) in
-    let old : FitsWorker z s v = sh.each place (Worker v) at in
+    let old : FitsWorker z s v = sh.seats.each place (Worker v) at in
     let f : Fields = shown_fields z s in
     let sight : Sight = sight_of f i in
     let sees : Sees (numbers z s) i sight = worker_sees z s i old.there in
@@ -155,7 +155,7 @@ looks z words views place v some_state at there =
     in
     let shows_after : Shows z t (set words 0 found) (set views place (Worker w)) =
     worker_moves z s words views place v w state found sh at refl
-    (sh.word ∙ ap packed (sym (fields_looked z s i)))
+    (sh.board.phase ∙ ap packed (sym (fields_looked z s i)))
     fits
     (looked_in s.phase (s.state i))
     (λ _. looked_gone s.phase (s.state i))
@@ -166,21 +166,15 @@ looks z words views place v some_state at there =
       record {
         fields = f;
         lawful = lawful;
-        found_is = sh.word;
+        found_is = sh.board.phase;
         can = subst (λ (st : WorkerState). IsSightWithin z.limits st sight) old.state la.can;
         within = subst (λ (st : WorkerState). phase_of (seen st sight) ≤ z.limits.last_phase) old.state la.within;
         ending = λ runs saw. sees.ending ∙ old.ending runs saw;
         step = record {
-          words = words;
-          views = views;
+          moment = moment_of z words views some_state;
           place = place;
-          state = s;
-          reachable = some_state.reachable;
-          shows = sh;
           mine = at;
-          before = tt;
-          permits = permits;
-          tells = (sight, refl, sees);
+          happen = record { before = tt; permits = permits; tells = (sight, refl, sees) };
           changed = 0;
           word = found;
           shows_after = shows_after;
@@ -211,7 +205,7 @@ answers z s words views place v phase reached sh at runs present =
     let i = v.worker in
     let p = reached_in_phase z s reached in
     let lawful = shown_lawful z s sh.opening p (reached_unanswered z s reached) in
-    let old : FitsWorker z s v = sh.each place (Worker v) at in
+    let old : FitsWorker z s v = sh.seats.each place (Worker v) at in
     let here : s.state i ≡ Runs phase = old.state ∙ runs in
     let state : WorkerState = Answered s.phase in
     let fits : FitsWorker z (moved s i state) (answered_view v) =
@@ -226,7 +220,7 @@ answers z s words views place v phase reached sh at runs present =
     }
     in
     worker_moves z s words views place v (answered_view v) state (bit_or (get_or words 0 0) (answer_bit i)) sh at refl
-    (ap (λ n. bit_or n (answer_bit i)) sh.word ∙ word_answered z s i phase lawful old.there here)
+    (ap (λ n. bit_or n (answer_bit i)) sh.board.phase ∙ word_answered z s i phase lawful old.there here)
     fits
     (λ is. absurd (subst (IsIn s.phase) here is))
     (λ _ gone. absurd (cc))
@@ -244,7 +238,7 @@ acknowledges z words views place v some_state at joined saw =
     let s = some_state.state in
     let sh = some_state.shows in
     let runs = running_is IsJoined v.state joined in
-    let old : FitsWorker z s v = sh.each place (Worker v) at in
+    let old : FitsWorker z s v = sh.seats.each place (Worker v) at in
     let here : s.state v.worker ≡ Runs runs.0 = old.state ∙ runs.1 in
     let present : runs.0 ≡ s.phase = (reached_in_phase z s some_state.reachable).runs v.worker runs.0 here in
     let after_it = answers z s words views place v runs.0 some_state.reachable sh at runs.1 present in
@@ -258,16 +252,10 @@ acknowledges z words views place v some_state at joined saw =
     }
     in (
       record {
-        words = words;
-        views = views;
+        moment = moment_of z words views some_state;
         place = place;
-        state = s;
-        reachable = some_state.reachable;
-        shows = sh;
         mine = at;
-        before = tt;
-        permits = permits;
-        tells = refl;
+        happen = record { before = tt; permits = permits; tells = refl };
         changed = 0;
         word = bit_or (get_or words 0 0) (answer_bit v.worker);
         shows_after = after_it;
@@ -298,7 +286,7 @@ reports z words views place v some_state at split saw =
     let s = some_state.state in
     let sh = some_state.shows in
     let runs = running_is IsSplit v.state split in
-    let old : FitsWorker z s v = sh.each place (Worker v) at in
+    let old : FitsWorker z s v = sh.seats.each place (Worker v) at in
     let here : s.state v.worker ≡ Runs runs.0 = old.state ∙ runs.1 in
     let present : runs.0 ≡ s.phase = (reached_in_phase z s some_state.reachable).runs v.worker runs.0 here in
     let after_it = answers z s words views place v runs.0 some_state.reachable sh at runs.1 present in
@@ -317,16 +305,10 @@ reports z words views place v some_state at split saw =
     }
     in (
       record {
-        words = words;
-        views = views;
+        moment = moment_of z words views some_state;
         place = place;
-        state = s;
-        reachable = some_state.reachable;
-        shows = sh;
         mine = at;
-        before = tt;
-        permits = permits;
-        tells = refl;
+        happen = record { before = tt; permits = permits; tells = refl };
         changed = 0;
         word = bit_or (get_or words 0 0) (answer_bit v.worker);
         shows_after = after_it;
@@ -359,7 +341,7 @@ retires z words views place v some_state at joined =
     let runs = running_is IsJoined v.state joined in
     let p = reached_in_phase z s some_state.reachable in
     let lawful = shown_lawful z s sh.opening p (reached_unanswered z s some_state.reachable) in
-    let old : FitsWorker z s v = sh.each place (Worker v) at in
+    let old : FitsWorker z s v = sh.seats.each place (Worker v) at in
     let here : s.state i ≡ Runs runs.0 = old.state ∙ runs.1 in
     let present : runs.0 ≡ s.phase = p.runs i runs.0 here in
     let even : IsJoined s.phase = subst IsJoined present runs.2 in
@@ -377,7 +359,7 @@ retires z words views place v some_state at joined =
     let after_it : Shows z (moved s i Gone) (set words 0 (bit_or (get_or words 0 0) (retirement_bit i)))
     (set views place (Worker (retired_view v))) =
     worker_moves z s words views place v (retired_view v) Gone (bit_or (get_or words 0 0) (retirement_bit i)) sh at refl
-    (ap (λ n. bit_or n (retirement_bit i)) sh.word ∙ word_retired z s i runs.0 lawful old.there here)
+    (ap (λ n. bit_or n (retirement_bit i)) sh.board.phase ∙ word_retired z s i runs.0 lawful old.there here)
     fits
     (λ is. absurd (subst (IsIn s.phase) here is))
     (λ odd _. absurd (omega arith))
@@ -386,16 +368,10 @@ retires z words views place v some_state at joined =
     record { there = old.there; suits = (here ∙ ap Runs present, even); leaves_last = tt; room = tt }
     in (
       record {
-        words = words;
-        views = views;
+        moment = moment_of z words views some_state;
         place = place;
-        state = s;
-        reachable = some_state.reachable;
-        shows = sh;
         mine = at;
-        before = tt;
-        permits = permits;
-        tells = refl;
+        happen = record { before = tt; permits = permits; tells = refl };
         changed = 0;
         word = bit_or (get_or words 0 0) (retirement_bit i);
         shows_after = after_it;

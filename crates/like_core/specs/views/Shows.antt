@@ -18,6 +18,7 @@ use Rattle.like_core.specs.core.Numbers.{AllIn, AllGone, CoordSees}
 use Rattle.like_core.specs.core.Table.{Permits, IsShown}
 use Rattle.like_core.specs.core.State.{CoreState, labelled, after, numbers}
 use Rattle.like_core.specs.core.Reachable.{Reachable, after_all, PermitsAll}
+use Rattle.like_core.specs.core.Exclusive.{NoneUnmerged}
 use Rattle.like_core.specs.word.ShownWord.{shown_word}
 use Rattle.like_core.specs.WorkerState.{IsRunning, SawEnding, SawNoLater}
 use Rattle.like_core.specs.Additions.{added_in}
@@ -27,116 +28,167 @@ use Rattle.like_core.specs.views.Tallies.{Tallied}
 use Rattle.like_core.specs.views.Places.{PlacesTile}
 use Rattle.like_core.specs.views.Layout.{phase_place, mask_place, word_of}
 
--- an opening that a board may have: there are 1 to 16 workers and at most 1,024 pages, each with a mark and a count of
--- at most 10 ^ 18; and its limits are lawful
+-- an opening that a board may have
 pub record IsOpening (z : Opening) : Type 0 where
   pub some_worker : 1 ≤ z.workers
   pub few_workers : z.workers ≤ max_workers
   pub few_pages : length z.counts ≤ max_pages
+  -- each page has a mark
   pub marks : length z.marks ≡ length z.counts
   pub counts : All (λ n. n ≤ max_count) z.counts
   pub limits : AreLimits z.limits
 
--- a worker's view of a state: its worker's state there; it saw no number above the phase; what it saw of the phase that
--- it runs is still so; of each page's likes as many have the label of its worker and a phase as it added to the page in
--- the phase; and the masks that it read are those of their phases
+-- what a worker's seat knows is true of the state
 pub record FitsWorker (z : Opening) (s : CoreState) (v : WorkerSeatView) : Type 0 where
   pub opening : v.opening ≡ z
   pub there : v.worker < z.workers
   pub state : s.state v.worker ≡ v.state
+  -- its last sight had no number above the phase
   pub number : SawNoLater s.phase v.last
+  -- if it runs a phase and saw that ending, it is ending
   pub ending : IsRunning v.state → SawEnding v.last → s.ending ≡ true
+  -- in each phase it added as many likes to a page as have its label there
   pub labels : (phase page : ℕ)
       → labelled v.worker phase (s.applied page) ≡ added_in phase page v.additions
+  -- each mask that it read is its phase's, and none is of a later phase
   pub masks : All (λ m. (m.phase ≤ s.phase) × (m.mask ≡ s.hot m.phase)) v.masks
 
--- the coordinator's view of a state: its phase, and whether that is ending; who has no seat yet runs phase 0 and added
--- nothing; a sight that showed all in is still what a look would show; all are gone in a split phase only where the last
--- sight before its release showed that; each count that it read was of a phase that is over, or in which all are in; a
--- mask that it published has bits of pages that are there alone; each phase's mask is the one with which it released
--- it; and the views of the seats that were given back are still so
-pub record FitsCoord (z : Opening) (s : CoreState) (c : CoordSeatView) : Type 0 where
+-- what the coordinator knows of the workers' seats is true of the state
+pub record KnowsSeats (z : Opening) (s : CoreState) (c : CoordSeatView) : Type 0 where
   pub opening : c.opening ≡ z
   pub made : c.made ≤ z.workers
+  -- a worker whose seat is not made yet runs phase 0
   pub unmade : (i : ℕ) → c.made ≤ i → i < z.workers → s.state i ≡ Runs 0
+  -- and no like has its label
   pub unlabelled : (i phase page : ℕ) → c.made ≤ i → i < z.workers
       → labelled i phase (s.applied page) ≡ 0
-  pub phase : c.phase ≡ s.phase
-  pub ending : c.ending ≡ s.ending
-  pub last : IfSome c.last (λ sight.
-      (sight.number ≡ number_of z.limits s.phase) × (sight.ending ≡ s.ending))
-  pub stays : IfSome c.last (λ sight. sight.all_in ≡ true
-      → CoordSees (numbers z s) sight × (c.word ≡ shown_word z s))
-  pub all_in : c.all_in ≡ true → AllIn (numbers z s)
-  pub gone : IsSplit s.phase → AllGone (numbers z s) → c.gone ≡ true
-  pub counted : All (λ r. (r.phase ≤ s.phase) × (r.phase ≡ s.phase → AllIn (numbers z s))) c.counted
-  pub published : IfSome c.published (λ mask. mask < 2 ^ length z.counts)
-  pub masks : (phase : ℕ) → mask_of c.masks phase ≡ s.hot phase
+  -- what the seats that were given back knew is true
   pub joined : (place : ℕ) (v : WorkerSeatView) → get_elem? c.joined place ≡ some v
       → FitsWorker z s v
 
--- a seat's view of a state
+-- what it knows of the phase is true
+pub record KnowsPhase (z : Opening) (s : CoreState) (c : CoordSeatView) : Type 0 where
+  pub present : c.phase ≡ s.phase
+  pub ending : c.ending ≡ s.ending
+  -- its last sight has the phase's number, and shows whether it is ending
+  pub last : IfSome c.last (λ sight.
+      (sight.number ≡ number_of z.limits s.phase) × (sight.ending ≡ s.ending))
+  -- if that sight showed all in, a look would show the same now, and the phase word has not changed
+  pub stays : IfSome c.last (λ sight. sight.all_in ≡ true
+      → CoordSees (numbers z s) sight × (c.word ≡ shown_word z s))
+  -- if any sight of the phase showed all in, they still are
+  pub all_in : c.all_in ≡ true → AllIn (numbers z s)
+  -- if all are gone in a split phase, the last sight before its release showed that
+  pub gone : IsSplit s.phase → AllGone (numbers z s) → c.gone ≡ true
+
+-- what it knows of the choice of hot pages is true
+pub record KnowsChoice (z : Opening) (s : CoreState) (c : CoordSeatView) : Type 0 where
+  -- each count that it read is of an earlier phase, or of this one and all are in
+  pub counted : All (λ r. (r.phase ≤ s.phase) × (r.phase ≡ s.phase → AllIn (numbers z s))) c.counted
+  -- a mask that it published has only bits of pages that exist
+  pub published : IfSome c.published (λ mask. mask < 2 ^ length z.counts)
+  -- each phase's mask is the one with which it released the phase
+  pub masks : (phase : ℕ) → mask_of c.masks phase ≡ s.hot phase
+
+-- what the coordinator's seat knows is true of the state
+pub record FitsCoord (z : Opening) (s : CoreState) (c : CoordSeatView) : Type 0 where
+  pub seats : KnowsSeats z s c
+  pub phase : KnowsPhase z s c
+  pub choice : KnowsChoice z s c
+
+-- what a seat knows is true of the state
 abbrev pub Fits : Opening → CoreState → View → Type 0
 Fits z s (Coord c) = FitsCoord z s c
 Fits z s (Worker v) = FitsWorker z s v
 Fits z s Spent = Unit {0}
 
--- the mask word is the phase's mask: in a split phase, and, as none was published yet, in phase 0 before its end is
--- announced
+-- when the mask word has to be the phase's mask: in a split phase, and in phase 0 until its end is announced, since no
+-- mask is published before that
 abbrev pub FixesMask : ℕ → Bool → Type 0
 FixesMask phase ending = IsSplit phase ⊎ ((phase ≡ 0) × (ending ≡ false))
 
--- the words and the views of all seats show the state: the phase word is the state's, each page's word is its count,
--- and the mask word is the phase's mask where that is fixed, and the one that the coordinator published since its last look; any
--- other word may be anything; no likes are unmerged; the first seat is the coordinator's, and no other is; each worker
--- that has a seat has one; each count that a worker read lies between what the views have added; and each that the
--- coordinator read is what they had added up to its phase
-pub record Shows (z : Opening) (s : CoreState) (words : List ℕ) (views : List View) : Type 0 where
-  pub opening : IsOpening z
+-- the words show the state; those that the layout does not name may be anything
+pub record WordsShow (z : Opening) (s : CoreState) (words : List ℕ) : Type 0 where
   pub width : length words ≡ word_of (length z.counts)
-  pub word : slice_index words phase_place ≡ shown_word z s
+  pub phase : slice_index words phase_place ≡ shown_word z s
+  -- each page's word is its count: the one at the start and the likes applied to it
   pub pages : (page : ℕ) → page < length z.counts
       → slice_index words (word_of page) ≡ slice_index z.counts page + length (s.applied page)
+  -- the mask word is the phase's mask, when it has to be
   pub mask : FixesMask s.phase s.ending → slice_index words mask_place ≡ s.hot s.phase
-  pub merged : (i : ℕ) → s.unmerged i ≡ []
-  pub coord : CoordSeatView
-  pub first : get_elem? views 0 ≡ some (Coord coord)
-  pub only : (place : ℕ) (c : CoordSeatView) → get_elem? views place ≡ some (Coord c) → place ≡ 0
-  pub each : (place : ℕ) (v : View) → get_elem? views place ≡ some v → Fits z s v
-  pub once : (i : ℕ) → sum_by (seats_of i) views ≡ (if nat_lt i coord.made then 1 else 0)
-  pub published : IfSome coord.published (λ mask. slice_index words mask_place ≡ mask)
-  pub reads : ReadsFit z.counts s.phase views
-  pub counted : All (IsCounted z.counts (all_before views)) coord.counted
 
--- the words and the views show some state that can be reached; beside it stand the tallies of the views' additions, and
--- that the stretches of these tile each page's counts
+-- the seats fit the state, and this is what the coordinator knows
+pub record SeatsFit (z : Opening) (s : CoreState) (coord : CoordSeatView) (views : List View)
+    : Type 0 where
+  -- the first seat is the coordinator's
+  pub first : get_elem? views 0 ≡ some (Coord coord)
+  -- no other is
+  pub only : (place : ℕ) (c : CoordSeatView) → get_elem? views place ≡ some (Coord c) → place ≡ 0
+  -- what each seat knows is true
+  pub each : (place : ℕ) (v : View) → get_elem? views place ≡ some v → Fits z s v
+  -- each worker whose seat was made has exactly one: its own, or one that was given back
+  pub once : (i : ℕ) → sum_by (seats_of i) views ≡ (if nat_lt i coord.made then 1 else 0)
+
+-- the reads are counted: each count that was read has the additions that it has to have
+pub record ReadsAreCounted (z : Opening) (s : CoreState) (coord : CoordSeatView) (views : List View)
+    : Type 0 where
+  -- a worker's reads, and its additions, lie between what all views have added
+  pub workers : ReadsFit z.counts s.phase views
+  -- each count that the coordinator read is the one at the start plus all that they added up to its phase
+  pub coordinator : All (IsCounted z.counts (all_before views)) coord.counted
+
+-- the words and the views of all seats show the state
+pub record Shows (z : Opening) (s : CoreState) (words : List ℕ) (views : List View) : Type 0 where
+  pub opening : IsOpening z
+  pub merged : NoneUnmerged s
+  -- what the coordinator knows; if it published a mask since its last look, that is the mask word
+  pub coord : CoordSeatView
+  pub published : IfSome coord.published (λ mask. slice_index words mask_place ≡ mask)
+  pub board : WordsShow z s words
+  pub seats : SeatsFit z s coord views
+  pub reads : ReadsAreCounted z s coord views
+
+-- the words and the views show some state that can be reached
 pub record ShowsSome (z : Opening) (words : List ℕ) (views : List View) : Type 0 where
   pub state : CoreState
   pub reachable : Reachable z state
   pub shows : Shows z state words views
+  -- the views' additions are the likes applied in it, and no count can wrap by what may still be added
   pub tallied : Tallied z.limits.likes state views
+  -- the stretches of the views' additions tile each page's counts
   pub places : PlacesTile z.counts views
 
--- one step of a seat, whose view goes from v to w, is these events and then this one: some state that can be reached is
--- shown by the words and by all views, the events are permitted there one after the other, the last shows what it is
--- said to show, and afterwards the words, of which one may differ, and all views show the state after the events
-pub record IsSteps (z : Opening) (events : List Event) (event : Event) (shown : Shown) (v w : View)
-    : Type 0 where
+-- a moment of a board, between two steps: its words, the views of all its seats, and the state that they show, which
+-- can be reached
+pub record Moment (z : Opening) : Type 0 where
   pub words : List ℕ
   pub views : List View
-  pub place : ℕ
   pub state : CoreState
   pub reachable : Reachable z state
   pub shows : Shows z state words views
-  pub mine : get_elem? views place ≡ some v
-  pub before : PermitsAll z state events
-  pub permits : Permits (numbers z (after_all z state events)) event
-  pub tells : IsShown (numbers z (after_all z state events)) event shown
+
+-- these events may happen in the state, one after the other, and then this one, which shows this
+pub record Happen (z : Opening) (s : CoreState) (events : List Event) (event : Event) (shown : Shown)
+    : Type 0 where
+  pub before : PermitsAll z s events
+  pub permits : Permits (numbers z (after_all z s events)) event
+  pub tells : IsShown (numbers z (after_all z s events)) event shown
+
+-- one step of a seat, whose view goes from v to w: at some moment these events happen, and this one last. Then at most
+-- one word has changed and the seat's view is w, and the words and views show the state after the events
+pub record IsSteps (z : Opening) (events : List Event) (event : Event) (shown : Shown) (v w : View)
+    : Type 0 where
+  pub moment : Moment z
+  -- the seat's place among the views
+  pub place : ℕ
+  pub mine : get_elem? moment.views place ≡ some v
+  pub happen : Happen z moment.state events event shown
+  -- the word that may have changed, and what it is now
   pub changed : ℕ
   pub word : ℕ
   pub shows_after :
-      Shows z (after z (after_all z state events) event)
-      (slice_set words changed word) (slice_set views place w)
+      Shows z (after z (after_all z moment.state events) event)
+      (slice_set moment.words changed word) (slice_set moment.views place w)
 
 -- one step of a seat is this event
 abbrev pub IsStep : Opening → Event → Shown → View → View → Type 0
