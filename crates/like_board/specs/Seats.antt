@@ -100,7 +100,8 @@ seats_before seats phase page =
 abbrev pub HaveAddedWithin : ℕ → List WorkerSeat → Type 0
 HaveAddedWithin phase seats = All (λ seat. All (λ a. a.phase ≤ phase) (seat_meaning seat).additions) seats
 
--- each count that a worker of these seats read lies between what they all have added, and is of no later phase than this
+-- each count that a worker of these seats read lies between what they all have added, and none is of a later phase than
+-- this
 abbrev pub HaveReadBetween : Opening → ℕ → List WorkerSeat → Type 0
 HaveReadBetween z phase seats =
     All (λ seat. let post = seat_meaning seat in
@@ -131,9 +132,9 @@ HaveReadMasks released seats =
 abbrev pub seats_passing : List WorkerSeat → Counting
 seats_passing seats test = sum_by (λ seat. count_by test (seat_meaning seat).additions) seats
 
--- the stretches of the additions of the workers of these seats tile each page's counts, from the one at the start to the
--- last; each count that they read or glanced at is the one at the start or the end of a stretch; and each worker's
--- additions and reads are in order, and its additions and glances
+-- the stretches of these seats' additions tile each page's counts, from the one at the start to the last; each count
+-- that their workers read or glanced at is the one at the start or the end of a stretch; and each worker's additions
+-- and reads are in order, and its additions and glances
 pub record HavePlaces (z : Opening) (seats : List WorkerSeat) : Type 0 where
   pub tiles : AreTiles (slice_index z.counts) (last_count z seats) (seats_passing seats)
   pub each : All (λ seat. let post = seat_meaning seat in
