@@ -19,6 +19,6 @@ each_below test (suc n) = each_below test n && test n
 abbrev pub has_bit : ℕ → ℕ → Bool
 has_bit mask i = bit_at mask i == 1
 
--- how often x stands in a list
+-- how often x is in a list
 abbrev pub times : ℕ → List ℕ → ℕ
 times x xs = count_by (λ y. y == x) xs

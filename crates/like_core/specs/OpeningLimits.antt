@@ -16,14 +16,17 @@ service_limits = record { last_phase = 2 ^ 64 - 2; likes = 2 ^ 56; modulus = 167
 abbrev pub number_of : Limits → ℕ → ℕ
 number_of l phase = phase % l.modulus
 
--- limits that an opening may have: the last phase is joined and fits in a word; a number is odd where its phase is, and one that a phase
--- word may have, of which the greatest is the last phase's alone; and no count can wrap
+-- limits that an opening may have
 pub record AreLimits (l : Limits) : Type 0 where
   pub joined : IsJoined l.last_phase
+  -- the last phase fits in a word
   pub fits : l.last_phase < 2 ^ 64
   pub some : 0 < l.modulus
+  -- a phase's number is odd if the phase is
   pub even : l.modulus % 2 ≡ 0
+  -- each number fits in a phase word, and only the last phase may have the greatest
   pub numbers : last_phase < l.modulus → l.last_phase ≤ last_phase
+  -- no count can wrap
   pub likes : max_count + l.likes * max_workers < total_bound
 
 -- the number in a phase word is the phase

@@ -22,7 +22,7 @@ is_marked marks page = slice_index_or marks page false
 abbrev pub is_hot : ℕ → ℕ → Bool
 is_hot mask page = nat_lt page hot_pages && has_bit mask page
 
--- whether a page is split in a phase, where `marked` says which pages are marked as split, and `hot` is each phase's
--- mask of hot pages
+-- whether a page is split in a phase: `marked` says which pages are marked as split, and `hot` is each phase's mask of
+-- hot pages
 abbrev pub split : (ℕ → Bool) → (ℕ → ℕ) → ℕ → ℕ → Bool
 split marked hot phase page = (phase % 2 == 1) && (marked page || is_hot (hot phase) page)

@@ -4,7 +4,7 @@ use Rattle.std.specs.List.{list_any}
 use Rattle.like_core.specs.declared.view.PhaseMask.{PhaseMask}
 use Rattle.like_core.specs.Functions.{update}
 
--- each phase's mask, which is 0 where the list has none
+-- each phase's mask, or 0 if the list has none
 abbrev pub mask_of : List PhaseMask → ℕ → ℕ
 mask_of [] = λ _. 0
 mask_of (m ∷ masks) = update (mask_of masks) m.phase m.mask

@@ -12,21 +12,25 @@ use Rattle.like_core.specs.Phase.{IsSplit, is_marked, split}
 use Rattle.like_core.specs.PhaseMasks.{mask_of, HasMask}
 use Rattle.like_core.specs.WorkerState.{IsRunning, SawEnding, phase_of, seen}
 
--- what a post means: at which board it stands, as numbers that tell boards apart; whose it is; for each page of its board,
--- whether it is marked as split; the limits of its board; the worker's state, its last sight, if it looked, and how many
--- looks it made; what it has added to pages, what it read of pages that were not sliced, and of others at a glance, in
--- order; and the masks of hot pages that it read, the latest first
+-- what a post means
 pub record PostView : Type 0 where
+  -- the numbers that tell its board from others
   pub board : List ℕ
   pub worker : ℕ
+  -- whether each page of the board is marked as split
   pub marks : List Bool
   pub limits : Limits
+  -- the worker's state
   pub state : WorkerState
+  -- its last sight, if it looked, and how many looks it made
   pub last : Option Sight
   pub looks : ℕ
+  -- what it added to pages, in order
   pub additions : List Addition
+  -- what it read of pages that were not sliced, and what it read at a glance of pages that were, each in order
   pub reads : List PageRead
   pub glances : List PageRead
+  -- the masks of hot pages that it read, the latest first
   pub masks : List PhaseMask
 
 -- how many pages there are
@@ -55,7 +59,7 @@ pub record IsFresh (v : PostView) : Type 0 where
 abbrev pub slices : PostView → ℕ → Bool
 slices v page = split (is_marked v.marks) (mask_of v.masks) (phase_of v.state) page
 
--- whether it is sliced is known to the post: an unmarked page of the first 64 may be hot in a split phase, so there the
+-- the post knows whether the page is sliced: an unmarked page of the first 64 may be hot in a split phase, so there the
 -- post has read the phase's mask
 abbrev pub KnowsSlices : PostView → ℕ → Type 0
 KnowsSlices v page =
@@ -75,7 +79,7 @@ answered v = record v { state = Answered (phase_of v.state) }
 abbrev pub retired : PostView → PostView
 retired v = record v { state = Gone }
 
--- the post after n was added to a page's count, which was this before
+-- the post after it added n to a page's count, which was `old` before
 abbrev pub added : PostView → ℕ → ℕ → ℕ → PostView
 added v page old n =
     record v { additions = v.additions ++ addition (phase_of v.state) page old n ∷ [] }
@@ -94,14 +98,16 @@ has_glanced v page count =
 abbrev pub with_mask : PostView → ℕ → PostView
 with_mask v mask = record v { masks = record { phase = phase_of v.state; mask = mask } ∷ v.masks }
 
--- n may be added to the page: 1 at a like of a page that is not sliced; a slice that is merged in the ending phase; and
--- all additions of a post together stay within the likes of a worker
+-- n may be added to the page
 pub record MayAdd (v : PostView) (page n : ℕ) : Type 0 where
   pub runs : IsRunning v.state
   pub there : page < pages_of v
   pub known : KnowsSlices v page
+  -- a page that is not sliced gets one like
   pub like : slices v page ≡ false → n ≡ 1
+  -- a slice has likes, and is merged once the end of the phase was seen
   pub merge : slices v page ≡ true → (1 ≤ n) × SawEnding v.last
+  -- all additions of the post together stay within the likes of a worker
   pub few : all_added v.additions + n ≤ v.limits.likes
 
 -- the page may be read: it is not sliced

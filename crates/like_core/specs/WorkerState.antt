@@ -18,7 +18,7 @@ looked phase (Runs j) = Runs j
 looked phase (Answered j) = (if nat_lt j phase then Runs phase else Answered j)
 looked phase Gone = Gone
 
--- the worker runs a phase of which P holds
+-- the worker runs a phase, and P holds of it
 abbrev pub RunsSome : (ℕ → Type 0) → WorkerState → Type 0
 RunsSome P (Runs phase) = P phase
 RunsSome P (Answered phase) = ⊥
@@ -42,15 +42,15 @@ phase_of (Runs phase) = phase
 phase_of (Answered phase) = phase
 phase_of Gone = 0
 
--- what a worker in this state can see where numbers are phases, as in a run: one that runs a phase sees that phase; one
--- that has answered a phase sees that phase and waits, or the next, and runs it
+-- what a worker in this state can see, if numbers are phases, as in a run: one that runs a phase sees that phase; one
+-- that has answered a phase sees that phase and waits, or sees the next and runs it
 abbrev pub IsSightOf : WorkerState → Sight → Type 0
 IsSightOf (Runs phase) sight = (sight.number ≡ phase) × (sight.waits ≡ false)
 IsSightOf (Answered phase) sight =
     MatchBool sight.waits (sight.number ≡ phase) (sight.number ≡ phase + 1)
 IsSightOf Gone sight = ⊥
 
--- the same within these limits, where a number stands for each phase
+-- the same within these limits, by the phases' numbers
 abbrev pub IsSightWithin : Limits → WorkerState → Sight → Type 0
 IsSightWithin l (Runs phase) sight = (sight.number ≡ number_of l phase) × (sight.waits ≡ false)
 IsSightWithin l (Answered phase) sight =

@@ -14,7 +14,7 @@ numbers_of core =
     kept core.limits core.phase core.ending core.hot core.states.items core.unmerged.items core.counts
     core.marks.items
 
--- the core stands for each state that has its numbers
+-- the core stands for a state: it has the numbers of that state
 abbrev pub StandsFor : Core → Opening → CoreState → Type 0
 StandsFor core z s = numbers_of core ≡ numbers z s
 
@@ -22,27 +22,27 @@ StandsFor core z s = numbers_of core ≡ numbers z s
 abbrev pub StandsForStart : Core → Opening → Type 0
 StandsForStart core z = StandsFor core z (start z)
 
--- the core stands for a state that can be reached
+-- the core stands for some state that can be reached
 pub record IsReachable (core : Core) (z : Opening) : Type 0 where
   pub state : CoreState
   pub stands : StandsFor core z state
   pub reachable : Reachable z state
 
--- the event takes each state that the old core stood for to one for which the new core stands
+-- if the old core stands for a state, the new one stands for the state after the event
 abbrev pub TakesStates : Core → Core → Event → Type 0
 TakesStates old new event =
     (z : Opening) (s : CoreState) → StandsFor old z s → StandsFor new z (after z s event)
 
--- and so do all events of a list, one after the other
+-- the same of a list of events, one after the other
 abbrev pub TakesStatesAll : Core → Core → List Event → Type 0
 TakesStatesAll old new events =
     (z : Opening) (s : CoreState) → StandsFor old z s → StandsFor new z (after_all z s events)
 
--- a core that stands for a state that can be reached still stands for one
+-- if the old core stands for a state that can be reached, so does the new one
 abbrev pub KeepsReachable : Core → Core → Type 0
 KeepsReachable old new = (z : Opening) → IsReachable old z → IsReachable new z
 
--- where the core stands for a state that can be reached, each state that it stands for is exclusive, and in phase
+-- if the core stands for a state that can be reached, each state that it stands for is exclusive and in phase
 abbrev pub IsCoreExclusive : Core → Type 0
 IsCoreExclusive core =
     (z : Opening) (s : CoreState) → IsReachable core z → StandsFor core z s

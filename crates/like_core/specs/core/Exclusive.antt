@@ -18,15 +18,19 @@ abbrev pub IsExclusive : CoreState → Type 0
 IsExclusive s =
     (i phase : ℕ) → s.state i ≡ Runs phase → IsJoined phase → NoneUnmerged s × NoneRunsSplit s
 
--- who runs a phase runs the present one; who has answered one has answered the present one or the one before; who has
--- unmerged likes runs the present phase, and that is split; who is no worker is gone; the last phase is never ending
+-- the state is in phase
 pub record IsInPhase (z : Opening) (s : CoreState) : Type 0 where
+  -- who runs a phase runs the present one
   pub runs : (i phase : ℕ) → s.state i ≡ Runs phase → phase ≡ s.phase
+  -- who has answered a phase has answered the present one or the one before
   pub answered : (i phase : ℕ) → s.state i ≡ Answered phase
       → (phase ≡ s.phase) ⊎ (phase + 1 ≡ s.phase)
+  -- who has unmerged likes runs the present phase, and that is split
   pub unmerged : (i : ℕ) → (s.unmerged i ≡ []) ⊎ ((s.state i ≡ Runs s.phase) × IsSplit s.phase)
+  -- a number that is no worker's is gone
   pub outside : (i : ℕ) → z.workers ≤ i → s.state i ≡ Gone
   pub within : s.phase ≤ z.limits.last_phase
+  -- the last phase is never ending
   pub last : s.ending ≡ true → s.phase < z.limits.last_phase
 
 -- every state that can be reached is exclusive, and in phase

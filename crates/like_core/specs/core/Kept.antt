@@ -5,11 +5,11 @@ use Rattle.like_core.specs.declared.limits.Limits.{Limits}
 use Rattle.like_core.specs.core.Numbers.{Numbers}
 use Rattle.like_core.specs.Phase.{is_marked}
 
--- each of the rows has so many numbers
+-- each row has this many numbers
 abbrev pub AreRowsOf : ℕ → List (List ℕ) → Type 0
 AreRowsOf pages rows = (i : ℕ) → i < length rows → length (slice_index_or rows i []) ≡ pages
 
--- the numbers that lists by worker and page keep; who is no worker is gone
+-- the numbers of a core that keeps these lists, by worker and by page; a number that is no worker's is gone
 abbrev pub kept : Limits → ℕ → Bool → ℕ → List WorkerState → List (List ℕ) → List ℕ → List Bool → Numbers
 kept limits phase ending hot states unmerged counts marks = record {
   workers = length unmerged;

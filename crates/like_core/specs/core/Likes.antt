@@ -9,12 +9,12 @@ use Rattle.like_core.specs.core.State.{CoreState, is_split_now, numbers}
 use Rattle.like_core.specs.core.Exclusive.{NoneUnmerged}
 use Rattle.like_core.specs.core.Reachable.{Reachable}
 
--- each worker has unmerged likes of these pages more
+-- each worker has more unmerged likes, of these pages
 abbrev pub given : CoreState → (ℕ → List ℕ) → CoreState
 given s more = record s { unmerged = λ i. s.unmerged i ++ more i }
 
--- likes are given only to workers that run the present phase, of pages that are split in it, and with them the totals
--- stay below their bound
+-- workers may be given likes of these pages: whoever gets one runs the present phase, its page exists and is split in
+-- that phase, and the totals stay below their bound
 pub record MayLike (z : Opening) (s : CoreState) (more : ℕ → List ℕ) : Type 0 where
   pub runs : (i page : ℕ) → 0 < times page (more i) → s.state i ≡ Runs s.phase
   pub there : (i page : ℕ) → 0 < times page (more i) → page < length z.counts
@@ -27,7 +27,8 @@ LikesStayReachable =
     (z : Opening) (s : CoreState) (more : ℕ → List ℕ)
     → Reachable z s → MayLike z s more → Reachable z (given s more)
 
--- no worker runs joined work while any holds a like: in a state that can be reached, with likes that slices may hold
+-- in a state that can be reached, with any likes that slices may hold, no worker has an unmerged like while one runs a
+-- joined phase
 abbrev pub NoneHoldsWhileJoined : Type 0
 NoneHoldsWhileJoined =
     (z : Opening) (s : CoreState) (more : ℕ → List ℕ) → Reachable z s → MayLike z s more

@@ -10,26 +10,31 @@ use Rattle.like_core.specs.Functions.{sum_below, update}
 use Rattle.like_core.specs.Phase.{split}
 use Rattle.like_core.specs.WorkerState.{IsIn, looked}
 
--- what the table of events speaks of: how many workers and pages there are, which pages are marked as split, and the
--- limits; the phase, whether its end was announced, and the mask of its hot pages; each worker's state; how many likes of
--- a page a worker has not merged; and each page's count
+-- what the table of events speaks of
 pub record Numbers : Type 0 where
+  -- how many workers and pages there are
   pub workers : ℕ
   pub pages : ℕ
+  -- which pages are marked as split
   pub marked : ℕ → Bool
   pub limits : Limits
   pub phase : ℕ
+  -- whether the end of the phase was announced
   pub ending : Bool
+  -- the mask of its hot pages
   pub hot : ℕ
+  -- each worker's state
   pub state : ℕ → WorkerState
+  -- how many unmerged likes a worker has of a page
   pub unmerged : ℕ → ℕ → ℕ
+  -- each page's count
   pub count : ℕ → ℕ
 
 -- worker i is in this state, and all else is the same
 abbrev pub with_state : Numbers → ℕ → WorkerState → Numbers
 with_state n i state = record n { state = update n.state i state }
 
--- worker i has not merged so many likes of the page, and all else is the same
+-- worker i has this many unmerged likes of the page, and all else is the same
 abbrev pub with_unmerged : Numbers → ℕ → ℕ → ℕ → Numbers
 with_unmerged n i page likes =
     record n { unmerged = update n.unmerged i (update (n.unmerged i) page likes) }
@@ -42,11 +47,11 @@ with_count n page count = record n { count = update n.count page count }
 abbrev pub with_look : Numbers → ℕ → Numbers
 with_look n i = with_state n i (looked n.phase (n.state i))
 
--- worker i has not merged one like more of the page, and all else is the same
+-- worker i has one more unmerged like of the page, and all else is the same
 abbrev pub with_like : Numbers → ℕ → ℕ → Numbers
 with_like n i page = with_unmerged n i page (n.unmerged i page + 1)
 
--- the page has so many likes more in its count, and all else is the same
+-- the page's count has this many more likes, and all else is the same
 abbrev pub with_more : Numbers → ℕ → ℕ → Numbers
 with_more n page likes = with_count n page (n.count page + likes)
 

@@ -15,7 +15,7 @@ PermitsAll z s [] = Unit {0}
 PermitsAll z s (event ∷ events) =
     Permits (numbers z s) event × PermitsAll z (after z s event) events
 
--- the state stands after some list of permitted events from the start
+-- some list of permitted events leads from the start to the state
 pub record Reachable (z : Opening) (s : CoreState) : Type 0 where
   pub events : List Event
   pub permitted : PermitsAll z (start z) events

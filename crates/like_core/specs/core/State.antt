@@ -20,15 +20,18 @@ pub record Label : Type 0 where
 abbrev pub labelled : ℕ → ℕ → List Label → ℕ
 labelled worker phase likes = count_by (λ l. (l.worker == worker) && (l.phase == phase)) likes
 
--- a state of the core: the phase and whether its end was announced, the mask of each phase's hot pages, each worker's
--- state, the pages of the likes that each worker has not merged, in the order of its likes, and the likes applied to
--- each page
+-- a state of the core
 pub record CoreState : Type 0 where
   pub phase : ℕ
+  -- whether the end of the phase was announced
   pub ending : Bool
+  -- each phase's mask of hot pages
   pub hot : ℕ → ℕ
+  -- each worker's state
   pub state : ℕ → WorkerState
+  -- the pages of each worker's unmerged likes, in the order of the likes
   pub unmerged : ℕ → List ℕ
+  -- the likes applied to each page
   pub applied : ℕ → List Label
 
 -- the label of a like that the worker runs now
@@ -44,7 +47,7 @@ opening_with limits workers counts marks =
 abbrev pub opening : ℕ → List ℕ → List Bool → Opening
 opening workers counts marks = opening_with run_limits workers counts marks
 
--- the core at the start: each worker runs phase 0; who is no worker is gone; no phase has hot pages yet
+-- the state at the start: each worker runs phase 0, any other number is gone, and no phase has hot pages yet
 abbrev pub start : Opening → CoreState
 start z = record {
   phase = 0;
@@ -55,7 +58,7 @@ start z = record {
   applied = λ _. [];
 }
 
--- the likes of other pages
+-- the likes without those of a page
 abbrev pub without : ℕ → List ℕ → List ℕ
 without page likes = filter (λ other. not (other == page)) likes
 
@@ -91,7 +94,7 @@ after z s (Release mask) = record s {
   hot = update s.hot (s.phase + 1) mask;
 }
 
--- the numbers of a state: lengths of its lists, and the mask of its phase
+-- the numbers of a state: how long its lists are, and the mask of its phase
 abbrev pub numbers : Opening → CoreState → Numbers
 numbers z s = record {
   workers = z.workers;

@@ -13,7 +13,7 @@ use Rattle.like_limits.specs.Limits.{total_bound}
 use Rattle.like_core.specs.Phase.{IsJoined, IsSplit}
 use Rattle.like_core.specs.core.Numbers.{Numbers, with_state, with_unmerged, sliced, total, AllIn, Sees, CoordSees, with_look, with_like, with_more}
 
--- the worker and the page that the event names are there, and the page of each bit of its mask
+-- the worker and the page that the event names exist, and so does the page of each bit of its mask
 abbrev pub NamesWhatIsThere : Numbers → Event → Type 0
 NamesWhatIsThere n (Look i) = i < n.workers
 NamesWhatIsThere n (Acknowledge i) = i < n.workers
@@ -64,7 +64,7 @@ pub record Permits (n : Numbers) (event : Event) : Type 0 where
   pub leaves_last : LeavesLast n event
   pub room : StaysBelowBound n event
 
--- the reason is the first for which the event may not happen
+-- this is the first reason why the event may not happen
 abbrev pub Refuses : Numbers → Event → NotNow → Type 0
 Refuses n event NoSuch = ¬ NamesWhatIsThere n event
 Refuses n event Phase = NamesWhatIsThere n event × ¬ Suits n event

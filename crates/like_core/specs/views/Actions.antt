@@ -1,4 +1,4 @@
--- What the calls at a board are: each leads a seat's view to another, and is one event, or the likes that it merges first.
+-- What each call at a board does: it takes a seat's view to the next, and is one event, or some likes and their merge.
 use Rattle.std.specs.Prelude.{ℕ}
 use Rattle.like_core.specs.declared.sight.Sight.{Sight}
 use Rattle.like_core.specs.declared.sight.CoordSight.{CoordSight}

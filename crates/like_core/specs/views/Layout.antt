@@ -1,4 +1,4 @@
--- Where the words of a board stand.
+-- Where the words of a board are.
 use Rattle.std.specs.Prelude.{ℕ, ◌+◌, ◌-◌, ◌*◌, ◌<◌, ◌≤◌, nat_lt, if◌then◌else◌}
 
 -- the place of the phase word
@@ -9,12 +9,12 @@ phase_place = 0
 abbrev pub mask_place : ℕ
 mask_place = 16
 
--- the place of a page's word: those of the first 64 pages are 16 words apart, which is 128 bytes, and the others dense
+-- the place of a page's word: those of the first 64 pages are 16 words, or 128 bytes, apart, and the others follow one
+-- after the other
 unfoldable pub word_of : ℕ → ℕ
 word_of page = (if nat_lt page 64 then 16 * (page + 2) else 16 * 66 + (page - 64))
 
--- each word has a place of its own; and the phase word, the mask word and the words of the first 64 pages each have 16
--- places for themselves
+-- no two words share a place, and the phase word, the mask word and the words of the first 64 pages have 16 places each
 pub record WordsStandApart : Type 0 where
   pub mask : phase_place + 16 ≤ mask_place
   pub pages : (page : ℕ) → mask_place + 16 ≤ word_of page

@@ -8,7 +8,7 @@ use Rattle.like_core.specs.word.Word.{Fields}
 abbrev pub first_fields : ℕ → Fields
 first_fields workers = record { kind = 0; workers = workers; answered = 0; retired = 0; number = 0 }
 
--- what worker i sees in a phase word with these fields: it waits where its bit of `answered` is set
+-- what worker i sees in a phase word with these fields: it waits if its bit of `answered` is set
 abbrev pub sight_of : Fields → ℕ → Sight
 sight_of f i = record {
   number = f.number;
@@ -16,8 +16,8 @@ sight_of f i = record {
   waits = has_bit f.answered i;
 }
 
--- what the coordinator sees there: all are in where each worker's bit is set in `answered` or in `retired`, and all are
--- gone where each worker's bit of `retired` is set
+-- what the coordinator sees there: all are in if each worker's bit is set in `answered` or in `retired`, and all are
+-- gone if each worker's bit of `retired` is set
 abbrev pub coord_sight_of : Fields → CoordSight
 coord_sight_of f = record {
   number = f.number;

@@ -8,28 +8,30 @@ use Rattle.like_core.specs.core.State.{CoreState}
 use Rattle.like_core.specs.Additions.{added_to}
 use Rattle.like_core.specs.views.Reads.{all_before}
 
--- how much the views of seats that were given back, or a seat's view, have added to a page
+-- how much a view has added to a page: the coordinator's has what the seats that were given back to it added
 abbrev pub paged : ℕ → View → ℕ
 paged page (Coord c) = sum_by (λ v. added_to page v.additions) c.joined
 paged page (Worker v) = added_to page v.additions
 paged page Spent = 0
 
--- how much a worker that adds at most so many likes may still add to a page
+-- how much a worker may still add to a page, if it may add this many likes to it
 abbrev pub left_to : ℕ → ℕ → WorkerSeatView → ℕ
 left_to likes page v = likes - added_to page v.additions
 
--- how much may still be added to a page by a view's worker; by the coordinator's, by those that have no seat yet and
--- those whose seat was given back
+-- how much the worker of a view may still add to a page: the coordinator's has what workers without a seat yet may add,
+-- and those whose seat was given back
 abbrev pub room : ℕ → ℕ → View → ℕ
 room likes page (Coord c) = likes * (max_workers - c.made) + sum_by (λ v. left_to likes page v) c.joined
 room likes page (Worker v) = left_to likes page v
 room likes page Spent = 0
 
--- the likes applied to a page are all that the views have added, and with what may still be added they are no more than
--- 16 workers may add, each of them so many likes; and nothing was added in a later phase
+-- the tallies of what the views have added, if each worker may add this many likes to a page
 pub record Tallied (likes : ℕ) (s : CoreState) (views : List View) : Type 0 where
+  -- the likes applied to a page are all that the views have added to it
   pub sums : (page : ℕ) → length (s.applied page) ≡ sum_by (paged page) views
+  -- with what may still be added, they are at most what 16 workers may add
   pub rooms : (page : ℕ)
       → length (s.applied page) + sum_by (room likes page) views ≤ likes * max_workers
+  -- nothing was added in a later phase
   pub past : (phase page : ℕ) → s.phase < phase
       → all_before views phase page ≡ sum_by (paged page) views

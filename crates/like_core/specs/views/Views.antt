@@ -15,7 +15,7 @@ use Rattle.like_core.specs.Phase.{IsJoined}
 use Rattle.like_core.specs.WorkerState.{phase_of, seen}
 use Rattle.like_core.specs.Post.{PostView, slices}
 
--- a worker's view before its seat made a step: it runs phase 0, looked never, added nothing and read nothing
+-- a worker's view before its seat made a step: it runs phase 0, and did nothing yet
 abbrev pub fresh : Opening → ℕ → WorkerSeatView
 fresh z worker = record {
   opening = z;
@@ -29,7 +29,7 @@ fresh z worker = record {
   masks = [];
 }
 
--- the coordinator's view before its first step, where this is the phase word
+-- the coordinator's view before its first step, when this is the phase word
 abbrev pub fresh_coord : Opening → ℕ → CoordSeatView
 fresh_coord z word = record {
   opening = z;
@@ -60,7 +60,7 @@ answered_view v = record v { state = Answered (phase_of v.state) }
 abbrev pub retired_view : WorkerSeatView → WorkerSeatView
 retired_view v = record v { state = Gone }
 
--- a worker's view after n was added to a page's count, which was this before
+-- a worker's view after it added n to a page's count, which was `old` before
 abbrev pub added_view : WorkerSeatView → ℕ → ℕ → ℕ → WorkerSeatView
 added_view v page old n =
     record v { additions = v.additions ++ addition (phase_of v.state) page old n ∷ [] }
@@ -96,11 +96,11 @@ post_of v = record {
   masks = v.masks;
 }
 
--- the likes that an addition of n to a page merges; where the page is not sliced there are none, and it is a like itself
+-- the likes that an addition of n to a page merges: none if the page is not sliced, when the addition is itself a like
 abbrev pub likes_merged : WorkerSeatView → ℕ → ℕ → List Event
 likes_merged v page n = (if slices (post_of v) page then replicate n (Like v.worker page) else [])
 
--- the event that an addition to a page is, after the likes that it merges
+-- the event of an addition to a page, after the likes that it merges
 abbrev pub adding : WorkerSeatView → ℕ → Event
 adding v page = (if slices (post_of v) page then Merge v.worker page else Like v.worker page)
 
@@ -147,7 +147,7 @@ released_coord c = record c {
   masks = record { phase = c.phase + 1; mask = mask_released c } ∷ c.masks;
 }
 
--- the coordinator's view after it made one worker's seat more
+-- the coordinator's view after it made one more worker's seat
 abbrev pub made_coord : CoordSeatView → CoordSeatView
 made_coord c = record c { made = c.made + 1 }
 
@@ -155,32 +155,33 @@ made_coord c = record c { made = c.made + 1 }
 abbrev pub gathered_coord : CoordSeatView → WorkerSeatView → CoordSeatView
 gathered_coord c v = record c { joined = v ∷ c.joined }
 
--- the coordinator's view after all these were given back to it, the last of them first
+-- the coordinator's view after seats with these views were given back to it; the last one is the first in the list
 abbrev pub gathered_all : CoordSeatView → List WorkerSeatView → CoordSeatView
 gathered_all c vs = record c { joined = vs ++ c.joined }
 
--- the coordinator may announce: the last look, since which it made no step, showed a running phase, and not the last
+-- the coordinator may announce: it looked since its last announcement or release, its last look showed the phase
+-- running, and the phase is not the last
 abbrev pub MayAnnounce : CoordSeatView → Type 0
 MayAnnounce c =
     IsSomeAnd c.last (λ sight. sight.ending ≡ false) × (c.phase < c.opening.limits.last_phase)
 
--- the last look, since which nothing was announced or released, showed an ending phase and all in
+-- it looked since its last announcement or release, and its last look showed the phase ending and all in
 abbrev pub SawAllIn : CoordSeatView → Type 0
 SawAllIn c = IsSomeAnd c.last (λ sight. (sight.ending ≡ true) × (sight.all_in ≡ true))
 
--- the coordinator may read the count of a page that is there: it saw all in, in a joined phase
+-- the coordinator may read a page's count: it saw all in, the phase is joined, and the page exists
 abbrev pub MayCount : CoordSeatView → ℕ → Type 0
 MayCount c page = SawAllIn c × IsJoined c.phase × (page < length c.opening.counts)
 
--- it may publish a mask, each bit of which is that of a page that is there
+-- it may publish a mask: it saw all in, the phase is joined, and each bit of the mask is that of a page that exists
 abbrev pub MayPublish : CoordSeatView → ℕ → Type 0
 MayPublish c mask = SawAllIn c × IsJoined c.phase × (mask < 2 ^ length c.opening.counts)
 
--- it may release: it saw all in, and before a split phase it published a mask since
+-- it may release: it saw all in, and if the next phase is split, it published a mask since that look
 abbrev pub MayRelease : CoordSeatView → Type 0
 MayRelease c = SawAllIn c × (IsJoined c.phase → IsSome c.published)
 
--- how many workers' seats with the number i a view stands for: its own, or those that were given back
+-- how many seats of worker i a view stands for: the coordinator's stands for those that were given back
 abbrev pub seats_of : ℕ → View → ℕ
 seats_of i (Coord c) = count_by (λ w. w.worker == i) c.joined
 seats_of i (Worker v) = (if v.worker == i then 1 else 0)

@@ -2,8 +2,8 @@ use Rattle.std.specs.Prelude.{ℕ}
 use Rattle.like_core.specs.declared.phase_word.kind.Kind.{Kind}
 use Rattle.like_core.specs.declared.phase_word.kind.Kind.TheVariants.{JoinedRunning, JoinedEnding, SplitRunning, SplitEnding}
 
--- the two bits of a phase word that stand for a kind: the low one is set where the phase is ending, the high one
--- where it is split
+-- the two bits of a phase word that stand for a kind: the low one is set if the phase is ending, the high one if it is
+-- split
 abbrev pub code_of : Kind → ℕ
 code_of JoinedRunning = 0
 code_of JoinedEnding = 1

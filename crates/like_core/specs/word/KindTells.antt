@@ -7,8 +7,8 @@ use Rattle.like_core.specs.core.State.{CoreState}
 use Rattle.like_core.specs.core.Reachable.{Reachable}
 use Rattle.like_core.specs.word.ShownWord.{shown_fields}
 
--- the phase that a word of this kind tells a worker in this state: one that has answered phase j is told j where the kind
--- is split as j is, and j + 1 where it is not
+-- the phase that a word of this kind tells a worker in this state. If it has answered phase j, that is j if the kind is
+-- split and j is, or neither is; otherwise it is j + 1
 abbrev pub phase_told : ℕ → WorkerState → ℕ
 phase_told kind (Runs j) = j
 phase_told kind (Answered j) = (if kind / 2 == j % 2 then j else j + 1)

@@ -11,7 +11,7 @@ abbrev pub weight : Bool → ℕ
 weight true = 1
 weight false = 0
 
--- the number whose bit i, for i below n, is set where the test says yes
+-- the number whose bit i, for each i below n, is set if the test says yes of i
 abbrev pub mask : (ℕ → Bool) → ℕ → ℕ
 mask test zero = 0
 mask test (suc n) = mask test n + weight (test n) * 2 ^ n

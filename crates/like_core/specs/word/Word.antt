@@ -38,13 +38,17 @@ retirement_bit i = 2 ^ (24 + i)
 pub record IsLawful (f : Fields) : Type 0 where
   pub some_worker : 1 ≤ f.workers
   pub few_workers : f.workers ≤ max_workers
+  -- only bits of workers are set, and no worker has both of its bits set
   pub answered : f.answered < 2 ^ f.workers
   pub retired : f.retired < 2 ^ f.workers
   pub apart : bit_and f.answered f.retired ≡ 0
   pub kind : f.kind < 4
+  -- the kind is joined if the number is that of a joined phase
   pub joined : (f.kind < 2) ↔ IsJoined f.number
+  -- nobody has answered a running phase
   pub running : f.kind % 2 ≡ 0 → f.answered ≡ 0
   pub number : f.number ≤ last_phase
+  -- the greatest number is that of a running phase
   pub last : f.number ≡ last_phase → f.kind ≡ 0
 
 -- after the end of a running phase was announced
@@ -67,6 +71,6 @@ released f = record f {
   number = f.number + 1;
 }
 
--- the same where numbers stand for phases modulo this
+-- the same, if a number is its phase modulo this
 abbrev pub released_modulo : ℕ → Fields → Fields
 released_modulo modulus f = record (released f) { number = (f.number + 1) % modulus }
