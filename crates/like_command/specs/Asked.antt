@@ -19,9 +19,10 @@ use Rattle.like_command.specs.declared.fault.ParseFault.TheVariants.{Usage, Memo
 abbrev pub Writes : Text → ℕ → Type 0
 Writes text n = IsNumeral 10 (without_leading_plus text) × (n ≡ digits_value 10 (without_leading_plus text))
 
--- an option's value, or its default, writes this number, within the bounds
-abbrev pub IsNumber : List Row → Text → ℕ → ℕ → ℕ → Type 0
-IsNumber rows name least most n = IsSomeAnd (one_of name rows) (λ text. Writes text n) × (least ≤ n) × (n ≤ most)
+-- the number that an option's value, or its default, writes, within the bounds; none if it has no value
+abbrev pub IsNumber : List Row → Text → ℕ → ℕ → Option ℕ → Type 0
+IsNumber rows name least most o = MatchOption o (one_of name rows ≡ None)
+    (λ n. IsSomeAnd (one_of name rows) (λ text. Writes text n) × (least ≤ n) × (n ≤ most))
 
 -- an option has a value that its bounds let through
 abbrev pub HasNumber : List Row → Text → ℕ → ℕ → Type 0
@@ -31,10 +32,6 @@ HasNumber rows name least most =
 -- an option has no value, or one that its bounds let through
 abbrev pub MayHaveNumber : List Row → Text → ℕ → ℕ → Type 0
 MayHaveNumber rows name least most = (one_of name rows ≡ None) ⊎ HasNumber rows name least most
-
--- a number is there where an option has a value, which writes it, within the bounds
-abbrev pub MayBeNumber : List Row → Text → ℕ → ℕ → Option ℕ → Type 0
-MayBeNumber rows name least most o = MatchOption o (one_of name rows ≡ None) (IsNumber rows name least most)
 
 -- a flag has the value `true` where it was given, and else `false`
 abbrev pub IsFlag : List Row → Text → Bool → Type 0
@@ -58,11 +55,11 @@ pub record HasAll (rows : List Row) : Type 0 where
 
 -- options have the values that clap found for a run or a replay, the script aside
 pub record HasValues (rows : List Row) (o : Options) : Type 0 where
-  pub workers : IsNumber rows (codes "workers") 1 max_workers o.workers
-  pub users : IsNumber rows (codes "users") 1 max_users o.users
-  pub stash : IsNumber rows (codes "stash") 1 max_stash o.stash
-  pub turns : IsNumber rows (codes "turns") 0 max_turns o.turns
-  pub hot : MayBeNumber rows (codes "hot") 1 max_hot o.hot
+  pub workers : IsNumber rows (codes "workers") 1 max_workers (Some o.workers)
+  pub users : IsNumber rows (codes "users") 1 max_users (Some o.users)
+  pub stash : IsNumber rows (codes "stash") 1 max_stash (Some o.stash)
+  pub turns : IsNumber rows (codes "turns") 0 max_turns (Some o.turns)
+  pub hot : IsNumber rows (codes "hot") 1 max_hot o.hot
   pub places : IsFlag rows (codes "places") o.places
   pub summary : IsFlag rows (codes "summary") o.summary
   pub pages : first_of (codes "pages") rows ≡ Some (string_bytes o.pages)

@@ -1,6 +1,6 @@
 ghost use Rattle.std.specs.Prelude.{◌≡◌, ◌<◌, ◌^◌, ℕ, List, IfOk, Some, codes, map, option_map, string_bytes};
 ghost use Rattle.clap.specs.Words.{Row, Text, all_of, first_of, found_of, rows_of, subcommand_rows_of};
-ghost use Rattle.like_command.specs.Asked.{MeansAsked, HasAll, HasFlag, HasNumber, HasValues, IsEntered, IsFlag, IsNumber, MayBeNumber, MayHaveNumber};
+ghost use Rattle.like_command.specs.Asked.{MeansAsked, HasAll, HasFlag, HasNumber, HasValues, IsEntered, IsFlag, IsNumber, MayHaveNumber};
 
 use crate::asked::Asked;
 use crate::options::Options;
@@ -61,7 +61,7 @@ fn options(
 fn number(matches: &ArgMatches<'_>, id: &str) -> u32
     requires { (least most : ℕ) × HasNumber (rows_of (found_of matches.now)) id.now least most × (most < 2 ^ 32) }
     ensures { let rows = rows_of (found_of matches.now) in (least most : ℕ) → most < 2 ^ 32
-        → HasNumber rows id.now least most → IsNumber rows id.now least most result }
+        → HasNumber rows id.now least most → IsNumber rows id.now least most (Some result) }
 {
     match matches.get_one::<u32>(id) {
         Some(number) => number,
@@ -72,7 +72,7 @@ fn number(matches: &ArgMatches<'_>, id: &str) -> u32
 // The number that an option has, if it has one.
 fn optional_number(matches: &ArgMatches<'_>, id: &str) -> Option<u32>
     ensures { let rows = rows_of (found_of matches.now) in (least most : ℕ) → most < 2 ^ 32
-        → MayHaveNumber rows id.now least most → MayBeNumber rows id.now least most result }
+        → MayHaveNumber rows id.now least most → IsNumber rows id.now least most result }
 {
     matches.get_one::<u32>(id)
 }

@@ -4,7 +4,7 @@ use Rattle.std.specs.Prelude.{◌⊎◌}
 use Rattle.like_command.specs.Asked.{Asks, AsksForHelp, Words}
 use Rattle.like_files.specs.Faults.{IsBeforeOutput}
 use Rattle.like_driver.specs.Fault.{of_files}
-use Rattle.like_driver.specs.Program.{HasDone, HasServed, IsServeFault, IsWordsFault}
+use Rattle.like_driver.specs.Program.{HasDone, HasServed, IsFilesFault, IsServeFault, IsWordsFault}
 use Rattle.like_command.specs.declared.asked.Asked.{Asked}
 use Rattle.like_command.specs.declared.asked.Asked.TheVariants.{Run, Replay}
 use Rattle.like_command.specs.declared.options.Options.{Options}
@@ -44,25 +44,24 @@ pub of_files-ok : {A : Type 0} (P : A → Type 0) (options : Options) (done : Re
 of_files-ok P options (Ok x) h = h
 of_files-ok P options (Err fault) h = tt
 
--- a run or a replay was done that the words ask for
-pub files-served : (words : Words) (old new : Option (List ℕ)) (options : Options) (asked : Asked)
-    (done : Result (Option Summary) DriverFault)
-    → ¬ (words ≡ [])
-    → Asks words asked
-    → IfOk done (HasDone asked old new) → IfOk (of_files options done) (HasServed words old new)
-files-served words old new options asked (Ok x) some asks h = served words old new asked x some asks h
-files-served words old new options asked (Err fault) some asks h = tt
+-- why a run or a replay was not done
+pub files-fault : {A W : Type 0} (contents : W → Option (List ℕ)) (options : Options) (done : Result A DriverFault)
+    (before after : W)
+    → IfErr done (λ fault. IsBeforeOutput fault → after ≡ before)
+    → IfErr (of_files options done) (IsFilesFault options (contents before) (contents after))
+files-fault contents options (Ok x) before after same = tt
+files-fault contents options (Err fault) before after same = (fault, refl, λ early. ap contents (same early))
 
--- why it was not
-pub files-fault : {A W : Type 0} (contents : W → Option (List ℕ)) (words : Words) (options : Options)
-    (done : Result A DriverFault) (before after : W)
+-- that is why what the words ask for was not done
+pub files-not_served : {A : Type 0} (words : Words) (old new : Option (List ℕ)) (options : Options)
+    (done : Result A ProgramFault)
     → ¬ (words ≡ [])
     → Asks words (Run options) ⊎ Asks words (Replay options)
-    → IfErr done (λ fault. IsBeforeOutput fault → after ≡ before)
-    → IfErr (of_files options done) (IsServeFault words (contents before) (contents after))
-files-fault contents words options (Ok x) before after some asks same = tt
-files-fault contents words options (Err fault) before after some asks same =
-    not_served words _ _ (Files options fault) some (asks, λ early. ap contents (same early))
+    → IfErr done (IsFilesFault options old new) → IfErr done (IsServeFault words old new)
+files-not_served words old new options (Ok x) some asks why = tt
+files-not_served words old new options (Err fault) some asks why =
+    subst (IsServeFault words old new) (sym why.1)
+    (not_served words old new (Files options why.0) some (asks, why.2))
 
 -- why help was not printed
 pub help-fault : {A : Type 0} (words : Words) (old new : Option (List ℕ)) (done : Result A ProgramFault)

@@ -2,7 +2,9 @@ ghost use Rattle.std.specs.Prelude.{◌≡◌, IfErr, IfOk, OnOk, map, string_by
 ghost use Rattle.std.specs.Io.KnownBytes.{Appends};
 ghost use Rattle.like_files.specs.Faults.{IsBeforeOutput};
 ghost use Rattle.like_driver.specs.Fault.{program_status};
-ghost use Rattle.like_driver.specs.Program.{Ends, HasServed, IsServeFault};
+ghost use Rattle.like_files.specs.Replay.{HasReplayedSome};
+ghost use Rattle.like_files.specs.Run.{HasRunSome};
+ghost use Rattle.like_driver.specs.Program.{Ends, HasServed, IsFilesFault, IsServeFault};
 ghost use Rattle.like_driver.specs.Named.{HasReplayedNamed, HasRunNamed, IsReplayNamedFault, IsRunNamedFault};
 ghost use Rattle.like_driver.specs.declared.program.fault.ProgramFault.TheVariants as program;
 
@@ -89,19 +91,47 @@ where
         return replay_example(alloc, out);
     }
     match parse(alloc, words)? {
-        Asked::Run(options) => {
-            let done = run_named(rt, &Disk { files: rt }, alloc, &options, out, progress);
-            with_options(done, options)
-        }
-        Asked::Replay(options) => {
-            let done = replay_named(&Disk { files: rt }, alloc, &options, out, progress);
-            with_options(done, options)
-        }
+        Asked::Run(options) => run_asked(rt, alloc, options, out, progress),
+        Asked::Replay(options) => replay_asked(rt, alloc, options, out, progress),
         Asked::Help(text) => {
             show(&text, out)?;
             Ok(None)
         }
     }
+}
+
+// Makes the run that is asked for.
+fn run_asked<R: Files + Threads + Wait + Sync, W: Write, P: Progress>(
+    rt: &R,
+    alloc: Global,
+    options: Options,
+    out: &mut W,
+    progress: &mut P,
+) -> Result<Option<Summary>, ProgramFault>
+where
+    R::File: Read + Drop + Send,
+    ensures run { IfOk result (HasRunSome options (W.contents out.old) (W.contents out.new)) }
+    ensures fault { IfErr result (IsFilesFault options (W.contents out.old) (W.contents out.new)) }
+{
+    let done = run_named(rt, &Disk { files: rt }, alloc, &options, out, progress);
+    with_options(done, options)
+}
+
+// Makes the replay that is asked for.
+fn replay_asked<R: Files, W: Write, P: Progress>(
+    rt: &R,
+    alloc: Global,
+    options: Options,
+    out: &mut W,
+    progress: &mut P,
+) -> Result<Option<Summary>, ProgramFault>
+where
+    R::File: Read + Drop,
+    ensures replayed { IfOk result (HasReplayedSome options (W.contents out.old) (W.contents out.new)) }
+    ensures fault { IfErr result (IsFilesFault options (W.contents out.old) (W.contents out.new)) }
+{
+    let done = replay_named(&Disk { files: rt }, alloc, &options, out, progress);
+    with_options(done, options)
 }
 
 // Prints help.

@@ -3,8 +3,7 @@ use Rattle.std.proofs.lemmas.Result.{IfOk-weaker, err_from_is_err_and}
 use Rattle.like_command.specs.Asked.{Words}
 use Rattle.like_command.specs.declared.asked.Asked.TheVariants.{Run, Replay, Help}
 use Rattle.like_driver.specs.declared.program.fault.ProgramFault.TheVariants as program
-use Rattle.like_driver.proofs.NamedFiles.{some-replay, some-run}
-use Rattle.like_driver.proofs.Serving.{files-fault, files-served, not_served, served, some-words}
+use Rattle.like_driver.proofs.Serving.{files-not_served, not_served, served, some-words}
 use Rattle.like_driver.proofs.program.serve.Goals as goal
 
 pub returns-in_err-options-clause-fault : goal.returns-in_err-options-clause-fault
@@ -20,38 +19,30 @@ returns-in-Run-clause-served g c =
     let words : Words = map string_bytes c.args.words.now in
     let some = some-words string_bytes c.args.words.now (sym c.is_empty.ensures ∙ c.if-is_empty.false) in
     let asks = rw c.in-Run.is at c.in_ok-options.ensures.asked in
-    rw c.with_options.ensures
-    (files-served words _ _ c.in-Run.options (Run c.in-Run.options) c.run_named-done.result some asks
-    (IfOk-weaker c.run_named-done.result _ _
-    (λ summary done. some-run _ _ c.in-Run.options _ _ summary done) c.run_named-done.ensures.run))
+    IfOk-weaker c.run_asked.result _ _
+    (λ summary done. served words _ _ (Run c.in-Run.options) summary some asks done) c.run_asked.ensures.run
 
 pub returns-in-Run-clause-fault : goal.returns-in-Run-clause-fault
 returns-in-Run-clause-fault g c =
     let words : Words = map string_bytes c.args.words.now in
     let some = some-words string_bytes c.args.words.now (sym c.is_empty.ensures ∙ c.if-is_empty.false) in
     let asks = rw c.in-Run.is at c.in_ok-options.ensures.asked in
-    rw c.with_options.ensures
-    (files-fault g.W.Write.contents words c.in-Run.options c.run_named-done.result c.args.out.now
-    c.run_named-done.new.out some (inl asks) c.run_named-done.ensures.untouched)
+    files-not_served words _ _ c.in-Run.options c.run_asked.result some (inl asks) c.run_asked.ensures.fault
 
 pub returns-in-Replay-clause-served : goal.returns-in-Replay-clause-served
 returns-in-Replay-clause-served g c =
     let words : Words = map string_bytes c.args.words.now in
     let some = some-words string_bytes c.args.words.now (sym c.is_empty.ensures ∙ c.if-is_empty.false) in
     let asks = rw c.in-Replay.is at c.in_ok-options.ensures.asked in
-    rw c.with_options-in-Replay.ensures
-    (files-served words _ _ c.in-Replay.options (Replay c.in-Replay.options) c.replay_named-done.result some asks
-    (IfOk-weaker c.replay_named-done.result _ _
-    (λ summary done. some-replay _ _ c.in-Replay.options _ _ summary done) c.replay_named-done.ensures.replayed))
+    IfOk-weaker c.replay_asked.result _ _
+    (λ summary done. served words _ _ (Replay c.in-Replay.options) summary some asks done) c.replay_asked.ensures.replayed
 
 pub returns-in-Replay-clause-fault : goal.returns-in-Replay-clause-fault
 returns-in-Replay-clause-fault g c =
     let words : Words = map string_bytes c.args.words.now in
     let some = some-words string_bytes c.args.words.now (sym c.is_empty.ensures ∙ c.if-is_empty.false) in
     let asks = rw c.in-Replay.is at c.in_ok-options.ensures.asked in
-    rw c.with_options-in-Replay.ensures
-    (files-fault g.W.Write.contents words c.in-Replay.options c.replay_named-done.result c.args.out.now
-    c.replay_named-done.new.out some (inr asks) c.replay_named-done.ensures.untouched)
+    files-not_served words _ _ c.in-Replay.options c.replay_asked.result some (inr asks) c.replay_asked.ensures.fault
 
 pub returns-in_ok-show-in-Help-clause-served : goal.returns-in_ok-show-in-Help-clause-served
 returns-in_ok-show-in-Help-clause-served g c =
