@@ -29,15 +29,30 @@ pub fn start_submitters<'s, E, R: Threads + Wait + Sync, G: Gate>(
             return false;
         }
         let submitter = threads.len() as u32;
-        let thread = scope.spawn(
-            move ||
-                requires { end.sent ≡ 0 }
-            { submit(rt, gate, start, parkers, submitter, end) },
-        );
-        match thread {
-            Ok(thread) => threads.push_reserved(thread),
-            Err(_) => return false,
+        match start_submitter(scope, rt, gate, start, parkers, submitter, end) {
+            Some(thread) => threads.push_reserved(thread),
+            None => return false,
         }
     }
     true
+}
+
+// Starts the thread of a submitter.
+fn start_submitter<'s, E, R: Threads + Wait + Sync, G: Gate>(
+    scope: &Scope<'s, E>,
+    rt: &'s R,
+    gate: &'s G,
+    start: &'s OnceLock<bool>,
+    parkers: &'s Parkers,
+    submitter: u32,
+    end: SendEnd<'s>,
+) -> Option<JoinHandle<()>>
+    requires { end.sent ≡ 0 }
+{
+    let thread = scope.spawn(
+        move ||
+            requires { end.sent ≡ 0 }
+        { submit(rt, gate, start, parkers, submitter, end) },
+    );
+    thread.ok()
 }

@@ -1,4 +1,4 @@
-ghost use Rattle.std.specs.Prelude.{◌≡◌, ◌≤◌, true, [], All, length, map, vec_capacity};
+ghost use Rattle.std.specs.Prelude.{◌≡◌, ◌≤◌, ◌<◌, true, [], All, IfSome, length, map, vec_capacity};
 ghost use Rattle.like_run.specs.Threads.{Keeps};
 
 use crate::threads::worker::{Owes, Served, serve};
@@ -30,25 +30,42 @@ pub fn start_workers<'s, E, R: Threads + Wait + Sync, G: Gate>(
         → map (λ thread. thread.promise.server.value) threads.new.items ≡ servers.entry.items }
 {
     for server in servers {
-        if threads.len() == most {
-            drop(server);
-            return false;
-        }
         let worker = threads.len();
-        let owes = Owes {
-            server: Snapshot::of(&server),
-            start,
-        };
-        let thread = scope.spawn_with(
-            owes,
-            move || -> Served
-                ensures { Keeps start.entry.now.id server.entry result }
-            { serve(rt, gate, start, parkers, worker, server) },
-        );
-        match thread {
-            Ok(thread) => threads.push_reserved(thread),
-            Err(_) => return false,
+        match start_worker(scope, rt, gate, start, parkers, worker, server, most) {
+            Some(thread) => threads.push_reserved(thread),
+            None => return false,
         }
     }
     true
+}
+
+// Starts the thread of a server, unless there are `most` threads already.
+fn start_worker<'s, E, R: Threads + Wait + Sync, G: Gate>(
+    scope: &Scope<'s, E>,
+    rt: &'s R,
+    gate: &'s G,
+    start: &'s OnceLock<bool>,
+    parkers: &'s Parkers,
+    worker: usize,
+    server: Server<BoardPost<'s>, TakeEnd<'s>>,
+    most: usize,
+) -> Option<PromisedHandle<Served<'s>, Owes<'s>>>
+    ensures told { IfSome result (λ thread. thread.promise.start.now.id ≡ start.now.id) }
+    ensures few { IfSome result (λ thread. worker < most) }
+    ensures server { IfSome result (λ thread. thread.promise.server.value ≡ server.entry) }
+{
+    if worker >= most {
+        return None;
+    }
+    let owes = Owes {
+        server: Snapshot::of(&server),
+        start,
+    };
+    let thread = scope.spawn_with(
+        owes,
+        move || -> Served
+            ensures { Keeps start.entry.now.id server.entry result }
+        { serve(rt, gate, start, parkers, worker, server) },
+    );
+    thread.ok()
 }

@@ -62,17 +62,15 @@ returns-clause-servers g c = λ started.
 pub loop-server-preserved : goal.loop-server-preserved
 loop-server-preserved g c =
     let l = c.loop-server in
-    let thread : PromisedHandle Served Owes = c.in-Ok.thread in
+    let started = c.in-Some-start_worker in
+    let thread : PromisedHandle Served Owes = started.thread in
     let pushed : c.push_reserved.new.self.items ≡ l.threads.items ++ thread ∷ [] = c.push_reserved.ensures.items in
-    let whose : thread.promise ≡ record { server = c.of.result; start = c.args.start } = c.in-Ok.ensures.ok in
-    let told : start_of thread ≡ c.args.start.now.id = ap (λ (p : Owes). p.start.now.id) whose in
-    let first : first_of thread ≡ c.in-Some.server = ap (λ (p : Owes). p.server.value) whose ∙ c.of.ensures in
     let Told : PromisedHandle Served Owes → Type 0 = λ t. start_of t ≡ c.args.start.now.id in
     record {
-      few = grind (arith, length-append, pushed, l.invariant.few);
+      few = grind (arith, length-append, pushed, c.len-worker.ensures, started.ensures.few);
       room = omega (arith, c.push_reserved.ensures.capacity, l.invariant.room);
       told = subst (All Told) (sym pushed)
-          (All-append Told l.threads.items (thread ∷ []) l.invariant.told (all-one Told thread told));
+          (All-append Told l.threads.items (thread ∷ []) l.invariant.told (all-one Told thread started.ensures.told));
       servers = servers-more l.threads.items c.push_reserved.new.self.items thread l.yielded c.in-Some.server pushed
-          l.invariant.servers first;
+          l.invariant.servers started.ensures.server;
     }
