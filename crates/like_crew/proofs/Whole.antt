@@ -156,7 +156,7 @@ module _ (setup : Setup) (plans : List (List Request)) (site : Site) (e : Ended)
       let s = left-at IsLogOf h.servers e.logs.items worker log h.logs at in
       let is = server-at worker s.0 s.1.0 in
       subst (λ (x : Share). IsLog known x.workers x.worker log) is.share
-      (s.1.1.log_is known (is.works hot_known, right-at-server masks worker s.0 s.1.0))
+      (s.1.1.each known (is.works hot_known, right-at-server masks worker s.0 s.1.0)).is_log
 
   -- where no additions are noted, no log has any
   pub none-noted : site.notes ≡ false → All (λ log. log.adds.items ≡ []) e.logs.items
@@ -199,7 +199,7 @@ module _ (setup : Setup) (plans : List (List Request)) (site : Site) (e : Ended)
         both [] (log ∷ logs) each all = absurd all
         both (s ∷ ss) [] each all = absurd all
         both (s ∷ ss) (log ∷ logs) each all =
-            (all.0.additions known (each zero s refl), both ss logs (λ k t x. each (suc k) t x) all.1)
+            ((all.0.each known (each zero s refl)).likes, both ss logs (λ k t x. each (suc k) t x) all.1)
 
         matched : AllZip
             (λ (s : ServerView)
@@ -268,7 +268,7 @@ module _ (setup : Setup) (plans : List (List Request)) (site : Site) (e : Ended)
       (λ (s : ServerView). added_before phase page s.worker.post.additions)
       (λ (log : WorkerLog). likes_among known page (filter (λ x. nat_lt x.phase phase) log.ran.items)) h.servers
       e.logs.items
-      (λ s log m. sym (below-is known log.ran.items s.worker.post.additions (m.1.by_phase known m.0) phase page))
+      (λ s log m. sym (below-is known log.ran.items s.worker.post.additions (m.1.each known m.0).by_phase phase page))
       (with-fact IsLogOf (HasWorkedFor known) h.servers e.logs.items
       (λ k s at. ((server-at k s at).works hot_known, right-at-server masks k s at)) h.logs)
       ∙ sym (sum-of-map (λ (ran : List Ran). likes_among known page (filter (λ x. nat_lt x.phase phase) ran))
@@ -370,12 +370,13 @@ module _ (setup : Setup) (plans : List (List Request)) (site : Site) (e : Ended)
       let between : P z s.0.worker.post =
       subst (λ (y : Opening). P y s.0.worker.post) h.opening
       (subst (P (coord_view e.coord).opening) seat.1.1 own) in
+      let right = s.1.1.each known (is.works hot_known, right-at-server masks worker s.0 s.1.0) in
       right-counts served (runs_of e.logs.items) log.ran.items s.0.worker.post.additions s.0.worker.post.reads z.counts
       (seats_before e.seats.items) last
       (λ page. ap (λ cs. get_or cs page 0) initial ∙ initial-at known page)
       (all-before masks)
-      (s.1.1.by_phase known (is.works hot_known, right-at-server masks worker s.0 s.1.0))
-      (s.1.1.looks known (is.works hot_known, right-at-server masks worker s.0 s.1.0))
+      right.by_phase
+      right.looks
       between
 
 -- the last likes of all users

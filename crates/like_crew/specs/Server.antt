@@ -114,20 +114,23 @@ pub record ServerGoesOn (s t : ServerView) : Type 0 where
 abbrev pub HasWorkedFor : Service → ServerView → Type 0
 HasWorkedFor service s = WorksFor service s × ReadMasksOf service s
 
--- the log that a server leaves
+-- a server's log is right for a service: it is a log of the service; its accepted likes are the additions of the
+-- server's post, in all and phase by phase; its accepted looks are the post's reads; and the additions are noted if
+-- they are to be
+pub record IsLogFor (service : Service) (s : ServerView) (log : WorkerLog) : Type 0 where
+  pub is_log : IsLog service s.worker.last.share.workers s.worker.last.share.worker log
+  pub likes : (page : ℕ) → likes_among service page log.ran.items ≡ additions_of s.worker.post page
+  pub by_phase : (phase page : ℕ)
+      → likes_within service page log.ran.items phase ≡ additions_in s.worker.post phase page
+  pub looks : shown_in service log.ran.items ≡ map (shown_by s.worker.post.additions) s.worker.post.reads
+  pub noted : s.worker.notes ≡ true → AreNoted service s.worker
+
+-- a server leaves this log: it is what its worker ran and noted, has nothing taken above the phase that it saw last,
+-- and is right for each service that the server worked for
 pub record IsLogOf (s : ServerView) (log : WorkerLog) : Type 0 where
   pub share : log.last.share ≡ s.worker.last.share
-  pub log_is : (service : Service) → HasWorkedFor service s
-      → IsLog service s.worker.last.share.workers s.worker.last.share.worker log
-  pub additions : (service : Service) → HasWorkedFor service s
-      → (page : ℕ) → likes_among service page log.ran.items ≡ additions_of s.worker.post page
-  pub by_phase : (service : Service) → HasWorkedFor service s
-      → (phase page : ℕ) → likes_within service page log.ran.items phase ≡ additions_in s.worker.post phase page
-  pub looks : (service : Service) → HasWorkedFor service s
-      → shown_in service log.ran.items ≡ map (shown_by s.worker.post.additions) s.worker.post.reads
-  pub above : NoneAbove s.worker.post.last log.taken.items
   pub ran : log.ran.items ≡ s.worker.ran
   pub adds : log.adds.items ≡ s.worker.adds
   pub unnoted : s.worker.notes ≡ false → log.adds.items ≡ []
-  pub noted : s.worker.notes ≡ true
-      → (service : Service) → HasWorkedFor service s → AreNoted service s.worker
+  pub above : NoneAbove s.worker.post.last log.taken.items
+  pub each : (service : Service) → HasWorkedFor service s → IsLogFor service s log

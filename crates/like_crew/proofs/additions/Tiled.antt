@@ -90,7 +90,7 @@ module _ (setup : Setup) (plans : List (List Request)) (site : Site) (e : Ended)
       let worked : HasWorkedFor (known setup plans site e h) s =
       (is.works (hot_known setup plans site e h), right-at-server setup plans site e h masks worker s at) in
       let noted : AreNoted (known setup plans site e h) s.worker =
-      of_log.noted (is.notes_are ∙ notes) (known setup plans site e h) worked in
+      (of_log.each (known setup plans site e h) worked).noted (is.notes_are ∙ notes) in
       record {
         of_log = of_log;
         worked = worked;
@@ -128,7 +128,7 @@ module _ (setup : Setup) (plans : List (List Request)) (site : Site) (e : Ended)
       let n = noted-at worker log (slice_get-get_or e.logs.items worker d within) in
       adds-there (known setup plans site e h) there n.0.worker.post.additions log.adds.items log.ran.items
       n.1.1.additions
-      (n.1.1.of_log.additions (known setup plans site e h) n.1.1.worked) n.1.1.adds.each
+      (n.1.1.of_log.each (known setup plans site e h) n.1.1.worked).likes n.1.1.adds.each
 
   -- as many of the logs' additions pass a test as of the seats'
   passing-same : (test : Addition → Bool) → seats_passing e.seats.items test ≡ count_by test (all_noted e.logs.items)
@@ -215,7 +215,7 @@ module _ (setup : Setup) (plans : List (List Request)) (site : Site) (e : Ended)
       λ i test. passing-same test i in
       let reads : reads_of (known setup plans site e h) log ≡ n.0.worker.post.reads =
       reads-are (known setup plans site e h) log n.0.worker.post.additions n.0.worker.post.reads
-      (n.1.1.of_log.looks (known setup plans site e h) n.1.1.worked) n.1.1.reads
+      (n.1.1.of_log.each (known setup plans site e h) n.1.1.worked).looks n.1.1.reads
       in
       subst (λ (c : Counting). ArePlaced (initial_count setup.pages) c (additions_noted log)
       (reads_of (known setup plans site e h) log)) passing

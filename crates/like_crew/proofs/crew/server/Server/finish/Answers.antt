@@ -1,10 +1,9 @@
-use Rattle.std.proofs.Common.{◌≡◌, ◌∙◌, List, map, sym, ap, subst}
+use Rattle.std.proofs.Common.{◌∙◌, List, map, sym, ap, subst}
 use Rattle.like_tables.specs.UserTable.{UserTable}
 use Rattle.like_service.specs.declared.log.Ran.{Ran}
 use Rattle.like_service.specs.declared.log.Took.{Took}
 use Rattle.like_service.specs.Likes.{likes_among, likes_within}
-use Rattle.like_roles.specs.worker.Shown.{shown_by, shown_in}
-use Rattle.like_core.specs.Post.{additions_in, additions_of}
+use Rattle.like_roles.specs.worker.Shown.{shown_in}
 use Rattle.like_crew.specs.Server.{NoneAbove, IsLogOf, ServerView}
 use Rattle.like_crew.proofs.servers.Finishing.{log-is}
 use Rattle.like_crew.proofs.crew.server.Server.finish.Goals as goal
@@ -21,23 +20,21 @@ returns-clause-log g c =
     } in
     subst (λ (x : ServerView). IsLogOf x c.finish.result.0) c.self.view_is (record {
       share = ap (λ (t : UserTable). t.share) c.finish.ensures.last;
-      log_is = λ service here.
-          log-is service s c.finish.result.0 c.self.invariant.2 here.0
-          (c.finish.ensures.done service (here.0.follows here.1)) c.finish.ensures.taken c.finish.ensures.ran
-          c.finish.ensures.last;
-      additions = λ service here page.
-          subst (λ (ran : List Ran). likes_among service page ran ≡ additions_of s.worker.post page)
-          (sym c.finish.ensures.ran) ((c.finish.ensures.done service (here.0.follows here.1)).likes page);
-      by_phase = λ service here phase page.
-          subst (λ (ran : List Ran). likes_within service page ran phase ≡ additions_in s.worker.post phase page)
-          (sym c.finish.ensures.ran) ((c.finish.ensures.done service (here.0.follows here.1)).by_phase phase page);
-      looks = λ service here.
-          subst (λ (ran : List Ran). shown_in service ran ≡ map (shown_by s.worker.post.additions) s.worker.post.reads)
-          (sym c.finish.ensures.ran) (c.finish.ensures.done service (here.0.follows here.1)).looks;
-      above = subst (λ (taken : List Took). NoneAbove s.worker.post.last taken)
-          (sym c.finish.ensures.taken) c.self.invariant.2.above;
       ran = c.finish.ensures.ran;
       adds = c.finish.ensures.adds;
       unnoted = λ notes. c.finish.ensures.adds ∙ c.self.invariant.2.unnoted notes;
-      noted = λ notes service here. (c.finish.ensures.done service (here.0.follows here.1)).noted notes;
+      above = subst (λ (taken : List Took). NoneAbove s.worker.post.last taken)
+          (sym c.finish.ensures.taken) c.self.invariant.2.above;
+      each = λ service here.
+          let done = c.finish.ensures.done service (here.0.follows here.1) in
+          record {
+            is_log = log-is service s c.finish.result.0 c.self.invariant.2 here.0 done c.finish.ensures.taken
+                c.finish.ensures.ran c.finish.ensures.last;
+            likes = λ page. ap (likes_among service page) c.finish.ensures.ran ∙ done.likes page;
+            by_phase = λ phase page.
+                ap (λ (ran : List Ran). likes_within service page ran phase) c.finish.ensures.ran
+                ∙ done.by_phase phase page;
+            looks = ap (shown_in service) c.finish.ensures.ran ∙ done.looks;
+            noted = done.noted;
+          };
     })
