@@ -1,17 +1,18 @@
 -- What a merge makes of the likes of a page: none more, and none less.
 use Rattle.std.proofs.Common.{◌≡◌, ℕ, zero, suc, ◌+◌, ◌<◌, ◌==◌, ◌&&◌, nat_lt, Bool, true, false, not, cond, List, [], ◌∷◌, ◌++◌, length, get_or, replicate, map, sum, refl, ap, sym, ◌∙◌, inl, inr, arith, subst}
-use Rattle.std.specs.List.{sum_by}
+use Rattle.std.specs.List.{All, sum_by}
 use Rattle.std.proofs.lemmas.Bool.{cases_eq, cases_lt, eqb-true, eq-eqb, ne_eqb, lt-ltb, le-ltb}
 use Rattle.std.proofs.lemmas.List.{get_or_past, get_or-replicate, length-replicate}
+use Rattle.std.proofs.lemmas.List.Elements.{All-head, All-tail}
 use Rattle.std.proofs.lemmas.List.Sums.{sum_by-append, sum_by-cons, sum_by-set}
 use Rattle.like_core.specs.declared.view.Addition.{Addition}
 use Rattle.like_core.specs.Additions.{all_added}
 use Rattle.like_core.specs.Post.{additions_in, pages_of}
 use Rattle.like_core.proofs.core.Labels.{one_before-next}
-use Rattle.like_seat.specs.Merge.{IsMerged, Merges, from_zero, merged, merging, slice_addition}
+use Rattle.like_seat.specs.Merge.{IsMerged, Merges, liked_below, merged}
 use Rattle.like_seat.specs.SeatView.{SeatView, likes_of, phase_at, tally_of}
 use Rattle.like_seat.specs.Steps.{merged_page}
-use Rattle.like_seat.proofs.WholeMerge.{merging-next}
+use Rattle.like_seat.proofs.WholeMerge.{liked-next}
 
 -- one addition more
 pub all_added-push : (xs : List Addition) (a : Addition) → all_added (xs ++ a ∷ []) ≡ all_added xs + a.likes
@@ -46,18 +47,34 @@ module _ (test : ℕ → Bool) (phase : ℕ) (slice : List ℕ) (page : ℕ) whe
   abbrev counts : Addition → ℕ
   counts a = cond (test a.phase && (a.page == page)) a.likes 0
 
-  -- an addition of 0 may be left out
+  -- how much the merge of a page counts so
+  abbrev counts_at : ℕ → ℕ
+  counts_at n = cond (test phase && (n == page)) (get_or slice n 0) 0
+
+  -- additions that merge pages count what these do
+  counts_pages : (adds : List Addition)
+      → All (λ a. a.likes ≡ get_or slice a.page 0) adds
+      → All (λ a. a.phase ≡ phase) adds
+      → sum_by counts adds ≡ sum_by counts_at (map (λ a. a.page) adds)
+  counts_pages [] likes phases = refl
+  counts_pages (a ∷ adds) likes phases =
+      let likes_is = All-head (λ (b : Addition). b.likes ≡ get_or slice b.page 0) a adds likes in
+      let phase_is = All-head (λ (b : Addition). b.phase ≡ phase) a adds phases in
+      let here : counts a ≡ counts_at a.page = λ m. cond (test (phase_is m) && (a.page == page)) (likes_is m) 0 in
+      let rest = counts_pages adds (All-tail (λ (b : Addition). b.likes ≡ get_or slice b.page 0) a adds likes)
+      (All-tail (λ (b : Addition). b.phase ≡ phase) a adds phases) in
+      omega (arith, sum_by-cons counts a adds, sum_by-cons counts_at a.page (map (λ (b : Addition). b.page) adds))
+
+  -- a page without likes may be left out
   counts_some : (n : ℕ) (none : Bool) → (get_or slice n 0 == 0) ≡ none
-      → sum_by counts (cond (not none) (slice_addition phase slice n ∷ []) [])
-      ≡ cond (test phase && (n == page)) (get_or slice n 0) 0
+      → sum_by counts_at (cond (not none) (n ∷ []) []) ≡ counts_at n
   counts_some n true is =
       let zero_is : get_or slice n 0 ≡ 0 = eqb-true (get_or slice n 0) 0 is in
       sym (ap (λ (k : ℕ). cond (test phase && (n == page)) k 0) zero_is ∙ cond_same (test phase && (n == page)) 0)
-  counts_some n false is = sum_by-cons counts (slice_addition phase slice n) [] ∙ omega arith
+  counts_some n false is = sum_by-cons counts_at n [] ∙ omega arith
 
   -- the number of the page itself, where n is that page
-  counts_here : (n : ℕ)
-      → cond (test phase && (n == page)) (get_or slice n 0) 0 ≡ cond ((page == n) && test phase) (get_or slice page 0) 0
+  counts_here : (n : ℕ) → counts_at n ≡ cond ((page == n) && test phase) (get_or slice page 0) 0
   counts_here n =
       elim (cases_eq n page) [
         | inl same ↦
@@ -78,29 +95,28 @@ module _ (test : ℕ → Bool) (phase : ℕ) (slice : List ℕ) (page : ℕ) whe
             elim (test phase) as P [ true ↦ yes | false ↦ nay ]
       ]
 
-  -- the additions of the first pages count for the page, where it is one of them
-  merging-counts : (n : ℕ)
-      → sum_by counts (merging phase slice n) ≡ cond (nat_lt page n && test phase) (get_or slice page 0) 0
-  merging-counts zero =
+  -- the first pages count for the page, where it is one of them
+  liked-counts : (n : ℕ)
+      → sum_by counts_at (liked_below slice n) ≡ cond (nat_lt page n && test phase) (get_or slice page 0) 0
+  liked-counts zero =
       sym (ap (λ (b : Bool). cond (b && test phase) (get_or slice page 0) 0) (le-ltb page 0 (omega arith)))
-  merging-counts (suc n) =
+  liked-counts (suc n) =
       let e : suc n ≡ n + 1 = omega arith in
-      let more = merging-next phase slice n in
-      let both = sum_by-append counts (merging phase slice n)
-      (cond (not (get_or slice n 0 == 0)) (slice_addition phase slice n ∷ []) []) in
+      let more = liked-next slice n in
+      let both = sum_by-append counts_at (liked_below slice n) (cond (not (get_or slice n 0 == 0)) (n ∷ []) []) in
       let last = counts_some n (get_or slice n 0 == 0) refl ∙ counts_here n in
-      let before = merging-counts n in
+      let before = liked-counts n in
       let next = one_before-next page n (get_or slice page 0) (test phase) in
-      let goes : sum_by counts (merging phase slice (n + 1))
-      ≡ cond (nat_lt page (n + 1) && test phase) (get_or slice page 0) 0 = ap (sum_by counts) more ∙ omega arith in
-      subst (λ (k : ℕ). sum_by counts (merging phase slice k)
+      let goes : sum_by counts_at (liked_below slice (n + 1))
+      ≡ cond (nat_lt page (n + 1) && test phase) (get_or slice page 0) 0 = ap (sum_by counts_at) more ∙ omega arith in
+      subst (λ (k : ℕ). sum_by counts_at (liked_below slice k)
       ≡ cond (nat_lt page k && test phase) (get_or slice page 0) 0) (sym e) goes
 
-  -- those of all pages count what the slice has of the page
-  pub merging-all : (n : ℕ) → length slice ≡ n
-      → sum_by counts (merging phase slice n) ≡ cond (test phase) (get_or slice page 0) 0
-  merging-all n sized =
-      merging-counts n ∙
+  -- the additions that merge a slice count what it has of the page
+  pub merging-all : (n : ℕ) (adds : List Addition) → Merges phase slice n adds → length slice ≡ n
+      → sum_by counts adds ≡ cond (test phase) (get_or slice page 0) 0
+  merging-all n adds merges sized =
+      counts_pages adds merges.likes_are merges.phase_is ∙ ap (sum_by counts_at) merges.pages_are ∙ liked-counts n ∙
       elim (cases_lt page n) [
         | inl inside ↦ ap (λ (b : Bool). cond (b && test phase) (get_or slice page 0) 0) (lt-ltb page n inside)
         | inr outside ↦
@@ -109,17 +125,6 @@ module _ (test : ℕ → Bool) (phase : ℕ) (slice : List ℕ) (page : ℕ) whe
             ∙ sym (ap (λ (k : ℕ). cond (test phase) k 0) none ∙ cond_same (test phase) 0))
       ]
 
--- a sum over additions that does not look at their counts
-sum-from_zero : (f : Addition → ℕ)
-    → ((a : Addition) → f (from_zero a) ≡ f a)
-    → (adds : List Addition)
-    → sum_by f adds ≡ sum_by f (map from_zero adds)
-sum-from_zero f same [] = refl
-sum-from_zero f same (a ∷ adds) =
-    let here = same a in
-    let rest = sum-from_zero f same adds in
-    omega (arith, sum_by-cons f a adds, sum_by-cons f (from_zero a) (map from_zero adds))
-
 module _ {W : Type 0} (s : SeatView W) (adds : List Addition)
     (merges : Merges (phase_at s) s.slice (pages_of s.post) adds) (sized : length s.slice ≡ pages_of s.post) where
   -- a page has as many likes after a merge as before, added and in the slice
@@ -127,9 +132,8 @@ module _ {W : Type 0} (s : SeatView W) (adds : List Addition)
   merged-tally page =
       let f : Addition → ℕ = λ a. cond (a.page == page) a.likes 0 in
       let none : get_or (merged s adds).slice page 0 ≡ 0 = same_everywhere (pages_of s.post) page 0 in
-      let all = merging-all (λ _. true) (phase_at s) s.slice page (pages_of s.post) sized in
-      let new : sum_by f adds ≡ sum_by f (merging (phase_at s) s.slice (pages_of s.post)) =
-      sum-from_zero f (λ a. refl) adds ∙ ap (sum_by f) merges in
+      let new : sum_by f adds ≡ get_or s.slice page 0 =
+      merging-all (λ _. true) (phase_at s) s.slice page (pages_of s.post) adds merges sized in
       let more = sum_by-append f s.post.additions adds in
       omega arith
 
@@ -144,9 +148,8 @@ module _ {W : Type 0} (s : SeatView W) (adds : List Addition)
       ap (λ (k : ℕ). cond (phase_at s == phase) k 0) (same_everywhere (pages_of s.post) page 0)
       ∙ cond_same (phase_at s == phase) 0
       in
-      let all = merging-all (λ k. k == phase) (phase_at s) s.slice page (pages_of s.post) sized in
-      let new : sum_by f adds ≡ sum_by f (merging (phase_at s) s.slice (pages_of s.post)) =
-      sum-from_zero f (λ a. refl) adds ∙ ap (sum_by f) merges in
+      let new : sum_by f adds ≡ cond (phase_at s == phase) (get_or s.slice page 0) 0 =
+      merging-all (λ k. k == phase) (phase_at s) s.slice page (pages_of s.post) adds merges sized in
       let more = sum_by-append f s.post.additions adds in
       omega arith
 

@@ -1,41 +1,42 @@
 -- How the merge of a slice goes from page to page.
 use Rattle.std.proofs.Common.{◌≡◌, ℕ, zero, suc, ◌≢◌, ◌+◌, ◌-◌, ◌<◌, ◌≤◌, ◌==◌, Bool, not, cond, List, [], ◌∷◌, ◌++◌, length, get_or, set, replicate, refl, ap, sym, ◌∙◌, inl, inr, arith, subst, append-nil, append_assoc}
 use Rattle.std.proofs.lemmas.Bool.{cases_lt, eq-eqb, ne_eqb}
-use Rattle.std.proofs.lemmas.List.{length-set, map-append, get_or-set_same, get_or-set_other}
+use Rattle.std.proofs.lemmas.List.{length-set, map-append, map-id, get_or-set_same, get_or-set_other}
+use Rattle.std.proofs.lemmas.List.Elements.{All-nil, All-push}
 use Rattle.std.proofs.lemmas.List.FromFn.{filter_of_map_range_with_len_more}
+use Rattle.std.specs.List.{filter, range_with_len}
 use Rattle.like_core.specs.declared.view.Addition.{Addition}
 use Rattle.like_core.specs.Post.{pages_of}
 use Rattle.like_tables.specs.Liked.{AreUnliked, IsNextLiked}
-use Rattle.like_seat.specs.Merge.{Merges, from_zero, merged, merging, slice_addition}
+use Rattle.like_seat.specs.Merge.{Merges, liked_below, merged}
 use Rattle.like_seat.specs.SeatView.{SeatView, phase_at}
 use Rattle.like_seat.specs.Steps.{merged_page}
 
--- the additions that merge one page more
-pub merging-next : (phase : ℕ) (slice : List ℕ) (n : ℕ)
-    → merging phase slice (n + 1)
-    ≡ merging phase slice n ++ cond (not (get_or slice n 0 == 0)) (slice_addition phase slice n ∷ []) []
-merging-next phase slice n =
-    filter_of_map_range_with_len_more (λ (a : Addition). not (a.likes == 0)) (slice_addition phase slice) 0 n n
-    (omega arith)
+-- the pages that a slice has likes of, and one page more
+pub liked-next : (slice : List ℕ) (n : ℕ)
+    → liked_below slice (n + 1) ≡ liked_below slice n ++ cond (not (get_or slice n 0 == 0)) (n ∷ []) []
+liked-next slice n =
+    let liked : ℕ → Bool = λ page. not (get_or slice page 0 == 0) in
+    ap (filter liked) (sym (map-id (range_with_len 0 (n + 1))))
+    ∙ filter_of_map_range_with_len_more liked (λ page. page) 0 n n (omega arith)
+    ∙ ap (λ (pages : List ℕ). filter liked pages ++ cond (liked n) (n ∷ []) []) (map-id (range_with_len 0 n))
 
--- where its number is not 0
-pub merging-more : (phase : ℕ) (slice : List ℕ) (n : ℕ)
+-- which has likes
+pub liked-more : (slice : List ℕ) (n : ℕ)
     → get_or slice n 0 ≢ 0
-    → merging phase slice (n + 1) ≡ merging phase slice n ++ slice_addition phase slice n ∷ []
-merging-more phase slice n liked =
-    merging-next phase slice n
-    ∙ ap (λ (b : Bool). merging phase slice n ++ cond (not b) (slice_addition phase slice n ∷ []) [])
-    (ne_eqb (get_or slice n 0) 0 liked)
+    → liked_below slice (n + 1) ≡ liked_below slice n ++ n ∷ []
+liked-more slice n liked =
+    liked-next slice n
+    ∙ ap (λ (b : Bool). liked_below slice n ++ cond (not b) (n ∷ []) []) (ne_eqb (get_or slice n 0) 0 liked)
 
--- or is
-pub merging-none : (phase : ℕ) (slice : List ℕ) (n : ℕ)
+-- or has none
+pub liked-none : (slice : List ℕ) (n : ℕ)
     → get_or slice n 0 ≡ 0
-    → merging phase slice (n + 1) ≡ merging phase slice n
-merging-none phase slice n none =
-    merging-next phase slice n
-    ∙ (ap (λ (b : Bool). merging phase slice n ++ cond (not b) (slice_addition phase slice n ∷ []) [])
-    (eq-eqb (get_or slice n 0) 0 none)
-    ∙ append-nil (merging phase slice n))
+    → liked_below slice (n + 1) ≡ liked_below slice n
+liked-none slice n none =
+    liked-next slice n
+    ∙ ap (λ (b : Bool). liked_below slice n ++ cond (not b) (n ∷ []) []) (eq-eqb (get_or slice n 0) 0 none)
+    ∙ append-nil (liked_below slice n)
 
 -- what stands below n + 1 after a write at n
 below : (xs : List ℕ) (n x : ℕ) (f : ℕ → ℕ)
@@ -86,7 +87,11 @@ module _ {W : Type 0} where
   -- no page is merged at first
   pub Merging-start : (s : SeatView W) → Merging s s 0 []
   Merging-start s = record {
-    merges = refl;
+    merges = record {
+      pages_are = refl;
+      likes_are = All-nil (λ (a : Addition). a.likes ≡ get_or s.slice a.page 0);
+      phase_is = All-nil (λ (a : Addition). a.phase ≡ phase_at s);
+    };
     rest = λ m. record s { post = record s.post { additions = sym (append-nil s.post.additions) m } };
     sized = refl;
     emptied = λ page h. absurd (omega arith);
@@ -106,13 +111,15 @@ module _ {W : Type 0} where
       let new : Addition = merge_of s n old in
       let phase : phase_at s ≡ phase_at s0 = ap {A = SeatView W} (λ x. phase_at x) m.rest in
       let same : get_or s.slice n 0 ≡ get_or s0.slice n 0 = m.left n (omega arith) in
-      let more = merging-more (phase_at s0) s0.slice n (λ e. liked (same ∙ e)) in
-      let zero_is : from_zero new ≡ slice_addition (phase_at s0) s0.slice n =
-      λ k. record { phase = phase k; page = n; old = 0; likes = same k }
-      in
       let slice : t.slice ≡ set s.slice n 0 = ap {A = SeatView W} (λ x. x.slice) is in
       let walks : Merging s0 (merged_page s n old) (n + 1) (adds ++ new ∷ []) = record {
-        merges = map-append from_zero adds (new ∷ []) ∙ ((λ k. m.merges k ++ zero_is k ∷ []) ∙ sym more);
+        merges = record {
+          pages_are = map-append (λ (a : Addition). a.page) adds (new ∷ [])
+              ∙ ap (λ (pages : List ℕ). pages ++ n ∷ []) m.merges.pages_are
+              ∙ sym (liked-more s0.slice n (λ e. liked (same ∙ e)));
+          likes_are = All-push (λ (a : Addition). a.likes ≡ get_or s0.slice a.page 0) adds new m.merges.likes_are same;
+          phase_is = All-push (λ (a : Addition). a.phase ≡ phase_at s0) adds new m.merges.phase_is phase;
+        };
         rest =
             ap {A = SeatView W} (λ x. merged_with x (new ∷ []) (set s.slice n 0)) m.rest
             ∙ (λ k. record s0 {
@@ -133,7 +140,11 @@ module _ {W : Type 0} where
   Merging-none s0 s n adds m none =
       let is : get_or s0.slice n 0 ≡ 0 = sym (m.left n (omega arith)) ∙ none in
       record {
-        merges = m.merges ∙ sym (merging-none (phase_at s0) s0.slice n is);
+        merges = record {
+          pages_are = m.merges.pages_are ∙ sym (liked-none s0.slice n is);
+          likes_are = m.merges.likes_are;
+          phase_is = m.merges.phase_is;
+        };
         rest = m.rest;
         sized = m.sized;
         emptied = λ page h. elim (cases_lt page n) [

@@ -1,28 +1,20 @@
 -- The merge of a whole slice.
-use Rattle.std.specs.Prelude.{◌≡◌, ℕ, ◌==◌, not, filter, List, ◌++◌, map, replicate, slice_index}
+use Rattle.std.specs.Prelude.{◌≡◌, ℕ, ◌==◌, not, filter, List, ◌++◌, map, replicate, slice_index, All}
 use Rattle.std.specs.List.{range_with_len}
 use Rattle.like_core.specs.declared.view.Addition.{Addition}
-use Rattle.like_core.specs.Additions.{addition}
 use Rattle.like_core.specs.Post.{answered, pages_of}
 use Rattle.like_seat.specs.SeatView.{SeatView, phase_at}
 
--- a page's number in a slice, as an addition in a phase to a count of 0
-abbrev pub slice_addition : ℕ → List ℕ → ℕ → Addition
-slice_addition phase slice page = addition phase page 0 (slice_index slice page)
+-- the pages below a number that a slice has likes of, in order
+abbrev pub liked_below : List ℕ → ℕ → List ℕ
+liked_below slice pages = filter (λ page. not (slice_index slice page == 0)) (range_with_len 0 pages)
 
--- the additions that merge the first pages of a slice, so many, as if to counts of 0: one for each whose number is not 0,
--- in page order
-abbrev pub merging : ℕ → List ℕ → ℕ → List Addition
-merging phase slice pages =
-    filter (λ a. not (a.likes == 0)) (map (slice_addition phase slice) (range_with_len 0 pages))
-
--- an addition, as if to a count of 0
-abbrev pub from_zero : Addition → Addition
-from_zero a = record a { old = 0 }
-
--- additions merge the first pages of a slice, so many, whatever their counts are
-abbrev pub Merges : ℕ → List ℕ → ℕ → List Addition → Type 0
-Merges phase slice pages adds = map from_zero adds ≡ merging phase slice pages
+-- additions merge the first pages of a slice in a phase: they are to the pages that it has likes of, in order; each has
+-- all the likes of its page; and each is of the phase
+pub record Merges (phase : ℕ) (slice : List ℕ) (pages : ℕ) (adds : List Addition) : Type 0 where
+  pub pages_are : map (λ a. a.page) adds ≡ liked_below slice pages
+  pub likes_are : All (λ a. a.likes ≡ slice_index slice a.page) adds
+  pub phase_is : All (λ a. a.phase ≡ phase) adds
 
 -- the slice is added to the board by these additions, and emptied
 abbrev pub merged : {W : Type 0} → SeatView W → List Addition → SeatView W

@@ -2,9 +2,10 @@
 use Rattle.std.proofs.Common.{◌≡◌, ◌≢◌, ℕ, zero, suc, ◌+◌, ◌<◌, ◌≤◌, ◌==◌, nat_le, nat_lt, Bool, true, false, not, ◌&&◌, cond, inl, inr, List, [], ◌∷◌, ◌++◌, All, length, get_or, map, drop, count_by, subst, refl, ap, sym, ◌∙◌, eq-eqb, arith}
 use Rattle.std.proofs.lemmas.Bool.{and_parts, cases_eq, eqb-true, le-leb, ne_eqb, cond-true}
 use Rattle.std.proofs.lemmas.List.{drop_all, map-append}
-use Rattle.std.proofs.lemmas.List.Elements.{All-nil, All-cons, All-push, All-append, All-head, All-tail}
-use Rattle.std.proofs.lemmas.List.Sums.{sum_by-append, sum_by-cons}
+use Rattle.std.proofs.lemmas.List.Elements.{All-nil, All-cons, All-append, All-head, All-tail, filter_passes}
+use Rattle.std.proofs.lemmas.List.Sums.{sum_by-append, sum_by-cons, sum_by-le-sum_by}
 use Rattle.std.proofs.lemmas.Option.{slice_get_past}
+use Rattle.std.specs.List.{range_with_len}
 use Rattle.std.specs.Option.{option_to_list}
 use Rattle.like_core.specs.declared.view.Addition.{Addition}
 use Rattle.like_core.specs.declared.view.PageRead.{PageRead}
@@ -19,10 +20,10 @@ use Rattle.like_roles.specs.worker.Follows.{adds_to, IsNoted, IsTallied, IsUnmer
 use Rattle.like_service.specs.Likes.{likes_within}
 use Rattle.like_roles.specs.worker.Serve.{noted, noted_at}
 use Rattle.like_service.specs.Service.{Service, is_split_in}
-use Rattle.like_seat.specs.Merge.{Merges, from_zero, merging, slice_addition}
+use Rattle.like_seat.specs.Merge.{Merges, liked_below}
 use Rattle.like_roles.specs.worker.WorkerView.{WorkerView, phase_at}
 use Rattle.like_seat.specs.SeatView.{IsSliceInSplit}
-use Rattle.like_seat.proofs.WholeMerge.{merging-next, merging-more, merging-none}
+use Rattle.like_seat.proofs.WholeMerge.{liked-next}
 use Rattle.like_roles.proofs.notes.Noted.{AreMore, apart, count-all, count-none, none-passes, noted-each, noted-merged}
 
 module _ {A B : Type 0} (f : A → B) where
@@ -52,60 +53,57 @@ module _ {A B : Type 0} (f : A → B) where
 abbrev IsOfSlice : ℕ → List ℕ → Addition → Type 0
 IsOfSlice k slice b = (b.phase ≡ k) × (b.likes ≡ get_or slice b.page 0) × (b.likes ≢ 0)
 
-merging-each : (k : ℕ) (slice : List ℕ) (n : ℕ) → All (IsOfSlice k slice) (merging k slice n)
-merging-each k slice zero = All-nil (IsOfSlice k slice)
-merging-each k slice (suc n) =
-    let e : suc n ≡ n + 1 = omega arith in
-    let before = merging-each k slice n in
-    subst (λ (m : ℕ). All (IsOfSlice k slice) (merging k slice m)) (sym e)
-    (elim (cases_eq (get_or slice n 0) 0) [
-      | inl none ↦ subst (All (IsOfSlice k slice)) (sym (merging-none k slice n none)) before
-      | inr some ↦ subst (All (IsOfSlice k slice)) (sym (merging-more k slice n some))
-          (All-push (IsOfSlice k slice) (merging k slice n) (slice_addition k slice n) before (refl, refl, some))
-    ])
+-- the pages that a slice has likes of have some
+liked-each : (slice : List ℕ) (n : ℕ) → All (λ page. get_or slice page 0 ≢ 0) (liked_below slice n)
+liked-each slice n k d inside none =
+    let page : ℕ = get_or (liked_below slice n) k d in
+    let passes : not (get_or slice page 0 == 0) ≡ true =
+    filter_passes (λ (p : ℕ). not (get_or slice p 0 == 0)) (range_with_len 0 n) k d inside in
+    let no : true ≡ false = sym passes ∙ ap not (eq-eqb (get_or slice page 0) 0 none) in
+    cc no
 
--- it makes at most one to each page
-merging-once : (k : ℕ) (slice : List ℕ) (phase page n : ℕ)
-    → count_by (λ b. (b.phase == phase) && (b.page == page)) (merging k slice n) ≤ cond (nat_lt page n && true) 1 0
-merging-once k slice phase page zero = omega arith
-merging-once k slice phase page (suc n) =
+-- each page is one of them at most once
+liked-once : (slice : List ℕ) (page n : ℕ)
+    → count_by (λ p. p == page) (liked_below slice n) ≤ cond (nat_lt page n && true) 1 0
+liked-once slice page zero = omega arith
+liked-once slice page (suc n) =
     let e : suc n ≡ n + 1 = omega arith in
-    let p : Addition → Bool = λ b. (b.phase == phase) && (b.page == page) in
+    let here : ℕ → Bool = λ p. p == page in
     let none : Bool = get_or slice n 0 == 0 in
-    let last : List Addition = cond (not none) (slice_addition k slice n ∷ []) [] in
-    let more : count_by p (merging k slice (n + 1)) ≡ count_by p (merging k slice n ++ last) =
-    ap (count_by p) (merging-next k slice n) in
-    let both = sum_by-append (λ b. cond {A = ℕ} (p b) 1 0) (merging k slice n) last in
-    let before = merging-once k slice phase page n in
-    let one : count_by p last ≤ cond ((page == n) && true) 1 0 = at_most (not none) in
+    let last : List ℕ = cond (not none) (n ∷ []) [] in
+    let more : count_by here (liked_below slice (n + 1)) ≡ count_by here (liked_below slice n ++ last) =
+    ap (count_by here) (liked-next slice n) in
+    let both = sum_by-append (λ p. cond {A = ℕ} (here p) 1 0) (liked_below slice n) last in
+    let before = liked-once slice page n in
+    let one : count_by here last ≤ cond ((page == n) && true) 1 0 = at_most (not none) in
     let next = one_before-next page n 1 true in
-    subst (λ (m : ℕ). count_by p (merging k slice m) ≤ cond (nat_lt page m && true) 1 0) (sym e) (omega arith)
+    subst (λ (m : ℕ). count_by here (liked_below slice m) ≤ cond (nat_lt page m && true) 1 0) (sym e) (omega arith)
   where
     few : (b : Bool) → cond {A = ℕ} b 1 0 ≤ 1
     few true = omega arith
     few false = omega arith
 
-    none_of : (b c : Bool) → c ≡ false → cond {A = ℕ} (b && c) 1 0 ≡ 0
-    none_of true c is = ap (λ (x : Bool). cond {A = ℕ} x 1 0) is
-    none_of false c is = refl
-
     at_most : (b : Bool)
-        → count_by (λ (x : Addition). (x.phase == phase) && (x.page == page))
-        (cond b (slice_addition k slice n ∷ []) []) ≤ cond ((page == n) && true) 1 0
+        → count_by (λ (p : ℕ). p == page) (cond b (n ∷ []) []) ≤ cond ((page == n) && true) 1 0
     at_most false = omega arith
     at_most true =
-        let single = sum_by-cons (λ (x : Addition). cond {A = ℕ} ((x.phase == phase) && (x.page == page)) 1 0)
-        (slice_addition k slice n) [] in
+        let single = sum_by-cons (λ (p : ℕ). cond {A = ℕ} (p == page) 1 0) n [] in
         elim (cases_eq n page) [
           | inl same ↦
               let yes : cond {A = ℕ} ((page == n) && true) 1 0 ≡ 1 =
               ap (λ (b : Bool). cond {A = ℕ} (b && true) 1 0) (eq-eqb page n (sym same)) in
-              let low = few ((k == phase) && (n == page)) in
+              let low = few (n == page) in
               omega arith
           | inr other ↦
-              let nothing = none_of (k == phase) (n == page) (ne_eqb n page other) in
+              let nothing : cond {A = ℕ} (n == page) 1 0 ≡ 0 =
+              ap (λ (b : Bool). cond {A = ℕ} b 1 0) (ne_eqb n page other) in
               omega arith
         ]
+
+-- both tests pass no more often than the second
+both-le : (b c : Bool) → cond {A = ℕ} (b && c) 1 0 ≤ cond {A = ℕ} c 1 0
+both-le true c = omega arith
+both-le false c = omega arith
 
 -- where nothing was added to a page in a phase, nothing is its sum
 added-none : (phase page : ℕ) (adds : List Added)
@@ -147,8 +145,14 @@ merge-noted service v adds merges t notes was un kept alike =
     let note : Addition → Added = noted_at (length v.ran) in
     let more : List Added = map note adds in
     let Q : Addition → Type 0 = IsOfSlice k v.slice in
+    let liked : All (λ (b : Addition). get_or v.slice b.page 0 ≢ 0) adds =
+    All-of_map (λ (b : Addition). b.page) (λ (page : ℕ). get_or v.slice page 0 ≢ 0) adds
+    (subst (All (λ (page : ℕ). get_or v.slice page 0 ≢ 0)) (sym merges.pages_are)
+    (liked-each v.slice (pages_of v.post))) in
     let each : All Q adds =
-    All-of_map from_zero Q adds (subst (All Q) (sym merges) (merging-each k v.slice (pages_of v.post))) in
+    λ i d inside.
+    (let likes = merges.likes_are i d inside in
+    (merges.phase_is i d inside, likes, λ none. liked i d inside (sym likes ∙ none))) in
     let is_split : (i : ℕ) (d : Addition) → i < length adds
     → is_split_in service (get_or adds i d).phase (get_or adds i d).page ≡ true =
     λ i d inside.
@@ -163,9 +167,14 @@ merge-noted service v adds merges t notes was un kept alike =
     let once : (phase page : ℕ) → adds_to phase page more ≤ 1 =
     λ phase page.
     (let p : Addition → Bool = λ b. (b.phase == phase) && (b.page == page) in
-    let same : count_by p (map from_zero adds) ≡ count_by p adds = count-map from_zero p adds in
-    let is = ap (count_by p) merges in
-    let few = merging-once k v.slice phase page (pages_of v.post) in
+    let here : ℕ → Bool = λ n. n == page in
+    let less : count_by p adds ≤ count_by (λ (b : Addition). here b.page) adds =
+    sum_by-le-sum_by (λ b. cond {A = ℕ} (p b) 1 0) (λ b. cond {A = ℕ} (here b.page) 1 0) adds
+    (λ b. both-le (b.phase == phase) (b.page == page)) in
+    let same : count_by here (map (λ (b : Addition). b.page) adds) ≡ count_by (λ (b : Addition). here b.page) adds =
+    count-map (λ (b : Addition). b.page) here adds in
+    let is = ap (count_by here) merges.pages_are in
+    let few = liked-once v.slice page (pages_of v.post) in
     let low = at_most_one (nat_lt page (pages_of v.post) && true) in
     let all = count phase page in
     omega arith)
