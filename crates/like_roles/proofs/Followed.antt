@@ -1,5 +1,5 @@
 -- Each turn leads a worker that follows the plans to one that does.
-use Rattle.std.proofs.Common.{◌≡◌, ◌≢◌, ℕ, ◌+◌, ◌%◌, ◌≤◌, ◌==◌, ◌&&◌, not, Bool, true, false, cond, List, [], ◌∷◌, ◌++◌, length, map, get_or, set, Some, None, refl, ap, sym, ◌∙◌, inl, inr, arith, subst, append-nil, append_assoc}
+use Rattle.std.proofs.Common.{◌≡◌, ◌≢◌, ℕ, ◌+◌, ◌%◌, ◌≤◌, ◌==◌, ◌&&◌, not, Bool, true, false, cond, List, [], ◌∷◌, ◌++◌, length, map, get_or, set, Some, None, refl, ap, sym, ◌∙◌, inl, inr, arith, subst, append_assoc}
 use Rattle.std.proofs.lemmas.Bool.{cases_eq}
 use Rattle.std.proofs.lemmas.List.{map-append, length-map, length-replicate}
 use Rattle.std.proofs.lemmas.List.Elements.{All-head, All-tail, All-push}
@@ -23,10 +23,11 @@ use Rattle.like_core.specs.Phase.{IsJoined, IsSplit, split}
 use Rattle.like_core.specs.WorkerState.{IsRunning, RunsJoined, RunsSplit, RunsSome, phase_of, seen}
 use Rattle.like_core.specs.Post.{additions_in, answered, looked_at, pages_of, slices}
 use Rattle.like_tables.specs.declared.held.Held.{Held}
+use Rattle.like_service.specs.declared.log.Ran.{Ran}
 use Rattle.like_service.specs.declared.log.Took.{Took}
 use Rattle.like_roles.specs.declared.turn.Turn.{Turn}
-use Rattle.like_roles.specs.worker.Follows.{FitsStash, Follows, IsAsked, IsAskedBy, IsInBlocks, IsNoted, IsServed, IsSized, IsTallied, IsUnmerged, Stands, entry_held, next_joined}
-use Rattle.like_service.specs.Order.{block, entry_of, order_below, stashed_in, took_to_wait}
+use Rattle.like_roles.specs.worker.Follows.{FitsStash, Follows, IsAsked, IsAskedBy, IsInOrder, IsNoted, IsServed, IsSized, IsTallied, IsUnmerged, IsWithin, Stands, entry_held, next_joined}
+use Rattle.like_service.specs.Order.{block, entry_of, order, order_below, stashed_in, took_to_wait}
 use Rattle.like_roles.specs.worker.WorkerView.{is_look_at_sliced, WorkerView, has_to_wait, phase_at, seat_of, submitter_at}
 use Rattle.like_service.specs.Looks.{accepted_look, page_looked_at}
 use Rattle.like_roles.specs.worker.Serve.{Runs, ran_now, verdict_at}
@@ -36,9 +37,9 @@ use Rattle.like_roles.specs.worker.Turns.{CanGive, Gives, TakesAsk, Turns, Works
 use Rattle.like_requests.specs.Setup.{IsThere}
 use Rattle.like_seat.specs.Merge.{Merges}
 use Rattle.like_seat.specs.SeatView.{HasPhaseMask, IsSliceInSplit}
-use Rattle.like_service.proofs.Blocks.{block-after_joined, block-later, order_below-more, block-next-prompt, block-next-waits, order_below-prompt, order_below-waits, stashed-block, stashed-other, stashed-prompt, took_to_wait-joined}
+use Rattle.like_service.proofs.Blocks.{block-next-prompt, block-next-waits, order-parts, order_below-prompt, order_below-waits, stashed-block, stashed-other, stashed-prompt, took_to_wait-joined}
 use Rattle.like_roles.proofs.Effects.{HasRunOne, Runs-effects}
-use Rattle.like_roles.proofs.InBlocks.{before-next, blocks-of_running, order-of_blocks, parity, running-of_blocks, runs-phase, runs-weaker}
+use Rattle.like_roles.proofs.InBlocks.{before-next, parity, parts, running-of_within, runs-phase, runs-weaker, within-of_running}
 use Rattle.like_roles.proofs.Keeps.{runs-keeps, works-keeps}
 use Rattle.like_seat.proofs.Looking.{has-after, splits-after}
 use Rattle.like_seat.proofs.MergedLikes as merge
@@ -49,7 +50,7 @@ use Rattle.like_roles.proofs.Served.{runs-split}
 use Rattle.like_roles.proofs.counts.Shown.{after-more, shown_by-more}
 use Rattle.like_roles.proofs.counts.Tallied.{GivesReply-tallied, accepted-true}
 
--- a worker that runs a phase and is in its blocks follows the plans
+-- a worker that runs a phase follows the plans
 follows-running : (service : Service) (v : WorkerView)
     → IsRunning v.post.state
     → IsServed service v
@@ -59,19 +60,20 @@ follows-running : (service : Service) (v : WorkerView)
     → (v.notes ≡ true → IsUnmerged service v.adds v.ran v.post.state)
     → All (IsAsked service) v.held.held
     → FitsStash service v.taken
-    → IsInBlocks service v (phase_at v)
+    → IsInOrder service v
+    → IsWithin v (phase_at v)
     → ((place : ℕ) → v.pending ≡ Some place → RunsJoined v.post.state → v.held.held ≡ [])
     → Follows service v
-follows-running service v run served sized t noted unmerged held fits b trying = record {
+follows-running service v run served sized t noted unmerged held fits in_order within trying = record {
   served = served;
   sized = sized;
   tallied = t;
   noted = noted;
   unmerged = unmerged;
-  in_order = order-of_blocks service v (phase_at v) refl b;
+  in_order = in_order;
   fits = fits;
   held = held;
-  stands = running-of_blocks service v (λ _. Unit {0}) v.post.state run b;
+  stands = running-of_within v (λ _. Unit {0}) v.post.state run within;
   trying = λ place e. (run, trying place e);
 }
 
@@ -87,7 +89,7 @@ slices-alike service v s run has page =
     ∙ split-known (λ p. get_or v.post.marks p false) service.hot v.post.masks (phase_at v) page s.hot_alike
     (λ odd _ _. has (runs-split v.post.state run odd))
 
--- what a run does to a worker that follows the plans, where the blocks after it are known
+-- what a run does to a worker that follows the plans, where the order after it is known
 follows-run : (service : Service) (v after : WorkerView) (h : Held) (stashed : Bool)
     → Runs v h stashed after
     → IsRunning v.post.state
@@ -103,9 +105,10 @@ follows-run : (service : Service) (v after : WorkerView) (h : Held) (stashed : B
     → page_looked_at h.ask.request.op h.ask.request.page ≡ Some page → get_or v.slice page 0 ≡ 0)
     → All (IsAsked service) v.held.held
     → FitsStash service v.taken
-    → ((e : HasRunOne v h stashed after) → IsInBlocks service (record v { ran = after.ran }) (phase_at v))
+    → IsWithin v (phase_at v)
+    → ((e : HasRunOne v h stashed after) → IsInOrder service (record v { ran = after.ran }))
     → Follows service after
-follows-run service v after h stashed run here none served sized t was un has asked clear held fits blocks =
+follows-run service v after h stashed run here none served sized t was un has asked clear held fits within ordered =
     let e = Runs-effects v h stashed after run in
     let done = GivesReply-tallied service v h stashed run.reply run.served served sized t asked clear run.serves in
     let stays = (runs-keeps v h stashed after run).notes in
@@ -134,81 +137,45 @@ follows-run service v after h stashed run here none served sized t was un has as
       done.2,
       marked,
     ) in
-    let b = blocks e in
     let runs : IsRunning after.post.state = subst (λ s. RunsSome (λ _. Unit {0}) s) (sym e.state) here in
     let phase : phase_at v ≡ phase_at after = ap phase_of (sym e.state) in
-    let b' : IsInBlocks service after (phase_at v) = record {
-      within = subst (λ xs. All (λ t. t.phase ≤ phase_at v) xs) (sym e.taken) b.within;
-      joined = λ j. ap (λ xs. order_below service xs (phase_at v + 1)) e.taken ∙ b.joined j
-          ∙ ap (λ w. map entry_of after.ran ++ map (entry_held (phase_at v)) w.held) (sym e.held);
-      split_ran = λ s. ap (λ xs. order_below service xs (phase_at v + 1)) e.taken ∙ b.split_ran s;
-      split_held = λ s. ap (λ xs. block service xs (phase_at v + 1)) e.taken ∙ b.split_held s
-          ∙ ap (λ w. map (entry_held (phase_at v + 1)) w.held) (sym e.held);
-    } in
+    let in_order : IsInOrder service after =
+    ap (λ k. map entry_of after.ran ++ map (entry_held (k + k % 2)) after.held.held) (sym phase)
+    ∙ ap (λ w. map entry_of after.ran ++ map (entry_held (next_joined v)) w.held) e.held
+    ∙ ordered e ∙ ap (order service) (sym e.taken) in
+    let now_within : IsWithin after (phase_at v) = (
+      subst (λ xs. All (λ t. t.phase ≤ phase_at v) xs) (sym e.taken) within.0,
+      subst (λ xs. All (λ x. x.phase ≤ phase_at v) xs) (sym e.ran)
+          (All-push (λ (x : Ran). x.phase ≤ phase_at v) v.ran (ran_now v h stashed e.reply) within.1 (omega arith)),
+    ) in
     follows-running service after runs all.0 all.1 all.2 (λ notes. (all.3 (sym stays ∙ notes)).0)
     (λ notes. running-unmerged service after.adds after.ran (λ _. Unit {0}) after.post.state runs
     (subst (λ (k : ℕ). IsUnmerged service after.adds after.ran (state.Runs k)) phase (all.3 (sym stays ∙ notes)).1))
     (subst (λ w. All (IsAsked service) w.held) (sym e.held) held) (subst (FitsStash service) (sym e.taken) fits)
-    (subst (λ k. IsInBlocks service after k) phase b') (λ place p. absurd (cc (e.pending, none, p)))
-
--- the blocks of a worker that enters the next phase
-enters : (service : Service) (v : WorkerView) (k : ℕ)
-    → IsInBlocks service v k
-    → (IsJoined k → v.held.held ≡ [])
-    → IsInBlocks service v (k + 1)
-enters service v k b empty =
-    let before = before-next v.taken k b.within in
-    let more = order_below-more service v.taken (k + 1) in
-    record {
-      within = λ i t h. omega (arith, b.within i t h);
-      joined = λ j.
-          let odd : k % 2 ≡ 1 = omega arith in
-          more ∙ ap (λ zs. zs ++ block service v.taken (k + 1)) (b.split_ran odd)
-          ∙ ap (λ zs. map entry_of v.ran ++ zs) (b.split_held odd);
-      split_ran = λ s.
-          let even : k % 2 ≡ 0 = omega arith in
-          more ∙ ap (λ zs. order_below service v.taken (k + 1) ++ zs) (block-after_joined service v.taken k before even)
-          ∙ append-nil _
-          ∙ b.joined even ∙ ap (λ hs. map entry_of v.ran ++ map (entry_held k) hs) (empty even) ∙ append-nil _;
-      split_held = λ s.
-          let even : k % 2 ≡ 0 = omega arith in
-          block-later service v.taken (k + 1) ((k + 1) + 1) before (omega arith)
-          ∙ ap (map (entry_held ((k + 1) + 1))) (sym (empty even));
-    }
+    in_order (subst (IsWithin after) phase now_within) (λ place p. absurd (cc (e.pending, none, p)))
 
 -- the worker after a look, where its post has then read these masks
 abbrev looking : WorkerView → Sight → List PhaseMask → WorkerView
 looking v sight masks = record v { post = record (looked_at v.post sight) { masks = masks } }
 
 -- what a look says of a worker that is not gone
-saw-stands : (service : Service) (v : WorkerView) (sight : Sight) (masks : List PhaseMask) (s : WorkerState)
-    → Stands service v s
+saw-stands : (v : WorkerView) (sight : Sight) (masks : List PhaseMask) (s : WorkerState)
+    → Stands v s
     → s ≢ state.Gone
-    → Stands service (looking v sight masks) (seen s sight)
-saw-stands service v sight masks (state.Runs k) b n =
-    record { within = b.within; joined = b.joined; split_ran = b.split_ran; split_held = b.split_held }
-saw-stands service v sight masks (state.Answered k) b n = by_test sight.waits where
-  by_test : (w : Bool) → Stands service (looking v sight masks) (cond w (state.Answered k) (state.Runs (k + 1)))
-  by_test true = (
-    record {
-      within =
-          b.0.within;
-      joined = b.0.joined;
-      split_ran = b.0.split_ran;
-      split_held = b.0.split_held;
-    },
-    b.1,
-  )
-  by_test false = let e = enters service v k b.0 b.1 in
-      record { within = e.within; joined = e.joined; split_ran = e.split_ran; split_held = e.split_held }
-saw-stands service v sight masks state.Gone b n = absurd (n refl)
+    → Stands (looking v sight masks) (seen s sight)
+saw-stands v sight masks (state.Runs k) b n = b
+saw-stands v sight masks (state.Answered k) b n = by_test sight.waits where
+  by_test : (w : Bool) → Stands (looking v sight masks) (cond w (state.Answered k) (state.Runs (k + 1)))
+  by_test true = b
+  by_test false = (λ i t h. omega (arith, b.0.0 i t h), λ i e h. omega (arith, b.0.1 i e h))
+saw-stands v sight masks state.Gone b n = absurd (n refl)
 
 -- and of the joined phase in which what it holds runs
-saw-next : (service : Service) (v : WorkerView) (sight : Sight) (s : WorkerState) → Stands service v s → s ≢ state.Gone
+saw-next : (v : WorkerView) (sight : Sight) (s : WorkerState) → Stands v s → s ≢ state.Gone
     → map (entry_held (phase_of (seen s sight) + phase_of (seen s sight) % 2)) v.held.held
     ≡ map (entry_held (phase_of s + phase_of s % 2)) v.held.held
-saw-next service v sight (state.Runs k) b n = refl
-saw-next service v sight (state.Answered k) b n = by_test sight.waits where
+saw-next v sight (state.Runs k) b n = refl
+saw-next v sight (state.Answered k) b n = by_test sight.waits where
   next : map (entry_held ((k + 1) + (k + 1) % 2)) v.held.held ≡ map (entry_held (k + k % 2)) v.held.held
   next = elim (parity k) [
     | inl even ↦ ap (map (entry_held ((k + 1) + (k + 1) % 2))) (b.1 even)
@@ -225,7 +192,7 @@ saw-next service v sight (state.Answered k) b n = by_test sight.waits where
       ≡ map (entry_held (k + k % 2)) v.held.held
   by_test true = refl
   by_test false = next
-saw-next service v sight state.Gone b n = absurd (n refl)
+saw-next v sight state.Gone b n = absurd (n refl)
 
 -- a worker that runs no split phase has an empty slice
 empty-unsplit : (s : WorkerState) (slice : List ℕ)
@@ -293,10 +260,10 @@ follows-saw service v sight masks right f kept here none = record {
   };
   noted = f.noted;
   unmerged = λ notes. unmerged-seen service v.adds v.ran sight v.post.state (f.unmerged notes);
-  in_order = ap (λ zs. map entry_of v.ran ++ zs) (saw-next service v sight v.post.state f.stands here) ∙ f.in_order;
+  in_order = ap (λ zs. map entry_of v.ran ++ zs) (saw-next v sight v.post.state f.stands here) ∙ f.in_order;
   fits = f.fits;
   held = f.held;
-  stands = saw-stands service v sight masks v.post.state f.stands here;
+  stands = saw-stands v sight masks v.post.state f.stands here;
   trying = λ place e. absurd (cc (none, e));
 }
 
@@ -309,10 +276,10 @@ follows-held : (service : Service) (v : WorkerView) (first : Held) (rest : List 
     → v.held.held ≡ first ∷ rest
     → Runs (without_first v rest) first true after → Follows service after
 follows-held service v first rest after none f kept j e run =
-    let b = blocks-of_running service v IsJoined v.post.state j f.stands in
     let even = runs-phase IsJoined v.post.state j in
     let all : All (IsAsked service) (first ∷ rest) = subst (All (IsAsked service)) e f.held in
     let k = phase_at v in
+    let same : next_joined v ≡ k = omega arith in
     follows-run service (without_first v rest) after first true run
     (runs-weaker IsJoined (λ _. Unit {0}) v.post.state (λ _ _. tt) j) none
     (record {
@@ -341,16 +308,14 @@ follows-held service v first rest after none f kept j e run =
     (All-head (IsAsked service) first rest all)
     (λ page _ _. empty-unsplit v.post.state v.slice (λ p some. (kept p some).0) (not-split v.post.state j) page)
     (All-tail (IsAsked service) first rest all) f.fits
-    (λ r. record {
-      within = b.within;
-      joined = λ _. b.joined even ∙ ap (λ hs. map entry_of v.ran ++ map (entry_held k) hs) e
-          ∙ sym (append_assoc (map entry_of v.ran) (entry_held k first ∷ []) (map (entry_held k) rest))
-          ∙ ap (λ zs. zs ++ map (entry_held k) rest)
-          (sym (ap (map entry_of) r.ran
-          ∙ map-append entry_of v.ran (ran_now (without_first v rest) first true r.reply ∷ [])));
-      split_ran = λ s. absurd (omega arith);
-      split_held = λ s. absurd (omega arith);
-    })
+    (within-of_running v IsJoined v.post.state j f.stands)
+    (λ r. ap (λ n. map entry_of after.ran ++ map (entry_held n) rest) same
+    ∙ ap (λ zs. zs ++ map (entry_held k) rest)
+    (ap (map entry_of) r.ran ∙ map-append entry_of v.ran (ran_now (without_first v rest) first true r.reply ∷ []))
+    ∙ append_assoc (map entry_of v.ran) (entry_held k first ∷ []) (map (entry_held k) rest)
+    ∙ ap (λ hs. map entry_of v.ran ++ map (entry_held k) hs) (sym e)
+    ∙ ap (λ n. map entry_of v.ran ++ map (entry_held n) v.held.held) (sym same)
+    ∙ f.in_order)
 
 -- a submitter is tried
 follows-trying : (service : Service) (v : WorkerView) (place : ℕ)
@@ -359,7 +324,6 @@ follows-trying : (service : Service) (v : WorkerView) (place : ℕ)
     → (RunsJoined v.post.state → v.held.held ≡ [])
     → Follows service (trying v place)
 follows-trying service v place f run empty =
-    let b = blocks-of_running service v (λ _. Unit {0}) v.post.state run f.stands in
     follows-running service (trying v place) run
     (record {
       users =
@@ -383,8 +347,7 @@ follows-trying service v place f run empty =
       replies = f.tallied.replies;
       last = f.tallied.last;
     })
-    f.noted f.unmerged f.held f.fits
-    (record { within = b.within; joined = b.joined; split_ran = b.split_ran; split_held = b.split_held })
+    f.noted f.unmerged f.held f.fits f.in_order (within-of_running v (λ _. Unit {0}) v.post.state run f.stands)
     (λ _ _. empty)
 
 -- the worker answers its phase; in a joined one it holds nothing
@@ -395,7 +358,6 @@ follows-answered : (service : Service) (v : WorkerView) (P : ℕ → Type 0)
     → (IsJoined (phase_at v) → v.held.held ≡ [])
     → Follows service (record v { post = answered v.post })
 follows-answered service v P f run none empty =
-    let b = blocks-of_running service v P v.post.state run f.stands in
     record {
       served = record {
         users =
@@ -425,10 +387,7 @@ follows-answered service v P f run none empty =
       in_order = f.in_order;
       fits = f.fits;
       held = f.held;
-      stands = (
-        record { within = b.within; joined = b.joined; split_ran = b.split_ran; split_held = b.split_held },
-        empty,
-      );
+      stands = (within-of_running v P v.post.state run f.stands, empty);
       trying = λ place e. absurd (cc (none, e));
     }
 
@@ -442,7 +401,6 @@ follows-reported : (service : Service) (v : WorkerView) (adds : List Addition)
     → HasPhaseMask v.post
     → Follows service (record (merged v adds) { post = answered (merged v adds).post })
 follows-reported service v adds merges f run none kept has =
-    let b = blocks-of_running service v IsSplit v.post.state run f.stands in
     let odd = runs-phase IsSplit v.post.state run in
     let here = runs-weaker IsSplit (λ _. Unit {0}) v.post.state (λ _ _. tt) run in
     let noted = λ (notes : v.notes ≡ true).
@@ -476,10 +434,7 @@ follows-reported service v adds merges f run none kept has =
       in_order = f.in_order;
       fits = f.fits;
       held = f.held;
-      stands = (
-        record { within = b.within; joined = b.joined; split_ran = b.split_ran; split_held = b.split_held },
-        λ even. absurd (omega arith),
-      );
+      stands = (within-of_running v IsSplit v.post.state run f.stands, λ even. absurd (omega arith));
       trying = λ place e. absurd (cc (none, e));
     }
 
@@ -570,16 +525,6 @@ follows-turn service v answer after none kept has right (turns.works sight mask 
     (follows-saw service v sight (saw v sight mask).post.masks all f kept here none)
     (splits-after v.post v.slice sight mask kept) (has-after v.post sight mask has) x
 
--- what is tried is no part of what a state says
-settled-stands : (service : Service) (v : WorkerView) (s : WorkerState)
-    → Stands service v s
-    → Stands service (settled v) s
-settled-stands service v (state.Runs k) b =
-    record { within = b.within; joined = b.joined; split_ran = b.split_ran; split_held = b.split_held }
-settled-stands service v (state.Answered k) b =
-    (record { within = b.0.within; joined = b.0.joined; split_ran = b.0.split_ran; split_held = b.0.split_held }, b.1)
-settled-stands service v state.Gone b = b
-
 -- a worker that runs a phase that is joined runs a joined phase
 runs-joined : (s : WorkerState) → RunsSome (λ _. Unit {0}) s → IsJoined (phase_of s) → RunsSome IsJoined s
 runs-joined (state.Runs k) r j = j
@@ -616,7 +561,7 @@ follows-settled service v f = record {
   in_order = f.in_order;
   fits = f.fits;
   held = f.held;
-  stands = settled-stands service v v.post.state f.stands;
+  stands = f.stands;
   trying = λ place e. absurd (cc e);
 }
 
@@ -700,7 +645,6 @@ follows-takes : (service : Service) (v : WorkerView) (place : ℕ) (ask : Number
     → IsThere (length (marks_of service.pages)) ask.request.page
     → length after.held.held ≤ after.held.capacity → TakesAsk v place ask answer after → Follows service after
 follows-takes service v place ask answer after none f kept has run empty asked there room (turns.stashes w a x) =
-    let b = blocks-of_running service v (λ _. Unit {0}) v.post.state run f.stands in
     let t : Took = record { phase = phase_at v; submitter = submitter_at v place; number = ask.number } in
     let h : Held = held_from v place ask in
     let to_wait : took_to_wait service t ≡ true =
@@ -711,11 +655,16 @@ follows-takes service v place ask answer after none f kept has run empty asked t
       | inl even ↦ absurd (not_even even)
       | inr odd ↦ odd
     ] in
-    let held_is : IsSplit p
-    → block service (v.taken ++ t ∷ []) (p + 1) ≡ map (entry_held (p + 1)) (v.held.held ++ h ∷ []) =
-    λ s. block-next-waits service v.taken t to_wait (before-next v.taken p b.within)
-    ∙ ap (λ zs. zs ++ entry_held (p + 1) h ∷ []) (b.split_held s)
-    ∙ sym (map-append (entry_held (p + 1)) v.held.held (h ∷ [])) in
+    let same : next_joined v ≡ p + 1 = omega arith in
+    let within = within-of_running v (λ _. Unit {0}) v.post.state run f.stands in
+    let more : All (λ u. u.phase ≤ p) (v.taken ++ t ∷ []) =
+    All-push (λ (u : Took). u.phase ≤ p) v.taken t within.0 (omega arith) in
+    let both = parts service v f.in_order within (λ j. absurd (not_even j)) in
+    let held_is : block service (v.taken ++ t ∷ []) (p + 1) ≡ map (entry_held (next_joined v)) (v.held.held ++ h ∷ []) =
+    block-next-waits service v.taken t to_wait (before-next v.taken p within.0)
+    ∙ ap (λ zs. zs ++ entry_held (p + 1) h ∷ []) (sym both.1)
+    ∙ ap (λ n. map (entry_held (next_joined v)) v.held.held ++ entry_held n h ∷ []) (sym same)
+    ∙ sym (map-append (entry_held (next_joined v)) v.held.held (h ∷ [])) in
     let enough : length (v.held.held ++ h ∷ []) ≤ v.held.capacity =
     subst (λ (w : WorkerView). length w.held.held ≤ w.held.capacity) x room in
     subst (Follows service) (sym x) (follows-running service (with_stashed (with_taken v place ask) h) run
@@ -748,24 +697,26 @@ follows-takes service v place ask answer after none f kept has run empty asked t
       arith,
       enough,
       f.served.stash_alike,
-      ap length (held_is odd),
-      length-map (v.held.held ++ h ∷ []) (entry_held (p + 1)),
+      ap length held_is,
+      length-map (v.held.held ++ h ∷ []) (entry_held (next_joined v)),
     )))
-    (record {
-      within = All-push (λ u. u.phase ≤ p) v.taken t b.within (omega arith);
-      joined = λ j. absurd (not_even j);
-      split_ran = λ s. order_below-waits service v.taken t to_wait ∙ b.split_ran s;
-      split_held = held_is;
-    })
+    (ap (λ hs. map entry_of v.ran ++ hs) (sym held_is)
+    ∙ ap (λ rs. rs ++ block service (v.taken ++ t ∷ []) (p + 1))
+    (both.0 ∙ sym (order_below-waits service v.taken t to_wait))
+    ∙ sym (order-parts service (v.taken ++ t ∷ []) p (before-next (v.taken ++ t ∷ []) p more)))
+    (more, within.1)
     (λ k e. absurd (cc (none, e))))
 follows-takes service v place ask answer after none f kept has run empty asked there room (turns.runs w a r) =
-    let b = blocks-of_running service v (λ _. Unit {0}) v.post.state run f.stands in
     let t : Took = record { phase = phase_at v; submitter = submitter_at v place; number = ask.number } in
     let h : Held = held_from v place ask in
     let p = phase_at v in
     let at_once : took_to_wait service t ≡ false =
     waits-alike service v (submitter_at v place) ask.number ask.request asked f.served run has ∙ w in
-    let none_held : IsJoined p → v.held.held ≡ [] = λ j. empty (runs-joined v.post.state run j) in
+    let within = within-of_running v (λ _. Unit {0}) v.post.state run f.stands in
+    let more : All (λ u. u.phase ≤ p) (v.taken ++ t ∷ []) =
+    All-push (λ (u : Took). u.phase ≤ p) v.taken t within.0 (omega arith) in
+    let both = parts service v f.in_order within (λ j. empty (runs-joined v.post.state run j)) in
+    let held_next = map (entry_held (next_joined v)) v.held.held in
     follows-run service (with_taken v place ask) after h false r run none
     (record {
       users =
@@ -793,20 +744,15 @@ follows-takes service v place ask answer after none f kept has run empty asked t
     (record { asked = asked; there = there })
     (λ page a look. clear-prompt v (submitter_at v place) ask.request page kept w a look) f.held
     (fits-prompt service v.taken t at_once f.fits)
+    (more, within.1)
     (λ e.
-    let ran : map entry_of v.ran ++ entry_of (ran_now (with_taken v place ask) h false e.reply) ∷ []
-    ≡ map entry_of after.ran =
-    sym (ap (map entry_of) e.ran ∙ map-append entry_of v.ran (ran_now (with_taken v place ask) h false e.reply ∷ [])) in
-    record {
-      within = All-push (λ u. u.phase ≤ p) v.taken t b.within (omega arith);
-      joined = λ j. order_below-prompt service v.taken t at_once
-          ∙ ap (λ zs. zs ++ entry_of (ran_now (with_taken v place ask) h false e.reply) ∷ [])
-          (b.joined j ∙ ap (λ hs. map entry_of v.ran ++ map (entry_held p) hs) (none_held j) ∙ append-nil _)
-          ∙ ran ∙ sym (append-nil _) ∙ ap (λ hs. map entry_of after.ran ++ map (entry_held p) hs) (sym (none_held j));
-      split_ran = λ s. order_below-prompt service v.taken t at_once
-          ∙ ap (λ zs. zs ++ entry_of (ran_now (with_taken v place ask) h false e.reply) ∷ []) (b.split_ran s) ∙ ran;
-      split_held = λ s. block-next-prompt service v.taken t at_once ∙ b.split_held s;
-    })
+    ap (λ rs. rs ++ held_next)
+    (ap (map entry_of) e.ran ∙ map-append entry_of v.ran (ran_now (with_taken v place ask) h false e.reply ∷ [])
+    ∙ ap (λ rs. rs ++ entry_of (ran_now (with_taken v place ask) h false e.reply) ∷ []) both.0
+    ∙ sym (order_below-prompt service v.taken t at_once))
+    ∙ ap (λ hs. order_below service (v.taken ++ t ∷ []) (p + 1) ++ hs)
+    (both.1 ∙ sym (block-next-prompt service v.taken t at_once))
+    ∙ sym (order-parts service (v.taken ++ t ∷ []) p (before-next (v.taken ++ t ∷ []) p more)))
 
 -- what is given
 pub follows-give : (service : Service) (v : WorkerView) (took : Taken) (answer : Turn) (after : WorkerView)
@@ -822,8 +768,6 @@ follows-give service v took answer after can asked kept has room (turns.nothing 
     subst (Follows service) (sym x) (follows-settled service v f)
 follows-give service v took answer after can asked kept has room (turns.ends place p t a x) f =
     let run = (f.trying place p).0 in
-    let s = follows-settled service v f in
-    let b = blocks-of_running service (settled v) (λ _. Unit {0}) v.post.state run s.stands in
     subst (Follows service) (sym x) (follows-running service (record (settled v) { ended = set v.ended place true }) run
     (record {
       users =
@@ -847,8 +791,7 @@ follows-give service v took answer after can asked kept has room (turns.ends pla
       replies = f.tallied.replies;
       last = f.tallied.last;
     })
-    f.noted f.unmerged f.held f.fits
-    (record { within = b.within; joined = b.joined; split_ran = b.split_ran; split_held = b.split_held })
+    f.noted f.unmerged f.held f.fits f.in_order (within-of_running v (λ _. Unit {0}) v.post.state run f.stands)
     (λ k e. absurd (cc e)))
 follows-give service v took answer after can asked kept has room (turns.asks place ask p t x) f =
     let run = f.trying place p in

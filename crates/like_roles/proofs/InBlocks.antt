@@ -1,16 +1,17 @@
 -- How the blocks of a worker's order change, and what its state says of them.
-use Rattle.std.proofs.Common.{◌≡◌, ℕ, zero, suc, ◌+◌, ◌%◌, ◌≤◌, ◌⊎◌, List, [], ◌∷◌, ◌++◌, map, refl, ap, sym, ◌∙◌, inl, inr, arith, append-nil}
-use Rattle.std.proofs.lemmas.List.Elements.{All-head, All-tail}
+use Rattle.std.proofs.Common.{◌≡◌, ℕ, zero, suc, ◌+◌, ◌%◌, ◌≤◌, ◌⊎◌, List, [], ◌∷◌, ◌++◌, map, refl, ap, sym, ◌∙◌, subst, inl, inr, arith}
+use Rattle.std.proofs.lemmas.List.Elements.{All-head, All-map, All-tail}
 use Rattle.std.specs.List.{All, AllByRecursion}
 use Rattle.like_core.specs.declared.worker_state.WorkerState.{WorkerState}
 use Rattle.like_core.specs.declared.worker_state.WorkerState.TheVariants as state
+use Rattle.like_core.specs.Phase.{IsJoined}
 use Rattle.like_core.specs.WorkerState.{RunsSome, phase_of}
 use Rattle.like_service.specs.declared.log.Took.{Took}
-use Rattle.like_roles.specs.worker.Follows.{IsInBlocks, IsInOrder, Stands, entry_held, next_joined}
-use Rattle.like_service.specs.Order.{block, entry_of, order, order_below}
+use Rattle.like_roles.specs.worker.Follows.{IsInOrder, IsWithin, Stands, entry_held, next_joined}
+use Rattle.like_service.specs.Order.{Entry, block, entry_of, order_below}
 use Rattle.like_service.specs.Service.{Service}
 use Rattle.like_roles.specs.worker.WorkerView.{WorkerView, phase_at}
-use Rattle.like_service.proofs.Blocks.{block-after_joined, order-enough, order_below-more, phases_of-within}
+use Rattle.like_service.proofs.Blocks.{block-phase, order-parts, order_below-phases}
 
 -- a phase is even or odd
 pub parity : (k : ℕ) → (k % 2 ≡ 0) ⊎ (k % 2 ≡ 1)
@@ -37,47 +38,72 @@ runs-weaker P Q (state.Runs k) f r = f k r
 runs-weaker P Q (state.Answered k) f r = absurd r
 runs-weaker P Q state.Gone f r = absurd r
 
-pub blocks-of_running : (service : Service) (v : WorkerView) (P : ℕ → Type 0) (s : WorkerState)
+-- what its state says of a worker that runs a phase
+pub within-of_running : (v : WorkerView) (P : ℕ → Type 0) (s : WorkerState)
     → RunsSome P s
-    → Stands service v s
-    → IsInBlocks service v (phase_of s)
-blocks-of_running service v P (state.Runs k) r b = b
-blocks-of_running service v P (state.Answered k) r b = absurd r
-blocks-of_running service v P state.Gone r b = absurd r
+    → Stands v s
+    → IsWithin v (phase_of s)
+within-of_running v P (state.Runs k) r w = w
+within-of_running v P (state.Answered k) r w = absurd r
+within-of_running v P state.Gone r w = absurd r
 
-pub running-of_blocks : (service : Service) (v : WorkerView) (P : ℕ → Type 0) (s : WorkerState)
+pub running-of_within : (v : WorkerView) (P : ℕ → Type 0) (s : WorkerState)
     → RunsSome P s
-    → IsInBlocks service v (phase_of s)
-    → Stands service v s
-running-of_blocks service v P (state.Runs k) r b = b
-running-of_blocks service v P (state.Answered k) r b = absurd r
-running-of_blocks service v P state.Gone r b = absurd r
+    → IsWithin v (phase_of s)
+    → Stands v s
+running-of_within v P (state.Runs k) r w = w
+running-of_within v P (state.Answered k) r w = absurd r
+running-of_within v P state.Gone r w = absurd r
 
--- the blocks of a worker make its order
-pub order-of_blocks : (service : Service) (v : WorkerView) (k : ℕ)
-    → phase_at v ≡ k
-    → IsInBlocks service v k
+-- two lists of entries up to a phase and then of the next one are the same in both parts
+parts-same : (k : ℕ) (xs ys us vs : List Entry)
+    → All (λ e. e.phase ≤ k) xs
+    → All (λ e. e.phase ≡ k + 1) ys
+    → All (λ e. e.phase ≤ k) us
+    → All (λ e. e.phase ≡ k + 1) vs
+    → xs ++ ys ≡ us ++ vs
+    → (xs ≡ us) × (ys ≡ vs)
+parts-same k [] ys [] vs low next low_too next_too same = (refl, same)
+parts-same k [] ys (u ∷ us) vs low next low_too next_too same =
+    let early = All-head (λ (e : Entry). e.phase ≤ k) u us low_too in
+    let late = All-head (λ (e : Entry). e.phase ≡ k + 1) u (us ++ vs)
+    (subst (All (λ (e : Entry). e.phase ≡ k + 1)) same next) in
+    absurd (omega arith)
+parts-same k (x ∷ xs) ys [] vs low next low_too next_too same =
+    let early = All-head (λ (e : Entry). e.phase ≤ k) x xs low in
+    let late = All-head (λ (e : Entry). e.phase ≡ k + 1) x (xs ++ ys)
+    (subst (All (λ (e : Entry). e.phase ≡ k + 1)) (sym same) next_too) in
+    absurd (omega arith)
+parts-same k (x ∷ xs) ys (u ∷ us) vs low next low_too next_too same =
+    let whole : x ∷ (xs ++ ys) ≡ u ∷ (us ++ vs) = same in
+    let first : x ≡ u = cc in
+    let others : xs ++ ys ≡ us ++ vs = cc in
+    let rest = parts-same k xs ys us vs (All-tail (λ (e : Entry). e.phase ≤ k) x xs low) next
+    (All-tail (λ (e : Entry). e.phase ≤ k) u us low_too) next_too others in
+    ((λ i. first i ∷ rest.0 i), rest.1)
+
+-- where a worker holds nothing in a joined phase, what it ran are the blocks up to its phase, and what it holds is the
+-- next block
+pub parts : (service : Service) (v : WorkerView)
     → IsInOrder service v
-order-of_blocks service v k e b =
-    let before = before-next v.taken k b.within in
-    let all : order_below service v.taken ((k + 1) + 1) ≡ order service v.taken =
-    order-enough service v.taken ((k + 1) + 1) (omega (arith, phases_of-within v.taken (k + 1) before)) in
-    let last : order_below service v.taken ((k + 1) + 1)
-    ≡ order_below service v.taken (k + 1) ++ block service v.taken (k + 1) =
-    order_below-more service v.taken (k + 1) in
+    → IsWithin v (phase_at v)
+    → (IsJoined (phase_at v) → v.held.held ≡ [])
+    → (map entry_of v.ran ≡ order_below service v.taken (phase_at v + 1))
+    × (map (entry_held (next_joined v)) v.held.held ≡ block service v.taken (phase_at v + 1))
+parts service v in_order within empty =
+    let k : ℕ = phase_at v in
+    let held : List Entry = map (entry_held (k + 1)) v.held.held in
+    let next : map (entry_held (next_joined v)) v.held.held ≡ held =
     elim (parity k) [
-      | inl even ↦
-          let next : next_joined v ≡ k = ap (λ x. x + x % 2) e ∙ omega arith in
-          ap (λ n. map entry_of v.ran ++ map (entry_held n) v.held.held) next
-          ∙ sym (b.joined even)
-          ∙ sym (append-nil _)
-          ∙ ap (λ zs. order_below service v.taken (k + 1) ++ zs)
-          (sym (block-after_joined service v.taken k before even))
-          ∙ sym last ∙ all
-      | inr odd ↦
-          let next : next_joined v ≡ k + 1 = ap (λ x. x + x % 2) e ∙ omega arith in
-          ap (λ n. map entry_of v.ran ++ map (entry_held n) v.held.held) next
-          ∙ ap (λ zs. zs ++ map (entry_held (k + 1)) v.held.held) (sym (b.split_ran odd))
-          ∙ ap (λ zs. order_below service v.taken (k + 1) ++ zs) (sym (b.split_held odd))
-          ∙ sym last ∙ all
-    ]
+      | inl even ↦ ap (map (entry_held (next_joined v))) (empty even) ∙ ap (map (entry_held (k + 1))) (sym (empty even))
+      | inr odd ↦ let same : next_joined v ≡ k + 1 = omega arith in ap (λ n. map (entry_held n) v.held.held) same
+    ] in
+    let both = parts-same k (map entry_of v.ran) held
+    (order_below service v.taken (k + 1)) (block service v.taken (k + 1))
+    (All-map (λ (e : Entry). e.phase ≤ k) entry_of v.ran within.1)
+    (All-map (λ (e : Entry). e.phase ≡ k + 1) (entry_held (k + 1)) v.held.held (λ i d inside. refl))
+    (λ i d inside. let low = order_below-phases service v.taken (k + 1) i d inside in omega arith)
+    (block-phase service v.taken (k + 1))
+    (ap (λ (xs : List Entry). map entry_of v.ran ++ xs) (sym next) ∙ in_order
+    ∙ order-parts service v.taken k (before-next v.taken k within.0)) in
+    (both.0, next ∙ both.1)

@@ -14,7 +14,7 @@ use Rattle.like_core.specs.Post.{PostView, additions_in, additions_of, pages_of}
 use Rattle.like_tables.specs.UserTable.{last_of}
 use Rattle.like_roles.specs.declared.turn.Turn.{Turn}
 use Rattle.like_roles.specs.declared.turn.Turn.TheVariants as turn
-use Rattle.like_roles.specs.worker.Follows.{adds_to, Follows, IsDone, IsInBlocks, IsNoted, IsServiceOf, IsUnmerged, Stands, entry_held, next_joined}
+use Rattle.like_roles.specs.worker.Follows.{adds_to, Follows, IsDone, IsNoted, IsServiceOf, IsUnmerged, IsWithin, Stands, entry_held, next_joined}
 use Rattle.like_service.specs.Likes.{likes_within}
 use Rattle.like_roles.specs.worker.Shown.{shown_by, shown_in}
 use Rattle.like_roles.specs.worker.New.{IsNew, IsPostOf}
@@ -47,12 +47,10 @@ follows-new s sizes worker post notes v service p new same =
     let nothing : (page : ℕ) → additions_of v.post page ≡ 0 = λ page. ap (added_to page) additions in
     let in_slice : (page : ℕ) → get_or v.slice page 0 ≡ 0 =
     λ page. ap (λ xs. get_or xs page 0) new.slice ∙ same_everywhere (length s.pages) page 0 in
-    let blocks : IsInBlocks service v 0 = record {
-      within = λ i t h. absurd (omega (arith, ap length new.taken));
-      joined = λ j. rw (new.taken, new.ran, held) refl;
-      split_ran = λ j. absurd (omega arith);
-      split_held = λ j. absurd (omega arith);
-    } in
+    let within : IsWithin v 0 = (
+      λ i t h. absurd (omega (arith, ap length new.taken)),
+      λ i e h. absurd (omega (arith, ap length new.ran)),
+    ) in
     record {
       served = record {
         users = same.users_are ∙ sym (ap (λ x. x.share.users) new.last);
@@ -94,7 +92,7 @@ follows-new s sizes worker post notes v service p new same =
       in_order = rw (new.taken, new.ran, held) refl;
       fits = λ phase. rw new.taken (omega arith);
       held = λ i h k. absurd (omega (arith, ap length held));
-      stands = subst (λ x. Stands service v x) (sym state_is) blocks;
+      stands = subst (Stands v) (sym state_is) within;
       trying = λ place e. absurd (cc (new.pending, e));
     }
 
@@ -121,7 +119,7 @@ pub follows-done : (service : Service) (v : WorkerView)
     → IsSliceInSplit v.post v.slice
     → IsDone service v
 follows-done service v f gone s =
-    let stands = subst (λ x. Stands service v x) gone f.stands in
+    let stands = subst (Stands v) gone f.stands in
     let in_phase : (phase page : ℕ) → likes_within service page v.ran phase ≡ additions_in v.post phase page =
     λ phase page.
     (let none : cond (phase_at v == phase) (get_or v.slice page 0) 0 ≡ 0 =

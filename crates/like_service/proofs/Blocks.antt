@@ -1,13 +1,13 @@
 -- How the blocks of run order grow.
-use Rattle.std.proofs.Common.{◌≡◌, ◌≢◌, ℕ, zero, suc, ◌+◌, ◌-◌, ◌<◌, ◌≤◌, ◌%◌, Bool, true, false, eqb, ◌&&◌, List, [], ◌∷◌, ◌++◌, length, Option, Some, None, refl, ap, sym, ◌∙◌, arith, add-one, append-nil, append_assoc}
+use Rattle.std.proofs.Common.{◌≡◌, ◌≢◌, ℕ, zero, suc, ◌+◌, ◌-◌, ◌<◌, ◌≤◌, ◌%◌, Bool, true, false, eqb, ◌&&◌, List, [], ◌∷◌, ◌++◌, length, map, Option, Some, None, refl, ap, sym, ◌∙◌, subst, arith, add-one, append-nil, append_assoc}
 use Rattle.std.proofs.lemmas.Bool.{eqb-true, ne_eqb, eq-eqb}
 use Rattle.std.proofs.lemmas.Grind.{flat_map-append}
 use Rattle.std.proofs.lemmas.List.{length-append, length-map, map-append}
-use Rattle.std.proofs.lemmas.List.Elements.{filter-append}
-use Rattle.std.specs.List.{AllByRecursion, filter, flat_map, range_with_len}
+use Rattle.std.proofs.lemmas.List.Elements.{All-append, All-map, All-nil, filter-append}
+use Rattle.std.specs.List.{All, AllByRecursion, filter, flat_map, range_with_len}
 use Rattle.std.specs.Option.{option_map_or}
 use Rattle.like_service.specs.declared.log.Took.{Took}
-use Rattle.like_service.specs.Order.{block, entry_in, is_due, is_prompt, order, order_below, phases_of, stashed_in, took_to_wait}
+use Rattle.like_service.specs.Order.{Entry, block, entry_in, is_due, is_prompt, order, order_below, phases_of, stashed_in, took_to_wait}
 use Rattle.like_service.specs.Looks.{look_at}
 use Rattle.like_service.specs.Service.{Service, is_split_in}
 
@@ -229,3 +229,31 @@ pub order-enough : (service : Service) (xs : List Took) (n : ℕ)
 order-enough service xs n h =
     let e : n ≡ (phases_of xs + 1) + (n - (phases_of xs + 1)) = omega arith in
     ap (λ k. order_below service xs k) e ∙ order-more service xs (n - (phases_of xs + 1))
+
+-- where nothing was taken after a phase, the last block that run order has is the next phase's
+pub order-parts : (service : Service) (xs : List Took) (p : ℕ)
+    → AllByRecursion (λ t. t.phase + 1 ≤ p + 1) xs
+    → order service xs ≡ order_below service xs (p + 1) ++ block service xs (p + 1)
+order-parts service xs p all =
+    sym (order-enough service xs ((p + 1) + 1) (omega (arith, phases_of-within xs (p + 1) all)))
+    ∙ order_below-more service xs (p + 1)
+
+-- the entries of a block are of its phase
+pub block-phase : (service : Service) (xs : List Took) (k : ℕ) → All (λ e. e.phase ≡ k) (block service xs k)
+block-phase service xs k =
+    let P : Entry → Type 0 = λ e. e.phase ≡ k in
+    let due : List Took = filter (is_due service k) xs in
+    let prompt : List Took = filter (is_prompt service k) xs in
+    All-append P (map (entry_in k true) due) (map (entry_in k false) prompt)
+    (All-map P (entry_in k true) due (λ i d inside. refl)) (All-map P (entry_in k false) prompt (λ i d inside. refl))
+
+-- and those of the first blocks of earlier ones
+pub order_below-phases : (service : Service) (xs : List Took) (n : ℕ)
+    → All (λ e. e.phase < n) (order_below service xs n)
+order_below-phases service xs zero = All-nil (λ (e : Entry). e.phase < 0)
+order_below-phases service xs (suc n) =
+    let P : Entry → Type 0 = λ e. e.phase < suc n in
+    subst (All P) (sym (order_below-suc service xs n))
+    (All-append P (order_below service xs n) (block service xs n)
+    (λ i d inside. let low = order_below-phases service xs n i d inside in omega arith)
+    (λ i d inside. let is = block-phase service xs n i d inside in omega arith))

@@ -1,10 +1,8 @@
 -- What a worker's additions are of goes by the hot pages of the phases in which it ran requests.
-use Rattle.std.proofs.Common.{◌≡◌, ℕ, zero, suc, ◌+◌, ◌<◌, ◌≤◌, ◌==◌, ◌&&◌, Bool, true, false, cond, List, [], ◌∷◌, All, get_or, map, filter, slice_get, Option, Some, None, refl, sym, ap, ◌∙◌, subst, inl, inr, arith}
-use Rattle.std.specs.List.{flat_map, range_with_len}
+use Rattle.std.proofs.Common.{◌≡◌, ℕ, zero, suc, ◌+◌, ◌<◌, ◌≤◌, ◌==◌, ◌&&◌, Bool, true, false, cond, List, [], ◌∷◌, ◌++◌, All, get_or, map, filter, slice_get, Option, Some, None, refl, sym, ap, ◌∙◌, subst, inl, inr, arith, append-nil}
 use Rattle.std.specs.Option.{option_to_list}
-use Rattle.std.proofs.lemmas.Bool.{and_from, cases_eq, cases_lt, eq-eqb, ne_eqb}
-use Rattle.std.proofs.lemmas.List.Concat.{flat_map-cons}
-use Rattle.std.proofs.lemmas.List.Elements.{All-append, All-head, All-nil, All-tail}
+use Rattle.std.proofs.lemmas.Bool.{and_from, cases_lt, eq-eqb, ne_eqb}
+use Rattle.std.proofs.lemmas.List.Elements.{All-head, All-tail}
 use Rattle.std.proofs.lemmas.Option.{get_or_from_slice_get, slice_get_within}
 use Rattle.like_core.specs.Phase.{IsJoined}
 use Rattle.like_core.proofs.views.KeptPlaces.{counts_one}
@@ -14,47 +12,29 @@ use Rattle.like_service.specs.declared.log.Took.{Took}
 use Rattle.like_service.specs.places.Adds.{AreOfLikes, IsOfLikes, is_add_to}
 use Rattle.like_roles.specs.worker.Follows.{likes_at}
 use Rattle.like_service.specs.Likes.{likes_among, likes_within}
-use Rattle.like_service.specs.Order.{Entry, block, entry_in, entry_of, is_due, is_prompt, order, phases_of}
+use Rattle.like_service.specs.Order.{entry_of, order, order_below}
 use Rattle.like_service.specs.Service.{Service, is_split_in}
-use Rattle.like_service.proofs.Blocks.{block-after_joined, block-later}
+use Rattle.like_service.proofs.Blocks.{block-after_joined, order-parts, order_below-phases}
 use Rattle.like_roles.proofs.InBlocks.{before-next}
 use Rattle.like_roles.proofs.notes.Noted.{count-none}
-use Rattle.like_crew.proofs.Makings.{all-back, all-map}
+use Rattle.like_crew.proofs.Makings.{all-back}
 
 -- what is taken up to a joined phase has run by then
-module _ (service : Service) (taken : List Took) (last : ℕ) (joined : IsJoined last)
-    (within : All (λ t. t.phase ≤ last) taken) where
-  block-phase : (k : ℕ) → All (λ e. e.phase ≡ k) (block service taken k)
-  block-phase k =
-      All-append (λ (e : Entry). e.phase ≡ k) (map (entry_in k true) (filter (is_due service k) taken))
-      (map (entry_in k false) (filter (is_prompt service k) taken))
-      (all-map (entry_in k true) (λ e. e.phase ≡ k) (filter (is_due service k) taken) (λ _ _ _. refl))
-      (all-map (entry_in k false) (λ e. e.phase ≡ k) (filter (is_prompt service k) taken) (λ _ _ _. refl))
-
-  none-in : (k : ℕ) → last < k → block service taken k ≡ []
-  none-in k past = elim (cases_eq k (last + 1)) [
-    | inl next ↦ ap (block service taken) next
-        ∙ block-after_joined service taken last (before-next taken last within) joined
-    | inr later ↦ block-later service taken (last + 1) k (before-next taken last within) (omega arith)
-  ]
-
-  block-within : (k : ℕ) → All (λ e. e.phase ≤ last) (block service taken k)
-  block-within k = elim (cases_lt last k) [
-    | inl past ↦ subst (All (λ e. e.phase ≤ last)) (sym (none-in k past)) (All-nil (λ e. e.phase ≤ last))
-    | inr low ↦ λ i d inside. let is = block-phase k i d inside in omega arith
-  ]
-
-  blocks-within : (a n : ℕ) → All (λ e. e.phase ≤ last) (flat_map (block service taken) (range_with_len a n))
-  blocks-within a zero = All-nil (λ e. e.phase ≤ last)
-  blocks-within a (suc n) =
-      subst (All (λ e. e.phase ≤ last)) (sym (flat_map-cons (block service taken) a (range_with_len (a + 1) n)))
-      (All-append (λ (e : Entry). e.phase ≤ last) (block service taken a)
-      (flat_map (block service taken) (range_with_len (a + 1) n)) (block-within a) (blocks-within (a + 1) n))
-
-  pub ran-within : (ran : List Ran) → map entry_of ran ≡ order service taken → All (λ e. e.phase ≤ last) ran
-  ran-within ran in_order =
-      all-back entry_of (λ e. e.phase ≤ last) ran
-      (subst (All (λ e. e.phase ≤ last)) (sym in_order) (blocks-within 0 (phases_of taken + 1)))
+pub ran-within : (service : Service) (taken : List Took) (last : ℕ)
+    → IsJoined last
+    → All (λ t. t.phase ≤ last) taken
+    → (ran : List Ran)
+    → map entry_of ran ≡ order service taken
+    → All (λ e. e.phase ≤ last) ran
+ran-within service taken last joined within ran in_order =
+    let before = before-next taken last within in
+    let whole : map entry_of ran ≡ order_below service taken (last + 1) =
+    in_order ∙ order-parts service taken last before
+    ∙ ap (λ xs. order_below service taken (last + 1) ++ xs) (block-after_joined service taken last before joined)
+    ∙ append-nil (order_below service taken (last + 1)) in
+    all-back entry_of (λ e. e.phase ≤ last) ran
+    (subst (All (λ e. e.phase ≤ last)) (sym whole)
+    (λ i d inside. let low = order_below-phases service taken (last + 1) i d inside in omega arith))
 
 module _ (service : Service) (hot other : ℕ → ℕ) (last : ℕ) (same : (k : ℕ) → k ≤ last → hot k ≡ other k) where
   abbrev before : Service

@@ -10,7 +10,7 @@ use Rattle.like_core.specs.declared.view.Addition.{Addition}
 use Rattle.like_core.specs.declared.view.PageRead.{PageRead}
 use Rattle.like_core.specs.declared.worker_state.WorkerState.{WorkerState}
 use Rattle.like_core.specs.declared.worker_state.WorkerState.TheVariants.{Runs, Answered, Gone}
-use Rattle.like_core.specs.Phase.{IsJoined, IsSplit}
+use Rattle.like_core.specs.Phase.{IsJoined}
 use Rattle.like_core.specs.PhaseMasks.{AreMasksOf}
 use Rattle.like_core.specs.WorkerState.{IsRunning, RunsJoined}
 use Rattle.like_core.specs.Post.{additions_of, additions_in, pages_of}
@@ -22,7 +22,7 @@ use Rattle.like_service.specs.declared.log.Took.{Took}
 use Rattle.like_service.specs.places.Adds.{IsOfLikes, AreOfLikes, addition_of, is_add_to}
 use Rattle.like_service.specs.Likes.{last_like, likes_among, likes_within}
 use Rattle.like_roles.specs.worker.Shown.{adds_before_looks, shown_by, shown_in}
-use Rattle.like_service.specs.Order.{Entry, block, entry_of, order, order_below, stashed_in}
+use Rattle.like_service.specs.Order.{Entry, entry_of, order, stashed_in}
 use Rattle.like_service.specs.Replies.{HasRightAnswers}
 use Rattle.like_service.specs.Service.{Service, is_split_in, request_at, submitters}
 use Rattle.like_requests.specs.Setup.{IsThere}
@@ -115,23 +115,16 @@ abbrev pub IsInOrder : Service → WorkerView → Type 0
 IsInOrder service v =
     map entry_of v.ran ++ map (entry_held (next_joined v)) v.held.held ≡ order service v.taken
 
--- the same, by the blocks of phases, for a worker that runs a phase: in a split phase what it holds is the whole part
--- of the next block that is known
-pub record IsInBlocks (service : Service) (v : WorkerView) (phase : ℕ) : Type 0 where
-  pub within : All (λ t. t.phase ≤ phase) v.taken
-  pub joined : IsJoined phase
-      → order_below service v.taken (phase + 1)
-      ≡ map entry_of v.ran ++ map (entry_held phase) v.held.held
-  pub split_ran : IsSplit phase → order_below service v.taken (phase + 1) ≡ map entry_of v.ran
-  pub split_held : IsSplit phase
-      → block service v.taken (phase + 1) ≡ map (entry_held (phase + 1)) v.held.held
+-- it took nothing and ran nothing in a later phase than this
+abbrev pub IsWithin : WorkerView → ℕ → Type 0
+IsWithin v phase = All (λ t. t.phase ≤ phase) v.taken × All (λ e. e.phase ≤ phase) v.ran
 
--- what its state says of what it has done: it answers a joined phase only when it holds nothing, and is gone only when
--- its submitters have ended, too
-abbrev pub Stands : Service → WorkerView → WorkerState → Type 0
-Stands service v (Runs phase) = IsInBlocks service v phase
-Stands service v (Answered phase) = IsInBlocks service v phase × (IsJoined phase → v.held.held ≡ [])
-Stands service v Gone = (v.held.held ≡ []) × TookAllEnds v
+-- what its state says of what it has done: nothing is of a later phase; when it has answered a joined phase it holds
+-- nothing; and when it is gone it holds nothing, and its submitters have ended
+abbrev pub Stands : WorkerView → WorkerState → Type 0
+Stands v (Runs phase) = IsWithin v phase
+Stands v (Answered phase) = IsWithin v phase × (IsJoined phase → v.held.held ≡ [])
+Stands v Gone = (v.held.held ≡ []) × TookAllEnds v
 
 -- in no phase do more come out of the stash than it has room for
 abbrev pub FitsStash : Service → List Took → Type 0
@@ -147,7 +140,7 @@ pub record Follows (service : Service) (v : WorkerView) : Type 0 where
   pub in_order : IsInOrder service v
   pub fits : FitsStash service v.taken
   pub held : All (IsAsked service) v.held.held
-  pub stands : Stands service v v.post.state
+  pub stands : Stands v v.post.state
   pub trying : (place : ℕ) → v.pending ≡ Some place
       → IsRunning v.post.state × (RunsJoined v.post.state → v.held.held ≡ [])
 
@@ -173,11 +166,10 @@ pub record AreNoted (service : Service) (v : WorkerView) : Type 0 where
   pub adds : AreOfLikes service v.ran v.adds
   pub reads : map (λ r. r.after) v.post.reads ≡ adds_before_looks service v.adds v.ran
 
--- what a worker that is gone has done: it ran what it took in run order, no more out of its stash in a phase than that has
--- room for; its post's additions are the accepted likes
--- that it ran, in each phase, and its post's reads the accepted looks; its additions are noted, where it notes them; each
--- reply is right, save that nothing is said of counts; its table has each user's last like; and the end mark of each of
--- its submitters was taken
+-- what a worker that is gone has done: it ran what it took in run order, and in no phase more out of its stash than
+-- fits there; its post's additions are the accepted likes that it ran, in each phase, and its post's reads the accepted
+-- looks; its additions are noted, if it notes them; each reply is right, its count aside; its table has each user's
+-- last like; and it took the end mark of each of its submitters
 pub record IsDone (service : Service) (v : WorkerView) : Type 0 where
   pub in_order : map entry_of v.ran ≡ order service v.taken
   pub fits : FitsStash service v.taken
