@@ -57,7 +57,7 @@ follows-running : (service : Service) (v : WorkerView)
     → IsSized v
     → IsTallied service v
     → (v.notes ≡ true → IsNoted service v.post.additions v.post.reads v.adds v.ran)
-    → (v.notes ≡ true → IsUnmerged service v.adds v.ran v.post.state)
+    → (v.notes ≡ true → IsUnmerged service v.adds v.post.state)
     → All (IsAsked service) v.held.held
     → FitsStash service v.taken
     → IsInOrder service v
@@ -98,7 +98,7 @@ follows-run : (service : Service) (v after : WorkerView) (h : Held) (stashed : B
     → IsSized v
     → IsTallied service v
     → (v.notes ≡ true → IsNoted service v.post.additions v.post.reads v.adds v.ran)
-    → (v.notes ≡ true → IsUnmerged service v.adds v.ran v.post.state)
+    → (v.notes ≡ true → IsUnmerged service v.adds v.post.state)
     → HasPhaseMask v.post
     → IsAsked service h
     → ((page : ℕ) → verdict_at v h.submitter h.ask.request ≡ Accepted
@@ -113,16 +113,16 @@ follows-run service v after h stashed run here none served sized t was un has as
     let done = GivesReply-tallied service v h stashed run.reply run.served served sized t asked clear run.serves in
     let stays = (runs-keeps v h stashed after run).notes in
     let marked = λ (notes : v.notes ≡ true). GivesReply-noted service v h stashed run.reply run.served served notes
-    (was notes) (unmerged-running service v.adds v.ran (λ _. Unit {0}) v.post.state here (un notes)) asked
+    (was notes) (unmerged-running service v.adds (λ _. Unit {0}) v.post.state here (un notes)) asked
     (slices-alike service v served here has) run.serves in
     let all : IsServed service after × IsSized after × IsTallied service after
     × (v.notes ≡ true
     → IsNoted service after.post.additions after.post.reads after.adds after.ran
-    × IsUnmerged service after.adds after.ran (state.Runs (phase_at v))) =
+    × IsUnmerged service after.adds (state.Runs (phase_at v))) =
     subst (λ x. IsServed service x × IsSized x × IsTallied service x
     × (v.notes ≡ true
     → IsNoted service x.post.additions x.post.reads x.adds x.ran
-    × IsUnmerged service x.adds x.ran (state.Runs (phase_at v)))) (sym run.noted) (
+    × IsUnmerged service x.adds (state.Runs (phase_at v)))) (sym run.noted) (
       record {
         users =
             done.0.users;
@@ -149,8 +149,8 @@ follows-run service v after h stashed run here none served sized t was un has as
           (All-push (λ (x : Ran). x.phase ≤ phase_at v) v.ran (ran_now v h stashed e.reply) within.1 (omega arith)),
     ) in
     follows-running service after runs all.0 all.1 all.2 (λ notes. (all.3 (sym stays ∙ notes)).0)
-    (λ notes. running-unmerged service after.adds after.ran (λ _. Unit {0}) after.post.state runs
-    (subst (λ (k : ℕ). IsUnmerged service after.adds after.ran (state.Runs k)) phase (all.3 (sym stays ∙ notes)).1))
+    (λ notes. running-unmerged service after.adds (λ _. Unit {0}) after.post.state runs
+    (subst (λ (k : ℕ). IsUnmerged service after.adds (state.Runs k)) phase (all.3 (sym stays ∙ notes)).1))
     (subst (λ w. All (IsAsked service) w.held) (sym e.held) held) (subst (FitsStash service) (sym e.taken) fits)
     in_order (subst (IsWithin after) phase now_within) (λ place p. absurd (cc (e.pending, none, p)))
 
@@ -259,7 +259,7 @@ follows-saw service v sight masks right f kept here none = record {
     last = f.tallied.last;
   };
   noted = f.noted;
-  unmerged = λ notes. unmerged-seen service v.adds v.ran sight v.post.state (f.unmerged notes);
+  unmerged = λ notes. unmerged-seen service v.adds sight v.post.state (f.unmerged notes);
   in_order = ap (λ zs. map entry_of v.ran ++ zs) (saw-next v sight v.post.state f.stands here) ∙ f.in_order;
   fits = f.fits;
   held = f.held;
@@ -382,8 +382,7 @@ follows-answered service v P f run none empty =
         last = f.tallied.last;
       };
       noted = f.noted;
-      unmerged = λ notes. (let u = unmerged-running service v.adds v.ran P v.post.state run (f.unmerged notes) in
-          (u.0, u.2));
+      unmerged = λ notes. (unmerged-running service v.adds P v.post.state run (f.unmerged notes)).0;
       in_order = f.in_order;
       fits = f.fits;
       held = f.held;
@@ -405,7 +404,8 @@ follows-reported service v adds merges f run none kept has =
     let here = runs-weaker IsSplit (λ _. Unit {0}) v.post.state (λ _ _. tt) run in
     let noted = λ (notes : v.notes ≡ true).
     merge-noted service v adds merges f.tallied notes (f.noted notes)
-    (unmerged-running service v.adds v.ran IsSplit v.post.state run (f.unmerged notes)) kept
+    (unmerged-running service v.adds IsSplit v.post.state run (f.unmerged notes))
+    (within-of_running v IsSplit v.post.state run f.stands).1 kept
     (slices-alike service v f.served here has)
     in
     record {

@@ -84,10 +84,9 @@ follows-new s sizes worker post notes v service p new same =
           (subst (λ xs. IsNoted service [] xs v.adds v.ran) (sym reads)
           (subst (λ xs. IsNoted service [] [] xs v.ran) (sym new.adds)
           (subst (λ xs. IsNoted service [] [] [] xs) (sym new.ran) (noted-nothing service))));
-      unmerged = λ _. subst (IsUnmerged service v.adds v.ran) (sym state_is) (
+      unmerged = λ _. subst (IsUnmerged service v.adds) (sym state_is) (
         λ i d inside. absurd (omega (arith, ap length new.adds)),
         λ page is. ap (adds_to 0 page) new.adds,
-        λ i d inside. absurd (omega (arith, ap length new.ran)),
       );
       in_order = rw (new.taken, new.ran, held) refl;
       fits = λ phase. rw new.taken (omega arith);

@@ -135,12 +135,13 @@ pub merge-noted : (service : Service) (v : WorkerView) (adds : List Addition)
     → IsTallied service v
     → v.notes ≡ true
     → IsNoted service v.post.additions v.post.reads v.adds v.ran
-    → IsUnmerged service v.adds v.ran (state.Runs (phase_at v))
+    → IsUnmerged service v.adds (state.Runs (phase_at v))
+    → All (λ e. e.phase ≤ phase_at v) v.ran
     → IsSliceInSplit v.post v.slice
     → ((page : ℕ) → is_split_in service (phase_at v) page ≡ slices v.post page)
     → IsNoted service (v.post.additions ++ adds) v.post.reads (v.adds ++ noted v adds) v.ran
-    × IsUnmerged service (v.adds ++ noted v adds) v.ran (state.Answered (phase_at v))
-merge-noted service v adds merges t notes was un kept alike =
+    × IsUnmerged service (v.adds ++ noted v adds) (state.Answered (phase_at v))
+merge-noted service v adds merges t notes was un within kept alike =
     let k = phase_at v in
     let note : Addition → Added = noted_at (length v.ran) in
     let more : List Added = map note adds in
@@ -214,8 +215,8 @@ merge-noted service v adds merges t notes was un kept alike =
                 in
                 let all_before : length v.ran ≡ count_by (λ (e : Ran). nat_le e.phase b.phase) v.ran =
                 sym (count-all (λ (e : Ran). nat_le e.phase b.phase) v.ran
-                (λ j x within. let e : Ran = get_or v.ran j x in
-                let low = un.2 j x within in let same = q.0 in le-leb e.phase b.phase (omega arith)))
+                (λ j x inside. let e : Ran = get_or v.ran j x in
+                let low = within j x inside in let same = q.0 in le-leb e.phase b.phase (omega arith)))
                 in
                 (omega arith, behind, all_before);
           });
@@ -237,15 +238,12 @@ merge-noted service v adds merges t notes was un kept alike =
     }
     in
     subst (λ (xs : List Added). IsNoted service (v.post.additions ++ adds) v.post.reads (v.adds ++ xs) v.ran
-    × IsUnmerged service (v.adds ++ xs) v.ran (state.Answered (phase_at v))) (sym (noted-each v adds notes)) (
+    × IsUnmerged service (v.adds ++ xs) (state.Answered (phase_at v))) (sym (noted-each v adds notes)) (
       noted-merged service v.post.additions adds v.post.reads v.adds more v.ran was new
           ((λ m. was.additions_are m ++ sym (noted-are (length v.ran) adds) m)
           ∙ sym (map-append addition_of v.adds more)),
-      (
-        All-append (λ a. a.phase ≤ k) v.adds more un.0
-            (All-map note (λ a. a.phase ≤ k) adds (λ i d inside. let q = (each i d inside).0 in omega arith)),
-        un.2,
-      ),
+      All-append (λ a. a.phase ≤ k) v.adds more un.0
+          (All-map note (λ a. a.phase ≤ k) adds (λ i d inside. let q = (each i d inside).0 in omega arith)),
     )
   where
     positive : (n : ℕ) → n ≢ 0 → 1 ≤ n

@@ -53,13 +53,13 @@ adds-none service e none xs phase page = within-none service xs e page phase non
 -- what stands of the additions, where an entry is noted
 abbrev IsNotedNow : Service → ℕ → WorkerView → List Ran → Type 0
 IsNotedNow service phase w ran =
-    IsNoted service w.post.additions w.post.reads w.adds ran × IsUnmerged service w.adds ran (state.Runs phase)
+    IsNoted service w.post.additions w.post.reads w.adds ran × IsUnmerged service w.adds (state.Runs phase)
 
 -- additions to pages that are split in their phase are of earlier phases than the one that runs
-earlier : (service : Service) (adds : List Added) (ran : List Ran) (k : ℕ)
-    → IsUnmerged service adds ran (state.Runs k)
+earlier : (service : Service) (adds : List Added) (k : ℕ)
+    → IsUnmerged service adds (state.Runs k)
     → All (λ a. is_split_in service a.phase a.page ≡ true → a.phase < k) adds
-earlier service adds ran k un i d inside is =
+earlier service adds k un i d inside is =
     let a : Added = get_or adds i d in
     let low = un.0 i d inside in
     elim (cases_lt a.phase k) [
@@ -72,13 +72,6 @@ earlier service adds ran k un i d inside is =
           let both : true ≡ false = sym yes ∙ none in
           absurd (cc both)
     ]
-
--- one entry more of that phase
-unmerged-push : (service : Service) (adds : List Added) (ran : List Ran) (e : Ran) (k : ℕ)
-    → e.phase ≡ k
-    → IsUnmerged service adds ran (state.Runs k)
-    → IsUnmerged service adds (ran ++ e ∷ []) (state.Runs k)
-unmerged-push service adds ran e k now un = (un.0, un.1, All-push (λ x. x.phase ≤ k) ran e un.2 (omega arith))
 
 -- an entry that is no accepted like
 no_like : (service : Service) (v : WorkerView) (e : Ran) (reads : List PageRead)
@@ -109,7 +102,7 @@ no_look service adds ran e none =
 one_like : (service : Service) (v : WorkerView) (e : Ran) (page old user : ℕ)
     → v.notes ≡ true
     → IsNoted service v.post.additions v.post.reads v.adds v.ran
-    → IsUnmerged service v.adds v.ran (state.Runs (phase_at v))
+    → IsUnmerged service v.adds (state.Runs (phase_at v))
     → e.phase ≡ phase_at v
     → like_ran service e ≡ Some (record { user = user; page = page })
     → look_ran service e ≡ None
@@ -135,7 +128,7 @@ one_like service v e page old user notes was un now like no_look_ran alike = by_
         ∙ ap (λ (j : ℕ). likes_within service q xs phase + cond ((j == phase) && (page == q)) 1 0) now
 
     before : All (λ a. is_split_in service a.phase a.page ≡ true → a.phase < e.phase) v.adds
-    before i d inside is = let low = earlier service v.adds v.ran k un i d inside is in omega arith
+    before i d inside is = let low = earlier service v.adds k un i d inside is in omega arith
 
     none_else : (phase q : ℕ) (s t : Bool) → is_split_in service k page ≡ s → is_split_in service phase q ≡ t → s ≢ t
         → one phase q ≡ 0
@@ -144,7 +137,7 @@ one_like service v e page old user notes was un now like no_look_ran alike = by_
 
     in_slice : is_split_in service k page ≡ true
         → IsNoted service v.post.additions v.post.reads v.adds (v.ran ++ e ∷ [])
-        × IsUnmerged service v.adds (v.ran ++ e ∷ []) (state.Runs k)
+        × IsUnmerged service v.adds (state.Runs k)
     in_slice is = (
       noted-push service v.post.additions v.post.additions v.post.reads v.post.reads v.adds [] v.adds v.ran e one was by
           (sym (append-nil v.adds))
@@ -158,7 +151,7 @@ one_like service v e page old user notes was un now like no_look_ran alike = by_
           ))
           was.additions_are
           (was.looks ∙ sym (no_look service v.adds v.ran e no_look_ran)),
-      unmerged-push service v.adds v.ran e k now un,
+      un,
     )
 
     new : Addition
@@ -204,7 +197,6 @@ one_like service v e page old user notes was un now like no_look_ran alike = by_
                 let before = un.1 q other in
                 let same = count k q in
                 omega arith,
-            All-push (λ x. x.phase ≤ k) v.ran e un.2 (omega arith),
           ),
         )
       where
@@ -224,7 +216,7 @@ pub GivesReply-noted : (service : Service) (v : WorkerView) (h : Held) (stashed 
     → IsServed service v
     → v.notes ≡ true
     → IsNoted service v.post.additions v.post.reads v.adds v.ran
-    → IsUnmerged service v.adds v.ran (state.Runs (phase_at v))
+    → IsUnmerged service v.adds (state.Runs (phase_at v))
     → IsAsked service h
     → ((page : ℕ) → is_split_in service (phase_at v) page ≡ slices v.post page)
     → GivesReply v h.submitter h.ask.request answer w
@@ -237,9 +229,9 @@ GivesReply-noted service v h stashed answer w served notes was un asked alike (r
     let none : like_ran service x ≡ None = like_ran-is service x r asked.asked ∙ rw no refl in
     let no_look_ran : look_ran service x ≡ None = look_ran-is service x r asked.asked ∙ rw no refl in
     subst (λ u. IsNotedNow service (phase_at v) u (v.ran ++ x ∷ [])) (sym e) (
-      no_like service v x v.post.reads was (earlier service v.adds v.ran (phase_at v) un) none
+      no_like service v x v.post.reads was (earlier service v.adds (phase_at v) un) none
           (was.looks ∙ sym (no_look service v.adds v.ran x no_look_ran)),
-      unmerged-push service v.adds v.ran x (phase_at v) refl un,
+      un,
     )
 GivesReply-noted service v h stashed answer w served notes was un asked alike (likes page a o p l e) =
     let r = h.ask.request in
@@ -275,44 +267,43 @@ GivesReply-noted service v h stashed answer w served notes was un asked alike (l
     ++ option_to_list (option_map (λ _. adds_before (length v.ran) v.adds) o)) look))
     in
     subst (λ u. IsNotedNow service (phase_at v) u (v.ran ++ x ∷ [])) (sym e) (
-      no_like service v x (v.post.reads ++ read ∷ []) was (earlier service v.adds v.ran (phase_at v) un) none shows,
-      unmerged-push service v.adds v.ran x (phase_at v) refl un,
+      no_like service v x (v.post.reads ++ read ∷ []) was (earlier service v.adds (phase_at v) un) none shows,
+      un,
     )
 
 -- what stands where a phase runs is what stands of the worker's state
-pub unmerged-running : (service : Service) (adds : List Added) (ran : List Ran) (P : ℕ → Type 0) (s : WorkerState)
+pub unmerged-running : (service : Service) (adds : List Added) (P : ℕ → Type 0) (s : WorkerState)
     → RunsSome P s
-    → IsUnmerged service adds ran s
-    → IsUnmerged service adds ran (state.Runs (phase_of s))
-unmerged-running service adds ran P (state.Runs k) r u = u
-unmerged-running service adds ran P (state.Answered k) r u = absurd r
-unmerged-running service adds ran P state.Gone r u = absurd r
+    → IsUnmerged service adds s
+    → IsUnmerged service adds (state.Runs (phase_of s))
+unmerged-running service adds P (state.Runs k) r u = u
+unmerged-running service adds P (state.Answered k) r u = absurd r
+unmerged-running service adds P state.Gone r u = absurd r
 
-pub running-unmerged : (service : Service) (adds : List Added) (ran : List Ran) (P : ℕ → Type 0) (s : WorkerState)
+pub running-unmerged : (service : Service) (adds : List Added) (P : ℕ → Type 0) (s : WorkerState)
     → RunsSome P s
-    → IsUnmerged service adds ran (state.Runs (phase_of s))
-    → IsUnmerged service adds ran s
-running-unmerged service adds ran P (state.Runs k) r u = u
-running-unmerged service adds ran P (state.Answered k) r u = absurd r
-running-unmerged service adds ran P state.Gone r u = absurd r
+    → IsUnmerged service adds (state.Runs (phase_of s))
+    → IsUnmerged service adds s
+running-unmerged service adds P (state.Runs k) r u = u
+running-unmerged service adds P (state.Answered k) r u = absurd r
+running-unmerged service adds P state.Gone r u = absurd r
 
 -- after a look
-pub unmerged-seen : (service : Service) (adds : List Added) (ran : List Ran) (sight : Sight) (s : WorkerState)
-    → IsUnmerged service adds ran s
-    → IsUnmerged service adds ran (seen s sight)
-unmerged-seen service adds ran sight (state.Runs k) u = u
-unmerged-seen service adds ran sight state.Gone u = u
-unmerged-seen service adds ran sight (state.Answered k) u = by_test sight.waits
+pub unmerged-seen : (service : Service) (adds : List Added) (sight : Sight) (s : WorkerState)
+    → IsUnmerged service adds s
+    → IsUnmerged service adds (seen s sight)
+unmerged-seen service adds sight (state.Runs k) u = u
+unmerged-seen service adds sight state.Gone u = u
+unmerged-seen service adds sight (state.Answered k) u = by_test sight.waits
   where
-    by_test : (w : Bool) → IsUnmerged service adds ran (cond w (state.Answered k) (state.Runs (k + 1)))
+    by_test : (w : Bool) → IsUnmerged service adds (cond w (state.Answered k) (state.Runs (k + 1)))
     by_test true = u
     by_test false = (
-      λ i d inside. (let low = u.0 i d inside in omega arith),
+      λ i d inside. (let low = u i d inside in omega arith),
       λ page is.
           count-none (is_add_to (k + 1) page) adds
           (λ i d inside.
           let a : Added = get_or adds i d in
-          let low = u.0 i d inside in
+          let low = u i d inside in
           ap (λ (b : Bool). b && (a.page == page)) (ne_eqb a.phase (k + 1) (λ same. absurd (omega arith)))),
-      λ i d inside. (let low = u.1 i d inside in omega arith),
     )

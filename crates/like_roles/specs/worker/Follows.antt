@@ -85,16 +85,14 @@ pub record IsNoted (service : Service) (additions : List Addition) (reads : List
       → adds_to phase page adds ≤ 1
   pub looks : map (λ r. r.after) reads ≡ adds_before_looks service adds ran
 
--- no addition was made and no entry ran in a later phase than the present one, and while a split phase runs, no addition
--- was made in it to a page that is split in it
-abbrev pub IsUnmerged : Service → List Added → List Ran → WorkerState → Type 0
-IsUnmerged service adds ran (Runs phase) =
+-- no addition was made in a later phase than the present one; and while a split phase runs, none was made in it to a
+-- page that is split in it
+abbrev pub IsUnmerged : Service → List Added → WorkerState → Type 0
+IsUnmerged service adds (Runs phase) =
     All (λ a. a.phase ≤ phase) adds
     × ((page : ℕ) → is_split_in service phase page ≡ true → adds_to phase page adds ≡ 0)
-    × All (λ e. e.phase ≤ phase) ran
-IsUnmerged service adds ran (Answered phase) =
-    All (λ a. a.phase ≤ phase) adds × All (λ e. e.phase ≤ phase) ran
-IsUnmerged service adds ran Gone = ⊤
+IsUnmerged service adds (Answered phase) = All (λ a. a.phase ≤ phase) adds
+IsUnmerged service adds Gone = ⊤
 
 -- a request that is held is that of its submitter's plan, of a page that is there
 pub record IsAsked (service : Service) (h : Held) : Type 0 where
@@ -136,7 +134,7 @@ pub record Follows (service : Service) (v : WorkerView) : Type 0 where
   pub sized : IsSized v
   pub tallied : IsTallied service v
   pub noted : v.notes ≡ true → IsNoted service v.post.additions v.post.reads v.adds v.ran
-  pub unmerged : v.notes ≡ true → IsUnmerged service v.adds v.ran v.post.state
+  pub unmerged : v.notes ≡ true → IsUnmerged service v.adds v.post.state
   pub in_order : IsInOrder service v
   pub fits : FitsStash service v.taken
   pub held : All (IsAsked service) v.held.held
