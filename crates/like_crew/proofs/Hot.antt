@@ -13,6 +13,7 @@ use Rattle.like_service.specs.HotPages.{chosen_below, hot_by, liked_pages, likes
 use Rattle.like_service.specs.Likes.{likes_among, likes_below}
 use Rattle.like_service.specs.Order.{Entry, block, entry_in, is_due, is_prompt, order, phases_of, stashed_in, took_to_wait}
 use Rattle.like_service.specs.Service.{Service}
+use Rattle.like_roles.proofs.choice.Totals.{total_before-next}
 use Rattle.like_roles.proofs.counts.Tallied.{likes_among-append}
 
 -- the two phases before a phase
@@ -132,7 +133,10 @@ module _ (service : Service) (runs : List (List Ran)) (counts : List ℕ) where
                 ap (likes_below service page runs) (omega (arith, later)) in
                 let low : likes_below service page runs (j - j % 2 + 1) ≡ likes_below service page runs (k - 2) =
                 ap (likes_below service page runs) (omega (arith, later, odd)) in
-                omega (arith, split, up, low)
+                let next : suc j ≡ j + 1 = omega arith in
+                let was : total_before counts total (suc j) page ≡ total (j - j % 2) page =
+                ap (λ n. total_before counts total n page) next ∙ total_before-next counts total j page in
+                ap (λ (n : ℕ). total (suc j) page - n) was ∙ omega (arith, split, up, low)
 
   -- so the hot pages are the same
   pub hot-same : (hot : Option ℕ) (pages k : ℕ)

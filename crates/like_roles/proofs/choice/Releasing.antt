@@ -1,5 +1,5 @@
 -- What the coordinator's releases keep of its choices.
-use Rattle.std.proofs.Common.{◌≡◌, ℕ, suc, ◌+◌, ◌-◌, ◌%◌, ◌<◌, ◌≤◌, Bool, true, false, cond, eqb, ltb, leb, min, List, [], ◌∷◌, length, get_or, Option, Some, None, refl, sym, ap, ◌∙◌, subst, arith, inl, inr, zero-add, append-nil}
+use Rattle.std.proofs.Common.{◌≡◌, ℕ, ◌+◌, ◌-◌, ◌%◌, ◌<◌, ◌≤◌, Bool, true, false, cond, eqb, ltb, leb, min, List, [], ◌∷◌, length, get_or, Option, Some, None, refl, sym, ap, ◌∙◌, subst, arith, inl, inr, zero-add, append-nil}
 use Rattle.std.specs.Option.{unwrap_or}
 use Rattle.std.proofs.lemmas.Bool.{cases_eq, eq-eqb, ne_eqb}
 use Rattle.std.proofs.lemmas.List.{length-take-le, get_or-take}
@@ -18,6 +18,7 @@ use Rattle.like_service.specs.declared.chosen.Chosen.{Chosen}
 use Rattle.like_roles.specs.coordinator.Choice.{AreTotals, ChoiceView, HasChosen, ReleasesNext, chooses_none, chooses_risen, first_choice, likes_counted, releases_joined, releases_split, total_before, with_chosen, within_limit}
 use Rattle.like_service.specs.HotPages.{chosen_below, hot_by, liked_pages}
 use Rattle.like_roles.proofs.choice.Choosing.{chosen-more, limit-is, totals-from}
+use Rattle.like_roles.proofs.choice.Totals.{total_before-next}
 
 -- the masks with that of the next phase
 masks-on : (f : ℕ → ℕ) (phase m : ℕ) (masks : List PhaseMask)
@@ -107,8 +108,8 @@ module _ (c : CoordSeatView) (v : ChoiceView) (total : ℕ → ℕ → ℕ) (old
     sized = many ∙ old.sized ∙ ap (λ (z : Opening). min hot_pages (length z.counts)) (sym opening);
     before = λ least some page below.
         before least (sym hots ∙ some) page below ∙ ap (λ k. total k page) joined-back
-        ∙ ap (λ (z : Opening). total_before z.counts total (suc c.phase) page) (sym opening)
-        ∙ ap (λ k. total_before ready.opening.counts total k page) next;
+        ∙ sym (total_before-next ready.opening.counts total c.phase page)
+        ∙ ap (λ k. total_before ready.opening.counts total (k + 1) page) (sym phase);
   } where
     released : cond (eqb (ready.phase % 2) 0) (unwrap_or ready.published 0) 0 ≡ m
     released =
@@ -123,9 +124,6 @@ module _ (c : CoordSeatView) (v : ChoiceView) (total : ℕ → ℕ → ℕ) (old
     joined-back : c.phase ≡ c.phase - c.phase % 2
     joined-back = omega (arith, joined)
 
-    next : suc c.phase ≡ ready.phase + 1
-    next = omega (arith, phase)
-
   -- after a release of a joined phase
   pub joined-on : IsSplit c.phase → HasChosen (released_coord c) v total
   joined-on split = record {
@@ -134,8 +132,9 @@ module _ (c : CoordSeatView) (v : ChoiceView) (total : ℕ → ℕ → ℕ) (old
     chosen = sym (append-nil v.chosen) ∙ chosen-on hot c.phase 0 v.chosen old.chosen (sym none);
     sized = old.sized;
     before = λ least some page below. old.before least some page below
-        ∙ ap (λ k. total_before c.opening.counts total k page) was ∙ ap (λ k. total k page) at
-        ∙ ap (λ k. total_before c.opening.counts total k page) next;
+        ∙ ap (λ k. total_before c.opening.counts total k page) was
+        ∙ total_before-next c.opening.counts total (c.phase - 1) page ∙ ap (λ k. total k page) at
+        ∙ sym (total_before-next c.opening.counts total c.phase page);
   } where
     released : cond (eqb (c.phase % 2) 0) (unwrap_or c.published 0) 0 ≡ 0
     released = ap (λ b. cond b (unwrap_or c.published 0) 0)
@@ -144,14 +143,11 @@ module _ (c : CoordSeatView) (v : ChoiceView) (total : ℕ → ℕ → ℕ) (old
     none : hot (c.phase + 1) ≡ 0
     none = none-even v.hot (length c.opening.counts) got (c.phase + 1) (omega (arith, split))
 
-    was : c.phase ≡ suc (c.phase - 1)
+    was : c.phase ≡ (c.phase - 1) + 1
     was = omega (arith, split)
 
     at : (c.phase - 1) - (c.phase - 1) % 2 ≡ c.phase - c.phase % 2
     at = omega (arith, split)
-
-    next : suc c.phase ≡ c.phase + 1
-    next = omega arith
 
 -- a release keeps that it chose by its counts
 pub release-on : (c d : CoordSeatView) (v w : ChoiceView) → ReleasesNext c v d w

@@ -1,5 +1,7 @@
 -- How the coordinator chooses hot pages: by how much the counts of pages rose since its last choice.
-use Rattle.std.specs.Prelude.{◌≡◌, ℕ, zero, suc, ◌+◌, ◌-◌, ◌%◌, ◌<◌, ◌≤◌, nat_lt, if◌then◌else◌, List, [], ◌∷◌, ◌++◌, length, min, slice_index, All, Option, Some, None}
+use Rattle.std.specs.Prelude.{◌≡◌, ℕ, ◌+◌, ◌-◌, ◌%◌, ◌<◌, ◌≤◌, ◌==◌, nat_lt, if◌then◌else◌, List, [], ◌∷◌, ◌++◌, filter, length, min, slice_index, All, Option, Some, None}
+use Rattle.std.specs.List.{range_with_len}
+use Rattle.std.specs.Option.{option_map_or}
 use Rattle.like_core.specs.declared.view.CoordSeatView.{CoordSeatView}
 use Rattle.like_core.specs.declared.view.PageCount.{PageCount}
 use Rattle.like_limits.specs.Limits.{hot_pages}
@@ -9,6 +11,7 @@ use Rattle.like_core.specs.views.Views.{published_coord, released_coord}
 use Rattle.like_service.specs.declared.chosen.Chosen.{Chosen}
 use Rattle.like_seat.specs.Lead.{LeadView, counted_from, of_hot_pages, risen}
 use Rattle.like_service.specs.HotPages.{chosen_below, hot_by, max_chosen}
+use Rattle.like_service.specs.Likes.{last_in}
 
 -- what the coordinator chooses by: how many likes make a page hot, if any do; the counts at its last choice of the pages
 -- that may be hot; and the choices of some page, in order
@@ -54,18 +57,23 @@ pub data ReleasesNext (c : CoordSeatView) (v : ChoiceView) (d : CoordSeatView) (
 abbrev pub AreTotals : (ℕ → ℕ → ℕ) → List PageCount → Type 0
 AreTotals total counted = All (λ r. r.count ≡ total r.phase r.page) counted
 
--- a page's total when the coordinator chose last before it came to a phase, and at first its count at the start
-abbrev pub total_before : List ℕ → (ℕ → ℕ → ℕ) → ℕ → ℕ → ℕ
-total_before counts total zero page = slice_index counts page
-total_before counts total (suc phase) page = total (phase - phase % 2) page
+-- the joined phases before a phase
+abbrev pub joined_before : ℕ → List ℕ
+joined_before phase = filter (λ k. k % 2 == 0) (range_with_len 0 phase)
 
--- how many likes a page got between the last two choices before a split phase
+-- a page's total at the end of the last joined phase before this one; before any, its count at the start
+abbrev pub total_before : List ℕ → (ℕ → ℕ → ℕ) → ℕ → ℕ → ℕ
+total_before counts total phase page =
+    option_map_or (λ k. total k page) (last_in (joined_before phase)) (slice_index counts page)
+
+-- how many likes a page got before a split phase: its total at the end of the joined phase before it, less its total
+-- before that joined phase
 abbrev pub likes_counted : List ℕ → (ℕ → ℕ → ℕ) → ℕ → ℕ → ℕ
 likes_counted counts total phase page =
     total (phase - 1) page - total_before counts total (phase - 1) page
 
--- what was chosen and released, where these are the totals: each mask is that of the pages that got enough likes by them,
--- all choices of some page are noted, and the counts of the last choice are kept
+-- what was chosen and released, if these are the totals: each phase has the mask of the pages that got enough likes,
+-- each choice of some page is noted, and the counts that are kept are the totals before the present phase
 pub record HasChosen (c : CoordSeatView) (v : ChoiceView) (total : ℕ → ℕ → ℕ) : Type 0 where
   pub masks : let got = likes_counted c.opening.counts total in
       (phase : ℕ) → phase ≤ c.phase
