@@ -12,23 +12,23 @@ use Rattle.like_service.specs.Service.{Service}
 abbrev pub max_chosen : ℕ
 max_chosen = 1024
 
--- the phases below this one that have any pages by these masks, rising, each with its mask
+-- the phases below this one that have pages by these masks, in order, each with its mask
 abbrev pub chosen_below : (ℕ → ℕ) → ℕ → List Chosen
 chosen_below masks phase =
     filter (λ c. nat_lt 0 c.mask)
     (map (λ k. record { phase = k; mask = masks k }) (range_with_len 0 phase))
 
--- the mask of the pages that got at least so many likes before a split phase, of the first 64 that are there
+-- the mask of those of the first 64 pages that got at least so many likes before a split phase; 0 in a joined one
 abbrev pub liked_pages : ℕ → ℕ → (ℕ → ℕ → ℕ) → ℕ → ℕ
 liked_pages least pages got phase =
     if phase % 2 == 1 then mask (λ page. nat_le least (got phase page)) (min hot_pages pages) else 0
 
--- the mask of a phase's hot pages: those that got enough likes before it, and none once 1,024 phases have some
+-- the mask of a phase's hot pages: those that got enough likes before it, unless 1,024 earlier phases had some
 abbrev pub hot_by : Option ℕ → ℕ → (ℕ → ℕ → ℕ) → ℕ → ℕ
 hot_by None pages got phase = 0
 hot_by (Some least) pages got phase =
-    if nat_lt (length (chosen_below (liked_pages least pages got) phase)) max_chosen
-    then liked_pages least pages got phase else 0
+    let liked = liked_pages least pages got in
+    if nat_lt (length (chosen_below liked phase)) max_chosen then liked phase else 0
 
 -- how many accepted likes of a page ran in the two phases before this one, in all run lists
 abbrev pub likes_lately : Service → List (List Ran) → ℕ → ℕ → ℕ
