@@ -16,9 +16,9 @@ numbers_taken submitter taken = map (λ t. t.number) (filter (λ t. t.submitter 
 
 -- a worker took the requests of its submitters' plans, each once and in order, and no others
 abbrev pub TakesPlans : Service → ℕ → ℕ → List Took → Type 0
-TakesPlans service workers worker taken =
-    (submitter : ℕ) → numbers_taken submitter taken
-    ≡ (if worker_of workers submitter == worker then range_with_len 1 (length (slice_index_or service.plans submitter [])) else [])
+TakesPlans service workers worker taken = (submitter : ℕ) →
+    let plan = slice_index_or service.plans submitter [] in
+    numbers_taken submitter taken ≡ (if worker_of workers submitter == worker then range_with_len 1 (length plan) else [])
 
 -- a worker's log: it took its submitters' plans, in phases that never fall, ran them in run order, and answered right
 pub record IsLog (service : Service) (workers worker : ℕ) (log : WorkerLog) : Type 0 where

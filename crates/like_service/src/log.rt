@@ -28,7 +28,8 @@ pub struct Ran {
 pub struct Added {
     pub page: u32,
     pub phase: u32,
-    /// How many requests it had run: the entries below this place come before the addition, the others at it or after it.
+    /// How many entries of the worker's run list come before the addition. A like of a page that is not split is the
+    /// next entry itself.
     pub at: u32,
     /// The page's count before.
     pub old: u64,

@@ -13,7 +13,7 @@ pub struct Report {
     pub counts: Vec<u64>,
     /// The page of each user's last like, if there is one.
     pub last: Vec<Option<u32>>,
-    /// The phase in which the run ended.
+    /// The number of the last phase, in which the run ended; the first phase is 0.
     pub phases: u32,
     /// The phases with hot pages, rising, each with the mask of its own.
     pub hot: Vec<Chosen>,
