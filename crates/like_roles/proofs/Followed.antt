@@ -26,7 +26,7 @@ use Rattle.like_tables.specs.declared.held.Held.{Held}
 use Rattle.like_service.specs.declared.log.Ran.{Ran}
 use Rattle.like_service.specs.declared.log.Took.{Took}
 use Rattle.like_roles.specs.declared.turn.Turn.{Turn}
-use Rattle.like_roles.specs.worker.Follows.{FitsStash, Follows, IsAsked, IsAskedBy, IsInOrder, IsNoted, IsServed, IsSized, IsTallied, IsUnmerged, IsWithin, Stands, entry_held, next_joined}
+use Rattle.like_roles.specs.worker.Follows.{FitsStash, Follows, IsAsked, IsAskedBy, IsInOrder, IsNoted, IsServed, IsSized, IsTallied, IsUnmerged, HasNothingLater, Stands, entry_held, next_joined}
 use Rattle.like_service.specs.Order.{block, entry_of, order, order_below, stashed_in, took_to_wait}
 use Rattle.like_roles.specs.worker.WorkerView.{is_look_at_sliced, WorkerView, has_to_wait, phase_at, seat_of, submitter_at}
 use Rattle.like_service.specs.Looks.{accepted_look, page_looked_at}
@@ -61,7 +61,7 @@ follows-running : (service : Service) (v : WorkerView)
     → All (IsAsked service) v.held.held
     → FitsStash service v.taken
     → IsInOrder service v
-    → IsWithin v (phase_at v)
+    → HasNothingLater v (phase_at v)
     → ((place : ℕ) → v.pending ≡ Some place → RunsJoined v.post.state → v.held.held ≡ [])
     → Follows service v
 follows-running service v run served sized t noted unmerged held fits in_order within trying = record {
@@ -105,7 +105,7 @@ follows-run : (service : Service) (v after : WorkerView) (h : Held) (stashed : B
     → page_looked_at h.ask.request.op h.ask.request.page ≡ Some page → get_or v.slice page 0 ≡ 0)
     → All (IsAsked service) v.held.held
     → FitsStash service v.taken
-    → IsWithin v (phase_at v)
+    → HasNothingLater v (phase_at v)
     → ((e : HasRunOne v h stashed after) → IsInOrder service (record v { ran = after.ran }))
     → Follows service after
 follows-run service v after h stashed run here none served sized t was un has asked clear held fits within ordered =
@@ -143,7 +143,7 @@ follows-run service v after h stashed run here none served sized t was un has as
     ap (λ k. map entry_of after.ran ++ map (entry_held (k + k % 2)) after.held.held) (sym phase)
     ∙ ap (λ w. map entry_of after.ran ++ map (entry_held (next_joined v)) w.held) e.held
     ∙ ordered e ∙ ap (order service) (sym e.taken) in
-    let now_within : IsWithin after (phase_at v) = (
+    let now_within : HasNothingLater after (phase_at v) = (
       subst (λ xs. All (λ t. t.phase ≤ phase_at v) xs) (sym e.taken) within.0,
       subst (λ xs. All (λ x. x.phase ≤ phase_at v) xs) (sym e.ran)
           (All-push (λ (x : Ran). x.phase ≤ phase_at v) v.ran (ran_now v h stashed e.reply) within.1 (omega arith)),
@@ -152,7 +152,7 @@ follows-run service v after h stashed run here none served sized t was un has as
     (λ notes. running-unmerged service after.adds (λ _. Unit {0}) after.post.state runs
     (subst (λ (k : ℕ). IsUnmerged service after.adds (state.Runs k)) phase (all.3 (sym stays ∙ notes)).1))
     (subst (λ w. All (IsAsked service) w.held) (sym e.held) held) (subst (FitsStash service) (sym e.taken) fits)
-    in_order (subst (IsWithin after) phase now_within) (λ place p. absurd (cc (e.pending, none, p)))
+    in_order (subst (HasNothingLater after) phase now_within) (λ place p. absurd (cc (e.pending, none, p)))
 
 -- the worker after a look, where its post has then read these masks
 abbrev looking : WorkerView → Sight → List PhaseMask → WorkerView

@@ -7,7 +7,7 @@ use Rattle.like_core.specs.declared.worker_state.WorkerState.TheVariants as stat
 use Rattle.like_core.specs.Phase.{IsJoined}
 use Rattle.like_core.specs.WorkerState.{RunsSome, phase_of}
 use Rattle.like_service.specs.declared.log.Took.{Took}
-use Rattle.like_roles.specs.worker.Follows.{IsInOrder, IsWithin, Stands, entry_held, next_joined}
+use Rattle.like_roles.specs.worker.Follows.{IsInOrder, HasNothingLater, Stands, entry_held, next_joined}
 use Rattle.like_service.specs.Order.{Entry, block, entry_of, order_below}
 use Rattle.like_service.specs.Service.{Service}
 use Rattle.like_roles.specs.worker.WorkerView.{WorkerView, phase_at}
@@ -42,14 +42,14 @@ runs-weaker P Q state.Gone f r = absurd r
 pub within-of_running : (v : WorkerView) (P : ℕ → Type 0) (s : WorkerState)
     → RunsSome P s
     → Stands v s
-    → IsWithin v (phase_of s)
+    → HasNothingLater v (phase_of s)
 within-of_running v P (state.Runs k) r w = w
 within-of_running v P (state.Answered k) r w = absurd r
 within-of_running v P state.Gone r w = absurd r
 
 pub running-of_within : (v : WorkerView) (P : ℕ → Type 0) (s : WorkerState)
     → RunsSome P s
-    → IsWithin v (phase_of s)
+    → HasNothingLater v (phase_of s)
     → Stands v s
 running-of_within v P (state.Runs k) r w = w
 running-of_within v P (state.Answered k) r w = absurd r
@@ -86,7 +86,7 @@ parts-same k (x ∷ xs) ys (u ∷ us) vs low next low_too next_too same =
 -- next block
 pub parts : (service : Service) (v : WorkerView)
     → IsInOrder service v
-    → IsWithin v (phase_at v)
+    → HasNothingLater v (phase_at v)
     → (IsJoined (phase_at v) → v.held.held ≡ [])
     → (map entry_of v.ran ≡ order_below service v.taken (phase_at v + 1))
     × (map (entry_held (next_joined v)) v.held.held ≡ block service v.taken (phase_at v + 1))

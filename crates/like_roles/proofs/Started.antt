@@ -14,7 +14,7 @@ use Rattle.like_core.specs.Post.{PostView, additions_in, additions_of, pages_of}
 use Rattle.like_tables.specs.UserTable.{last_of}
 use Rattle.like_roles.specs.declared.turn.Turn.{Turn}
 use Rattle.like_roles.specs.declared.turn.Turn.TheVariants as turn
-use Rattle.like_roles.specs.worker.Follows.{adds_to, Follows, IsDone, IsNoted, IsServiceOf, IsUnmerged, IsWithin, Stands, entry_held, next_joined}
+use Rattle.like_roles.specs.worker.Follows.{adds_to, Follows, IsDone, IsNoted, IsServiceOf, IsUnmerged, HasNothingLater, Stands, entry_held, next_joined}
 use Rattle.like_service.specs.Likes.{likes_within}
 use Rattle.like_roles.specs.worker.Shown.{shown_by, shown_in}
 use Rattle.like_roles.specs.worker.New.{IsNew, IsPostOf}
@@ -47,7 +47,7 @@ follows-new s sizes worker post notes v service p new same =
     let nothing : (page : ℕ) → additions_of v.post page ≡ 0 = λ page. ap (added_to page) additions in
     let in_slice : (page : ℕ) → get_or v.slice page 0 ≡ 0 =
     λ page. ap (λ xs. get_or xs page 0) new.slice ∙ same_everywhere (length s.pages) page 0 in
-    let within : IsWithin v 0 = (
+    let within : HasNothingLater v 0 = (
       λ i t h. absurd (omega (arith, ap length new.taken)),
       λ i e h. absurd (omega (arith, ap length new.ran)),
     ) in

@@ -114,14 +114,14 @@ IsInOrder service v =
     map entry_of v.ran ++ map (entry_held (next_joined v)) v.held.held ≡ order service v.taken
 
 -- it took nothing and ran nothing in a later phase than this
-abbrev pub IsWithin : WorkerView → ℕ → Type 0
-IsWithin v phase = All (λ t. t.phase ≤ phase) v.taken × All (λ e. e.phase ≤ phase) v.ran
+abbrev pub HasNothingLater : WorkerView → ℕ → Type 0
+HasNothingLater v phase = All (λ t. t.phase ≤ phase) v.taken × All (λ e. e.phase ≤ phase) v.ran
 
 -- what its state says of what it has done: nothing is of a later phase; when it has answered a joined phase it holds
 -- nothing; and when it is gone it holds nothing, and its submitters have ended
 abbrev pub Stands : WorkerView → WorkerState → Type 0
-Stands v (Runs phase) = IsWithin v phase
-Stands v (Answered phase) = IsWithin v phase × (IsJoined phase → v.held.held ≡ [])
+Stands v (Runs phase) = HasNothingLater v phase
+Stands v (Answered phase) = HasNothingLater v phase × (IsJoined phase → v.held.held ≡ [])
 Stands v Gone = (v.held.held ≡ []) × TookAllEnds v
 
 -- in no phase do more come out of the stash than it has room for
