@@ -12,7 +12,7 @@ use Rattle.like_seat.specs.Lead.{ChoosesRisen, LeadView, Sees, counted_from, non
 use Rattle.like_seat.proofs.Leading.{counted-is}
 use Rattle.like_live.specs.declared.driver_answer.DriverAnswer.{DriverAnswer}
 use Rattle.like_live.specs.Opening.{splits_by}
-use Rattle.like_live.specs.Driver.{DriverCase, DriverTurns, EndsGone, HasRoom, IsKept, IsSameDriver, IsService, LooksForGone, ReleasesNext, SnapshotCase, TakesLast, TakesSnapshot, announces, announces_end, ended, ending, counted, is_last, not_at_end, not_gone, some_left, not_now, releases, releases_joined, releases_split, running, taken, waiting}
+use Rattle.like_live.specs.Driver.{AreDriverParts, DriverCase, DriverTurns, EndsGone, HasRoom, IsSameDriver, IsService, LooksForGone, ReleasesNext, SnapshotCase, TakesLast, TakesSnapshot, announces, announces_end, ended, ending, counted, is_last, not_at_end, not_gone, some_left, not_now, releases, releases_joined, releases_split, running, taken, waiting}
 
 same-on : (u v w : LeadView) → IsSameDriver u v → IsSameDriver v w → IsSameDriver u w
 same-on u v w a b = record { board = b.board ∙ a.board; opening = b.opening ∙ a.opening; hot = b.hot ∙ a.hot }
@@ -241,8 +241,8 @@ stays-service v w stays service = record {
 
 pub stays-kept : (board : BoardId) (splits : Bool) (pages : ℕ) (v w : LeadView)
     → Stays v w
-    → IsKept board splits pages v
-    → IsKept board splits pages w
+    → AreDriverParts board splits pages v
+    → AreDriverParts board splits pages w
 stays-kept board splits pages v w stays kept = record {
   here = stays.same.board ∙ kept.here;
   splits_is = kept.splits_is ∙ sym (λ i. splits_by (stays.same.opening i).marks (stays.same.hot i));

@@ -11,7 +11,7 @@ use Rattle.like_live.specs.LiveView.{LiveView}
 use Rattle.like_live.specs.Calls.{GlanceCase, LikeCase, LookCase}
 use Rattle.like_live.specs.History.{Does, HasDone, Told, glance, like, look}
 
--- the call was told this, which is not that it has to wait
+-- the call was told this, and not that it must wait
 abbrev pub WasTold : Call → Answer → Told → Type 0
 WasTold (call.Like user page) (answer.Like a) told = (a ≢ liked.Between) × (told ≡ like user page a)
 WasTold (call.Look user page tag) (answer.Look a) told =
@@ -25,20 +25,21 @@ WereTold [] [] [] = Unit {0}
 WereTold (c ∷ calls) (a ∷ answers) (t ∷ told) = WasTold c a t × WereTold calls answers told
 WereTold calls answers told = ⊥
 
--- the call is told `Between` or `NoRoom`, and is to be called again
+-- the call is told `Between` or `NoRoom`: it must be made again
 abbrev pub IsPutOff : LiveView → Call → LiveView → Type 0
 IsPutOff v (call.Like user page) after = LikeCase v user page liked.Between after
 IsPutOff v (call.Look user page tag) after =
     LookCase v user page tag looked.Between after ⊎ LookCase v user page tag looked.NoRoom after
 IsPutOff v (call.Glance user page) after = GlanceCase v user page glanced.Between after
 
--- the first calls of a batch are made, so many, and have these answers
-pub record HasRun (v : LiveView) (calls : List Call) (answers : List Answer) (done : ℕ) (after : LiveView) : Type 0 where
+-- the first calls of a batch, so many, are made and have these answers
+pub record HasRun (v : LiveView) (calls : List Call) (answers : List Answer) (done : ℕ) (after : LiveView)
+    : Type 0 where
   pub told : List Told
   pub history : HasDone v told after
   pub were : WereTold (take done calls) (take done answers) told
 
--- a batch is run: all its calls are made; or all up to the first that must wait
+-- a batch is run: all its calls are made, or all up to the first that must wait
 pub data RunCase (v : LiveView) (calls : List Call) (answers : List Answer) (done : ℕ) (after : LiveView) : Type 0 where
   all : done ≡ length calls → HasRun v calls answers done after → RunCase v calls answers done after
   stops : (now : LiveView) (next : Call) → slice_get calls done ≡ Some next

@@ -25,12 +25,12 @@ use Rattle.like_live.specs.declared.asked.Found.{Found}
 use Rattle.like_live.specs.LiveView.{LiveView, room_of, tally, waiting, with_seat}
 use Rattle.like_live.specs.Moves.{Moves}
 
--- a page by its number, where there are so many
+-- a page by its number, if there are so many pages
 abbrev pub page_ref : ℕ → ℕ → PageRef
 page_ref pages page = if nat_lt page pages then Known page else Unknown
 
--- the verdict on a request of a user for a page at this seat: the first that fails of "the user is there", "it is this
--- seat's" and "the page is there", and else that it is accepted
+-- the verdict on a request of a user for a page at this seat: that it is accepted, or the first of these that fails:
+-- the user exists, the user is this seat's, the page exists
 abbrev pub verdict_at : SeatView Asked → ℕ → ℕ → Verdict
 verdict_at s user page =
     verdict_of s.last.share.users s.last.share.submitters s.last.share.worker
@@ -82,8 +82,8 @@ pub data LookCase (v : LiveView) (user page tag : ℕ) (answer : LookAnswer) (af
   runs : (now : LiveView) → Moves v turn.Runs now → LooksNow now user page tag answer after
       → LookCase v user page tag answer after
 
--- what a glance does at a seat that runs a phase: of a page that is not split it is a read; of one that is split, the
--- count is that on the board and the seat's own slice
+-- what a glance does at a seat that runs a phase. A page that is not split is read. Of a split page, the count is that
+-- on the board plus the seat's own slice
 pub data GlancesNow (v : LiveView) (user page : ℕ) (answer : GlanceAnswer) (after : LiveView) : Type 0 where
   refused : verdict_at v.seat user page ≢ Accepted
       → answer ≡ glance.Refused (verdict_at v.seat user page) → after ≡ v → GlancesNow v user page answer after
@@ -107,14 +107,14 @@ pub data GlanceCase (v : LiveView) (user page : ℕ) (answer : GlanceAnswer) (af
 abbrev pub retired_seat : LiveView → LiveView
 retired_seat v = record v { seat = record v.seat { post = retired v.seat.post } }
 
--- what it does to a seat that runs a phase to retire: in a joined one, in which nothing waits, it is gone
+-- what retiring does to a seat that runs a phase: in a joined phase, in which nothing waits, the seat is gone
 pub data RetiresNow (v : LiveView) (answer : TurnAnswer) (after : LiveView) : Type 0 where
   retires : RunsJoined v.seat.post.state → waiting v ≡ []
       → answer ≡ turn.Gone → after ≡ retired_seat v → RetiresNow v answer after
   runs : RunsSplit v.seat.post.state → answer ≡ turn.Runs → after ≡ v → RetiresNow v answer after
 
--- retire case: the answer, and the seat after; the phase work comes first, and where the seat does not run a phase after
--- it, this is a turn
+-- retire case: the answer, and the seat after; the phase work comes first, and if the seat runs no phase after it, this
+-- is a turn
 pub data RetireCase (v : LiveView) (answer : TurnAnswer) (after : LiveView) : Type 0 where
   turns : answer ≢ turn.Runs → Moves v answer after → RetireCase v answer after
   runs : (now : LiveView) → Moves v turn.Runs now → RetiresNow now answer after
@@ -124,7 +124,7 @@ pub data RetireCase (v : LiveView) (answer : TurnAnswer) (after : LiveView) : Ty
 abbrev pub TakesFound : LiveView → Option Found → LiveView → Type 0
 TakesFound v taken after = (taken ≡ slice_get v.found 0) × (after ≡ record v { found = drop 1 v.found })
 
--- how many likes of a page an answer to a like of another tells: one, if that is the page and it was liked
+-- how many likes of the other page an answer to a like of a page tells: one, if they are the same and it was liked
 abbrev pub told_of : ℕ → ℕ → LikeAnswer → ℕ
 told_of page other like.Liked = if page == other then 1 else 0
 told_of page other answer = 0
@@ -133,7 +133,7 @@ told_of page other answer = 0
 abbrev pub TalliesLike : LiveView → ℕ → LikeAnswer → LiveView → Type 0
 TalliesLike v page answer after = (other : ℕ) → tally after other ≡ tally v other + told_of page other answer
 
--- the last likes after an answer to a like: where it was liked, the page is the user's last
+-- the last likes after an answer to a like: if it was liked, the page is the user's last
 abbrev pub last_after : UserTable → ℕ → ℕ → LikeAnswer → UserTable
 last_after t user page like.Liked = with_last t user page
 last_after t user page answer = t

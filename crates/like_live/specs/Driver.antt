@@ -18,8 +18,8 @@ use Rattle.like_live.specs.declared.driver_answer.DriverAnswer.TheVariants.{Anno
 abbrev pub splits_some : LeadView → Bool
 splits_some v = splits_by v.seat.opening.marks v.hot
 
--- whether a phase of a service may be ended, where this says if something would be split in a split phase: it is not the
--- last, and it is split, or something would be split in the next
+-- whether a phase of a service may be ended: it is not the last, and either it is split or `splits` says that something
+-- would be split in the next
 abbrev pub may_be_ended : ℕ → Bool → Bool
 may_be_ended phase splits =
     nat_lt phase service_limits.last_phase && ((phase % 2 == 1) || splits)
@@ -28,7 +28,7 @@ may_be_ended phase splits =
 abbrev pub can_end : LeadView → Bool
 can_end v = may_be_ended v.seat.phase (splits_some v)
 
--- it releases the next phase: before a split one it chooses that phase's hot pages, and publishes their mask
+-- it releases the next phase: before a split one it chooses its hot pages, and publishes their mask
 pub data ReleasesNext (v after : LeadView) : Type 0 where
   releases_joined : IsSplit v.seat.phase → after ≡ released v → ReleasesNext v after
   releases_split : IsJoined v.seat.phase → (m : ℕ) (chosen : LeadView) → ChoosesRisen v m chosen
@@ -38,8 +38,8 @@ pub data ReleasesNext (v after : LeadView) : Type 0 where
 abbrev pub IsDue : LeadView → Bool → Type 0
 IsDue v may_end = (may_end ≡ true) ⊎ IsSplit v.seat.phase
 
--- the five cases of a turn whose look showed this: at most one thing is done. A phase goes on where its end is not asked
--- for, or may not be
+-- the five cases of a turn whose look showed this: each does at most one thing. A phase goes on if nobody asks for its
+-- end, or if it may not be ended
 pub data DriverCase (v : LeadView) (sight : CoordSight) (may_end : Bool)
     (answer : DriverAnswer) (after : LeadView) : Type 0 where
   ended : sight.all_gone ≡ true → answer ≡ Ended → after ≡ v
@@ -85,8 +85,8 @@ pub record TakesSnapshot (v : LeadView) (old : List ℕ) (phase : Option ℕ) (a
   pub sees : Sees v sight seen
   pub case : SnapshotCase seen sight old phase after counts
 
--- what it does where a look showed this: where all seats are gone, and nobody announced the end of the phase, it announces
--- it, but not that of the last phase
+-- what it does after a look that showed this: if all seats are gone and nobody announced the end of the phase, it
+-- announces it, unless the phase is the last
 pub data EndsGone (v : LeadView) (sight : CoordSight) (is_gone : Bool) (after : LeadView) : Type 0 where
   not_gone : sight.all_gone ≡ false → is_gone ≡ false → after ≡ v → EndsGone v sight is_gone after
   ending : sight.all_gone ≡ true → sight.ending ≡ true → is_gone ≡ true → after ≡ v → EndsGone v sight is_gone after
@@ -102,8 +102,8 @@ pub record LooksForGone (v : LeadView) (is_gone : Bool) (after : LeadView) : Typ
   pub sees : Sees v sight seen
   pub case : EndsGone seen sight is_gone after
 
--- the last counts, with no seats given back: where it saw all seats gone they are those of a snapshot, and nobody adds to
--- them any more; in the last phase of a service, whose end is never announced, there is none
+-- the last counts, with no seats given back. If it saw all seats gone, they are those of a snapshot, and nobody adds to
+-- them any more. In the last phase of a service there is none, since the end of that phase is never announced
 pub data TakesLast (v : LeadView) (old : List ℕ) (is_done : Bool) (after : LeadView) (counts : List ℕ) : Type 0 where
   some_left : LooksForGone v false after → is_done ≡ false → counts ≡ old → TakesLast v old is_done after counts
   not_at_end : (now : LeadView) → LooksForGone v true now → TakesSnapshot now old None after counts
@@ -112,8 +112,8 @@ pub data TakesLast (v : LeadView) (old : List ℕ) (is_done : Bool) (after : Lea
   counted : (now : LeadView) (phase : ℕ) → LooksForGone v true now → TakesSnapshot now old (Some phase) after counts
       → is_done ≡ true → TakesLast v old is_done after counts
 
--- what is true of every driver: its board has at most 1,024 pages and the limits of a service, and no phase was released
--- after all seats were gone
+-- what is true of every driver: its board has at most 1,024 pages and the limits of a service, and no phase was
+-- released after all seats were gone
 pub record IsService (v : LeadView) : Type 0 where
   pub few_pages : length v.seat.opening.counts ≤ max_pages
   pub marks : length v.seat.opening.marks ≡ length v.seat.opening.counts
@@ -126,15 +126,15 @@ pub record IsSameDriver (v after : LeadView) : Type 0 where
   pub opening : after.seat.opening ≡ v.seat.opening
   pub hot : after.hot ≡ v.hot
 
--- how a driver is kept: its lead is that of its board, and it knows whether something would be split, and how many pages
--- there are
-pub record IsKept (board : BoardId) (splits : Bool) (pages : ℕ) (v : LeadView) : Type 0 where
+-- a driver's parts agree: its lead is that of its board, and it knows whether something would be split, and how many
+-- pages there are
+pub record AreDriverParts (board : BoardId) (splits : Bool) (pages : ℕ) (v : LeadView) : Type 0 where
   pub here : v.board ≡ board
   pub splits_is : splits ≡ splits_some v
   pub pages_is : pages ≡ length v.seat.opening.counts
   pub service : IsService v
 
--- there is room for the workers' seats to be given back, and none is yet
+-- there is room for the workers' seats that are given back, and none is yet
 pub record HasRoom (back : Vec WorkerSeat Global) (v : LeadView) : Type 0 where
   pub none : back.items ≡ []
   pub enough : v.seat.opening.workers ≤ vec_capacity back

@@ -102,19 +102,19 @@ pub record IsUnused (v : LiveView) : Type 0 where
   pub fresh : IsFresh post
   pub new : IsNewLive post room (table_without_likes share) v
 
--- what is true of calls and a seat after them: a page's tally is the number of its likes that were told `Liked`; a
--- user's last like is the page of the user's last one; and the found looks that were taken, with those that are left, are
--- the looks that were told `Waits`, each once and in order
-pub record AreCounted (told : List Told) (after : LiveView) : Type 0 where
+-- the seat after these calls has counted them: a page's tally is the number of its likes that were told `Liked`; a
+-- user's last like is the page of the user's last one; and the looks that were told `Waits` are the found looks that
+-- were taken, then those that are left, each once and in order
+pub record HistoryIsCounted (told : List Told) (after : LiveView) : Type 0 where
   pub tallies : (page : ℕ) → tally after page ≡ likes_told page told
   pub last : (user : ℕ) → last_of after.seat.last user ≡ last_or None (pages_liked user told)
   pub taken : asks_taken told ++ asks_left after ≡ asks_told told
 
--- the law of histories: whatever calls a fresh seat is asked. Of a seat that is gone none waits, so once its found looks
--- are taken none is left
+-- the law of histories: whatever calls a fresh seat is asked, they are counted. At a seat that is gone none waits, so
+-- once its found looks are taken too, none is left
 abbrev pub HistoriesAreCounted : Type 0
 HistoriesAreCounted =
-    (v after : LiveView) (told : List Told) → IsUnused v → HasDone v told after → AreCounted told after
+    (v after : LiveView) (told : List Told) → IsUnused v → HasDone v told after → HistoryIsCounted told after
 
 -- nothing waits at a seat that is gone, whatever calls it was asked
 abbrev pub NoneWaitsOnceGone : Type 0

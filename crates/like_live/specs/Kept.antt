@@ -10,16 +10,16 @@ use Rattle.like_live.specs.declared.asked.Asked.{Asked}
 use Rattle.like_live.specs.declared.asked.Found.{Found}
 use Rattle.like_live.specs.LiveView.{IsLive, IsOwn, RanNext, live_of}
 
--- a live seat's parts: a worker's seat and a stash of found looks, the number of its pages, and how many more looks may
+-- a live seat's parts agree: a worker's seat, a stash of found looks, the number of pages, and how many more looks may
 -- wait
-pub record IsKept (s : SeatView Asked) (found : Waiting Found) (pages room : ℕ) : Type 0 where
+pub record AreLiveSeatParts (s : SeatView Asked) (found : Waiting Found) (pages room : ℕ) : Type 0 where
   pub live : IsLive (live_of s found)
   pub capacity : found.capacity ≡ s.held.capacity
   pub pages_are : pages ≡ pages_of s.post
   pub room_is : room + length s.held.held + length found.held ≡ s.held.capacity
 
 -- a live seat's parts after a look at the phase word that showed a phase that it runs: what waits was asked in that
--- phase, where it is split, and else in the one before
+-- phase if it is split, and otherwise in the one before
 pub record HasLooked (s : SeatView Asked) (found : Waiting Found) : Type 0 where
   pub seat : IsSeat s
   pub runs : IsRunning s.post.state

@@ -46,7 +46,7 @@ pub record IsSameSeat (v after : LiveView) : Type 0 where
   pub marks : after.seat.post.marks ≡ v.seat.post.marks
   pub share : after.seat.last.share ≡ v.seat.last.share
 
--- the look is one that the seat can answer: its page is there, and its user is the seat's
+-- the look is one that the seat can answer: its page exists, and its user is the seat's
 pub record IsOwn (s : SeatView Asked) (a : Asked) : Type 0 where
   pub there : a.page < pages_of s.post
   pub owned : IsTrue (owns s.last.share a.user)
@@ -55,9 +55,9 @@ pub record IsOwn (s : SeatView Asked) (a : Asked) : Type 0 where
 abbrev pub RanNext : Found → Type 0
 RanNext f = f.phase ≡ f.asked.phase + 1
 
--- what is true of every live seat: its board is a service's; it serves the users whose number modulo the number of seats
--- is its own; nothing waits unless it runs or has answered a split phase, and what waits was asked in that phase; what
--- was found ran in the next phase; and no more looks wait or were found than there is room for
+-- what is true of every live seat: its board is a service's; its users are those whose number modulo the number of
+-- seats is its own; nothing waits unless it runs or has answered a split phase, and what waits was asked in that phase;
+-- what was found ran in the next phase; and no more looks wait or were found than there is room for
 pub record IsLive (v : LiveView) : Type 0 where
   pub seat : IsSeat v.seat
   pub limits : v.seat.post.limits ≡ service_limits

@@ -16,7 +16,7 @@ use Rattle.like_live.specs.declared.asked.Asked.{Asked}
 use Rattle.like_live.specs.declared.asked.Found.{Found}
 use Rattle.like_live.specs.LiveView.{LiveView, waiting, with_seat}
 
--- the seat after a look at the phase word; where it enters a split phase it has also read that phase's mask
+-- the seat after a look at the phase word; if it enters a split phase, it has also read that phase's mask
 abbrev pub looked : LiveView → Sight → ℕ → LiveView
 looked v sight mask = with_seat v (saw v.seat sight mask)
 
@@ -54,8 +54,8 @@ pub record FindsAll (v after : LiveView) : Type 0 where
   pub shown : All (IsFoundAt v.seat) found
   pub rest : after ≡ with_found v found
 
--- what a seat does that has looked and runs a phase. In a joined phase, all looks that wait are found first. If the phase
--- is ending, the seat then stops: at the end of a joined phase it acknowledges; at the end of a split phase it adds its
+-- what a seat does that has looked and runs a phase. In a joined phase, it first finds all looks that wait. If the
+-- phase is ending, it then stops: at the end of a joined phase it acknowledges; at the end of a split phase it adds its
 -- slice to the pages' counts, empties it, and reports
 pub data Works (v : LiveView) (ending : Bool) (answer : TurnAnswer) (after : LiveView) : Type 0 where
   runs_joined : RunsJoined v.seat.post.state → ending ≡ false
@@ -73,7 +73,7 @@ abbrev pub CanSee : LiveView → Sight → Type 0
 CanSee v sight = IsSightWithin v.seat.post.limits v.seat.post.state sight
 
 -- the phase work of a seat: it is gone; or it has answered a phase and waits, since the next is not released yet; or it
--- runs the phase that it looked at, which it enters by that look where it is the next one
+-- runs the phase that it looked at, which it enters by that look if it is the next one
 pub data Moves (v : LiveView) (answer : TurnAnswer) (after : LiveView) : Type 0 where
   is_gone : v.seat.post.state ≡ Gone → answer ≡ turn.Gone → after ≡ v → Moves v answer after
   waits : (sight : Sight) (mask : ℕ) → CanSee v sight → sight.waits ≡ true

@@ -31,7 +31,7 @@ asking o = record {
   hot = o.hot;
 }
 
--- what the limit asks that is named by the error of breaking it
+-- the limit that this error says is broken
 abbrev pub Holds : Asking → OpenError → Type 0
 Holds a Pages = (1 ≤ length a.counts) × (length a.counts ≤ max_pages)
 Holds a Marks = length a.marks ≡ length a.counts

@@ -15,8 +15,9 @@ use Rattle.like_live.specs.LiveView.{IsNewLive, IsSameSeat, LiveView, tally}
 use Rattle.like_live.specs.Driver.{IsSameDriver, new_driver}
 use Rattle.like_live.specs.Opening.{IsWithinLimits}
 
--- a new seat of this number at this board: its users are those that are this number modulo the number of seats
-pub record IsNewSeat (o : Opening) (board : BoardId) (number : ℕ) (s : LiveView) : Type 0 where
+-- a seat of an opened service, by its number: it is new, at this board, and its users are those that are this number
+-- modulo the number of seats
+pub record IsOpenedSeat (o : Opening) (board : BoardId) (number : ℕ) (s : LiveView) : Type 0 where
   pub here : s.seat.post.board ≡ board_numbers board
   pub worker : s.seat.post.worker ≡ number
   pub fresh : IsFresh s.seat.post
@@ -24,16 +25,16 @@ pub record IsNewSeat (o : Opening) (board : BoardId) (number : ℕ) (s : LiveVie
   pub limits : s.seat.post.limits ≡ service_limits
   pub new : IsNewLive s.seat.post o.room (table_without_likes (share_of o.users o.seats o.seats number)) s
 
--- the new seats of a service in order
-pub record AreNewSeats (o : Opening) (board : BoardId) (seats : List LiveView) : Type 0 where
+-- the seats of an opened service, in order
+pub record AreOpenedSeats (o : Opening) (board : BoardId) (seats : List LiveView) : Type 0 where
   pub len : length seats ≡ o.seats
-  pub each : (i : ℕ) (s : LiveView) → slice_get seats i ≡ Some s → IsNewSeat o board i s
+  pub each : (i : ℕ) (s : LiveView) → slice_get seats i ≡ Some s → IsOpenedSeat o board i s
 
 -- a service that was opened so: every limit holds, and its driver and its seats are new ones of one board
 pub record IsOpened (o : Opening) (s : Service) : Type 0 where
   pub within : IsWithinLimits o
   pub driver : s.driver ≡ new_driver o s.driver.board
-  pub seats : AreNewSeats o s.driver.board s.seats.items
+  pub seats : AreOpenedSeats o s.driver.board s.seats.items
 
 -- the seats are those of the driver's board, each of them once
 pub record AreItsSeats (v : LeadView) (seats : List LiveView) : Type 0 where
@@ -63,10 +64,10 @@ AreBackFrom seats back = map seat_meaning back ≡ map (λ s. s.seat.post) seats
 abbrev pub total_of : LeadView → List LiveView → ℕ → ℕ
 total_of v seats page = slice_index v.seat.opening.counts page + sum_by (λ s. tally s page) seats
 
--- what is known of a service that was closed: each page's last count is its total. No seat added in a phase after the
--- driver's; each count that a look or a glance was shown is within its bounds; each snapshot has all additions up
--- to its phase; each phase had one mask; and the additions of all seats tile each page's counts
-pub record IsClosed (v : LeadView) (seats : List LiveView) (counts : List ℕ) : Type 0 where
+-- what is known of a closed service: each page's last count is its total; no seat added in a phase after the driver's;
+-- each count that a look or a glance was shown is within its bounds; each snapshot has all additions up to its phase;
+-- each phase had one mask; and the additions of all seats tile each page's counts
+pub record IsClosedService (v : LeadView) (seats : List LiveView) (counts : List ℕ) : Type 0 where
   pub len : length counts ≡ length v.seat.opening.counts
   pub totals : (page : ℕ) → page < length counts → slice_index counts page ≡ total_of v seats page
   pub back : List WorkerSeat

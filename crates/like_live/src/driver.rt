@@ -4,7 +4,7 @@ ghost use Rattle.like_board.specs.Rule.{opened_coord};
 ghost use Rattle.like_board.specs.Seats.{board_id, coord_board, coord_view};
 ghost use Rattle.like_live.specs.Driver.{DriverTurns, IsSameDriver, IsService, TakesLast, TakesSnapshot, new_driver};
 ghost use Rattle.like_live.specs.Opening.{IsWithinLimits, board_opening};
-ghost use Rattle.like_live.specs.Service.{AreGone, AreItsSeats, IsClosed};
+ghost use Rattle.like_live.specs.Service.{AreGone, AreItsSeats, IsClosedService};
 
 mod back;
 mod boundary;
@@ -46,13 +46,13 @@ impl Model for Driver {
     ghost use Rattle.std.specs.Arc.{arc_value};
     ghost use Rattle.like_board.specs.Seats.{board_id};
     ghost use Rattle.like_seat.specs.Lead.{LeadView};
-    ghost use Rattle.like_live.specs.Driver.{HasRoom, IsKept};
+    ghost use Rattle.like_live.specs.Driver.{AreDriverParts, HasRoom};
 
     ghost Value = { LeadView };
 
     ghost view = { λ d. d.lead };
 
-    ghost invariant = { λ d. IsKept (board_id (arc_value d.board)) d.splits d.pages d.lead
+    ghost invariant = { λ d. AreDriverParts (board_id (arc_value d.board)) d.splits d.pages d.lead
         × HasRoom d.back d.lead };
 }
 
@@ -84,9 +84,9 @@ impl Driver {
         }
     }
 
-    /// Makes one look at the phase word, and does at most one thing. It announces the end of the phase where `may_end`
-    /// is set, and of a split phase also where a seat's room for looks is half taken. A joined phase goes on where no page
-    /// is marked and none can be hot.
+    /// Makes one look at the phase word, and does at most one thing. It announces the end of the phase if `may_end` is
+    /// set, and of a split phase also if a seat's room for looks is half taken. A joined phase goes on if no page is
+    /// marked and none can be hot.
     pub fn turn(&mut self, may_end: bool) -> DriverAnswer
         ensures case { DriverTurns self.old may_end result self.new }
         ensures keeps { IsService self.new }
@@ -101,9 +101,9 @@ impl Driver {
         )
     }
 
-    /// Writes all pages' counts, where a joined phase is ending and every seat has answered it or is gone: before the
-    /// split phase that comes next is released. They are the counts of one moment, the boundary of the two phases, and
-    /// the answer is the phase that ends there. Else it writes nothing, and answers none.
+    /// Writes all pages' counts, if a joined phase is ending and every seat has answered it or is gone. They are the
+    /// counts of one moment, the boundary of that phase and the split one that comes next, and the answer is the phase
+    /// that ends there. Otherwise it writes nothing, and answers none.
     pub fn snapshot(&mut self, counts: &mut [u64]) -> Option<u64>
         requires places { length counts.old ≡ length self.old.seat.opening.counts }
         ensures case { TakesSnapshot self.old counts.old result self.new counts.new }
@@ -113,8 +113,8 @@ impl Driver {
         read_boundary(&mut self.lead, &self.board, counts)
     }
 
-    /// Writes all pages' last counts, once all seats are gone, and says whether it did. It takes no seats, and so serves a
-    /// host that cannot show whose they are. Where nobody ended the phase it ends it, but for the last one of a service.
+    /// Writes all pages' last counts, once all seats are gone, and says whether it did. It takes no seats, so it serves
+    /// a host that can't show whose they are. If nobody ended the phase, it does so, unless it is a service's last.
     pub fn last_counts(&mut self, counts: &mut [u64]) -> bool
         requires places { length counts.old ≡ length self.old.seat.opening.counts }
         ensures case { TakesLast self.old counts.old result self.new counts.new }
@@ -124,12 +124,12 @@ impl Driver {
         read_last(&mut self.lead, &self.board, counts)
     }
 
-    /// Ends the board, where all seats are given back and are gone, and writes each page's last count.
+    /// Ends the board, once all seats are given back and gone, and writes each page's last count.
     pub(crate) fn finish(self, seats: Vec<LiveSeat<SharedPost>>, counts: &mut [u64])
         requires whole { AreItsSeats self seats.items }
         requires gone { AreGone seats.items }
         requires places { length counts.old ≡ length self.seat.opening.counts }
-        ensures { IsClosed self seats.items counts.new }
+        ensures { IsClosedService self seats.items counts.new }
     {
         let Driver {
             board,

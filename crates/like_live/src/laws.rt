@@ -1,14 +1,15 @@
 //! The laws of a live seat's histories. Each is the contract of a function that does nothing.
 ghost use Rattle.like_live.specs.History.{HistoriesAreCounted, NoneWaitsOnceGone};
 
-/// Whatever calls a fresh seat is asked: a page's tally is the number of its likes that were told `Liked`; a user's last
-/// like is the page of the user's last one; and the found looks that were taken, with those that are left, are the looks
-/// that were told `Waits`, each once and in order.
+/// Whatever calls a fresh seat is asked: a page's tally is the number of its likes that were told `Liked`. A user's
+/// last like is the page of the user's last one. The looks that were told `Waits` are the found looks that were taken,
+/// then those that are left, each once and in order.
 pub fn histories_are_counted()
     ensures { HistoriesAreCounted }
 {}
 
-/// Nothing waits at a seat that is gone. So once its found looks are taken too, each look that was told `Waits` was taken.
+/// Nothing waits at a seat that is gone. So once its found looks are taken too, each look that was told `Waits` was
+/// taken.
 pub fn none_waits_once_gone()
     ensures { NoneWaitsOnceGone }
 {}

@@ -45,11 +45,11 @@ impl<P: Post> Model for LiveSeat<P> {
 
     ghost Value = { LiveView };
 
-    ghost use Rattle.like_live.specs.Kept.{IsKept};
+    ghost use Rattle.like_live.specs.Kept.{AreLiveSeatParts};
 
     ghost view = { λ s. live_of s.seat s.found };
 
-    ghost invariant = { λ s. IsKept s.seat s.found s.pages s.room };
+    ghost invariant = { λ s. AreLiveSeatParts s.seat s.found s.pages s.room };
 }
 
 impl<P: Post + Drop> LiveSeat<P> {
@@ -135,8 +135,8 @@ impl<P: Post> LiveSeat<P> {
         }
     }
 
-    /// Looks for a user at a page, and never waits. Of a page that is split now, the count lacks the likes of this phase
-    /// of other seats.
+    /// Looks for a user at a page, and never waits. If the page is split now, the count may lack other seats' likes of
+    /// this phase.
     #[inline(always)]
     pub fn glance(&mut self, user: u32, page: u32) -> GlanceAnswer
         ensures case { GlanceCase self.old user page result self.new }
@@ -152,7 +152,8 @@ impl<P: Post> LiveSeat<P> {
         }
     }
 
-    /// Retires, where the seat runs a joined phase and nothing waits; else this is a turn. Found looks can still be taken.
+    /// Retires, if the seat runs a joined phase and nothing waits; otherwise this is a turn. Found looks can still be
+    /// taken.
     pub fn retire(&mut self) -> TurnAnswer
         ensures case { RetireCase self.old result self.new }
         ensures keeps { IsLive self.new }

@@ -1,6 +1,6 @@
 ghost use Rattle.std.specs.Prelude.{◌≡◌, IfErr, IfOk, OnOk, length};
 ghost use Rattle.like_live.specs.Opening.{IsRefused};
-ghost use Rattle.like_live.specs.Service.{AreGone, AreItsSeats, CallsKeepSeats, IsClosed, IsOpened};
+ghost use Rattle.like_live.specs.Service.{AreGone, AreItsSeats, CallsKeepSeats, IsClosedService, IsOpened};
 
 mod parts;
 
@@ -52,7 +52,7 @@ impl Service {
         requires whole { AreItsSeats self.driver self.seats.items }
         requires places { length counts.old ≡ length self.driver.seat.opening.counts }
         ensures gone { OnOk result (AreGone self.seats.items) }
-        ensures closed { OnOk result (IsClosed self.driver self.seats.items counts.new) }
+        ensures closed { OnOk result (IsClosedService self.driver self.seats.items counts.new) }
         ensures back { IfErr result (λ refused. refused.service ≡ self) }
         ensures some { IfErr result (λ _. ¬ AreGone self.seats.items) }
         ensures unchanged { IfErr result (λ _. counts.new ≡ counts.old) }

@@ -8,8 +8,8 @@ use crate::live_seat::LiveSeat;
 use like_core::Post;
 
 impl<P: Post> LiveSeat<P> {
-    /// Makes calls one by one, up to the first that is told `Between` or `NoRoom`, and writes their answers. Says how many
-    /// were done; that one was not, and is to be called again. The answers behind are left as they were.
+    /// Makes calls one by one, up to the first that is told `Between` or `NoRoom`, and writes their answers. Says how
+    /// many were done. That first one was not: call it again. Its answer, and those behind, are left as they were.
     pub fn run(&mut self, calls: &[Call], answers: &mut [Answer]) -> usize
         requires { length calls.now ≤ length answers.old }
         ensures case { RunCase self.old calls.now answers.new result self.new }

@@ -5,7 +5,7 @@ ghost use Rattle.like_board.specs.Seats.{AreFresh, board_id, seat_board, seat_me
 ghost use Rattle.like_core.specs.Post.{IsFresh};
 ghost use Rattle.like_core.specs.views.Views.{fresh};
 ghost use Rattle.like_live.specs.Opening.{IsWithinLimits, board_opening};
-ghost use Rattle.like_live.specs.Service.{AreGone, AreNewSeats, IsNewSeat, IsOpened};
+ghost use Rattle.like_live.specs.Service.{AreGone, AreOpenedSeats, IsOpenedSeat, IsOpened};
 
 use crate::driver::Driver;
 use crate::hint::Hint;
@@ -55,7 +55,7 @@ fn new_seats(
     requires within { IsWithinLimits opening.now }
     requires workers { AreFresh (board_id (arc_value board.now)) (board_opening opening.now) workers.items }
     requires len { length workers.items ≡ opening.now.seats }
-    ensures { IfOk result (λ seats. AreNewSeats opening.now (board_id (arc_value board.now)) seats.items) }
+    ensures { IfOk result (λ seats. AreOpenedSeats opening.now (board_id (arc_value board.now)) seats.items) }
 {
     let mut seats = Vec::new(alloc);
     for worker in workers {
@@ -80,7 +80,7 @@ fn new_seat(
     requires here { seat_board worker ≡ board_id (arc_value board.now) }
     requires view { seat_view worker ≡ fresh (board_opening opening.now) number }
     requires fresh { IsFresh (seat_meaning worker) }
-    ensures { IfOk result (IsNewSeat opening.now (board_id (arc_value board.now)) number) }
+    ensures { IfOk result (IsOpenedSeat opening.now (board_id (arc_value board.now)) number) }
 {
     let post = worker.at_shared(Arc::try_clone(board)?);
     let marks = Vec::from_slice(alloc, &opening.marks)?;

@@ -5,7 +5,7 @@ use Rattle.std.proofs.lemmas.List.{length_push}
 use Rattle.std.specs.Arc.{arc_value}
 use Rattle.like_board.specs.Seats.{board_id}
 use Rattle.like_live.specs.LiveView.{LiveView}
-use Rattle.like_live.specs.Service.{IsNewSeat}
+use Rattle.like_live.specs.Service.{IsOpenedSeat}
 use Rattle.like_live.proofs.Newly.{each-pushed}
 use Rattle.like_live.proofs.service.parts.new_seats.Goals as goal
 
@@ -25,7 +25,7 @@ loop-worker-preserved c =
     let l = c.loop-worker in
     let seat = c.in_ok-seat.seat in
     let items = c.in_ok-push.ensures.items in
-    let Is : ℕ → LiveView → Type 0 = IsNewSeat c.args.opening.now (board_id (arc_value c.args.board.now)) in
+    let Is : ℕ → LiveView → Type 0 = IsOpenedSeat c.args.opening.now (board_id (arc_value c.args.board.now)) in
     let number : c.len-number.result ≡ length l.seats.items = c.len-number.ensures ∙ l.seats.ok.0 in
     record {
       len = ap length items ∙ length_push l.seats.items seat ∙ ap (λ n. n + 1) l.invariant.len
