@@ -61,8 +61,8 @@ pub data AnswersRow (v : LiveView) (request : RequestRow) (row : AnswerRow) (aft
       → row ≡ glance_row answer → AnswersRow v request row after
   row_unknown : 3 ≤ request.op → row ≡ status_row 10 → after ≡ v → AnswersRow v request row after
 
--- a found look is taken, and its row is written: it ran in the phase after that of its asking; else the row stays as it
--- was
+-- a found look is taken, and its row is written: it ran in the phase after the one in which it was asked. If there is
+-- none, the row stays as it was
 pub data TakesFoundAt (at : Option Seated) (old : FoundRow) (is_found : Bool) (row : FoundRow)
     (after : Option Seated) : Type 0 where
   empty_found : at ≡ None → is_found ≡ false → row ≡ old → after ≡ None → TakesFoundAt at old is_found row after
@@ -71,7 +71,7 @@ pub data TakesFoundAt (at : Option Seated) (old : FoundRow) (is_found : Bool) (r
   takes_found : (s t : Seated) (found : Found) → at ≡ Some s → TakesFound s.seat (Some found) t.seat → RanNext found
       → is_found ≡ true → row ≡ found_row found → after ≡ Some t → TakesFoundAt at old is_found row after
 
--- a driver takes a turn, and its seats that were not taken yet stay
+-- a driver takes a turn. The seats that were not taken yet stay
 pub data DrivesAt (at : Option Opened) (may_end : Bool) (status : ℕ) (after : Option Opened) : Type 0 where
   empty_drive : at ≡ None → status ≡ 19 → after ≡ None → DrivesAt at may_end status after
   drives : (o p : Opened) (answer : DriverAnswer) → at ≡ Some o → DriverTurns o.driver may_end answer p.driver
@@ -95,7 +95,7 @@ pub data SnapshotAt (at : Option Opened) (old : List ℕ) (status : ℕ) (counts
       → TakesSnapshot o.driver old (Some phase) p.driver counts
       → status ≡ 17 → p.seats ≡ o.seats → after ≡ Some p → SnapshotAt at old status counts after
 
--- the last counts are asked for: where they are written the handle is left empty
+-- the last counts are asked for: if they are written, the handle is left empty
 pub data ClosesAt (at : Option Opened) (old : List ℕ) (status : ℕ) (counts : List ℕ)
     (after : Option Opened) : Type 0 where
   empty_close : at ≡ None → status ≡ 19 → counts ≡ old → after ≡ None → ClosesAt at old status counts after
@@ -117,7 +117,7 @@ pub data DriverPhaseAt (at : Option Opened) (phase : ℕ) : Type 0 where
   empty_driver : at ≡ None → phase ≡ 0 → DriverPhaseAt at phase
   driver_phase : (o : Opened) → at ≡ Some o → phase ≡ o.driver.seat.phase → DriverPhaseAt at phase
 
--- the next seat is handed out, into a handle that is empty
+-- the next seat is handed out, into an empty handle
 pub data HandsOut (from : Option Opened) (to : Option Seated) (status : ℕ) (left : Option Opened)
     (after : Option Seated) : Type 0 where
   hand_in_use : to ≢ None → status ≡ 20 → left ≡ from → after ≡ to → HandsOut from to status left after
@@ -129,26 +129,26 @@ pub data HandsOut (from : Option Opened) (to : Option Seated) (status : ℕ) (le
       → o.seats.items ≡ p.seats.items ++ b ∷ [] → b.value ≡ s
       → status ≡ 0 → left ≡ Some p → after ≡ Some s → HandsOut from to status left after
 
--- a service is opened as is asked for, into a handle that is empty; or the first wrong number is told; or that there is no
--- memory
+-- a service is opened as asked for, into an empty handle; or the first wrong number is told, or that there is no memory
 pub data OpensAt (asked : Asking) (at : Option Opened) (status : ℕ) (after : Option Opened) : Type 0 where
   open_in_use : at ≢ None → status ≡ 20 → after ≡ at → OpensAt asked at status after
   opens : (o : Opened) → at ≡ None → IsOpenedAs asked o → status ≡ 0 → after ≡ Some o → OpensAt asked at status after
   refused : (error : OpenError) → at ≡ None → IsRefusedAs asked error → status ≡ open_status error → after ≡ None
       → OpensAt asked at status after
 
--- a row that tells its request to wait
+-- a row that tells its request that it must wait
 abbrev pub IsToWait : AnswerRow → Type 0
 IsToWait row = (row.status ≡ 5) ⊎ (row.status ≡ 6)
 
--- these requests are answered one by one, each in its row, and none is to wait
+-- these requests are answered one by one, each in its row, and none must wait
 abbrev pub RowsAnswered : LiveView → List RequestRow → List AnswerRow → LiveView → Type 0
 RowsAnswered v [] [] after = after ≡ v
 RowsAnswered v (request ∷ requests) (row ∷ rows) after =
     (now : LiveView) × (AnswersRow v request row now × (¬ IsToWait row) × RowsAnswered now requests rows after)
 RowsAnswered v requests rows after = ⊥
 
--- rows are run: all up to the end of the shorter, or up to one that is to wait, whose row tells so and is not counted
+-- rows are run: all, up to the end of the shorter list; or all up to one that must wait, whose row tells so and is not
+-- counted
 pub data RunsRows (v : LiveView) (requests : List RequestRow) (rows : List AnswerRow) (done : ℕ) (after : LiveView)
     : Type 0 where
   all_rows : done ≡ min (length requests) (length rows) → RowsAnswered v (take done requests) (take done rows) after
@@ -163,9 +163,14 @@ abbrev pub with_empty : List AnswerRow → List AnswerRow
 with_empty [] = []
 with_empty (row ∷ rows) = status_row 19 ∷ rows
 
+-- the answers that have no request stay as they were
+abbrev pub KeepsUnasked : List RequestRow → List AnswerRow → List AnswerRow → Type 0
+KeepsUnasked requests old rows = (i : ℕ) → length requests ≤ i → slice_get rows i ≡ slice_get old i
+
 -- rows are run at a handle; an empty one does none, and tells so in the first answer
 pub data RunsAt (at : Option Seated) (requests : List RequestRow) (old rows : List AnswerRow) (done : ℕ)
     (after : Option Seated) : Type 0 where
   empty_run : at ≡ None → done ≡ 0 → rows ≡ with_empty old → after ≡ None → RunsAt at requests old rows done after
-  runs : (s t : Seated) → at ≡ Some s → RunsRows s.seat requests rows done t.seat → after ≡ Some t
+  runs : (s t : Seated) → at ≡ Some s → RunsRows s.seat requests rows done t.seat
+      → KeepsUnasked requests old rows → after ≡ Some t
       → RunsAt at requests old rows done after

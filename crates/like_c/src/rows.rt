@@ -1,6 +1,6 @@
 //! The rows that cross between C and Rattle.
 ghost use Rattle.std.specs.Prelude.{◌≡◌, ◌<◌, ◌≤◌, ◌↔◌, ℕ, IsTrue, length, slice_get};
-ghost use Rattle.like_c.specs.Held.{AnswersRow, IsToWait, RunsRows};
+ghost use Rattle.like_c.specs.Held.{AnswersRow, IsToWait, KeepsUnasked, RunsRows};
 ghost use Rattle.like_c.specs.Rows.{found_row, glance_row, look_row, page_or_none, seen_row, status_row};
 
 use crate::status;
@@ -186,6 +186,7 @@ pub(crate) fn run(
     ensures requests { result ≤ length requests.now }
     ensures answers { result ≤ length answers.old }
     ensures rest { (i : ℕ) → result < i → slice_get answers.new i ≡ slice_get answers.old i }
+    ensures unasked { KeepsUnasked requests.now answers.old answers.new }
     ensures len { length answers.new ≡ length answers.old }
 {
     let rows = requests.len().min(answers.len());

@@ -1,4 +1,4 @@
-use Rattle.std.proofs.Common.{List, take, get_or, sym, ◌∙◌, subst, arith}
+use Rattle.std.proofs.Common.{◌<◌, List, take, get_or, sym, ◌∙◌, subst, arith}
 use Rattle.std.proofs.lemmas.Option.{slice_get-get_or}
 use Rattle.like_c.specs.declared.rows.AnswerRow.{AnswerRow}
 use Rattle.like_c.specs.declared.rows.RequestRow.{RequestRow}
@@ -26,6 +26,16 @@ returns-then-answer-clause-rows c =
 pub returns-then-answer-clause-rest : goal.returns-then-answer-clause-rest
 returns-then-answer-clause-rest c = λ k past.
     set-behind c.loop-done.answers c.loop-done.done k c.answer.new.row past ∙ c.loop-done.invariant.rest k (omega arith)
+
+pub returns-then-answer-clause-unasked : goal.returns-then-answer-clause-unasked
+returns-then-answer-clause-unasked c = λ k past.
+    let below : c.loop-done.done < k = omega (arith, c.loop-done-test.true, c.min-rows.ensures) in
+    set-behind c.loop-done.answers c.loop-done.done k c.answer.new.row below
+    ∙ c.loop-done.invariant.rest k (omega arith)
+
+pub returns-clause-unasked : goal.returns-clause-unasked
+returns-clause-unasked c = λ k past.
+    c.loop-done.invariant.rest k (omega (arith, c.loop-done.auto.done-end, c.min-rows.ensures))
 
 pub returns-clause-rest : goal.returns-clause-rest
 returns-clause-rest c = λ k past. c.loop-done.invariant.rest k (omega (arith, c.loop-done.auto.done-end))
