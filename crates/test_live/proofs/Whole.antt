@@ -42,3 +42,9 @@ pub two-of : (all one none : List LiveView) (p q : Option LiveView) (first secon
 two-of all one none p q first second a b is-p is-q empty =
     a ∙ (λ i. b i ++ option_to_list (is-p i))
     ∙ (λ i. (nil_from_length none empty i ++ option_to_list (is-q i)) ++ second ∷ [])
+
+-- two that were put at the end of an empty list are all of it
+pub back-of : (none one all : List LiveView) (first second : LiveView)
+    → length none ≡ 0 → one ≡ none ++ second ∷ [] → all ≡ one ++ first ∷ [] → all ≡ second ∷ first ∷ []
+back-of none one all first second empty a b =
+    b ∙ (λ i. a i ++ first ∷ []) ∙ (λ i. (nil_from_length none empty i ++ second ∷ []) ++ first ∷ [])

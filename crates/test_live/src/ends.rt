@@ -3,7 +3,7 @@ ghost use Rattle.like_live.specs.Driver.{IsSameDriver};
 ghost use Rattle.like_live.specs.LiveView.{IsSameSeat};
 ghost use Rattle.like_live.specs.Service.{AreItsSeats};
 
-use crate::services::opening_of;
+use crate::services::opened;
 use like_board::SharedPost;
 use like_live::{Driver, DriverAnswer, LikeAnswer, LiveSeat, Service, TurnAnswer};
 use std::process::Abort;
@@ -58,8 +58,19 @@ fn plays(
     retires(rt, second);
 }
 
+// Closes a service whose seats are gone.
+fn assert_closed(rt: &impl Abort, service: Service)
+    requires { AreItsSeats service.driver service.seats.items }
+{
+    let mut counts = [0, 0];
+    assert!(rt; service.driver.pages() == 2);
+    assert!(rt; service.close(&mut counts).is_ok());
+    assert!(rt; counts[0] == 13);
+    assert!(rt; counts[1] == 20);
+}
+
 // Plays a service, and closes it with its two seats in the other order.
-fn closes(rt: &impl Abort, service: Service) -> Result<(), Fail>
+fn closes(rt: &impl Abort, service: Service)
     requires { AreItsSeats service.driver service.seats.items }
 {
     let Service {
@@ -69,24 +80,16 @@ fn closes(rt: &impl Abort, service: Service) -> Result<(), Fail>
     let mut second = seats.pop().expect(rt, "a seat");
     let mut first = seats.pop().expect(rt, "a seat");
     if !seats.is_empty() {
-        return Err(Fail::new("more than two seats"));
+        panic!(rt; "more than two seats");
     }
     plays(rt, &mut driver, &mut first, &mut second);
-    seats.push(second)?;
-    seats.push(first)?;
-    let mut counts = [0, 0];
-    assert!(rt; driver.pages() == 2);
-    assert!(rt; Service { driver, seats }.close(&mut counts).is_ok());
-    assert!(rt; counts[0] == 13);
-    assert!(rt; counts[1] == 20);
-    Ok(())
+    seats.push_reserved(second);
+    seats.push_reserved(first);
+    assert_closed(rt, Service { driver, seats });
 }
 
 #[test]
 fn closes_a_service(rt: HostRuntime) -> Result<(), Fail> {
-    let opening = opening_of(rt.alloc(), 2, 4, 2)?;
-    match Service::open(rt.alloc(), &opening) {
-        Ok(service) => closes(&rt, service),
-        Err(_) => Err(Fail::new("no service")),
-    }
+    closes(&rt, opened(rt.alloc(), 2, 2)?);
+    Ok(())
 }

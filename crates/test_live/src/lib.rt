@@ -4,7 +4,9 @@
 #[cfg(test)]
 mod ends;
 #[cfg(test)]
-mod seats;
+mod play;
+#[cfg(test)]
+mod scenes;
 #[cfg(test)]
 mod services;
 #[cfg(test)]

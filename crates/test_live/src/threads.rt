@@ -1,8 +1,8 @@
 //! A service whose seats and driver are each called by a thread. What they end with is the same on every schedule.
-use crate::seats::{last_seat, opened};
-use crate::services::last_counts;
+use crate::play::are_last_counts;
+use crate::services::opened;
 use like_board::SharedPost;
-use like_live::{Driver, DriverAnswer, LikeAnswer, LiveSeat, LookAnswer, TurnAnswer};
+use like_live::{Driver, DriverAnswer, LikeAnswer, LiveSeat, LookAnswer, Service, TurnAnswer};
 use std::process::Abort;
 use std::test::Fail;
 use std::thread::{Threads, join};
@@ -94,17 +94,23 @@ fn in_threads(
     done
 }
 
+fn last_seat(rt: &impl Abort, service: &mut Service) -> LiveSeat<SharedPost> {
+    service.seats.pop().expect(rt, "a seat")
+}
+
+// Lets a service of two seats work in threads.
+fn play(rt: &(impl Abort + Threads + Sync), service: &mut Service) -> (Done, Done) {
+    let mut second = last_seat(rt, service);
+    let mut first = last_seat(rt, service);
+    in_threads(rt, &mut service.driver, &mut first, &mut second)
+}
+
 #[test]
 fn live_threads(rt: HostRuntime) -> Result<(), Fail> {
-    let mut service = opened(&rt, rt.alloc(), 2, 2)?;
-    let mut second = last_seat(&rt, &mut service);
-    let mut first = last_seat(&rt, &mut service);
-    let done = in_threads(&rt, &mut service.driver, &mut first, &mut second);
-    has_done_all(&rt, done.0);
-    has_done_all(&rt, done.1);
-    let mut counts = [0, 0];
-    assert!(rt; last_counts(&rt, &mut service.driver, &mut counts));
-    assert!(rt; counts[0] == 20_010);
-    assert!(rt; counts[1] == 20);
+    let mut service = opened(rt.alloc(), 2, 2)?;
+    let (first, second) = play(&rt, &mut service);
+    has_done_all(&rt, first);
+    has_done_all(&rt, second);
+    assert!(rt; are_last_counts(&mut service.driver, true, [20_010, 20]));
     Ok(())
 }
