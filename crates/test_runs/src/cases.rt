@@ -38,23 +38,11 @@ impl Case {
         plans_of(rt, alloc, self.requests, &pages)
     }
 
-    // What a replay of these plans by a script ends in.
-    fn replayed(
-        &self,
-        rt: &impl Abort,
-        alloc: Global,
-        plans: Vec<Vec<Request>>,
-        script: &[Turned],
-    ) -> Result<Report, ReplayFault> {
-        assert!(rt; script.len() <= MAX_ENTRIES as usize);
-        replay(alloc, &self.setup(rt, alloc), plans, script)
-    }
-
     /// What a replay of the case's own requests and script ends in.
     pub fn replay(&self, rt: &impl Abort, alloc: Global) -> Result<Report, ReplayFault> {
         let plans = self.plans(rt, alloc);
         let script = turns(rt, alloc, self.script);
-        self.replayed(rt, alloc, plans, &script)
+        replayed(rt, alloc, &self.setup(rt, alloc), plans, &script)
     }
 
     /// What a replay of these plans without a script ends in.
@@ -64,7 +52,7 @@ impl Case {
         alloc: Global,
         plans: Vec<Vec<Request>>,
     ) -> Result<Report, ReplayFault> {
-        self.replayed(rt, alloc, plans, &[])
+        replayed(rt, alloc, &self.setup(rt, alloc), plans, &[])
     }
 
     /// What a run of these plans on threads ends in.
@@ -90,7 +78,20 @@ impl Case {
     }
 }
 
-fn pages_of(rt: &impl Abort, alloc: Global, pages: &str) -> Pages {
+/// What a replay of these plans by a script ends in.
+pub fn replayed(
+    rt: &impl Abort,
+    alloc: Global,
+    setup: &Setup,
+    plans: Vec<Vec<Request>>,
+    script: &[Turned],
+) -> Result<Report, ReplayFault> {
+    assert!(rt; script.len() <= MAX_ENTRIES as usize);
+    replay(alloc, setup, plans, script)
+}
+
+/// The pages of a file, without its header.
+pub fn pages_of(rt: &impl Abort, alloc: Global, pages: &str) -> Pages {
     let text = format!(in alloc; "name,count,split\n{pages}").expect(rt, "memory");
     read_pages(alloc, text.as_bytes()).expect(rt, "pages")
 }
@@ -165,13 +166,21 @@ pub const SMALL: Case = Case {
     script: "",
 };
 
-/// Two workers, and one page that is split, whose requests are given by `requests`.
-pub const ONE_PAGE: Case = Case {
-    workers: 2,
-    users: 2,
-    turns: 1_000,
-    ..SMALL
-};
+/// One page that is split, whose requests are given by `requests`. A function that takes a case from here has none of its
+/// texts in its proof, as it would with a constant.
+pub fn one_page(workers: u32, users: u32, turns: u32) -> Case {
+    Case {
+        workers,
+        users,
+        turns,
+        ..SMALL
+    }
+}
+
+/// The case of `plain-likes`.
+pub fn plain_likes() -> &'static Case {
+    &PLAIN_LIKES
+}
 
 pub const PLAIN_LIKES: Case = Case {
     users: 2,

@@ -1,11 +1,12 @@
 //! Drawn replays, compared with runs that are played by the tables of turns.
 ghost use Rattle.std.specs.Prelude.{◌+◌, ◌<◌, ◌≤◌, ◌^◌, IfOk};
 
+use super::cases::{pages_of, replayed};
 use super::players::{Played, Player, play};
 use like_replies::Report;
-use like_requests::{Op, PageRef, Pages, Request, Setup, read_pages};
+use like_requests::{Op, PageRef, Pages, Request, Setup};
 use like_roles::WorkerLog;
-use like_run::{MAX_ENTRIES, Turned, replay};
+use like_run::Turned;
 use std::alloc::{AllocError, Global};
 use std::process::Abort;
 
@@ -50,17 +51,17 @@ fn draw_hot(draws: &mut Draws) -> Option<u32> {
 }
 
 // Four pages, of which these are split.
-fn pages_of(rt: &impl Abort, alloc: Global, split: [bool; 4]) -> Pages {
+fn marked_pages(rt: &impl Abort, alloc: Global, split: [bool; 4]) -> Pages {
     let [a, b, c, d] = split;
-    let text = format!(in alloc;
-        "name,count,split\na,10,{}\nb,20,{}\nc,30,{}\nd,40,{}\n",
+    let rows = format!(in alloc;
+        "a,10,{}\nb,20,{}\nc,30,{}\nd,40,{}\n",
         yes_or_no(a),
         yes_or_no(b),
         yes_or_no(c),
         yes_or_no(d)
     )
     .expect(rt, "memory");
-    read_pages(alloc, text.as_bytes()).expect(rt, "pages")
+    pages_of(rt, alloc, &rows)
 }
 
 // The settings of a run with these pages.
@@ -154,17 +155,6 @@ fn draw_script(
     Ok(script)
 }
 
-fn replayed(
-    rt: &impl Abort,
-    alloc: Global,
-    setup: &Setup,
-    plans: Vec<Vec<Request>>,
-    script: &[Turned],
-) -> Report {
-    assert!(rt; script.len() <= MAX_ENTRIES as usize);
-    replay(alloc, setup, plans, script).expect(rt, "a report")
-}
-
 // Whether each worker's log is what the player of that worker took and ran.
 fn are_as_played(logs: &[WorkerLog], players: &[Player]) -> bool {
     for (log, player) in logs.iter().zip(players) {
@@ -184,12 +174,13 @@ fn is_as_played(report: &Report, played: &Played) -> bool {
 // Whether a run that is drawn next is replayed as it is played.
 fn is_next_as_played(rt: &impl Abort, alloc: Global, draws: &mut Draws) -> bool {
     let split = draw_marks(draws);
-    let setup = draw_setup(draws, pages_of(rt, alloc, split));
+    let setup = draw_setup(draws, marked_pages(rt, alloc, split));
     let submitters = 1 + draws.below(7);
     let plans = draw_plans(alloc, draws, submitters).expect(rt, "memory");
     let script = draw_script(alloc, draws, setup.workers, submitters).expect(rt, "memory");
     let played = play(alloc, &setup, split, &plans, &script).expect(rt, "a play");
-    is_as_played(&replayed(rt, alloc, &setup, plans, &script), &played)
+    let report = replayed(rt, alloc, &setup, plans, &script).expect(rt, "a report");
+    is_as_played(&report, &played)
 }
 
 #[test]

@@ -1,6 +1,6 @@
 //! Example mixed-load: likes and looks of a page that is split and of one that isn't, on threads. Run order, and the bounds
 //! between which each count has to lie, are computed here from what the workers took and from which likes they ran.
-use super::cases::{Case, ONE_PAGE};
+use super::cases::{Case, SMALL};
 use super::watch::Watch;
 use like_requests::{Op, PageRef, Request};
 use like_roles::{Ran, Reply, Took, WorkerLog};
@@ -13,10 +13,13 @@ const MIXED_LOAD: Case = Case {
     workers: 4,
     users: 8,
     turns: 3,
-    hot: None,
     pages: "a,0,yes\nb,0,no\n",
-    ..ONE_PAGE
+    ..SMALL
 };
+
+fn mixed_load() -> &'static Case {
+    &MIXED_LOAD
+}
 
 // What a submitter's request of this number asks for: a like and a look of page 0, which is split, and then of page 1.
 fn asked(number: u32) -> (Op, u32) {
@@ -198,7 +201,7 @@ fn assert_logs(rt: &impl Abort, alloc: Global, logs: &[WorkerLog], phases: u32) 
 fn assert_run(rt: &(impl Abort + Threads + Wait + Sync), alloc: Global) {
     let gate = Watch::idle();
     let plans = plans(alloc).expect(rt, "memory");
-    let report = MIXED_LOAD.report(rt, alloc, plans, &gate);
+    let report = mixed_load().report(rt, alloc, plans, &gate);
     assert!(rt; report.counts.as_slice() == [4_000, 4_000].as_slice());
     assert!(rt; gate.calls() == (16_000, 16_000));
     assert!(rt; gate.phases() == report.phases.saturating_add(1));

@@ -1,5 +1,5 @@
 //! Where the additions of runs stand.
-use super::cases::{Case, PLAIN_LIKES, SPLIT_AND_STASH, TWO_SLICES};
+use super::cases::{Case, PLAIN_LIKES, SPLIT_AND_STASH, TWO_SLICES, plain_likes};
 use super::watch::Watch;
 use like_replies::{Place, Report};
 use like_run::{replay_noting, run_noting};
@@ -31,11 +31,8 @@ fn all_places() -> &'static [(&'static Case, &'static str)] {
 fn text_of(alloc: Global, places: &[Place]) -> Result<String, AllocError> {
     let mut text = String::new(alloc);
     for place in places {
-        let word = format!(in alloc;
-            "{}.{}.{}.{} ",
-            place.worker, place.phase, place.old, place.n
-        )?;
-        text.push_str(&word)?;
+        let (worker, phase, old, n) = (place.worker, place.phase, place.old, place.n);
+        write!(text, "{worker}.{phase}.{old}.{n} ")?;
     }
     Ok(text)
 }
@@ -71,8 +68,9 @@ fn are_placed_singly(places: &[Place]) -> bool {
 // On threads the likes run in any phase.
 #[test]
 fn places_on_threads(rt: HostRuntime) {
-    let plans = PLAIN_LIKES.plans(&rt, rt.alloc());
-    let report = PLAIN_LIKES.report(&rt, rt.alloc(), plans, &Watch::idle());
+    let case = plain_likes();
+    let plans = case.plans(&rt, rt.alloc());
+    let report = case.report(&rt, rt.alloc(), plans, &Watch::idle());
     assert!(rt; report.places.len() == 1);
     let page = report.places.first().expect(&rt, "a page");
     assert!(rt; are_placed_singly(page));
@@ -89,15 +87,15 @@ fn assert_none(rt: &impl Abort, report: &Report) {
 
 // The report of a replay that notes no additions.
 fn replayed_unnoted(rt: &impl Abort, alloc: Global) -> Report {
-    let setup = PLAIN_LIKES.setup(rt, alloc);
-    let plans = PLAIN_LIKES.plans(rt, alloc);
+    let setup = plain_likes().setup(rt, alloc);
+    let plans = plain_likes().plans(rt, alloc);
     replay_noting(alloc, &setup, plans, &[], false).expect(rt, "a report")
 }
 
 // The report of a run that notes none.
 fn ran_unnoted(rt: &(impl Abort + Threads + Wait + Sync), alloc: Global) -> Report {
-    let setup = PLAIN_LIKES.setup(rt, alloc);
-    let plans = PLAIN_LIKES.plans(rt, alloc);
+    let setup = plain_likes().setup(rt, alloc);
+    let plans = plain_likes().plans(rt, alloc);
     run_noting(rt, alloc, &setup, plans, &Watch::idle(), false).expect(rt, "a report")
 }
 

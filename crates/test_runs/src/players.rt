@@ -509,27 +509,32 @@ pub struct Played {
     pub chosen: Vec<Chosen>,
 }
 
+// How many submitters there are, one for each plan.
+fn submitters_of(plans: &[Vec<Request>]) -> u32 {
+    u32::try_from(plans.len()).unwrap_or(u32::MAX)
+}
+
 // What a run has beside its workers at its start.
 fn shared_of<'a>(
     alloc: Global,
     setup: &'a Setup,
     split: [bool; 4],
     plans: &'a [Vec<Request>],
-    submitters: u32,
 ) -> Result<Shared<'a>, AllocError>
     requires some { 1 ≤ setup.now.workers }
     requires few { setup.now.workers ≤ 16 }
 {
+    let lists = closed_lists(alloc, plans.len())?;
     Ok(Shared {
         setup,
-        submitters,
+        submitters: submitters_of(plans),
         split,
         core: core_of(alloc, setup.workers, &split)?,
         turns_left: setup.turns,
         counts: [10, 20, 30, 40],
         chosen: Vec::new(alloc),
         plans,
-        lists: closed_lists(alloc, plans.len())?,
+        lists,
     })
 }
 
@@ -543,6 +548,23 @@ fn play_on(
     rounds(shared, players)
 }
 
+// Plays a run of these workers. Gives the phase in which it ended, and the choices of hot pages.
+fn play_with(
+    alloc: Global,
+    setup: &Setup,
+    split: [bool; 4],
+    plans: &[Vec<Request>],
+    players: &mut [Player],
+    script: &[Turned],
+) -> Result<(u32, Vec<Chosen>), Stuck>
+    requires some { 1 ≤ setup.now.workers }
+    requires few { setup.now.workers ≤ 16 }
+{
+    let mut shared = shared_of(alloc, setup, split, plans)?;
+    let phases = play_on(&mut shared, players, script)?;
+    Ok((phases, shared.chosen))
+}
+
 /// Plays a script, and then rounds, with four pages of 10, 20, 30 and 40 likes of which these are split.
 pub fn play(
     alloc: Global,
@@ -554,15 +576,11 @@ pub fn play(
     requires some { 1 ≤ setup.now.workers }
     requires few { setup.now.workers ≤ 16 }
 {
-    let Ok(submitters) = u32::try_from(plans.len()) else {
-        return Err(Stuck::NoSuch);
-    };
-    let mut players = players_of(alloc, setup.workers, submitters)?;
-    let mut shared = shared_of(alloc, setup, split, plans, submitters)?;
-    let phases = play_on(&mut shared, &mut players, script)?;
+    let mut players = players_of(alloc, setup.workers, submitters_of(plans))?;
+    let (phases, chosen) = play_with(alloc, setup, split, plans, &mut players, script)?;
     Ok(Played {
         players,
         phases,
-        chosen: shared.chosen,
+        chosen,
     })
 }

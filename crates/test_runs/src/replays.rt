@@ -48,8 +48,7 @@ fn taken_text(alloc: Global, taken: &[Took]) -> Result<String, AllocError> {
     let mut text = String::new(alloc);
     for took in taken {
         let (phase, submitter, number) = (took.phase, took.submitter, took.number);
-        let word = format!(in alloc; "{phase}.{submitter}.{number} ")?;
-        text.push_str(&word)?;
+        write!(text, "{phase}.{submitter}.{number} ")?;
     }
     Ok(text)
 }
@@ -59,8 +58,7 @@ fn ran_text(alloc: Global, ran: &[Ran]) -> Result<String, AllocError> {
     for entry in ran {
         let (phase, submitter, number) = (entry.phase, entry.submitter, entry.number);
         let mark = if entry.stashed { "+" } else { "" };
-        let word = format!(in alloc; "{phase}.{submitter}.{number}{mark} ")?;
-        text.push_str(&word)?;
+        write!(text, "{phase}.{submitter}.{number}{mark} ")?;
     }
     Ok(text)
 }
@@ -177,32 +175,44 @@ fn assert_hot_in_1024_phases(rt: &impl Abort, report: &Report) {
     assert!(rt; report.hot.len() == 1_024 && is_hot_in_odd_phases(&report.hot));
 }
 
+// Example `hot-limit`.
+const HOT_LIMIT: Case = Case {
+    hot: Some(1),
+    ..HOT_CHOICE
+};
+
+fn hot_limit() -> &'static Case {
+    &HOT_LIMIT
+}
+
 // Like n of 2,060 runs in phase n, so the page is hot in each odd phase from 3 on, until 1,024 had hot pages.
 #[test]
 fn chooses_in_1024_phases_at_most(rt: HostRuntime) {
-    let case = Case {
-        hot: Some(1),
-        ..HOT_CHOICE
-    };
     let plans = likes(&rt, rt.alloc(), 1, 2_060);
-    let report = case.replay_plans(&rt, rt.alloc(), plans);
+    let report = hot_limit().replay_plans(&rt, rt.alloc(), plans);
     assert_hot_in_1024_phases(&rt, &report.expect(&rt, "a report"));
+}
+
+// Example `bounds`.
+const BOUNDS: Case = Case {
+    turns: 1_000_000,
+    pages: "a,0,no\n",
+    ..SMALL
+};
+
+fn bounds() -> &'static Case {
+    &BOUNDS
 }
 
 #[test]
 fn a_replay_has_a_million_rounds(rt: HostRuntime) {
-    let case = Case {
-        turns: 1_000_000,
-        pages: "a,0,no\n",
-        ..SMALL
-    };
     for (number, end) in [
         (1_000_000, "Unfinished"),
         (999_998, "Unfinished"),
         (999_997, "[] [999997] 0"),
     ] {
         let plans = likes(&rt, rt.alloc(), 1, number);
-        let replayed = case.replay_plans(&rt, rt.alloc(), plans);
+        let replayed = bounds().replay_plans(&rt, rt.alloc(), plans);
         assert_end(&rt, rt.alloc(), &replayed, end);
     }
 }

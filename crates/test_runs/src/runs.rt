@@ -1,5 +1,5 @@
 //! Runs on threads. What is asserted of them is the same on every schedule.
-use super::cases::{Case, ONE_PAGE, PLAIN_LIKES, likes};
+use super::cases::{Case, likes, one_page, plain_likes};
 use super::ledger::Ledger;
 use super::watch::{Held, Watch};
 use like_replies::{Answer, Report};
@@ -42,20 +42,16 @@ fn assert_liked(
 
 #[test]
 fn runs_plain_likes(rt: HostRuntime) {
-    let plans = PLAIN_LIKES.plans(&rt, rt.alloc());
-    let report = PLAIN_LIKES.report(&rt, rt.alloc(), plans, &Watch::idle());
+    let case = plain_likes();
+    let plans = case.plans(&rt, rt.alloc());
+    let report = case.report(&rt, rt.alloc(), plans, &Watch::idle());
     assert_liked(&rt, &report, 1, 3, 2, 13);
 }
 
 #[test]
 fn runs_many_submitters(rt: HostRuntime) {
     for turns in [0, 1_000] {
-        let case = Case {
-            workers: 16,
-            users: 64,
-            turns,
-            ..ONE_PAGE
-        };
+        let case = one_page(16, 64, turns);
         let plans = likes(&rt, rt.alloc(), 64, 1_000);
         let gate = Watch::idle();
         let report = case.report(&rt, rt.alloc(), plans, &gate);
@@ -68,11 +64,7 @@ fn runs_many_submitters(rt: HostRuntime) {
 #[test]
 fn runs_each_number_of_submitters(rt: HostRuntime) {
     for submitters in 1..=64 {
-        let case = Case {
-            workers: 1 + submitters % 16,
-            users: submitters,
-            ..ONE_PAGE
-        };
+        let case = one_page(1 + submitters % 16, submitters, 1_000);
         let plans = likes(&rt, rt.alloc(), submitters, 1);
         let report = case.report(&rt, rt.alloc(), plans, &Watch::idle());
         let users = submitters as usize;
@@ -93,10 +85,7 @@ fn assert_second_is_of_worker_1(rt: &impl Abort, report: &Report) {
 // Each submitter has more likes than 16 bits can number, and those of submitter 2 are refused. All of it is in phase 0.
 #[test]
 fn tells_the_gate_of_each_call(rt: HostRuntime) {
-    let case = Case {
-        turns: 1_000_000,
-        ..ONE_PAGE
-    };
+    let case = one_page(2, 2, 1_000_000);
     let gate = Ledger::new();
     let report = case.report(&rt, rt.alloc(), likes(&rt, rt.alloc(), 3, 70_000), &gate);
     assert!(rt; gate.is_right());
@@ -124,30 +113,37 @@ fn assert_held(
 #[test]
 fn runs_workers_side_by_side(rt: HostRuntime) {
     let plans = likes(&rt, rt.alloc(), 2, 1);
-    assert_held(&rt, rt.alloc(), Held::Workers, &ONE_PAGE, plans);
+    assert_held(
+        &rt,
+        rt.alloc(),
+        Held::Workers,
+        &one_page(2, 2, 1_000),
+        plans,
+    );
 }
 
 #[test]
 fn runs_a_submitter_beside_its_worker(rt: HostRuntime) {
-    let case = Case {
-        workers: 1,
-        users: 1,
-        turns: 0,
-        hot: None,
-        ..ONE_PAGE
-    };
     let plans = likes(&rt, rt.alloc(), 1, 2);
-    assert_held(&rt, rt.alloc(), Held::SecondRequest, &case, plans);
+    assert_held(
+        &rt,
+        rt.alloc(),
+        Held::SecondRequest,
+        &one_page(1, 1, 0),
+        plans,
+    );
 }
 
 #[test]
 fn runs_submitters_side_by_side(rt: HostRuntime) {
-    let case = Case {
-        workers: 1,
-        ..ONE_PAGE
-    };
     let plans = likes(&rt, rt.alloc(), 2, 1);
-    assert_held(&rt, rt.alloc(), Held::Submitters, &case, plans);
+    assert_held(
+        &rt,
+        rt.alloc(),
+        Held::Submitters,
+        &one_page(1, 2, 1_000),
+        plans,
+    );
 }
 
 // What a run of two likes with at most so many threads ends in.
@@ -157,7 +153,7 @@ fn limited(
     gate: &Watch,
     starts: u32,
 ) -> Result<Report, RunFault> {
-    let setup = ONE_PAGE.setup(rt, alloc);
+    let setup = one_page(2, 2, 1_000).setup(rt, alloc);
     run_limited(rt, alloc, &setup, likes(rt, alloc, 2, 1), gate, starts)
 }
 
@@ -180,11 +176,9 @@ fn starts_no_more_than_it_may(rt: HostRuntime) {
 
 #[test]
 fn names_the_limit_that_a_run_breaks(rt: HostRuntime) {
-    let case = Case {
-        workers: 17,
-        ..ONE_PAGE
-    };
     let plans = likes(&rt, rt.alloc(), 2, 1);
-    let fault = case.run(&rt, rt.alloc(), plans, &Watch::idle()).err();
+    let fault = one_page(17, 2, 1_000)
+        .run(&rt, rt.alloc(), plans, &Watch::idle())
+        .err();
     assert!(rt; fault == Some(RunFault::Settings(SettingsFault::Workers)));
 }

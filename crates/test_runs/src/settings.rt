@@ -1,6 +1,6 @@
 //! That a run keeps to the turns and the stash of its settings. No schedule is sure to show it, so each test makes runs
 //! until one has shown it, and so many at most.
-use super::cases::{Case, ONE_PAGE, likes, requests};
+use super::cases::{Case, likes, one_page, requests};
 use super::watch::{Held, Watch};
 use like_requests::Op;
 use like_roles::{Ran, WorkerLog};
@@ -21,11 +21,7 @@ fn watch(
     each: usize,
     gate: &Watch,
 ) {
-    let case = Case {
-        workers: 1,
-        turns,
-        ..ONE_PAGE
-    };
+    let case = one_page(1, 2, turns);
     let report = case.report(rt, alloc, likes(rt, alloc, submitters, each), gate);
     assert!(rt; report.phases.saturating_add(1) == gate.phases());
 }
@@ -85,9 +81,8 @@ fn most_stashed(logs: &[WorkerLog]) -> u32 {
 // Makes a run of 200 looks of the page that begins with phase 1, with a stash of so many, and says how full it was.
 fn fill_stash(rt: &(impl Abort + Threads + Wait + Sync), alloc: Global, stash: u32) -> u32 {
     let case = Case {
-        workers: 1,
         stash,
-        ..ONE_PAGE
+        ..one_page(1, 2, 1_000)
     };
     let gate = Watch::new(Held::FirstRequests(1), 1 << 24);
     let plans = requests(rt, alloc, Op::Look, 1, 200);
