@@ -16,14 +16,13 @@ fn core_of(rt: &impl Abort, alloc: Global, case: &Case) -> Result<Core, AllocErr
 
 // Asserts what a core answers to the events of a case.
 fn assert_case(rt: &impl Abort, core: &mut Core, case: &Case) {
-    assert_eq!(rt;
-        check_events(core, case.events),
-        case.checked,
+    assert!(rt;
+        check_events(core, case.events) == case.checked,
         "{}",
         case.name
     );
     for (event, shown) in case.steps {
-        assert_eq!(rt; core.step(*event), *shown, "{}: {event:?}", case.name);
+        assert!(rt; core.step(*event) == *shown, "{}: {event:?}", case.name);
     }
 }
 
@@ -46,13 +45,12 @@ fn refuses_announcement_in_last_phase(rt: HostRuntime) -> Result<(), Fail> {
             Event::Report(0)
         };
         let events = [Event::Announce, answer, Event::Release(0), Event::Look(0)];
-        assert_eq!(rt;
-            check_events(&mut core, &events),
-            Ok(()),
+        assert!(rt;
+            check_events(&mut core, &events) == Ok(()),
             "in phase {phase}"
         );
     }
-    assert_eq!(rt; core.step(Event::Announce), Err(NotNow::Last));
+    assert!(rt; core.step(Event::Announce) == Err(NotNow::Last));
     Ok(())
 }
 
@@ -72,29 +70,29 @@ fn takes_numbers_modulo_2(rt: HostRuntime) -> Result<(), Fail> {
             all_in: false,
             all_gone: false,
         };
-        assert_eq!(rt; core.step(Event::CoordLook), Ok(Shown::Coord(sight)));
+        assert!(rt; core.step(Event::CoordLook) == Ok(Shown::Coord(sight)));
         let answer = if number == 0 {
             Event::Acknowledge(0)
         } else {
             Event::Report(0)
         };
         let events = [Event::Announce, answer, Event::Release(0), Event::Look(0)];
-        assert_eq!(rt; check_events(&mut core, &events), Ok(()));
+        assert!(rt; check_events(&mut core, &events) == Ok(()));
     }
-    assert_eq!(rt; core.step(Event::Announce), Err(NotNow::Last));
+    assert!(rt; core.step(Event::Announce) == Err(NotNow::Last));
     Ok(())
 }
 
 #[test]
 fn limits_are_these_numbers(rt: HostRuntime) -> Result<(), Fail> {
     let run = Limits::of_run();
-    assert_eq!(rt; run.last_phase, 16_777_214);
-    assert_eq!(rt; run.likes, 64_000_000);
-    assert_eq!(rt; run.number(16_777_214), 16_777_214);
+    assert!(rt; run.last_phase == 16_777_214);
+    assert!(rt; run.likes == 64_000_000);
+    assert!(rt; run.number(16_777_214) == 16_777_214);
     let service = Limits::of_service();
-    assert_eq!(rt; service.last_phase, 18_446_744_073_709_551_614);
-    assert_eq!(rt; service.likes, 72_057_594_037_927_936);
-    assert_eq!(rt; service.number(16_777_215), 1);
+    assert!(rt; service.last_phase == 18_446_744_073_709_551_614);
+    assert!(rt; service.likes == 72_057_594_037_927_936);
+    assert!(rt; service.number(16_777_215) == 1);
     Ok(())
 }
 
@@ -102,11 +100,11 @@ fn limits_are_these_numbers(rt: HostRuntime) -> Result<(), Fail> {
 fn packs_and_unpacks_words(rt: HostRuntime) -> Result<(), Fail> {
     for (word, (kind, workers, answered, retired, number)) in lawful_words() {
         let unpacked = PhaseWord::new(*kind, *workers, *answered, *retired, *number);
-        assert_eq!(rt; PhaseWord::unpack(*word), unpacked, "at {word}");
-        assert_eq!(rt; unpacked.ok_or("no word")?.pack(), *word);
+        assert!(rt; PhaseWord::unpack(*word) == unpacked, "at {word}");
+        assert!(rt; unpacked.ok_or("no word")?.pack() == *word);
     }
     for word in unlawful_words() {
-        assert_eq!(rt; PhaseWord::unpack(*word), None, "at {word}");
+        assert!(rt; PhaseWord::unpack(*word) == None, "at {word}");
     }
     Ok(())
 }
@@ -117,11 +115,11 @@ fn steps_lead_to_words_of_idle_workers(rt: HostRuntime) -> Result<(), Fail> {
     let start = PhaseWord::new(Kind::JoinedRunning, 4, 0, 0, 0).ok_or("start")?;
     let answered = start.announced().answered_by(0);
     let ending = answered.retired_by(1).retired_by(2).retired_by(3);
-    assert_eq!(rt; ending.pack(), 234_881_297);
+    assert!(rt; ending.pack() == 234_881_297);
     assert!(rt; ending.kind.is_ending());
     assert!(rt; !ending.kind.is_split());
-    assert_eq!(rt; ending.released().pack(), 1_099_746_508_818);
+    assert!(rt; ending.released().pack() == 1_099_746_508_818);
     let split = PhaseWord::new(Kind::SplitEnding, 1, 1, 0, 1).ok_or("split")?;
-    assert_eq!(rt; split.released_modulo(2).pack(), 4);
+    assert!(rt; split.released_modulo(2).pack() == 4);
     Ok(())
 }

@@ -21,18 +21,18 @@ fn call_slice(rt: &impl Abort, slice: &mut Slice, pages: u32, call: OnSlice)
         }
         OnSlice::Likes(page, want) => {
             assert!(rt; page < pages);
-            assert_eq!(rt; slice.likes(page), want, "of {page}");
+            assert!(rt; slice.likes(page) == want, "of {page}");
         }
         OnSlice::Take(page, want) => {
             assert!(rt; page < pages);
-            assert_eq!(rt; slice.take(page), want, "of {page}");
+            assert!(rt; slice.take(page) == want, "of {page}");
         }
         OnSlice::Next(from, want) => {
             assert!(rt; from <= pages);
-            assert_eq!(rt; slice.next(from), want, "from {from}");
+            assert!(rt; slice.next(from) == want, "from {from}");
         }
-        OnSlice::Total(want) => assert_eq!(rt; slice.total(), want),
-        OnSlice::IsEmpty(want) => assert_eq!(rt; slice.is_empty(), want),
+        OnSlice::Total(want) => assert!(rt; slice.total() == want),
+        OnSlice::IsEmpty(want) => assert!(rt; slice.is_empty() == want),
     }
 }
 
@@ -54,9 +54,9 @@ fn call_stash(rt: &impl Abort, stash: &mut Stash<Held>, call: OnStash) {
             assert!(rt; !stash.is_full());
             stash.push(held_of(submitter));
         }
-        OnStash::Pop(want) => assert_eq!(rt; stash.pop_front(), want),
-        OnStash::IsFull(want) => assert_eq!(rt; stash.is_full(), want),
-        OnStash::Len(want) => assert_eq!(rt; stash.len(), want),
+        OnStash::Pop(want) => assert!(rt; stash.pop_front() == want),
+        OnStash::IsFull(want) => assert!(rt; stash.is_full() == want),
+        OnStash::Len(want) => assert!(rt; stash.len() == want),
     }
 }
 
@@ -88,23 +88,23 @@ fn a_stash_holds_the_most(rt: HostRuntime) -> Result<(), Fail> {
 fn users_are_those_of_the_worker(rt: HostRuntime) -> Result<(), Fail> {
     let mut users = Users::new(rt.alloc(), 5, 2, 2, 1)?;
     for user in 0..6 {
-        assert_eq!(rt; users.owns(user), user == 1 || user == 3, "at {user}");
+        assert!(rt; users.owns(user) == (user == 1 || user == 3), "at {user}");
     }
-    assert_eq!(rt; users.last(3), None);
+    assert!(rt; users.last(3) == None);
     users.set(3, 7);
-    assert_eq!(rt; users.last(3), Some(7));
-    assert_eq!(rt; users.last(1), None);
-    assert_eq!(rt; users.worker(), 1);
+    assert!(rt; users.last(3) == Some(7));
+    assert!(rt; users.last(1) == None);
+    assert!(rt; users.worker() == 1);
     let mut last = [Some(9); 5];
     users.give_to(&mut last);
-    assert_eq!(rt; last, [Some(9), None, Some(9), Some(7), Some(9)]);
-    assert_eq!(rt; users.submitter_at(0), 1);
+    assert!(rt; last == [Some(9), None, Some(9), Some(7), Some(9)]);
+    assert!(rt; users.submitter_at(0) == 1);
     let home = Request {
         op: Op::Like,
         user: 3,
         page: PageRef::Unknown,
     };
-    assert_eq!(rt; users.judge(1, &home), Verdict::UnknownPage);
+    assert!(rt; users.judge(1, &home) == Verdict::UnknownPage);
     Ok(())
 }
 
@@ -120,6 +120,6 @@ fn users_are_a_million(rt: HostRuntime) -> Result<(), Fail> {
     assert!(rt; users.owns(999_999));
     users.set(999_999, 1_023);
     assert!(rt; users.owns(999_999));
-    assert_eq!(rt; users.last(999_999), Some(1_023));
+    assert!(rt; users.last(999_999) == Some(1_023));
     Ok(())
 }

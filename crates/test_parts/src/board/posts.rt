@@ -73,7 +73,7 @@ fn merges<P: Post>(rt: &impl Abort, post: &mut P, likes: u64, old: u64)
     if !sight.ending {
         panic!(rt; "the end of the phase is not announced");
     }
-    assert_eq!(rt; post.add(0, likes), old);
+    assert!(rt; post.add(0, likes) == old);
 }
 
 // Runs the first like of a post. The count before is this.
@@ -84,7 +84,7 @@ fn likes<P: Post>(rt: &impl Abort, post: &mut P, page: u32, old: u64)
     ensures state { (P.view post.new).state ≡ Runs 0 }
     ensures pages { pages_of (P.view post.new) ≡ pages_of (P.view post.old) }
 {
-    assert_eq!(rt; post.add(page, 1), old);
+    assert!(rt; post.add(page, 1) == old);
 }
 
 // Reads a page in a joined phase. Its count is this.
@@ -94,7 +94,7 @@ fn reads<P: Post>(rt: &impl Abort, post: &mut P, phase: u32, page: u32, count: u
     requires page { page < pages_of (P.view post.old) }
     ensures { (P.view post.new).state ≡ Runs phase }
 {
-    assert_eq!(rt; post.read(page), count);
+    assert!(rt; post.read(page) == count);
 }
 
 // Reads the mask of a split phase, in which no page is hot.
@@ -104,7 +104,7 @@ fn learns<P: Post>(rt: &impl Abort, post: &mut P, phase: u32)
     ensures state { (P.view post.new).state ≡ Runs phase }
     ensures board { KeepsBoard (P.view post.old) (P.view post.new) }
 {
-    assert_eq!(rt; post.hot(), 0);
+    assert!(rt; post.hot() == 0);
 }
 
 // Glances at the first page in phase 1, in which it is split. Its count is this.
@@ -115,7 +115,7 @@ fn glances<P: Post>(rt: &impl Abort, post: &mut P, count: u64)
     ensures state { (P.view post.new).state ≡ Runs 1 }
     ensures board { KeepsBoard (P.view post.old) (P.view post.new) }
 {
-    assert_eq!(rt; post.glance(0), count);
+    assert!(rt; post.glance(0) == count);
 }
 
 // Retires from a joined phase.
@@ -235,7 +235,7 @@ fn likes_by_posts(rt: HostRuntime) -> Result<(), Fail> {
 fn holds_the_most(rt: HostRuntime) -> Result<(), Fail> {
     let counts = [1_000_000_000_000_000_000; 1_024];
     let (board, _coord, mut seats) = Board::new(rt.alloc(), 16, &counts, &[true; 1_024])?;
-    assert_eq!(rt; seats.len(), 16);
+    assert!(rt; seats.len() == 16);
     let mut last = seats.pop().expect(&rt, "a seat is there").at(&board);
     likes(&rt, &mut last, 1_023, 1_000_000_000_000_000_000);
     reads(&rt, &mut last, 0, 1_023, 1_000_000_000_000_000_001);

@@ -16,13 +16,13 @@ use std::thread::Threads;
 // Asserts what a push of the next request answers, of which one is left.
 fn assert_push<R: Wait + Abort>(rt: &R, end: &mut SendEnd<'_>, want: Result<u32, PushRefused>) {
     let request = end.next().expect(rt, "a request is left");
-    assert_eq!(rt; end.push(rt, request), want);
+    assert!(rt; end.push(rt, request) == want);
 }
 
 // Asserts what a push of the end mark answers, where no request is left.
 fn assert_end<R: Wait + Abort>(rt: &R, end: &mut SendEnd<'_>, want: Result<(), EndRefused>) {
     assert!(rt; end.next().is_none());
-    assert_eq!(rt; end.end(rt), want);
+    assert!(rt; end.end(rt) == want);
 }
 
 // Asserts that the end mark is pushed, where no request is left and the line is not full, and that no request is after
@@ -30,7 +30,7 @@ fn assert_end<R: Wait + Abort>(rt: &R, end: &mut SendEnd<'_>, want: Result<(), E
 fn assert_end_is_last<R: Wait + Abort>(rt: &R, end: &mut SendEnd<'_>) {
     assert!(rt; end.next().is_none());
     match end.end(rt) {
-        Ok(()) => assert_eq!(rt; end.push(rt, LIKE), Err(PushRefused::Ended(LIKE))),
+        Ok(()) => assert!(rt; end.push(rt, LIKE) == Err(PushRefused::Ended(LIKE))),
         Err(refused) => panic!(rt; "{refused:?}"),
     }
 }
@@ -42,7 +42,7 @@ fn assert_taken<R: Wait + Abort>(rt: &R, end: &mut TakeEnd<'_>, first: u32, last
             number,
             request: LIKE,
         };
-        assert_eq!(rt; end.take(rt), Taken::Ask(ask));
+        assert!(rt; end.take(rt) == Taken::Ask(ask));
     }
 }
 
@@ -154,7 +154,7 @@ fn assert_pushes<R: Wait + Abort>(rt: &R, end: &mut SendEnd<'_>, passed: &mut Pa
 // Asserts the answers of so many takes.
 fn assert_takes<R: Wait + Abort>(rt: &R, end: &mut TakeEnd<'_>, passed: &mut Passed, count: u32) {
     for _ in 0..count {
-        assert_eq!(rt; end.take(rt), passed.take());
+        assert!(rt; end.take(rt) == passed.take());
     }
 }
 
@@ -169,9 +169,9 @@ fn is_full_and_empty_in_its_time(rt: HostRuntime) -> Result<(), Fail> {
         assert_pushes(&rt, &mut send, &mut passed, step.wrapping_mul(37) % 71);
         assert_takes(&rt, &mut take, &mut passed, step.wrapping_mul(53) % 73);
     }
-    assert_eq!(rt; passed.taken, 20_000);
+    assert!(rt; passed.taken == 20_000);
     assert_end(&rt, &mut send, Ok(()));
-    assert_eq!(rt; take.take(&rt), Taken::End);
+    assert!(rt; take.take(&rt) == Taken::End);
     Ok(())
 }
 
@@ -193,7 +193,7 @@ fn holds_sixty_four(rt: HostRuntime) -> Result<(), Fail> {
     assert_end(&rt, &mut send, Err(EndRefused::Ended));
     assert_taken(&rt, &mut take, 4, 66);
     for _ in 0..2 {
-        assert_eq!(rt; take.take(&rt), Taken::End);
+        assert!(rt; take.take(&rt) == Taken::End);
     }
     Ok(())
 }
@@ -227,7 +227,7 @@ fn a_refused_growth_is_told(rt: HostRuntime) -> Result<(), Fail> {
 #[test]
 fn goes_to_another_thread(rt: HostRuntime) -> Result<(), Fail> {
     let plan = Vec::from_elem(rt.alloc(), LIKE, 10_000)?;
-    assert_eq!(rt; through(&rt, rt.alloc(), plan)?, 10_000);
+    assert!(rt; through(&rt, rt.alloc(), plan)? == 10_000);
     Ok(())
 }
 
@@ -235,7 +235,7 @@ fn goes_to_another_thread(rt: HostRuntime) -> Result<(), Fail> {
 fn takes_from_a_list_as_from_a_line(rt: HostRuntime) -> Result<(), Fail> {
     let mut inbox = ListInbox::new(Vec::from_elem(rt.alloc(), LIKE, 3)?);
     inbox.open_all();
-    assert_eq!(rt; last_number(&rt, inbox), 3);
+    assert!(rt; last_number(&rt, inbox) == 3);
     Ok(())
 }
 
@@ -244,6 +244,6 @@ fn takes_a_plan_of_a_million(rt: HostRuntime) -> Result<(), Fail> {
     let plan = Vec::from_elem(rt.alloc(), LIKE, 1_000_000)?;
     let (line, sends, _takes) = Line::new(rt.alloc(), plan)?;
     let end = sends.at(&line);
-    assert_eq!(rt; end.next(), Some(LIKE));
+    assert!(rt; end.next() == Some(LIKE));
     Ok(())
 }

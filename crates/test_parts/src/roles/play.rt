@@ -73,6 +73,19 @@ fn players_of<'a>(
     Ok(players)
 }
 
+// The coordinator of a run at its seat.
+fn coordinator_of(alloc: Global, setup: &Setup, coord: CoordSeat) -> Result<Coordinator, AllocError>
+    requires opened { (coord_view coord).opening.counts ≡ counts_of setup.now.pages }
+    requires run { (coord_view coord).opening.limits ≡ run_limits }
+    ensures { IfOk result (λ coordinator. coordinator.board ≡ coord_board coord) }
+{
+    let counts = setup.pages.counts(alloc)?;
+    match Coordinator::new(alloc, coord, setup.turns, setup.hot, &counts) {
+        Ok(coordinator) => Ok(coordinator),
+        Err(_) => Err(AllocError),
+    }
+}
+
 impl<'a> Play<'a> {
     /// The start of a run with one submitter, whose workers note their additions or do not.
     pub fn new(
@@ -91,13 +104,9 @@ impl<'a> Play<'a> {
         requires seats { AreNewSeats (board_id board.now) setup.now.pages seats.items }
         requires len { length seats.items ≤ setup.now.workers }
     {
-        let counts = setup.pages.counts(alloc)?;
-        let Ok(coordinator) = Coordinator::new(alloc, coord, setup.turns, setup.hot, &counts) else {
-            return Err(AllocError.into());
-        };
         Ok(Play {
             board,
-            coordinator,
+            coordinator: coordinator_of(alloc, setup, coord)?,
             players: players_of(alloc, setup, plan, board, seats, notes)?,
         })
     }
@@ -108,11 +117,11 @@ impl<'a> Play<'a> {
             match *step {
                 Step::Coord(expected) => {
                     let answer = self.coordinator.turn(self.board);
-                    assert_eq!(rt; answer, expected);
+                    assert!(rt; answer == expected);
                 }
                 Step::Worker(worker, expected) => {
                     let answer = self.worker_turn(rt, gate, worker as usize);
-                    assert_eq!(rt; answer, expected);
+                    assert!(rt; answer == expected);
                 }
             }
         }
