@@ -101,6 +101,11 @@ fn byte_of(byte: u8) -> u8 {
     }
 }
 
+/// Stops the test unless a case is answered as is wanted.
+pub fn assert_answer(rt: &impl Abort, case: &str, answer: &str, wanted: &str) {
+    assert!(rt; answer == wanted, "at {case}: {answer}");
+}
+
 // Files, each with what it is read as. Limits are among them: a count of 10^18, a name of 64 bytes, the greatest user.
 const FILES: &str = "\
 pages|name,count,split~/\"x,\"\"y\"\"\",0,no~/b,0001000000000000000,yes|[x,\"y\" 0 false][b 1000000000000000 true]
@@ -149,7 +154,7 @@ fn reads_files(rt: HostRuntime) {
         let (kind, file, wanted) = cells(&rt, case);
         let file = bytes(&rt, rt.alloc(), file);
         let answer = answer(&rt, rt.alloc(), kind, file.as_slice());
-        assert!(rt; answer.as_str() == wanted, "at {case}: {answer}");
+        assert_answer(&rt, case, &answer, wanted);
     }
 }
 
@@ -160,9 +165,12 @@ fn two_pages() -> &'static [u8] {
 #[test]
 fn finds_pages_by_their_names(rt: HostRuntime) {
     let pages = read_pages(rt.alloc(), two_pages()).expect(&rt, "pages");
-    assert!(rt; pages.find(b"b") == Some(1));
-    assert!(rt; pages.find(b"B").is_none());
-    assert!(rt; pages.find(b"\xff").is_none());
+    assert!(rt; has_only_second(&pages));
+}
+
+// Whether the second page is found by its name, and no page by another one.
+fn has_only_second(pages: &Pages) -> bool {
+    pages.find(b"b") == Some(1) && pages.find(b"B").is_none() && pages.find(b"\xff").is_none()
 }
 
 // What is read of the first 0, 1, 2 .. bytes of a file, or after 0, 1, 2 .. reads of a byte. A number stands before
@@ -200,10 +208,7 @@ fn assert_answers(rt: &impl Abort, alloc: Global, cases: &str, by_reads: bool) {
         let (kind, file, wanted) = cells(rt, case);
         let file = bytes(rt, alloc, file);
         let answers = answers(rt, alloc, kind, &file, by_reads);
-        assert!(rt;
-            answers.as_str().trim_end() == wanted,
-            "at {case}: {answers}"
-        );
+        assert_answer(rt, case, answers.trim_end(), wanted);
     }
 }
 
@@ -297,17 +302,17 @@ fn a_byte_that_is_changed_in_a_script(rt: HostRuntime) {
 #[test]
 fn a_file_of_another_kind(rt: HostRuntime) {
     for case in csv_cases().lines() {
-        let (text, _) = case.split_once("=>").expect(&rt, "a case");
-        let file = bytes(&rt, rt.alloc(), text);
-        assert!(rt; is_headless(&rt, rt.alloc(), &file), "at {case}");
+        assert!(rt; is_headless(&rt, rt.alloc(), case), "at {case}");
     }
 }
 
-// Whether a file is refused by its header, whatever kind it is read as.
-fn is_headless(rt: &impl Abort, alloc: Global, file: &[u8]) -> bool {
-    is_answered(rt, alloc, "pages", file, "Err(Header)")
-        && is_answered(rt, alloc, "requests", file, "Err(Header)")
-        && is_answered(rt, alloc, "script", file, "Err(Line { row: 0 })")
+// Whether the file of a case is refused by its header, whatever kind it is read as.
+fn is_headless(rt: &impl Abort, alloc: Global, case: &str) -> bool {
+    let (text, _) = case.split_once("=>").expect(rt, "a case");
+    let file = bytes(rt, alloc, text);
+    is_answered(rt, alloc, "pages", &file, "Err(Header)")
+        && is_answered(rt, alloc, "requests", &file, "Err(Header)")
+        && is_answered(rt, alloc, "script", &file, "Err(Line { row: 0 })")
 }
 
 fn is_answered(rt: &impl Abort, alloc: Global, kind: &str, file: &[u8], wanted: &str) -> bool {

@@ -1,5 +1,5 @@
 //! Settings and what is said of them, scripts that fit a run, and the verdict of a request.
-use crate::files::{cells, one_page, shown};
+use crate::files::{assert_answer, cells, one_page, shown};
 use like_requests::{
     Op, PageRef, Request, SettingsFault, Setup, Verdict, check_setup, judge, read_requests,
 };
@@ -85,7 +85,7 @@ fn checks_the_settings(rt: HostRuntime) {
     for case in SETTINGS.lines() {
         let (text, hot, wanted) = cells(&rt, case);
         let answer = checked(&rt, rt.alloc(), &numbers(&rt, text), hot);
-        assert!(rt; answer.as_str() == wanted, "at {case}: {answer}");
+        assert_answer(&rt, case, &answer, wanted);
     }
 }
 

@@ -1,5 +1,5 @@
 //! What logs are collected to.
-use crate::files::{cells, shown};
+use crate::files::{assert_answer, cells, shown};
 use crate::replies::log_of;
 use like_replies::{CollectFault, Replies, collect};
 use like_roles::{Ran, Reply, WorkerLog};
@@ -97,7 +97,7 @@ fn entries_and_faults(rt: HostRuntime) {
         let (sizes, logs, wanted) = cells(&rt, case);
         let replies = collected(&rt, rt.alloc(), sizes, logs);
         let answer = shown(&rt, rt.alloc(), &replies);
-        assert!(rt; answer.as_str() == wanted, "at {case}: {answer}");
+        assert_answer(&rt, case, &answer, wanted);
     }
 }
 

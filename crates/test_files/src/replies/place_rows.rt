@@ -47,13 +47,18 @@ fn rows_of_places(rt: HostRuntime) {
     assert_rows(&rt, rt.alloc(), file, &[place(3, 0, 64_000_000)], rows);
 }
 
-// What was in the writer stays there.
+// Asserts that the place of a report is written behind what was in the writer.
+fn assert_appends(rt: &impl Abort, alloc: Global, report: &Report)
+    requires { length report.now.places.items ≡ 1 }
+{
+    let pages = one_page(rt, alloc, "name,count,split\na,0,no\n");
+    let mut out = Vec::from_slice(alloc, b"before\n").expect(rt, "memory");
+    write_places(alloc, report, &pages, &mut out).expect(rt, "written");
+    assert!(rt; out.as_slice() == b"before\nplace,0,0,1,0,a,1\n".as_slice());
+}
+
 #[test]
 fn appends_places(rt: HostRuntime) {
-    let pages = one_page(&rt, rt.alloc(), "name,count,split\na,0,no\n");
     let report = report_on(&rt, rt.alloc(), &[place(0, 0, 1)]);
-    let text = b"before\nplace,0,0,1,0,a,1\n";
-    let mut out = Vec::from_slice(rt.alloc(), b"before\n").expect(&rt, "memory");
-    write_places(rt.alloc(), &report, &pages, &mut out).expect(&rt, "written");
-    assert!(rt; out.as_slice() == text.as_slice());
+    assert_appends(&rt, rt.alloc(), &report);
 }

@@ -48,8 +48,8 @@ fn report(
     }
 }
 
-// The answer of a request that ran at once in this phase.
-fn answer(phase: u32, reply: Reply) -> Answer
+/// The answer of a request that ran at once in this phase.
+pub fn answer(phase: u32, reply: Reply) -> Answer
     ensures { result ≡ record { phase = phase; stashed = false; reply = reply } }
 {
     Answer {
@@ -202,14 +202,20 @@ fn hot_pages(rt: HostRuntime) {
     assert_written(&rt, rt.alloc(), "name,count,split\na,0,no\n", &report, rows);
 }
 
-// What was in the writer stays there.
+// Asserts that a report with this text is written behind what was in the writer.
+fn assert_appends(rt: &impl Abort, alloc: Global, report: &Report, rows: &str)
+    requires { (pages : List Page) → length pages ≡ 1 → IsWritable pages (reported report.now) }
+{
+    let pages = one_page(rt, alloc, "name,count,split\na,10,no\n");
+    let text = format!(in alloc; "before\n{HEADER}{rows}").expect(rt, "memory");
+    let mut out = Vec::from_slice(alloc, b"before\n").expect(rt, "memory");
+    write_report(alloc, report, &pages, &mut out).expect(rt, "written");
+    assert!(rt; out.as_slice() == text.as_bytes());
+}
+
 #[test]
 fn appends(rt: HostRuntime) {
-    let pages = one_page(&rt, rt.alloc(), "name,count,split\na,10,no\n");
-    let rows = "reply,0,1,0,liked,,\npage,0,,,,a,1\nuser,0,,,,a,\n";
-    let text = format!(in rt.alloc(); "before\n{HEADER}{rows}").expect(&rt, "memory");
-    let mut out = Vec::from_slice(rt.alloc(), b"before\n").expect(&rt, "memory");
     let report = like_report(&rt, rt.alloc(), 0, 0, Vec::new(rt.alloc()));
-    write_report(rt.alloc(), &report, &pages, &mut out).expect(&rt, "written");
-    assert!(rt; out.as_slice() == text.as_bytes());
+    let rows = "reply,0,1,0,liked,,\npage,0,,,,a,1\nuser,0,,,,a,\n";
+    assert_appends(&rt, rt.alloc(), &report, rows);
 }

@@ -1,39 +1,54 @@
 //! The text of a report whose sections threads make side by side.
-ghost use Rattle.std.specs.Prelude.{◌≡◌, List, length};
+ghost use Rattle.std.specs.Prelude.{◌≡◌, ◌∷◌, List, [], false, length, map, replicate};
 ghost use Rattle.like_requests.specs.Pages.{Page};
+ghost use Rattle.like_service.specs.declared.answer.Answer.{Answer};
+ghost use Rattle.like_service.specs.declared.reply.Reply.TheVariants.{Liked};
 ghost use Rattle.like_replies.specs.Reported.{reported};
 ghost use Rattle.like_replies.specs.Rows.{IsWritable};
 
 use super::places::place;
-use super::texts::{HEADER, one_page};
-use like_replies::{Answer, Replies, Report, write_text_at_once};
+use super::texts::{HEADER, answer, one_page};
+use like_replies::{Place, Replies, Report, write_text_at_once};
 use like_roles::Reply;
 use std::alloc::{AllocError, Global};
 use std::process::Abort;
 use std::thread::Threads;
+
+// The replies to so many likes of one submitter.
+fn liked(rt: &impl Abort, alloc: Global, count: usize) -> Replies
+    ensures { let like : Answer = record { phase = 0; stashed = false; reply = Liked } in
+        map (λ row. row.items) result.rows.items ≡ replicate count like ∷ [] }
+{
+    let answers = vec![in alloc; answer(0, Reply::Liked); count].expect(rt, "memory");
+    Replies {
+        rows: vec![in alloc; answers].expect(rt, "memory"),
+    }
+}
+
+// So many places on the only page.
+fn placed(rt: &impl Abort, alloc: Global, count: usize) -> Vec<Vec<Place>>
+    ensures { length result.items ≡ 1 }
+{
+    let places = vec![in alloc; place(0, 7, 1); count].expect(rt, "memory");
+    vec![in alloc; places].expect(rt, "memory")
+}
 
 // The report on so many likes of one submitter, each of a user of its own, with a place for each.
 fn report_of_likes(rt: &impl Abort, alloc: Global, count: usize) -> Report
     ensures written { (pages : List Page) → length pages ≡ 1 → IsWritable pages (reported result) }
     ensures placed { length result.places.items ≡ 1 }
 {
-    let answer = Answer {
-        phase: 0,
-        stashed: false,
-        reply: Reply::Liked,
-    };
-    let answers = vec![in alloc; answer; count].expect(rt, "memory");
-    let places = vec![in alloc; place(0, 7, 1); count].expect(rt, "memory");
+    let replies = liked(rt, alloc, count);
+    let counts = vec![in alloc; 7].expect(rt, "memory");
+    let last = vec![in alloc; Some(0); count].expect(rt, "memory");
     Report {
         logs: Vec::new(alloc),
-        replies: Replies {
-            rows: vec![in alloc; answers].expect(rt, "memory"),
-        },
-        counts: vec![in alloc; 7].expect(rt, "memory"),
-        last: vec![in alloc; Some(0); count].expect(rt, "memory"),
+        replies,
+        counts,
+        last,
         phases: 0,
         hot: Vec::new(alloc),
-        places: vec![in alloc; places].expect(rt, "memory"),
+        places: placed(rt, alloc, count),
     }
 }
 
@@ -75,7 +90,24 @@ fn push_rows(text: &mut String, count: usize, places: usize) -> Result<(), Alloc
     push_places(text, places)
 }
 
-// Stops the test unless this is written of so many likes, with their places where they are asked for.
+// Stops the test unless this is written of a report, with its places where they are asked for.
+fn assert_text(
+    rt: &(impl Abort + Threads + Sync),
+    alloc: Global,
+    report: &Report,
+    places: bool,
+    text: &str,
+)
+    requires written { (pages : List Page) → length pages ≡ 1 → IsWritable pages (reported report.now) }
+    requires placed { length report.now.places.items ≡ 1 }
+{
+    let pages = one_page(rt, alloc, "name,count,split\na,0,no\n");
+    let mut out = Vec::with_capacity(alloc, text.len()).expect(rt, "memory");
+    write_text_at_once(rt, alloc, places, report, &pages, &mut out).expect(rt, "written");
+    assert!(rt; out.as_slice() == text.as_bytes());
+}
+
+// The same of so many likes.
 fn assert_written(
     rt: &(impl Abort + Threads + Sync),
     alloc: Global,
@@ -83,11 +115,8 @@ fn assert_written(
     places: bool,
     text: &str,
 ) {
-    let pages = one_page(rt, alloc, "name,count,split\na,0,no\n");
     let report = report_of_likes(rt, alloc, count);
-    let mut out = Vec::with_capacity(alloc, text.len()).expect(rt, "memory");
-    write_text_at_once(rt, alloc, places, &report, &pages, &mut out).expect(rt, "written");
-    assert!(rt; out.as_slice() == text.as_bytes(), "of {count} likes");
+    assert_text(rt, alloc, &report, places, text);
 }
 
 // 40,000 requests, users and places have three sections each, the last of them shorter than the others: more than are
