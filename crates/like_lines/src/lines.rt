@@ -40,12 +40,12 @@ pub fn ends_of<'a>(
     ensures sends { IfOk result (λ ends. ends.0.items ≡ map new_sender lines.now) }
     ensures takes { IfOk result (λ ends. ends.1.items ≡ map new_taker lines.now) }
 {
-    let mut sends = Vec::new(alloc);
-    let mut takes = Vec::new(alloc);
+    let mut sends = Vec::with_capacity(alloc, lines.len())?;
+    let mut takes = Vec::with_capacity(alloc, lines.len())?;
     for (send, take) in passes {
         let line = &lines[sends.len()];
-        sends.push(send.at(line))?;
-        takes.push(take.at(line))?;
+        sends.push_reserved(send.at(line));
+        takes.push_reserved(take.at(line));
     }
     Ok((sends, takes))
 }
