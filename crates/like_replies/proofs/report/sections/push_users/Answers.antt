@@ -9,6 +9,21 @@ use Rattle.like_replies.proofs.Sections.{All-part, AreSections-push}
 use Rattle.like_replies.proofs.rows.Texts.{liker_rows-append}
 use Rattle.like_replies.proofs.report.sections.push_users.Goals as goal
 
+-- the length of a list of three parts
+parts-long : (all done part rest : List (Option ℕ)) → all ≡ done ++ (part ++ rest)
+    → length all ≡ length done + (length part + length rest)
+parts-long all done part rest whole =
+    ap length whole ∙ length-append done (part ++ rest) ∙ ap (λ n. length done + n) (length-append part rest)
+
+pub overflow_add-before : goal.overflow_add-before
+overflow_add-before c =
+    let done : List (Option ℕ) = c.loop-part.invariant.2 in
+    let part : List (Option ℕ) = c.in-Some.part.now in
+    let rest : List (Option ℕ) = chunks_rest c.next.new.self in
+    let whole : c.args.users.now ≡ done ++ (part ++ rest) =
+    c.loop-part.invariant.3 ∙ ap (λ r. done ++ r) c.in-Some.ensures.steps.1.0 in
+    omega (arith, parts-long c.args.users.now done part rest whole, c.loop-part.invariant.4)
+
 pub loop-part-preserved : goal.loop-part-preserved
 loop-part-preserved c =
     let step = c.in-Some.ensures.steps in
@@ -18,7 +33,7 @@ loop-part-preserved c =
     let before = c.loop-part.before in
     let whole : c.args.users.now ≡ done ++ (part ++ rest) = c.loop-part.invariant.3 ∙ ap (λ r. done ++ r) step.1.0 in
     let lengths : length c.args.users.now ≡ length done + (length part + length rest) =
-    ap length whole ∙ length-append done (part ++ rest) ∙ ap (λ n. length done + n) (length-append part rest) in
+    parts-long c.args.users.now done part rest whole in
     let room : before + length part < 2 ^ 64 = omega (arith, lengths, c.loop-part.invariant.4) in
     let number : 0 + length done ≡ before = omega (arith, c.loop-part.invariant.4) in
     let section : Section = Users before c.in-Some.part in (
