@@ -176,8 +176,8 @@ uint32_t likes_retire(likes_seat *seat);
 uint64_t likes_seat_phase(likes_seat *seat);
 
 /* Does at most one thing for the phases: LIKES_ANNOUNCED, WAITING, RELEASED, RUNNING, ENDED or EMPTY. It ends a phase
- * only where may_end is true, or where a seat's room is half taken. Where no page is marked and none can get hot, the
- * first phase goes on for ever. */
+ * only where may_end is true, or where the looks that wait at a seat take half of its room. Where no page is marked and
+ * none can get hot, the first phase goes on for ever. */
 uint32_t likes_driver_turn(likes_driver *driver, bool may_end);
 
 /* Writes the counts of all pages at one moment, where a joined phase is ending and every seat has answered it:

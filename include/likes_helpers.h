@@ -99,8 +99,8 @@ static inline uint64_t likes_time_left(const uint64_t *at, uint64_t now) {
 }
 
 /* The driver's turn, with `driving` held. From the end of one split phase to that of the next is a period, or less
- * where a seat's room is half taken: the driver hears of that within an eighth of a period. A joined phase ends as
- * soon as every seat has run what waited. */
+ * where the looks that wait at a seat take half of its room: the driver hears of that within an eighth of a period. A
+ * joined phase ends as soon as every seat has run what waited. */
 static inline uint32_t likes_service_turn(likes_service *service) {
     uint64_t now = likes_clock(), left = likes_time_left(&service->due, now), next = now;
     bool was_split = likes_phase(&service->driver) % 2 == 1;
@@ -178,7 +178,7 @@ static inline void likes_service_turns(likes_service *service) {
 }
 
 /* How long the driver's thread sleeps in a phase that runs: until it is due, but at most a millisecond, so that it
- * hears of a seat whose room is half taken. */
+ * hears of looks that take half of a seat's room. */
 static inline uint64_t likes_service_nap(const likes_service *service) {
     uint64_t left = likes_time_left(&service->due, likes_clock());
     return left < 50000 ? 50000 : left > 1000000 ? 1000000 : left;

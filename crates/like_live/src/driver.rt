@@ -85,8 +85,8 @@ impl Driver {
     }
 
     /// Makes one look at the phase word, and does at most one thing. It announces the end of the phase if `may_end` is
-    /// set, and of a split phase also if a seat's room for looks is half taken. A joined phase goes on if no page is
-    /// marked and none can be hot.
+    /// set, and of a split phase also if the looks that wait at a seat take half of its room. A joined phase goes on if no
+    /// page is marked and none can be hot.
     pub fn turn(&mut self, may_end: bool) -> DriverAnswer
         ensures case { DriverTurns self.old may_end result self.new }
         ensures keeps { IsService self.new }

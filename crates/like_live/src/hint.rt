@@ -2,7 +2,8 @@ use std::alloc::{AllocError, Global};
 use std::sync::Arc;
 use std::sync::atomic::{AtomicU64, Ordering};
 
-/// A wish that the phase ends soon, which a service's seats and its driver share. A seat whose ring is half full asks.
+/// A wish that the phase ends soon, which a service's seats and its driver share. A seat asks when the looks that wait
+/// there take half of its room. Found looks don't count: the end of a phase gives their room to nobody.
 ///
 /// It only makes the driver end a split phase earlier.
 #[derive(Drop)]

@@ -35,7 +35,7 @@ pub struct LiveSeat<P: Post> {
     pages: u32,
     /// How many more looks may wait.
     room: u32,
-    /// How many looks may wait when half of the room is taken.
+    /// Half of the room.
     half: u32,
     hint: Hint,
 }

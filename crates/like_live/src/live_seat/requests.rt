@@ -110,7 +110,7 @@ impl<P: Post> LiveSeat<P> {
     {
         self.room -= 1;
         self.seat.put_by(asked);
-        if self.room <= self.half && !self.hint.is_asked() {
+        if self.room + self.found.len() <= self.half && !self.hint.is_asked() {
             self.hint.ask();
         }
     }
