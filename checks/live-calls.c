@@ -346,6 +346,25 @@ static void driving(void) {
     free_service(&it);
 }
 
+/* A split phase ends early when the looks that wait at a seat take half of its room. Found looks don't count. */
+static void early_end(void) {
+    const uint64_t counts[] = {0};
+    const bool marks[] = {true};
+    likes_answer answer;
+    opened it = open_service((likes_options){.seats = 1, .users = 1, .room = 4, .hot = 0}, counts, 1, marks);
+    for (int phase = 1; phase <= 3; phase += 2) {
+        change_phase(&it, 1);
+        IS(likes_look(&it.seats[0], 0, 0, 0, &answer), LIKES_WAITS);
+        IS(likes_driver_turn(&it.driver, false), LIKES_RUNNING);
+        IS(likes_look(&it.seats[0], 0, 0, 0, &answer), LIKES_WAITS);
+        IS(likes_driver_turn(&it.driver, false), LIKES_ANNOUNCED);
+        IS(likes_turn(&it.seats[0]), LIKES_BETWEEN);
+        IS(likes_driver_turn(&it.driver, false), LIKES_RELEASED);
+        IS(likes_turn(&it.seats[0]), LIKES_RUNS);
+    }
+    free_service(&it);
+}
+
 /* So many million calls over many phases, in the same memory. */
 static void memory(uint64_t millions) {
     const uint64_t counts[4] = {0};
@@ -380,6 +399,7 @@ int main(int count, char **words) {
     rows();
     after_gone();
     driving();
+    early_end();
     if (count > 1)
         memory(strtoull(words[1], NULL, 10));
     puts(wrong ? "not all calls answered right" : "all calls answered right");
