@@ -1,5 +1,5 @@
-mod examples;
+mod devices;
 mod faults;
 mod program;
-mod refusals;
+mod replays;
 mod runs;

@@ -1,5 +1,5 @@
 //! The line of each fault, and what the program tells of it.
-use super::examples::options;
+use super::replays::options_of;
 use crate::program::fault::ProgramFault;
 use crate::program::tell;
 use like_command::Options;
@@ -80,22 +80,14 @@ fn of_script() -> &'static [(DriverFault, &'static str)] {
     OF_SCRIPT
 }
 
-// Asserts what a fault's line is.
-fn assert_text(rt: &impl Abort, alloc: Global, options: &Options, fault: DriverFault, want: &str) {
+// Asserts a fault's line, and that a line is told not to be written unless each of its writes of one byte succeeds.
+fn assert_line(rt: &impl Abort, alloc: Global, options: &Options, fault: DriverFault, want: &str) {
     let mut line = Vec::new(alloc);
     assert!(rt; fault.line(options, &mut line));
     assert!(rt; line.as_slice() == want.as_bytes());
-}
-
-// Whether a fault's line is written where so many writes of one byte succeed.
-fn is_written(options: &Options, fault: DriverFault, writes: usize) -> bool {
-    fault.line(options, &mut Narrow::new(1, writes, true))
-}
-
-// Asserts that a line of so many bytes that can't be written is told.
-fn assert_written(rt: &impl Abort, options: &Options, fault: DriverFault, length: usize) {
-    for writes in 0..=length {
-        assert!(rt; is_written(options, fault, writes) == (writes == length));
+    for writes in 0..=want.len() {
+        let is_written = fault.line(options, &mut Narrow::new(1, writes, true));
+        assert!(rt; is_written == (writes == want.len()));
     }
 }
 
@@ -106,67 +98,53 @@ fn assert_told(rt: &impl Abort, alloc: Global, fault: &ProgramFault, want: &str,
     assert!(rt; line.as_slice() == want.as_bytes(), "{want}");
 }
 
-// Asserts what a fault's line says of the file of this name, that the program tells it with status 3, and that a line that
-// can't be written is told.
-fn assert_line(
+// Asserts the line of a fault of two request files, with or without a script, by itself and as the program tells it, and
+// the status.
+fn assert_tells(
     rt: &impl Abort,
     alloc: Global,
-    options: &Options,
+    is_scripted: bool,
     fault: DriverFault,
-    file: &str,
-    text: &str,
+    want: &str,
+    status: u8,
 ) {
+    let options = options_of(rt, alloc, "1 2 256 1000", 2, is_scripted);
+    assert_line(rt, alloc, &options, fault, want);
+    let fault = ProgramFault::Files { options, fault };
+    assert_told(rt, alloc, &fault, want, status);
+}
+
+// Asserts what a fault's line says of the file of this name, with status 3.
+fn assert_of_file(rt: &impl Abort, alloc: Global, fault: DriverFault, file: &str, text: &str) {
     let want = format!(in alloc; "likes: {file}: {text}\n").expect(rt, "memory");
-    assert_text(rt, alloc, options, fault, want.as_str());
-    assert_written(rt, options, fault, want.len());
-    let options = scripted(rt, alloc);
-    assert_told(rt, alloc, &ProgramFault::Files { options, fault }, &want, 3);
-}
-
-// Two request files and a script.
-fn scripted(rt: &impl Abort, alloc: Global) -> Options {
-    let mut options = options(alloc, 2, 2).expect(rt, "memory");
-    options.script = Some(String::from_str(alloc, "s.csv").expect(rt, "memory"));
-    options
-}
-
-// Asserts what the lines say of the pages file.
-fn assert_pages(rt: &impl Abort, alloc: Global, options: &Options) {
-    for (fault, text) in of_pages() {
-        let fault = DriverFault::Pages(*fault);
-        assert_line(rt, alloc, options, fault, "p.csv", text);
-    }
-}
-
-// Asserts what they say of the script.
-fn assert_scripts(rt: &impl Abort, alloc: Global, options: &Options) {
-    for (fault, text) in of_script() {
-        assert_line(rt, alloc, options, *fault, "s.csv", text);
-    }
+    assert_tells(rt, alloc, true, fault, &want, 3);
 }
 
 // Asserts what the lines say of the request file of a submitter.
-fn assert_requests(rt: &impl Abort, alloc: Global, options: &Options, submitter: u32, file: &str) {
+fn assert_requests(rt: &impl Abort, alloc: Global, submitter: u32, file: &str) {
     for (fault, text) in of_requests() {
         let fault = DriverFault::Requests {
             submitter,
             fault: *fault,
         };
-        assert_line(rt, alloc, options, fault, file, text);
+        assert_of_file(rt, alloc, fault, file, text);
     }
 }
 
 #[test]
 fn of_files(rt: HostRuntime) {
-    let options = scripted(&rt, rt.alloc());
-    assert_pages(&rt, rt.alloc(), &options);
-    assert_requests(&rt, rt.alloc(), &options, 0, "r0.csv");
-    assert_requests(&rt, rt.alloc(), &options, 1, "r1.csv");
-    assert_requests(&rt, rt.alloc(), &options, 2, "");
-    assert_scripts(&rt, rt.alloc(), &options);
+    for (fault, text) in of_pages() {
+        assert_of_file(&rt, rt.alloc(), DriverFault::Pages(*fault), "p.csv", text);
+    }
+    for (submitter, file) in [(0, "r0.csv"), (1, "r1.csv"), (2, "")] {
+        assert_requests(&rt, rt.alloc(), submitter, file);
+    }
+    for (fault, text) in of_script() {
+        assert_of_file(&rt, rt.alloc(), *fault, "s.csv", text);
+    }
 }
 
-// The faults that have a line of their own, with it and the status.
+// The faults that name no file, with their line and status.
 const OWN: &[(DriverFault, &str, u8)] = &[
     (DriverFault::Memory, "likes: out of memory\n", 4),
     (
@@ -212,27 +190,22 @@ const OWN: &[(DriverFault, &str, u8)] = &[
         "likes: settings\n",
         2,
     ),
+    (
+        DriverFault::Script(ScriptFault::Read),
+        "likes: : read failed\n",
+        3,
+    ),
 ];
 
 fn own() -> &'static [(DriverFault, &'static str, u8)] {
     OWN
 }
 
-// With no file's name, and the status beside it.
 #[test]
 fn of_no_file(rt: HostRuntime) {
-    for (fault, text, status) in own() {
-        let options = options(rt.alloc(), 2, 2).expect(&rt, "memory");
-        assert_text(&rt, rt.alloc(), &options, *fault, text);
-        let fault = ProgramFault::Files {
-            options,
-            fault: *fault,
-        };
-        assert_told(&rt, rt.alloc(), &fault, text, *status);
+    for (fault, line, status) in own() {
+        assert_tells(&rt, rt.alloc(), false, *fault, line, *status);
     }
     let memory = ProgramFault::Memory;
     assert_told(&rt, rt.alloc(), &memory, "likes: out of memory\n", 4);
-    let options = options(rt.alloc(), 2, 1).expect(&rt, "memory");
-    let fault = DriverFault::Script(ScriptFault::Read);
-    assert_text(&rt, rt.alloc(), &options, fault, "likes: : read failed\n");
 }

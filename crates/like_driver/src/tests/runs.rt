@@ -1,6 +1,5 @@
 //! Runs on threads, by `run_files`.
-use super::examples::{copies, options};
-use like_command::Options;
+use super::replays::options_of;
 use like_files::{DriverFault, run_files};
 use std::alloc::{AllocError, Global};
 use std::io::Write;
@@ -24,56 +23,107 @@ fn requests(rt: &impl Abort, alloc: Global, rows: &str, count: usize) -> String 
     text
 }
 
-// One worker and one request file.
-fn lone(rt: &impl Abort, alloc: Global) -> Options {
-    options(alloc, 1, 1).expect(rt, "memory")
-}
-
-// Runs files onto a writer.
-fn run_onto<T: Threads + Wait + Abort + Sync, W: Write>(
-    rt: &T,
+// The fault of a run with these settings, whose request file has these rows so many times, onto a writer.
+fn run_onto<'a, W: Write>(
+    rt: &(impl Threads + Wait + Abort + Sync),
     alloc: Global,
-    options: &Options,
-    pages: &str,
-    requests: &str,
+    settings: &str,
+    pages: &'a str,
+    requests: &'a str,
     out: &mut W,
-) -> Result<(), DriverFault> {
-    let files = copies(alloc, requests, options.requests.len()).expect(rt, "memory");
-    run_files(rt, alloc, options, pages.as_bytes(), files, out)
+) -> Option<DriverFault> {
+    let files = vec![in alloc; requests.as_bytes()].expect(rt, "memory");
+    let options = options_of(rt, alloc, settings, 1, false);
+    assert!(rt; options.requests.len() == 1);
+    run_files(rt, alloc, &options, pages.as_bytes(), files, out).err()
 }
 
-// What a run writes.
-fn ran<T: Threads + Wait + Abort + Sync>(
-    rt: &T,
+// Runs of so many likes of the page by user 0: their settings, how often each is made, and how its report ends.
+const RUNS: &[(&str, usize, u32, &str)] = &[
+    // A replay would be `Unfinished`: a worker runs one request a round.
+    (
+        "1 1 256 1000",
+        1_000_000,
+        1,
+        "page,0,,,,a,1000010\nuser,0,,,,a,\n",
+    ),
+    // The likes are done long before the coordinator has counted a million turns, so no phase ends before them. Were it
+    // fewer turns, one of ten runs would show it.
+    (
+        "1 1 256 1000000",
+        2_000,
+        10,
+        "reply,0,2000,0,liked,,\npage,0,,,,a,2010\nuser,0,,,,a,\n",
+    ),
+    // All likes are done before the coordinator has counted a million turns, so in phase 0.
+    (
+        "1 1 256 1000000 - places",
+        2,
+        1,
+        "page,0,,,,a,12\nuser,0,,,,a,\nplace,0,0,0,10,a,1\nplace,0,0,0,11,a,1\n",
+    ),
+];
+
+fn runs() -> &'static [(&'static str, usize, u32, &'static str)] {
+    RUNS
+}
+
+// Asserts how the report of a run of so many likes ends.
+fn assert_ends(
+    rt: &(impl Threads + Wait + Abort + Sync),
     alloc: Global,
-    options: &Options,
-    pages: &str,
-    requests: &str,
-) -> Vec<u8> {
+    settings: &str,
+    likes: usize,
+    end: &str,
+) {
+    let requests = requests(rt, alloc, "like,0,a\n", likes);
     let mut out = Vec::new(alloc);
-    let done = run_onto(rt, alloc, options, pages, requests, &mut out);
-    assert!(rt; done.is_ok());
-    out
+    let fault = run_onto(rt, alloc, settings, pages(), &requests, &mut out);
+    assert!(rt; fault.is_none(), "{fault:?}");
+    assert!(rt; out.as_slice().ends_with(end.as_bytes()), "no {end}");
+}
+
+#[test]
+fn ends_of_reports(rt: HostRuntime) {
+    for (settings, likes, times, end) in runs() {
+        for _ in 0..*times {
+            assert_ends(&rt, rt.alloc(), settings, *likes, end);
+        }
+    }
 }
 
 // The fault of a run of so many likes of the page by user 0 onto a writer, with places, and how many of its writes are
 // left.
-fn write_fault<T: Threads + Wait + Abort + Sync>(
-    rt: &T,
+fn write_fault(
+    rt: &(impl Threads + Wait + Abort + Sync),
     alloc: Global,
     likes: usize,
     mut out: Narrow,
 ) -> (Option<DriverFault>, usize) {
-    let mut options = lone(rt, alloc);
-    options.places = true;
     let requests = requests(rt, alloc, "like,0,a\n", likes);
-    let fault = run_onto(rt, alloc, &options, pages(), requests.as_str(), &mut out).err();
+    let settings = "1 1 256 1000 - places";
+    let fault = run_onto(rt, alloc, settings, pages(), &requests, &mut out);
     (fault, out.writes_left())
 }
 
+// Asserts that a writer is at fault, which takes so many writes or flushes.
+fn assert_fails(
+    rt: &(impl Threads + Wait + Abort + Sync),
+    alloc: Global,
+    likes: usize,
+    out: Narrow,
+    takes: usize,
+) {
+    let (fault, _) = write_fault(rt, alloc, likes, out);
+    assert!(rt;
+        fault == Some(DriverFault::Write),
+        "after {takes} writes or flushes"
+    );
+}
+
 // Asserts that a writer of so many bytes a write is at fault at each of its writes.
-fn assert_writes_fail<T: Threads + Wait + Abort + Sync>(
-    rt: &T,
+fn assert_writes_fail(
+    rt: &(impl Threads + Wait + Abort + Sync),
     alloc: Global,
     likes: usize,
     width: usize,
@@ -81,13 +131,9 @@ fn assert_writes_fail<T: Threads + Wait + Abort + Sync>(
     let (fault, left) = write_fault(rt, alloc, likes, Narrow::new(width, 1_000, true));
     assert!(rt; fault.is_none());
     for writes in 0..1_000 - left.min(1_000) {
-        for out in [
-            Narrow::new(width, writes, true),
-            Narrow::failing_once(width, writes, usize::MAX),
-        ] {
-            let (fault, _) = write_fault(rt, alloc, likes, out);
-            assert!(rt; fault == Some(DriverFault::Write), "after {writes} writes");
-        }
+        assert_fails(rt, alloc, likes, Narrow::new(width, writes, true), writes);
+        let once = Narrow::failing_once(width, writes, usize::MAX);
+        assert_fails(rt, alloc, likes, once, writes);
     }
 }
 
@@ -98,52 +144,14 @@ fn tells_a_write_that_fails(rt: HostRuntime) {
     assert_writes_fail(&rt, rt.alloc(), 0, 1);
     assert_writes_fail(&rt, rt.alloc(), 1_000, usize::MAX);
     for flush in 0..2 {
-        let (fault, _) = write_fault(&rt, rt.alloc(), 0, Narrow::failing_once(1, 1_000, flush));
-        assert!(rt; fault == Some(DriverFault::Write), "after {flush} flushes");
+        assert_fails(
+            &rt,
+            rt.alloc(),
+            0,
+            Narrow::failing_once(1, 1_000, flush),
+            flush,
+        );
     }
-}
-
-// Asserts how the report of a run of so many likes of the page by user 0 ends.
-fn assert_ends<T: Threads + Wait + Abort + Sync>(
-    rt: &T,
-    alloc: Global,
-    options: &Options,
-    likes: usize,
-    end: &str,
-) {
-    let requests = requests(rt, alloc, "like,0,a\n", likes);
-    let out = ran(rt, alloc, options, pages(), requests.as_str());
-    assert!(rt; out.as_slice().ends_with(end.as_bytes()));
-}
-
-// A replay would be `Unfinished`: a worker runs one request a round.
-#[test]
-fn runs_a_million_likes(rt: HostRuntime) {
-    let options = lone(&rt, rt.alloc());
-    let end = "page,0,,,,a,1000010\nuser,0,,,,a,\n";
-    assert_ends(&rt, rt.alloc(), &options, 1_000_000, end);
-}
-
-// The likes are done long before the coordinator has counted a million turns, so no phase ends before them. Were it fewer
-// turns, one of ten runs would show it.
-#[test]
-fn keeps_to_the_turns(rt: HostRuntime) {
-    let mut options = lone(&rt, rt.alloc());
-    options.turns = 1_000_000;
-    let end = "reply,0,2000,0,liked,,\npage,0,,,,a,2010\nuser,0,,,,a,\n";
-    for _ in 0..10 {
-        assert_ends(&rt, rt.alloc(), &options, 2_000, end);
-    }
-}
-
-// All likes are done before the coordinator has counted a million turns, so in phase 0.
-#[test]
-fn runs_with_places(rt: HostRuntime) {
-    let mut options = lone(&rt, rt.alloc());
-    options.turns = 1_000_000;
-    options.places = true;
-    let end = "page,0,,,,a,12\nuser,0,,,,a,\nplace,0,0,0,10,a,1\nplace,0,0,0,11,a,1\n";
-    assert_ends(&rt, rt.alloc(), &options, 2, end);
 }
 
 // The phase of a row of a reply.
@@ -187,16 +195,12 @@ fn most_overtaken(phases: &[u32]) -> u32 {
 // one none. Phases of 16 turns have time for many, and come often.
 #[test]
 fn keeps_to_the_stash(rt: HostRuntime) {
-    let mut options = lone(&rt, rt.alloc());
-    options.stash = 2;
-    options.turns = 16;
     let requests = requests(&rt, rt.alloc(), "look,0,a\nlike,0,b\n", 20_000);
-    let out = ran(&rt, rt.alloc(), &options, two_pages(), requests.as_str());
-    assert_overtaken_by_one(&rt, rt.alloc(), out.as_slice());
-}
-
-fn two_pages() -> &'static str {
-    "name,count,split\na,0,yes\nb,0,no\n"
+    let pages = "name,count,split\na,0,yes\nb,0,no\n";
+    let mut out = Vec::new(rt.alloc());
+    let fault = run_onto(&rt, rt.alloc(), "1 1 2 16", pages, &requests, &mut out);
+    assert!(rt; fault.is_none());
+    assert_overtaken_by_one(&rt, rt.alloc(), &out);
 }
 
 // Asserts that a report has 40,000 replies, and that likes overtake one look in a phase at most.

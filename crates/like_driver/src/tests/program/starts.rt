@@ -1,0 +1,59 @@
+//! Starts of the program as data.
+
+/// Starts, with `;` between them. Each has six cells with `|` between them: its name; the files that are there, as
+/// `NAME>TEXT` with `&` behind each; the words; the status; and what stands on the output and the errors, where `..` stands
+/// for more.
+///
+/// - `replays-by-the-options`: the files of `late-worker` with a request of a user who is not there, by the options and the
+///   script that are named: with other numbers, in another order or without the script, the requests would run in other
+///   phases.
+/// - `runs-files`: of three submitters, of whom each has the likes of its own user: in another order, they would be
+///   refused. And `plain-likes`, which is done in phase 0 long before the coordinator has counted a million turns.
+/// - `writes-a-summary`: each number but the seconds.
+/// - `opens-in-order`: all files are opened before one is read, and the first that can't be opened is told.
+pub const STARTS: &str = "\
+replays-files|\
+replays-p.csv>name,count,split\na,10,no\n&replays-0.csv>op,user,page\nlike,0,a\nlook,1,b\n&\
+replays-1.csv>op,user,page\nlike,1,a\n&replays-2.csv>op,user,page\nlook,2,a\n&|\
+replay --users 3 replays-p.csv replays-0.csv replays-1.csv replays-2.csv|0|\
+row,id,number,phase,answer,page,count\nreply,0,1,0,liked,,\nreply,0,2,0,other-home,,\nreply,1,1,0,liked,,\n\
+reply,2,1,0,seen,,12\npage,0,,,,a,12\nuser,0,,,,a,\nuser,1,,,,a,\n|;\
+replays-by-the-options|\
+late-p.csv>name,count,split\na,0,yes\n&late-0.csv>op,user,page\n&\
+late-1.csv>op,user,page\nlook,1,a\nlook,1,a\nlook,3,a\n&\
+late-s.csv>turn,index\nopen,1\nopen,1\ncoordinator,0\nworker,0\nworker,1\ncoordinator,0\nworker,1\nworker,1\n\
+coordinator,0\nworker,0\nworker,1\ncoordinator,0\ncoordinator,0\nworker,1\nworker,1\nworker,1\n&|\
+replay --workers 2 --users 2 --turns 0 --script late-s.csv late-p.csv late-0.csv late-1.csv|0|\
+row,id,number,phase,answer,page,count\nreply,1,1,2,seen,,0\nreply,1,2,2,seen,,0\nreply,1,3,3,unknown-user,,\n\
+page,0,,,,a,0\n|;\
+runs-files|\
+runs-p.csv>name,count,split\na,10,no\n&runs-0.csv>op,user,page\nlike,0,a\nlook,1,b\n&\
+runs-1.csv>op,user,page\nlike,1,a\n&runs-2.csv>op,user,page\nlike,2,a\n&|\
+run --users 3 runs-p.csv runs-0.csv runs-1.csv runs-2.csv|0|\
+..page,0,,,,a,13\nuser,0,,,,a,\nuser,1,,,,a,\nuser,2,,,,a,\n|;\
+runs-files|\
+plain-p.csv>name,count,split\na,10,no\n&plain-r.csv>op,user,page\nlike,0,a\nlike,1,a\nlike,0,a\n&|\
+run --workers 1 --users 2 --turns 1000000 plain-p.csv plain-r.csv|0|\
+row,id,number,phase,answer,page,count\nreply,0,1,0,liked,,\nreply,0,2,0,liked,,\nreply,0,3,0,liked,,\n\
+page,0,,,,a,13\nuser,0,,,,a,\nuser,1,,,,a,\n|;\
+writes-a-summary|\
+summary-p.csv>name,count,split\na,10,no\n&\
+summary-0.csv>op,user,page\nlike,0,a\nlook,0,a\nlike,0,a\nlook,1,a\n&\
+summary-1.csv>op,user,page\nlook,3,a\nlike,9,a\nlike,9,a\nlook,1,b\n&|\
+replay --summary --users 3 summary-p.csv summary-0.csv summary-1.csv|0|\
+..page,0,,,,a,12\nuser,0,,,,a,\n|\
+requests: 8\nliked: 2\nseen: 1\nunknown-user: 3\nother-home: 1\nunknown-page: 1\nphases: 1\n\
+phases with hot pages: 0\nhot pages: 0\nreading: 0...;\
+opens-in-order|opens-bad.csv>no,header\n&|replay none-p.csv none-r.csv|3||likes: none-p.csv: read failed\n;\
+opens-in-order|opens-bad.csv>no,header\n&|run opens-bad.csv none-r.csv|3||likes: none-r.csv: read failed\n;\
+opens-in-order|opens-bad.csv>no,header\n&|replay opens-bad.csv opens-bad.csv none-r.csv --script none-s.csv|3||\
+likes: none-r.csv: read failed\n;\
+opens-in-order|opens-bad.csv>no,header\n&|replay opens-bad.csv opens-bad.csv --script none-s.csv|3||\
+likes: none-s.csv: read failed\n;\
+opens-in-order|opens-bad.csv>no,header\n&|replay opens-bad.csv opens-bad.csv|3||\
+likes: opens-bad.csv: the header is not name,count,split\n;\
+opens-in-order|opens-bad.csv>no,header\n&|replay . opens-bad.csv|3||likes: .: read failed\n;\
+shows-help||replay --help|0|Runs the requests on one thread..|;\
+tells-wrong-words||walk p.csv r.csv|2||error: unrecognized subcommand 'walk'..;\
+tells-wrong-words||replay --places p.csv --places r.csv|2||\
+error: the argument '--places' cannot be used multiple times..";
