@@ -35,24 +35,28 @@ impl Case {
 
     pub fn plans(&self, rt: &impl Abort, alloc: Global) -> Vec<Vec<Request>> {
         let pages = pages_of(rt, alloc, self.pages);
-        plans_of(rt, alloc, self.requests, &pages)
+        let mut plans = Vec::new(alloc);
+        for requests in self.requests {
+            let plan = plan_of(rt, alloc, requests, &pages);
+            assert!(rt; plans.push(plan).is_ok());
+        }
+        plans
     }
 
-    /// What a replay of the case's own requests and script ends in.
+    /// What a replay of the case's own requests ends in.
     pub fn replay(&self, rt: &impl Abort, alloc: Global) -> Result<Report, ReplayFault> {
-        let plans = self.plans(rt, alloc);
-        let script = turns(rt, alloc, self.script);
-        replayed(rt, alloc, &self.setup(rt, alloc), plans, &script)
+        self.replay_plans(rt, alloc, self.plans(rt, alloc))
     }
 
-    /// What a replay of these plans without a script ends in.
+    /// What a replay of these plans by the case's script ends in.
     pub fn replay_plans(
         &self,
         rt: &impl Abort,
         alloc: Global,
         plans: Vec<Vec<Request>>,
     ) -> Result<Report, ReplayFault> {
-        replayed(rt, alloc, &self.setup(rt, alloc), plans, &[])
+        let script = turns(rt, alloc, self.script);
+        replayed(rt, alloc, &self.setup(rt, alloc), plans, &script)
     }
 
     /// What a run of these plans on threads ends in.
@@ -90,6 +94,17 @@ pub fn replayed(
     replay(alloc, setup, plans, script)
 }
 
+/// Asserts the counts of a report, and drops it: a caller that dropped it would prove once more how each of its parts is
+/// dropped.
+pub fn assert_counts(rt: &impl Abort, report: Report, counts: &[u64]) {
+    assert!(rt; report.counts.as_slice() == counts);
+}
+
+/// Asserts that a text is this.
+pub fn assert_text(rt: &impl Abort, text: &str, wanted: &str) {
+    assert!(rt; text == wanted, "{text}");
+}
+
 /// The pages of a file, without its header.
 pub fn pages_of(rt: &impl Abort, alloc: Global, pages: &str) -> Pages {
     let text = format!(in alloc; "name,count,split\n{pages}").expect(rt, "memory");
@@ -99,15 +114,6 @@ pub fn pages_of(rt: &impl Abort, alloc: Global, pages: &str) -> Pages {
 fn plan_of(rt: &impl Abort, alloc: Global, requests: &str, pages: &Pages) -> Vec<Request> {
     let text = format!(in alloc; "op,user,page\n{requests}").expect(rt, "memory");
     read_requests(alloc, text.as_bytes(), pages).expect(rt, "requests")
-}
-
-fn plans_of(rt: &impl Abort, alloc: Global, requests: &[&str], pages: &Pages) -> Vec<Vec<Request>> {
-    let mut plans = Vec::new(alloc);
-    for requests in requests {
-        let plan = plan_of(rt, alloc, requests, pages);
-        assert!(rt; plans.push(plan).is_ok());
-    }
-    plans
 }
 
 // The entry of a script that a word stands for.

@@ -155,18 +155,23 @@ fn draw_script(
     Ok(script)
 }
 
+// Whether a worker's log is what a player took and ran.
+fn is_log_of(log: &WorkerLog, player: &Player) -> bool {
+    log.taken == player.taken && log.ran == player.ran
+}
+
 // Whether each worker's log is what the player of that worker took and ran.
 fn are_as_played(logs: &[WorkerLog], players: &[Player]) -> bool {
     for (log, player) in logs.iter().zip(players) {
-        if log.taken != player.taken || log.ran != player.ran {
+        if !is_log_of(log, player) {
             return false;
         }
     }
     logs.len() == players.len()
 }
 
-fn is_as_played(report: &Report, played: &Played) -> bool {
-    report.phases == played.phases
+fn is_as_played(report: Report, played: Played) -> bool {
+    Some(report.phases) == played.phases
         && report.hot == played.chosen
         && are_as_played(&report.logs, &played.players)
 }
@@ -178,9 +183,10 @@ fn is_next_as_played(rt: &impl Abort, alloc: Global, draws: &mut Draws) -> bool 
     let submitters = 1 + draws.below(7);
     let plans = draw_plans(alloc, draws, submitters).expect(rt, "memory");
     let script = draw_script(alloc, draws, setup.workers, submitters).expect(rt, "memory");
-    let played = play(alloc, &setup, split, &plans, &script).expect(rt, "a play");
+    let played = play(rt, alloc, &setup, split, &plans, &script);
+    assert!(rt; played.is_whole(), "memory, or an event of the play");
     let report = replayed(rt, alloc, &setup, plans, &script).expect(rt, "a report");
-    is_as_played(&report, &played)
+    is_as_played(report, played)
 }
 
 #[test]

@@ -5,11 +5,9 @@
 #[cfg(test)]
 mod cases;
 #[cfg(test)]
-mod count;
-#[cfg(test)]
 mod drawn;
 #[cfg(test)]
-mod ledger;
+mod gates;
 #[cfg(test)]
 mod mixed;
 #[cfg(test)]
@@ -24,5 +22,3 @@ mod runs;
 mod settings;
 #[cfg(test)]
 mod turns;
-#[cfg(test)]
-mod watch;

@@ -1,10 +1,11 @@
 //! Example mixed-load: likes and looks of a page that is split and of one that isn't, on threads. Run order, and the bounds
 //! between which each count has to lie, are computed here from what the workers took and from which likes they ran.
-use super::cases::{Case, SMALL};
-use super::watch::Watch;
+use super::cases::{Case, SMALL, assert_counts};
+use super::gates::Watch;
+use like_replies::Report;
 use like_requests::{Op, PageRef, Request};
 use like_roles::{Ran, Reply, Took, WorkerLog};
-use std::alloc::{AllocError, Global};
+use std::alloc::Global;
 use std::process::Abort;
 use std::sync::Wait;
 use std::thread::Threads;
@@ -31,22 +32,23 @@ fn asked(number: u32) -> (Op, u32) {
     }
 }
 
-fn plan(alloc: Global, user: u32) -> Result<Vec<Request>, AllocError> {
+fn plan(rt: &impl Abort, alloc: Global, user: u32) -> Vec<Request> {
     let mut plan = Vec::new(alloc);
     for number in 1..2_001 {
         let (op, page) = asked(number);
         let page = PageRef::Known(page);
-        plan.push(Request { op, user, page })?;
+        plan.push(Request { op, user, page }).expect(rt, "memory");
     }
-    Ok(plan)
+    plan
 }
 
-fn plans(alloc: Global) -> Result<Vec<Vec<Request>>, AllocError> {
+fn plans(rt: &impl Abort, alloc: Global) -> Vec<Vec<Request>> {
     let mut plans = Vec::new(alloc);
     for user in 0..8 {
-        plans.push(plan(alloc, user)?)?;
+        let plan = plan(rt, alloc, user);
+        assert!(rt; plans.push(plan).is_ok());
     }
-    Ok(plans)
+    plans
 }
 
 // A request's place in run order: phase, whether it is not from the stash, submitter and number.
@@ -60,41 +62,48 @@ fn place(took: &Took) -> Place {
     (phase, !waits, took.submitter, took.number)
 }
 
-fn order(alloc: Global, taken: &[Took]) -> Result<Vec<Place>, AllocError> {
+fn order(rt: &impl Abort, alloc: Global, taken: &[Took]) -> Vec<Place> {
     let mut order = Vec::new(alloc);
     for took in taken {
-        order.push(place(took))?;
+        order.push(place(took)).expect(rt, "memory");
     }
-    order.sort_by_key(|entry| (entry.0, entry.1))?;
-    Ok(order)
+    order
+        .sort_by_key(|entry| (entry.0, entry.1))
+        .expect(rt, "memory");
+    order
 }
 
-// The places of what ran, as it ran.
-fn places(alloc: Global, ran: &[Ran]) -> Result<Vec<Place>, AllocError> {
-    let mut places = Vec::new(alloc);
-    for entry in ran {
-        places.push((entry.phase, !entry.stashed, entry.submitter, entry.number))?;
+// Whether this is what ran, as it ran.
+fn is_as_ran(order: &[Place], ran: &[Ran]) -> bool {
+    for (place, entry) in order.iter().zip(ran) {
+        if *place != (entry.phase, !entry.stashed, entry.submitter, entry.number) {
+            return false;
+        }
     }
-    Ok(places)
+    order.len() == ran.len()
 }
 
-// How many likes ran, by phase and page.
+// How many likes ran, by phase and page: those of page 0 in phase 0, of page 1 in phase 0, of page 0 in phase 1 and so on.
 #[derive(Drop)]
 struct Likes {
-    rows: Vec<[u64; 2]>,
+    rows: Vec<u64>,
+}
+
+// Where the likes of a page in a phase stand.
+fn row(phase: u32, page: u32) -> usize {
+    phase as usize * 2 + page as usize
 }
 
 impl Likes {
-    fn none(alloc: Global, phases: u32) -> Result<Likes, AllocError> {
-        Ok(Likes {
-            rows: vec![in alloc; [0, 0]; phases as usize]?,
-        })
+    fn none(rt: &impl Abort, alloc: Global, phases: u32) -> Likes {
+        Likes {
+            rows: vec![in alloc; 0; row(phases, 0)].expect(rt, "memory"),
+        }
     }
 
     fn add(&mut self, entry: &Ran) {
-        let (op, page) = asked(entry.number);
-        if let (Op::Like, Some(row)) = (op, self.rows.get_mut(entry.phase as usize)) {
-            if let Some(likes) = row.get_mut(page as usize) {
+        if let (Op::Like, page) = asked(entry.number) {
+            if let Some(likes) = self.rows.get_mut(row(entry.phase, page)) {
                 *likes = likes.saturating_add(1);
             }
         }
@@ -107,21 +116,20 @@ impl Likes {
     }
 
     fn within(&self, phase: u32, page: u32) -> u64 {
-        match self.rows.get(phase as usize) {
-            Some(row) => row.get(page as usize).copied().unwrap_or(0),
-            None => 0,
-        }
+        self.rows.get(row(phase, page)).copied().unwrap_or(0)
     }
 
-    // By phase and page, how many likes ran up to then.
-    fn up_to(&self, alloc: Global) -> Result<Likes, AllocError> {
+    // By phase and page, how many likes ran up to then. The sums of this page and of the other one take turns.
+    fn up_to(&self, rt: &impl Abort, alloc: Global) -> Likes {
         let mut rows = Vec::new(alloc);
-        let mut sum = [0u64, 0];
-        for row in self.rows.iter() {
-            sum = [sum[0].saturating_add(row[0]), sum[1].saturating_add(row[1])];
-            rows.push(sum)?;
+        let (mut sum, mut other) = (0_u64, 0_u64);
+        for likes in self.rows.iter() {
+            let up_to = sum.saturating_add(*likes);
+            rows.push(up_to).expect(rt, "memory");
+            sum = other;
+            other = up_to;
         }
-        Ok(Likes { rows })
+        Likes { rows }
     }
 }
 
@@ -137,22 +145,28 @@ struct Bounds<'a> {
 impl Bounds<'_> {
     // Whether the count that an entry was shown, if one was, lies between: at least all likes of earlier phases and the
     // worker's own ones before in its phase, and at most all likes up to that phase less its own later ones in it.
-    fn hold(self, entry: &Ran, before: &Likes) -> bool {
-        let Reply::Seen { count, .. } = entry.reply else {
-            return true;
-        };
-        let (phase, page) = (entry.phase, asked(entry.number).1);
+    fn hold(&self, entry: &Ran, before: &Likes) -> bool {
+        match entry.reply {
+            Reply::Seen { count, .. } => {
+                let page = asked(entry.number).1;
+                self.are_round(count, entry.phase, page, before.within(entry.phase, page))
+            }
+            _ => true,
+        }
+    }
+
+    // Whether a page's count in a phase lies between, after so many of the worker's own likes in it.
+    fn are_round(&self, count: u64, phase: u32, page: u32, made: u64) -> bool {
         let so_far = self.up_to.within(phase, page);
-        let made = before.within(phase, page);
         let later = self.own.within(phase, page).saturating_sub(made);
         let earlier = so_far.saturating_sub(self.all.within(phase, page));
         earlier.saturating_add(made) <= count && count <= so_far.saturating_sub(later)
     }
 
     // Whether they hold for each entry, beside the likes before it, of which there are none at first.
-    fn hold_for(self, ran: &[Ran], mut before: Likes) -> bool {
+    fn hold_for(&self, ran: &[Ran], before: &mut Likes) -> bool {
         for entry in ran {
-            if !self.hold(entry, &before) {
+            if !self.hold(entry, before) {
                 return false;
             }
             before.add(entry);
@@ -161,51 +175,55 @@ impl Bounds<'_> {
     }
 }
 
-fn has_right_counts(
-    alloc: Global,
-    ran: &[Ran],
-    all: &Likes,
-    phases: u32,
-) -> Result<bool, AllocError> {
-    let mut own = Likes::none(alloc, phases)?;
-    own.add_all(ran);
-    let bounds = Bounds {
-        all,
-        up_to: &all.up_to(alloc)?,
-        own: &own,
-    };
-    Ok(bounds.hold_for(ran, Likes::none(alloc, phases)?))
-}
-
-fn likes_of(alloc: Global, logs: &[WorkerLog], phases: u32) -> Result<Likes, AllocError> {
-    let mut all = Likes::none(alloc, phases)?;
+// The likes of these logs.
+fn likes_of(rt: &impl Abort, alloc: Global, logs: &[WorkerLog], phases: u32) -> Likes {
+    let mut all = Likes::none(rt, alloc, phases);
     for log in logs {
         all.add_all(&log.ran);
     }
-    Ok(all)
+    all
 }
 
-fn has_run_order(alloc: Global, log: &WorkerLog) -> Result<bool, AllocError> {
-    Ok(places(alloc, &log.ran)? == order(alloc, &log.taken)?)
+fn has_right_counts(
+    rt: &impl Abort,
+    alloc: Global,
+    ran: &[Ran],
+    all: &Likes,
+    up_to: &Likes,
+    phases: u32,
+) -> bool {
+    let mut own = Likes::none(rt, alloc, phases);
+    own.add_all(ran);
+    let own = &own;
+    let mut before = Likes::none(rt, alloc, phases);
+    Bounds { all, up_to, own }.hold_for(ran, &mut before)
+}
+
+fn has_run_order(rt: &impl Abort, alloc: Global, log: &WorkerLog) -> bool {
+    is_as_ran(&order(rt, alloc, &log.taken), &log.ran)
 }
 
 // Asserts that each worker ran in run order, and that its looks were shown right counts.
 fn assert_logs(rt: &impl Abort, alloc: Global, logs: &[WorkerLog], phases: u32) {
-    let all = likes_of(alloc, logs, phases).expect(rt, "memory");
+    let all = likes_of(rt, alloc, logs, phases);
+    let up_to = all.up_to(rt, alloc);
     for log in logs {
-        assert!(rt; matches!(has_run_order(alloc, log), Ok(true)));
-        assert!(rt; matches!(has_right_counts(alloc, &log.ran, &all, phases), Ok(true)));
+        assert!(rt; has_run_order(rt, alloc, log));
+        assert!(rt; has_right_counts(rt, alloc, &log.ran, &all, &up_to, phases));
     }
+}
+
+fn assert_right(rt: &impl Abort, alloc: Global, report: Report, gate: &Watch) {
+    assert!(rt; gate.has_calls(16_000));
+    assert!(rt; gate.phases() == report.phases.saturating_add(1));
+    assert_logs(rt, alloc, &report.logs, gate.phases());
+    assert_counts(rt, report, &[4_000, 4_000]);
 }
 
 fn assert_run(rt: &(impl Abort + Threads + Wait + Sync), alloc: Global) {
     let gate = Watch::idle();
-    let plans = plans(alloc).expect(rt, "memory");
-    let report = mixed_load().report(rt, alloc, plans, &gate);
-    assert!(rt; report.counts.as_slice() == [4_000, 4_000].as_slice());
-    assert!(rt; gate.calls() == (16_000, 16_000));
-    assert!(rt; gate.phases() == report.phases.saturating_add(1));
-    assert_logs(rt, alloc, &report.logs, gate.phases());
+    let report = mixed_load().report(rt, alloc, plans(rt, alloc), &gate);
+    assert_right(rt, alloc, report, &gate);
 }
 
 #[test]

@@ -1,6 +1,8 @@
 //! Where the additions of runs stand.
-use super::cases::{Case, PLAIN_LIKES, SPLIT_AND_STASH, TWO_SLICES, plain_likes};
-use super::watch::Watch;
+use super::cases::{
+    Case, PLAIN_LIKES, SPLIT_AND_STASH, TWO_SLICES, assert_counts, assert_text, plain_likes,
+};
+use super::gates::Watch;
 use like_replies::{Place, Report};
 use like_run::{replay_noting, run_noting};
 use std::alloc::{AllocError, Global};
@@ -37,19 +39,23 @@ fn text_of(alloc: Global, places: &[Place]) -> Result<String, AllocError> {
     Ok(text)
 }
 
-// Asserts where the additions to the one page of a report stand.
-fn assert_placed(rt: &impl Abort, alloc: Global, report: &Report, wanted: &str) {
+// The additions to the one page of a report.
+fn places_of<'a>(rt: &impl Abort, report: &'a Report) -> &'a [Place] {
     assert!(rt; report.places.len() == 1);
-    let page = report.places.first().expect(rt, "a page");
-    let text = text_of(alloc, page).expect(rt, "memory");
-    assert!(rt; text.as_str() == wanted, "{text}");
+    report.places.first().expect(rt, "a page")
+}
+
+// Asserts where the additions to the one page of a report stand.
+fn assert_placed(rt: &impl Abort, alloc: Global, report: Report, wanted: &str) {
+    let text = text_of(alloc, places_of(rt, &report)).expect(rt, "memory");
+    assert_text(rt, &text, wanted);
 }
 
 #[test]
 fn places_of_scripts(rt: HostRuntime) {
     for (case, places) in all_places() {
         let report = case.replay(&rt, rt.alloc()).expect(&rt, "a report");
-        assert_placed(&rt, rt.alloc(), &report, places);
+        assert_placed(&rt, rt.alloc(), report, places);
     }
 }
 
@@ -65,24 +71,27 @@ fn are_placed_singly(places: &[Place]) -> bool {
     old == 13
 }
 
+// Asserts that of a report of plain likes, whose count is then 13.
+fn assert_placed_singly(rt: &impl Abort, report: Report) {
+    assert!(rt; are_placed_singly(places_of(rt, &report)));
+    assert_counts(rt, report, &[13]);
+}
+
 // On threads the likes run in any phase.
 #[test]
 fn places_on_threads(rt: HostRuntime) {
-    let case = plain_likes();
-    let plans = case.plans(&rt, rt.alloc());
-    let report = case.report(&rt, rt.alloc(), plans, &Watch::idle());
-    assert!(rt; report.places.len() == 1);
-    let page = report.places.first().expect(&rt, "a page");
-    assert!(rt; are_placed_singly(page));
+    let plans = plain_likes().plans(&rt, rt.alloc());
+    let report = plain_likes().report(&rt, rt.alloc(), plans, &Watch::idle());
+    assert_placed_singly(&rt, report);
 }
 
 // Asserts that a report of plain likes has their count, and no places.
-fn assert_none(rt: &impl Abort, report: &Report) {
-    assert!(rt; report.counts.as_slice() == [13].as_slice());
+fn assert_none(rt: &impl Abort, report: Report) {
     assert!(rt; report.places.is_empty());
     for log in report.logs.iter() {
         assert!(rt; log.adds.is_empty());
     }
+    assert_counts(rt, report, &[13]);
 }
 
 // The report of a replay that notes no additions.
@@ -101,6 +110,6 @@ fn ran_unnoted(rt: &(impl Abort + Threads + Wait + Sync), alloc: Global) -> Repo
 
 #[test]
 fn notes_no_places_where_none_are_asked(rt: HostRuntime) {
-    assert_none(&rt, &replayed_unnoted(&rt, rt.alloc()));
-    assert_none(&rt, &ran_unnoted(&rt, rt.alloc()));
+    assert_none(&rt, replayed_unnoted(&rt, rt.alloc()));
+    assert_none(&rt, ran_unnoted(&rt, rt.alloc()));
 }

@@ -1,7 +1,7 @@
 //! Replays of scripts: what the workers took and ran, refused scripts, and how long a replay may last.
 use super::cases::{
     Case, FULL_STASH, IDLE_WORKERS, LATE_WORKER, PLAIN_LIKES, SMALL, SPLIT_AND_STASH,
-    STASH_THEN_LIKE, TWO_SLICES, UNSPLIT, likes,
+    STASH_THEN_LIKE, TWO_SLICES, UNSPLIT, assert_counts, assert_text, likes,
 };
 use like_replies::Report;
 use like_roles::{Chosen, Ran, Took};
@@ -44,49 +44,59 @@ fn all_logs() -> &'static [(&'static Case, usize, &'static str, &'static str)] {
     LOGS
 }
 
+fn write_word(
+    text: &mut String,
+    phase: u32,
+    submitter: u32,
+    number: u32,
+    mark: &str,
+) -> Result<(), AllocError> {
+    Ok(write!(text, "{phase}.{submitter}.{number}{mark} ")?)
+}
+
 fn taken_text(alloc: Global, taken: &[Took]) -> Result<String, AllocError> {
     let mut text = String::new(alloc);
     for took in taken {
-        let (phase, submitter, number) = (took.phase, took.submitter, took.number);
-        write!(text, "{phase}.{submitter}.{number} ")?;
+        write_word(&mut text, took.phase, took.submitter, took.number, "")?;
     }
     Ok(text)
+}
+
+fn mark_of(stashed: bool) -> &'static str {
+    if stashed { "+" } else { "" }
 }
 
 fn ran_text(alloc: Global, ran: &[Ran]) -> Result<String, AllocError> {
     let mut text = String::new(alloc);
     for entry in ran {
-        let (phase, submitter, number) = (entry.phase, entry.submitter, entry.number);
-        let mark = if entry.stashed { "+" } else { "" };
-        write!(text, "{phase}.{submitter}.{number}{mark} ")?;
+        let mark = mark_of(entry.stashed);
+        write_word(&mut text, entry.phase, entry.submitter, entry.number, mark)?;
     }
     Ok(text)
-}
-
-// Asserts that a text was made, and is this.
-fn assert_text(rt: &impl Abort, text: Result<String, AllocError>, wanted: &str) {
-    let text = text.expect(rt, "memory");
-    assert!(rt; text.as_str() == wanted, "{text}");
 }
 
 fn assert_log(
     rt: &impl Abort,
     alloc: Global,
-    report: &Report,
+    report: Report,
     worker: usize,
     taken: &str,
     ran: &str,
 ) {
     let log = report.logs.get(worker).expect(rt, "a log");
-    assert_text(rt, taken_text(alloc, &log.taken), taken);
-    assert_text(rt, ran_text(alloc, &log.ran), ran);
+    assert_text(
+        rt,
+        &taken_text(alloc, &log.taken).expect(rt, "memory"),
+        taken,
+    );
+    assert_text(rt, &ran_text(alloc, &log.ran).expect(rt, "memory"), ran);
 }
 
 #[test]
 fn logs_of_scripts(rt: HostRuntime) {
     for (case, worker, taken, ran) in all_logs() {
         let report = case.replay(&rt, rt.alloc()).expect(&rt, "a report");
-        assert_log(&rt, rt.alloc(), &report, *worker, taken, ran);
+        assert_log(&rt, rt.alloc(), report, *worker, taken, ran);
     }
 }
 
@@ -105,8 +115,8 @@ fn end_text(alloc: Global, replayed: &Result<Report, ReplayFault>) -> Result<Str
     }
 }
 
-fn assert_end(rt: &impl Abort, alloc: Global, replayed: &Result<Report, ReplayFault>, end: &str) {
-    assert_text(rt, end_text(alloc, replayed), end);
+fn assert_end(rt: &impl Abort, alloc: Global, replayed: Result<Report, ReplayFault>, end: &str) {
+    assert_text(rt, &end_text(alloc, &replayed).expect(rt, "memory"), end);
 }
 
 const AWAY: Case = Case {
@@ -139,7 +149,7 @@ fn all_ends() -> &'static [(&'static Case, &'static str)] {
 #[test]
 fn ends_of_scripts(rt: HostRuntime) {
     for (case, end) in all_ends() {
-        assert_end(&rt, rt.alloc(), &case.replay(&rt, rt.alloc()), end);
+        assert_end(&rt, rt.alloc(), case.replay(&rt, rt.alloc()), end);
     }
 }
 
@@ -168,11 +178,11 @@ fn is_hot_in_odd_phases(hot: &[Chosen]) -> bool {
 }
 
 // Asserts that like n of 2,060 ran in phase n, and that page 0 alone was hot in 1,024 odd phases, of which 3 is the first.
-fn assert_hot_in_1024_phases(rt: &impl Abort, report: &Report) {
+fn assert_hot_in_1024_phases(rt: &impl Abort, report: Report) {
     let log = report.logs.first().expect(rt, "a log");
     assert!(rt; log.ran.len() == 2_060 && ran_by_phase(&log.ran));
-    assert!(rt; report.counts.as_slice() == [2_060].as_slice());
     assert!(rt; report.hot.len() == 1_024 && is_hot_in_odd_phases(&report.hot));
+    assert_counts(rt, report, &[2_060]);
 }
 
 // Example `hot-limit`.
@@ -190,7 +200,7 @@ fn hot_limit() -> &'static Case {
 fn chooses_in_1024_phases_at_most(rt: HostRuntime) {
     let plans = likes(&rt, rt.alloc(), 1, 2_060);
     let report = hot_limit().replay_plans(&rt, rt.alloc(), plans);
-    assert_hot_in_1024_phases(&rt, &report.expect(&rt, "a report"));
+    assert_hot_in_1024_phases(&rt, report.expect(&rt, "a report"));
 }
 
 // Example `bounds`.
@@ -213,6 +223,6 @@ fn a_replay_has_a_million_rounds(rt: HostRuntime) {
     ] {
         let plans = likes(&rt, rt.alloc(), 1, number);
         let replayed = bounds().replay_plans(&rt, rt.alloc(), plans);
-        assert_end(&rt, rt.alloc(), &replayed, end);
+        assert_end(&rt, rt.alloc(), replayed, end);
     }
 }

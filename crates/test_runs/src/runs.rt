@@ -1,9 +1,8 @@
 //! Runs on threads. What is asserted of them is the same on every schedule.
-use super::cases::{Case, likes, one_page, plain_likes};
-use super::ledger::Ledger;
-use super::watch::{Held, Watch};
-use like_replies::{Answer, Report};
-use like_requests::{Request, SettingsFault};
+use super::cases::{Case, assert_counts, likes, one_page, plain_likes};
+use super::gates::{Held, Ledger, Watch};
+use like_replies::{Answer, Place, Report};
+use like_requests::SettingsFault;
 use like_roles::Reply;
 use like_run::{RunFault, run_limited};
 use std::alloc::Global;
@@ -14,49 +13,79 @@ use std::thread::Threads;
 // How many times a gate looks before it gives up.
 const LOOKS: u32 = 1 << 24;
 
+// Whether a submitter has so many replies, all of them `Liked`.
+fn is_all_liked(row: &[Answer], each: usize) -> bool {
+    for answer in row {
+        if answer.reply != Reply::Liked {
+            return false;
+        }
+    }
+    row.len() == each
+}
+
 // Whether so many submitters have so many replies each, all of them `Liked`.
 fn are_all_liked(rows: &[Vec<Answer>], submitters: usize, each: usize) -> bool {
     for row in rows {
-        if row.len() != each || !row.iter().all(|answer| answer.reply == Reply::Liked) {
+        if !is_all_liked(row, each) {
             return false;
         }
     }
     rows.len() == submitters
 }
 
+// Whether so many users like page 0.
+fn like_the_page(last: &[Option<u32>], users: usize) -> bool {
+    for page in last {
+        if *page != Some(0) {
+            return false;
+        }
+    }
+    last.len() == users
+}
+
 // Asserts that so many submitters have so many replies each, all of them `Liked`, and that so many users like the page,
 // whose count this is.
 fn assert_liked(
     rt: &impl Abort,
-    report: &Report,
+    report: Report,
     submitters: usize,
     each: usize,
     users: usize,
     count: u64,
 ) {
     assert!(rt; are_all_liked(&report.replies.rows, submitters, each));
-    assert!(rt; report.counts.as_slice() == [count].as_slice());
-    assert!(rt; report.last.len() == users);
-    assert!(rt; report.last.iter().all(|last| *last == Some(0)));
+    assert!(rt; like_the_page(&report.last, users));
+    assert_counts(rt, report, &[count]);
 }
 
 #[test]
 fn runs_plain_likes(rt: HostRuntime) {
-    let case = plain_likes();
-    let plans = case.plans(&rt, rt.alloc());
-    let report = case.report(&rt, rt.alloc(), plans, &Watch::idle());
-    assert_liked(&rt, &report, 1, 3, 2, 13);
+    let plans = plain_likes().plans(&rt, rt.alloc());
+    let report = plain_likes().report(&rt, rt.alloc(), plans, &Watch::idle());
+    assert_liked(&rt, report, 1, 3, 2, 13);
+}
+
+// Makes a run of so many likes of each submitter, who are all users, and asserts that all are liked, with a call of each
+// gate for each.
+fn assert_likes(
+    rt: &(impl Abort + Threads + Wait + Sync),
+    alloc: Global,
+    case: &Case,
+    submitters: u32,
+    each: u32,
+) {
+    let gate = Watch::idle();
+    let plans = likes(rt, alloc, submitters, each as usize);
+    let report = case.report(rt, alloc, plans, &gate);
+    let (users, likes) = (submitters as usize, submitters.saturating_mul(each));
+    assert_liked(rt, report, users, each as usize, users, u64::from(likes));
+    assert!(rt; gate.has_calls(likes));
 }
 
 #[test]
 fn runs_many_submitters(rt: HostRuntime) {
     for turns in [0, 1_000] {
-        let case = one_page(16, 64, turns);
-        let plans = likes(&rt, rt.alloc(), 64, 1_000);
-        let gate = Watch::idle();
-        let report = case.report(&rt, rt.alloc(), plans, &gate);
-        assert_liked(&rt, &report, 64, 1_000, 64, 64_000);
-        assert!(rt; gate.calls() == (64_000, 64_000));
+        assert_likes(&rt, rt.alloc(), &one_page(16, 64, turns), 64, 1_000);
     }
 }
 
@@ -65,85 +94,74 @@ fn runs_many_submitters(rt: HostRuntime) {
 fn runs_each_number_of_submitters(rt: HostRuntime) {
     for submitters in 1..=64 {
         let case = one_page(1 + submitters % 16, submitters, 1_000);
-        let plans = likes(&rt, rt.alloc(), submitters, 1);
-        let report = case.report(&rt, rt.alloc(), plans, &Watch::idle());
-        let users = submitters as usize;
-        assert_liked(&rt, &report, users, 1, users, u64::from(submitters));
+        assert_likes(&rt, rt.alloc(), &case, submitters, 1);
+    }
+}
+
+// Whether an addition is of this worker, and found this count.
+fn is_addition(place: Option<&Place>, worker: u32, old: u64) -> bool {
+    match place {
+        Some(place) => place.worker == worker && place.old == old,
+        None => false,
     }
 }
 
 // Asserts where the first two additions to the page of a report stand: worker 1's stands behind one of worker 0.
 fn assert_second_is_of_worker_1(rt: &impl Abort, report: &Report) {
     let places = report.places.first().expect(rt, "a page");
-    let [first, second, ..] = places.as_slice() else {
-        panic!(rt; "few places");
-    };
-    assert!(rt; (first.worker, first.old) == (0, 0));
-    assert!(rt; (second.worker, second.old) == (1, 1));
+    assert!(rt; is_addition(places.first(), 0, 0));
+    assert!(rt; is_addition(places.get(1), 1, 1));
 }
 
 // Each submitter has more likes than 16 bits can number, and those of submitter 2 are refused. All of it is in phase 0.
 #[test]
 fn tells_the_gate_of_each_call(rt: HostRuntime) {
-    let case = one_page(2, 2, 1_000_000);
     let gate = Ledger::new();
-    let report = case.report(&rt, rt.alloc(), likes(&rt, rt.alloc(), 3, 70_000), &gate);
-    assert!(rt; gate.is_right());
-    assert!(rt; gate.has_all(70_000));
-    assert!(rt; report.counts.as_slice() == [140_000].as_slice());
-    assert_second_is_of_worker_1(&rt, &report);
+    let plans = likes(&rt, rt.alloc(), 3, 70_000);
+    let report = one_page(2, 2, 1_000_000).report(&rt, rt.alloc(), plans, &gate);
+    assert_told(&rt, report, &gate);
 }
 
-// Asserts that a run with a gate that holds calls ends with two likes, that both calls were made, and that none waited
-// in vain.
+fn assert_told(rt: &impl Abort, report: Report, gate: &Ledger) {
+    assert!(rt; gate.is_right());
+    assert!(rt; gate.has_all(70_000));
+    assert_second_is_of_worker_1(rt, &report);
+    assert_counts(rt, report, &[140_000]);
+}
+
+// Asserts that a run of so many likes of each submitter, with a gate that holds calls, ends with two likes, that both calls
+// were made, and that none waited in vain.
 fn assert_held(
     rt: &(impl Abort + Threads + Wait + Sync),
     alloc: Global,
     held: Held,
     case: &Case,
-    plans: Vec<Vec<Request>>,
+    submitters: u32,
+    each: usize,
 ) {
     let gate = Watch::new(held, LOOKS);
-    let report = case.report(rt, alloc, plans, &gate);
+    let report = case.report(rt, alloc, likes(rt, alloc, submitters, each), &gate);
+    assert_counts(rt, report, &[2]);
     assert!(rt; gate.made() == 2);
     assert!(rt; !gate.gave_up());
-    assert!(rt; report.counts.as_slice() == [2].as_slice());
 }
 
 #[test]
 fn runs_workers_side_by_side(rt: HostRuntime) {
-    let plans = likes(&rt, rt.alloc(), 2, 1);
-    assert_held(
-        &rt,
-        rt.alloc(),
-        Held::Workers,
-        &one_page(2, 2, 1_000),
-        plans,
-    );
+    let case = one_page(2, 2, 1_000);
+    assert_held(&rt, rt.alloc(), Held::Workers, &case, 2, 1);
 }
 
 #[test]
 fn runs_a_submitter_beside_its_worker(rt: HostRuntime) {
-    let plans = likes(&rt, rt.alloc(), 1, 2);
-    assert_held(
-        &rt,
-        rt.alloc(),
-        Held::SecondRequest,
-        &one_page(1, 1, 0),
-        plans,
-    );
+    let case = one_page(1, 1, 0);
+    assert_held(&rt, rt.alloc(), Held::SecondRequest, &case, 1, 2);
 }
 
 #[test]
 fn runs_submitters_side_by_side(rt: HostRuntime) {
-    let plans = likes(&rt, rt.alloc(), 2, 1);
-    assert_held(
-        &rt,
-        rt.alloc(),
-        Held::Submitters,
-        &one_page(1, 2, 1_000),
-        plans,
-    );
+    let case = one_page(1, 2, 1_000);
+    assert_held(&rt, rt.alloc(), Held::Submitters, &case, 2, 1);
 }
 
 // What a run of two likes with at most so many threads ends in.
@@ -162,7 +180,13 @@ fn assert_not_started(rt: &(impl Abort + Threads + Wait + Sync), alloc: Global, 
     let gate = Watch::idle();
     let fault = limited(rt, alloc, &gate, starts).err();
     assert!(rt; fault == Some(RunFault::Start));
-    assert!(rt; gate.calls() == (0, 0) && gate.phases() == 0);
+    assert!(rt; gate.has_calls(0) && gate.phases() == 0);
+}
+
+// Asserts that a run with at most so many threads, which are enough, makes its report.
+fn assert_started(rt: &(impl Abort + Threads + Wait + Sync), alloc: Global, starts: u32) {
+    let report = limited(rt, alloc, &Watch::idle(), starts).expect(rt, "a report");
+    assert_liked(rt, report, 2, 1, 2, 2);
 }
 
 #[test]
@@ -170,8 +194,7 @@ fn starts_no_more_than_it_may(rt: HostRuntime) {
     for starts in 0..4 {
         assert_not_started(&rt, rt.alloc(), starts);
     }
-    let limited = limited(&rt, rt.alloc(), &Watch::idle(), 4);
-    assert_liked(&rt, &limited.expect(&rt, "a report"), 2, 1, 2, 2);
+    assert_started(&rt, rt.alloc(), 4);
 }
 
 #[test]

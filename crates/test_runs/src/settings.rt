@@ -1,9 +1,10 @@
 //! That a run keeps to the turns and the stash of its settings. No schedule is sure to show it, so each test makes runs
 //! until one has shown it, and so many at most.
 use super::cases::{Case, likes, one_page, requests};
-use super::watch::{Held, Watch};
+use super::gates::{Held, Watch};
+use like_replies::Report;
 use like_requests::Op;
-use like_roles::{Ran, WorkerLog};
+use like_roles::Ran;
 use std::alloc::Global;
 use std::process::Abort;
 use std::sync::Wait;
@@ -23,7 +24,12 @@ fn watch(
 ) {
     let case = one_page(1, 2, turns);
     let report = case.report(rt, alloc, likes(rt, alloc, submitters, each), gate);
-    assert!(rt; report.phases.saturating_add(1) == gate.phases());
+    assert!(rt; has_phases(report, gate.phases()));
+}
+
+// Whether a run went through so many phases.
+fn has_phases(report: Report, phases: u32) -> bool {
+    report.phases.saturating_add(1) == phases
 }
 
 // 16 submitters look until phase 400, and let others run after each look; the coordinator rests after 32 turns in a
@@ -70,9 +76,9 @@ fn most_stashed_of(ran: &[Ran]) -> u32 {
 }
 
 // The most entries that a worker ran in one phase from its stash.
-fn most_stashed(logs: &[WorkerLog]) -> u32 {
+fn most_stashed(report: Report) -> u32 {
     let mut most = 0;
-    for log in logs {
+    for log in report.logs.iter() {
         most = most.max(most_stashed_of(&log.ran));
     }
     most
@@ -88,7 +94,7 @@ fn fill_stash(rt: &(impl Abort + Threads + Wait + Sync), alloc: Global, stash: u
     let plans = requests(rt, alloc, Op::Look, 1, 200);
     let report = case.report(rt, alloc, plans, &gate);
     assert!(rt; !gate.gave_up());
-    most_stashed(&report.logs)
+    most_stashed(report)
 }
 
 #[test]

@@ -9,7 +9,7 @@ ghost use Rattle.like_run.specs.Rounds.{CanMake};
 
 use super::cases::{
     Case, FULL_STASH, IDLE_WORKERS, LATE_WORKER, PLAIN_LIKES, SPLIT_AND_STASH, STASH_THEN_LIKE,
-    TWO_SLICES, UNSPLIT, turns,
+    TWO_SLICES, UNSPLIT, assert_text, turns,
 };
 use like_crew::{Crew, Site};
 use like_queue::ListInbox;
@@ -117,7 +117,7 @@ fn answers_in(rt: &impl Abort, alloc: Global, case: &Case) -> Vec<Answer> {
 // Asserts what the turns of a case's script answer: a word for each.
 fn assert_answers(rt: &impl Abort, alloc: Global, case: &Case, expected: &str) {
     let words = words_of(alloc, &answers_in(rt, alloc, case)).expect(rt, "memory");
-    assert!(rt; words.as_str().trim_end() == expected, "{words}");
+    assert_text(rt, words.as_str().trim_end(), expected);
 }
 
 // Three rounds of four workers, of which three have no submitter, and the turns that end the run.

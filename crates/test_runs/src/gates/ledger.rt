@@ -59,7 +59,12 @@ impl Ledger {
 }
 
 fn are_all(counts: &[Count], number: u32) -> bool {
-    counts.iter().all(|count| count.get() == number)
+    for count in counts {
+        if count.get() != number {
+            return false;
+        }
+    }
+    true
 }
 
 fn count_of(counts: &[Count], place: usize) -> u32 {
