@@ -65,27 +65,41 @@ fn runs_plain_likes(rt: HostRuntime) {
     assert_liked(&rt, report, 1, 3, 2, 13);
 }
 
-// Makes a run of so many likes of each submitter, who are all users, and asserts that all are liked, with a call of each
-// gate for each.
+// Makes a run of so many likes of each submitter, who are all users, with a gate that holds calls. Asserts that all are
+// liked, with a call of each gate for each, that the calls that were awaited were made, and that none waited in vain.
 fn assert_likes(
     rt: &(impl Abort + Threads + Wait + Sync),
     alloc: Global,
+    held: Held,
     case: &Case,
     submitters: u32,
     each: u32,
 ) {
-    let gate = Watch::idle();
+    let gate = Watch::new(held, LOOKS);
     let plans = likes(rt, alloc, submitters, each as usize);
     let report = case.report(rt, alloc, plans, &gate);
-    let (users, likes) = (submitters as usize, submitters.saturating_mul(each));
-    assert_liked(rt, report, users, each as usize, users, u64::from(likes));
-    assert!(rt; gate.has_calls(likes));
+    assert_all_liked(rt, report, submitters, each);
+    assert_calls(rt, &gate, submitters.saturating_mul(each));
+}
+
+// Asserts that so many submitters have so many replies each, all of them `Liked`, and that they are the users.
+fn assert_all_liked(rt: &impl Abort, report: Report, submitters: u32, each: u32) {
+    let count = u64::from(submitters.saturating_mul(each));
+    let submitters = submitters as usize;
+    assert_liked(rt, report, submitters, each as usize, submitters, count);
+}
+
+fn assert_calls(rt: &impl Abort, gate: &Watch, number: u32) {
+    assert!(rt; gate.has_calls(number));
+    assert!(rt; gate.made() == gate.awaited());
+    assert!(rt; !gate.gave_up());
 }
 
 #[test]
 fn runs_many_submitters(rt: HostRuntime) {
     for turns in [0, 1_000] {
-        assert_likes(&rt, rt.alloc(), &one_page(16, 64, turns), 64, 1_000);
+        let case = one_page(16, 64, turns);
+        assert_likes(&rt, rt.alloc(), Held::Nobody, &case, 64, 1_000);
     }
 }
 
@@ -94,7 +108,7 @@ fn runs_many_submitters(rt: HostRuntime) {
 fn runs_each_number_of_submitters(rt: HostRuntime) {
     for submitters in 1..=64 {
         let case = one_page(1 + submitters % 16, submitters, 1_000);
-        assert_likes(&rt, rt.alloc(), &case, submitters, 1);
+        assert_likes(&rt, rt.alloc(), Held::Nobody, &case, submitters, 1);
     }
 }
 
@@ -129,39 +143,22 @@ fn assert_told(rt: &impl Abort, report: Report, gate: &Ledger) {
     assert_counts(rt, report, &[140_000]);
 }
 
-// Asserts that a run of so many likes of each submitter, with a gate that holds calls, ends with two likes, that both calls
-// were made, and that none waited in vain.
-fn assert_held(
-    rt: &(impl Abort + Threads + Wait + Sync),
-    alloc: Global,
-    held: Held,
-    case: &Case,
-    submitters: u32,
-    each: usize,
-) {
-    let gate = Watch::new(held, LOOKS);
-    let report = case.report(rt, alloc, likes(rt, alloc, submitters, each), &gate);
-    assert_counts(rt, report, &[2]);
-    assert!(rt; gate.made() == 2);
-    assert!(rt; !gate.gave_up());
-}
-
 #[test]
 fn runs_workers_side_by_side(rt: HostRuntime) {
     let case = one_page(2, 2, 1_000);
-    assert_held(&rt, rt.alloc(), Held::Workers, &case, 2, 1);
+    assert_likes(&rt, rt.alloc(), Held::Workers, &case, 2, 1);
 }
 
 #[test]
 fn runs_a_submitter_beside_its_worker(rt: HostRuntime) {
     let case = one_page(1, 1, 0);
-    assert_held(&rt, rt.alloc(), Held::SecondRequest, &case, 1, 2);
+    assert_likes(&rt, rt.alloc(), Held::SecondRequest, &case, 1, 2);
 }
 
 #[test]
 fn runs_submitters_side_by_side(rt: HostRuntime) {
     let case = one_page(1, 2, 1_000);
-    assert_held(&rt, rt.alloc(), Held::Submitters, &case, 2, 1);
+    assert_likes(&rt, rt.alloc(), Held::Submitters, &case, 2, 1);
 }
 
 // What a run of two likes with at most so many threads ends in.

@@ -64,6 +64,14 @@ impl Watch {
         self.made.get()
     }
 
+    /// How many of them there are, where two calls wait for each other, or nobody waits.
+    pub fn awaited(&self) -> u32 {
+        match self.held {
+            Held::Nobody => 0,
+            _ => 2,
+        }
+    }
+
     /// Whether a call waited in vain.
     pub fn gave_up(&self) -> bool {
         self.given_up.get() > 0
