@@ -1,6 +1,8 @@
+ghost use Rattle.std.specs.Prelude.{◌<◌};
+
 mod cases;
 
-use cases::{Case, cases, lawful_words, unlawful_words};
+use cases::{Case, LawfulWord, cases, lawful_words, unlawful_words};
 use like_core::{CoordSight, Core, Event, Kind, Limits, NotNow, PhaseWord, Shown, check_events};
 use std::alloc::{AllocError, Global};
 use std::process::Abort;
@@ -35,22 +37,43 @@ fn answers_events(rt: HostRuntime) -> Result<(), Fail> {
     Ok(())
 }
 
+// Whether a core of one worker goes on to the next phase.
+fn goes_on(core: &mut Core, phase: u32) -> bool {
+    let answer = if phase % 2 == 0 {
+        Event::Acknowledge(0)
+    } else {
+        Event::Report(0)
+    };
+    let events = [Event::Announce, answer, Event::Release(0), Event::Look(0)];
+    check_events(core, &events) == Ok(())
+}
+
+// Whether the coordinator sees a phase of this number, whose end was not announced.
+fn shows_number(core: &mut Core, number: u32) -> bool {
+    let sight = CoordSight {
+        number,
+        ending: false,
+        all_in: false,
+        all_gone: false,
+    };
+    core.step(Event::CoordLook) == Ok(Shown::Coord(sight))
+}
+
+// A core within limits shows the number of each phase and goes on to the next, up to the last phase.
+fn assert_limits(rt: &impl Abort, core: &mut Core, last_phase: u32, modulus: u32)
+    requires { 0 < modulus }
+{
+    for phase in 0..last_phase {
+        let goes = shows_number(core, phase % modulus) && goes_on(core, phase);
+        assert!(rt; goes, "in phase {phase}");
+    }
+    assert!(rt; core.step(Event::Announce) == Err(NotNow::Last));
+}
+
 #[test]
 fn refuses_announcement_in_last_phase(rt: HostRuntime) -> Result<(), Fail> {
     let mut core = Core::new(rt.alloc(), 1, &[0], &[true])?;
-    for phase in 0..16_777_214u32 {
-        let answer = if phase % 2 == 0 {
-            Event::Acknowledge(0)
-        } else {
-            Event::Report(0)
-        };
-        let events = [Event::Announce, answer, Event::Release(0), Event::Look(0)];
-        assert!(rt;
-            check_events(&mut core, &events) == Ok(()),
-            "in phase {phase}"
-        );
-    }
-    assert!(rt; core.step(Event::Announce) == Err(NotNow::Last));
+    assert_limits(&rt, &mut core, 16_777_214, 16_777_216);
     Ok(())
 }
 
@@ -63,23 +86,7 @@ fn takes_numbers_modulo_2(rt: HostRuntime) -> Result<(), Fail> {
         modulus: 2,
     };
     let mut core = Core::with_limits(rt.alloc(), 1, &[0], &[true], limits)?;
-    for number in [0, 1, 0, 1] {
-        let sight = CoordSight {
-            number,
-            ending: false,
-            all_in: false,
-            all_gone: false,
-        };
-        assert!(rt; core.step(Event::CoordLook) == Ok(Shown::Coord(sight)));
-        let answer = if number == 0 {
-            Event::Acknowledge(0)
-        } else {
-            Event::Report(0)
-        };
-        let events = [Event::Announce, answer, Event::Release(0), Event::Look(0)];
-        assert!(rt; check_events(&mut core, &events) == Ok(()));
-    }
-    assert!(rt; core.step(Event::Announce) == Err(NotNow::Last));
+    assert_limits(&rt, &mut core, 4, 2);
     Ok(())
 }
 
@@ -96,12 +103,25 @@ fn limits_are_these_numbers(rt: HostRuntime) -> Result<(), Fail> {
     Ok(())
 }
 
+// Whether a word is made of these parts, and taken apart into them.
+fn is_word(word: LawfulWord) -> bool {
+    let parts = PhaseWord::new(
+        word.kind,
+        word.workers,
+        word.answered,
+        word.retired,
+        word.number,
+    );
+    match parts {
+        Some(made) => made.pack() == word.packed && PhaseWord::unpack(word.packed) == parts,
+        None => false,
+    }
+}
+
 #[test]
 fn packs_and_unpacks_words(rt: HostRuntime) -> Result<(), Fail> {
-    for (word, (kind, workers, answered, retired, number)) in lawful_words() {
-        let unpacked = PhaseWord::new(*kind, *workers, *answered, *retired, *number);
-        assert!(rt; PhaseWord::unpack(*word) == unpacked, "at {word}");
-        assert!(rt; unpacked.ok_or("no word")?.pack() == *word);
+    for word in lawful_words() {
+        assert!(rt; is_word(*word), "at {}", word.packed);
     }
     for word in unlawful_words() {
         assert!(rt; PhaseWord::unpack(*word) == None, "at {word}");
@@ -112,14 +132,14 @@ fn packs_and_unpacks_words(rt: HostRuntime) -> Result<(), Fail> {
 // The two words of `idle-workers`, by what each step makes of the word.
 #[test]
 fn steps_lead_to_words_of_idle_workers(rt: HostRuntime) -> Result<(), Fail> {
-    let start = PhaseWord::new(Kind::JoinedRunning, 4, 0, 0, 0).ok_or("start")?;
+    let start = PhaseWord::new(Kind::JoinedRunning, 4, 0, 0, 0).expect(&rt, "start");
     let answered = start.announced().answered_by(0);
     let ending = answered.retired_by(1).retired_by(2).retired_by(3);
     assert!(rt; ending.pack() == 234_881_297);
     assert!(rt; ending.kind.is_ending());
     assert!(rt; !ending.kind.is_split());
     assert!(rt; ending.released().pack() == 1_099_746_508_818);
-    let split = PhaseWord::new(Kind::SplitEnding, 1, 1, 0, 1).ok_or("split")?;
+    let split = PhaseWord::new(Kind::SplitEnding, 1, 1, 0, 1).expect(&rt, "split");
     assert!(rt; split.released_modulo(2).pack() == 4);
     Ok(())
 }

@@ -29,52 +29,6 @@ fn setup_of(alloc: Global, scene: &Scene) -> Result<Setup, Fail> {
     })
 }
 
-// Makes the steps of a scene. Gives the last phase that the coordinator saw, and what the first worker has done.
-fn made(rt: &impl Abort, gate: &Expecting, scene: &Scene, mut play: Play<'_>) -> (u32, WorkerLog) {
-    for steps in scene.parts {
-        play.make(rt, gate, steps);
-    }
-    play.finish(rt, gate)
-}
-
-// The board of a scene, with its workers and the coordinator at it, plays the scene.
-fn played(
-    rt: &impl Abort,
-    alloc: Global,
-    gate: &Expecting,
-    scene: &Scene,
-    setup: &Setup,
-    plan: &[Request],
-) -> Result<(u32, WorkerLog), Fail>
-    requires { FitsRun setup.now (plan.now ∷ []) }
-{
-    let (board, coord, seats) = board_of(alloc, setup)?;
-    let play = Play::new(alloc, setup, plan, &board, coord, seats, scene.notes)?;
-    Ok(made(rt, gate, scene, play))
-}
-
-// The same of the scene's own requests, within the limits of a run.
-fn played_within(
-    rt: &impl Abort,
-    alloc: Global,
-    gate: &Expecting,
-    scene: &Scene,
-    setup: &Setup,
-) -> Result<(u32, WorkerLog), Fail> {
-    let plans = [Vec::from_slice(alloc, scene.plan)?];
-    check_setup(setup, &plans)?;
-    played(rt, alloc, gate, scene, setup, plans[0].as_slice())
-}
-
-// Plays a scene. Gives the last phase that the coordinator saw, and what the first worker has done.
-fn end_of(rt: &impl Abort, alloc: Global, scene: &Scene) -> Result<(u32, WorkerLog), Fail> {
-    let gate = Expecting::new(alloc, scene.calls)?;
-    let setup = setup_of(alloc, scene)?;
-    let end = played_within(rt, alloc, &gate, scene, &setup)?;
-    assert!(rt; gate.is_content(), "{}", scene.name);
-    Ok(end)
-}
-
 // Whether the users of a scene liked their pages last.
 fn has_last(log: &WorkerLog, scene: &Scene) -> bool {
     for (user, page) in scene.last {
@@ -95,12 +49,59 @@ fn is_log_of(log: &WorkerLog, scene: &Scene) -> bool {
         && has_last(log, scene)
 }
 
+// Makes the steps of a scene. Asserts the last phase that the coordinator saw, what the first worker has done, and the
+// calls of the gate.
+fn make_all(rt: &impl Abort, gate: &Expecting, scene: &Scene, mut play: Play<'_>) {
+    for steps in scene.parts {
+        play.make(rt, gate, steps);
+    }
+    let (phase, log) = play.finish(rt, gate);
+    assert!(rt; phase == scene.phase, "{}", scene.name);
+    assert!(rt; is_log_of(&log, scene), "{}", scene.name);
+    assert!(rt; gate.is_content(), "{}", scene.name);
+}
+
+// The board of a scene, with its workers and the coordinator at it, plays the scene.
+fn play_at_board(
+    rt: &impl Abort,
+    alloc: Global,
+    gate: &Expecting,
+    scene: &Scene,
+    setup: &Setup,
+    plan: &[Request],
+) -> Result<(), Fail>
+    requires { FitsRun setup.now (plan.now ∷ []) }
+{
+    let (board, coord, seats) = board_of(alloc, setup)?;
+    let play = Play::new(alloc, setup, plan, &board, coord, seats, scene.notes)?;
+    make_all(rt, gate, scene, play);
+    Ok(())
+}
+
+// The same of the scene's own requests, within the limits of a run.
+fn play_within(
+    rt: &impl Abort,
+    alloc: Global,
+    gate: &Expecting,
+    scene: &Scene,
+    setup: &Setup,
+) -> Result<(), Fail> {
+    let plans = [Vec::from_slice(alloc, scene.plan)?];
+    check_setup(setup, &plans)?;
+    play_at_board(rt, alloc, gate, scene, setup, plans[0].as_slice())
+}
+
+// Plays a scene.
+fn play_scene(rt: &impl Abort, alloc: Global, scene: &Scene) -> Result<(), Fail> {
+    let gate = Expecting::new(alloc, scene.calls)?;
+    let setup = setup_of(alloc, scene)?;
+    play_within(rt, alloc, &gate, scene, &setup)
+}
+
 #[test]
 fn plays_each_scene(rt: HostRuntime) -> Result<(), Fail> {
     for scene in scenes() {
-        let (phase, log) = end_of(&rt, rt.alloc(), scene)?;
-        assert!(rt; phase == scene.phase, "{}", scene.name);
-        assert!(rt; is_log_of(&log, scene), "{}", scene.name);
+        play_scene(&rt, rt.alloc(), scene)?;
     }
     Ok(())
 }

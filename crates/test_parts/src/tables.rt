@@ -2,37 +2,30 @@ ghost use Rattle.std.specs.Prelude.{◌≡◌, length};
 
 mod calls;
 
-use calls::{OnSlice, OnStash, held_of, slices, stashes};
+use calls::{OnSlice, OnStash, OnUsers, held_of, of_a_million, of_five, slices, stashes};
 use like_requests::{Op, PageRef, Request, Verdict};
 use like_tables::{Held, Slice, Stash, Users};
-use std::alloc::{AllocError, Global};
 use std::process::Abort;
 use std::test::Fail;
 
-// Makes a call of a slice of so many pages, and asserts its answer.
-fn call_slice(rt: &impl Abort, slice: &mut Slice, pages: u32, call: OnSlice)
+// Makes a call of a slice of so many pages, and tells whether it may be made and is answered as it says.
+fn answers_slice(slice: &mut Slice, pages: u32, call: OnSlice) -> bool
     requires { length slice.old ≡ pages }
     ensures { length slice.new ≡ pages }
 {
     match call {
         OnSlice::Add(page) => {
-            assert!(rt; page < pages && slice.total() < 64);
+            if page >= pages || slice.total() >= 64 {
+                return false;
+            }
             slice.add(page);
+            true
         }
-        OnSlice::Likes(page, want) => {
-            assert!(rt; page < pages);
-            assert!(rt; slice.likes(page) == want, "of {page}");
-        }
-        OnSlice::Take(page, want) => {
-            assert!(rt; page < pages);
-            assert!(rt; slice.take(page) == want, "of {page}");
-        }
-        OnSlice::Next(from, want) => {
-            assert!(rt; from <= pages);
-            assert!(rt; slice.next(from) == want, "from {from}");
-        }
-        OnSlice::Total(want) => assert!(rt; slice.total() == want),
-        OnSlice::IsEmpty(want) => assert!(rt; slice.is_empty() == want),
+        OnSlice::Likes(page, want) => page < pages && slice.likes(page) == want,
+        OnSlice::Take(page, want) => page < pages && slice.take(page) == want,
+        OnSlice::Next(from, want) => from <= pages && slice.next(from) == want,
+        OnSlice::Total(want) => slice.total() == want,
+        OnSlice::IsEmpty(want) => slice.is_empty() == want,
     }
 }
 
@@ -40,23 +33,39 @@ fn call_slice(rt: &impl Abort, slice: &mut Slice, pages: u32, call: OnSlice)
 fn a_slice_gives_what_was_added(rt: HostRuntime) -> Result<(), Fail> {
     for (pages, calls) in slices() {
         let mut slice = Slice::new(rt.alloc(), *pages)?;
-        for call in *calls {
-            call_slice(&rt, &mut slice, *pages, *call);
+        for at in 0..calls.len() {
+            let answered = answers_slice(&mut slice, *pages, calls[at]);
+            assert!(rt; answered, "{pages} pages: call {at}");
         }
     }
     Ok(())
 }
 
-// Makes a call of a stash, and asserts its answer.
-fn call_stash(rt: &impl Abort, stash: &mut Stash<Held>, call: OnStash) {
+// Pushes so many looks, and tells whether there is room for them.
+fn fills(stash: &mut Stash<Held>, looks: u32) -> bool {
+    for _ in 0..looks {
+        if stash.is_full() {
+            return false;
+        }
+        stash.push(held_of(0));
+    }
+    true
+}
+
+// Makes a call of a stash, and tells whether it may be made and is answered as it says.
+fn answers_stash(stash: &mut Stash<Held>, call: OnStash) -> bool {
     match call {
         OnStash::Push(submitter) => {
-            assert!(rt; !stash.is_full());
+            if stash.is_full() {
+                return false;
+            }
             stash.push(held_of(submitter));
+            true
         }
-        OnStash::Pop(want) => assert!(rt; stash.pop_front() == want),
-        OnStash::IsFull(want) => assert!(rt; stash.is_full() == want),
-        OnStash::Len(want) => assert!(rt; stash.len() == want),
+        OnStash::Fill(looks) => fills(stash, looks),
+        OnStash::Pop(want) => stash.pop_front() == want,
+        OnStash::IsFull(want) => stash.is_full() == want,
+        OnStash::Len(want) => stash.len() == want,
     }
 }
 
@@ -65,61 +74,74 @@ fn a_stash_gives_what_was_pushed(rt: HostRuntime) -> Result<(), Fail> {
     for (capacity, calls) in stashes() {
         assert!(rt; *capacity >= 1 && *capacity <= 4_096);
         let mut stash = Stash::new(rt.alloc(), *capacity)?;
-        for call in *calls {
-            call_stash(&rt, &mut stash, *call);
+        for at in 0..calls.len() {
+            let answered = answers_stash(&mut stash, calls[at]);
+            assert!(rt; answered, "{capacity} looks: call {at}");
         }
     }
     Ok(())
 }
 
-// A stash of the most looks.
-#[test]
-fn a_stash_holds_the_most(rt: HostRuntime) -> Result<(), Fail> {
-    let mut stash = Stash::new(rt.alloc(), 4_096)?;
-    for _ in 0..4_096 {
-        call_stash(&rt, &mut stash, OnStash::Push(0));
+// Makes a call of a table of users, and tells whether it may be made and is answered as it says.
+fn answers_users(users: &mut Users, call: OnUsers) -> bool
+    ensures { users.new.share ≡ users.old.share }
+{
+    match call {
+        OnUsers::Owns(user, want) => users.owns(user) == want,
+        OnUsers::Last(user, want) => users.owns(user) && users.last(user) == want,
+        OnUsers::Set(user, page) => {
+            if !users.owns(user) || page >= 1_024 {
+                return false;
+            }
+            users.set(user, page);
+            true
+        }
     }
-    call_stash(&rt, &mut stash, OnStash::IsFull(true));
-    call_stash(&rt, &mut stash, OnStash::Len(4_096));
-    Ok(())
 }
 
-#[test]
-fn users_are_those_of_the_worker(rt: HostRuntime) -> Result<(), Fail> {
-    let mut users = Users::new(rt.alloc(), 5, 2, 2, 1)?;
-    for user in 0..6 {
-        assert!(rt; users.owns(user) == (user == 1 || user == 3), "at {user}");
+// Makes the calls of a table of users, and asserts their answers.
+fn call_users(rt: &impl Abort, users: &mut Users, calls: &[OnUsers])
+    ensures { users.new.share ≡ users.old.share }
+{
+    for at in 0..calls.len() {
+        assert!(rt; answers_users(users, calls[at]), "call {at}");
     }
-    assert!(rt; users.last(3) == None);
-    users.set(3, 7);
-    assert!(rt; users.last(3) == Some(7));
-    assert!(rt; users.last(1) == None);
-    assert!(rt; users.worker() == 1);
+}
+
+// Whether the last likes of five users, of whom 1 and 3 are the worker's, are given so.
+fn gives_last_likes(users: &Users) -> bool
+    requires { users.now.share.users ≡ 5 }
+{
     let mut last = [Some(9); 5];
     users.give_to(&mut last);
-    assert!(rt; last == [Some(9), None, Some(9), Some(7), Some(9)]);
-    assert!(rt; users.submitter_at(0) == 1);
+    last == [Some(9), None, Some(9), Some(7), Some(9)]
+}
+
+// Whether a request of user 3 for a page that is unknown is judged so.
+fn judges_unknown_page(users: &Users) -> bool {
     let home = Request {
         op: Op::Like,
         user: 3,
         page: PageRef::Unknown,
     };
-    assert!(rt; users.judge(1, &home) == Verdict::UnknownPage);
-    Ok(())
+    users.judge(1, &home) == Verdict::UnknownPage
 }
 
-// The table of the only worker.
-fn all_users(alloc: Global, users: u32) -> Result<Users, AllocError> {
-    Users::new(alloc, users, 1, 1, 0)
+#[test]
+fn users_are_those_of_the_worker(rt: HostRuntime) -> Result<(), Fail> {
+    let mut users = Users::new(rt.alloc(), 5, 2, 2, 1)?;
+    call_users(&rt, &mut users, of_five());
+    assert!(rt; users.worker() == 1);
+    assert!(rt; gives_last_likes(&users));
+    assert!(rt; users.submitter_at(0) == 1);
+    assert!(rt; judges_unknown_page(&users));
+    Ok(())
 }
 
 // The most users, of the only worker.
 #[test]
 fn users_are_a_million(rt: HostRuntime) -> Result<(), Fail> {
-    let mut users = all_users(rt.alloc(), 1_000_000)?;
-    assert!(rt; users.owns(999_999));
-    users.set(999_999, 1_023);
-    assert!(rt; users.owns(999_999));
-    assert!(rt; users.last(999_999) == Some(1_023));
+    let mut users = Users::new(rt.alloc(), 1_000_000, 1, 1, 0)?;
+    call_users(&rt, &mut users, of_a_million());
     Ok(())
 }

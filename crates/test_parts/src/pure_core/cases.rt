@@ -22,8 +22,20 @@ pub fn cases() -> &'static [Case] {
     CASES
 }
 
-/// Words, each with its kind, workers, answered and retired workers, and number.
-pub fn lawful_words() -> &'static [(u64, (Kind, u32, u16, u16, u32))] {
+/// A phase word and its parts.
+#[derive(Clone, Copy)]
+pub struct LawfulWord {
+    pub packed: u64,
+    pub kind: Kind,
+    pub workers: u32,
+    /// The workers that have answered and those that are retired, a bit for each.
+    pub answered: u16,
+    pub retired: u16,
+    pub number: u32,
+}
+
+/// Numbers that are words.
+pub fn lawful_words() -> &'static [LawfulWord] {
     LAWFUL_WORDS
 }
 
@@ -196,16 +208,34 @@ const CASES: &[Case] = &[
     },
 ];
 
-const LAWFUL_WORDS: &[(u64, (Kind, u32, u16, u16, u32))] = &[
-    (8, (Kind::JoinedRunning, 2, 0, 0, 0)),
-    (1_099_511_628_043, (Kind::SplitEnding, 2, 1, 0, 1)),
-    (
+// A word of these parts.
+macro_rules! word {
+    ($packed:literal, $kind:ident, $workers:literal, $answered:literal, $retired:literal, $number:literal) => {
+        LawfulWord {
+            packed: $packed,
+            kind: Kind::$kind,
+            workers: $workers,
+            answered: $answered,
+            retired: $retired,
+            number: $number,
+        }
+    };
+}
+
+const LAWFUL_WORDS: &[LawfulWord] = &[
+    word!(8, JoinedRunning, 2, 0, 0, 0),
+    word!(1_099_511_628_043, SplitEnding, 2, 1, 0, 1),
+    word!(
         18_446_741_874_686_296_068,
-        (Kind::JoinedRunning, 1, 0, 0, 16_777_214),
+        JoinedRunning,
+        1,
+        0,
+        0,
+        16_777_214
     ),
     // Four workers: in phase 0 the first acknowledges and the others retire, and then phase 1 is released.
-    (234_881_297, (Kind::JoinedEnding, 4, 1, 14, 0)),
-    (1_099_746_508_818, (Kind::SplitRunning, 4, 0, 14, 1)),
+    word!(234_881_297, JoinedEnding, 4, 1, 14, 0),
+    word!(1_099_746_508_818, SplitRunning, 4, 0, 14, 1),
 ];
 
 const UNLAWFUL_WORDS: &[u64] = &[0, 10, 68, 264];

@@ -1,7 +1,10 @@
-ghost use Rattle.std.specs.Prelude.{◌≡◌, ◌≤◌, IfOk, length};
+ghost use Rattle.std.specs.Prelude.{◌≡◌, ◌≤◌, length};
 ghost use Rattle.like_limits.specs.Limits.{max_requests};
 
+mod cases;
+
 use super::LIKE;
+use cases::{Call, Case, cases, of_one};
 use like_queue::{
     EndRefused, Line, ListInbox, PushRefused, SendEnd, SendPass, TakeEnd, TakePass, TakeWith,
 };
@@ -13,37 +16,55 @@ use std::test::Fail;
 use std::thread;
 use std::thread::Threads;
 
-// Asserts what a push of the next request answers, of which one is left.
-fn assert_push<R: Wait + Abort>(rt: &R, end: &mut SendEnd<'_>, want: Result<u32, PushRefused>) {
-    let request = end.next().expect(rt, "a request is left");
-    assert!(rt; end.push(rt, request) == want);
-}
-
-// Asserts what a push of the end mark answers, where no request is left.
-fn assert_end<R: Wait + Abort>(rt: &R, end: &mut SendEnd<'_>, want: Result<(), EndRefused>) {
-    assert!(rt; end.next().is_none());
-    assert!(rt; end.end(rt) == want);
-}
-
-// Asserts that the end mark is pushed, where no request is left and the line is not full, and that no request is after
-// it.
-fn assert_end_is_last<R: Wait + Abort>(rt: &R, end: &mut SendEnd<'_>) {
-    assert!(rt; end.next().is_none());
-    match end.end(rt) {
-        Ok(()) => assert!(rt; end.push(rt, LIKE) == Err(PushRefused::Ended(LIKE))),
-        Err(refused) => panic!(rt; "{refused:?}"),
+// Whether there is a next request, and its push is answered so.
+fn pushes<R: Wait>(rt: &R, end: &mut SendEnd<'_>, want: Result<u32, PushRefused>) -> bool {
+    match end.next() {
+        Some(request) => end.push(rt, request) == want,
+        None => false,
     }
 }
 
-// Asserts that the requests of these numbers are taken.
-fn assert_taken<R: Wait + Abort>(rt: &R, end: &mut TakeEnd<'_>, first: u32, last: u32) {
+// Whether the requests of these numbers are pushed.
+fn pushes_each<R: Wait>(rt: &R, end: &mut SendEnd<'_>, first: u32, last: u32) -> bool {
+    for number in first..=last {
+        if !pushes(rt, end, Ok(number)) {
+            return false;
+        }
+    }
+    true
+}
+
+// Whether no request is left, and a push of the end mark is answered so.
+fn ends<R: Wait>(rt: &R, end: &mut SendEnd<'_>, want: Result<(), EndRefused>) -> bool {
+    match end.next() {
+        Some(_) => false,
+        None => end.end(rt) == want,
+    }
+}
+
+// Whether no request is left, the end mark is pushed, and no request is after it.
+fn ends_for_good<R: Wait>(rt: &R, end: &mut SendEnd<'_>) -> bool {
+    match end.next() {
+        Some(_) => false,
+        None => match end.end(rt) {
+            Ok(()) => end.push(rt, LIKE) == Err(PushRefused::Ended(LIKE)),
+            Err(_) => false,
+        },
+    }
+}
+
+// Whether the requests of these numbers are taken.
+fn takes_each<R: Wait>(rt: &R, end: &mut TakeEnd<'_>, first: u32, last: u32) -> bool {
     for number in first..=last {
         let ask = Numbered {
             number,
             request: LIKE,
         };
-        assert!(rt; end.take(rt) == Taken::Ask(ask));
+        if end.take(rt) != Taken::Ask(ask) {
+            return false;
+        }
     }
+    true
 }
 
 // Takes from an inbox until its end mark comes, and gives the last number.
@@ -142,67 +163,75 @@ impl Passed {
     }
 }
 
-// Asserts the answers of so many pushes, where a request is left.
-fn assert_pushes<R: Wait + Abort>(rt: &R, end: &mut SendEnd<'_>, passed: &mut Passed, count: u32) {
+// Whether so many pushes are answered as they have to be, where a request is left.
+fn pushes_some<R: Wait>(rt: &R, end: &mut SendEnd<'_>, passed: &mut Passed, count: u32) -> bool {
     for _ in 0..count {
-        if end.next().is_some() {
-            assert_push(rt, end, passed.push());
+        if end.next().is_some() && !pushes(rt, end, passed.push()) {
+            return false;
         }
     }
+    true
 }
 
-// Asserts the answers of so many takes.
-fn assert_takes<R: Wait + Abort>(rt: &R, end: &mut TakeEnd<'_>, passed: &mut Passed, count: u32) {
+// Whether so many takes are answered as they have to be.
+fn takes_some<R: Wait>(rt: &R, end: &mut TakeEnd<'_>, passed: &mut Passed, count: u32) -> bool {
     for _ in 0..count {
-        assert!(rt; end.take(rt) == passed.take());
+        if end.take(rt) != passed.take() {
+            return false;
+        }
     }
+    true
 }
 
-// On one thread a line is full with 64 requests and at no other time, and empty with none: here by 20,000 requests, some
-// pushes and some takes at a time.
-#[test]
-fn is_full_and_empty_in_its_time(rt: HostRuntime) -> Result<(), Fail> {
-    let (line, send, take) = Line::new(rt.alloc(), Vec::from_elem(rt.alloc(), LIKE, 20_000)?)?;
-    let (mut send, mut take) = (send.at(&line), take.at(&line));
+// Whether 20,000 requests go through a line, some pushes and some takes at a time.
+fn goes_through<R: Wait>(rt: &R, send: &mut SendEnd<'_>, take: &mut TakeEnd<'_>) -> bool {
     let mut passed = Passed { sent: 0, taken: 0 };
     for step in 0..2_000_u32 {
-        assert_pushes(&rt, &mut send, &mut passed, step.wrapping_mul(37) % 71);
-        assert_takes(&rt, &mut take, &mut passed, step.wrapping_mul(53) % 73);
+        if !pushes_some(rt, send, &mut passed, step.wrapping_mul(37) % 71)
+            || !takes_some(rt, take, &mut passed, step.wrapping_mul(53) % 73)
+        {
+            return false;
+        }
     }
-    assert!(rt; passed.taken == 20_000);
-    assert_end(&rt, &mut send, Ok(()));
-    assert!(rt; take.take(&rt) == Taken::End);
+    passed.taken == 20_000
+}
+
+// Makes a call, and tells whether it is answered as it says.
+fn answers<R: Wait>(rt: &R, send: &mut SendEnd<'_>, take: &mut TakeEnd<'_>, call: Call) -> bool {
+    match call {
+        Call::Next(want) => send.next() == want,
+        Call::Push(first, last) => pushes_each(rt, send, first, last),
+        Call::PushFull => pushes(rt, send, Err(PushRefused::Full(LIKE))),
+        Call::End(want) => ends(rt, send, want),
+        Call::EndIsLast => ends_for_good(rt, send),
+        Call::Take(first, last) => takes_each(rt, take, first, last),
+        Call::TakeEnd => take.take(rt) == Taken::End,
+        Call::GoThrough => goes_through(rt, send, take),
+    }
+}
+
+// Makes the calls of a case, and asserts their answers.
+fn play<R: Wait + Abort>(rt: &R, send: &mut SendEnd<'_>, take: &mut TakeEnd<'_>, case: &Case) {
+    for at in 0..case.calls.len() {
+        let answered = answers(rt, send, take, case.calls[at]);
+        assert!(rt; answered, "{}: call {at}", case.name);
+    }
+}
+
+// A line, at whose ends a case is played.
+fn play_at_line<R: Wait + Abort>(rt: &R, alloc: Global, case: &Case) -> Result<(), AllocError> {
+    assert!(rt; case.size <= 1_000_000);
+    let (line, send, take) = Line::new(alloc, Vec::from_elem(alloc, LIKE, case.size)?)?;
+    play(rt, &mut send.at(&line), &mut take.at(&line), case);
     Ok(())
 }
 
 #[test]
-fn holds_sixty_four(rt: HostRuntime) -> Result<(), Fail> {
-    let (line, send, take) = Line::new(rt.alloc(), Vec::from_elem(rt.alloc(), LIKE, 66)?)?;
-    let (mut send, mut take) = (send.at(&line), take.at(&line));
-    for number in 1..=64 {
-        assert_push(&rt, &mut send, Ok(number));
-    }
-    for taken in 1..=2 {
-        assert_push(&rt, &mut send, Err(PushRefused::Full(LIKE)));
-        assert_taken(&rt, &mut take, taken, taken);
-        assert_push(&rt, &mut send, Ok(64 + taken));
-    }
-    assert_end(&rt, &mut send, Err(EndRefused::Full));
-    assert_taken(&rt, &mut take, 3, 3);
-    assert_end_is_last(&rt, &mut send);
-    assert_end(&rt, &mut send, Err(EndRefused::Ended));
-    assert_taken(&rt, &mut take, 4, 66);
-    for _ in 0..2 {
-        assert!(rt; take.take(&rt) == Taken::End);
+fn plays_each_line(rt: HostRuntime) -> Result<(), Fail> {
+    for case in cases() {
+        play_at_line(&rt, rt.alloc(), case)?;
     }
     Ok(())
-}
-
-// A line of one request.
-fn line_of_one(alloc: Global) -> Result<(Line, SendPass, TakePass), AllocError>
-    ensures { IfOk result (λ r. (r.1.line ≡ r.0) × (r.2.line ≡ r.0)) }
-{
-    Line::new(alloc, Vec::from_elem(alloc, LIKE, 1)?)
 }
 
 // Want of memory is told, and the next call is right.
@@ -210,12 +239,8 @@ fn line_of_one(alloc: Global) -> Result<(Line, SendPass, TakePass), AllocError>
 fn a_refused_growth_is_told(rt: HostRuntime) -> Result<(), Fail> {
     let mut refused = false;
     for _ in 0..2 {
-        match line_of_one(rt.alloc()) {
-            Ok((line, send, take)) => {
-                assert_push(&rt, &mut send.at(&line), Ok(1));
-                assert_taken(&rt, &mut take.at(&line), 1, 1);
-            }
-            Err(AllocError) => refused = true,
+        if play_at_line(&rt, rt.alloc(), of_one()).is_err() {
+            refused = true;
         }
     }
     if refused {
@@ -236,14 +261,5 @@ fn takes_from_a_list_as_from_a_line(rt: HostRuntime) -> Result<(), Fail> {
     let mut inbox = ListInbox::new(Vec::from_elem(rt.alloc(), LIKE, 3)?);
     inbox.open_all();
     assert!(rt; last_number(&rt, inbox) == 3);
-    Ok(())
-}
-
-#[test]
-fn takes_a_plan_of_a_million(rt: HostRuntime) -> Result<(), Fail> {
-    let plan = Vec::from_elem(rt.alloc(), LIKE, 1_000_000)?;
-    let (line, sends, _takes) = Line::new(rt.alloc(), plan)?;
-    let end = sends.at(&line);
-    assert!(rt; end.next() == Some(LIKE));
     Ok(())
 }

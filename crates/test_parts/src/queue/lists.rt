@@ -1,7 +1,6 @@
 use super::LIKE;
 use like_queue::ListInbox;
 use like_requests::{Numbered, Request, Taken};
-use std::process::Abort;
 use std::test::Fail;
 
 // A call of a list's inbox, with its answer.
@@ -43,12 +42,15 @@ fn lists() -> &'static [(&'static [Request], &'static [Call])] {
     LISTS
 }
 
-// Makes a call, and asserts its answer.
-fn make(rt: &impl Abort, inbox: &mut ListInbox, call: Call) {
+// Makes a call, and tells whether it is answered as it says.
+fn answers(inbox: &mut ListInbox, call: Call) -> bool {
     match call {
-        Call::Take(want) => assert!(rt; inbox.take() == want),
-        Call::OpenOne(want) => assert!(rt; inbox.open_one() == want),
-        Call::OpenAll => inbox.open_all(),
+        Call::Take(want) => inbox.take() == want,
+        Call::OpenOne(want) => inbox.open_one() == want,
+        Call::OpenAll => {
+            inbox.open_all();
+            true
+        }
     }
 }
 
@@ -58,8 +60,8 @@ fn hands_over_requests_and_the_end(rt: HostRuntime) -> Result<(), Fail> {
         let plan = Vec::from_slice(rt.alloc(), plan)?;
         assert!(rt; plan.len() <= 1);
         let mut inbox = ListInbox::new(plan);
-        for call in *calls {
-            make(&rt, &mut inbox, *call);
+        for at in 0..calls.len() {
+            assert!(rt; answers(&mut inbox, calls[at]), "call {at}");
         }
     }
     Ok(())

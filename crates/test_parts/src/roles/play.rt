@@ -113,25 +113,19 @@ impl<'a> Play<'a> {
 
     /// Makes the steps, and asserts that they are answered as they say.
     pub fn make(&mut self, rt: &impl Abort, gate: &Expecting, steps: &[Step]) {
-        for step in steps {
-            match *step {
-                Step::Coord(expected) => {
-                    let answer = self.coordinator.turn(self.board);
-                    assert!(rt; answer == expected);
-                }
-                Step::Worker(worker, expected) => {
-                    let answer = self.worker_turn(rt, gate, worker as usize);
-                    assert!(rt; answer == expected);
-                }
-            }
+        for at in 0..steps.len() {
+            assert!(rt; self.answers(gate, steps[at]), "step {at}");
         }
     }
 
-    // A turn of a worker.
-    fn worker_turn(&mut self, rt: &impl Abort, gate: &Expecting, worker: usize) -> Turn {
-        match self.players.get_mut(worker) {
-            Some(player) => player.turn(gate),
-            None => panic!(rt; "no worker {worker}"),
+    // Makes a step, and tells whether it is answered as it says.
+    fn answers(&mut self, gate: &Expecting, step: Step) -> bool {
+        match step {
+            Step::Coord(want) => self.coordinator.turn(self.board) == want,
+            Step::Worker(worker, want) => match self.players.get_mut(worker as usize) {
+                Some(player) => player.turn(gate) == want,
+                None => false,
+            },
         }
     }
 

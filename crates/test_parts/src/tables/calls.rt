@@ -1,4 +1,4 @@
-//! The calls of slices and stashes as data, each with its answer.
+//! The calls of slices, stashes and tables of users as data, each with its answer.
 use like_requests::{Numbered, Op, PageRef, Request};
 use like_tables::Held;
 
@@ -20,9 +20,21 @@ pub enum OnSlice {
 pub enum OnStash {
     /// A look of this submitter.
     Push(u32),
+    /// So many looks.
+    Fill(u32),
     Pop(Option<Held>),
     IsFull(bool),
     Len(u32),
+}
+
+#[derive(Clone, Copy)]
+pub enum OnUsers {
+    /// Whether the worker serves this user.
+    Owns(u32, bool),
+    /// The page that this user liked last.
+    Last(u32, Option<u32>),
+    /// A like of this user, of this page.
+    Set(u32, u32),
 }
 
 /// Slices: how many pages each has, and its calls.
@@ -33,6 +45,16 @@ pub fn slices() -> &'static [(u32, &'static [OnSlice])] {
 /// Stashes: how many looks each has room for, and its calls.
 pub fn stashes() -> &'static [(u32, &'static [OnStash])] {
     STASHES
+}
+
+/// The calls of a table of five users, of whom 1 and 3 are the worker's.
+pub fn of_five() -> &'static [OnUsers] {
+    OF_FIVE
+}
+
+/// The calls of a table of a million users.
+pub fn of_a_million() -> &'static [OnUsers] {
+    OF_A_MILLION
 }
 
 /// A submitter's first look, of user 0.
@@ -131,4 +153,33 @@ const STASHES: &[(u32, &[OnStash])] = &[
             OnStash::Pop(None),
         ],
     ),
+    // The most looks.
+    (
+        4_096,
+        &[
+            OnStash::Fill(4_096),
+            OnStash::IsFull(true),
+            OnStash::Len(4_096),
+        ],
+    ),
+];
+
+const OF_FIVE: &[OnUsers] = &[
+    OnUsers::Owns(0, false),
+    OnUsers::Owns(1, true),
+    OnUsers::Owns(2, false),
+    OnUsers::Owns(3, true),
+    OnUsers::Owns(4, false),
+    OnUsers::Owns(5, false),
+    OnUsers::Last(3, None),
+    OnUsers::Set(3, 7),
+    OnUsers::Last(3, Some(7)),
+    OnUsers::Last(1, None),
+];
+
+const OF_A_MILLION: &[OnUsers] = &[
+    OnUsers::Owns(999_999, true),
+    OnUsers::Set(999_999, 1_023),
+    OnUsers::Owns(999_999, true),
+    OnUsers::Last(999_999, Some(1_023)),
 ];
