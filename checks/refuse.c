@@ -41,8 +41,9 @@ static struct counts {
 static unsigned long kind, first, last;
 static int is_again;
 
-/* The blocks of memory that were taken and not given back until now. */
+/* The blocks of memory that were taken and not given back until now, and how many threads have not ended. */
 static long held;
+static long alive;
 
 /* The number of this thread, from 1, and 0 for the main thread; how many growths it made; whether it is in the C library,
  * to start or join another or to end. What that takes and gives back doesn't count. */
@@ -118,6 +119,7 @@ static void *run_body(void *value) {
     void *ended = body->call(body->value);
     counts->bodies[number] = growths;
     is_inside = 1;
+    __atomic_sub_fetch(&alive, 1, __ATOMIC_SEQ_CST);
     return ended;
 }
 
@@ -137,12 +139,15 @@ int pthread_create(pthread_t *thread, const pthread_attr_t *how, void *(*call)(v
         bodies[of] = (struct body){call, value, of};
         call = run_body;
         value = &bodies[of];
+        __atomic_add_fetch(&alive, 1, __ATOMIC_SEQ_CST);
     }
     is_inside = 1;
     int failed = NEXT(pthread_create)(thread, how, call, value);
     is_inside = 0;
     if (!failed)
         note(of);
+    else if (of < NOTED)
+        __atomic_sub_fetch(&alive, 1, __ATOMIC_SEQ_CST);
     return failed;
 }
 
@@ -187,9 +192,20 @@ static entry *the_main;
 static jmp_buf ended;
 static pthread_t caller;
 
+/* Waits for the other threads, for a second at most: one that nobody joins gives its last block back after all that it
+ * does has been waited for. */
+static void wait_for_threads(void) {
+    for (int times = 0; times < 10000; times++) {
+        if (__atomic_load_n(&alive, __ATOMIC_SEQ_CST) <= (number != 0))
+            return;
+        usleep(100);
+    }
+}
+
 /* What ends the process ends the first of two passes in place of it. */
 static void end_pass(int status) {
-    counts->left = held;
+    wait_for_threads();
+    counts->left = __atomic_load_n(&held, __ATOMIC_SEQ_CST);
     if (the_main && !is_again && pthread_equal(pthread_self(), caller))
         longjmp(ended, status + 1);
 }

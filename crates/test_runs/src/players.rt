@@ -1,6 +1,7 @@
 //! Runs played by the tables of turns over the pure core, with plain lists for all that a worker keeps. Of a replay's
-//! workers, coordinator and lists nothing is used here but the types of their entries. A play that
-//! can't go on is stuck.
+//! workers, coordinator and lists nothing is used here but the types of their entries.
+//!
+//! A play that can't go on is stuck.
 ghost use Rattle.std.specs.Prelude.{◌≤◌};
 
 use like_core::{Core, Event, Shown, Sight};

@@ -16,7 +16,7 @@ pub(crate) struct Choices {
 }
 
 impl Model for Choices {
-    ghost use Rattle.std.specs.Prelude.{◌≤◌, List, vec_capacity, vec_len};
+    ghost use Rattle.std.specs.Prelude.{◌≡◌, ◌≤◌, List, vec_capacity, vec_len};
     ghost use Rattle.like_service.specs.declared.chosen.Chosen.{Chosen};
     ghost use Rattle.like_service.specs.HotPages.{max_chosen};
 
@@ -24,7 +24,7 @@ impl Model for Choices {
 
     ghost view = { λ c. c.noted.items };
 
-    ghost invariant = { λ c. (vec_len c.noted ≤ max_chosen) × (max_chosen ≤ vec_capacity c.noted) };
+    ghost invariant = { λ c. (vec_len c.noted ≤ max_chosen) × (vec_capacity c.noted ≡ max_chosen) };
 }
 
 impl Choices {
