@@ -1,14 +1,8 @@
 //! The like service's program.
 #![tactic(auto)]
 
-pub mod example;
-pub mod program;
-#[cfg(test)]
-mod tests;
-
-use crate::program::fault::ProgramFault;
-use crate::program::{serve_words, tell};
 use like_command::ParseFault;
+use like_program::{ProgramFault, serve_words, tell};
 use std::alloc::Global;
 use std::env;
 use std::io::ErrorKind;

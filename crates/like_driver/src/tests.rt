@@ -1,5 +1,0 @@
-mod devices;
-mod faults;
-mod program;
-mod replays;
-mod runs;

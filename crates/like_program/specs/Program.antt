@@ -1,0 +1,84 @@
+-- What the program has done for its words, and the status with which it ends.
+use Rattle.std.specs.Prelude.{◌≡◌, ◌⊎◌, ℕ, false, List, [], ◌∷◌, Option, None, Some, codes, string_bytes}
+use Rattle.std.specs.Io.KnownBytes.{Appends}
+use Rattle.like_command.specs.Asked.{Asks, AsksForHelp, IsParseFault, Words}
+use Rattle.like_files.specs.Faults.{IsBeforeOutput}
+use Rattle.like_files.specs.declared.fault.DriverFault.{DriverFault}
+use Rattle.like_program.specs.Fault.{program_status}
+use Rattle.like_files.specs.Replay.{HasReplayed, HasReplayedSome}
+use Rattle.like_files.specs.Run.{HasRunSome}
+use Rattle.like_command.specs.declared.asked.Asked.{Asked}
+use Rattle.like_command.specs.declared.asked.Asked.TheVariants.{Run, Replay, Help}
+use Rattle.like_command.specs.declared.options.Options.{Options}
+use Rattle.like_replies.specs.declared.summary.Summary.{Summary}
+use Rattle.like_program.specs.declared.fault.ProgramFault.{ProgramFault}
+use Rattle.like_program.specs.declared.fault.ProgramFault.TheVariants as program
+
+-- the bytes of the example's pages file, and of its request file
+abbrev pub example_pages : List ℕ
+example_pages = codes "name,count,split\na,10,no\n"
+
+abbrev pub example_requests : List ℕ
+example_requests = codes "op,user,page\nlike,0,a\nlike,1,a\nlike,0,a\n"
+
+-- options have the numbers of the example, and ask for no places and no summary
+pub record IsExample (o : Options) : Type 0 where
+  pub workers : o.workers ≡ 1
+  pub users : o.users ≡ 2
+  pub stash : o.stash ≡ 256
+  pub turns : o.turns ≡ 1000
+  pub hot : o.hot ≡ None
+  pub places : o.places ≡ false
+  pub summary : o.summary ≡ false
+
+-- the example was replayed, with this summary
+pub record HasReplayedExample (old new : Option (List ℕ)) (summary : Option Summary) : Type 0 where
+  pub options : Options
+  pub numbers : IsExample options
+  pub replayed :
+      HasReplayed options (record {
+        pages = Some example_pages;
+        requests = Some example_requests ∷ [];
+        script = None;
+      }) old new summary
+
+-- what was asked for was done, and this is the report's summary, where one was asked for
+abbrev pub HasDone : Asked → Option (List ℕ) → Option (List ℕ) → Option Summary → Type 0
+HasDone (Run options) old new summary = HasRunSome options old new summary
+HasDone (Replay options) old new summary = HasReplayedSome options old new summary
+HasDone (Help text) old new summary = Appends old new (string_bytes text) × (summary ≡ None)
+
+-- the program has done what its words ask for, with this summary: without any word it has replayed its example
+abbrev pub HasServed : Words → Option (List ℕ) → Option (List ℕ) → Option Summary → Type 0
+HasServed [] old new summary = HasReplayedExample old new summary
+HasServed (word ∷ words) old new summary =
+    (asked : Asked) × Asks (word ∷ words) asked × HasDone asked old new summary
+
+-- why the example was not replayed
+abbrev pub IsExampleFault : Option (List ℕ) → Option (List ℕ) → ProgramFault → Type 0
+IsExampleFault old new (program.Files options fault) = IsBeforeOutput fault → new ≡ old
+IsExampleFault old new program.Memory = new ≡ old
+IsExampleFault old new fault = ⊥
+
+-- why a run or a replay with these options was not done
+abbrev pub IsFilesFault : Options → Option (List ℕ) → Option (List ℕ) → ProgramFault → Type 0
+IsFilesFault options old new fault =
+    (why : DriverFault) × (fault ≡ program.Files options why) × (IsBeforeOutput why → new ≡ old)
+
+-- why what the words ask for was not done
+abbrev pub IsWordsFault : Words → Option (List ℕ) → Option (List ℕ) → ProgramFault → Type 0
+IsWordsFault words old new (program.Words fault) = IsParseFault words fault × (new ≡ old)
+IsWordsFault words old new (program.Files options fault) =
+    (Asks words (Run options) ⊎ Asks words (Replay options)) × (IsBeforeOutput fault → new ≡ old)
+IsWordsFault words old new program.Output = AsksForHelp words
+IsWordsFault words old new program.Memory = ⊥
+
+-- why the program has not done what its words ask for
+abbrev pub IsServeFault : Words → Option (List ℕ) → Option (List ℕ) → ProgramFault → Type 0
+IsServeFault [] old new fault = IsExampleFault old new fault
+IsServeFault (word ∷ words) old new fault = IsWordsFault (word ∷ words) old new fault
+
+-- the program ends with 0 where it has done what its words ask for, or else with the status of a fault
+abbrev pub Ends : Words → Option (List ℕ) → Option (List ℕ) → ℕ → Type 0
+Ends words old new status = ((status ≡ 0) × (summary : Option Summary) × HasServed words old new summary)
+    ⊎ ((fault : ProgramFault) × (status ≡ program_status fault) × IsServeFault words old new fault)

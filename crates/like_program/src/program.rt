@@ -1,0 +1,141 @@
+ghost use Rattle.std.specs.Prelude.{◌≡◌, IfErr, IfOk, OnOk, map, string_bytes};
+ghost use Rattle.std.specs.Io.KnownBytes.{Appends};
+ghost use Rattle.like_files.specs.Faults.{IsBeforeOutput};
+ghost use Rattle.like_program.specs.Fault.{program_status};
+ghost use Rattle.like_files.specs.Replay.{HasReplayedSome};
+ghost use Rattle.like_files.specs.Run.{HasRunSome};
+ghost use Rattle.like_program.specs.Program.{Ends, HasServed, IsFilesFault, IsServeFault};
+ghost use Rattle.like_program.specs.declared.fault.ProgramFault.TheVariants as program;
+
+use crate::example::replay_example;
+use crate::fault::{ProgramFault, with_options};
+use crate::named::{replay_named, run_named};
+use crate::stopwatch::Stopwatch;
+use like_command::{Asked, Options, parse};
+use like_files::{Disk, Progress};
+use like_replies::Summary;
+use std::alloc::Global;
+use std::fs::Files;
+use std::io;
+use std::io::{Read, Write};
+use std::rt::Clock;
+use std::sync::Wait;
+use std::thread::Threads;
+
+/// Does what the words after the program's name ask for: runs or replays the files that they name or prints help, onto
+/// `out`.
+/// Without any word it replays the example that the program holds. A fault or a summary is told on `errors`.
+/// Answers the status with which the program ends.
+pub fn serve_words<R: Files + Threads + Wait + Clock + Sync, W: Write, E: Write>(
+    rt: &R,
+    alloc: Global,
+    words: &[String],
+    out: &mut W,
+    errors: &mut E,
+) -> u8
+where
+    R::File: Read + Drop + Send,
+    ensures { Ends (map string_bytes words.now) (W.contents out.old) (W.contents out.new) result }
+{
+    let mut watch = Stopwatch::new(rt);
+    match serve(rt, alloc, words, out, &mut watch) {
+        Ok(None) => 0,
+        Ok(Some(summary)) => {
+            // Where this can't be written, the report stands without it.
+            let _ = summarize(&summary, &watch, errors);
+            0
+        }
+        Err(fault) => tell(&fault, errors),
+    }
+}
+
+// Writes a summary, and behind it how long each part took.
+fn summarize<C: Clock, E: Write>(
+    summary: &Summary,
+    watch: &Stopwatch<'_, C>,
+    errors: &mut E,
+) -> io::Result<()> {
+    summary.write(errors)?;
+    watch.write(errors)
+}
+
+/// Tells a fault, and answers the status with which the program ends.
+pub fn tell<E: Write>(fault: &ProgramFault, errors: &mut E) -> u8
+    ensures { result ≡ program_status fault.now }
+{
+    // Where this can't be written either, the status alone tells of the fault.
+    let _ = fault.line(errors);
+    fault.status()
+}
+
+// Does what the words ask for, and gives the report's summary where they ask for one.
+fn serve<R: Files + Threads + Wait + Sync, W: Write, P: Progress>(
+    rt: &R,
+    alloc: Global,
+    words: &[String],
+    out: &mut W,
+    progress: &mut P,
+) -> Result<Option<Summary>, ProgramFault>
+where
+    R::File: Read + Drop + Send,
+    ensures served { IfOk result (HasServed (map string_bytes words.now) (W.contents out.old) (W.contents out.new)) }
+    ensures fault { IfErr result
+        (IsServeFault (map string_bytes words.now) (W.contents out.old) (W.contents out.new)) }
+{
+    if words.is_empty() {
+        return replay_example(alloc, out);
+    }
+    match parse(alloc, words)? {
+        Asked::Run(options) => run_asked(rt, alloc, options, out, progress),
+        Asked::Replay(options) => replay_asked(rt, alloc, options, out, progress),
+        Asked::Help(text) => {
+            show(&text, out)?;
+            Ok(None)
+        }
+    }
+}
+
+// Makes the run that is asked for.
+fn run_asked<R: Files + Threads + Wait + Sync, W: Write, P: Progress>(
+    rt: &R,
+    alloc: Global,
+    options: Options,
+    out: &mut W,
+    progress: &mut P,
+) -> Result<Option<Summary>, ProgramFault>
+where
+    R::File: Read + Drop + Send,
+    ensures run { IfOk result (HasRunSome options (W.contents out.old) (W.contents out.new)) }
+    ensures fault { IfErr result (IsFilesFault options (W.contents out.old) (W.contents out.new)) }
+{
+    let done = run_named(rt, &Disk { files: rt }, alloc, &options, out, progress);
+    with_options(done, options)
+}
+
+// Makes the replay that is asked for.
+fn replay_asked<R: Files, W: Write, P: Progress>(
+    rt: &R,
+    alloc: Global,
+    options: Options,
+    out: &mut W,
+    progress: &mut P,
+) -> Result<Option<Summary>, ProgramFault>
+where
+    R::File: Read + Drop,
+    ensures replayed { IfOk result (HasReplayedSome options (W.contents out.old) (W.contents out.new)) }
+    ensures fault { IfErr result (IsFilesFault options (W.contents out.old) (W.contents out.new)) }
+{
+    let done = replay_named(&Disk { files: rt }, alloc, &options, out, progress);
+    with_options(done, options)
+}
+
+// Prints help.
+fn show<W: Write>(text: &str, out: &mut W) -> Result<(), ProgramFault>
+    ensures shown { OnOk result (Appends (W.contents out.old) (W.contents out.new) text.now) }
+    ensures fault { IfErr result (λ fault. fault ≡ program.Output) }
+{
+    if out.write_all(text.as_bytes()).is_ok() && out.flush().is_ok() {
+        return Ok(());
+    }
+    Err(ProgramFault::Output)
+}

@@ -1,0 +1,276 @@
+//! Replays by `replay_files`, from the texts of the files to the text of the report or to the fault.
+mod cases;
+
+use crate::replays::cases::{EXAMPLES, REFUSALS};
+use like_command::Options;
+use like_files::{DriverFault, replay_files};
+use std::alloc::Global;
+use std::io::{Read, Write};
+use std::process::Abort;
+
+/// The cell of a text at an index, where `|` stands between cells.
+pub fn cell(text: &str, index: usize) -> &str {
+    text.split('|').nth(index).unwrap_or("")
+}
+
+/// A replay: its name, its settings, the texts of its files, and what it ends in.
+#[derive(Clone, Copy)]
+pub struct Case<'a> {
+    name: &'a str,
+    settings: &'a str,
+    pages: &'a str,
+    requests: &'a str,
+    script: &'a str,
+    end: &'a str,
+}
+
+// The case that a text describes.
+fn case_of(text: &str) -> Case<'_> {
+    Case {
+        name: cell(text, 0),
+        settings: cell(text, 1),
+        pages: cell(text, 2),
+        requests: cell(text, 3),
+        script: cell(text, 4),
+        end: cell(text, 5),
+    }
+}
+
+// The number at an index of the settings, if one is there.
+fn setting(settings: &str, index: usize) -> Option<u32> {
+    let word = settings.split(' ').nth(index);
+    word.and_then(|word| word.parse().ok())
+}
+
+/// The options with these settings, which name so many request files, and a script where there is one.
+pub fn options_of(
+    rt: &impl Abort,
+    alloc: Global,
+    settings: &str,
+    files: usize,
+    is_scripted: bool,
+) -> Options {
+    Options {
+        workers: setting(settings, 0).unwrap_or(0),
+        users: setting(settings, 1).unwrap_or(0),
+        stash: setting(settings, 2).unwrap_or(0),
+        turns: setting(settings, 3).unwrap_or(0),
+        hot: setting(settings, 4),
+        places: settings.ends_with("places"),
+        summary: false,
+        pages: name(rt, alloc, "p.csv"),
+        requests: names(rt, alloc, files),
+        script: script_name(rt, alloc, is_scripted),
+    }
+}
+
+fn name(rt: &impl Abort, alloc: Global, name: &str) -> String {
+    String::from_str(alloc, name).expect(rt, "memory")
+}
+
+// The names of so many request files.
+fn names(rt: &impl Abort, alloc: Global, files: usize) -> Vec<String> {
+    let mut names = Vec::new(alloc);
+    for file in 0..files {
+        let name = format!(in alloc; "r{file}.csv").expect(rt, "memory");
+        assert!(rt; names.push(name).is_ok());
+    }
+    names
+}
+
+// The name of the script, where there is one.
+fn script_name(rt: &impl Abort, alloc: Global, is_there: bool) -> Option<String> {
+    if is_there {
+        return Some(name(rt, alloc, "s.csv"));
+    }
+    None
+}
+
+/// The fault of a replay with these settings, by these readers and onto a writer.
+pub fn fault_of<R: Read + Drop, W: Write>(
+    rt: &impl Abort,
+    alloc: Global,
+    settings: &str,
+    pages: R,
+    requests: Vec<R>,
+    script: Option<R>,
+    out: &mut W,
+) -> Option<DriverFault> {
+    let options = options_of(rt, alloc, settings, requests.len(), script.is_some());
+    assert!(rt; requests.len() == options.requests.len());
+    assert!(rt; script.is_some() == options.script.is_some());
+    replay_files(alloc, &options, pages, requests, script, out).err()
+}
+
+// The files of a replay, by their kind.
+#[derive(Clone, Copy, Debug)]
+enum File {
+    Pages,
+    Requests,
+    Script,
+}
+
+// How many bytes the files of a replay have at most.
+#[derive(Clone, Copy)]
+struct Cuts {
+    pages: usize,
+    requests: usize,
+    script: usize,
+}
+
+const WHOLE: Cuts = Cuts {
+    pages: usize::MAX,
+    requests: usize::MAX,
+    script: usize::MAX,
+};
+
+// The files of one kind have so many bytes at most.
+fn cuts_of(file: File, most: usize) -> Cuts {
+    let mut cuts = WHOLE;
+    match file {
+        File::Pages => cuts.pages = most,
+        File::Requests => cuts.requests = most,
+        File::Script => cuts.script = most,
+    }
+    cuts
+}
+
+// The first bytes of a text, up to so many.
+fn cut(text: &str, most: usize) -> &[u8] {
+    let bytes = text.as_bytes();
+    bytes.get(..most).unwrap_or(bytes)
+}
+
+/// The first bytes of request files, up to so many of each.
+pub fn requests_of<'a>(
+    rt: &impl Abort,
+    alloc: Global,
+    texts: &'a str,
+    most: usize,
+) -> Vec<&'a [u8]> {
+    let mut files = Vec::new(alloc);
+    for text in texts.split_terminator('&') {
+        assert!(rt; files.push(cut(text, most)).is_ok());
+    }
+    files
+}
+
+// The first bytes of the script, up to so many, where there is one.
+fn script_of(script: &str, most: usize) -> Option<&[u8]> {
+    if script == "-" {
+        return None;
+    }
+    Some(cut(script, most))
+}
+
+// What a replay writes, and its fault.
+fn replayed(
+    rt: &impl Abort,
+    alloc: Global,
+    case: &Case<'_>,
+    cuts: Cuts,
+    out: &mut Vec<u8>,
+) -> Option<DriverFault> {
+    let pages = cut(case.pages, cuts.pages);
+    let requests = requests_of(rt, alloc, case.requests, cuts.requests);
+    let script = script_of(case.script, cuts.script);
+    fault_of(rt, alloc, case.settings, pages, requests, script, out)
+}
+
+// Whether a file of this kind, of which an end is missing, is replayed, or is at fault itself.
+fn is_harmless(rt: &impl Abort, alloc: Global, case: &Case<'_>, file: File, most: usize) -> bool {
+    let fault = replayed(rt, alloc, case, cuts_of(file, most), &mut Vec::new(alloc));
+    match (file, fault) {
+        (_, None) => true,
+        (File::Pages, Some(DriverFault::Pages(_))) => true,
+        (File::Requests, Some(DriverFault::Requests { .. })) => true,
+        (File::Script, Some(DriverFault::Script(_))) => true,
+        _ => false,
+    }
+}
+
+// Asserts that files of this kind and length, of which any end is missing, are replayed, or are at fault themselves.
+fn assert_prefixes(rt: &impl Abort, alloc: Global, case: &Case<'_>, file: File, length: usize) {
+    for most in 0..length {
+        let is_harmless = is_harmless(rt, alloc, case, file, most);
+        assert!(rt; is_harmless, "{}: {file:?} of {most} bytes", case.name);
+    }
+}
+
+// Whether a text is the header row and these.
+fn is_report(text: &[u8], rows: &str) -> bool {
+    text.strip_prefix(b"row,id,number,phase,answer,page,count\n".as_slice())
+        == Some(rows.as_bytes())
+}
+
+// Asserts that a case ends in its report, and that files that are cut short do no harm.
+fn assert_example(rt: &impl Abort, alloc: Global, case: &Case<'_>) {
+    let mut out = Vec::new(alloc);
+    let fault = replayed(rt, alloc, case, WHOLE, &mut out);
+    assert!(rt; fault.is_none(), "{}: {fault:?}", case.name);
+    assert!(rt; is_report(&out, case.end), "{}", case.name);
+    assert_prefixes(rt, alloc, case, File::Pages, case.pages.len());
+    assert_prefixes(rt, alloc, case, File::Requests, case.requests.len());
+    assert_prefixes(rt, alloc, case, File::Script, case.script.len());
+}
+
+#[test]
+fn worked_examples(rt: HostRuntime) {
+    for text in EXAMPLES.split(';') {
+        let case = case_of(text);
+        assert_example(&rt, rt.alloc(), &case);
+    }
+}
+
+// What a replay ends in: a fault with its status, where nothing is written, or a report, where something is.
+fn end_of(
+    rt: &impl Abort,
+    alloc: Global,
+    fault: Option<DriverFault>,
+    is_untouched: bool,
+) -> String {
+    assert!(rt; is_untouched == fault.is_some());
+    let end = match fault {
+        None => String::from_str(alloc, "a report"),
+        Some(fault) => format!(in alloc; "{fault:?} {}", fault.status()),
+    };
+    end.expect(rt, "memory")
+}
+
+// Asserts what the case of a text ends in.
+fn assert_end(rt: &impl Abort, alloc: Global, text: &str) {
+    let case = case_of(text);
+    let mut out = Vec::new(alloc);
+    let fault = replayed(rt, alloc, &case, WHOLE, &mut out);
+    let end = end_of(rt, alloc, fault, out.is_empty());
+    assert!(rt; end.as_str() == case.end, "{text}: {end}");
+}
+
+#[test]
+fn refused_replays(rt: HostRuntime) {
+    for text in REFUSALS.split(';') {
+        assert_end(&rt, rt.alloc(), text);
+    }
+}
+
+// A case with these settings and so many request files.
+fn with_files(rt: &impl Abort, alloc: Global, settings: &str, files: usize, end: &str) -> String {
+    let requests = "op,user,page\nlike,0,a\nlike,1,a\nlike,0,a\n&".repeat(alloc, files);
+    let requests = requests.expect(rt, "memory");
+    let pages = "name,count,split\na,10,no\n";
+    format!(in alloc; "settings|{settings}|{pages}|{requests}|-|{end}").expect(rt, "memory")
+}
+
+#[test]
+fn the_most_submitters(rt: HostRuntime) {
+    let case = with_files(&rt, rt.alloc(), "16 1000 4096 1000", 64, "a report");
+    assert_end(&rt, rt.alloc(), &case);
+    let case = with_files(
+        &rt,
+        rt.alloc(),
+        "1 2 256 1000",
+        65,
+        "Settings(Submitters) 2",
+    );
+    assert_end(&rt, rt.alloc(), &case);
+}
