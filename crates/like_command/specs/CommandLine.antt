@@ -41,16 +41,18 @@ required_list_rule name = record (new_rule name) {
   range = Some (record { start_inclusive = 1; end_inclusive = usize_max });
 }
 
--- the options of runs and replays
-abbrev pub option_rules : List Rule
-option_rules = number_rule (codes "workers") (codes "4") 1 max_workers
+-- the options of runs and replays with a number and a default
+abbrev pub number_rules : List Rule
+number_rules = number_rule (codes "workers") (codes "4") 1 max_workers
     ∷ number_rule (codes "users") (codes "1000") 1 max_users
     ∷ number_rule (codes "stash") (codes "256") 1 max_stash
     ∷ number_rule (codes "turns") (codes "1000") 0 max_turns
-    ∷ bounded_rule (codes "hot") 1 max_hot
-    ∷ flag_rule (codes "places")
-    ∷ flag_rule (codes "summary")
     ∷ []
+
+-- all options of runs and replays
+abbrev pub option_rules : List Rule
+option_rules = number_rules
+    ++ bounded_rule (codes "hot") 1 max_hot ∷ flag_rule (codes "places") ∷ flag_rule (codes "summary") ∷ []
 
 -- the names of the files of a run
 abbrev pub files_rules : List Rule

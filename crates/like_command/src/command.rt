@@ -1,7 +1,7 @@
 ghost use Rattle.std.specs.Prelude.{◌≡◌, IfOk, codes, fold};
 ghost use Rattle.clap.specs.Words.{app_of, new_app, with_rule};
 ghost use Rattle.like_command.specs.Built.{IsArgument, IsCommand, IsSubcommand};
-ghost use Rattle.like_command.specs.CommandLine.{bounded_rule, flag_rule, likes_app, number_rule, option_rules, replay_command, required_list_rule, required_rule, run_command, text_rule};
+ghost use Rattle.like_command.specs.CommandLine.{bounded_rule, flag_rule, likes_app, number_rule, number_rules, option_rules, replay_command, required_list_rule, required_rule, run_command, text_rule};
 
 use crate::help;
 use clap::builder::ValueParser;
@@ -80,10 +80,10 @@ fn requests_argument<'a>(alloc: Global) -> Arg<'a>
         .help(help::REQUESTS)
 }
 
-// A subcommand of this name, about which this is said, with the options of runs and replays. An option is made where it
-// is added, so none has to be dropped where the addition of another is refused.
-fn with_options<'a>(alloc: Global, name: &'a str, about: &'a str) -> Result<Command<'a>, AllocError>
-    ensures { IfOk result (IsCommand (fold with_rule (new_app name.entry.now) option_rules)) }
+// A subcommand of this name, about which this is said, with the options of runs and replays that are numbers with a
+// default. An option is made where it is added, so none has to be dropped where the addition of another is refused.
+fn with_numbers<'a>(alloc: Global, name: &'a str, about: &'a str) -> Result<Command<'a>, AllocError>
+    ensures { IfOk result (IsCommand (fold with_rule (new_app name.entry.now) number_rules)) }
 {
     Command::new(alloc, name)
         .about(about)
@@ -91,7 +91,14 @@ fn with_options<'a>(alloc: Global, name: &'a str, about: &'a str) -> Result<Comm
         .arg(number_option(alloc, "workers", "N", "4", 1, 16).help(help::WORKERS))?
         .arg(number_option(alloc, "users", "U", "1000", 1, 1_000_000).help(help::USERS))?
         .arg(number_option(alloc, "stash", "C", "256", 1, 4_096).help(help::STASH))?
-        .arg(number_option(alloc, "turns", "T", "1000", 0, 1_000_000).help(help::TURNS))?
+        .arg(number_option(alloc, "turns", "T", "1000", 0, 1_000_000).help(help::TURNS))
+}
+
+// A subcommand with all options of runs and replays.
+fn with_options<'a>(alloc: Global, name: &'a str, about: &'a str) -> Result<Command<'a>, AllocError>
+    ensures { IfOk result (IsCommand (fold with_rule (new_app name.entry.now) option_rules)) }
+{
+    with_numbers(alloc, name, about)?
         .arg(bounded_option(alloc, "hot", "H", 1, 1_000_000).help(help::HOT))?
         .arg(flag(alloc, "places").help(help::PLACES))?
         .arg(flag(alloc, "summary").help(help::SUMMARY))

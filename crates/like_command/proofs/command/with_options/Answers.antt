@@ -1,57 +1,25 @@
-use Rattle.std.proofs.Common.{◌∙◌, ap, codes}
+use Rattle.std.proofs.Common.{codes}
 use Rattle.std.proofs.lemmas.Result.{IfOk-weaker}
-use Rattle.clap.specs.Simple.{app_of_fields}
+use Rattle.std.specs.List.{fold}
 use Rattle.clap.specs.Words.{App, new_app, with_rule}
-use Rattle.clap.specs.declared.builder.command.Command.{Command}
-use Rattle.clap.specs.declared.builder.command.Command.TheOpen.{Command-F}
-use Rattle.like_command.specs.Built.{IsCommand}
-use Rattle.like_command.specs.CommandLine.{bounded_rule, flag_rule, number_rule}
+use Rattle.like_command.specs.CommandLine.{bounded_rule, flag_rule, number_rules}
 use Rattle.like_command.proofs.Commands.{added, helped}
 use Rattle.like_command.proofs.command.with_options.Goals as goal
 
 abbrev app1 : App → App
-app1 a = with_rule a (number_rule (codes "workers") (codes "4") 1 16)
+app1 a = with_rule a (bounded_rule (codes "hot") 1 1000000)
 
 abbrev app2 : App → App
-app2 a = with_rule (app1 a) (number_rule (codes "users") (codes "1000") 1 1000000)
-
-abbrev app3 : App → App
-app3 a = with_rule (app2 a) (number_rule (codes "stash") (codes "256") 1 4096)
-
-abbrev app4 : App → App
-app4 a = with_rule (app3 a) (number_rule (codes "turns") (codes "1000") 0 1000000)
-
-abbrev app5 : App → App
-app5 a = with_rule (app4 a) (bounded_rule (codes "hot") 1 1000000)
-
-abbrev app6 : App → App
-app6 a = with_rule (app5 a) (flag_rule (codes "places"))
+app2 a = with_rule (app1 a) (flag_rule (codes "places"))
 
 pub returns : goal.returns
 returns c =
-    let app0 : App = new_app c.args.name.now in
-    let s0 : IsCommand app0 c.after_help.result = record {
-      app_is = ap app_of_fields c.after_help.ensures ∙ (ap app_of_fields c.about.ensures ∙ c.new.ensures.app);
-      local = ap (λ (f : Command-F Command). f.has_globals) c.after_help.ensures
-          ∙ (ap (λ (f : Command-F Command). f.has_globals) c.about.ensures ∙ c.new.ensures.local);
-    } in
-    let a1 = helped c.number_option.result c.help.result _ _ c.help.ensures c.number_option.ensures in
-    let a2 = helped c.number_option-2.result c.help-2.result _ _ c.help-2.ensures c.number_option-2.ensures in
-    let a3 = helped c.number_option-3.result c.help-3.result _ _ c.help-3.ensures c.number_option-3.ensures in
-    let a4 = helped c.number_option-4.result c.help-4.result _ _ c.help-4.ensures c.number_option-4.ensures in
-    let a5 = helped c.bounded_option.result c.help-5.result _ _ c.help-5.ensures c.bounded_option.ensures in
-    let a6 = helped c.flag.result c.help-6.result _ _ c.help-6.ensures c.flag.ensures in
-    let a7 = helped c.flag-2.result c.help-7.result _ _ c.help-7.ensures c.flag-2.ensures in
-    let s1 = added c.after_help.result c.in_ok-arg.field-0 c.help.result _ app0 c.in_ok-arg.ensures a1 s0 in
-    let s2 = added c.in_ok-arg.field-0 c.in_ok-arg-2.field-0 c.help-2.result _
-    (app1 app0) c.in_ok-arg-2.ensures a2 s1 in
-    let s3 = added c.in_ok-arg-2.field-0 c.in_ok-arg-3.field-0 c.help-3.result _
-    (app2 app0) c.in_ok-arg-3.ensures a3 s2 in
-    let s4 = added c.in_ok-arg-3.field-0 c.in_ok-arg-4.field-0 c.help-4.result _
-    (app3 app0) c.in_ok-arg-4.ensures a4 s3 in
-    let s5 = added c.in_ok-arg-4.field-0 c.in_ok-arg-5.field-0 c.help-5.result _
-    (app4 app0) c.in_ok-arg-5.ensures a5 s4 in
-    let s6 = added c.in_ok-arg-5.field-0 c.in_ok-arg-6.field-0 c.help-6.result _
-    (app5 app0) c.in_ok-arg-6.ensures a6 s5 in
-    IfOk-weaker c.arg-7.result _ _
-    (λ x h. added c.in_ok-arg-6.field-0 x c.help-7.result _ (app6 app0) h a7 s6) c.arg-7.ensures
+    let app0 : App = fold with_rule (new_app c.args.name.now) number_rules in
+    let a1 = helped c.bounded_option.result c.help.result _ _ c.help.ensures c.bounded_option.ensures in
+    let a2 = helped c.flag.result c.help-2.result _ _ c.help-2.ensures c.flag.ensures in
+    let a3 = helped c.flag-2.result c.help-3.result _ _ c.help-3.ensures c.flag-2.ensures in
+    let s0 = c.in_ok-with_numbers.ensures in
+    let s1 = added c.in_ok-with_numbers.field-0 c.in_ok-arg.field-0 c.help.result _ app0 c.in_ok-arg.ensures a1 s0 in
+    let s2 = added c.in_ok-arg.field-0 c.in_ok-arg-2.field-0 c.help-2.result _ (app1 app0) c.in_ok-arg-2.ensures a2 s1 in
+    IfOk-weaker c.arg-3.result _ _
+    (λ x h. added c.in_ok-arg-2.field-0 x c.help-3.result _ (app2 app0) h a3 s2) c.arg-3.ensures
