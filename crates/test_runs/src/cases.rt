@@ -33,11 +33,11 @@ impl Case {
         }
     }
 
-    pub fn plans(&self, rt: &impl Abort, alloc: Global) -> Vec<Vec<Request>> {
-        let pages = pages_of(rt, alloc, self.pages);
+    /// Its requests, of these pages.
+    pub fn plans(&self, rt: &impl Abort, alloc: Global, pages: &Pages) -> Vec<Vec<Request>> {
         let mut plans = Vec::new(alloc);
         for requests in self.requests {
-            let plan = plan_of(rt, alloc, requests, &pages);
+            let plan = plan_of(rt, alloc, requests, pages);
             assert!(rt; plans.push(plan).is_ok());
         }
         plans
@@ -45,18 +45,19 @@ impl Case {
 
     /// What a replay of the case's own requests ends in.
     pub fn replay(&self, rt: &impl Abort, alloc: Global) -> Result<Report, ReplayFault> {
-        self.replay_plans(rt, alloc, self.plans(rt, alloc))
+        let setup = self.setup(rt, alloc);
+        let plans = self.plans(rt, alloc, &setup.pages);
+        replayed(rt, alloc, &setup, plans, &turns(rt, alloc, self.script))
     }
 
-    /// What a replay of these plans by the case's script ends in.
+    /// What a replay of these plans ends in, where the case has no script.
     pub fn replay_plans(
         &self,
         rt: &impl Abort,
         alloc: Global,
         plans: Vec<Vec<Request>>,
     ) -> Result<Report, ReplayFault> {
-        let script = turns(rt, alloc, self.script);
-        replayed(rt, alloc, &self.setup(rt, alloc), plans, &script)
+        replay(alloc, &self.setup(rt, alloc), plans, &[])
     }
 
     /// What a run of these plans on threads ends in.

@@ -1,5 +1,5 @@
 //! Drawn replays, compared with runs that are played by the tables of turns.
-ghost use Rattle.std.specs.Prelude.{◌+◌, ◌<◌, ◌≤◌, ◌^◌, IfOk};
+ghost use Rattle.std.specs.Prelude.{◌+◌, ◌<◌, ◌≤◌, ◌^◌};
 
 use super::cases::{pages_of, replayed};
 use super::players::{Played, Player, play};
@@ -7,7 +7,7 @@ use like_replies::Report;
 use like_requests::{Op, PageRef, Pages, Request, Setup};
 use like_roles::WorkerLog;
 use like_run::Turned;
-use std::alloc::{AllocError, Global};
+use std::alloc::Global;
 use std::process::Abort;
 
 // Numbers by a linear congruence, with the factor and the summand of Knuth's MMIX.
@@ -100,32 +100,36 @@ fn draw_request(draws: &mut Draws, submitter: u32, submitters: u32) -> Request
 }
 
 fn draw_plan(
+    rt: &impl Abort,
     alloc: Global,
     draws: &mut Draws,
     submitter: u32,
     submitters: u32,
-) -> Result<Vec<Request>, AllocError>
+) -> Vec<Request>
     requires { submitter + submitters < 2 ^ 32 }
 {
     let mut plan = Vec::new(alloc);
     for _ in 0..draws.below(7) {
-        plan.push(draw_request(draws, submitter, submitters))?;
+        let request = draw_request(draws, submitter, submitters);
+        plan.push(request).expect(rt, "memory");
     }
-    Ok(plan)
+    plan
 }
 
 fn draw_plans(
+    rt: &impl Abort,
     alloc: Global,
     draws: &mut Draws,
     submitters: u32,
-) -> Result<Vec<Vec<Request>>, AllocError>
+) -> Vec<Vec<Request>>
     requires { submitters ≤ 7 }
 {
     let mut plans = Vec::new(alloc);
     for submitter in 0..submitters {
-        plans.push(draw_plan(alloc, draws, submitter, submitters)?)?;
+        let plan = draw_plan(rt, alloc, draws, submitter, submitters);
+        assert!(rt; plans.push(plan).is_ok());
     }
-    Ok(plans)
+    plans
 }
 
 fn draw_turn(draws: &mut Draws, workers: u32, submitters: u32) -> Turned
@@ -140,19 +144,21 @@ fn draw_turn(draws: &mut Draws, workers: u32, submitters: u32) -> Turned
 }
 
 fn draw_script(
+    rt: &impl Abort,
     alloc: Global,
     draws: &mut Draws,
     workers: u32,
     submitters: u32,
-) -> Result<Vec<Turned>, AllocError>
+) -> Vec<Turned>
     requires workers { 0 < workers }
     requires submitters { 0 < submitters }
 {
     let mut script = Vec::new(alloc);
     for _ in 0..draws.below(161) {
-        script.push(draw_turn(draws, workers, submitters))?;
+        let turn = draw_turn(draws, workers, submitters);
+        script.push(turn).expect(rt, "memory");
     }
-    Ok(script)
+    script
 }
 
 // Whether a worker's log is what a player took and ran.
@@ -176,17 +182,32 @@ fn is_as_played(report: Report, played: Played) -> bool {
         && are_as_played(&report.logs, &played.players)
 }
 
+// Whether a run of these plans is replayed as it is played.
+fn is_replayed_as_played(
+    rt: &impl Abort,
+    alloc: Global,
+    setup: &Setup,
+    split: [bool; 4],
+    plans: Vec<Vec<Request>>,
+    script: &[Turned],
+) -> bool
+    requires some { 1 ≤ setup.now.workers }
+    requires few { setup.now.workers ≤ 16 }
+{
+    let played = play(rt, alloc, setup, split, &plans, script);
+    assert!(rt; played.is_whole(), "memory, or an event of the play");
+    let report = replayed(rt, alloc, setup, plans, script).expect(rt, "a report");
+    is_as_played(report, played)
+}
+
 // Whether a run that is drawn next is replayed as it is played.
 fn is_next_as_played(rt: &impl Abort, alloc: Global, draws: &mut Draws) -> bool {
     let split = draw_marks(draws);
     let setup = draw_setup(draws, marked_pages(rt, alloc, split));
     let submitters = 1 + draws.below(7);
-    let plans = draw_plans(alloc, draws, submitters).expect(rt, "memory");
-    let script = draw_script(alloc, draws, setup.workers, submitters).expect(rt, "memory");
-    let played = play(rt, alloc, &setup, split, &plans, &script);
-    assert!(rt; played.is_whole(), "memory, or an event of the play");
-    let report = replayed(rt, alloc, &setup, plans, &script).expect(rt, "a report");
-    is_as_played(report, played)
+    let plans = draw_plans(rt, alloc, draws, submitters);
+    let script = draw_script(rt, alloc, draws, setup.workers, submitters);
+    is_replayed_as_played(rt, alloc, &setup, split, plans, &script)
 }
 
 #[test]

@@ -2,6 +2,7 @@
 //! between which each count has to lie, are computed here from what the workers took and from which likes they ran.
 use super::cases::{Case, SMALL, assert_counts};
 use super::gates::Watch;
+use super::logs::{Entry, is_ran};
 use like_replies::Report;
 use like_requests::{Op, PageRef, Request};
 use like_roles::{Ran, Reply, Took, WorkerLog};
@@ -51,36 +52,23 @@ fn plans(rt: &impl Abort, alloc: Global) -> Vec<Vec<Request>> {
     plans
 }
 
-// A request's place in run order: phase, whether it is not from the stash, submitter and number.
-type Place = (u32, bool, u32, u32);
-
 // Run order: a look of the split page that was taken in an odd phase runs in the next one, before all others there; every
 // other request runs in the phase in which it was taken.
-fn place(took: &Took) -> Place {
+fn entry(took: &Took) -> Entry {
     let waits = took.phase % 2 == 1 && asked(took.number) == (Op::Look, 0);
     let phase = took.phase.saturating_add(u32::from(waits));
-    (phase, !waits, took.submitter, took.number)
+    (phase, waits, took.submitter, took.number)
 }
 
-fn order(rt: &impl Abort, alloc: Global, taken: &[Took]) -> Vec<Place> {
+fn order(rt: &impl Abort, alloc: Global, taken: &[Took]) -> Vec<Entry> {
     let mut order = Vec::new(alloc);
     for took in taken {
-        order.push(place(took)).expect(rt, "memory");
+        order.push(entry(took)).expect(rt, "memory");
     }
     order
-        .sort_by_key(|entry| (entry.0, entry.1))
+        .sort_by_key(|entry| (entry.0, !entry.1))
         .expect(rt, "memory");
     order
-}
-
-// Whether this is what ran, as it ran.
-fn is_as_ran(order: &[Place], ran: &[Ran]) -> bool {
-    for (place, entry) in order.iter().zip(ran) {
-        if *place != (entry.phase, !entry.stashed, entry.submitter, entry.number) {
-            return false;
-        }
-    }
-    order.len() == ran.len()
 }
 
 // How many likes ran, by phase and page: those of page 0 in phase 0, of page 1 in phase 0, of page 0 in phase 1 and so on.
@@ -200,7 +188,7 @@ fn has_right_counts(
 }
 
 fn has_run_order(rt: &impl Abort, alloc: Global, log: &WorkerLog) -> bool {
-    is_as_ran(&order(rt, alloc, &log.taken), &log.ran)
+    is_ran(&log.ran, &order(rt, alloc, &log.taken))
 }
 
 // Asserts that each worker ran in run order, and that its looks were shown right counts.

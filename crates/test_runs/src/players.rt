@@ -9,8 +9,8 @@ use like_requests::{Op, PageRef, Request, Setup, Taken, Verdict};
 use like_roles::{Chosen, Ran, Reply, Took};
 use like_run::{MAX_ROUNDS, Turned};
 use like_tables::Held;
-use std::alloc::{AllocError, Global};
-use std::collections::{BTreeMap, VecDeque};
+use std::alloc::Global;
+use std::collections::VecDeque;
 use std::mem::swap;
 use std::process::Abort;
 
@@ -25,14 +25,14 @@ pub struct Player {
     phase: u32,
     answered: bool,
     gone: bool,
-    // Whether memory was wanting.
+    // Whether memory was wanting, or a user is not there.
     stuck: bool,
     // Those of its submitters whose end mark was not taken, from the cursor on.
     submitters: VecDeque<u32>,
     stash: VecDeque<Held>,
     backlog: VecDeque<Held>,
-    // By user.
-    last: BTreeMap<u32, u32>,
+    // By user, of whom there are 12.
+    last: [Option<u32>; 12],
     pub taken: Vec<Took>,
     pub ran: Vec<Ran>,
 }
@@ -49,7 +49,7 @@ impl Player {
             submitters,
             stash: VecDeque::new(alloc),
             backlog: VecDeque::new(alloc),
-            last: BTreeMap::new(alloc),
+            last: [None; 12],
             taken: Vec::new(alloc),
             ran: Vec::new(alloc),
         }
@@ -169,15 +169,17 @@ impl Player {
 
     fn like(&mut self, shared: &mut Shared<'_>, user: u32, page: u32) -> Reply {
         shared.step(Event::Like(self.worker, page));
-        let noted: Result<_, _> = self.last.insert(user, page);
-        self.stuck |= noted.is_err();
+        match self.last.get_mut(user as usize) {
+            Some(last) => *last = Some(page),
+            None => self.stuck = true,
+        }
         Reply::Liked
     }
 
     fn see(&mut self, shared: &mut Shared<'_>, user: u32, page: u32) -> Reply {
         let count = shared.count(Event::Read(self.worker, page));
         Reply::Seen {
-            last: self.last.get(&user).copied(),
+            last: self.last.get(user as usize).copied().flatten(),
             count,
         }
     }
@@ -226,68 +228,70 @@ fn rounds(shared: &mut Shared<'_>, players: &mut [Player]) -> Option<u32> {
 
 // The submitters of a worker.
 fn submitters_of(
+    rt: &impl Abort,
     alloc: Global,
     worker: u32,
     workers: u32,
     submitters: u32,
-) -> Result<VecDeque<u32>, AllocError>
+) -> VecDeque<u32>
     requires { 1 ≤ workers }
 {
     let mut own = VecDeque::new(alloc);
     for submitter in (worker..submitters).step_by(workers as usize) {
-        own.push_back(submitter)?;
+        own.push_back(submitter).expect(rt, "memory");
     }
-    Ok(own)
+    own
 }
 
 // The players of so many workers.
-fn players_of(alloc: Global, workers: u32, submitters: u32) -> Result<Vec<Player>, AllocError>
+fn players_of(rt: &impl Abort, alloc: Global, workers: u32, submitters: u32) -> Vec<Player>
     requires { 1 ≤ workers }
 {
     let mut players = Vec::new(alloc);
     for worker in 0..workers {
-        let own = submitters_of(alloc, worker, workers, submitters)?;
-        players.push(Player::new(alloc, worker, own))?;
+        let own = submitters_of(rt, alloc, worker, workers, submitters);
+        let player = Player::new(alloc, worker, own);
+        assert!(rt; players.push(player).is_ok());
     }
-    Ok(players)
+    players
 }
 
 // A core of so many workers, with four pages of which these are split.
-fn core_of(alloc: Global, workers: u32, split: &[bool; 4]) -> Result<Core, AllocError>
+fn core_of(rt: &impl Abort, alloc: Global, workers: u32, split: &[bool; 4]) -> Core
     requires some { 1 ≤ workers }
     requires few { workers ≤ 16 }
 {
-    Core::new(alloc, workers, &[10, 20, 30, 40], split)
+    Core::new(alloc, workers, &[10, 20, 30, 40], split).expect(rt, "memory")
 }
 
 // Lists of which no item is open.
-fn closed_lists(alloc: Global, submitters: usize) -> Result<Vec<List>, AllocError> {
-    vec![in alloc; List { open: 0, taken: 0 }; submitters]
+fn closed_lists(rt: &impl Abort, alloc: Global, submitters: usize) -> Vec<List> {
+    vec![in alloc; List { open: 0, taken: 0 }; submitters].expect(rt, "memory")
 }
 
 // What a run has beside its workers at its start.
 fn shared_of<'a>(
+    rt: &impl Abort,
     alloc: Global,
     setup: &'a Setup,
     split: [bool; 4],
     plans: &'a [Vec<Request>],
-) -> Result<Shared<'a>, AllocError>
+) -> Shared<'a>
     requires some { 1 ≤ setup.now.workers }
     requires few { setup.now.workers ≤ 16 }
 {
-    let lists = closed_lists(alloc, plans.len())?;
-    Ok(Shared {
+    Shared {
         setup,
         submitters: u32::try_from(plans.len()).unwrap_or(u32::MAX),
         split,
-        core: core_of(alloc, setup.workers, &split)?,
+        core: core_of(rt, alloc, setup.workers, &split),
         turns_left: setup.turns,
         counts: [10, 20, 30, 40],
         chosen: Vec::new(alloc),
         plans,
-        lists,
+        lists: closed_lists(rt, alloc, plans.len()),
         stuck: false,
-    })
+    }
 }
 
 /// A run as it was played.
@@ -325,8 +329,8 @@ pub fn play(
     requires some { 1 ≤ setup.now.workers }
     requires few { setup.now.workers ≤ 16 }
 {
-    let mut shared = shared_of(alloc, setup, split, plans).expect(rt, "memory");
-    let mut players = players_of(alloc, setup.workers, shared.submitters).expect(rt, "memory");
+    let mut shared = shared_of(rt, alloc, setup, split, plans);
+    let mut players = players_of(rt, alloc, setup.workers, shared.submitters);
     follow(&mut shared, &mut players, script);
     let phases = rounds(&mut shared, &mut players);
     Played {

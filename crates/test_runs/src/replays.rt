@@ -1,15 +1,24 @@
-//! Replays of scripts: what the workers took and ran, refused scripts, and how long a replay may last.
+//! Replays of scripts: what the workers took and ran and where their additions stand, refused scripts, and how long a replay
+//! may last.
 use super::cases::{
     Case, FULL_STASH, IDLE_WORKERS, LATE_WORKER, PLAIN_LIKES, SMALL, SPLIT_AND_STASH,
-    STASH_THEN_LIKE, TWO_SLICES, UNSPLIT, assert_counts, assert_text, likes,
+    STASH_THEN_LIKE, TWO_SLICES, UNSPLIT, assert_counts, likes,
 };
-use like_replies::Report;
-use like_roles::{Chosen, Ran, Took};
+use super::logs::{Log, NO_LOG, are_logs};
+use like_replies::{Place, Report};
+use like_requests::SettingsFault;
+use like_roles::{Chosen, Ran};
 use like_run::ReplayFault;
-use std::alloc::{AllocError, Global};
+use std::alloc::Global;
 use std::process::Abort;
 
-// Example `hot-choice`: the page is hot in phase 3, so the look that is taken there waits for phase 4.
+const MERGED: Case = Case {
+    users: 1,
+    requests: &["like,0,a\nlike,0,a\nlike,0,a\n"],
+    script: "o0 o0 o0 c0 w0 c0 w0 w0 w0 c0 w0 c0",
+    ..SPLIT_AND_STASH
+};
+
 const HOT_CHOICE: Case = Case {
     hot: Some(2),
     pages: "a,0,no\n",
@@ -17,106 +26,281 @@ const HOT_CHOICE: Case = Case {
     ..SMALL
 };
 
-// The same where the page is never hot.
 const COOL_CHOICE: Case = Case {
     hot: Some(3),
     ..HOT_CHOICE
 };
 
-// A case, a worker of it, what that takes, and in which order it runs it. `1.0.2` is request 2 of submitter 0 in phase 1,
-// and `2.0.2+` one that was stashed.
-const LOGS: &[(&Case, usize, &str, &str)] = &[
-    (&SPLIT_AND_STASH, 0, "1.0.1 1.0.2 ", "1.0.1 2.0.2+ "),
-    (&LATE_WORKER, 0, "", ""),
-    (&LATE_WORKER, 1, "1.1.1 1.1.2 ", "2.1.1+ 2.1.2+ "),
-    (&STASH_THEN_LIKE, 0, "1.0.1 1.0.2 ", "1.0.2 2.0.1+ "),
-    (&FULL_STASH, 0, "1.0.1 2.0.2 ", "2.0.1+ 2.0.2 "),
-    (&UNSPLIT, 0, "1.0.1 1.0.2 ", "1.0.1 1.0.2 "),
-    (&TWO_SLICES, 0, "1.0.1 1.0.2 ", "1.0.1 2.0.2+ "),
-    (&TWO_SLICES, 1, "1.1.1 ", "1.1.1 "),
-    (&IDLE_WORKERS, 0, "1.0.1 ", "1.0.1 "),
-    (&HOT_CHOICE, 0, "1.0.1 2.0.2 3.0.3 ", "1.0.1 2.0.2 4.0.3+ "),
-    (&COOL_CHOICE, 0, "1.0.1 2.0.2 3.0.3 ", "1.0.1 2.0.2 3.0.3 "),
+// A worked example: its case, and what is asserted of its replay's report.
+#[derive(Clone, Copy)]
+struct Example {
+    name: &'static str,
+    case: Case,
+    // By worker.
+    logs: &'static [Log],
+    // By page.
+    places: &'static [&'static [Place]],
+    hot: &'static [Chosen],
+    counts: &'static [u64],
+    phases: u32,
+}
+
+// The page is hot in phase 3, so the look that is taken there waits for phase 4.
+const HOT_EXAMPLE: Example = Example {
+    name: "hot-choice",
+    case: HOT_CHOICE,
+    logs: &[Log {
+        taken: &[(1, 0, 1), (2, 0, 2), (3, 0, 3)],
+        ran: &[(1, false, 0, 1), (2, false, 0, 2), (4, true, 0, 3)],
+    }],
+    places: &[&[
+        Place {
+            worker: 0,
+            phase: 1,
+            old: 0,
+            n: 1,
+        },
+        Place {
+            worker: 0,
+            phase: 2,
+            old: 1,
+            n: 1,
+        },
+    ]],
+    hot: &[Chosen { phase: 3, mask: 1 }],
+    counts: &[2],
+    phases: 6,
+};
+
+const EXAMPLES: &[Example] = &[
+    Example {
+        name: "plain-likes",
+        case: PLAIN_LIKES,
+        logs: &[Log {
+            taken: &[(0, 0, 1), (0, 0, 2), (0, 0, 3)],
+            ran: &[(0, false, 0, 1), (0, false, 0, 2), (0, false, 0, 3)],
+        }],
+        places: &[&[
+            Place {
+                worker: 0,
+                phase: 0,
+                old: 10,
+                n: 1,
+            },
+            Place {
+                worker: 0,
+                phase: 0,
+                old: 11,
+                n: 1,
+            },
+            Place {
+                worker: 0,
+                phase: 0,
+                old: 12,
+                n: 1,
+            },
+        ]],
+        hot: &[],
+        counts: &[13],
+        phases: 0,
+    },
+    Example {
+        name: "split-and-stash",
+        case: SPLIT_AND_STASH,
+        logs: &[Log {
+            taken: &[(1, 0, 1), (1, 0, 2)],
+            ran: &[(1, false, 0, 1), (2, true, 0, 2)],
+        }],
+        places: &[&[Place {
+            worker: 0,
+            phase: 1,
+            old: 10,
+            n: 1,
+        }]],
+        hot: &[],
+        counts: &[11],
+        phases: 4,
+    },
+    // Three likes of one worker in phase 1 are one addition.
+    Example {
+        name: "merged likes",
+        case: MERGED,
+        logs: &[Log {
+            taken: &[(1, 0, 1), (1, 0, 2), (1, 0, 3)],
+            ran: &[(1, false, 0, 1), (1, false, 0, 2), (1, false, 0, 3)],
+        }],
+        places: &[&[Place {
+            worker: 0,
+            phase: 1,
+            old: 10,
+            n: 3,
+        }]],
+        hot: &[],
+        counts: &[13],
+        phases: 4,
+    },
+    Example {
+        name: "late-worker",
+        case: LATE_WORKER,
+        logs: &[
+            NO_LOG,
+            Log {
+                taken: &[(1, 1, 1), (1, 1, 2)],
+                ran: &[(2, true, 1, 1), (2, true, 1, 2)],
+            },
+        ],
+        places: &[&[]],
+        hot: &[],
+        counts: &[0],
+        phases: 4,
+    },
+    Example {
+        name: "stash-then-like",
+        case: STASH_THEN_LIKE,
+        logs: &[Log {
+            taken: &[(1, 0, 1), (1, 0, 2)],
+            ran: &[(1, false, 0, 2), (2, true, 0, 1)],
+        }],
+        places: &[
+            &[],
+            &[Place {
+                worker: 0,
+                phase: 1,
+                old: 0,
+                n: 1,
+            }],
+        ],
+        hot: &[],
+        counts: &[5, 1],
+        phases: 4,
+    },
+    Example {
+        name: "full-stash",
+        case: FULL_STASH,
+        logs: &[Log {
+            taken: &[(1, 0, 1), (2, 0, 2)],
+            ran: &[(2, true, 0, 1), (2, false, 0, 2)],
+        }],
+        places: &[&[]],
+        hot: &[],
+        counts: &[0],
+        phases: 4,
+    },
+    Example {
+        name: "unsplit-in-split-phase",
+        case: UNSPLIT,
+        logs: &[Log {
+            taken: &[(1, 0, 1), (1, 0, 2)],
+            ran: &[(1, false, 0, 1), (1, false, 0, 2)],
+        }],
+        places: &[&[Place {
+            worker: 0,
+            phase: 1,
+            old: 7,
+            n: 1,
+        }]],
+        hot: &[],
+        counts: &[8],
+        phases: 2,
+    },
+    Example {
+        name: "two-slices",
+        case: TWO_SLICES,
+        logs: &[
+            Log {
+                taken: &[(1, 0, 1), (1, 0, 2)],
+                ran: &[(1, false, 0, 1), (2, true, 0, 2)],
+            },
+            Log {
+                taken: &[(1, 1, 1)],
+                ran: &[(1, false, 1, 1)],
+            },
+        ],
+        places: &[&[
+            Place {
+                worker: 0,
+                phase: 1,
+                old: 100,
+                n: 1,
+            },
+            Place {
+                worker: 1,
+                phase: 1,
+                old: 101,
+                n: 1,
+            },
+        ]],
+        hot: &[],
+        counts: &[102],
+        phases: 4,
+    },
+    Example {
+        name: "idle-workers",
+        case: IDLE_WORKERS,
+        logs: &[
+            Log {
+                taken: &[(1, 0, 1)],
+                ran: &[(1, false, 0, 1)],
+            },
+            NO_LOG,
+            NO_LOG,
+            NO_LOG,
+        ],
+        places: &[&[Place {
+            worker: 0,
+            phase: 1,
+            old: 0,
+            n: 1,
+        }]],
+        hot: &[],
+        counts: &[1],
+        phases: 2,
+    },
+    HOT_EXAMPLE,
+    // The page is never hot.
+    Example {
+        name: "hot-choice by three likes",
+        case: COOL_CHOICE,
+        logs: &[Log {
+            taken: &[(1, 0, 1), (2, 0, 2), (3, 0, 3)],
+            ran: &[(1, false, 0, 1), (2, false, 0, 2), (3, false, 0, 3)],
+        }],
+        hot: &[],
+        phases: 4,
+        ..HOT_EXAMPLE
+    },
 ];
 
-// A test that takes them from here has none of their texts in its proof, as it would with a constant.
-fn all_logs() -> &'static [(&'static Case, usize, &'static str, &'static str)] {
-    LOGS
+// A test that takes them from here has none of them in its proof, as it would with a constant.
+fn examples() -> &'static [Example] {
+    EXAMPLES
 }
 
-fn write_word(
-    text: &mut String,
-    phase: u32,
-    submitter: u32,
-    number: u32,
-    mark: &str,
-) -> Result<(), AllocError> {
-    Ok(write!(text, "{phase}.{submitter}.{number}{mark} ")?)
-}
-
-fn taken_text(alloc: Global, taken: &[Took]) -> Result<String, AllocError> {
-    let mut text = String::new(alloc);
-    for took in taken {
-        write_word(&mut text, took.phase, took.submitter, took.number, "")?;
+// Whether the additions to each page stand here.
+fn are_placed(places: &[Vec<Place>], wanted: &[&[Place]]) -> bool {
+    for (places, wanted) in places.iter().zip(wanted) {
+        if places.as_slice() != *wanted {
+            return false;
+        }
     }
-    Ok(text)
+    places.len() == wanted.len()
 }
 
-fn mark_of(stashed: bool) -> &'static str {
-    if stashed { "+" } else { "" }
-}
-
-fn ran_text(alloc: Global, ran: &[Ran]) -> Result<String, AllocError> {
-    let mut text = String::new(alloc);
-    for entry in ran {
-        let mark = mark_of(entry.stashed);
-        write_word(&mut text, entry.phase, entry.submitter, entry.number, mark)?;
-    }
-    Ok(text)
-}
-
-fn assert_log(
-    rt: &impl Abort,
-    alloc: Global,
-    report: Report,
-    worker: usize,
-    taken: &str,
-    ran: &str,
-) {
-    let log = report.logs.get(worker).expect(rt, "a log");
-    assert_text(
-        rt,
-        &taken_text(alloc, &log.taken).expect(rt, "memory"),
-        taken,
-    );
-    assert_text(rt, &ran_text(alloc, &log.ran).expect(rt, "memory"), ran);
+// Whether a report has what its example says.
+fn is_shown(report: &Report, example: &Example) -> bool {
+    are_logs(&report.logs, example.logs)
+        && are_placed(&report.places, example.places)
+        && report.hot.as_slice() == example.hot
+        && report.phases == example.phases
 }
 
 #[test]
-fn logs_of_scripts(rt: HostRuntime) {
-    for (case, worker, taken, ran) in all_logs() {
-        let report = case.replay(&rt, rt.alloc()).expect(&rt, "a report");
-        assert_log(&rt, rt.alloc(), report, *worker, taken, ran);
+fn replays_examples(rt: HostRuntime) {
+    for example in examples() {
+        let report = example.case.replay(&rt, rt.alloc()).expect(&rt, "a report");
+        assert!(rt; is_shown(&report, example), "{}", example.name);
+        assert_counts(&rt, report, example.counts);
     }
-}
-
-// What a replay ends in: its hot pages, its counts and its last phase, or its fault.
-fn end_text(alloc: Global, replayed: &Result<Report, ReplayFault>) -> Result<String, AllocError> {
-    match replayed {
-        Ok(
-            Report {
-                hot,
-                counts,
-                phases,
-                ..
-            },
-        ) => { format!(in alloc; "{hot:?} {counts:?} {phases}") }
-        Err(fault) => format!(in alloc; "{fault:?}"),
-    }
-}
-
-fn assert_end(rt: &impl Abort, alloc: Global, replayed: Result<Report, ReplayFault>, end: &str) {
-    assert_text(rt, &end_text(alloc, &replayed).expect(rt, "memory"), end);
 }
 
 const AWAY: Case = Case {
@@ -126,34 +310,22 @@ const AWAY: Case = Case {
     ..SMALL
 };
 
-// A case, and what its replay ends in.
-const ENDS: &[(&Case, &str)] = &[
-    (&PLAIN_LIKES, "[] [13] 0"),
-    (&SPLIT_AND_STASH, "[] [11] 4"),
-    (&LATE_WORKER, "[] [0] 4"),
-    (&STASH_THEN_LIKE, "[] [5, 1] 4"),
-    (&FULL_STASH, "[] [0] 4"),
-    (&UNSPLIT, "[] [8] 2"),
-    (&TWO_SLICES, "[] [102] 4"),
-    (&IDLE_WORKERS, "[] [1] 2"),
-    (&HOT_CHOICE, "[Chosen { phase: 3, mask: 1 }] [2] 6"),
-    (&COOL_CHOICE, "[] [2] 4"),
-    (&AWAY, "Settings(Script { at: 1 })"),
-];
+fn away() -> &'static Case {
+    &AWAY
+}
 
-// A test that takes them from here has none of their texts in its proof, as it would with a constant.
-fn all_ends() -> &'static [(&'static Case, &'static str)] {
-    ENDS
+// The fault that a replay ends in, if it does: here alone its report is dropped unread.
+fn fault_of(replayed: Result<Report, ReplayFault>) -> Option<ReplayFault> {
+    replayed.err()
 }
 
 #[test]
-fn ends_of_scripts(rt: HostRuntime) {
-    for (case, end) in all_ends() {
-        assert_end(&rt, rt.alloc(), case.replay(&rt, rt.alloc()), end);
-    }
+fn names_an_entry_that_is_away(rt: HostRuntime) {
+    let fault = fault_of(away().replay(&rt, rt.alloc()));
+    assert!(rt; fault == Some(ReplayFault::Settings(SettingsFault::Script { at: 1 })));
 }
 
-// Whether entry n of a log ran in phase n and is number n, from 1 on.
+// Whether 2,060 entries ran, of which entry n ran in phase n and is number n, from 1 on.
 fn ran_by_phase(ran: &[Ran]) -> bool {
     let mut phase = 0_u32;
     for entry in ran {
@@ -162,10 +334,10 @@ fn ran_by_phase(ran: &[Ran]) -> bool {
             return false;
         }
     }
-    true
+    phase == 2_060
 }
 
-// Whether page 0 alone was chosen for each odd phase from 3 on.
+// Whether page 0 alone was chosen for each of the 1,024 odd phases from 3 to 2,049.
 fn is_hot_in_odd_phases(hot: &[Chosen]) -> bool {
     let mut phase = 1_u32;
     for chosen in hot {
@@ -174,14 +346,14 @@ fn is_hot_in_odd_phases(hot: &[Chosen]) -> bool {
             return false;
         }
     }
-    true
+    phase == 2_049
 }
 
 // Asserts that like n of 2,060 ran in phase n, and that page 0 alone was hot in 1,024 odd phases, of which 3 is the first.
 fn assert_hot_in_1024_phases(rt: &impl Abort, report: Report) {
     let log = report.logs.first().expect(rt, "a log");
-    assert!(rt; log.ran.len() == 2_060 && ran_by_phase(&log.ran));
-    assert!(rt; report.hot.len() == 1_024 && is_hot_in_odd_phases(&report.hot));
+    assert!(rt; ran_by_phase(&log.ran));
+    assert!(rt; is_hot_in_odd_phases(&report.hot));
     assert_counts(rt, report, &[2_060]);
 }
 
@@ -214,15 +386,18 @@ fn bounds() -> &'static Case {
     &BOUNDS
 }
 
+// What a replay of so many likes ends in.
+fn replay_likes(rt: &impl Abort, alloc: Global, number: usize) -> Result<Report, ReplayFault> {
+    bounds().replay_plans(rt, alloc, likes(rt, alloc, 1, number))
+}
+
 #[test]
 fn a_replay_has_a_million_rounds(rt: HostRuntime) {
-    for (number, end) in [
-        (1_000_000, "Unfinished"),
-        (999_998, "Unfinished"),
-        (999_997, "[] [999997] 0"),
-    ] {
-        let plans = likes(&rt, rt.alloc(), 1, number);
-        let replayed = bounds().replay_plans(&rt, rt.alloc(), plans);
-        assert_end(&rt, rt.alloc(), replayed, end);
+    for number in [1_000_000, 999_998] {
+        let fault = fault_of(replay_likes(&rt, rt.alloc(), number));
+        assert!(rt; fault == Some(ReplayFault::Unfinished));
     }
+    let report = replay_likes(&rt, rt.alloc(), 999_997).expect(&rt, "a report");
+    assert!(rt; report.phases == 0 && report.hot.is_empty());
+    assert_counts(&rt, report, &[999_997]);
 }

@@ -1,10 +1,11 @@
 //! Runs on threads. What is asserted of them is the same on every schedule.
 use super::cases::{Case, assert_counts, likes, one_page, plain_likes};
 use super::gates::{Held, Ledger, Watch};
+use super::places::{are_placed_singly, places_of};
 use like_replies::{Answer, Place, Report};
 use like_requests::SettingsFault;
 use like_roles::Reply;
-use like_run::{RunFault, run_limited};
+use like_run::{RunFault, run, run_limited};
 use std::alloc::Global;
 use std::process::Abort;
 use std::sync::Wait;
@@ -58,28 +59,80 @@ fn assert_liked(
     assert_counts(rt, report, &[count]);
 }
 
+// On threads the likes run in any phase.
 #[test]
 fn runs_plain_likes(rt: HostRuntime) {
-    let plans = plain_likes().plans(&rt, rt.alloc());
-    let report = plain_likes().report(&rt, rt.alloc(), plans, &Watch::idle());
+    let setup = plain_likes().setup(&rt, rt.alloc());
+    let plans = plain_likes().plans(&rt, rt.alloc(), &setup.pages);
+    let report = run(&rt, rt.alloc(), &setup, plans, &Watch::idle()).expect(&rt, "a report");
+    assert!(rt; are_placed_singly(places_of(&rt, &report)));
     assert_liked(&rt, report, 1, 3, 2, 13);
 }
 
-// Makes a run of so many likes of each submitter, who are all users, with a gate that holds calls. Asserts that all are
-// liked, with a call of each gate for each, that the calls that were awaited were made, and that none waited in vain.
-fn assert_likes(
-    rt: &(impl Abort + Threads + Wait + Sync),
-    alloc: Global,
-    held: Held,
-    case: &Case,
+// A run of so many likes of each submitter, who are all users, with a gate that holds calls.
+#[derive(Clone, Copy)]
+struct Run {
+    workers: u32,
+    turns: u32,
     submitters: u32,
     each: u32,
-) {
-    let gate = Watch::new(held, LOOKS);
-    let plans = likes(rt, alloc, submitters, each as usize);
+    held: Held,
+}
+
+// Many submitters, and the runs of `gates`: two workers wait for each other, a submitter for its worker, and two
+// submitters for each other.
+const RUNS: &[Run] = &[
+    Run {
+        workers: 16,
+        turns: 0,
+        submitters: 64,
+        each: 1_000,
+        held: Held::Nobody,
+    },
+    Run {
+        workers: 16,
+        turns: 1_000,
+        submitters: 64,
+        each: 1_000,
+        held: Held::Nobody,
+    },
+    Run {
+        workers: 2,
+        turns: 1_000,
+        submitters: 2,
+        each: 1,
+        held: Held::Workers,
+    },
+    Run {
+        workers: 1,
+        turns: 0,
+        submitters: 1,
+        each: 2,
+        held: Held::SecondRequest,
+    },
+    Run {
+        workers: 1,
+        turns: 1_000,
+        submitters: 2,
+        each: 1,
+        held: Held::Submitters,
+    },
+];
+
+// A test that takes them from here has none of them in its proof, as it would with a constant.
+fn all_runs() -> &'static [Run] {
+    RUNS
+}
+
+// Makes a run. Asserts that all are liked, with a call of each gate for each, that the calls that were awaited were made,
+// and that none waited in vain.
+fn assert_likes(rt: &(impl Abort + Threads + Wait + Sync), alloc: Global, run: &Run) {
+    let gate = Watch::new(run.held, LOOKS);
+    let plans = likes(rt, alloc, run.submitters, run.each as usize);
+    let case = one_page(run.workers, run.submitters, run.turns);
     let report = case.report(rt, alloc, plans, &gate);
-    assert_all_liked(rt, report, submitters, each);
-    assert_calls(rt, &gate, submitters.saturating_mul(each));
+    assert_all_liked(rt, report, run.submitters, run.each);
+    assert_calls(rt, &gate, run.submitters.saturating_mul(run.each));
 }
 
 // Asserts that so many submitters have so many replies each, all of them `Liked`, and that they are the users.
@@ -90,16 +143,13 @@ fn assert_all_liked(rt: &impl Abort, report: Report, submitters: u32, each: u32)
 }
 
 fn assert_calls(rt: &impl Abort, gate: &Watch, number: u32) {
-    assert!(rt; gate.has_calls(number));
-    assert!(rt; gate.made() == gate.awaited());
-    assert!(rt; !gate.gave_up());
+    assert!(rt; gate.has_calls(number) && gate.made() == gate.awaited() && !gate.gave_up());
 }
 
 #[test]
-fn runs_many_submitters(rt: HostRuntime) {
-    for turns in [0, 1_000] {
-        let case = one_page(16, 64, turns);
-        assert_likes(&rt, rt.alloc(), Held::Nobody, &case, 64, 1_000);
+fn runs_likes(rt: HostRuntime) {
+    for run in all_runs() {
+        assert_likes(&rt, rt.alloc(), run);
     }
 }
 
@@ -107,24 +157,25 @@ fn runs_many_submitters(rt: HostRuntime) {
 #[test]
 fn runs_each_number_of_submitters(rt: HostRuntime) {
     for submitters in 1..=64 {
-        let case = one_page(1 + submitters % 16, submitters, 1_000);
-        assert_likes(&rt, rt.alloc(), Held::Nobody, &case, submitters, 1);
+        let run = Run {
+            workers: 1 + submitters % 16,
+            turns: 1_000,
+            submitters,
+            each: 1,
+            held: Held::Nobody,
+        };
+        assert_likes(&rt, rt.alloc(), &run);
     }
 }
 
-// Whether an addition is of this worker, and found this count.
-fn is_addition(place: Option<&Place>, worker: u32, old: u64) -> bool {
-    match place {
-        Some(place) => place.worker == worker && place.old == old,
-        None => false,
+// Whether the first two additions to a page are one of worker 0, which finds no like, and one of worker 1.
+fn is_second_of_worker_1(places: &[Place]) -> bool {
+    match places {
+        [first, second, ..] => {
+            first.worker == 0 && first.old == 0 && second.worker == 1 && second.old == 1
+        }
+        _ => false,
     }
-}
-
-// Asserts where the first two additions to the page of a report stand: worker 1's stands behind one of worker 0.
-fn assert_second_is_of_worker_1(rt: &impl Abort, report: &Report) {
-    let places = report.places.first().expect(rt, "a page");
-    assert!(rt; is_addition(places.first(), 0, 0));
-    assert!(rt; is_addition(places.get(1), 1, 1));
 }
 
 // Each submitter has more likes than 16 bits can number, and those of submitter 2 are refused. All of it is in phase 0.
@@ -139,26 +190,8 @@ fn tells_the_gate_of_each_call(rt: HostRuntime) {
 fn assert_told(rt: &impl Abort, report: Report, gate: &Ledger) {
     assert!(rt; gate.is_right());
     assert!(rt; gate.has_all(70_000));
-    assert_second_is_of_worker_1(rt, &report);
+    assert!(rt; is_second_of_worker_1(places_of(rt, &report)));
     assert_counts(rt, report, &[140_000]);
-}
-
-#[test]
-fn runs_workers_side_by_side(rt: HostRuntime) {
-    let case = one_page(2, 2, 1_000);
-    assert_likes(&rt, rt.alloc(), Held::Workers, &case, 2, 1);
-}
-
-#[test]
-fn runs_a_submitter_beside_its_worker(rt: HostRuntime) {
-    let case = one_page(1, 1, 0);
-    assert_likes(&rt, rt.alloc(), Held::SecondRequest, &case, 1, 2);
-}
-
-#[test]
-fn runs_submitters_side_by_side(rt: HostRuntime) {
-    let case = one_page(1, 2, 1_000);
-    assert_likes(&rt, rt.alloc(), Held::Submitters, &case, 2, 1);
 }
 
 // What a run of two likes with at most so many threads ends in.
@@ -172,10 +205,15 @@ fn limited(
     run_limited(rt, alloc, &setup, likes(rt, alloc, 2, 1), gate, starts)
 }
 
+// The fault that a run ends in, if it does: here alone its report is dropped unread.
+fn fault_of(ran: Result<Report, RunFault>) -> Option<RunFault> {
+    ran.err()
+}
+
 // Asserts that a run with at most so many threads, which are too few, makes no call.
 fn assert_not_started(rt: &(impl Abort + Threads + Wait + Sync), alloc: Global, starts: u32) {
     let gate = Watch::idle();
-    let fault = limited(rt, alloc, &gate, starts).err();
+    let fault = fault_of(limited(rt, alloc, &gate, starts));
     assert!(rt; fault == Some(RunFault::Start));
     assert!(rt; gate.has_calls(0) && gate.phases() == 0);
 }
@@ -197,8 +235,7 @@ fn starts_no_more_than_it_may(rt: HostRuntime) {
 #[test]
 fn names_the_limit_that_a_run_breaks(rt: HostRuntime) {
     let plans = likes(&rt, rt.alloc(), 2, 1);
-    let fault = one_page(17, 2, 1_000)
-        .run(&rt, rt.alloc(), plans, &Watch::idle())
-        .err();
+    let case = one_page(17, 2, 1_000);
+    let fault = fault_of(case.run(&rt, rt.alloc(), plans, &Watch::idle()));
     assert!(rt; fault == Some(RunFault::Settings(SettingsFault::Workers)));
 }

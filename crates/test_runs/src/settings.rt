@@ -13,18 +13,46 @@ use std::thread::Threads;
 // The most runs that a test makes.
 const RUNS: u32 = 50;
 
-// Makes a run of so many likes of each submitter, with one worker and so many turns.
-fn watch(
-    rt: &(impl Abort + Threads + Wait + Sync),
-    alloc: Global,
+// A run with one worker, whose gate holds calls for so many looks.
+#[derive(Clone, Copy)]
+struct Waiting {
+    held: Held,
+    looks: u32,
     turns: u32,
     submitters: u32,
     each: usize,
-    gate: &Watch,
-) {
-    let case = one_page(1, 2, turns);
-    let report = case.report(rt, alloc, likes(rt, alloc, submitters, each), gate);
+    // Whether a call waits in vain, all of the run being in one phase then.
+    in_vain: bool,
+}
+
+// 16 submitters look until phase 400, and let others run after each look; the coordinator rests after 32 turns in a
+// row. So on any machine one of them at least looks as often as it makes turns, or nearly: in phases of 1,000 turns each
+// of them has given up long before, loaded or not, and in phases of none no one has, save in a run now and then.
+const NO_TURNS: Waiting = Waiting {
+    held: Held::FirstRequests(400),
+    looks: 50_000,
+    turns: 0,
+    submitters: 16,
+    each: 1,
+    in_vain: false,
+};
+
+const MANY_TURNS: Waiting = Waiting {
+    held: Held::SecondRequest,
+    looks: 20_000,
+    turns: 1_000_000,
+    submitters: 1,
+    each: 2,
+    in_vain: true,
+};
+
+// Makes a run of likes, and says whether its calls waited as they should.
+fn waits_so(rt: &(impl Abort + Threads + Wait + Sync), alloc: Global, run: &Waiting) -> bool {
+    let gate = Watch::new(run.held, run.looks);
+    let plans = likes(rt, alloc, run.submitters, run.each);
+    let report = one_page(1, 2, run.turns).report(rt, alloc, plans, &gate);
     assert!(rt; has_phases(report, gate.phases()));
+    gate.gave_up() == run.in_vain && (!run.in_vain || gate.phases() == 1)
 }
 
 // Whether a run went through so many phases.
@@ -32,15 +60,10 @@ fn has_phases(report: Report, phases: u32) -> bool {
     report.phases.saturating_add(1) == phases
 }
 
-// 16 submitters look until phase 400, and let others run after each look; the coordinator rests after 32 turns in a
-// row. So on any machine one of them at least looks as often as it makes turns, or nearly: in phases of 1,000 turns each
-// of them has given up long before, loaded or not, and in phases of none no one has, save in a run now and then.
 #[test]
 fn comes_soon_to_phases_of_no_turns(rt: HostRuntime) {
     for _ in 0..10 {
-        let gate = Watch::new(Held::FirstRequests(400), 50_000);
-        watch(&rt, rt.alloc(), 0, 16, 1, &gate);
-        if !gate.gave_up() {
+        if waits_so(&rt, rt.alloc(), &NO_TURNS) {
             return;
         }
     }
@@ -50,9 +73,7 @@ fn comes_soon_to_phases_of_no_turns(rt: HostRuntime) {
 #[test]
 fn stays_in_a_phase_of_many_turns(rt: HostRuntime) {
     for _ in 0..RUNS {
-        let gate = Watch::new(Held::SecondRequest, 20_000);
-        watch(&rt, rt.alloc(), 1_000_000, 1, 2, &gate);
-        if gate.gave_up() && gate.phases() == 1 {
+        if waits_so(&rt, rt.alloc(), &MANY_TURNS) {
             return;
         }
     }

@@ -1,24 +1,27 @@
 //! The answers of each turn of a script.
-ghost use Rattle.std.specs.Prelude.{◌≤◌, All, length};
+ghost use Rattle.std.specs.Prelude.{All, length};
 ghost use Rattle.like_requests.specs.Setup.{FitsRun};
 ghost use Rattle.like_script.specs.Fit.{IsInRun};
-ghost use Rattle.like_limits.specs.Limits.{max_entries};
+ghost use Rattle.like_roles.specs.coordinator.CoordTurns.{HasEndedJoined};
 ghost use Rattle.like_service.specs.Asked.{lists_of};
-ghost use Rattle.like_crew.specs.Crew.{GoesOn};
+ghost use Rattle.like_crew.specs.Crew.{AreGone, GoesOn};
+ghost use Rattle.like_crew.specs.Ended.{HasEnded};
 ghost use Rattle.like_run.specs.Rounds.{CanMake};
 
 use super::cases::{
     Case, FULL_STASH, IDLE_WORKERS, LATE_WORKER, PLAIN_LIKES, SPLIT_AND_STASH, STASH_THEN_LIKE,
-    TWO_SLICES, UNSPLIT, assert_text, turns,
+    TWO_SLICES, UNSPLIT, assert_counts, assert_text, turns,
 };
-use like_crew::{Crew, Site};
+use like_crew::{Crew, Ended, Site, report_of};
 use like_queue::ListInbox;
+use like_replies::Report;
 use like_requests::{Request, Setup, check_setup};
 use like_roles::{CoordTurn, Turn};
-use like_run::{MAX_ENTRIES, ReplayFault, Turned};
+use like_run::{MAX_ENTRIES, MAX_ROUNDS, Turned};
 use like_script::check_script;
-use std::alloc::{AllocError, Global};
+use std::alloc::Global;
 use std::process::Abort;
+use std::snapshot::Snapshot;
 
 // What a turn answers.
 #[derive(Clone, Copy)]
@@ -42,82 +45,112 @@ fn answer_of(crew: &mut Crew<'_, ListInbox>, entry: &Turned) -> Option<Answer>
     }
 }
 
-// Makes a script's entries in their order, and gives what the turns among them answer.
+// Writes what a turn answers, with a space behind it.
+fn write_answer(rt: &impl Abort, words: &mut String, answer: Answer) {
+    match answer {
+        Answer::Led(turn) => write!(words, "{turn:?} ").expect(rt, "memory"),
+        Answer::Did(turn) => write!(words, "{turn:?} ").expect(rt, "memory"),
+    }
+}
+
+// Makes a script's entries in their order, and gives a word for what each turn among them answers.
 fn answers_of(
+    rt: &impl Abort,
     alloc: Global,
     crew: &mut Crew<'_, ListInbox>,
     script: &[Turned],
-) -> Result<Vec<Answer>, AllocError>
+) -> String
     requires { All (CanMake crew.old.servers.items) script.now }
+    ensures { GoesOn crew.old crew.new }
 {
-    let mut answers = Vec::new(alloc);
+    let mut words = String::new(alloc);
     for entry in script {
         if let Some(answer) = answer_of(crew, entry) {
-            answers.push(answer)?;
+            write_answer(rt, &mut words, answer);
         }
     }
-    Ok(answers)
+    words
 }
 
-// The answers of a script's turns, in a run within the limits.
+// Opens all lists, and makes rounds until the run ended.
+fn end_run(rt: &impl Abort, crew: &mut Crew<'_, ListInbox>)
+    ensures goes_on { GoesOn crew.old crew.new }
+    ensures ended { HasEndedJoined crew.new.captain }
+    ensures gone { AreGone crew.new.servers.items }
+{
+    crew.open_all();
+    for _ in 0..MAX_ROUNDS {
+        if crew.round() {
+            return;
+        }
+    }
+    panic!(rt; "the run did not end");
+}
+
+// What the turns of a script answer, and what its crew leaves at the end of the run: a crew that is taken apart needs no
+// drop.
+fn play(
+    rt: &impl Abort,
+    alloc: Global,
+    crew: Crew<'_, ListInbox>,
+    script: &[Turned],
+) -> (String, Ended)
+    requires { All (CanMake crew.servers.items) script.now }
+    ensures { HasEnded crew.entry result.1 }
+{
+    let mut crew = crew;
+    let words = answers_of(rt, alloc, &mut crew, script);
+    end_run(rt, &mut crew);
+    let ended = crew.finish(alloc).expect(rt, "memory");
+    (words, ended)
+}
+
+// What the turns of a script answer in a run within the limits, and its report.
 fn answers_within(
+    rt: &impl Abort,
     alloc: Global,
     setup: &Setup,
     plans: Vec<Vec<Request>>,
     script: &[Turned],
-) -> Result<Vec<Answer>, AllocError>
+) -> (String, Report)
     requires within { FitsRun setup.now (lists_of plans.items) }
     requires script { All (IsInRun setup.now.workers (length plans.items)) script.now }
 {
-    let (site, seats) = Site::new(alloc, setup, &plans, true)?;
-    let mut crew = Crew::new(alloc, setup, &site, seats, plans)?;
-    answers_of(alloc, &mut crew, script)
+    let (site, seats) = Site::new(alloc, setup, &plans, true).expect(rt, "memory");
+    let lists = Snapshot::of(&plans);
+    let crew = Crew::new(alloc, setup, &site, seats, plans).expect(rt, "memory");
+    let (words, ended) = play(rt, alloc, crew, script);
+    let report = report_of(alloc, setup, &lists, site, ended).expect(rt, "a report");
+    (words, report)
 }
 
-// The answers of a script's turns.
+// What the turns of a script answer, and the report of its run.
 fn answers(
+    rt: &impl Abort,
     alloc: Global,
     setup: &Setup,
     plans: Vec<Vec<Request>>,
     script: &[Turned],
-) -> Result<Vec<Answer>, ReplayFault>
-    requires { length script.now ≤ max_entries }
-{
-    check_setup(setup, &plans)?;
-    check_script(script, setup.workers, plans.len())?;
-    Ok(answers_within(alloc, setup, plans, script)?)
-}
-
-fn word_of(alloc: Global, answer: &Answer) -> Result<String, AllocError> {
-    match answer {
-        Answer::Led(turn) => format!(in alloc; "{turn:?}"),
-        Answer::Did(turn) => format!(in alloc; "{turn:?}"),
-    }
-}
-
-// A word for each answer, with a space behind it.
-fn words_of(alloc: Global, answers: &[Answer]) -> Result<String, AllocError> {
-    let mut words = String::new(alloc);
-    for answer in answers {
-        words.push_str(&word_of(alloc, answer)?)?;
-        words.push(' ')?;
-    }
-    Ok(words)
-}
-
-// What the turns of a case's script answer.
-fn answers_in(rt: &impl Abort, alloc: Global, case: &Case) -> Vec<Answer> {
-    let setup = case.setup(rt, alloc);
-    let plans = case.plans(rt, alloc);
-    let script = turns(rt, alloc, case.script);
+) -> (String, Report) {
     assert!(rt; script.len() <= MAX_ENTRIES as usize);
-    answers(alloc, &setup, plans, &script).expect(rt, "answers")
+    check_setup(setup, &plans).expect(rt, "settings within the limits");
+    check_script(script, setup.workers, plans.len()).expect(rt, "a script within the run");
+    answers_within(rt, alloc, setup, plans, script)
 }
 
-// Asserts what the turns of a case's script answer: a word for each.
-fn assert_answers(rt: &impl Abort, alloc: Global, case: &Case, expected: &str) {
-    let words = words_of(alloc, &answers_in(rt, alloc, case)).expect(rt, "memory");
+// What the turns of a case's script answer, and the report of its run.
+fn answers_in(rt: &impl Abort, alloc: Global, case: &Case) -> (String, Report) {
+    let setup = case.setup(rt, alloc);
+    let plans = case.plans(rt, alloc, &setup.pages);
+    let script = turns(rt, alloc, case.script);
+    answers(rt, alloc, &setup, plans, &script)
+}
+
+// Asserts what the turns of a case's script answer, a word for each, and the counts of its run.
+fn assert_answers(rt: &impl Abort, alloc: Global, case: &Case, expected: &str, counts: &[u64]) {
+    let (words, report) = answers_in(rt, alloc, case);
     assert_text(rt, words.as_str().trim_end(), expected);
+    assert_counts(rt, report, counts);
 }
 
 // Three rounds of four workers, of which three have no submitter, and the turns that end the run.
@@ -140,41 +173,47 @@ const IDLE_TURNS: Case = Case {
     ..IDLE_WORKERS
 };
 
-const ANSWERS: &[(&Case, &str)] = &[
+// A case, what the turns of its script answer, and its counts.
+const ANSWERS: &[(&Case, &str, &[u64])] = &[
     (
         &PLAIN_TURNS,
         "Counted Ran Counted Ran Counted Ran Counted TookEnd Counted Retired Ended",
+        &[13],
     ),
     (
         &SPLIT_AND_STASH,
         "Announced Acknowledged Released Ran Stashed Announced Reported Released Ran",
+        &[11],
     ),
     (
         &LATE_WORKER,
         "Announced Acknowledged Acknowledged Released Stashed Stashed \
         Announced Reported Reported Released Announced Ran Ran Acknowledged",
+        &[0],
     ),
     (
         &STASH_THEN_LIKE,
         "Announced Acknowledged Released Stashed Ran Announced Reported Released Ran",
+        &[5, 1],
     ),
     (
         &FULL_STASH,
         "Announced Acknowledged Released Stashed Idle Announced Reported Released Ran Ran",
+        &[0],
     ),
-    (&UNSPLIT, "Announced Acknowledged Released Ran Ran"),
-    (&TWO_SLICES, SLICES),
-    (&IDLE_TURNS, IDLE),
+    (&UNSPLIT, "Announced Acknowledged Released Ran Ran", &[8]),
+    (&TWO_SLICES, SLICES, &[102]),
+    (&IDLE_TURNS, IDLE, &[1]),
 ];
 
 // A test that takes them from here has none of their texts in its proof, as it would with a constant.
-fn all_answers() -> &'static [(&'static Case, &'static str)] {
+fn all_answers() -> &'static [(&'static Case, &'static str, &'static [u64])] {
     ANSWERS
 }
 
 #[test]
 fn answers_of_scripts(rt: HostRuntime) {
-    for (case, answers) in all_answers() {
-        assert_answers(&rt, rt.alloc(), case, answers);
+    for (case, answers, counts) in all_answers() {
+        assert_answers(&rt, rt.alloc(), case, answers, counts);
     }
 }

@@ -4,7 +4,7 @@ use like_roles::Gate;
 use std::thread::yield_now;
 
 /// Which calls of a gate wait, and for what.
-#[derive(Clone, Copy, PartialEq, Eq)]
+#[derive(Clone, Copy)]
 pub enum Held {
     Nobody,
     /// Each of two workers in phase 0, for the other.

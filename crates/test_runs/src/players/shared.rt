@@ -83,19 +83,13 @@ impl Shared<'_> {
         }
     }
 
+    // Ends a phase that all have answered, counts a turn of one that goes on, or announces its end where none is left.
     fn go_on(&mut self, sight: CoordSight) {
-        if !sight.ending {
-            self.count_turn();
-        } else if sight.all_in {
+        if sight.ending && sight.all_in {
             self.release(sight.number);
-        }
-    }
-
-    // Counts a turn of a phase, or announces its end where none is left.
-    fn count_turn(&mut self) {
-        if self.turns_left > 0 {
+        } else if !sight.ending && self.turns_left > 0 {
             self.turns_left -= 1;
-        } else {
+        } else if !sight.ending {
             self.step(Event::Announce);
         }
     }

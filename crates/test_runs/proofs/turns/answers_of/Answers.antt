@@ -5,14 +5,14 @@ use Rattle.like_run.proofs.Entries.{can-make-later}
 use Rattle.test_runs.proofs.turns.answers_of.Goals as goal
 
 pub loop-entry-init : goal.loop-entry-init
-loop-entry-init c = crew-same c.args.crew.now
+loop-entry-init g c = crew-same c.args.crew.now
 
 pub loop-entry-preserved : goal.loop-entry-preserved
-loop-entry-preserved c =
+loop-entry-preserved g c =
     crew-further _ c.loop-entry.crew c.answer_of.new.crew c.loop-entry.invariant c.answer_of.ensures
 
 pub answer_of-requires : goal.answer_of-requires
-answer_of-requires c =
+answer_of-requires g c =
     can-make-later c.args.crew.now.servers.items c.loop-entry.crew.servers.items
     (get_or c.args.script.now c.loop-entry.entry-index (OpenOne 0)) c.loop-entry.invariant.servers
     (c.requires c.loop-entry.entry-index (OpenOne 0) c.loop-entry-test.true)
