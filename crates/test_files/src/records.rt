@@ -1,9 +1,12 @@
-use crate::files::bytes;
+//! What is read of the records of a file, and of numbers.
+mod csv;
+
+pub use csv::csv_cases;
 use like_records::{Records, RecordsFault, decimal};
 use std::alloc::Global;
 use std::io::Read;
 use std::process::Abort;
-use test_devices::{Trickle, csv_cases};
+use test_devices::Trickle;
 
 // Adds the record to the text: `|` ends a field and `;` the record.
 fn push_record<R: Read>(rt: &impl Abort, out: &mut Vec<u8>, records: &Records<R>) {
@@ -15,7 +18,7 @@ fn push_record<R: Read>(rt: &impl Abort, out: &mut Vec<u8>, records: &Records<R>
 }
 
 fn push(rt: &impl Abort, out: &mut Vec<u8>, bytes: &[u8]) {
-    assert!(rt; out.extend_from_slice(bytes).is_ok());
+    assert!(rt; out.extend_from_slice(bytes).is_ok(), "memory");
 }
 
 // Adds the records of a file to the text, and gives the answer behind the last. There are less than 100 records.
@@ -34,42 +37,40 @@ fn push_records<R: Read>(
     Ok(true)
 }
 
-// The answer behind the last record, how many fields there are then, and the answer to one more call.
-fn end<R: Read>(
-    rt: &impl Abort,
-    alloc: Global,
+// Whether this is the answer behind the last record, there are no fields then, and one more call is answered the same.
+fn ends<R: Read>(
     answer: Result<bool, RecordsFault>,
     records: &mut Records<R>,
-) -> String {
-    assert!(rt; answer != Err(RecordsFault::Memory), "out of memory");
-    let count = records.field_count();
-    let again = records.read_next();
-    format!(in alloc; "{answer:?} {count} {again:?}").expect(rt, "memory")
+    wanted: Result<bool, RecordsFault>,
+) -> bool {
+    answer == wanted && records.field_count() == 0 && records.read_next() == wanted
 }
 
-// The records of a file, and its end.
-fn written<R: Read + Drop>(rt: &impl Abort, alloc: Global, file: R) -> Vec<u8> {
+// The records of a file, which ends so.
+fn written<R: Read + Drop>(
+    rt: &impl Abort,
+    alloc: Global,
+    file: R,
+    end: Result<bool, RecordsFault>,
+) -> Vec<u8> {
     let mut records = Records::new(alloc, file);
     let mut out = Vec::new(alloc);
     let last = push_records(rt, &mut out, &mut records);
-    push(rt, &mut out, end(rt, alloc, last, &mut records).as_bytes());
+    assert!(rt; last != Err(RecordsFault::Memory), "out of memory");
+    assert!(rt; ends(last, &mut records, end));
     out
+}
+
+// Stops the test unless each of these texts is read as these records.
+fn assert_read(rt: &impl Abort, alloc: Global, cases: &[(&[u8], &[u8])]) {
+    for (file, records) in cases {
+        assert!(rt; written(rt, alloc, *file, Ok(false)).as_slice() == *records);
+    }
 }
 
 #[test]
 fn reads_what_others_read(rt: HostRuntime) {
-    for case in csv_cases().lines() {
-        assert!(rt; is_read_alike(&rt, rt.alloc(), case), "at {case}");
-    }
-}
-
-// Whether a text is read as others read it.
-fn is_read_alike(rt: &impl Abort, alloc: Global, case: &str) -> bool {
-    let (text, records) = case.split_once("=>").expect(rt, "a case");
-    let text = bytes(rt, alloc, text);
-    let mut wanted = bytes(rt, alloc, records);
-    push(rt, &mut wanted, b"Ok(false) 0 Ok(false)");
-    written(rt, alloc, text.as_slice()).as_slice() == wanted.as_slice()
+    assert_read(&rt, rt.alloc(), csv_cases());
 }
 
 // A byte order mark, quoted fields, and each end of a line.
@@ -77,12 +78,9 @@ const LINES: &[u8] = b"\xef\xbb\xbfname,\"co,unt\"\r\n\n\"say \"\"so\"\"\",,x\rl
 
 // Files and their records.
 const RECORDS: &[(&[u8], &[u8])] = &[
-    (
-        LINES,
-        b"name|co,unt|;say \"so\"||x|;last|;Ok(false) 0 Ok(false)",
-    ),
-    (b"like,\xff,7\n", b"like|\xff|7|;Ok(false) 0 Ok(false)"),
-    (b"", b"Ok(false) 0 Ok(false)"),
+    (LINES, b"name|co,unt|;say \"so\"||x|;last|;"),
+    (b"like,\xff,7\n", b"like|\xff|7|;"),
+    (b"", b""),
 ];
 
 // A test that takes them from here has none of their texts in its proof, as it would with a constant.
@@ -92,23 +90,18 @@ fn all_records() -> &'static [(&'static [u8], &'static [u8])] {
 
 #[test]
 fn gives_each_record_in_order(rt: HostRuntime) {
-    for (file, wanted) in all_records() {
-        assert!(rt; written(&rt, rt.alloc(), *file).as_slice() == *wanted);
-    }
+    assert_read(&rt, rt.alloc(), all_records());
 }
 
 fn two_rows() -> &'static [u8] {
     b"like,1\nlook,2\n"
 }
 
-fn first_row() -> &'static [u8] {
-    b"like|1|;Err(Read) 0 Err(Read)"
-}
-
 #[test]
 fn a_failed_read_stays_failed(rt: HostRuntime) {
-    let written = written(&rt, rt.alloc(), Trickle::new(two_rows(), 11));
-    assert!(rt; written.as_slice() == first_row());
+    let file = Trickle::new(two_rows(), 11);
+    let written = written(&rt, rt.alloc(), file, Err(RecordsFault::Read));
+    assert!(rt; written.as_slice() == b"like|1|;".as_slice());
 }
 
 // Reads so many records.
@@ -118,77 +111,76 @@ fn skip<R: Read>(rt: &impl Abort, records: &mut Records<R>, number: u32) {
     }
 }
 
-// Whether a file's record of this number has the fields of a row, which stand between `|`.
-fn has_fields(rt: &impl Abort, alloc: Global, file: &[u8], number: u32, row: &str) -> bool {
-    let row: Vec<&str> = row.split('|').collect(alloc).expect(rt, "memory");
+// Whether a file's record of this number has these fields.
+fn has_fields(rt: &impl Abort, alloc: Global, file: &[u8], number: u32, fields: &[&str]) -> bool {
     let mut records = Records::new(alloc, file);
     skip(rt, &mut records, number);
-    records.fields_are(&row)
+    records.fields_are(fields)
 }
 
 // Files, the number of a record, fields, and whether it has them.
-const FIELDS: &[(&[u8], u32, &str, bool)] = &[
-    (LINES, 1, "name|co,unt", true),
-    (LINES, 2, "say \"so\"||x", true),
-    (LINES, 3, "last", true),
-    (b"like,1\nlook,2\n", 1, "like|1", true),
-    (b"like,\xff,7\n", 1, "like|x|7", false),
-    (b"like,\xff,7\n", 1, "like|x", false),
+const FIELDS: &[(&[u8], u32, &[&str], bool)] = &[
+    (LINES, 1, &["name", "co,unt"], true),
+    (LINES, 2, &["say \"so\"", "", "x"], true),
+    (LINES, 3, &["last"], true),
+    (b"like,1\nlook,2\n", 1, &["like", "1"], true),
+    (b"like,\xff,7\n", 1, &["like", "x", "7"], false),
+    (b"like,\xff,7\n", 1, &["like", "x"], false),
 ];
 
-fn all_fields() -> &'static [(&'static [u8], u32, &'static str, bool)] {
+fn all_fields() -> &'static [(&'static [u8], u32, &'static [&'static str], bool)] {
     FIELDS
 }
 
 #[test]
 fn compares_fields(rt: HostRuntime) {
-    for (file, number, row, wanted) in all_fields() {
-        let has_fields = has_fields(&rt, rt.alloc(), file, *number, row);
-        assert!(rt; has_fields == *wanted, "{row}");
+    for (file, number, fields, wanted) in all_fields() {
+        assert!(rt; has_fields(&rt, rt.alloc(), *file, *number, *fields) == *wanted);
     }
 }
 
 // Texts, how many digits and up to which number they may have, and the number that is read, if one is.
-const NUMBERS: &str = "\
-0|19|18446744073709551615|0
-007|19|18446744073709551615|7
-007|2|18446744073709551615|
-+1|19|18446744073709551615|
--1|19|18446744073709551615|
-|19|18446744073709551615|
- 1|19|18446744073709551615|
-1 |19|18446744073709551615|
-1/|19|18446744073709551615|
-1:|19|18446744073709551615|
-18446744073709551615|19|18446744073709551615|
-9999999999999999999|19|18446744073709551615|9999999999999999999
-1000000000000000000|19|1000000000000000000|1000000000000000000
-1000000000000000001|19|1000000000000000000|
-4294967295|10|4294967295|4294967295
-4294967296|10|4294967295|
-0|0|9|";
+const NUMBERS: &[(&str, usize, u64, Option<u64>)] = &[
+    ("0", 19, u64::MAX, Some(0)),
+    ("007", 19, u64::MAX, Some(7)),
+    ("007", 2, u64::MAX, None),
+    ("+1", 19, u64::MAX, None),
+    ("-1", 19, u64::MAX, None),
+    ("", 19, u64::MAX, None),
+    (" 1", 19, u64::MAX, None),
+    ("1 ", 19, u64::MAX, None),
+    ("1/", 19, u64::MAX, None),
+    ("1:", 19, u64::MAX, None),
+    ("18446744073709551615", 19, u64::MAX, None),
+    (
+        "9999999999999999999",
+        19,
+        u64::MAX,
+        Some(9_999_999_999_999_999_999),
+    ),
+    (
+        "1000000000000000000",
+        19,
+        1_000_000_000_000_000_000,
+        Some(1_000_000_000_000_000_000),
+    ),
+    ("1000000000000000001", 19, 1_000_000_000_000_000_000, None),
+    ("4294967295", 10, 4_294_967_295, Some(4_294_967_295)),
+    ("4294967296", 10, 4_294_967_295, None),
+    ("0", 0, 9, None),
+];
 
-// The four cells of a row.
-fn cells<'a>(rt: &impl Abort, alloc: Global, row: &'a str) -> [&'a str; 4] {
-    let cells: Vec<&str> = row.split('|').collect(alloc).expect(rt, "memory");
-    let [text, digits, limit, number] = *cells.as_slice() else {
-        panic!(rt; "no row: {row}");
-    };
-    [text, digits, limit, number]
-}
-
-// Whether the number of a row is read, or none.
-fn is_read(rt: &impl Abort, alloc: Global, row: &str) -> bool {
-    let [text, digits, limit, number] = cells(rt, alloc, row);
-    let digits = digits.parse().expect(rt, "digits");
-    assert!(rt; digits <= 19);
-    let limit = limit.parse().expect(rt, "a limit");
-    decimal(text.as_bytes(), digits, limit) == number.parse().ok()
+fn all_numbers() -> &'static [(&'static str, usize, u64, Option<u64>)] {
+    NUMBERS
 }
 
 #[test]
 fn reads_numbers(rt: HostRuntime) {
-    for row in NUMBERS.lines() {
-        assert!(rt; is_read(&rt, rt.alloc(), row), "at {row}");
+    for (text, digits, limit, number) in all_numbers() {
+        assert!(rt; *digits <= 19);
+        assert!(rt;
+            decimal(text.as_bytes(), *digits, *limit) == *number,
+            "{text}"
+        );
     }
 }

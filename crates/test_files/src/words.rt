@@ -1,98 +1,122 @@
 //! What words ask for, by `parse`.
 mod help;
 
+use crate::files::assert_that;
 use like_command::{Asked, ParseFault, parse};
-use std::alloc::Global;
+use std::alloc::{AllocError, Global};
 use std::process::Abort;
+
+// The words of a text.
+fn words(alloc: Global, text: &str) -> Result<Vec<&str>, AllocError> {
+    text.split_whitespace().collect(alloc)
+}
 
 // What the words of a text ask for.
 fn asked(alloc: Global, text: &str) -> Result<Asked, ParseFault> {
-    let words: Vec<&str> = text.split_whitespace().collect(alloc)?;
+    let words = words(alloc, text)?;
     parse(alloc, words.as_slice())
 }
 
-// Words and what they ask for, as `Debug` shows it: all of it where a point ends it, and otherwise how it begins.
-const ASKED: &str = "\
-replay p.csv r.csv => Ok(Replay(Options { workers: 4, users: 1000, stash: 256, turns: 1000, hot: None, places: false, summary: false, \
-pages: \"p.csv\", requests: [\"r.csv\"], script: None })).
-replay --stash 7 --workers 2 p.csv a.csv b.csv => \
-Ok(Replay(Options { workers: 2, users: 1000, stash: 7, turns: 1000, hot: None, places: false, summary: false, \
-pages: \"p.csv\", requests: [\"a.csv\", \"b.csv\"], script: None })).
-replay p.csv --turns=0 a.csv --places --users=9 --script s.csv => \
-Ok(Replay(Options { workers: 4, users: 9, stash: 256, turns: 0, hot: None, places: true, summary: false, \
-pages: \"p.csv\", requests: [\"a.csv\"], script: Some(\"s.csv\") })).
-run p.csv r.csv => \
-Ok(Run(Options { workers: 4, users: 1000, stash: 256, turns: 1000, hot: None, places: false, summary: false, \
-pages: \"p.csv\", requests: [\"r.csv\"], script: None })).
-run --workers=16 --places p.csv --turns 0 a.csv --hot 9 b.csv --summary => \
-Ok(Run(Options { workers: 16, users: 1000, stash: 256, turns: 0, hot: Some(9), places: true, summary: true, \
-pages: \"p.csv\", requests: [\"a.csv\", \"b.csv\"], script: None })).";
+// Words and what they ask for, as `Debug` shows it: all of it where a point ends it, and otherwise how it begins. The
+// least and the greatest value of each option are among them.
+const ASKED: &[(&str, &str)] = &[
+    (
+        "replay p.csv r.csv",
+        "Ok(Replay(Options { workers: 4, users: 1000, stash: 256, turns: 1000, hot: None, places: false, summary: false, \
+         pages: \"p.csv\", requests: [\"r.csv\"], script: None })).",
+    ),
+    (
+        "replay --stash 7 --workers 2 p.csv a.csv b.csv",
+        "Ok(Replay(Options { workers: 2, users: 1000, stash: 7, turns: 1000, hot: None, places: false, summary: false, \
+         pages: \"p.csv\", requests: [\"a.csv\", \"b.csv\"], script: None })).",
+    ),
+    (
+        "replay p.csv --turns=0 a.csv --places --users=9 --script s.csv",
+        "Ok(Replay(Options { workers: 4, users: 9, stash: 256, turns: 0, hot: None, places: true, summary: false, \
+         pages: \"p.csv\", requests: [\"a.csv\"], script: Some(\"s.csv\") })).",
+    ),
+    (
+        "run p.csv r.csv",
+        "Ok(Run(Options { workers: 4, users: 1000, stash: 256, turns: 1000, hot: None, places: false, summary: false, \
+         pages: \"p.csv\", requests: [\"r.csv\"], script: None })).",
+    ),
+    (
+        "run --workers=16 --places p.csv --turns 0 a.csv --hot 9 b.csv --summary",
+        "Ok(Run(Options { workers: 16, users: 1000, stash: 256, turns: 0, hot: Some(9), places: true, summary: true, \
+         pages: \"p.csv\", requests: [\"a.csv\", \"b.csv\"], script: None })).",
+    ),
+    ("replay --workers=1 p.csv r.csv", "Ok(Replay("),
+    ("replay --workers=16 p.csv r.csv", "Ok(Replay("),
+    ("replay --users=1 p.csv r.csv", "Ok(Replay("),
+    ("replay --users=1000000 p.csv r.csv", "Ok(Replay("),
+    ("replay --stash=1 p.csv r.csv", "Ok(Replay("),
+    ("replay --stash=4096 p.csv r.csv", "Ok(Replay("),
+    ("replay --turns=0 p.csv r.csv", "Ok(Replay("),
+    ("replay --turns=1000000 p.csv r.csv", "Ok(Replay("),
+    ("replay --hot=1 p.csv r.csv", "Ok(Replay("),
+    ("replay --hot=1000000 p.csv r.csv", "Ok(Replay("),
+];
 
-// The least and the greatest value of each option.
-const BOUNDS: &str = "\
-replay --workers=1 p.csv r.csv => Ok(Replay(
-replay --workers=16 p.csv r.csv => Ok(Replay(
-replay --users=1 p.csv r.csv => Ok(Replay(
-replay --users=1000000 p.csv r.csv => Ok(Replay(
-replay --stash=1 p.csv r.csv => Ok(Replay(
-replay --stash=4096 p.csv r.csv => Ok(Replay(
-replay --turns=0 p.csv r.csv => Ok(Replay(
-replay --turns=1000000 p.csv r.csv => Ok(Replay(
-replay --hot=1 p.csv r.csv => Ok(Replay(
-replay --hot=1000000 p.csv r.csv => Ok(Replay(";
+// A test that takes them from here has none of them in its proof, as it would with a constant.
+fn all_asked() -> &'static [(&'static str, &'static str)] {
+    ASKED
+}
 
-// One past each, and other words that are wrong: of these lines, the first has none.
-const WRONG: &str = "
-replay --workers=0 p.csv r.csv
-replay --workers=17 p.csv r.csv
-replay --users=0 p.csv r.csv
-replay --users=1000001 p.csv r.csv
-replay --stash=0 p.csv r.csv
-replay --stash=4097 p.csv r.csv
-replay --turns=-1 p.csv r.csv
-replay --turns=1000001 p.csv r.csv
-replay --hot=0 p.csv r.csv
-replay --hot=1000001 p.csv r.csv
-walk p.csv r.csv
-run
-run p.csv
-help
-p.csv r.csv
-replay
-replay p.csv
-run --script s.csv p.csv r.csv
-replay --workers two p.csv r.csv
-replay --workers 1 --workers 2 p.csv r.csv
-replay --hot 1 --hot 2 p.csv r.csv
-replay --places --places p.csv r.csv
-run --places p.csv r.csv --places
-run --places=yes p.csv r.csv
-replay --summary --summary p.csv r.csv
-run p.csv r.csv --summary=yes
-replay --speed 9 p.csv r.csv
-replay p.csv r.csv --script";
+// No words, one past each bound, and other words that are wrong.
+const WRONG: &[&str] = &[
+    "",
+    "replay --workers=0 p.csv r.csv",
+    "replay --workers=17 p.csv r.csv",
+    "replay --users=0 p.csv r.csv",
+    "replay --users=1000001 p.csv r.csv",
+    "replay --stash=0 p.csv r.csv",
+    "replay --stash=4097 p.csv r.csv",
+    "replay --turns=-1 p.csv r.csv",
+    "replay --turns=1000001 p.csv r.csv",
+    "replay --hot=0 p.csv r.csv",
+    "replay --hot=1000001 p.csv r.csv",
+    "walk p.csv r.csv",
+    "run",
+    "run p.csv",
+    "help",
+    "p.csv r.csv",
+    "replay",
+    "replay p.csv",
+    "run --script s.csv p.csv r.csv",
+    "replay --workers two p.csv r.csv",
+    "replay --workers 1 --workers 2 p.csv r.csv",
+    "replay --hot 1 --hot 2 p.csv r.csv",
+    "replay --places --places p.csv r.csv",
+    "run --places p.csv r.csv --places",
+    "run --places=yes p.csv r.csv",
+    "replay --summary --summary p.csv r.csv",
+    "run p.csv r.csv --summary=yes",
+    "replay --speed 9 p.csv r.csv",
+    "replay p.csv r.csv --script",
+];
+
+fn all_wrong() -> &'static [&'static str] {
+    WRONG
+}
 
 // Stops the test unless the words ask for what begins so.
 fn assert_asks(rt: &impl Abort, alloc: Global, words: &str, wanted: &str) {
     let asked = asked(alloc, words);
     let shown = format!(in alloc; "{asked:?}.").expect(rt, "memory");
-    assert!(rt; shown.starts_with(wanted), "{words}: {shown}");
+    assert_that(rt, shown.starts_with(wanted), &shown);
 }
 
 #[test]
 fn right_words(rt: HostRuntime) {
-    for cases in [ASKED, BOUNDS] {
-        for case in cases.lines() {
-            let (words, wanted) = case.split_once(" => ").expect(&rt, "a case");
-            assert_asks(&rt, rt.alloc(), words, wanted);
-        }
+    for (words, wanted) in all_asked() {
+        assert_asks(&rt, rt.alloc(), *words, *wanted);
     }
 }
 
 #[test]
 fn wrong_words(rt: HostRuntime) {
-    for words in WRONG.split('\n') {
-        assert_asks(&rt, rt.alloc(), words, "Err(Usage(");
+    for words in all_wrong() {
+        assert_asks(&rt, rt.alloc(), *words, "Err(Usage(");
     }
 }
 
@@ -100,18 +124,26 @@ const PAST_THE_BOUNDS: &str =
     "error: invalid value '17' for '--workers <N>': 17 is not in 1..=16\n\n\
                                For more information, try '--help'.\n";
 
-// Stops the test unless a fault has this status and line.
-fn assert_told(rt: &impl Abort, alloc: Global, fault: &ParseFault, status: u8, line: &str) {
+// Whether a fault has this status and line.
+fn tells(rt: &impl Abort, alloc: Global, fault: &ParseFault, status: u8, line: &str) -> bool {
     let mut text = Vec::with_capacity(alloc, 256).expect(rt, "memory");
-    assert!(rt; fault.line(&mut text));
-    assert!(rt; fault.status() == status);
-    assert!(rt; text.as_slice() == line.as_bytes());
+    fault.line(&mut text) && fault.status() == status && text.as_slice() == line.as_bytes()
 }
 
 #[test]
 fn faults(rt: HostRuntime) {
-    let alloc = rt.alloc();
-    let fault = asked(alloc, "replay --workers 17 p.csv r.csv").expect_err(&rt, "asked");
-    assert_told(&rt, alloc, &fault, 2, PAST_THE_BOUNDS);
-    assert_told(&rt, alloc, &ParseFault::Memory, 4, "likes: out of memory\n");
+    let fault = asked(rt.alloc(), "replay --workers 17 p.csv r.csv").expect_err(&rt, "asked");
+    assert!(rt;
+        tells(&rt, rt.alloc(), &fault, 2, PAST_THE_BOUNDS),
+        "memory"
+    );
+    assert!(rt;
+        tells(
+            &rt,
+            rt.alloc(),
+            &ParseFault::Memory,
+            4,
+            "likes: out of memory\n"
+        )
+    );
 }

@@ -2,7 +2,7 @@
 ghost use Rattle.std.specs.Prelude.{◌≡◌, length};
 
 use super::places::place;
-use super::texts::{assert_writes, one_page};
+use super::texts::{assert_writes, list, one_page};
 use like_replies::{Place, Replies, Report, write_places};
 use std::alloc::Global;
 use std::process::Abort;
@@ -11,7 +11,7 @@ use std::process::Abort;
 fn report_on(rt: &impl Abort, alloc: Global, places: &[Place]) -> Report
     ensures { length result.places.items ≡ 1 }
 {
-    let places = Vec::from_slice(alloc, places).expect(rt, "memory");
+    let places = list(rt, alloc, places);
     Report {
         logs: Vec::new(alloc),
         replies: Replies {
@@ -52,7 +52,7 @@ fn assert_appends(rt: &impl Abort, alloc: Global, report: &Report)
     requires { length report.now.places.items ≡ 1 }
 {
     let pages = one_page(rt, alloc, "name,count,split\na,0,no\n");
-    let mut out = Vec::from_slice(alloc, b"before\n").expect(rt, "memory");
+    let mut out = list(rt, alloc, b"before\n");
     write_places(alloc, report, &pages, &mut out).expect(rt, "written");
     assert!(rt; out.as_slice() == b"before\nplace,0,0,1,0,a,1\n".as_slice());
 }

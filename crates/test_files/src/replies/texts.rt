@@ -1,5 +1,5 @@
 //! The text of a report, on a writer in memory and on one that fails.
-ghost use Rattle.std.specs.Prelude.{◌≡◌, List, false, length, map};
+ghost use Rattle.std.specs.Prelude.{◌≡◌, ◌∷◌, List, [], false, length, map};
 ghost use Rattle.like_requests.specs.Pages.{Page};
 ghost use Rattle.like_service.specs.declared.reply.Reply.TheVariants.{Refused};
 ghost use Rattle.like_replies.specs.Reported.{Reported, reported};
@@ -14,13 +14,20 @@ use std::process::Abort;
 /// The header row.
 pub const HEADER: &str = "row,id,number,phase,answer,page,count\n";
 
-// The page of a file with one.
+/// The page of a file with one.
 pub fn one_page(rt: &impl Abort, alloc: Global, text: &str) -> Pages
     ensures { length result ≡ 1 }
 {
     let pages = read_pages(alloc, text.as_bytes()).expect(rt, "pages");
     assert!(rt; pages.len() == 1);
     pages
+}
+
+/// A list of these.
+pub fn list<T: Copy + Drop>(rt: &impl Abort, alloc: Global, items: &[T]) -> Vec<T>
+    ensures { result.items ≡ items.now }
+{
+    Vec::from_slice(alloc, items).expect(rt, "memory")
 }
 
 // A report on one page of this count.
@@ -70,28 +77,28 @@ fn refused(verdict: Verdict) -> Answer
 fn verdicts_report(rt: &impl Abort, alloc: Global) -> Report
     ensures { (pages : List Page) → length pages ≡ 1 → IsWritable pages (reported result) }
 {
-    let first = vec![in alloc;
+    let refused = [
         refused(Verdict::UnknownUser),
         refused(Verdict::OtherHome),
         refused(Verdict::UnknownPage),
         refused(Verdict::UnknownUser),
-    ]
-    .expect(rt, "memory");
+    ];
+    let first = list(rt, alloc, &refused);
     let rows = vec![in alloc; first, Vec::new(alloc)].expect(rt, "memory");
-    let counts = vec![in alloc; 10].expect(rt, "memory");
-    let last = vec![in alloc; None, None].expect(rt, "memory");
+    let counts = list(rt, alloc, &[10]);
+    let last = list(rt, alloc, &[None, None]);
     report(alloc, rows, counts, last, 0, Vec::new(alloc))
 }
 
 // The report on a like in this phase, of so many phases, of which these had hot pages.
-fn like_report(rt: &impl Abort, alloc: Global, phase: u32, phases: u32, hot: Vec<Chosen>) -> Report
+fn like_report(rt: &impl Abort, alloc: Global, phase: u32, phases: u32, hot: &[Chosen]) -> Report
     ensures { (pages : List Page) → length pages ≡ 1 → IsWritable pages (reported result) }
 {
-    let first = vec![in alloc; answer(phase, Reply::Liked)].expect(rt, "memory");
+    let first = list(rt, alloc, &[answer(phase, Reply::Liked)]);
     let rows = vec![in alloc; first].expect(rt, "memory");
-    let counts = vec![in alloc; 1].expect(rt, "memory");
-    let last = vec![in alloc; Some(0)].expect(rt, "memory");
-    report(alloc, rows, counts, last, phases, hot)
+    let counts = list(rt, alloc, &[1]);
+    let last = list(rt, alloc, &[Some(0)]);
+    report(alloc, rows, counts, last, phases, list(rt, alloc, hot))
 }
 
 // The report on a like in phase 1, and on a look that waited for phase 2.
@@ -103,10 +110,10 @@ fn stashed_report(rt: &impl Abort, alloc: Global) -> Report
         stashed: true,
         ..answer(2, Reply::Seen { last, count: 11 })
     };
-    let first = vec![in alloc; answer(1, Reply::Liked), seen].expect(rt, "memory");
+    let first = list(rt, alloc, &[answer(1, Reply::Liked), seen]);
     let rows = vec![in alloc; first].expect(rt, "memory");
-    let counts = vec![in alloc; 11].expect(rt, "memory");
-    let last = vec![in alloc; Some(0), None].expect(rt, "memory");
+    let counts = list(rt, alloc, &[11]);
+    let last = list(rt, alloc, &[last, None]);
     report(alloc, rows, counts, last, 4, Vec::new(alloc))
 }
 
@@ -120,15 +127,9 @@ pub fn assert_writes<F: Fn(&mut &mut [u8]) -> Result<(), WriteFault>>(
     requires { F.IsAlwaysCallable write }
 {
     for bytes in 0..text.len() {
-        assert!(rt;
-            fails_within(rt, alloc, bytes, &write),
-            "where {bytes} bytes fit"
-        );
+        assert!(rt; fails_within(rt, alloc, bytes, &write));
     }
-    let mut room = vec![in alloc; 0; text.len()].expect(rt, "memory");
-    let mut out = room.as_mut_slice();
-    assert!(rt; write(&mut out).is_ok());
-    assert!(rt; room.as_slice() == text.as_bytes());
+    assert!(rt; fills(rt, alloc, text.as_bytes(), &write));
 }
 
 // Whether a write fails where there is room for so many bytes.
@@ -145,77 +146,93 @@ fn fails_within<F: Fn(&mut &mut [u8]) -> Result<(), WriteFault>>(
     matches!(write(&mut out), Err(WriteFault::Write))
 }
 
-// Asserts that a report on the page of a file is written as the header row and these.
-fn assert_written(rt: &impl Abort, alloc: Global, file: &str, report: &Report, rows: &str)
+// Whether a text is written where there is room for just that.
+fn fills<F: Fn(&mut &mut [u8]) -> Result<(), WriteFault>>(
+    rt: &impl Abort,
+    alloc: Global,
+    text: &[u8],
+    write: &F,
+) -> bool
+    requires { F.IsAlwaysCallable write.now }
+{
+    let mut room = vec![in alloc; 0; text.len()].expect(rt, "memory");
+    let mut out = room.as_mut_slice();
+    write(&mut out).is_ok() && room.as_slice() == text
+}
+
+// Asserts that a report on the page of a file is written as this text.
+fn assert_written(rt: &impl Abort, alloc: Global, file: &str, report: &Report, text: &str)
     requires { (pages : List Page) → length pages ≡ 1 → IsWritable pages (reported report.now) }
 {
     let pages = one_page(rt, alloc, file);
-    let text = format!(in alloc; "{HEADER}{rows}").expect(rt, "memory");
-    assert_writes(rt, alloc, &text, |out| {
+    assert_writes(rt, alloc, text, |out| {
         write_report(alloc, report, &pages, out)
     });
 }
 
+// The same, of a report that is no longer used.
+fn assert_report(rt: &impl Abort, alloc: Global, file: &str, report: Report, text: &str)
+    requires { (pages : List Page) → length pages ≡ 1 → IsWritable pages (reported report) }
+{
+    assert_written(rt, alloc, file, &report, text);
+}
+
 #[test]
 fn verdicts(rt: HostRuntime) {
+    let text =
+        "row,id,number,phase,answer,page,count\nreply,0,1,0,unknown-user,,\nreply,0,2,0,other-home,,\n\
+         reply,0,3,0,unknown-page,,\nreply,0,4,0,unknown-user,,\npage,0,,,,a,10\n";
     let report = verdicts_report(&rt, rt.alloc());
-    let rows = "reply,0,1,0,unknown-user,,\nreply,0,2,0,other-home,,\nreply,0,3,0,unknown-page,,\n\
-         reply,0,4,0,unknown-user,,\npage,0,,,,a,10\n";
-    assert_written(
-        &rt,
-        rt.alloc(),
-        "name,count,split\na,10,no\n",
-        &report,
-        rows,
-    );
+    assert_report(&rt, rt.alloc(), "name,count,split\na,10,no\n", report, text);
 }
 
 #[test]
 fn quoted_names(rt: HostRuntime) {
     let file = "name,count,split\r\n\"x,\"\"y\"\"\",0,no\r\n";
-    let report = like_report(&rt, rt.alloc(), 0, 0, Vec::new(rt.alloc()));
-    let rows = "reply,0,1,0,liked,,\npage,0,,,,\"x,\"\"y\"\"\",1\nuser,0,,,,\"x,\"\"y\"\"\",\n";
-    assert_written(&rt, rt.alloc(), file, &report, rows);
+    let text = "row,id,number,phase,answer,page,count\nreply,0,1,0,liked,,\n\
+         page,0,,,,\"x,\"\"y\"\"\",1\nuser,0,,,,\"x,\"\"y\"\"\",\n";
+    let report = like_report(&rt, rt.alloc(), 0, 0, &[]);
+    assert_report(&rt, rt.alloc(), file, report, text);
 }
 
 #[test]
 fn split_and_stash(rt: HostRuntime) {
+    let text = "row,id,number,phase,answer,page,count\nreply,0,1,1,liked,,\nreply,0,2,2,seen,a,11\n\
+         page,0,,,,a,11\nuser,0,,,,a,\n";
     let report = stashed_report(&rt, rt.alloc());
-    let rows = "reply,0,1,1,liked,,\nreply,0,2,2,seen,a,11\npage,0,,,,a,11\nuser,0,,,,a,\n";
-    assert_written(
+    assert_report(
         &rt,
         rt.alloc(),
         "name,count,split\na,10,yes\n",
-        &report,
-        rows,
+        report,
+        text,
     );
 }
 
 #[test]
 fn hot_pages(rt: HostRuntime) {
-    let hot = vec![in rt.alloc();
-        Chosen { phase: 3, mask: 1 },
-        Chosen { phase: 5, mask: 1 },
-    ].expect(&rt, "memory");
-    let report = like_report(&rt, rt.alloc(), 1, 6, hot);
-    let rows = "reply,0,1,1,liked,,\npage,0,,,,a,1\nuser,0,,,,a,\nhot,0,,3,,a,\nhot,0,,5,,a,\n";
-    assert_written(&rt, rt.alloc(), "name,count,split\na,0,no\n", &report, rows);
+    let text =
+        "row,id,number,phase,answer,page,count\nreply,0,1,1,liked,,\npage,0,,,,a,1\nuser,0,,,,a,\n\
+         hot,0,,3,,a,\nhot,0,,5,,a,\n";
+    let hot = [Chosen { phase: 3, mask: 1 }, Chosen { phase: 5, mask: 1 }];
+    let report = like_report(&rt, rt.alloc(), 1, 6, &hot);
+    assert_report(&rt, rt.alloc(), "name,count,split\na,0,no\n", report, text);
 }
 
 // Asserts that a report with this text is written behind what was in the writer.
-fn assert_appends(rt: &impl Abort, alloc: Global, report: &Report, rows: &str)
+fn assert_appends(rt: &impl Abort, alloc: Global, report: &Report, text: &str)
     requires { (pages : List Page) → length pages ≡ 1 → IsWritable pages (reported report.now) }
 {
     let pages = one_page(rt, alloc, "name,count,split\na,10,no\n");
-    let text = format!(in alloc; "before\n{HEADER}{rows}").expect(rt, "memory");
-    let mut out = Vec::from_slice(alloc, b"before\n").expect(rt, "memory");
+    let mut out = list(rt, alloc, b"before\n");
     write_report(alloc, report, &pages, &mut out).expect(rt, "written");
     assert!(rt; out.as_slice() == text.as_bytes());
 }
 
 #[test]
 fn appends(rt: HostRuntime) {
-    let report = like_report(&rt, rt.alloc(), 0, 0, Vec::new(rt.alloc()));
-    let rows = "reply,0,1,0,liked,,\npage,0,,,,a,1\nuser,0,,,,a,\n";
-    assert_appends(&rt, rt.alloc(), &report, rows);
+    let text =
+        "before\nrow,id,number,phase,answer,page,count\nreply,0,1,0,liked,,\npage,0,,,,a,1\nuser,0,,,,a,\n";
+    let report = like_report(&rt, rt.alloc(), 0, 0, &[]);
+    assert_appends(&rt, rt.alloc(), &report, text);
 }

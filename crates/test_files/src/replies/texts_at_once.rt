@@ -20,9 +20,8 @@ fn liked(rt: &impl Abort, alloc: Global, count: usize) -> Replies
         map (λ row. row.items) result.rows.items ≡ replicate count like ∷ [] }
 {
     let answers = vec![in alloc; answer(0, Reply::Liked); count].expect(rt, "memory");
-    Replies {
-        rows: vec![in alloc; answers].expect(rt, "memory"),
-    }
+    let rows = vec![in alloc; answers].expect(rt, "memory");
+    Replies { rows }
 }
 
 // So many places on the only page.
@@ -102,7 +101,7 @@ fn assert_text(
     requires placed { length report.now.places.items ≡ 1 }
 {
     let pages = one_page(rt, alloc, "name,count,split\na,0,no\n");
-    let mut out = Vec::with_capacity(alloc, text.len()).expect(rt, "memory");
+    let mut out = Vec::new(alloc);
     write_text_at_once(rt, alloc, places, report, &pages, &mut out).expect(rt, "written");
     assert!(rt; out.as_slice() == text.as_bytes());
 }

@@ -1,5 +1,6 @@
 //! What help says.
 use super::asked;
+use crate::files::assert_that;
 use like_command::Asked;
 use std::alloc::Global;
 use std::process::Abort;
@@ -12,76 +13,121 @@ fn help(rt: &impl Abort, alloc: Global, words: &str) -> String {
     }
 }
 
-// Whether a line of a text says what this is: it stands first, and two spaces or more behind it.
+// Whether a line says what this is: it stands first, and two spaces or more behind it.
+fn begins_with(line: &str, what: &str) -> bool {
+    match line.trim_start().split_once("  ") {
+        Some((first, _)) => first == what,
+        None => false,
+    }
+}
+
+// Whether a line of a text says what this is.
 fn explains(text: &str, what: &str) -> bool {
     for line in text.lines() {
-        if let Some((first, _)) = line.trim_start().split_once("  ") {
-            if first == what {
-                return true;
-            }
+        if begins_with(line, what) {
+            return true;
         }
     }
     false
 }
 
 // The columns of the files and the report, the answers and the options.
-const COLUMNS: &str = "name,count,split,op,user,page,row,id,number,phase,answer,\
-                       liked,seen,unknown-user,other-home,unknown-page,\
-                       --workers <N>,--users <U>,--stash <C>,--turns <T>,--hot <H>,--places";
+const COLUMNS: &[&str] = &[
+    "name",
+    "count",
+    "split",
+    "op",
+    "user",
+    "page",
+    "row",
+    "id",
+    "number",
+    "phase",
+    "answer",
+    "liked",
+    "seen",
+    "unknown-user",
+    "other-home",
+    "unknown-page",
+    "--workers <N>",
+    "--users <U>",
+    "--stash <C>",
+    "--turns <T>",
+    "--hot <H>",
+    "--places",
+];
 
 // What a script is, of a replay alone.
-const SCRIPT: &str = "--script <FILE>;open,S;worker,W;coordinator,0";
+const SCRIPT: &[&str] = &["--script <FILE>", "open,S", "worker,W", "coordinator,0"];
 
 // The words and statuses.
-const WORDS: &str = "run,replay,0,2,3,4,5";
+const WORDS: &[&str] = &["run", "replay", "0", "2", "3", "4", "5"];
 
-const HEADERS_AND_DEFAULTS: &str =
-    "name,count,split;op,user,page;row,id,number,phase,answer,page,count;[default: 4];[default: 1000];[default: 256]";
-
-// Words, a list, what stands between its items, and whether the help of the words explains each item.
-const EXPLAINED: &[(&str, &str, char, bool)] = &[
-    ("run --help", COLUMNS, ',', true),
-    ("replay -h", COLUMNS, ',', true),
-    ("replay p.csv --help", COLUMNS, ',', true),
-    ("replay --help", SCRIPT, ';', true),
-    ("run --help", SCRIPT, ';', false),
-    ("--help", WORDS, ',', true),
+// Words, and whether the help that they ask for explains each item of a list.
+const EXPLAINED: &[(&str, &[&str], bool)] = &[
+    ("run --help", COLUMNS, true),
+    ("replay -h", COLUMNS, true),
+    ("replay p.csv --help", COLUMNS, true),
+    ("replay --help", SCRIPT, true),
+    ("run --help", SCRIPT, false),
+    ("--help", WORDS, true),
 ];
 
 // A test that takes them from here has none of their texts in its proof, as it would with a constant.
-fn all_explained() -> &'static [(&'static str, &'static str, char, bool)] {
+fn all_explained() -> &'static [(&'static str, &'static [&'static str], bool)] {
     EXPLAINED
+}
+
+fn assert_explains(rt: &impl Abort, text: &str, list: &[&str], is_explained: bool) {
+    for what in list {
+        assert_that(rt, explains(text, *what) == is_explained, *what);
+    }
 }
 
 #[test]
 fn explains_each_word(rt: HostRuntime) {
-    for (words, list, separator, is_explained) in all_explained() {
-        let text = help(&rt, rt.alloc(), words);
-        for what in list.split(*separator) {
-            assert!(rt;
-                explains(text.as_str(), what) == *is_explained,
-                "{words}: {what}"
-            );
-        }
+    for (words, list, is_explained) in all_explained() {
+        let text = help(&rt, rt.alloc(), *words);
+        assert_explains(&rt, &text, *list, *is_explained);
+    }
+}
+
+const HEADERS_AND_DEFAULTS: &[&str] = &[
+    "name,count,split",
+    "op,user,page",
+    "row,id,number,phase,answer,page,count",
+    "[default: 4]",
+    "[default: 1000]",
+    "[default: 256]",
+];
+
+fn headers_and_defaults() -> &'static [&'static str] {
+    HEADERS_AND_DEFAULTS
+}
+
+fn assert_says(rt: &impl Abort, text: &str, parts: &[&str]) {
+    for part in parts {
+        assert_that(rt, text.contains(*part), *part);
     }
 }
 
 #[test]
 fn says_the_headers_and_the_defaults(rt: HostRuntime) {
-    for words in ["run --help", "replay --help"] {
-        let text = help(&rt, rt.alloc(), words);
-        for part in HEADERS_AND_DEFAULTS.split(';') {
-            assert!(rt; text.as_str().contains(part), "{words}: {part}");
-        }
+    for words in &["run --help", "replay --help"] {
+        let text = help(&rt, rt.alloc(), *words);
+        assert_says(&rt, &text, headers_and_defaults());
+    }
+}
+
+fn assert_narrow(rt: &impl Abort, text: &str) {
+    for line in text.lines() {
+        assert_that(rt, line.len() <= 80, line);
     }
 }
 
 #[test]
 fn has_lines_of_eighty_columns(rt: HostRuntime) {
-    for words in ["--help", "run --help", "replay --help"] {
-        let text = help(&rt, rt.alloc(), words);
-        for line in text.as_str().lines() {
-            assert!(rt; line.len() <= 80, "{line}");
-        }
+    for words in &["--help", "run --help", "replay --help"] {
+        assert_narrow(&rt, &help(&rt, rt.alloc(), *words));
     }
 }
