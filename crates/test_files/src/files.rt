@@ -6,8 +6,8 @@ mod cases;
 mod limits;
 mod refused;
 
-use crate::records::csv_cases;
-use cases::{Case, Kind, changed, files, prefixes, reads};
+use crate::records::csv;
+use cases::{Case, Kind, changed, pages_files, prefixes, reads, request_files, scripts};
 use like_requests::{Pages, PagesFault, Request, RequestsFault, read_pages, read_requests};
 use like_script::read_script;
 use std::alloc::{AllocError, Global};
@@ -91,12 +91,18 @@ fn is_answered(rt: &impl Abort, alloc: Global, kind: Kind, file: &[u8], wanted: 
     answer(rt, alloc, kind, file).as_str() == wanted
 }
 
+fn assert_read(rt: &impl Abort, alloc: Global, cases: &[Case]) {
+    for (kind, file, wanted) in cases {
+        let answer = answer(rt, alloc, *kind, *file);
+        assert_that(rt, answer.as_str() == *wanted, &answer);
+    }
+}
+
 #[test]
 fn reads_files(rt: HostRuntime) {
-    for (kind, file, wanted) in files() {
-        let answer = answer(&rt, rt.alloc(), *kind, *file);
-        assert_that(&rt, answer.as_str() == *wanted, &answer);
-    }
+    assert_read(&rt, rt.alloc(), pages_files());
+    assert_read(&rt, rt.alloc(), request_files());
+    assert_read(&rt, rt.alloc(), scripts());
 }
 
 fn two_pages() -> &'static [u8] {
@@ -161,26 +167,21 @@ fn a_read_that_fails(rt: HostRuntime) {
     assert_answers(&rt, rt.alloc(), reads(), true);
 }
 
-// Stops the test unless a file is read the same at once and byte by byte: as is wanted, unless it is changed.
-fn assert_both_ways(rt: &impl Abort, alloc: Global, kind: Kind, file: &[u8], wanted: Option<&str>) {
+// Stops the test unless a file is read the same at once and byte by byte, and the good file as is wanted.
+fn assert_both_ways(rt: &impl Abort, alloc: Global, file: &[u8], good: &Case) {
+    let (kind, good, wanted) = *good;
     let whole = answer(rt, alloc, kind, file);
     let bytewise = answer(rt, alloc, kind, Trickle::new(file, 1_000));
     assert!(rt; bytewise == whole);
-    assert!(rt; wanted.is_none_or(|wanted| whole.as_str() == wanted));
+    assert!(rt; file != good || whole.as_str() == wanted);
 }
 
-// A file with a byte replaced by each other one in turn.
-fn assert_replaced(rt: &impl Abort, alloc: Global, case: &Case, place: usize) {
-    let (kind, file, wanted) = *case;
-    let mut replaced = Vec::from_slice(alloc, file).expect(rt, "memory");
+// The same of a good file with a byte replaced by each other one in turn.
+fn assert_replaced(rt: &impl Abort, alloc: Global, good: &Case, place: usize) {
+    let mut replaced = Vec::from_slice(alloc, good.1).expect(rt, "memory");
     for byte in 0..=255 {
         *replaced.get_mut(place).expect(rt, "a place") = byte;
-        let wanted = if replaced.as_slice() == file {
-            Some(wanted)
-        } else {
-            None
-        };
-        assert_both_ways(rt, alloc, kind, &replaced, wanted);
+        assert_both_ways(rt, alloc, &replaced, good);
     }
 }
 
@@ -194,11 +195,16 @@ fn a_byte_that_is_changed(rt: HostRuntime) {
     }
 }
 
+fn assert_headless(rt: &impl Abort, alloc: Global, cases: &[csv::Case]) {
+    for (file, _) in cases {
+        assert!(rt; is_headless(rt, alloc, *file));
+    }
+}
+
 #[test]
 fn a_file_of_another_kind(rt: HostRuntime) {
-    for (file, _) in csv_cases() {
-        assert!(rt; is_headless(&rt, rt.alloc(), *file));
-    }
+    assert_headless(&rt, rt.alloc(), csv::plain());
+    assert_headless(&rt, rt.alloc(), csv::quoted());
 }
 
 // Whether a file is refused by its header, whatever kind it is read as.

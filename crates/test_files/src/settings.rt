@@ -30,8 +30,8 @@ fn like_of(page: u32) -> Request {
 }
 
 // Workers, users, places of the stash and turns; likes of a hot page, if pages are chosen; submitters, how many likes
-// each of these has, and the page of those of submitter 0; and the answer. There is one page, so a like of another is at
-// fault.
+// each of these has, and the page of those of submitter 0; and the answer. There is one page, so a like of another is
+// at fault.
 type Case = ([u32; 4], Option<u32>, [u32; 3], Result<(), SettingsFault>);
 
 const SETTINGS: &[Case] = &[

@@ -19,46 +19,34 @@ fn asked(alloc: Global, text: &str) -> Result<Asked, ParseFault> {
 
 // Words and what they ask for, as `Debug` shows it: all of it where a point ends it, and otherwise how it begins. The
 // least and the greatest value of each option are among them.
-const ASKED: &[(&str, &str)] = &[
-    (
-        "replay p.csv r.csv",
-        "Ok(Replay(Options { workers: 4, users: 1000, stash: 256, turns: 1000, hot: None, places: false, summary: false, \
-         pages: \"p.csv\", requests: [\"r.csv\"], script: None })).",
-    ),
-    (
-        "replay --stash 7 --workers 2 p.csv a.csv b.csv",
-        "Ok(Replay(Options { workers: 2, users: 1000, stash: 7, turns: 1000, hot: None, places: false, summary: false, \
-         pages: \"p.csv\", requests: [\"a.csv\", \"b.csv\"], script: None })).",
-    ),
-    (
-        "replay p.csv --turns=0 a.csv --places --users=9 --script s.csv",
-        "Ok(Replay(Options { workers: 4, users: 9, stash: 256, turns: 0, hot: None, places: true, summary: false, \
-         pages: \"p.csv\", requests: [\"a.csv\"], script: Some(\"s.csv\") })).",
-    ),
-    (
-        "run p.csv r.csv",
-        "Ok(Run(Options { workers: 4, users: 1000, stash: 256, turns: 1000, hot: None, places: false, summary: false, \
-         pages: \"p.csv\", requests: [\"r.csv\"], script: None })).",
-    ),
-    (
-        "run --workers=16 --places p.csv --turns 0 a.csv --hot 9 b.csv --summary",
-        "Ok(Run(Options { workers: 16, users: 1000, stash: 256, turns: 0, hot: Some(9), places: true, summary: true, \
-         pages: \"p.csv\", requests: [\"a.csv\", \"b.csv\"], script: None })).",
-    ),
-    ("replay --workers=1 p.csv r.csv", "Ok(Replay("),
-    ("replay --workers=16 p.csv r.csv", "Ok(Replay("),
-    ("replay --users=1 p.csv r.csv", "Ok(Replay("),
-    ("replay --users=1000000 p.csv r.csv", "Ok(Replay("),
-    ("replay --stash=1 p.csv r.csv", "Ok(Replay("),
-    ("replay --stash=4096 p.csv r.csv", "Ok(Replay("),
-    ("replay --turns=0 p.csv r.csv", "Ok(Replay("),
-    ("replay --turns=1000000 p.csv r.csv", "Ok(Replay("),
-    ("replay --hot=1 p.csv r.csv", "Ok(Replay("),
-    ("replay --hot=1000000 p.csv r.csv", "Ok(Replay("),
-];
+const ASKED: &str = "\
+replay p.csv r.csv => Ok(Replay(Options { workers: 4, users: 1000, stash: 256, turns: 1000, hot: None, places: false, summary: false, \
+pages: \"p.csv\", requests: [\"r.csv\"], script: None })).
+replay --stash 7 --workers 2 p.csv a.csv b.csv => \
+Ok(Replay(Options { workers: 2, users: 1000, stash: 7, turns: 1000, hot: None, places: false, summary: false, \
+pages: \"p.csv\", requests: [\"a.csv\", \"b.csv\"], script: None })).
+replay p.csv --turns=0 a.csv --places --users=9 --script s.csv => \
+Ok(Replay(Options { workers: 4, users: 9, stash: 256, turns: 0, hot: None, places: true, summary: false, \
+pages: \"p.csv\", requests: [\"a.csv\"], script: Some(\"s.csv\") })).
+run p.csv r.csv => \
+Ok(Run(Options { workers: 4, users: 1000, stash: 256, turns: 1000, hot: None, places: false, summary: false, \
+pages: \"p.csv\", requests: [\"r.csv\"], script: None })).
+run --workers=16 --places p.csv --turns 0 a.csv --hot 9 b.csv --summary => \
+Ok(Run(Options { workers: 16, users: 1000, stash: 256, turns: 0, hot: Some(9), places: true, summary: true, \
+pages: \"p.csv\", requests: [\"a.csv\", \"b.csv\"], script: None })).
+replay --workers=1 p.csv r.csv => Ok(Replay(
+replay --workers=16 p.csv r.csv => Ok(Replay(
+replay --users=1 p.csv r.csv => Ok(Replay(
+replay --users=1000000 p.csv r.csv => Ok(Replay(
+replay --stash=1 p.csv r.csv => Ok(Replay(
+replay --stash=4096 p.csv r.csv => Ok(Replay(
+replay --turns=0 p.csv r.csv => Ok(Replay(
+replay --turns=1000000 p.csv r.csv => Ok(Replay(
+replay --hot=1 p.csv r.csv => Ok(Replay(
+replay --hot=1000000 p.csv r.csv => Ok(Replay(";
 
 // A test that takes them from here has none of them in its proof, as it would with a constant.
-fn all_asked() -> &'static [(&'static str, &'static str)] {
+fn all_asked() -> &'static str {
     ASKED
 }
 
@@ -108,8 +96,9 @@ fn assert_asks(rt: &impl Abort, alloc: Global, words: &str, wanted: &str) {
 
 #[test]
 fn right_words(rt: HostRuntime) {
-    for (words, wanted) in all_asked() {
-        assert_asks(&rt, rt.alloc(), *words, *wanted);
+    for case in all_asked().lines() {
+        let (words, wanted) = case.split_once(" => ").expect(&rt, "a case");
+        assert_asks(&rt, rt.alloc(), words, wanted);
     }
 }
 

@@ -12,13 +12,13 @@ pub enum Kind {
 /// A file, and what it is read as.
 pub type Case = (Kind, &'static [u8], &'static str);
 
-/// Whole files. Limits are among them: a count of 10^18, a name of 64 bytes, the greatest user. A test that takes the
-/// cases from here has none of them in its proof.
-pub fn files() -> &'static [Case] {
-    FILES
+/// Whole pages files. Limits are among them: a count of 10^18, a name of 64 bytes. A test that takes the cases from
+/// here has none of them in its proof.
+pub fn pages_files() -> &'static [Case] {
+    PAGES_FILES
 }
 
-const FILES: &[Case] = &[
+const PAGES_FILES: &[Case] = &[
     (
         Pages,
         b"name,count,split\r\n\"x,\"\"y\"\"\",0,no\r\nb,0001000000000000000,yes",
@@ -69,6 +69,14 @@ const FILES: &[Case] = &[
         b"name,count,split\n0123456789abcdef0123456789abcdef0123456789abcdef0123456789abcdefg,0,no\n",
         "Err(Name { row: 1 })",
     ),
+];
+
+/// Whole request files. The greatest user is among them.
+pub fn request_files() -> &'static [Case] {
+    REQUEST_FILES
+}
+
+const REQUEST_FILES: &[Case] = &[
     (Requests, b"", "Err(Header)"),
     (Requests, b"op,user,page\n", "Ok([])"),
     (
@@ -102,6 +110,14 @@ const FILES: &[Case] = &[
         b"op,user,page\nlike,0,\xff\n",
         "Ok([Request { op: Like, user: 0, page: Unknown }])",
     ),
+];
+
+/// Whole scripts.
+pub fn scripts() -> &'static [Case] {
+    SCRIPTS
+}
+
+const SCRIPTS: &[Case] = &[
     (Script, b"", "Err(Line { row: 0 })"),
     (Script, b"turn,index\n", "Ok([])"),
     (
@@ -155,7 +171,8 @@ const PREFIXES: &[Case] = &[
     (
         Requests,
         b"op,user,page\nlike,0,a\n",
-        "0: Err(Header) 12: Ok([]) 14: Err(Fields { row: 1 }) 20: Ok([Request { op: Like, user: 0, page: Unknown }]) 21: Ok([Request { op: Like, user: 0, page: Known(0) }])",
+        "0: Err(Header) 12: Ok([]) 14: Err(Fields { row: 1 }) 20: Ok([Request { op: Like, user: 0, page: Unknown }]) \
+         21: Ok([Request { op: Like, user: 0, page: Known(0) }])",
     ),
     (
         Script,

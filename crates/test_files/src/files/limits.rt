@@ -26,7 +26,10 @@ fn pages(rt: &impl Abort, alloc: Global, pages: u32) -> Result<Pages, PagesFault
 
 // Whether there are so many, and memory for them.
 fn has_length<T: Drop>(list: &Result<Vec<T>, AllocError>, length: usize) -> bool {
-    list.as_ref().is_ok_and(|list| list.len() == length)
+    match list {
+        Ok(list) => list.len() == length,
+        Err(_) => false,
+    }
 }
 
 #[test]

@@ -1,10 +1,15 @@
-/// Texts of CSV, with what RFC 4180 and the tests of the Rust crate `csv-core` read in them: `|` ends a field and `;` a
-/// record. A test that takes them from here has none of them in its proof.
-pub fn csv_cases() -> &'static [(&'static [u8], &'static [u8])] {
-    CASES
+//! Texts of CSV, with what RFC 4180 and the tests of the Rust crate `csv-core` read in them: `|` ends a field and `;` a
+//! record.
+
+/// A text, and its records.
+pub type Case = (&'static [u8], &'static [u8]);
+
+/// Texts of plain fields. A test that takes them from here has none of them in its proof.
+pub fn plain() -> &'static [Case] {
+    PLAIN
 }
 
-const CASES: &[(&[u8], &[u8])] = &[
+const PLAIN: &[Case] = &[
     (b"", b""),
     (b"a", b"a|;"),
     (b"a,b,c", b"a|b|c|;"),
@@ -31,6 +36,14 @@ const CASES: &[(&[u8], &[u8])] = &[
         b"\n\r\na,b\r\n\n\r\nx,y\r\n\n\r\nm,n\r\n",
         b"a|b|;x|y|;m|n|;",
     ),
+];
+
+/// Texts with byte order marks and quoted fields.
+pub fn quoted() -> &'static [Case] {
+    QUOTED
+}
+
+const QUOTED: &[Case] = &[
     (b"\xef\xbb\xbfa", b"a|;"),
     (b"a\xef\xbb\xbf", b"a\xef\xbb\xbf|;"),
     (b"a,\xef\xbb\xbfb", b"a|\xef\xbb\xbfb|;"),
