@@ -6,7 +6,7 @@ mod cases;
 mod limits;
 mod refused;
 
-use crate::records::csv;
+use crate::records::{bytes, csv_cases};
 use cases::{Case, Kind, changed, pages_files, prefixes, reads, request_files, scripts};
 use like_requests::{Pages, PagesFault, Request, RequestsFault, read_pages, read_requests};
 use like_script::read_script;
@@ -91,18 +91,21 @@ fn is_answered(rt: &impl Abort, alloc: Global, kind: Kind, file: &[u8], wanted: 
     answer(rt, alloc, kind, file).as_str() == wanted
 }
 
-fn assert_read(rt: &impl Abort, alloc: Global, cases: &[Case]) {
-    for (kind, file, wanted) in cases {
-        let answer = answer(rt, alloc, *kind, *file);
-        assert_that(rt, answer.as_str() == *wanted, &answer);
+// Stops the test unless each file of a kind is read as is wanted.
+fn assert_read(rt: &impl Abort, alloc: Global, kind: Kind, cases: &str) {
+    for case in cases.lines() {
+        let (file, wanted) = case.split_once('|').expect(rt, "a case");
+        let file = bytes(rt, alloc, file);
+        let answer = answer(rt, alloc, kind, file.as_slice());
+        assert_that(rt, answer.as_str() == wanted, &answer);
     }
 }
 
 #[test]
 fn reads_files(rt: HostRuntime) {
-    assert_read(&rt, rt.alloc(), pages_files());
-    assert_read(&rt, rt.alloc(), request_files());
-    assert_read(&rt, rt.alloc(), scripts());
+    assert_read(&rt, rt.alloc(), Kind::Pages, pages_files());
+    assert_read(&rt, rt.alloc(), Kind::Requests, request_files());
+    assert_read(&rt, rt.alloc(), Kind::Script, scripts());
 }
 
 fn two_pages() -> &'static [u8] {
@@ -195,21 +198,18 @@ fn a_byte_that_is_changed(rt: HostRuntime) {
     }
 }
 
-fn assert_headless(rt: &impl Abort, alloc: Global, cases: &[csv::Case]) {
-    for (file, _) in cases {
-        assert!(rt; is_headless(rt, alloc, *file));
+#[test]
+fn a_file_of_another_kind(rt: HostRuntime) {
+    for case in csv_cases().lines() {
+        assert_that(&rt, is_headless(&rt, rt.alloc(), case), case);
     }
 }
 
-#[test]
-fn a_file_of_another_kind(rt: HostRuntime) {
-    assert_headless(&rt, rt.alloc(), csv::plain());
-    assert_headless(&rt, rt.alloc(), csv::quoted());
-}
-
-// Whether a file is refused by its header, whatever kind it is read as.
-fn is_headless(rt: &impl Abort, alloc: Global, file: &[u8]) -> bool {
-    is_answered(rt, alloc, Kind::Pages, file, "Err(Header)")
-        && is_answered(rt, alloc, Kind::Requests, file, "Err(Header)")
-        && is_answered(rt, alloc, Kind::Script, file, "Err(Line { row: 0 })")
+// Whether the file of a case is refused by its header, whatever kind it is read as.
+fn is_headless(rt: &impl Abort, alloc: Global, case: &str) -> bool {
+    let (text, _) = case.split_once("=>").expect(rt, "a case");
+    let file = bytes(rt, alloc, text);
+    is_answered(rt, alloc, Kind::Pages, &file, "Err(Header)")
+        && is_answered(rt, alloc, Kind::Requests, &file, "Err(Header)")
+        && is_answered(rt, alloc, Kind::Script, &file, "Err(Line { row: 0 })")
 }

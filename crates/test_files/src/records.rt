@@ -1,6 +1,8 @@
 //! What is read of the records of a file, and of numbers.
-pub mod csv;
+mod csv;
 
+use crate::files::assert_that;
+pub use csv::csv_cases;
 use like_records::{Records, RecordsFault, decimal};
 use std::alloc::Global;
 use std::io::Read;
@@ -62,37 +64,59 @@ fn written<R: Read + Drop>(
     out
 }
 
-// Stops the test unless each of these texts is read as these records.
-fn assert_read(rt: &impl Abort, alloc: Global, cases: &[csv::Case]) {
-    for (file, records) in cases {
-        assert!(rt; written(rt, alloc, *file, Ok(false)).as_slice() == *records);
+/// The bytes of the file of a case: `/` is LF, `~` is CR, and `?` is a byte that is no text.
+pub fn bytes(rt: &impl Abort, alloc: Global, file: &str) -> Vec<u8> {
+    let mut bytes = Vec::new(alloc);
+    for byte in file.bytes() {
+        assert!(rt; bytes.push(byte_of(byte)).is_ok());
     }
+    bytes
+}
+
+fn byte_of(byte: u8) -> u8 {
+    match byte {
+        b'/' => b'\n',
+        b'~' => b'\r',
+        b'?' => 0xff,
+        other => other,
+    }
+}
+
+// Whether a text is read as others read it.
+fn is_read_alike(rt: &impl Abort, alloc: Global, case: &str) -> bool {
+    let (text, records) = case.split_once("=>").expect(rt, "a case");
+    let text = bytes(rt, alloc, text);
+    let wanted = bytes(rt, alloc, records);
+    written(rt, alloc, text.as_slice(), Ok(false)).as_slice() == wanted.as_slice()
 }
 
 #[test]
 fn reads_what_others_read(rt: HostRuntime) {
-    assert_read(&rt, rt.alloc(), csv::plain());
-    assert_read(&rt, rt.alloc(), csv::quoted());
+    for case in csv_cases().lines() {
+        assert_that(&rt, is_read_alike(&rt, rt.alloc(), case), case);
+    }
 }
 
 // A byte order mark, quoted fields, and each end of a line.
 const LINES: &[u8] = b"\xef\xbb\xbfname,\"co,unt\"\r\n\n\"say \"\"so\"\"\",,x\rlast";
 
 // Files and their records.
-const RECORDS: &[csv::Case] = &[
+const RECORDS: &[(&[u8], &[u8])] = &[
     (LINES, b"name|co,unt|;say \"so\"||x|;last|;"),
     (b"like,\xff,7\n", b"like|\xff|7|;"),
     (b"", b""),
 ];
 
 // A test that takes them from here has none of their texts in its proof, as it would with a constant.
-fn all_records() -> &'static [csv::Case] {
+fn all_records() -> &'static [(&'static [u8], &'static [u8])] {
     RECORDS
 }
 
 #[test]
 fn gives_each_record_in_order(rt: HostRuntime) {
-    assert_read(&rt, rt.alloc(), all_records());
+    for (file, records) in all_records() {
+        assert!(rt; written(&rt, rt.alloc(), *file, Ok(false)).as_slice() == *records);
+    }
 }
 
 fn two_rows() -> &'static [u8] {

@@ -12,150 +12,67 @@ pub enum Kind {
 /// A file, and what it is read as.
 pub type Case = (Kind, &'static [u8], &'static str);
 
-/// Whole pages files. Limits are among them: a count of 10^18, a name of 64 bytes. A test that takes the cases from
-/// here has none of them in its proof.
-pub fn pages_files() -> &'static [Case] {
+/// Whole pages files, a line for each: the file, with `/` for LF, `~` for CR and `?` for a byte that is no text, and what
+/// it is read as. Limits are among them: a count of 10^18, a name of 64 bytes. A test that takes the cases from here has
+/// none of them in its proof.
+pub fn pages_files() -> &'static str {
     PAGES_FILES
 }
 
-const PAGES_FILES: &[Case] = &[
-    (
-        Pages,
-        b"name,count,split\r\n\"x,\"\"y\"\"\",0,no\r\nb,0001000000000000000,yes",
-        "[x,\"y\" 0 false][b 1000000000000000 true]",
-    ),
-    (Pages, b"", "Err(Header)"),
-    (Pages, b"name,count\n", "Err(Header)"),
-    (Pages, b"name,count,split\n", "Err(Empty)"),
-    (
-        Pages,
-        b"name,count,split\na,1,no\na,2,no\n",
-        "Err(Duplicate { row: 2 })",
-    ),
-    (
-        Pages,
-        b"name,count,split\na,+1,no\n",
-        "Err(Count { row: 1 })",
-    ),
-    (Pages, b"name,count,split\na,1\n", "Err(Fields { row: 1 })"),
-    (
-        Pages,
-        b"name,count,split\na,1,maybe\n",
-        "Err(Split { row: 1 })",
-    ),
-    (Pages, b"name,count,split\n,1,no\n", "Err(Name { row: 1 })"),
-    (
-        Pages,
-        b"name,count,split\n\xff,1,no\n",
-        "Err(Name { row: 1 })",
-    ),
-    (
-        Pages,
-        b"name,count,split\na,1000000000000000000,no\n",
-        "[a 1000000000000000000 false]",
-    ),
-    (
-        Pages,
-        b"name,count,split\na,1000000000000000001,no\n",
-        "Err(Count { row: 1 })",
-    ),
-    (
-        Pages,
-        b"name,count,split\n0123456789abcdef0123456789abcdef0123456789abcdef0123456789abcdef,0,no\n",
-        "[0123456789abcdef0123456789abcdef0123456789abcdef0123456789abcdef 0 false]",
-    ),
-    (
-        Pages,
-        b"name,count,split\n0123456789abcdef0123456789abcdef0123456789abcdef0123456789abcdefg,0,no\n",
-        "Err(Name { row: 1 })",
-    ),
-];
+const PAGES_FILES: &str = "\
+name,count,split~/\"x,\"\"y\"\"\",0,no~/b,0001000000000000000,yes|[x,\"y\" 0 false][b 1000000000000000 true]
+|Err(Header)
+name,count/|Err(Header)
+name,count,split/|Err(Empty)
+name,count,split/a,1,no/a,2,no/|Err(Duplicate { row: 2 })
+name,count,split/a,+1,no/|Err(Count { row: 1 })
+name,count,split/a,1/|Err(Fields { row: 1 })
+name,count,split/a,1,maybe/|Err(Split { row: 1 })
+name,count,split/,1,no/|Err(Name { row: 1 })
+name,count,split/?,1,no/|Err(Name { row: 1 })
+name,count,split/a,1000000000000000000,no/|[a 1000000000000000000 false]
+name,count,split/a,1000000000000000001,no/|Err(Count { row: 1 })
+name,count,split/0123456789abcdef0123456789abcdef0123456789abcdef0123456789abcdef,0,no/|\
+[0123456789abcdef0123456789abcdef0123456789abcdef0123456789abcdef 0 false]
+name,count,split/0123456789abcdef0123456789abcdef0123456789abcdef0123456789abcdefg,0,no/|Err(Name { row: 1 })";
 
 /// Whole request files. The greatest user is among them.
-pub fn request_files() -> &'static [Case] {
+pub fn request_files() -> &'static str {
     REQUEST_FILES
 }
 
-const REQUEST_FILES: &[Case] = &[
-    (Requests, b"", "Err(Header)"),
-    (Requests, b"op,user,page\n", "Ok([])"),
-    (
-        Requests,
-        b"op,user,page\nlike,0,a\n\"look\",0004294967,zz\n",
-        "Ok([Request { op: Like, user: 0, page: Known(0) }, Request { op: Look, user: 4294967, page: Unknown }])",
-    ),
-    (
-        Requests,
-        b"op,user,page\nlike,0,a\nlike,0\n",
-        "Err(Fields { row: 2 })",
-    ),
-    (Requests, b"op,user,page\npush,0,a\n", "Err(Op { row: 1 })"),
-    (
-        Requests,
-        b"op,user,page\nlike,-1,a\n",
-        "Err(User { row: 1 })",
-    ),
-    (
-        Requests,
-        b"op,user,page\nlike,4294967295,a\n",
-        "Ok([Request { op: Like, user: 4294967295, page: Known(0) }])",
-    ),
-    (
-        Requests,
-        b"op,user,page\nlike,4294967296,a\n",
-        "Err(User { row: 1 })",
-    ),
-    (
-        Requests,
-        b"op,user,page\nlike,0,\xff\n",
-        "Ok([Request { op: Like, user: 0, page: Unknown }])",
-    ),
-];
+const REQUEST_FILES: &str = "\
+|Err(Header)
+op,user,page/|Ok([])
+op,user,page/like,0,a/\"look\",0004294967,zz/|\
+Ok([Request { op: Like, user: 0, page: Known(0) }, Request { op: Look, user: 4294967, page: Unknown }])
+op,user,page/like,0,a/like,0/|Err(Fields { row: 2 })
+op,user,page/push,0,a/|Err(Op { row: 1 })
+op,user,page/like,-1,a/|Err(User { row: 1 })
+op,user,page/like,4294967295,a/|Ok([Request { op: Like, user: 4294967295, page: Known(0) }])
+op,user,page/like,4294967296,a/|Err(User { row: 1 })
+op,user,page/like,0,?/|Ok([Request { op: Like, user: 0, page: Unknown }])";
 
 /// Whole scripts.
-pub fn scripts() -> &'static [Case] {
+pub fn scripts() -> &'static str {
     SCRIPTS
 }
 
-const SCRIPTS: &[Case] = &[
-    (Script, b"", "Err(Line { row: 0 })"),
-    (Script, b"turn,index\n", "Ok([])"),
-    (
-        Script,
-        b"turn,index\r\nopen,0\r\nworker,0004294967\ncoordinator,0\n\nopen,4294967295",
-        "Ok([OpenOne(0), Worker(4294967), Coordinator, OpenOne(4294967295)])",
-    ),
-    (Script, b"turn,place\nopen,0\n", "Err(Line { row: 0 })"),
-    (Script, b"turn\n", "Err(Line { row: 0 })"),
-    (
-        Script,
-        b"turn,index\nworker,0\nfly,1\n",
-        "Err(Line { row: 2 })",
-    ),
-    (Script, b"turn,index\nopen\n", "Err(Line { row: 1 })"),
-    (Script, b"turn,index\nopen,0,0\n", "Err(Line { row: 1 })"),
-    (
-        Script,
-        b"turn,index\nopen,0\nworker,0\nworker,-1\n",
-        "Err(Line { row: 3 })",
-    ),
-    (
-        Script,
-        b"turn,index\nopen,4294967296\n",
-        "Err(Line { row: 1 })",
-    ),
-    (Script, b"turn,index\nopen,\n", "Err(Line { row: 1 })"),
-    (
-        Script,
-        b"turn,index\ncoordinator,1\n",
-        "Err(Line { row: 1 })",
-    ),
-    (
-        Script,
-        b"turn,index\ncoordinator,00\n",
-        "Err(Line { row: 1 })",
-    ),
-];
+const SCRIPTS: &str = "\
+|Err(Line { row: 0 })
+turn,index/|Ok([])
+turn,index~/open,0~/worker,0004294967/coordinator,0//open,4294967295|\
+Ok([OpenOne(0), Worker(4294967), Coordinator, OpenOne(4294967295)])
+turn,place/open,0/|Err(Line { row: 0 })
+turn/|Err(Line { row: 0 })
+turn,index/worker,0/fly,1/|Err(Line { row: 2 })
+turn,index/open/|Err(Line { row: 1 })
+turn,index/open,0,0/|Err(Line { row: 1 })
+turn,index/open,0/worker,0/worker,-1/|Err(Line { row: 3 })
+turn,index/open,4294967296/|Err(Line { row: 1 })
+turn,index/open,/|Err(Line { row: 1 })
+turn,index/coordinator,1/|Err(Line { row: 1 })
+turn,index/coordinator,00/|Err(Line { row: 1 })";
 
 /// Files that end after so many bytes: a number stands before each answer that is not the one before.
 pub fn prefixes() -> &'static [Case] {

@@ -1,13 +1,13 @@
 //! The text of a report whose sections threads make side by side.
-ghost use Rattle.std.specs.Prelude.{◌≡◌, ◌∷◌, List, [], false, length, map, replicate};
+ghost use Rattle.std.specs.Prelude.{◌≡◌, ◌<◌, All, List, length};
+ghost use Rattle.std.specs.Option.{ForSome};
 ghost use Rattle.like_requests.specs.Pages.{Page};
-ghost use Rattle.like_service.specs.declared.answer.Answer.{Answer};
-ghost use Rattle.like_service.specs.declared.reply.Reply.TheVariants.{Liked};
+ghost use Rattle.like_service.specs.Collected.{rows_of};
 ghost use Rattle.like_replies.specs.Reported.{reported};
-ghost use Rattle.like_replies.specs.Rows.{IsWritable};
+ghost use Rattle.like_replies.specs.Rows.{IsShowable, IsWritable};
 
 use super::places::place;
-use super::texts::{HEADER, answer, one_page};
+use super::texts::{HEADER, answer, list, one_page};
 use like_replies::{Place, Replies, Report, write_text_at_once};
 use like_roles::Reply;
 use std::alloc::{AllocError, Global};
@@ -16,12 +16,19 @@ use std::thread::Threads;
 
 // The replies to so many likes of one submitter.
 fn liked(rt: &impl Abort, alloc: Global, count: usize) -> Replies
-    ensures { let like : Answer = record { phase = 0; stashed = false; reply = Liked } in
-        map (λ row. row.items) result.rows.items ≡ replicate count like ∷ [] }
+    ensures { (pages : List Page) → All (All (λ a. IsShowable pages a.reply)) (rows_of result) }
 {
     let answers = vec![in alloc; answer(0, Reply::Liked); count].expect(rt, "memory");
     let rows = vec![in alloc; answers].expect(rt, "memory");
     Replies { rows }
+}
+
+// The only page, as the last that each of so many users liked.
+fn last_liked(rt: &impl Abort, alloc: Global, users: usize) -> Vec<Option<u32>>
+    ensures { (pages : List Page) → length pages ≡ 1
+        → All (λ last. ForSome last (λ page. page < length pages)) result.items }
+{
+    vec![in alloc; Some(0); users].expect(rt, "memory")
 }
 
 // So many places on the only page.
@@ -38,8 +45,8 @@ fn report_of_likes(rt: &impl Abort, alloc: Global, count: usize) -> Report
     ensures placed { length result.places.items ≡ 1 }
 {
     let replies = liked(rt, alloc, count);
-    let counts = vec![in alloc; 7].expect(rt, "memory");
-    let last = vec![in alloc; Some(0); count].expect(rt, "memory");
+    let counts = list(rt, alloc, &[7]);
+    let last = last_liked(rt, alloc, count);
     Report {
         logs: Vec::new(alloc),
         replies,
