@@ -1,2 +1,1 @@
-mod FirstAdds
 mod Playing

@@ -1,62 +1,65 @@
-use Rattle.std.specs.Prelude.{◌≡◌, ℕ, Bool, true, false, List, [], ◌∷◌}
-use Rattle.like_core.specs.declared.worker_state.WorkerState.{WorkerState}
-use Rattle.like_core.specs.declared.sight.Sight.{Sight}
-use Rattle.like_core.specs.declared.sight.CoordSight.{CoordSight}
+-- What the tests know of a board and of those at it.
+use Rattle.std.specs.Prelude.{◌≡◌, ℕ, ◌+◌, ◌^◌, ◌<◌, ◌≤◌, Bool, true, false, [], ◌∷◌, Option, Some, IsSomeAnd}
 use Rattle.like_core.specs.declared.opening.Opening.{Opening}
-use Rattle.like_core.specs.declared.view.Addition.{Addition}
-use Rattle.like_core.specs.declared.view.PhaseMask.{PhaseMask}
-use Rattle.like_core.specs.declared.view.WorkerSeatView.{WorkerSeatView}
+use Rattle.like_core.specs.declared.sight.CoordSight.{CoordSight}
 use Rattle.like_core.specs.core.State.{opening}
-use Rattle.like_core.specs.Post.{PostView}
+use Rattle.like_core.specs.Additions.{added_to, all_added}
+use Rattle.like_core.specs.Phase.{is_hot, is_marked}
+use Rattle.like_core.specs.PhaseMasks.{mask_of, HasMask}
+use Rattle.like_core.specs.Post.{PostView, KnowsSlices, pages_of, slices}
+use Rattle.like_core.specs.WorkerState.{IsRunning}
 use Rattle.like_board.specs.declared.coord_seat.CoordSeat.{CoordSeat}
-use Rattle.like_board.specs.Seats.{coord_board, coord_view}
+use Rattle.like_board.specs.Seats.{BoardId, board_numbers, coord_board, coord_view}
+use Rattle.test_parts.specs.declared.board.known.Known.{Known}
 
--- a board of two workers and one page, which is split and begins at 10
+-- a board of two workers and one page, which is marked and begins at 10
 abbrev pub walk : Opening
 walk = opening 2 (10 ∷ []) (true ∷ [])
-
--- what a worker may see
-abbrev pub sight : ℕ → Bool → Bool → Sight
-sight number ending waits = record { number = number; ending = ending; waits = waits }
-
--- what the coordinator may see
-abbrev pub coord_sight : ℕ → Bool → Bool → Bool → CoordSight
-coord_sight number ending all_in all_gone =
-    record { number = number; ending = ending; all_in = all_in; all_gone = all_gone }
-
--- the view of this worker on that board: its state, and what it has added
-pub record Walks (v : WorkerSeatView) (worker : ℕ) (state : WorkerState) (additions : List Addition)
-    : Type 0 where
-  pub worker_is : v.worker ≡ worker
-  pub state_is : v.state ≡ state
-  pub opening_is : v.opening ≡ walk
-  pub additions_are : v.additions ≡ additions
-
--- the coordinator's seat is still at its board, which began so
-pub record KeepsSeat (old new : CoordSeat) : Type 0 where
-  pub board : coord_board new ≡ coord_board old
-  pub opening : (coord_view new).opening ≡ (coord_view old).opening
 
 -- a board of one worker and one page, which is not marked and begins at 5
 abbrev pub hot_walk : Opening
 hot_walk = opening 1 (5 ∷ []) (false ∷ [])
 
--- a mask that was read in a phase
-abbrev pub mask_in : ℕ → ℕ → PhaseMask
-mask_in phase mask = record { phase = phase; mask = mask }
+-- page 0 is hot by the mask that the post read of a phase
+pub record IsFirstHot (v : PostView) (phase : ℕ) : Type 0 where
+  pub read : HasMask phase v.masks
+  pub hot : is_hot (mask_of v.masks phase) 0 ≡ true
 
--- the view of the worker on that board: its state, what it has added, and the masks that it read
-pub record HotWalks (v : WorkerSeatView) (state : WorkerState) (additions : List Addition) (masks : List PhaseMask)
-    : Type 0 where
-  pub worker_is : v.worker ≡ 0
-  pub state_is : v.state ≡ state
-  pub opening_is : v.opening ≡ hot_walk
-  pub additions_are : v.additions ≡ additions
-  pub masks_are : v.masks ≡ masks
+-- what is known of a post is true
+pub record IsKnown (v : PostView) (k : Known) : Type 0 where
+  pub state : v.state ≡ k.state
+  pub last : v.last ≡ k.last
+  pub pages : pages_of v ≡ k.pages
+  pub marked : is_marked v.marks 0 ≡ k.is_marked
+  pub hot : (phase : ℕ) → k.hot_in ≡ Some phase → IsFirstHot v phase
+  pub room : all_added v.additions + k.room ≤ v.limits.likes
+  pub likes : added_to 0 v.additions ≡ k.likes
+  -- no number that is known can wrap
+  pub few_phases : v.limits.last_phase < 2 ^ 64
+  pub few_likes : k.likes + k.room < 2 ^ 64
 
--- all but the state, the last sight and the masks of a post is as before
-pub record KeepsBoard (old new : PostView) : Type 0 where
-  pub marks : new.marks ≡ old.marks
-  pub limits : new.limits ≡ old.limits
-  pub additions : new.additions ≡ old.additions
-  pub reads : new.reads ≡ old.reads
+-- the post is the same worker's, at the same board
+pub record KeepsPlace (old new : PostView) : Type 0 where
+  pub board : new.board ≡ old.board
+  pub worker : new.worker ≡ old.worker
+
+-- the post runs a phase in which page 0 is sliced, and knows it
+pub record SlicesFirst (v : PostView) : Type 0 where
+  pub there : 0 < pages_of v
+  pub runs : IsRunning v.state
+  pub known : KnowsSlices v 0
+  pub sliced : slices v 0 ≡ true
+
+-- the post is this worker's, at this board
+pub record IsWorkerAt (board : BoardId) (worker : ℕ) (v : PostView) : Type 0 where
+  pub board_is : v.board ≡ board_numbers board
+  pub worker_is : v.worker ≡ worker
+
+-- the coordinator's last look showed the phase running, or all in at its end
+abbrev pub HasSeen : Option CoordSight → Bool → Type 0
+HasSeen last all_in = IsSomeAnd last (λ sight. (sight.ending ≡ all_in) × (sight.all_in ≡ all_in))
+
+-- the coordinator's seat is still at its board, which began so
+pub record KeepsSeat (old new : CoordSeat) : Type 0 where
+  pub board : coord_board new ≡ coord_board old
+  pub opening : (coord_view new).opening ≡ (coord_view old).opening

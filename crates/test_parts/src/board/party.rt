@@ -1,0 +1,48 @@
+//! The coordinator of a board of one page and one or two workers, who make calls in turn.
+ghost use Rattle.std.specs.Prelude.{◌≡◌, length, Some};
+ghost use Rattle.like_board.specs.Seats.{board_id, coord_board, coord_view};
+ghost use Rattle.test_parts.specs.Walk.{IsWorkerAt, KeepsSeat};
+
+use super::calls::Step;
+use super::lead::lead;
+use super::walker::Walker;
+use like_board::{Board, CoordSeat};
+use like_core::Post;
+use std::process::Abort;
+
+#[derive(Drop)]
+pub struct Party<'a, P: Post> {
+    pub board: &'a Board,
+    pub coord: CoordSeat,
+    pub first: Walker<P>,
+    pub second: Option<Walker<P>>,
+    ghost here: { coord_board coord ≡ board_id board.now },
+    ghost one_page: { length (coord_view coord).opening.counts ≡ 1 },
+    ghost first_here: { IsWorkerAt (coord_board coord) 0 (P.view first.post) },
+    ghost second_here: { (walker : _) → second ≡ Some walker → IsWorkerAt (coord_board coord) 1 (P.view walker.post) },
+}
+
+impl<P: Post> Party<'_, P> {
+    /// Makes the calls, and asserts that each is answered as it says.
+    pub fn plays(&mut self, rt: &impl Abort, steps: &[Step])
+        ensures { KeepsSeat self.old.coord self.new.coord }
+    {
+        for at in 0..steps.len() {
+            assert!(rt; self.answers(steps[at]), "step {at}");
+        }
+    }
+
+    // Makes a call, and tells whether it is answered as it says.
+    fn answers(&mut self, step: Step) -> bool
+        ensures { KeepsSeat self.old.coord self.new.coord }
+    {
+        match step {
+            Step::Coord(call) => lead(&mut self.coord, self.board, call),
+            Step::First(call) => self.first.answers(call),
+            Step::Second(call) => match &mut self.second {
+                Some(second) => second.answers(call),
+                None => false,
+            },
+        }
+    }
+}

@@ -1,0 +1,169 @@
+//! The calls of those at boards of one page, in their order.
+use super::calls::{OnCoord, OnPost, Step};
+use like_core::{CoordSight, Sight};
+
+/// Two workers walk through three phases of a page that is marked and begins at 10.
+pub fn three_phases() -> &'static [Step] {
+    THREE_PHASES
+}
+
+/// A worker walks through a phase in which a page is hot that is not marked and begins at 5.
+pub fn hot_phase() -> &'static [Step] {
+    HOT_PHASE
+}
+
+/// Phases 0, 2 and 4 have the same number modulo 2. The last is 4.
+pub fn equal_numbers() -> &'static [Step] {
+    EQUAL_NUMBERS
+}
+
+/// Two workers make each call of a post, of a page that is marked and begins at 10.
+pub fn each_call() -> &'static [Step] {
+    EACH_CALL
+}
+
+/// Two workers like a page that begins at 10.
+pub fn likes() -> &'static [Step] {
+    LIKES
+}
+
+// A worker's look at a phase of this number, whose end is announced or not, and which it has answered or not.
+macro_rules! looks {
+    ($who:ident, $number:literal, $ending:literal, $waits:literal) => {
+        Step::$who(OnPost::Look(Sight {
+            number: $number,
+            ending: $ending,
+            waits: $waits,
+        }))
+    };
+}
+
+macro_rules! announces {
+    ($number:literal) => {
+        Step::Coord(OnCoord::Announce($number))
+    };
+}
+
+macro_rules! releases {
+    ($number:literal, $mask:literal) => {
+        Step::Coord(OnCoord::Release($number, $mask))
+    };
+}
+
+// The coordinator is in a phase, which is the last or isn't.
+macro_rules! is_in {
+    ($phase:literal, $last:literal) => {
+        Step::Coord(OnCoord::IsIn($phase, $last))
+    };
+}
+
+// The coordinator sees all workers gone from phase 2.
+const ALL_GONE: Step = Step::Coord(OnCoord::Look(CoordSight {
+    number: 2,
+    ending: false,
+    all_in: true,
+    all_gone: true,
+}));
+
+const THREE_PHASES: &[Step] = &[
+    announces!(0),
+    looks!(First, 0, true, false),
+    Step::First(OnPost::Answer),
+    looks!(First, 0, true, true),
+    looks!(Second, 0, true, false),
+    Step::Second(OnPost::Answer),
+    releases!(0, 0),
+    looks!(First, 1, false, false),
+    announces!(1),
+    looks!(First, 1, true, false),
+    Step::First(OnPost::Merge(3, 10)),
+    Step::First(OnPost::Answer),
+    looks!(Second, 1, true, false),
+    Step::Second(OnPost::Answer),
+    releases!(1, 0),
+    looks!(First, 2, false, false),
+    Step::First(OnPost::Read(0, 13)),
+    Step::First(OnPost::Retire),
+    looks!(Second, 2, false, false),
+    Step::Second(OnPost::Retire),
+    ALL_GONE,
+];
+
+const HOT_PHASE: &[Step] = &[
+    announces!(0),
+    looks!(First, 0, true, false),
+    Step::First(OnPost::Answer),
+    Step::Coord(OnCoord::Count(0, 5)),
+    releases!(0, 1),
+    looks!(First, 1, false, false),
+    Step::First(OnPost::Hot(1)),
+    announces!(1),
+    looks!(First, 1, true, false),
+    Step::First(OnPost::Merge(2, 5)),
+    Step::First(OnPost::Answer),
+    releases!(1, 0),
+    looks!(First, 2, false, false),
+    Step::First(OnPost::Read(0, 7)),
+    Step::First(OnPost::Retire),
+    ALL_GONE,
+];
+
+const EQUAL_NUMBERS: &[Step] = &[
+    looks!(First, 0, false, false),
+    is_in!(0, false),
+    announces!(0),
+    looks!(First, 0, true, false),
+    Step::First(OnPost::Answer),
+    releases!(0, 0),
+    looks!(First, 1, false, false),
+    is_in!(1, false),
+    announces!(1),
+    looks!(First, 1, true, false),
+    Step::First(OnPost::Answer),
+    releases!(1, 0),
+    looks!(First, 0, false, false),
+    is_in!(2, false),
+    announces!(0),
+    looks!(First, 0, true, false),
+    Step::First(OnPost::Answer),
+    releases!(0, 0),
+    looks!(First, 1, false, false),
+    is_in!(3, false),
+    announces!(1),
+    looks!(First, 1, true, false),
+    Step::First(OnPost::Answer),
+    releases!(1, 0),
+    looks!(First, 0, false, false),
+    is_in!(4, true),
+];
+
+const EACH_CALL: &[Step] = &[
+    looks!(First, 0, false, false),
+    announces!(0),
+    looks!(First, 0, true, false),
+    Step::First(OnPost::Answer),
+    looks!(First, 0, true, true),
+    looks!(Second, 0, true, false),
+    Step::Second(OnPost::Answer),
+    releases!(0, 0),
+    looks!(First, 1, false, false),
+    looks!(Second, 1, false, false),
+    Step::First(OnPost::Hot(0)),
+    Step::First(OnPost::Glance(10)),
+    announces!(1),
+    looks!(First, 1, true, false),
+    Step::First(OnPost::Merge(3, 10)),
+    Step::First(OnPost::Answer),
+    looks!(Second, 1, true, false),
+    Step::Second(OnPost::Answer),
+    releases!(1, 0),
+    looks!(First, 2, false, false),
+    Step::First(OnPost::Read(0, 13)),
+    Step::First(OnPost::Retire),
+];
+
+const LIKES: &[Step] = &[
+    Step::First(OnPost::Like(0, 10)),
+    Step::Second(OnPost::Like(0, 11)),
+    Step::First(OnPost::Read(0, 12)),
+];

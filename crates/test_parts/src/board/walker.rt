@@ -1,0 +1,194 @@
+//! A worker of a board, which knows the trait `Post` alone.
+ghost use Rattle.std.specs.Prelude.{◌≡◌, ◌^◌, ◌<◌, ◌≤◌, true, IsTrue};
+ghost use Rattle.like_core.specs.Phase.{is_marked};
+ghost use Rattle.like_core.specs.WorkerState.{RunsJoined, SawEnding, phase_of, seen};
+ghost use Rattle.like_core.specs.Post.{IsFresh, MayAdd, pages_of};
+ghost use Rattle.test_parts.specs.Walk.{IsKnown, KeepsPlace, SlicesFirst};
+
+use super::calls::OnPost;
+use super::known::Known;
+use like_core::{Limits, Post, Sight, WorkerState};
+
+// The state of a worker after a sight.
+fn state_after(state: WorkerState, sight: Sight) -> WorkerState
+    requires { phase_of (seen state sight) < 2 ^ 64 }
+    ensures { result ≡ seen state sight }
+{
+    match state {
+        WorkerState::Answered(phase) if !sight.waits => WorkerState::Runs(phase + 1),
+        _ => state,
+    }
+}
+
+/// A worker's post, with what is known of it.
+#[derive(Drop)]
+pub struct Walker<P: Post> {
+    pub post: P,
+    pub known: Known,
+    ghost is: { IsKnown (P.view post) known },
+}
+
+impl<P: Post> Walker<P> {
+    /// A worker at a post on which no call was made, at a board with so many pages, whose first is marked or is not.
+    pub fn new(post: P, limits: Limits, pages: u32, marked: bool) -> Walker<P>
+        requires fresh { IsFresh (P.view post) }
+        requires limits { (P.view post).limits ≡ limits }
+        requires pages { pages_of (P.view post) ≡ pages }
+        requires first { is_marked (P.view post).marks 0 ≡ marked }
+        ensures { result.post ≡ post }
+    {
+        let known = Known {
+            state: WorkerState::Runs(0),
+            last: None,
+            pages,
+            is_marked: marked,
+            hot_in: None,
+            room: limits.likes,
+            likes: 0,
+        };
+        Walker { post, known }
+    }
+
+    /// Makes a call, and tells whether it may be made and is answered as it says.
+    pub fn answers(&mut self, call: OnPost) -> bool
+        ensures { KeepsPlace (P.view self.old.post) (P.view self.new.post) }
+    {
+        match call {
+            OnPost::Look(sight) => self.sees(sight),
+            OnPost::Answer => self.stops(),
+            OnPost::Like(page, old) => self.likes(page, old),
+            OnPost::Merge(likes, old) => self.merges(likes, old),
+            OnPost::Read(page, count) => self.reads(page, count),
+            OnPost::Glance(count) => self.glances(count),
+            OnPost::Hot(mask) => self.learns(mask),
+            OnPost::Retire => self.retires(),
+        }
+    }
+
+    fn sees(&mut self, want: Sight) -> bool
+        ensures { KeepsPlace (P.view self.old.post) (P.view self.new.post) }
+    {
+        if self.known.state == WorkerState::Gone {
+            return false;
+        }
+        let sight = self.post.look();
+        self.known.state = state_after(self.known.state, sight);
+        self.known.last = Some(sight);
+        sight == want
+    }
+
+    fn stops(&mut self) -> bool
+        ensures { KeepsPlace (P.view self.old.post) (P.view self.new.post) }
+    {
+        let WorkerState::Runs(phase) = self.known.state else {
+            return false;
+        };
+        if !self.saw_ending() {
+            return false;
+        }
+        if phase % 2 == 0 {
+            self.post.acknowledge();
+        } else {
+            self.post.report();
+        }
+        self.known.state = WorkerState::Answered(phase);
+        true
+    }
+
+    fn saw_ending(&self) -> bool
+        ensures { IsTrue result → SawEnding (P.view self.now.post).last }
+    {
+        matches!(self.known.last, Some(sight) if sight.ending)
+    }
+
+    // Whether it runs a joined phase.
+    fn runs_joined(&self) -> bool
+        ensures { IsTrue result → RunsJoined (P.view self.now.post).state }
+    {
+        matches!(self.known.state, WorkerState::Runs(phase) if phase % 2 == 0)
+    }
+
+    // Whether page 0 is there, and sliced in the phase that it runs.
+    fn slices_first(&self) -> bool
+        ensures { IsTrue result → SlicesFirst (P.view self.now.post) }
+    {
+        let WorkerState::Runs(phase) = self.known.state else {
+            return false;
+        };
+        phase % 2 == 1
+            && self.known.pages > 0
+            && (self.known.is_marked || self.known.hot_in == Some(phase))
+    }
+
+    // The count of a page before so many likes are added.
+    fn add(&mut self, page: u32, likes: u64) -> u64
+        requires may { MayAdd (P.view self.old.post) page likes }
+        requires room { likes ≤ self.old.known.room }
+        ensures { KeepsPlace (P.view self.old.post) (P.view self.new.post) }
+    {
+        let old = self.post.add(page, likes);
+        self.known.room -= likes;
+        if page == 0 {
+            self.known.likes += likes;
+        }
+        old
+    }
+
+    fn likes(&mut self, page: u32, old: u64) -> bool
+        ensures { KeepsPlace (P.view self.old.post) (P.view self.new.post) }
+    {
+        if !self.runs_joined() || page >= self.known.pages || self.known.room == 0 {
+            return false;
+        }
+        self.add(page, 1) == old
+    }
+
+    fn merges(&mut self, likes: u64, old: u64) -> bool
+        ensures { KeepsPlace (P.view self.old.post) (P.view self.new.post) }
+    {
+        let may_merge = self.saw_ending() && self.slices_first();
+        if !may_merge || likes == 0 || likes > self.known.room {
+            return false;
+        }
+        self.add(0, likes) == old
+    }
+
+    fn reads(&mut self, page: u32, count: u64) -> bool
+        ensures { KeepsPlace (P.view self.old.post) (P.view self.new.post) }
+    {
+        if !self.runs_joined() || page >= self.known.pages {
+            return false;
+        }
+        self.post.read(page) == count
+    }
+
+    fn glances(&mut self, count: u64) -> bool
+        ensures { KeepsPlace (P.view self.old.post) (P.view self.new.post) }
+    {
+        self.slices_first() && self.post.glance(0) == count
+    }
+
+    fn learns(&mut self, mask: u64) -> bool
+        ensures { KeepsPlace (P.view self.old.post) (P.view self.new.post) }
+    {
+        match self.known.state {
+            WorkerState::Runs(phase) if phase % 2 == 1 => {
+                let read = self.post.hot();
+                self.known.hot_in = if read == 1 { Some(phase) } else { None };
+                read == mask
+            }
+            _ => false,
+        }
+    }
+
+    fn retires(&mut self) -> bool
+        ensures { KeepsPlace (P.view self.old.post) (P.view self.new.post) }
+    {
+        if !self.runs_joined() {
+            return false;
+        }
+        self.post.retire();
+        self.known.state = WorkerState::Gone;
+        true
+    }
+}
