@@ -90,16 +90,31 @@ fn takes_numbers_modulo_2(rt: HostRuntime) -> Result<(), Fail> {
     Ok(())
 }
 
+// Whether the last phase and the likes of limits are these, and a phase has this number.
+fn are_limits(limits: Limits, last_phase: u64, likes: u64, phase: u64, number: u32) -> bool
+    requires { 0 < limits.modulus }
+{
+    limits.last_phase == last_phase && limits.likes == likes && limits.number(phase) == number
+}
+
 #[test]
 fn limits_are_these_numbers(rt: HostRuntime) -> Result<(), Fail> {
-    let run = Limits::of_run();
-    assert!(rt; run.last_phase == 16_777_214);
-    assert!(rt; run.likes == 64_000_000);
-    assert!(rt; run.number(16_777_214) == 16_777_214);
-    let service = Limits::of_service();
-    assert!(rt; service.last_phase == 18_446_744_073_709_551_614);
-    assert!(rt; service.likes == 72_057_594_037_927_936);
-    assert!(rt; service.number(16_777_215) == 1);
+    let run = are_limits(
+        Limits::of_run(),
+        16_777_214,
+        64_000_000,
+        16_777_214,
+        16_777_214,
+    );
+    assert!(rt; run);
+    let service = are_limits(
+        Limits::of_service(),
+        18_446_744_073_709_551_614,
+        72_057_594_037_927_936,
+        16_777_215,
+        1,
+    );
+    assert!(rt; service);
     Ok(())
 }
 
@@ -129,17 +144,26 @@ fn packs_and_unpacks_words(rt: HostRuntime) -> Result<(), Fail> {
     Ok(())
 }
 
-// The two words of `idle-workers`, by what each step makes of the word.
-#[test]
-fn steps_lead_to_words_of_idle_workers(rt: HostRuntime) -> Result<(), Fail> {
-    let start = PhaseWord::new(Kind::JoinedRunning, 4, 0, 0, 0).expect(&rt, "start");
+// The first word of `idle-workers`, and the number of that after it, by what each step makes of the word.
+fn words_of_idle_workers() -> Option<(PhaseWord, u64)> {
+    let start = PhaseWord::new(Kind::JoinedRunning, 4, 0, 0, 0)?;
     let answered = start.announced().answered_by(0);
     let ending = answered.retired_by(1).retired_by(2).retired_by(3);
+    Some((ending, ending.released().pack()))
+}
+
+// The word after phase 1, where numbers are modulo 2.
+fn word_after_split_phase() -> Option<u64> {
+    let split = PhaseWord::new(Kind::SplitEnding, 1, 1, 0, 1)?;
+    Some(split.released_modulo(2).pack())
+}
+
+#[test]
+fn steps_lead_to_words_of_idle_workers(rt: HostRuntime) -> Result<(), Fail> {
+    let (ending, released) = words_of_idle_workers().expect(&rt, "words");
     assert!(rt; ending.pack() == 234_881_297);
-    assert!(rt; ending.kind.is_ending());
-    assert!(rt; !ending.kind.is_split());
-    assert!(rt; ending.released().pack() == 1_099_746_508_818);
-    let split = PhaseWord::new(Kind::SplitEnding, 1, 1, 0, 1).expect(&rt, "split");
-    assert!(rt; split.released_modulo(2).pack() == 4);
+    assert!(rt; ending.kind.is_ending() && !ending.kind.is_split());
+    assert!(rt; released == 1_099_746_508_818);
+    assert!(rt; word_after_split_phase() == Some(4));
     Ok(())
 }

@@ -56,9 +56,8 @@ fn make_all(rt: &impl Abort, gate: &Expecting, scene: &Scene, mut play: Play<'_>
         play.make(rt, gate, steps);
     }
     let (phase, log) = play.finish(rt, gate);
-    assert!(rt; phase == scene.phase, "{}", scene.name);
-    assert!(rt; is_log_of(&log, scene), "{}", scene.name);
-    assert!(rt; gate.is_content(), "{}", scene.name);
+    let is_right = phase == scene.phase && is_log_of(&log, scene) && gate.is_content();
+    assert!(rt; is_right, "{}", scene.name);
 }
 
 // The board of a scene, with its workers and the coordinator at it, plays the scene.

@@ -1,7 +1,7 @@
 //! A coordinator that finds no memory.
 ghost use Rattle.std.specs.Prelude.{◌≡◌, [], ◌∷◌, IfOk};
 ghost use Rattle.like_core.specs.OpeningLimits.{run_limits};
-ghost use Rattle.like_board.specs.Seats.{coord_board, coord_view};
+ghost use Rattle.like_board.specs.Seats.{board_id, coord_board, coord_view};
 
 use like_board::{Board, CoordSeat};
 use like_roles::{CoordTurn, Coordinator, NoCoordinator};
@@ -23,16 +23,23 @@ fn coordinator_at(alloc: Global, coord: CoordSeat) -> Result<(Coordinator, bool)
     }
 }
 
+// Whether a coordinator announces the end of phase 0, waits for the worker, and has chosen no page.
+fn leads(board: &Board, mut coordinator: Coordinator) -> bool
+    requires { coordinator.board ≡ board_id board.now }
+{
+    let announces = coordinator.turn(board) == CoordTurn::Announced;
+    let waits = coordinator.turn(board) == CoordTurn::Waiting;
+    let phase = coordinator.phase();
+    let (_, chosen) = coordinator.finish();
+    announces && waits && phase == 0 && chosen.is_empty()
+}
+
 // Want of memory is told and gives the seat back, and the next call is right.
 #[test]
 fn a_refused_coordinator_gives_its_seat_back(rt: HostRuntime) -> Result<(), Fail> {
     let (board, coord, _) = Board::new(rt.alloc(), 1, &[10], &[false])?;
-    let (mut coordinator, refused) = coordinator_at(rt.alloc(), coord)?;
-    assert!(rt; coordinator.turn(&board) == CoordTurn::Announced);
-    assert!(rt; coordinator.turn(&board) == CoordTurn::Waiting);
-    assert!(rt; coordinator.phase() == 0);
-    let (_, chosen) = coordinator.finish();
-    assert!(rt; chosen.is_empty());
+    let (coordinator, refused) = coordinator_at(rt.alloc(), coord)?;
+    assert!(rt; leads(&board, coordinator));
     if refused {
         return Err(Fail::new("out of memory, and then right"));
     }
