@@ -3,7 +3,7 @@ ghost use Rattle.like_live.specs.Driver.{IsSameDriver};
 ghost use Rattle.like_live.specs.LiveView.{IsSameSeat};
 ghost use Rattle.like_live.specs.Service.{AreItsSeats};
 
-use crate::services::opened;
+use crate::services::{closed, opened};
 use like_board::SharedPost;
 use like_live::{Driver, DriverAnswer, LikeAnswer, LiveSeat, Service, TurnAnswer};
 use std::process::Abort;
@@ -58,19 +58,8 @@ fn plays(
     retires(rt, second);
 }
 
-// Closes a service whose seats are gone.
-fn assert_closed(rt: &impl Abort, service: Service)
-    requires { AreItsSeats service.driver service.seats.items }
-{
-    let mut counts = [0, 0];
-    assert!(rt; service.driver.pages() == 2);
-    assert!(rt; service.close(&mut counts).is_ok());
-    assert!(rt; counts[0] == 13);
-    assert!(rt; counts[1] == 20);
-}
-
 // Plays a service, and closes it with its two seats in the other order.
-fn closes(rt: &impl Abort, service: Service)
+fn closes(rt: &impl Abort, service: Service) -> Option<(bool, [u64; 2])>
     requires { AreItsSeats service.driver service.seats.items }
 {
     let Service {
@@ -85,11 +74,12 @@ fn closes(rt: &impl Abort, service: Service)
     plays(rt, &mut driver, &mut first, &mut second);
     seats.push_reserved(second);
     seats.push_reserved(first);
-    assert_closed(rt, Service { driver, seats });
+    closed(Service { driver, seats })
 }
 
 #[test]
 fn closes_a_service(rt: HostRuntime) -> Result<(), Fail> {
-    closes(&rt, opened(rt.alloc(), 2, 2)?);
+    let end = closes(&rt, opened(rt.alloc(), 2, 2)?);
+    assert!(rt; end == Some((true, [13, 20])));
     Ok(())
 }

@@ -35,6 +35,11 @@ impl Done {
         }
     }
 
+    // Whether it made all its likes, and each look that waited was found in its turn.
+    fn is_all(&self) -> bool {
+        self.liked == LIKES && self.found == self.waited && self.in_turn
+    }
+
     // Takes a found look, if there is one.
     fn take(&mut self, seat: &mut LiveSeat<SharedPost>) {
         if let Some(found) = seat.take_found() {
@@ -74,10 +79,13 @@ fn drive(driver: &mut Driver) {
     }
 }
 
-fn has_done_all(rt: &impl Abort, done: Done) {
-    assert!(rt; done.liked == LIKES);
-    assert!(rt; done.found == done.waited);
-    assert!(rt; done.in_turn);
+// Lets both seats work.
+fn work_both(
+    rt: &(impl Threads + Sync),
+    first: &mut LiveSeat<SharedPost>,
+    second: &mut LiveSeat<SharedPost>,
+) -> (Done, Done) {
+    join(rt, || work(first, 0), || work(second, 1))
 }
 
 fn in_threads(
@@ -86,11 +94,7 @@ fn in_threads(
     first: &mut LiveSeat<SharedPost>,
     second: &mut LiveSeat<SharedPost>,
 ) -> (Done, Done) {
-    let (_, done) = join(
-        rt,
-        || drive(driver),
-        || join(rt, || work(first, 0), || work(second, 1)),
-    );
+    let (_, done) = join(rt, || drive(driver), || work_both(rt, first, second));
     done
 }
 
@@ -109,8 +113,8 @@ fn play(rt: &(impl Abort + Threads + Sync), service: &mut Service) -> (Done, Don
 fn live_threads(rt: HostRuntime) -> Result<(), Fail> {
     let mut service = opened(rt.alloc(), 2, 2)?;
     let (first, second) = play(&rt, &mut service);
-    has_done_all(&rt, first);
-    has_done_all(&rt, second);
+    assert!(rt; first.is_all());
+    assert!(rt; second.is_all());
     assert!(rt; are_last_counts(&mut service.driver, true, [20_010, 20]));
     Ok(())
 }

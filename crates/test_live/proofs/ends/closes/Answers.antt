@@ -4,8 +4,8 @@ use Rattle.like_live.specs.Service.{AreItsSeats}
 use Rattle.test_live.proofs.Whole.{back-of, turned-after, two-of}
 use Rattle.test_live.proofs.ends.closes.Goals as goal
 
-pub assert_closed-requires : goal.assert_closed-requires
-assert_closed-requires g c =
+pub closed-requires : goal.closed-requires
+closed-requires g c =
     let none = c.pop-2.new.self in
     let empty : length none.items ≡ 0 =
     sym none.ok.0 ∙ eqb-true none.len 0 (sym c.is_empty.ensures ∙ c.if-not-is_empty.false) in
