@@ -1,24 +1,26 @@
 -- What the tests know of a board and of those at it.
-use Rattle.std.specs.Prelude.{◌≡◌, ℕ, ◌+◌, ◌^◌, ◌<◌, ◌≤◌, Bool, true, false, [], ◌∷◌, Option, Some, IsSomeAnd}
-use Rattle.like_core.specs.declared.opening.Opening.{Opening}
+use Rattle.std.specs.Prelude.{◌≡◌, ℕ, ◌+◌, ◌^◌, ◌<◌, ◌≤◌, Bool, true, List, length, Option, Some, IsSomeAnd}
+use Rattle.like_core.specs.declared.limits.Limits.{Limits}
 use Rattle.like_core.specs.declared.sight.CoordSight.{CoordSight}
-use Rattle.like_core.specs.core.State.{opening}
 use Rattle.like_core.specs.Additions.{added_to, all_added}
 use Rattle.like_core.specs.Phase.{is_hot, is_marked}
 use Rattle.like_core.specs.PhaseMasks.{mask_of, HasMask}
 use Rattle.like_core.specs.Post.{PostView, KnowsSlices, pages_of, slices}
 use Rattle.like_core.specs.WorkerState.{IsRunning}
 use Rattle.like_board.specs.declared.coord_seat.CoordSeat.{CoordSeat}
-use Rattle.like_board.specs.Seats.{BoardId, board_numbers, coord_board, coord_view}
+use Rattle.like_board.specs.declared.worker_seat.WorkerSeat.{WorkerSeat}
+use Rattle.like_board.specs.Seats.{BoardId, AreFresh, board_numbers, coord_board, coord_view}
 use Rattle.test_parts.specs.declared.board.known.Known.{Known}
 
--- a board of two workers and one page, which is marked and begins at 10
-abbrev pub walk : Opening
-walk = opening 2 (10 ∷ []) (true ∷ [])
-
--- a board of one worker and one page, which is not marked and begins at 5
-abbrev pub hot_walk : Opening
-hot_walk = opening 1 (5 ∷ []) (false ∷ [])
+-- the seats of a board of one page, which is marked or is not, within these limits; no call was made on them
+pub record AreOpened (board : BoardId) (marked : Bool) (limits : Limits) (coord : CoordSeat) (seats : List WorkerSeat)
+    : Type 0 where
+  pub here : coord_board coord ≡ board
+  pub fresh : AreFresh board (coord_view coord).opening seats
+  pub limits_are : (coord_view coord).opening.limits ≡ limits
+  pub one_count : length (coord_view coord).opening.counts ≡ 1
+  pub one_mark : length (coord_view coord).opening.marks ≡ 1
+  pub first : is_marked (coord_view coord).opening.marks 0 ≡ marked
 
 -- page 0 is hot by the mask that the post read of a phase
 pub record IsFirstHot (v : PostView) (phase : ℕ) : Type 0 where
@@ -54,6 +56,12 @@ pub record SlicesFirst (v : PostView) : Type 0 where
 pub record IsWorkerAt (board : BoardId) (worker : ℕ) (v : PostView) : Type 0 where
   pub board_is : v.board ≡ board_numbers board
   pub worker_is : v.worker ≡ worker
+
+-- the coordinator's seat is that of a board of so many workers and one page
+pub record IsCoordOf (board : BoardId) (workers : ℕ) (coord : CoordSeat) : Type 0 where
+  pub here : coord_board coord ≡ board
+  pub workers_are : (coord_view coord).opening.workers ≡ workers
+  pub one_count : length (coord_view coord).opening.counts ≡ 1
 
 -- the coordinator's last look showed the phase running, or all in at its end
 abbrev pub HasSeen : Option CoordSight → Bool → Type 0

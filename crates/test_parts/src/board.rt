@@ -1,10 +1,11 @@
-ghost use Rattle.std.specs.Prelude.{◌≡◌, ◌+◌, IfOk, IfSome, length, vec_len};
+ghost use Rattle.std.specs.Prelude.{◌≡◌, ◌+◌, ◌≤◌, [], ◌∷◌, IfOk, IfSome, length, slice_index, vec_len};
+ghost use Rattle.like_limits.specs.Limits.{max_count, max_workers};
 ghost use Rattle.like_core.specs.declared.worker_state.WorkerState.TheVariants.{Gone};
 ghost use Rattle.like_core.specs.Phase.{is_marked};
-ghost use Rattle.like_core.specs.OpeningLimits.{run_limits};
+ghost use Rattle.like_core.specs.OpeningLimits.{AreLimits, run_limits};
 ghost use Rattle.like_core.specs.Post.{additions_of};
 ghost use Rattle.like_board.specs.Seats.{board_id, coord_board, coord_view, post_meaning, seat_meaning, AreFresh};
-ghost use Rattle.test_parts.specs.Walk.{IsWorkerAt, KeepsSeat, hot_walk, walk};
+ghost use Rattle.test_parts.specs.Walk.{AreOpened, IsCoordOf, IsWorkerAt, KeepsSeat};
 
 mod calls;
 mod known;
@@ -13,6 +14,7 @@ mod party;
 mod scripts;
 mod walker;
 
+use crate::pure_core::small_limits;
 use calls::{OnPost, Step};
 use like_board::{Board, BoardPost, CoordSeat, WorkerSeat};
 use like_core::{Limits, WorkerState};
@@ -45,7 +47,26 @@ fn last_walker<'a>(
     Walker::new(seat.at(board), limits, pages, marked)
 }
 
-// Those at a board of one page within the limits of a run.
+// A board of one page, with the coordinator's seat and each worker's.
+fn opened(
+    alloc: Global,
+    workers: u32,
+    count: u64,
+    marked: bool,
+    limits: Limits,
+) -> Result<(Board, CoordSeat, Vec<WorkerSeat>), AllocError>
+    requires some { 1 ≤ workers }
+    requires few { workers ≤ max_workers }
+    requires small { count ≤ max_count }
+    requires limits { AreLimits limits }
+    ensures opened { IfOk result (λ r. AreOpened (board_id r.0) marked limits r.1 r.2.items) }
+    ensures workers { IfOk result (λ r. (coord_view r.1).opening.workers ≡ workers) }
+    ensures counts { IfOk result (λ r. (coord_view r.1).opening.counts ≡ count ∷ []) }
+{
+    Board::with_limits(alloc, workers, &[count], &[marked], limits)
+}
+
+// Those at a board of one page.
 fn party_at<'a>(
     rt: &impl Abort,
     board: &'a Board,
@@ -54,12 +75,7 @@ fn party_at<'a>(
     limits: Limits,
     marked: bool,
 ) -> Party<'a, BoardPost<'a>>
-    requires here { coord_board coord ≡ board_id board.now }
-    requires fresh { AreFresh (board_id board.now) (coord_view coord).opening seats.items }
-    requires limits { (coord_view coord).opening.limits ≡ limits }
-    requires one_page { length (coord_view coord).opening.counts ≡ 1 }
-    requires one_mark { length (coord_view coord).opening.marks ≡ 1 }
-    requires first { is_marked (coord_view coord).opening.marks 0 ≡ marked }
+    requires { AreOpened (board_id board.now) marked limits coord seats.items }
     ensures { result.coord ≡ coord }
 {
     let second = if seats.len() == 2 {
@@ -105,20 +121,15 @@ fn walks(
     coord: CoordSeat,
     seats: Vec<WorkerSeat>,
     marked: bool,
-    steps: &[Step],
+    parts: &[&[Step]],
 ) -> (CoordSeat, Left, Option<Left>)
-    requires here { coord_board coord ≡ board_id board.now }
-    requires fresh { AreFresh (board_id board.now) (coord_view coord).opening seats.items }
-    requires limits { (coord_view coord).opening.limits ≡ run_limits }
-    requires one_page { length (coord_view coord).opening.counts ≡ 1 }
-    requires one_mark { length (coord_view coord).opening.marks ≡ 1 }
-    requires first { is_marked (coord_view coord).opening.marks 0 ≡ marked }
+    requires { AreOpened (board_id board.now) marked run_limits coord seats.items }
     ensures coord { KeepsSeat coord result.0 }
     ensures first { IsWorkerAt (coord_board coord) 0 (seat_meaning result.1.seat) }
     ensures second { IfSome result.2 (λ left. IsWorkerAt (coord_board coord) 1 (seat_meaning left.seat)) }
 {
     let mut party = party_at(rt, board, coord, seats, Limits::of_run(), marked);
-    party.plays(rt, steps);
+    party.plays(rt, parts);
     let Party {
         coord,
         first,
@@ -132,94 +143,126 @@ fn walks(
     (coord, left_by(rt, first), second)
 }
 
-// Two seats are given back. What the page has at the end is its count at the start and the likes.
-fn last_count_of_two(
+// What a page has at the end, and how many likes each worker added to it.
+type End = (u64, (u64, u64));
+
+// Two seats are given back. What the page has at the end is its count at the start and the likes of each worker.
+fn end_of_two(
     alloc: Global,
     board: Board,
     coord: CoordSeat,
     first: Left,
     second: Left,
-) -> Result<u64, AllocError>
-    requires here { coord_board coord ≡ board_id board }
-    requires opening { (coord_view coord).opening ≡ walk }
+) -> Result<End, AllocError>
+    requires coord { IsCoordOf (board_id board) 2 coord }
     requires first { IsWorkerAt (coord_board coord) 0 (seat_meaning first.seat) }
     requires second { IsWorkerAt (coord_board coord) 1 (seat_meaning second.seat) }
-    ensures { IfOk result (λ count. count ≡ 10 + (first.likes + second.likes)) }
+    ensures { IfOk result (λ r. r.0 ≡ slice_index (coord_view coord).opening.counts 0 + (r.1.0 + r.1.1)) }
 {
+    let likes = (first.likes, second.likes);
     let mut seats = Vec::with_capacity(alloc, 2)?;
     seats.push_reserved(first.seat);
     seats.push_reserved(second.seat);
     let mut counts = [0];
     board.close(coord, seats, &mut counts);
-    Ok(counts[0])
+    Ok((counts[0], likes))
 }
 
 // The same of one seat.
-fn last_count_of_one(
-    alloc: Global,
-    board: Board,
-    coord: CoordSeat,
-    first: Left,
-) -> Result<u64, AllocError>
-    requires here { coord_board coord ≡ board_id board }
-    requires opening { (coord_view coord).opening ≡ hot_walk }
+fn end_of_one(alloc: Global, board: Board, coord: CoordSeat, first: Left) -> Result<End, AllocError>
+    requires coord { IsCoordOf (board_id board) 1 coord }
     requires first { IsWorkerAt (coord_board coord) 0 (seat_meaning first.seat) }
-    ensures { IfOk result (λ count. count ≡ 5 + first.likes) }
+    ensures { IfOk result (λ r. r.0 ≡ slice_index (coord_view coord).opening.counts 0 + (r.1.0 + r.1.1)) }
 {
+    let mut counts = [0];
     let mut seats = Vec::with_capacity(alloc, 1)?;
     seats.push_reserved(first.seat);
-    let mut counts = [0];
     board.close(coord, seats, &mut counts);
-    Ok(counts[0])
+    Ok((counts[0], (first.likes, 0)))
+}
+
+// One or two workers make calls with the coordinator, and are gone then.
+fn walked(
+    rt: &impl Abort,
+    alloc: Global,
+    workers: u32,
+    count: u64,
+    marked: bool,
+    parts: &[&[Step]],
+) -> Result<End, AllocError>
+    requires some { 1 ≤ workers }
+    requires few { workers ≤ 2 }
+    requires small { count ≤ max_count }
+    ensures { IfOk result (λ r. r.0 ≡ count + (r.1.0 + r.1.1)) }
+{
+    let (board, coord, seats) = opened(alloc, workers, count, marked, Limits::of_run())?;
+    let (coord, first, second) = walks(rt, &board, coord, seats, marked, parts);
+    match second {
+        Some(second) => {
+            assert!(rt; workers == 2);
+            end_of_two(alloc, board, coord, first, second)
+        }
+        None => {
+            assert!(rt; workers == 1);
+            end_of_one(alloc, board, coord, first)
+        }
+    }
 }
 
 #[test]
 fn walks_through_three_phases(rt: HostRuntime) -> Result<(), Fail> {
-    let (board, coord, seats) = Board::new(rt.alloc(), 2, &[10], &[true])?;
-    let (coord, first, second) = walks(&rt, &board, coord, seats, true, three_phases());
-    let second = second.expect(&rt, "a second worker is there");
-    assert!(rt; first.likes == 3);
-    assert!(rt; last_count_of_two(rt.alloc(), board, coord, first, second)? == 13);
+    assert!(rt; walked(&rt, rt.alloc(), 2, 10, true, three_phases())? == (13, (3, 0)));
     Ok(())
 }
 
 #[test]
 fn walks_through_a_hot_phase(rt: HostRuntime) -> Result<(), Fail> {
-    let (board, coord, seats) = Board::new(rt.alloc(), 1, &[5], &[false])?;
-    let (coord, worker, _) = walks(&rt, &board, coord, seats, false, hot_phase());
-    assert!(rt; worker.likes == 2);
-    assert!(rt; last_count_of_one(rt.alloc(), board, coord, worker)? == 7);
+    assert!(rt; walked(&rt, rt.alloc(), 1, 5, false, hot_phase())? == (7, (2, 0)));
+    Ok(())
+}
+
+// Workers of one page and the coordinator make calls.
+fn plays(
+    rt: &impl Abort,
+    alloc: Global,
+    workers: u32,
+    count: u64,
+    marked: bool,
+    limits: Limits,
+    parts: &[&[Step]],
+) -> Result<(), Fail>
+    requires some { 1 ≤ workers }
+    requires few { workers ≤ 2 }
+    requires small { count ≤ max_count }
+    requires limits { AreLimits limits }
+{
+    let (board, coord, seats) = opened(alloc, workers, count, marked, limits)?;
+    party_at(rt, &board, coord, seats, limits, marked).plays(rt, parts);
     Ok(())
 }
 
 // Phases 0 and 2 have the same number, and are told apart.
 #[test]
 fn goes_through_phases_of_equal_numbers(rt: HostRuntime) -> Result<(), Fail> {
-    let limits = Limits {
-        last_phase: 4,
-        likes: 2,
-        modulus: 2,
-    };
-    let (board, coord, seats) = Board::with_limits(rt.alloc(), 1, &[5], &[false], limits)?;
-    party_at(&rt, &board, coord, seats, limits, false).plays(&rt, equal_numbers());
-    Ok(())
-}
-
-// Two workers of a page that is marked and begins at 10, and the coordinator, make calls.
-fn plays_at_marked_page(rt: &impl Abort, alloc: Global, steps: &[Step]) -> Result<(), Fail> {
-    let (board, coord, seats) = Board::new(alloc, 2, &[10], &[true])?;
-    party_at(rt, &board, coord, seats, Limits::of_run(), true).plays(rt, steps);
-    Ok(())
+    plays(
+        &rt,
+        rt.alloc(),
+        1,
+        5,
+        false,
+        small_limits(),
+        equal_numbers(),
+    )
 }
 
 #[test]
 fn leads_posts_through_phases(rt: HostRuntime) -> Result<(), Fail> {
-    plays_at_marked_page(&rt, rt.alloc(), each_call())
+    plays(&rt, rt.alloc(), 2, 10, true, Limits::of_run(), each_call())
 }
 
 #[test]
 fn likes_by_posts(rt: HostRuntime) -> Result<(), Fail> {
-    plays_at_marked_page(&rt, rt.alloc(), likes())
+    plays(&rt, rt.alloc(), 2, 10, true, Limits::of_run(), likes())
 }
 
 // A board of the most workers and pages, with the greatest counts.

@@ -1,4 +1,5 @@
 ghost use Rattle.std.specs.Prelude.{◌<◌};
+ghost use Rattle.like_core.specs.OpeningLimits.{AreLimits};
 
 mod cases;
 
@@ -70,24 +71,42 @@ fn assert_limits(rt: &impl Abort, core: &mut Core, last_phase: u32, modulus: u32
     assert!(rt; core.step(Event::Announce) == Err(NotNow::Last));
 }
 
-#[test]
-fn refuses_announcement_in_last_phase(rt: HostRuntime) -> Result<(), Fail> {
-    let mut core = Core::new(rt.alloc(), 1, &[0], &[true])?;
-    assert_limits(&rt, &mut core, 16_777_214, 16_777_216);
+// The same of a core of one worker and one page.
+fn assert_limits_of_one(
+    rt: &impl Abort,
+    alloc: Global,
+    limits: Limits,
+    last_phase: u32,
+    modulus: u32,
+) -> Result<(), Fail>
+    requires limits { AreLimits limits }
+    requires some { 0 < modulus }
+{
+    let mut core = Core::with_limits(alloc, 1, &[0], &[true], limits)?;
+    assert_limits(rt, &mut core, last_phase, modulus);
     Ok(())
 }
 
-// Within limits whose last phase is 4, the numbers of phases 0 to 4 modulo 2 are 0, 1, 0, 1 and 0.
 #[test]
-fn takes_numbers_modulo_2(rt: HostRuntime) -> Result<(), Fail> {
-    let limits = Limits {
+fn refuses_announcement_in_last_phase(rt: HostRuntime) -> Result<(), Fail> {
+    assert_limits_of_one(&rt, rt.alloc(), Limits::of_run(), 16_777_214, 16_777_216)
+}
+
+/// Limits whose last phase is 4, with numbers modulo 2.
+pub fn small_limits() -> Limits
+    ensures { AreLimits result }
+{
+    Limits {
         last_phase: 4,
         likes: 2,
         modulus: 2,
-    };
-    let mut core = Core::with_limits(rt.alloc(), 1, &[0], &[true], limits)?;
-    assert_limits(&rt, &mut core, 4, 2);
-    Ok(())
+    }
+}
+
+// The numbers of phases 0 to 4 modulo 2 are 0, 1, 0, 1 and 0.
+#[test]
+fn takes_numbers_modulo_2(rt: HostRuntime) -> Result<(), Fail> {
+    assert_limits_of_one(&rt, rt.alloc(), small_limits(), 4, 2)
 }
 
 // Whether the last phase and the likes of limits are these, and a phase has this number.

@@ -51,11 +51,12 @@ fn is_log_of(log: &WorkerLog, scene: &Scene) -> bool {
 
 // Makes the steps of a scene. Asserts the last phase that the coordinator saw, what the first worker has done, and the
 // calls of the gate.
-fn make_all(rt: &impl Abort, gate: &Expecting, scene: &Scene, mut play: Play<'_>) {
+fn make_all(rt: &impl Abort, scene: &Scene, mut play: Play<'_>) {
+    let gate = Expecting::new(scene.calls);
     for steps in scene.parts {
-        play.make(rt, gate, steps);
+        play.make(rt, &gate, steps);
     }
-    let (phase, log) = play.finish(rt, gate);
+    let (phase, log) = play.finish(rt, &gate);
     let is_right = phase == scene.phase && is_log_of(&log, scene) && gate.is_content();
     assert!(rt; is_right, "{}", scene.name);
 }
@@ -64,7 +65,6 @@ fn make_all(rt: &impl Abort, gate: &Expecting, scene: &Scene, mut play: Play<'_>
 fn play_at_board(
     rt: &impl Abort,
     alloc: Global,
-    gate: &Expecting,
     scene: &Scene,
     setup: &Setup,
     plan: &[Request],
@@ -73,28 +73,16 @@ fn play_at_board(
 {
     let (board, coord, seats) = board_of(alloc, setup)?;
     let play = Play::new(alloc, setup, plan, &board, coord, seats, scene.notes)?;
-    make_all(rt, gate, scene, play);
+    make_all(rt, scene, play);
     Ok(())
 }
 
-// The same of the scene's own requests, within the limits of a run.
-fn play_within(
-    rt: &impl Abort,
-    alloc: Global,
-    gate: &Expecting,
-    scene: &Scene,
-    setup: &Setup,
-) -> Result<(), Fail> {
-    let plans = [Vec::from_slice(alloc, scene.plan)?];
-    check_setup(setup, &plans)?;
-    play_at_board(rt, alloc, gate, scene, setup, plans[0].as_slice())
-}
-
-// Plays a scene.
+// Plays a scene, within the limits of a run.
 fn play_scene(rt: &impl Abort, alloc: Global, scene: &Scene) -> Result<(), Fail> {
-    let gate = Expecting::new(alloc, scene.calls)?;
     let setup = setup_of(alloc, scene)?;
-    play_within(rt, alloc, &gate, scene, &setup)
+    let plans = [Vec::from_slice(alloc, scene.plan)?];
+    check_setup(&setup, &plans)?;
+    play_at_board(rt, alloc, scene, &setup, plans[0].as_slice())
 }
 
 #[test]

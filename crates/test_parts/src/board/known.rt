@@ -1,17 +1,15 @@
 use like_core::{Sight, WorkerState};
 
-/// What is known of a post by the calls that were made on it.
+/// What is known of a post by the calls that were made on it: its state and its last sight; how many pages there are, and
+/// whether the first is marked; how many likes may still be added, and how many were added to the first page.
 #[derive(Clone, Copy)]
 pub struct Known {
     pub state: WorkerState,
     pub last: Option<Sight>,
     pub pages: u32,
-    /// Whether page 0 is marked.
     pub is_marked: bool,
-    /// The last phase whose mask was read, if page 0 is the only hot one by it.
+    /// The last phase whose mask was read, if the first page was the only hot one by it.
     pub hot_in: Option<u64>,
-    /// How many likes may still be added.
     pub room: u64,
-    /// How many were added to page 0.
     pub likes: u64,
 }

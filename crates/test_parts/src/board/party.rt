@@ -23,12 +23,20 @@ pub struct Party<'a, P: Post> {
 }
 
 impl<P: Post> Party<'_, P> {
-    /// Makes the calls, and asserts that each is answered as it says.
-    pub fn plays(&mut self, rt: &impl Abort, steps: &[Step])
+    /// Makes the calls of all parts, and asserts that each is answered as it says.
+    pub fn plays(&mut self, rt: &impl Abort, parts: &[&[Step]])
+        ensures { KeepsSeat self.old.coord self.new.coord }
+    {
+        for part in 0..parts.len() {
+            self.makes(rt, part, parts[part]);
+        }
+    }
+
+    fn makes(&mut self, rt: &impl Abort, part: usize, steps: &[Step])
         ensures { KeepsSeat self.old.coord self.new.coord }
     {
         for at in 0..steps.len() {
-            assert!(rt; self.answers(steps[at]), "step {at}");
+            assert!(rt; self.answers(steps[at]), "call {at} of part {part}");
         }
     }
 

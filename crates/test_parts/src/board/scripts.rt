@@ -3,27 +3,27 @@ use super::calls::{OnCoord, OnPost, Step};
 use like_core::{CoordSight, Sight};
 
 /// Two workers walk through three phases of a page that is marked and begins at 10.
-pub fn three_phases() -> &'static [Step] {
+pub fn three_phases() -> &'static [&'static [Step]] {
     THREE_PHASES
 }
 
 /// A worker walks through a phase in which a page is hot that is not marked and begins at 5.
-pub fn hot_phase() -> &'static [Step] {
+pub fn hot_phase() -> &'static [&'static [Step]] {
     HOT_PHASE
 }
 
 /// Phases 0, 2 and 4 have the same number modulo 2. The last is 4.
-pub fn equal_numbers() -> &'static [Step] {
+pub fn equal_numbers() -> &'static [&'static [Step]] {
     EQUAL_NUMBERS
 }
 
 /// Two workers make each call of a post, of a page that is marked and begins at 10.
-pub fn each_call() -> &'static [Step] {
+pub fn each_call() -> &'static [&'static [Step]] {
     EACH_CALL
 }
 
 /// Two workers like a page that begins at 10.
-pub fn likes() -> &'static [Step] {
+pub fn likes() -> &'static [&'static [Step]] {
     LIKES
 }
 
@@ -65,7 +65,8 @@ const ALL_GONE: Step = Step::Coord(OnCoord::Look(CoordSight {
     all_gone: true,
 }));
 
-const THREE_PHASES: &[Step] = &[
+// Two workers acknowledge phase 0, and the first enters phase 1.
+const TO_SPLIT: &[Step] = &[
     announces!(0),
     looks!(First, 0, true, false),
     Step::First(OnPost::Answer),
@@ -74,82 +75,10 @@ const THREE_PHASES: &[Step] = &[
     Step::Second(OnPost::Answer),
     releases!(0, 0),
     looks!(First, 1, false, false),
-    announces!(1),
-    looks!(First, 1, true, false),
-    Step::First(OnPost::Merge(3, 10)),
-    Step::First(OnPost::Answer),
-    looks!(Second, 1, true, false),
-    Step::Second(OnPost::Answer),
-    releases!(1, 0),
-    looks!(First, 2, false, false),
-    Step::First(OnPost::Read(0, 13)),
-    Step::First(OnPost::Retire),
-    looks!(Second, 2, false, false),
-    Step::Second(OnPost::Retire),
-    ALL_GONE,
 ];
 
-const HOT_PHASE: &[Step] = &[
-    announces!(0),
-    looks!(First, 0, true, false),
-    Step::First(OnPost::Answer),
-    Step::Coord(OnCoord::Count(0, 5)),
-    releases!(0, 1),
-    looks!(First, 1, false, false),
-    Step::First(OnPost::Hot(1)),
-    announces!(1),
-    looks!(First, 1, true, false),
-    Step::First(OnPost::Merge(2, 5)),
-    Step::First(OnPost::Answer),
-    releases!(1, 0),
-    looks!(First, 2, false, false),
-    Step::First(OnPost::Read(0, 7)),
-    Step::First(OnPost::Retire),
-    ALL_GONE,
-];
-
-const EQUAL_NUMBERS: &[Step] = &[
-    looks!(First, 0, false, false),
-    is_in!(0, false),
-    announces!(0),
-    looks!(First, 0, true, false),
-    Step::First(OnPost::Answer),
-    releases!(0, 0),
-    looks!(First, 1, false, false),
-    is_in!(1, false),
-    announces!(1),
-    looks!(First, 1, true, false),
-    Step::First(OnPost::Answer),
-    releases!(1, 0),
-    looks!(First, 0, false, false),
-    is_in!(2, false),
-    announces!(0),
-    looks!(First, 0, true, false),
-    Step::First(OnPost::Answer),
-    releases!(0, 0),
-    looks!(First, 1, false, false),
-    is_in!(3, false),
-    announces!(1),
-    looks!(First, 1, true, false),
-    Step::First(OnPost::Answer),
-    releases!(1, 0),
-    looks!(First, 0, false, false),
-    is_in!(4, true),
-];
-
-const EACH_CALL: &[Step] = &[
-    looks!(First, 0, false, false),
-    announces!(0),
-    looks!(First, 0, true, false),
-    Step::First(OnPost::Answer),
-    looks!(First, 0, true, true),
-    looks!(Second, 0, true, false),
-    Step::Second(OnPost::Answer),
-    releases!(0, 0),
-    looks!(First, 1, false, false),
-    looks!(Second, 1, false, false),
-    Step::First(OnPost::Hot(0)),
-    Step::First(OnPost::Glance(10)),
+// They report in phase 1, the first with three likes; in phase 2 it reads the page and retires.
+const TO_JOINED: &[Step] = &[
     announces!(1),
     looks!(First, 1, true, false),
     Step::First(OnPost::Merge(3, 10)),
@@ -162,8 +91,83 @@ const EACH_CALL: &[Step] = &[
     Step::First(OnPost::Retire),
 ];
 
-const LIKES: &[Step] = &[
+const THREE_PHASES: &[&[Step]] = &[
+    TO_SPLIT,
+    TO_JOINED,
+    &[
+        looks!(Second, 2, false, false),
+        Step::Second(OnPost::Retire),
+        ALL_GONE,
+    ],
+];
+
+const EACH_CALL: &[&[Step]] = &[
+    TO_SPLIT,
+    &[
+        looks!(Second, 1, false, false),
+        Step::First(OnPost::Hot(0)),
+        Step::First(OnPost::Glance(10)),
+    ],
+    TO_JOINED,
+];
+
+const LIKES: &[&[Step]] = &[&[
     Step::First(OnPost::Like(0, 10)),
     Step::Second(OnPost::Like(0, 11)),
     Step::First(OnPost::Read(0, 12)),
+]];
+
+const HOT_PHASE: &[&[Step]] = &[
+    &[
+        announces!(0),
+        looks!(First, 0, true, false),
+        Step::First(OnPost::Answer),
+        Step::Coord(OnCoord::Count(0, 5)),
+        releases!(0, 1),
+    ],
+    &[
+        looks!(First, 1, false, false),
+        Step::First(OnPost::Hot(1)),
+        announces!(1),
+        looks!(First, 1, true, false),
+        Step::First(OnPost::Merge(2, 5)),
+        Step::First(OnPost::Answer),
+        releases!(1, 0),
+    ],
+    &[
+        looks!(First, 2, false, false),
+        Step::First(OnPost::Read(0, 7)),
+        Step::First(OnPost::Retire),
+        ALL_GONE,
+    ],
+];
+
+// A worker goes on from a phase of number 0.
+const PAST_0: &[Step] = &[
+    announces!(0),
+    looks!(First, 0, true, false),
+    Step::First(OnPost::Answer),
+    releases!(0, 0),
+    looks!(First, 1, false, false),
+];
+
+// It goes on from one of number 1.
+const PAST_1: &[Step] = &[
+    announces!(1),
+    looks!(First, 1, true, false),
+    Step::First(OnPost::Answer),
+    releases!(1, 0),
+    looks!(First, 0, false, false),
+];
+
+const EQUAL_NUMBERS: &[&[Step]] = &[
+    &[looks!(First, 0, false, false), is_in!(0, false)],
+    PAST_0,
+    &[is_in!(1, false)],
+    PAST_1,
+    &[is_in!(2, false)],
+    PAST_0,
+    &[is_in!(3, false)],
+    PAST_1,
+    &[is_in!(4, true)],
 ];

@@ -1,5 +1,4 @@
 use like_roles::Gate;
-use std::alloc::{AllocError, Global};
 use std::sync::atomic::{AtomicU32, Ordering};
 
 /// A call of a gate.
@@ -14,18 +13,18 @@ pub enum Call {
 /// A gate that counts its calls, and among them those that it does not expect in their place.
 #[derive(Drop)]
 pub struct Expecting {
-    calls: Vec<Call>,
+    calls: &'static [Call],
     made: AtomicU32,
     wrong: AtomicU32,
 }
 
 impl Expecting {
-    pub fn new(alloc: Global, calls: &[Call]) -> Result<Expecting, AllocError> {
-        Ok(Expecting {
-            calls: Vec::from_slice(alloc, calls)?,
+    pub fn new(calls: &'static [Call]) -> Expecting {
+        Expecting {
+            calls,
             made: AtomicU32::new(0),
             wrong: AtomicU32::new(0),
-        })
+        }
     }
 
     /// Whether the calls that are expected were made, in their order, and no other.

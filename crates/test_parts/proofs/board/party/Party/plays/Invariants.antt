@@ -1,5 +1,5 @@
 use Rattle.test_parts.specs.Walk.{KeepsSeat}
 use Rattle.test_parts.proofs.board.party.Party.plays.Given as goal
 
-abbrev pub invariant-loop-at : goal.invariant-loop-at
-invariant-loop-at g l = KeepsSeat l.initial.self.coord l.self.coord
+abbrev pub invariant-loop-part : goal.invariant-loop-part
+invariant-loop-part g l = KeepsSeat l.initial.self.coord l.self.coord
