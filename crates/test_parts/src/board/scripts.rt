@@ -102,6 +102,7 @@ const THREE_PHASES: &[&[Step]] = &[
 ];
 
 const EACH_CALL: &[&[Step]] = &[
+    &[looks!(First, 0, false, false)],
     TO_SPLIT,
     &[
         looks!(Second, 1, false, false),
