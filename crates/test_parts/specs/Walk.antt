@@ -10,7 +10,7 @@ use Rattle.like_core.specs.WorkerState.{IsRunning}
 use Rattle.like_board.specs.declared.coord_seat.CoordSeat.{CoordSeat}
 use Rattle.like_board.specs.declared.worker_seat.WorkerSeat.{WorkerSeat}
 use Rattle.like_board.specs.Seats.{BoardId, AreFresh, board_numbers, coord_board, coord_view}
-use Rattle.test_parts.specs.declared.board.known.Known.{Known}
+use Rattle.test_parts.specs.declared.known.Known.{Known}
 
 -- the seats of a board of one page, which is marked or is not, within these limits; no call was made on them
 pub record AreOpened (board : BoardId) (marked : Bool) (limits : Limits) (coord : CoordSeat) (seats : List WorkerSeat)

@@ -8,7 +8,6 @@ ghost use Rattle.like_board.specs.Seats.{board_id, coord_board, coord_view, post
 ghost use Rattle.test_parts.specs.Walk.{AreOpened, IsCoordOf, IsWorkerAt, KeepsSeat};
 
 mod calls;
-mod known;
 mod lead;
 mod party;
 mod scripts;

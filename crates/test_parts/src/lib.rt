@@ -3,6 +3,8 @@
 
 #[cfg(test)]
 mod board;
+// A definition of specs/Walk.antt has this type, so it is there without tests, too.
+mod known;
 #[cfg(test)]
 mod pure_core;
 #[cfg(test)]

@@ -6,7 +6,7 @@ ghost use Rattle.like_core.specs.Post.{IsFresh, MayAdd, pages_of};
 ghost use Rattle.test_parts.specs.Walk.{IsKnown, KeepsPlace, SlicesFirst};
 
 use super::calls::OnPost;
-use super::known::Known;
+use crate::known::Known;
 use like_core::{Limits, Post, Sight, WorkerState};
 
 // The state of a worker after a sight.
