@@ -86,18 +86,17 @@ fn answer<R: Read + Drop>(rt: &impl Abort, alloc: Global, kind: Kind, file: R) -
     }
 }
 
-// Whether this is what a file of a kind is read as.
-fn is_answered(rt: &impl Abort, alloc: Global, kind: Kind, file: &[u8], wanted: &str) -> bool {
-    answer(rt, alloc, kind, file).as_str() == wanted
+// Stops the test unless a file of a kind is read as is wanted.
+fn assert_answered(rt: &impl Abort, alloc: Global, kind: Kind, file: &[u8], wanted: &str) {
+    let answer = answer(rt, alloc, kind, file);
+    assert_that(rt, answer.as_str() == wanted, &answer);
 }
 
 // Stops the test unless each file of a kind is read as is wanted.
 fn assert_read(rt: &impl Abort, alloc: Global, kind: Kind, cases: &str) {
     for case in cases.lines() {
         let (file, wanted) = case.split_once('|').expect(rt, "a case");
-        let file = bytes(rt, alloc, file);
-        let answer = answer(rt, alloc, kind, file.as_slice());
-        assert_that(rt, answer.as_str() == wanted, &answer);
+        assert_answered(rt, alloc, kind, &bytes(rt, alloc, file), wanted);
     }
 }
 
@@ -175,7 +174,7 @@ fn assert_both_ways(rt: &impl Abort, alloc: Global, file: &[u8], good: &Case) {
     let (kind, good, wanted) = *good;
     let whole = answer(rt, alloc, kind, file);
     let bytewise = answer(rt, alloc, kind, Trickle::new(file, 1_000));
-    assert!(rt; bytewise == whole);
+    assert!(rt; bytewise == whole, "{bytewise}, and at once {whole}");
     assert!(rt; file != good || whole.as_str() == wanted);
 }
 
@@ -201,15 +200,15 @@ fn a_byte_that_is_changed(rt: HostRuntime) {
 #[test]
 fn a_file_of_another_kind(rt: HostRuntime) {
     for case in csv_cases().lines() {
-        assert_that(&rt, is_headless(&rt, rt.alloc(), case), case);
+        assert_headless(&rt, rt.alloc(), case);
     }
 }
 
-// Whether the file of a case is refused by its header, whatever kind it is read as.
-fn is_headless(rt: &impl Abort, alloc: Global, case: &str) -> bool {
+// Stops the test unless the file of a case is refused by its header, whatever kind it is read as.
+fn assert_headless(rt: &impl Abort, alloc: Global, case: &str) {
     let (text, _) = case.split_once("=>").expect(rt, "a case");
     let file = bytes(rt, alloc, text);
-    is_answered(rt, alloc, Kind::Pages, &file, "Err(Header)")
-        && is_answered(rt, alloc, Kind::Requests, &file, "Err(Header)")
-        && is_answered(rt, alloc, Kind::Script, &file, "Err(Line { row: 0 })")
+    assert_answered(rt, alloc, Kind::Pages, &file, "Err(Header)");
+    assert_answered(rt, alloc, Kind::Requests, &file, "Err(Header)");
+    assert_answered(rt, alloc, Kind::Script, &file, "Err(Line { row: 0 })");
 }

@@ -133,7 +133,8 @@ fn a_failed_read_stays_failed(rt: HostRuntime) {
 // Reads so many records.
 fn skip<R: Read>(rt: &impl Abort, records: &mut Records<R>, number: u32) {
     for _ in 0..number {
-        assert!(rt; records.read_next() == Ok(true), "no record");
+        let next = records.read_next();
+        assert!(rt; next == Ok(true), "{next:?}");
     }
 }
 

@@ -53,7 +53,7 @@ fn assert_appends(rt: &impl Abort, alloc: Global, report: &Report)
 {
     let pages = one_page(rt, alloc, "name,count,split\na,0,no\n");
     let mut out = list(rt, alloc, b"before\n");
-    write_places(alloc, report, &pages, &mut out).expect(rt, "written");
+    write_places(alloc, report, &pages, &mut out).expect(rt, "memory for the text");
     assert!(rt; out.as_slice() == b"before\nplace,0,0,1,0,a,1\n".as_slice());
 }
 

@@ -57,5 +57,6 @@ fn places_by_page_and_count(rt: HostRuntime) {
 
 #[test]
 fn no_additions(rt: HostRuntime) {
-    assert!(rt; placed(&rt, rt.alloc(), 1, &[], &[]).as_str() == "Ok([[]])");
+    let placed = placed(&rt, rt.alloc(), 1, &[], &[]);
+    assert!(rt; placed.as_str() == "Ok([[]])", "{placed}");
 }

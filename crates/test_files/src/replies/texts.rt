@@ -127,23 +127,24 @@ pub fn assert_writes<F: Fn(&mut &mut [u8]) -> Result<(), WriteFault>>(
     requires { F.IsAlwaysCallable write }
 {
     for bytes in 0..text.len() {
-        assert!(rt; fails_within(rt, alloc, bytes, &write));
+        let fault = fault_within(rt, alloc, bytes, &write);
+        assert!(rt; fault == Some(WriteFault::Write), "{fault:?}");
     }
     assert!(rt; fills(rt, alloc, text.as_bytes(), &write));
 }
 
-// Whether a write fails where there is room for so many bytes.
-fn fails_within<F: Fn(&mut &mut [u8]) -> Result<(), WriteFault>>(
+// The fault of a write where there is room for so many bytes.
+fn fault_within<F: Fn(&mut &mut [u8]) -> Result<(), WriteFault>>(
     rt: &impl Abort,
     alloc: Global,
     bytes: usize,
     write: &F,
-) -> bool
+) -> Option<WriteFault>
     requires { F.IsAlwaysCallable write.now }
 {
     let mut room = vec![in alloc; 0; bytes].expect(rt, "memory");
     let mut out = room.as_mut_slice();
-    matches!(write(&mut out), Err(WriteFault::Write))
+    write(&mut out).err()
 }
 
 // Whether a text is written where there is room for just that.
@@ -225,7 +226,7 @@ fn assert_appends(rt: &impl Abort, alloc: Global, report: &Report, text: &str)
 {
     let pages = one_page(rt, alloc, "name,count,split\na,10,no\n");
     let mut out = list(rt, alloc, b"before\n");
-    write_report(alloc, report, &pages, &mut out).expect(rt, "written");
+    write_report(alloc, report, &pages, &mut out).expect(rt, "memory for the text");
     assert!(rt; out.as_slice() == text.as_bytes());
 }
 

@@ -109,7 +109,10 @@ fn assert_text(
 {
     let pages = one_page(rt, alloc, "name,count,split\na,0,no\n");
     let mut out = Vec::new(alloc);
-    write_text_at_once(rt, alloc, places, report, &pages, &mut out).expect(rt, "written");
+    write_text_at_once(rt, alloc, places, report, &pages, &mut out).expect(
+        rt,
+        "memory for the text",
+    );
     assert!(rt; out.as_slice() == text.as_bytes());
 }
 
