@@ -9,7 +9,7 @@ use std::io;
 use std::io::Write;
 
 /// What a report comes to: how many requests had each answer, and how many phases there were.
-#[derive(Clone, Copy, Debug, PartialEq, Eq)]
+#[derive(Clone, Copy, PartialEq, Eq)]
 pub struct Summary {
     pub requests: u64,
     pub liked: u64,

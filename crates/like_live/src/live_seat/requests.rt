@@ -4,7 +4,7 @@ ghost use Rattle.like_core.specs.WorkerState.{IsRunning, RunsSplit};
 ghost use Rattle.like_seat.specs.SeatView.{phase_at};
 ghost use Rattle.like_seat.specs.Steps.{holding};
 ghost use Rattle.like_tables.specs.Share.{owns};
-ghost use Rattle.like_live.specs.LiveView.{IsLive, IsOwn, IsSameSeat, KeepsTallies, room_of, waiting, with_seat};
+ghost use Rattle.like_live.specs.LiveView.{IsLive, IsOwn, room_of, waiting, with_seat};
 ghost use Rattle.like_live.specs.Calls.{GlancesNow, LikesNow, LooksNow, RetiresNow, verdict_at};
 
 use crate::answer::{GlanceAnswer, LikeAnswer, LookAnswer, TurnAnswer};
@@ -121,9 +121,6 @@ impl<P: Post> LiveSeat<P> {
         requires { IsRunning self.old.seat.post.state }
         ensures case { GlancesNow self.old user page result self.new }
         ensures keeps { IsLive self.new }
-        ensures same { IsSameSeat self.old self.new }
-        ensures tallies { KeepsTallies self.old self.new }
-        ensures last { self.new.seat.last ≡ self.old.seat.last }
     {
         if !self.accepts(user, page) {
             return GlanceAnswer::Refused(self.refusal(user, page));

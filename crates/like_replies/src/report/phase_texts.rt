@@ -30,25 +30,33 @@ impl Model for PhaseTexts {
         × (t.seen ≡ phase_text t.phase ++ codes ",seen,") };
 }
 
+// A phase as the fourth field of a row, and what comes after it.
+fn phase_and(alloc: Global, phase: u32, rest: &[u8]) -> Result<Sheet, AllocError>
+    ensures { IfOk result (λ text. text ≡ phase_text phase ++ rest.now) }
+{
+    let mut text = Sheet::new(alloc);
+    add_phase(&mut text, phase, rest)?;
+    Ok(text)
+}
+
+fn add_phase(text: &mut Sheet, phase: u32, rest: &[u8]) -> Result<(), AllocError>
+    ensures { OnOk result (text.new ≡ text.old ++ (phase_text phase ++ rest.now)) }
+{
+    text.add(b",")?;
+    text.add_number(u64::from(phase))?;
+    text.add(rest)
+}
+
 impl PhaseTexts {
     /// The texts of this phase.
     pub fn new(alloc: Global, phase: u32) -> Result<Self, AllocError>
         ensures { IfOk result (λ texts. texts ≡ phase) }
     {
-        let mut start = Sheet::new(alloc);
-        start.add(b",")?;
-        start.add_number(u64::from(phase))?;
-        let mut liked = Sheet::new(alloc);
-        liked.add(start.text())?;
-        liked.add(b",liked,,\n")?;
-        let mut seen = Sheet::new(alloc);
-        seen.add(start.text())?;
-        seen.add(b",seen,")?;
         Ok(PhaseTexts {
             phase,
-            start,
-            liked,
-            seen,
+            start: phase_and(alloc, phase, b"")?,
+            liked: phase_and(alloc, phase, b",liked,,\n")?,
+            seen: phase_and(alloc, phase, b",seen,")?,
         })
     }
 
