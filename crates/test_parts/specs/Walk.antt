@@ -12,14 +12,14 @@ use Rattle.like_board.specs.declared.worker_seat.WorkerSeat.{WorkerSeat}
 use Rattle.like_board.specs.Seats.{BoardId, AreFresh, board_numbers, coord_board, coord_view}
 use Rattle.test_parts.specs.declared.known.Known.{Known}
 
--- the seats of a board of one page, which is marked or is not, within these limits; no call was made on them
-pub record AreOpened (board : BoardId) (marked : Bool) (limits : Limits) (coord : CoordSeat) (seats : List WorkerSeat)
-    : Type 0 where
+-- the seats of a board of so many pages, whose first is marked or is not, within these limits; no call was made on them
+pub record AreOpened (board : BoardId) (pages : ℕ) (marked : Bool) (limits : Limits) (coord : CoordSeat)
+    (seats : List WorkerSeat) : Type 0 where
   pub here : coord_board coord ≡ board
   pub fresh : AreFresh board (coord_view coord).opening seats
   pub limits_are : (coord_view coord).opening.limits ≡ limits
-  pub one_count : length (coord_view coord).opening.counts ≡ 1
-  pub one_mark : length (coord_view coord).opening.marks ≡ 1
+  pub counted : length (coord_view coord).opening.counts ≡ pages
+  pub sized : length (coord_view coord).opening.marks ≡ pages
   pub first : is_marked (coord_view coord).opening.marks 0 ≡ marked
 
 -- page 0 is hot by the mask that the post read of a phase

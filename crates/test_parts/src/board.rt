@@ -1,10 +1,9 @@
-ghost use Rattle.std.specs.Prelude.{◌≡◌, ◌+◌, ◌≤◌, [], ◌∷◌, IfOk, IfSome, length, slice_index, vec_len};
-ghost use Rattle.like_limits.specs.Limits.{max_count, max_workers};
+ghost use Rattle.std.specs.Prelude.{◌≡◌, ◌+◌, ◌≤◌, true, IfOk, IfSome, slice_index, vec_len};
+ghost use Rattle.like_limits.specs.Limits.{max_count, max_pages, max_workers};
 ghost use Rattle.like_core.specs.declared.worker_state.WorkerState.TheVariants.{Gone};
-ghost use Rattle.like_core.specs.Phase.{is_marked};
 ghost use Rattle.like_core.specs.OpeningLimits.{AreLimits, run_limits};
 ghost use Rattle.like_core.specs.Post.{additions_of};
-ghost use Rattle.like_board.specs.Seats.{board_id, coord_board, coord_view, post_meaning, seat_meaning, AreFresh};
+ghost use Rattle.like_board.specs.Seats.{board_id, coord_board, coord_view, post_meaning, seat_meaning};
 ghost use Rattle.test_parts.specs.Walk.{AreOpened, IsCoordOf, IsWorkerAt, KeepsSeat};
 
 mod calls;
@@ -16,7 +15,7 @@ mod walker;
 use crate::pure_core::small_limits;
 use calls::{OnPost, Step};
 use like_board::{Board, BoardPost, CoordSeat, WorkerSeat};
-use like_core::{Limits, WorkerState};
+use like_core::{Limits, Post, WorkerState};
 use party::Party;
 use scripts::{each_call, equal_numbers, hot_phase, likes, three_phases};
 use std::alloc::{AllocError, Global};
@@ -34,35 +33,37 @@ fn last_walker<'a>(
     pages: u32,
     marked: bool,
 ) -> Walker<BoardPost<'a>>
-    requires fresh { AreFresh (board_id board.now) (coord_view coord.now).opening seats.old.items }
-    requires limits { (coord_view coord.now).opening.limits ≡ limits }
-    requires pages { length (coord_view coord.now).opening.marks ≡ pages }
-    requires first { is_marked (coord_view coord.now).opening.marks 0 ≡ marked }
+    requires { AreOpened (board_id board.now) pages marked limits coord.now seats.old.items }
     ensures last { vec_len seats.old ≡ vec_len seats.new + 1 }
-    ensures at { IsWorkerAt (board_id board.now) (vec_len seats.new) (post_meaning result.post) }
-    ensures rest { AreFresh (board_id board.now) (coord_view coord.now).opening seats.new.items }
+    ensures at { IsWorkerAt (coord_board coord.now) (vec_len seats.new) (post_meaning result.post) }
+    ensures rest { AreOpened (board_id board.now) pages marked limits coord.now seats.new.items }
 {
     let seat = seats.pop().expect(rt, "a seat is there");
     Walker::new(seat.at(board), limits, pages, marked)
 }
 
-// A board of one page, with the coordinator's seat and each worker's.
+// A board of so many pages that begin at this count, with the coordinator's seat and each worker's.
 fn opened(
     alloc: Global,
     workers: u32,
+    pages: usize,
     count: u64,
     marked: bool,
     limits: Limits,
 ) -> Result<(Board, CoordSeat, Vec<WorkerSeat>), AllocError>
     requires some { 1 ≤ workers }
     requires few { workers ≤ max_workers }
+    requires some_page { 1 ≤ pages }
+    requires few_pages { pages ≤ max_pages }
     requires small { count ≤ max_count }
     requires limits { AreLimits limits }
-    ensures opened { IfOk result (λ r. AreOpened (board_id r.0) marked limits r.1 r.2.items) }
+    ensures opened { IfOk result (λ r. AreOpened (board_id r.0) pages marked limits r.1 r.2.items) }
     ensures workers { IfOk result (λ r. (coord_view r.1).opening.workers ≡ workers) }
-    ensures counts { IfOk result (λ r. (coord_view r.1).opening.counts ≡ count ∷ []) }
+    ensures counts { IfOk result (λ r. slice_index (coord_view r.1).opening.counts 0 ≡ count) }
 {
-    Board::with_limits(alloc, workers, &[count], &[marked], limits)
+    let counts = Vec::from_elem(alloc, count, pages)?;
+    let marks = Vec::from_elem(alloc, marked, pages)?;
+    Board::with_limits(alloc, workers, counts.as_slice(), marks.as_slice(), limits)
 }
 
 // Those at a board of one page.
@@ -74,7 +75,7 @@ fn party_at<'a>(
     limits: Limits,
     marked: bool,
 ) -> Party<'a, BoardPost<'a>>
-    requires { AreOpened (board_id board.now) marked limits coord seats.items }
+    requires { AreOpened (board_id board.now) 1 marked limits coord seats.items }
     ensures { result.coord ≡ coord }
 {
     let second = if seats.len() == 2 {
@@ -122,7 +123,7 @@ fn walks(
     marked: bool,
     parts: &[&[Step]],
 ) -> (CoordSeat, Left, Option<Left>)
-    requires { AreOpened (board_id board.now) marked run_limits coord seats.items }
+    requires { AreOpened (board_id board.now) 1 marked run_limits coord seats.items }
     ensures coord { KeepsSeat coord result.0 }
     ensures first { IsWorkerAt (coord_board coord) 0 (seat_meaning result.1.seat) }
     ensures second { IfSome result.2 (λ left. IsWorkerAt (coord_board coord) 1 (seat_meaning left.seat)) }
@@ -194,7 +195,7 @@ fn walked(
     requires small { count ≤ max_count }
     ensures { IfOk result (λ r. r.0 ≡ count + (r.1.0 + r.1.1)) }
 {
-    let (board, coord, seats) = opened(alloc, workers, count, marked, Limits::of_run())?;
+    let (board, coord, seats) = opened(alloc, workers, 1, count, marked, Limits::of_run())?;
     let (coord, first, second) = walks(rt, &board, coord, seats, marked, parts);
     match second {
         Some(second) => {
@@ -208,16 +209,39 @@ fn walked(
     }
 }
 
+// Whether a page has this count at the end, and each worker added so many likes to it.
+fn is_end(end: End, count: u64, first: u64, second: u64) -> bool {
+    let (now, likes) = end;
+    now == count && likes.0 == first && likes.1 == second
+}
+
 #[test]
 fn walks_through_three_phases(rt: HostRuntime) -> Result<(), Fail> {
-    assert!(rt; walked(&rt, rt.alloc(), 2, 10, true, three_phases())? == (13, (3, 0)));
+    let end = walked(&rt, rt.alloc(), 2, 10, true, three_phases())?;
+    assert!(rt; is_end(end, 13, 3, 0));
     Ok(())
 }
 
 #[test]
 fn walks_through_a_hot_phase(rt: HostRuntime) -> Result<(), Fail> {
-    assert!(rt; walked(&rt, rt.alloc(), 1, 5, false, hot_phase())? == (7, (2, 0)));
+    let end = walked(&rt, rt.alloc(), 1, 5, false, hot_phase())?;
+    assert!(rt; is_end(end, 7, 2, 0));
     Ok(())
+}
+
+// The workers and the coordinator of a board make calls.
+fn plays_at(
+    rt: &impl Abort,
+    board: &Board,
+    coord: CoordSeat,
+    seats: Vec<WorkerSeat>,
+    limits: Limits,
+    marked: bool,
+    parts: &[&[Step]],
+)
+    requires { AreOpened (board_id board.now) 1 marked limits coord seats.items }
+{
+    party_at(rt, board, coord, seats, limits, marked).plays(rt, parts);
 }
 
 // Workers of one page and the coordinator make calls.
@@ -235,8 +259,8 @@ fn plays(
     requires small { count ≤ max_count }
     requires limits { AreLimits limits }
 {
-    let (board, coord, seats) = opened(alloc, workers, count, marked, limits)?;
-    party_at(rt, &board, coord, seats, limits, marked).plays(rt, parts);
+    let (board, coord, seats) = opened(alloc, workers, 1, count, marked, limits)?;
+    plays_at(rt, &board, coord, seats, limits, marked, parts);
     Ok(())
 }
 
@@ -264,15 +288,27 @@ fn likes_by_posts(rt: HostRuntime) -> Result<(), Fail> {
     plays(&rt, rt.alloc(), 2, 10, true, Limits::of_run(), likes())
 }
 
+// Whether the last page of the most has the greatest count, and one more after a like.
+fn likes_last_page<P: Post>(walker: &mut Walker<P>) -> bool {
+    walker.answers(OnPost::Like(1_023, 1_000_000_000_000_000_000))
+        && walker.answers(OnPost::Read(1_023, 1_000_000_000_000_000_001))
+}
+
+// The last of sixteen workers likes the last page of a board that has the most.
+fn likes_last(rt: &impl Abort, board: &Board, coord: CoordSeat, mut seats: Vec<WorkerSeat>)
+    requires { AreOpened (board_id board.now) 1_024 true run_limits coord seats.items }
+{
+    assert!(rt; seats.len() == 16);
+    let limits = Limits::of_run();
+    let mut last = last_walker(rt, &mut seats, board, &coord, limits, 1_024, true);
+    assert!(rt; likes_last_page(&mut last));
+}
+
 // A board of the most workers and pages, with the greatest counts.
 #[test]
 fn holds_the_most(rt: HostRuntime) -> Result<(), Fail> {
-    let counts = [1_000_000_000_000_000_000; 1_024];
-    let (board, coord, mut seats) = Board::new(rt.alloc(), 16, &counts, &[true; 1_024])?;
-    assert!(rt; seats.len() == 16);
-    let limits = Limits::of_run();
-    let mut last = last_walker(&rt, &mut seats, &board, &coord, limits, 1_024, true);
-    assert!(rt; last.answers(OnPost::Like(1_023, 1_000_000_000_000_000_000)));
-    assert!(rt; last.answers(OnPost::Read(1_023, 1_000_000_000_000_000_001)));
+    let count = 1_000_000_000_000_000_000;
+    let (board, coord, seats) = opened(rt.alloc(), 16, 1_024, count, true, Limits::of_run())?;
+    likes_last(&rt, &board, coord, seats);
     Ok(())
 }

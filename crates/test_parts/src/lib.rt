@@ -2,6 +2,8 @@
 #![tactic(auto)]
 
 #[cfg(test)]
+mod asserts;
+#[cfg(test)]
 mod board;
 // A definition of specs/Walk.antt has this type, so it is there without tests, too.
 mod known;

@@ -3,36 +3,46 @@ ghost use Rattle.like_core.specs.OpeningLimits.{AreLimits};
 
 mod cases;
 
-use cases::{Case, LawfulWord, cases, lawful_words, unlawful_words};
+use crate::asserts::{assert_call, assert_named};
+use cases::{Case, LawfulWord, Step, cases, lawful_words, unlawful_words};
 use like_core::{CoordSight, Core, Event, Kind, Limits, NotNow, PhaseWord, Shown, check_events};
 use std::alloc::{AllocError, Global};
 use std::process::Abort;
 use std::test::Fail;
 
-// The core of a case.
-fn core_of(rt: &impl Abort, alloc: Global, case: &Case) -> Result<Core, AllocError> {
-    assert!(rt; case.workers >= 1 && case.workers <= 16);
-    assert!(rt; case.marks.len() <= 1_024 && case.count <= 9_223_372_036_854_775_807);
-    let counts = Vec::from_elem(alloc, case.count, case.marks.len())?;
-    Core::new(alloc, case.workers, counts.as_slice(), case.marks)
+// A core of pages that begin at this count.
+fn core_of(
+    rt: &impl Abort,
+    alloc: Global,
+    workers: u32,
+    count: u64,
+    marks: &[bool],
+) -> Result<Core, AllocError> {
+    assert!(rt; workers >= 1 && workers <= 16);
+    assert!(rt; marks.len() <= 1_024 && count <= 9_223_372_036_854_775_807);
+    let counts = Vec::from_elem(alloc, count, marks.len())?;
+    Core::new(alloc, workers, counts.as_slice(), marks)
+}
+
+// Asserts what a core shows at the steps of a case.
+fn assert_steps(rt: &impl Abort, core: &mut Core, case: &str, steps: &[Step]) {
+    for at in 0..steps.len() {
+        let (event, shown) = steps[at];
+        assert_call(rt, core.step(event) == shown, case, at);
+    }
 }
 
 // Asserts what a core answers to the events of a case.
 fn assert_case(rt: &impl Abort, core: &mut Core, case: &Case) {
-    assert!(rt;
-        check_events(core, case.events) == case.checked,
-        "{}",
-        case.name
-    );
-    for (event, shown) in case.steps {
-        assert!(rt; core.step(*event) == *shown, "{}: {event:?}", case.name);
-    }
+    let checked = check_events(core, case.events);
+    assert_named(rt, checked == case.checked, case.name);
+    assert_steps(rt, core, case.name, case.steps);
 }
 
 #[test]
 fn answers_events(rt: HostRuntime) -> Result<(), Fail> {
     for case in cases() {
-        let mut core = core_of(&rt, rt.alloc(), case)?;
+        let mut core = core_of(&rt, rt.alloc(), case.workers, case.count, case.marks)?;
         assert_case(&rt, &mut core, case);
     }
     Ok(())
@@ -66,7 +76,7 @@ fn assert_limits(rt: &impl Abort, core: &mut Core, last_phase: u32, modulus: u32
 {
     for phase in 0..last_phase {
         let goes = shows_number(core, phase % modulus) && goes_on(core, phase);
-        assert!(rt; goes, "in phase {phase}");
+        assert_call(rt, goes, "phases", phase as usize);
     }
     assert!(rt; core.step(Event::Announce) == Err(NotNow::Last));
 }
@@ -154,11 +164,18 @@ fn is_word(word: LawfulWord) -> bool {
 
 #[test]
 fn packs_and_unpacks_words(rt: HostRuntime) -> Result<(), Fail> {
-    for word in lawful_words() {
-        assert!(rt; is_word(*word), "at {}", word.packed);
+    let lawful = lawful_words();
+    for at in 0..lawful.len() {
+        assert_call(&rt, is_word(lawful[at]), "lawful words", at);
     }
-    for word in unlawful_words() {
-        assert!(rt; PhaseWord::unpack(*word) == None, "at {word}");
+    let unlawful = unlawful_words();
+    for at in 0..unlawful.len() {
+        assert_call(
+            &rt,
+            PhaseWord::unpack(unlawful[at]).is_none(),
+            "unlawful words",
+            at,
+        );
     }
     Ok(())
 }

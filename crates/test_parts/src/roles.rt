@@ -8,11 +8,14 @@ mod play;
 mod player;
 mod scenes;
 
+use crate::asserts::assert_named;
 use gates::Expecting;
+use like_core::Post;
 use like_requests::{Request, Setup, check_setup, read_pages};
-use like_roles::WorkerLog;
-use play::{Play, board_of};
-use scenes::{Scene, scenes};
+use like_roles::{Added, Ran, Took, WorkerLog};
+use like_tables::Users;
+use play::{Play, Step, board_of};
+use scenes::{Scene, addition_scenes, phase_scenes, stash_scenes};
 use std::alloc::Global;
 use std::process::Abort;
 use std::test::Fail;
@@ -29,36 +32,55 @@ fn setup_of(alloc: Global, scene: &Scene) -> Result<Setup, Fail> {
     })
 }
 
-// Whether the users of a scene liked their pages last.
-fn has_last(log: &WorkerLog, scene: &Scene) -> bool {
-    for (user, page) in scene.last {
-        if !log.last.owns(*user) || log.last.last(*user) != *page {
+// Whether users liked these pages last.
+fn has_last(users: &Users, last: &[(u32, Option<u32>)]) -> bool {
+    for (user, page) in last {
+        if !users.owns(*user) || users.last(*user) != *page {
             return false;
         }
     }
     true
 }
 
-// Whether the log says that the scene's requests were taken and run, that its additions were made, or there was no room
-// for any, and that its users liked their pages last.
-fn is_log_of(log: &WorkerLog, scene: &Scene) -> bool {
-    log.taken.as_slice() == scene.taken
-        && log.ran.as_slice() == scene.ran
-        && log.adds.as_slice() == scene.adds
-        && (scene.notes || log.adds.capacity() == 0)
-        && has_last(log, scene)
+// Whether the additions are these. Where they are not noted, there was no room for any.
+fn are_additions(adds: &Vec<Added>, want: &[Added], notes: bool) -> bool {
+    adds.as_slice() == want && (notes || adds.capacity() == 0)
+}
+
+// Whether these requests were taken and run.
+fn has_run(log: &WorkerLog, taken: &[Took], ran: &[Ran]) -> bool {
+    log.taken.as_slice() == taken && log.ran.as_slice() == ran
+}
+
+// Whether the scene ends so: in this phase, with its calls of the gate, and with the log of its requests that were taken
+// and run, of its additions, or no room for any, and of the pages that its users liked last.
+fn is_end_of(scene: &Scene, phase: u32, log: &WorkerLog, gate: &Expecting) -> bool {
+    phase == scene.phase
+        && gate.is_content()
+        && has_run(log, scene.taken, scene.ran)
+        && are_additions(&log.adds, scene.adds, scene.notes)
+        && has_last(&log.last, scene.last)
+}
+
+// Makes the steps of all parts.
+fn make_parts<P: Post + Drop>(
+    rt: &impl Abort,
+    gate: &Expecting,
+    play: &mut Play<'_, P>,
+    parts: &[&[Step]],
+) {
+    for part in 0..parts.len() {
+        play.make(rt, gate, part, parts[part]);
+    }
 }
 
 // Makes the steps of a scene. Asserts the last phase that the coordinator saw, what the first worker has done, and the
 // calls of the gate.
-fn make_all(rt: &impl Abort, scene: &Scene, mut play: Play<'_>) {
+fn make_all<P: Post + Drop>(rt: &impl Abort, scene: &Scene, mut play: Play<'_, P>) {
     let gate = Expecting::new(scene.calls);
-    for steps in scene.parts {
-        play.make(rt, &gate, steps);
-    }
+    make_parts(rt, &gate, &mut play, scene.parts);
     let (phase, log) = play.finish(rt, &gate);
-    let is_right = phase == scene.phase && is_log_of(&log, scene) && gate.is_content();
-    assert!(rt; is_right, "{}", scene.name);
+    assert_named(rt, is_end_of(scene, phase, &log, &gate), scene.name);
 }
 
 // The board of a scene, with its workers and the coordinator at it, plays the scene.
@@ -77,18 +99,28 @@ fn play_at_board(
     Ok(())
 }
 
-// Plays a scene, within the limits of a run.
+// Plays a scene with its settings, within the limits of a run.
+fn play_with(rt: &impl Abort, alloc: Global, scene: &Scene, setup: &Setup) -> Result<(), Fail> {
+    let plans = [Vec::from_slice(alloc, scene.plan)?];
+    check_setup(setup, &plans)?;
+    play_at_board(rt, alloc, scene, setup, plans[0].as_slice())
+}
+
 fn play_scene(rt: &impl Abort, alloc: Global, scene: &Scene) -> Result<(), Fail> {
     let setup = setup_of(alloc, scene)?;
-    let plans = [Vec::from_slice(alloc, scene.plan)?];
-    check_setup(&setup, &plans)?;
-    play_at_board(rt, alloc, scene, &setup, plans[0].as_slice())
+    play_with(rt, alloc, scene, &setup)
+}
+
+fn play_scenes(rt: &impl Abort, alloc: Global, scenes: &[Scene]) -> Result<(), Fail> {
+    for scene in scenes {
+        play_scene(rt, alloc, scene)?;
+    }
+    Ok(())
 }
 
 #[test]
 fn plays_each_scene(rt: HostRuntime) -> Result<(), Fail> {
-    for scene in scenes() {
-        play_scene(&rt, rt.alloc(), scene)?;
-    }
-    Ok(())
+    play_scenes(&rt, rt.alloc(), stash_scenes())?;
+    play_scenes(&rt, rt.alloc(), phase_scenes())?;
+    play_scenes(&rt, rt.alloc(), addition_scenes())
 }

@@ -2,6 +2,7 @@ ghost use Rattle.std.specs.Prelude.{◌≡◌, length};
 
 mod calls;
 
+use crate::asserts::{assert_call, assert_call_at};
 use calls::{OnSlice, OnStash, OnUsers, held_of, of_a_million, of_five, slices, stashes};
 use like_requests::{Op, PageRef, Request, Verdict};
 use like_tables::{Held, Slice, Stash, Users};
@@ -29,14 +30,21 @@ fn answers_slice(slice: &mut Slice, pages: u32, call: OnSlice) -> bool
     }
 }
 
+// Makes the calls of a slice of so many pages, and asserts their answers.
+fn call_slice(rt: &impl Abort, slice: &mut Slice, pages: u32, calls: &[OnSlice])
+    requires { length slice.old ≡ pages }
+{
+    for at in 0..calls.len() {
+        let answered = answers_slice(slice, pages, calls[at]);
+        assert_call_at(rt, answered, pages as usize, at);
+    }
+}
+
 #[test]
 fn a_slice_gives_what_was_added(rt: HostRuntime) -> Result<(), Fail> {
     for (pages, calls) in slices() {
         let mut slice = Slice::new(rt.alloc(), *pages)?;
-        for at in 0..calls.len() {
-            let answered = answers_slice(&mut slice, *pages, calls[at]);
-            assert!(rt; answered, "{pages} pages: call {at}");
-        }
+        call_slice(&rt, &mut slice, *pages, calls);
     }
     Ok(())
 }
@@ -69,15 +77,19 @@ fn answers_stash(stash: &mut Stash<Held>, call: OnStash) -> bool {
     }
 }
 
+// Makes the calls of a stash with room for so many looks, and asserts their answers.
+fn call_stash(rt: &impl Abort, stash: &mut Stash<Held>, capacity: usize, calls: &[OnStash]) {
+    for at in 0..calls.len() {
+        assert_call_at(rt, answers_stash(stash, calls[at]), capacity, at);
+    }
+}
+
 #[test]
 fn a_stash_gives_what_was_pushed(rt: HostRuntime) -> Result<(), Fail> {
     for (capacity, calls) in stashes() {
         assert!(rt; *capacity >= 1 && *capacity <= 4_096);
         let mut stash = Stash::new(rt.alloc(), *capacity)?;
-        for at in 0..calls.len() {
-            let answered = answers_stash(&mut stash, calls[at]);
-            assert!(rt; answered, "{capacity} looks: call {at}");
-        }
+        call_stash(&rt, &mut stash, *capacity as usize, calls);
     }
     Ok(())
 }
@@ -104,7 +116,7 @@ fn call_users(rt: &impl Abort, users: &mut Users, calls: &[OnUsers])
     ensures { users.new.share ≡ users.old.share }
 {
     for at in 0..calls.len() {
-        assert!(rt; answers_users(users, calls[at]), "call {at}");
+        assert_call(rt, answers_users(users, calls[at]), "users", at);
     }
 }
 

@@ -6,6 +6,7 @@ ghost use Rattle.test_parts.specs.Walk.{IsWorkerAt, KeepsSeat};
 use super::calls::Step;
 use super::lead::lead;
 use super::walker::Walker;
+use crate::asserts::assert_call_at;
 use like_board::{Board, CoordSeat};
 use like_core::Post;
 use std::process::Abort;
@@ -36,7 +37,7 @@ impl<P: Post> Party<'_, P> {
         ensures { KeepsSeat self.old.coord self.new.coord }
     {
         for at in 0..steps.len() {
-            assert!(rt; self.answers(steps[at]), "call {at} of part {part}");
+            assert_call_at(rt, self.answers(steps[at]), part, at);
         }
     }
 

@@ -13,9 +13,11 @@ pub struct Case {
     pub events: &'static [Event],
     /// What the check of the events answers.
     pub checked: Result<(), Wrong>,
-    /// The steps, each with what it shows.
-    pub steps: &'static [(Event, Result<Shown, NotNow>)],
+    pub steps: &'static [Step],
 }
+
+/// An event, with what it shows.
+pub type Step = (Event, Result<Shown, NotNow>);
 
 /// The cases. A function that takes them from here has none of them in its proof.
 pub fn cases() -> &'static [Case] {

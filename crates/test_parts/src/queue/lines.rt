@@ -1,9 +1,10 @@
-ghost use Rattle.std.specs.Prelude.{◌≡◌, ◌≤◌, length};
+ghost use Rattle.std.specs.Prelude.{◌≡◌, ◌≤◌, IfOk, length};
 ghost use Rattle.like_limits.specs.Limits.{max_requests};
 
 mod cases;
 
 use super::LIKE;
+use crate::asserts::assert_call;
 use cases::{Call, Case, cases, of_one};
 use like_queue::{
     EndRefused, Line, ListInbox, PushRefused, SendEnd, SendPass, TakeEnd, TakePass, TakeWith,
@@ -65,6 +66,11 @@ fn takes_each<R: Wait>(rt: &R, end: &mut TakeEnd<'_>, first: u32, last: u32) -> 
         }
     }
     true
+}
+
+// Whether the end mark is taken.
+fn takes_end<R: Wait>(rt: &R, end: &mut TakeEnd<'_>) -> bool {
+    end.take(rt) == Taken::End
 }
 
 // Takes from an inbox until its end mark comes, and gives the last number.
@@ -205,7 +211,7 @@ fn answers<R: Wait>(rt: &R, send: &mut SendEnd<'_>, take: &mut TakeEnd<'_>, call
         Call::End(want) => ends(rt, send, want),
         Call::EndIsLast => ends_for_good(rt, send),
         Call::Take(first, last) => takes_each(rt, take, first, last),
-        Call::TakeEnd => take.take(rt) == Taken::End,
+        Call::TakeEnd => takes_end(rt, take),
         Call::GoThrough => goes_through(rt, send, take),
     }
 }
@@ -214,15 +220,31 @@ fn answers<R: Wait>(rt: &R, send: &mut SendEnd<'_>, take: &mut TakeEnd<'_>, call
 fn play<R: Wait + Abort>(rt: &R, send: &mut SendEnd<'_>, take: &mut TakeEnd<'_>, case: &Case) {
     for at in 0..case.calls.len() {
         let answered = answers(rt, send, take, case.calls[at]);
-        assert!(rt; answered, "{}: call {at}", case.name);
+        assert_call(rt, answered, case.name, at);
     }
+}
+
+// Plays a case at the ends of a line.
+fn play_at<R: Wait + Abort>(rt: &R, line: &Line, send: SendPass, take: TakePass, case: &Case)
+    requires sends { send.line ≡ line.now }
+    requires takes { take.line ≡ line.now }
+{
+    play(rt, &mut send.at(line), &mut take.at(line), case);
+}
+
+// So many likes.
+fn plan_of(rt: &impl Abort, alloc: Global, size: usize) -> Result<Vec<Request>, AllocError>
+    ensures { IfOk result (λ plan. length plan.items ≤ max_requests) }
+{
+    assert!(rt; size <= 1_000_000);
+    Vec::from_elem(alloc, LIKE, size)
 }
 
 // A line, at whose ends a case is played.
 fn play_at_line<R: Wait + Abort>(rt: &R, alloc: Global, case: &Case) -> Result<(), AllocError> {
-    assert!(rt; case.size <= 1_000_000);
-    let (line, send, take) = Line::new(alloc, Vec::from_elem(alloc, LIKE, case.size)?)?;
-    play(rt, &mut send.at(&line), &mut take.at(&line), case);
+    let plan = plan_of(rt, alloc, case.size)?;
+    let (line, send, take) = Line::new(alloc, plan)?;
+    play_at(rt, &line, send, take, case);
     Ok(())
 }
 
@@ -251,14 +273,14 @@ fn a_refused_growth_is_told(rt: HostRuntime) -> Result<(), Fail> {
 
 #[test]
 fn goes_to_another_thread(rt: HostRuntime) -> Result<(), Fail> {
-    let plan = Vec::from_elem(rt.alloc(), LIKE, 10_000)?;
+    let plan = plan_of(&rt, rt.alloc(), 10_000)?;
     assert!(rt; through(&rt, rt.alloc(), plan)? == 10_000);
     Ok(())
 }
 
 #[test]
 fn takes_from_a_list_as_from_a_line(rt: HostRuntime) -> Result<(), Fail> {
-    let mut inbox = ListInbox::new(Vec::from_elem(rt.alloc(), LIKE, 3)?);
+    let mut inbox = ListInbox::new(plan_of(&rt, rt.alloc(), 3)?);
     inbox.open_all();
     assert!(rt; last_number(&rt, inbox) == 3);
     Ok(())

@@ -1,6 +1,8 @@
 use super::LIKE;
+use crate::asserts::assert_call;
 use like_queue::ListInbox;
 use like_requests::{Numbered, Request, Taken};
+use std::process::Abort;
 use std::test::Fail;
 
 // A call of a list's inbox, with its answer.
@@ -54,15 +56,19 @@ fn answers(inbox: &mut ListInbox, call: Call) -> bool {
     }
 }
 
+// Makes the calls of a list's inbox, and asserts their answers.
+fn call_list(rt: &impl Abort, inbox: &mut ListInbox, calls: &[Call]) {
+    for at in 0..calls.len() {
+        assert_call(rt, answers(inbox, calls[at]), "list", at);
+    }
+}
+
 #[test]
 fn hands_over_requests_and_the_end(rt: HostRuntime) -> Result<(), Fail> {
     for (plan, calls) in lists() {
         let plan = Vec::from_slice(rt.alloc(), plan)?;
         assert!(rt; plan.len() <= 1);
-        let mut inbox = ListInbox::new(plan);
-        for at in 0..calls.len() {
-            assert!(rt; answers(&mut inbox, calls[at]), "call {at}");
-        }
+        call_list(&rt, &mut ListInbox::new(plan), calls);
     }
     Ok(())
 }

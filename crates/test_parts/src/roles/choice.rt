@@ -6,6 +6,7 @@ ghost use Rattle.like_board.specs.Seats.{board_id, coord_board, coord_view};
 use like_board::{Board, CoordSeat};
 use like_roles::{CoordTurn, Coordinator, NoCoordinator};
 use std::alloc::Global;
+use std::process::Abort;
 use std::test::Fail;
 
 // The coordinator at this seat of a board with a page that begins at 10, and whether it was refused memory at first.
@@ -34,14 +35,23 @@ fn leads(board: &Board, mut coordinator: Coordinator) -> bool
     announces && waits && phase == 0 && chosen.is_empty()
 }
 
-// Want of memory is told and gives the seat back, and the next call is right.
-#[test]
-fn a_refused_coordinator_gives_its_seat_back(rt: HostRuntime) -> Result<(), Fail> {
-    let (board, coord, _) = Board::new(rt.alloc(), 1, &[10], &[false])?;
-    let (coordinator, refused) = coordinator_at(rt.alloc(), coord)?;
-    assert!(rt; leads(&board, coordinator));
+// A coordinator is right at its board, also after it was refused memory, which is told.
+fn assert_leads(rt: &impl Abort, alloc: Global, board: &Board, coord: CoordSeat) -> Result<(), Fail>
+    requires here { coord_board coord ≡ board_id board.now }
+    requires counts { (coord_view coord).opening.counts ≡ 10 ∷ [] }
+    requires run { (coord_view coord).opening.limits ≡ run_limits }
+{
+    let (coordinator, refused) = coordinator_at(alloc, coord)?;
+    assert!(rt; leads(board, coordinator));
     if refused {
         return Err(Fail::new("out of memory, and then right"));
     }
     Ok(())
+}
+
+// Want of memory is told and gives the seat back, and the next call is right.
+#[test]
+fn a_refused_coordinator_gives_its_seat_back(rt: HostRuntime) -> Result<(), Fail> {
+    let (board, coord, _) = Board::new(rt.alloc(), 1, &[10], &[false])?;
+    assert_leads(&rt, rt.alloc(), &board, coord)
 }

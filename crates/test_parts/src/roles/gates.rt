@@ -2,12 +2,22 @@ use like_roles::Gate;
 use std::sync::atomic::{AtomicU32, Ordering};
 
 /// A call of a gate.
-#[derive(Clone, Copy, PartialEq, Eq)]
+#[derive(Clone, Copy)]
 pub enum Call {
     /// Worker, submitter and number.
     Run(u32, u32, u32),
     /// Worker and phase.
     Phase(u32, u32),
+}
+
+impl Call {
+    fn is_run(self, w: u32, s: u32, n: u32) -> bool {
+        matches!(self, Call::Run(worker, submitter, number) if worker == w && submitter == s && number == n)
+    }
+
+    fn is_phase(self, w: u32, k: u32) -> bool {
+        matches!(self, Call::Phase(worker, phase) if worker == w && phase == k)
+    }
 }
 
 /// A gate that counts its calls, and among them those that it does not expect in their place.
@@ -33,9 +43,14 @@ impl Expecting {
         made == self.calls.len() && self.wrong.load(Ordering::SeqCst) == 0
     }
 
-    fn note(&self, call: Call) {
+    // The call that is expected next, while one is made.
+    fn next(&self) -> Option<Call> {
         let at = self.made.fetch_add(1, Ordering::SeqCst) as usize;
-        if self.calls.get(at) != Some(&call) {
+        self.calls.get(at).copied()
+    }
+
+    fn note(&self, is_expected: bool) {
+        if !is_expected {
             self.wrong.fetch_add(1, Ordering::SeqCst);
         }
     }
@@ -43,14 +58,16 @@ impl Expecting {
 
 impl Gate for Expecting {
     fn push(&self, _s: u32, _n: u32) {
-        self.wrong.fetch_add(1, Ordering::SeqCst);
+        self.note(false);
     }
 
     fn run(&self, w: u32, s: u32, n: u32) {
-        self.note(Call::Run(w, s, n));
+        let expected = self.next();
+        self.note(matches!(expected, Some(call) if call.is_run(w, s, n)));
     }
 
     fn phase(&self, w: u32, k: u32) {
-        self.note(Call::Phase(w, k));
+        let expected = self.next();
+        self.note(matches!(expected, Some(call) if call.is_phase(w, k)));
     }
 }

@@ -8,7 +8,9 @@ ghost use Rattle.like_roles.specs.worker.New.{AreNewSeats};
 
 use super::gates::Expecting;
 use super::player::Player;
-use like_board::{Board, CoordSeat, WorkerSeat};
+use crate::asserts::assert_call_at;
+use like_board::{Board, BoardPost, CoordSeat, WorkerSeat};
+use like_core::Post;
 use like_requests::{Request, Setup};
 use like_roles::{CoordTurn, Coordinator, Turn, WorkerLog};
 use std::alloc::{AllocError, Global};
@@ -26,10 +28,10 @@ pub enum Step {
 
 /// Workers and the coordinator at one board, on one thread.
 #[derive(Drop)]
-pub struct Play<'a> {
+pub struct Play<'a, P: Post> {
     board: &'a Board,
     coordinator: Coordinator,
-    players: Vec<Player<'a>>,
+    players: Vec<Player<'a, P>>,
     ghost here: { coordinator.board ≡ board_id board.now },
 }
 
@@ -51,7 +53,28 @@ pub fn board_of(
     Board::new(alloc, setup.workers, counts.as_slice(), marks.as_slice())
 }
 
-// The workers of a run with one submitter, in order, which note their additions or do not.
+// Seats the workers of a run with one submitter, the last first, which note their additions or do not.
+fn seat_players<'a>(
+    alloc: Global,
+    setup: &Setup,
+    plan: &'a [Request],
+    board: &'a Board,
+    seats: &mut Vec<WorkerSeat>,
+    notes: bool,
+    players: &mut Vec<Player<'a, BoardPost<'a>>>,
+) -> Result<(), Fail>
+    requires within { FitsRun setup.now (plan.now ∷ []) }
+    requires seats { AreNewSeats (board_id board.now) setup.now.pages seats.old.items }
+    requires len { length seats.old.items ≤ setup.now.workers }
+{
+    while let Some(seat) = seats.pop() {
+        let number = seats.len() as u32;
+        players.push(Player::new(alloc, setup, plan, number, seat.at(board), notes)?)?;
+    }
+    Ok(())
+}
+
+// The workers of a run with one submitter, in order.
 fn players_of<'a>(
     alloc: Global,
     setup: &Setup,
@@ -59,16 +82,13 @@ fn players_of<'a>(
     board: &'a Board,
     mut seats: Vec<WorkerSeat>,
     notes: bool,
-) -> Result<Vec<Player<'a>>, Fail>
+) -> Result<Vec<Player<'a, BoardPost<'a>>>, Fail>
     requires within { FitsRun setup.now (plan.now ∷ []) }
     requires seats { AreNewSeats (board_id board.now) setup.now.pages seats.items }
     requires len { length seats.items ≤ setup.now.workers }
 {
     let mut players = Vec::new(alloc);
-    while let Some(seat) = seats.pop() {
-        let number = seats.len() as u32;
-        players.push(Player::new(alloc, setup, plan, number, seat.at(board), notes)?)?;
-    }
+    seat_players(alloc, setup, plan, board, &mut seats, notes, &mut players)?;
     players.reverse();
     Ok(players)
 }
@@ -86,7 +106,7 @@ fn coordinator_of(alloc: Global, setup: &Setup, coord: CoordSeat) -> Result<Coor
     }
 }
 
-impl<'a> Play<'a> {
+impl<'a> Play<'a, BoardPost<'a>> {
     /// The start of a run with one submitter, whose workers note their additions or do not.
     pub fn new(
         alloc: Global,
@@ -96,7 +116,7 @@ impl<'a> Play<'a> {
         coord: CoordSeat,
         seats: Vec<WorkerSeat>,
         notes: bool,
-    ) -> Result<Play<'a>, Fail>
+    ) -> Result<Play<'a, BoardPost<'a>>, Fail>
         requires within { FitsRun setup.now (plan.now ∷ []) }
         requires coord { coord_board coord ≡ board_id board.now }
         requires opened { (coord_view coord).opening.counts ≡ counts_of setup.now.pages }
@@ -110,11 +130,13 @@ impl<'a> Play<'a> {
             players: players_of(alloc, setup, plan, board, seats, notes)?,
         })
     }
+}
 
-    /// Makes the steps, and asserts that they are answered as they say.
-    pub fn make(&mut self, rt: &impl Abort, gate: &Expecting, steps: &[Step]) {
+impl<P: Post + Drop> Play<'_, P> {
+    /// Makes the steps of a part, and asserts that they are answered as they say.
+    pub fn make(&mut self, rt: &impl Abort, gate: &Expecting, part: usize, steps: &[Step]) {
         for at in 0..steps.len() {
-            assert!(rt; self.answers(gate, steps[at]), "step {at}");
+            assert_call_at(rt, self.answers(gate, steps[at]), part, at);
         }
     }
 

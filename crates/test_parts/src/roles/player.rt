@@ -1,12 +1,11 @@
 ghost use Rattle.std.specs.Prelude.{◌≡◌, ◌<◌, ◌≤◌, [], ◌∷◌, IfOk, length};
 ghost use Rattle.like_limits.specs.Limits.{max_requests};
 ghost use Rattle.like_requests.specs.Setup.{FitsRun, IsWithin};
-ghost use Rattle.like_board.specs.Seats.{post_meaning};
 ghost use Rattle.like_roles.specs.worker.New.{IsNew, IsPostOf};
 ghost use Rattle.test_parts.specs.Playing.{IsNextGiven};
 
 use super::gates::Expecting;
-use like_board::BoardPost;
+use like_core::Post;
 use like_requests::{Numbered, Request, Setup, Taken};
 use like_roles::{NoWorker, Turn, Worker, WorkerLog};
 use std::alloc::Global;
@@ -16,14 +15,14 @@ use std::test::Fail;
 
 /// A worker of a run with one submitter. It is given the next request of the plan each time, and then the end mark.
 #[derive(Drop)]
-pub struct Player<'a> {
-    worker: Worker<BoardPost<'a>>,
+pub struct Player<'a, P: Post> {
+    worker: Worker<P>,
     plan: &'a [Request],
     /// How many requests were taken.
     next: usize,
 }
 
-impl<'a> Model for Player<'a> {
+impl<'a, P: Post> Model for Player<'a, P> {
     ghost use Rattle.test_parts.specs.Playing.{IsPlaying};
     ghost use Rattle.like_roles.specs.worker.WorkerView.{WorkerView};
 
@@ -50,18 +49,18 @@ fn next_of(plan: &[Request], next: &mut usize) -> Taken
 }
 
 // The worker with this number in a run with one submitter, of so many requests.
-fn worker_of<'a>(
+fn worker_of<P: Post>(
     alloc: Global,
     setup: &Setup,
     size: u32,
     number: u32,
-    post: BoardPost<'a>,
+    post: P,
     notes: bool,
-) -> Result<Worker<BoardPost<'a>>, NoWorker<BoardPost<'a>>>
+) -> Result<Worker<P>, NoWorker<P>>
     requires within { IsWithin setup.now (size ∷ []) }
     requires is_worker { number < setup.now.workers }
-    requires post { IsPostOf number setup.now.pages (post_meaning post) }
-    ensures { IfOk result (IsNew setup.now (size ∷ []) number (post_meaning post.entry) notes) }
+    requires post { IsPostOf number setup.now.pages (P.view post) }
+    ensures { IfOk result (IsNew setup.now (size ∷ []) number (P.view post) notes) }
 {
     if notes {
         return Worker::new(alloc, setup, &[size], number, post);
@@ -69,19 +68,19 @@ fn worker_of<'a>(
     Worker::noting(alloc, setup, &[size], number, post, notes)
 }
 
-impl<'a> Player<'a> {
+impl<'a, P: Post + Drop> Player<'a, P> {
     /// The worker with this number, at its post, which notes its additions or does not.
     pub fn new(
         alloc: Global,
         setup: &Setup,
         plan: &'a [Request],
         number: u32,
-        post: BoardPost<'a>,
+        post: P,
         notes: bool,
-    ) -> Result<Player<'a>, Fail>
+    ) -> Result<Player<'a, P>, Fail>
         requires within { FitsRun setup.now (plan.now ∷ []) }
         requires is_worker { number < setup.now.workers }
-        requires post { IsPostOf number setup.now.pages (post_meaning post) }
+        requires post { IsPostOf number setup.now.pages (P.view post) }
     {
         match worker_of(alloc, setup, plan.len() as u32, number, post, notes) {
             Ok(worker) => Ok(Player {

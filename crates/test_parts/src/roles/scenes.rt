@@ -30,9 +30,19 @@ pub struct Scene {
     pub last: &'static [(u32, Option<u32>)],
 }
 
-/// The scenes. A function that takes them from here has none of them in its proof.
-pub fn scenes() -> &'static [Scene] {
-    SCENES
+/// Scenes with a stash. A function that takes scenes from here has none of them in its proof.
+pub fn stash_scenes() -> &'static [Scene] {
+    STASH_SCENES
+}
+
+/// Scenes of the phases and of those that are idle in them.
+pub fn phase_scenes() -> &'static [Scene] {
+    PHASE_SCENES
+}
+
+/// Scenes of additions.
+pub fn addition_scenes() -> &'static [Scene] {
+    ADDITION_SCENES
 }
 
 // A request of user 0.
@@ -151,7 +161,7 @@ const LONE: Scene = Scene {
     last: &[(0, Some(0))],
 };
 
-const SCENES: &[Scene] = &[
+const STASH_SCENES: &[Scene] = &[
     Scene {
         name: "splits_and_stashes",
         pages: "name,count,split\na,10,yes\n",
@@ -233,6 +243,9 @@ const SCENES: &[Scene] = &[
         last: &[(0, None)],
         ..LONE
     },
+];
+
+const PHASE_SCENES: &[Scene] = &[
     Scene {
         name: "runs_unsplit_pages_in_a_split_phase",
         pages: "name,count,split\na,7,no\n",
@@ -319,6 +332,9 @@ const SCENES: &[Scene] = &[
         adds: &[added!(0, 1, 1, 0, 1)],
         ..LONE
     },
+];
+
+const ADDITION_SCENES: &[Scene] = &[
     Scene {
         name: "adds_at_each_like_of_an_unsplit_page",
         pages: "name,count,split\na,10,no\n",

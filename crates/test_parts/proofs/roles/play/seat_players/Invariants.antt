@@ -1,7 +1,7 @@
 use Rattle.std.proofs.Common.{◌≤◌, length}
 use Rattle.like_board.specs.Seats.{board_id}
 use Rattle.like_roles.specs.worker.New.{AreNewSeats}
-use Rattle.test_parts.proofs.roles.play.players_of.Given as goal
+use Rattle.test_parts.proofs.roles.play.seat_players.Given as goal
 
 abbrev pub invariant-loop-seat : goal.invariant-loop-seat
 invariant-loop-seat l = record {

@@ -3,7 +3,7 @@ use Rattle.std.specs.List.{slice_get}
 use Rattle.std.proofs.lemmas.List.{length-append}
 use Rattle.std.proofs.lemmas.Option.{slice_get_within}
 use Rattle.like_service.proofs.Lists.{slice_get-before}
-use Rattle.test_parts.proofs.roles.play.players_of.Goals as goal
+use Rattle.test_parts.proofs.roles.play.seat_players.Goals as goal
 
 pub loop-seat-preserved : goal.loop-seat-preserved
 loop-seat-preserved c =

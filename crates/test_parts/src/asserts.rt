@@ -1,0 +1,17 @@
+//! What the tests assert, with its message. It is formatted here, so that their own proofs have none of it.
+use std::process::Abort;
+
+/// Asserts what has to hold of a case.
+pub fn assert_named(rt: &impl Abort, holds: bool, case: &str) {
+    assert!(rt; holds, "{case}");
+}
+
+/// Asserts that a call of a case is answered as it says.
+pub fn assert_call(rt: &impl Abort, answered: bool, case: &str, call: usize) {
+    assert!(rt; answered, "{case}: call {call}");
+}
+
+/// The same of a case that has a number.
+pub fn assert_call_at(rt: &impl Abort, answered: bool, case: usize, call: usize) {
+    assert!(rt; answered, "case {case}: call {call}");
+}
