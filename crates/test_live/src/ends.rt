@@ -9,6 +9,20 @@ use like_live::{Driver, DriverAnswer, LikeAnswer, LiveSeat, Service, TurnAnswer}
 use std::process::Abort;
 use std::test::Fail;
 
+// Makes a turn of a driver, which ends a phase or releases the next.
+fn drives(rt: &impl Abort, driver: &mut Driver, wanted: DriverAnswer)
+    ensures { IsSameDriver driver.old driver.new }
+{
+    assert!(rt; driver.turn(true) == wanted);
+}
+
+// Answers a phase that ends.
+fn answers(rt: &impl Abort, seat: &mut LiveSeat<SharedPost>)
+    ensures { IsSameSeat seat.old seat.new }
+{
+    assert!(rt; seat.turn() == TurnAnswer::Between);
+}
+
 // Ends a phase, which both seats answer, and releases the next.
 fn change(
     rt: &impl Abort,
@@ -20,10 +34,10 @@ fn change(
     ensures first { IsSameSeat first.old first.new }
     ensures second { IsSameSeat second.old second.new }
 {
-    assert!(rt; driver.turn(true) == DriverAnswer::Announced);
-    assert!(rt; first.turn() == TurnAnswer::Between);
-    assert!(rt; second.turn() == TurnAnswer::Between);
-    assert!(rt; driver.turn(true) == DriverAnswer::Released);
+    drives(rt, driver, DriverAnswer::Announced);
+    answers(rt, first);
+    answers(rt, second);
+    drives(rt, driver, DriverAnswer::Released);
 }
 
 fn likes(rt: &impl Abort, seat: &mut LiveSeat<SharedPost>, user: u32)
@@ -59,7 +73,7 @@ fn plays(
 }
 
 // Plays a service, and closes it with its two seats in the other order.
-fn closes(rt: &impl Abort, service: Service) -> Option<(bool, [u64; 2])>
+fn closes(rt: &impl Abort, service: Service) -> (bool, [u64; 2])
     requires { AreItsSeats service.driver service.seats.items }
 {
     let Service {
@@ -74,12 +88,12 @@ fn closes(rt: &impl Abort, service: Service) -> Option<(bool, [u64; 2])>
     plays(rt, &mut driver, &mut first, &mut second);
     seats.push_reserved(second);
     seats.push_reserved(first);
-    closed(Service { driver, seats })
+    closed(rt, Service { driver, seats })
 }
 
 #[test]
 fn closes_a_service(rt: HostRuntime) -> Result<(), Fail> {
     let end = closes(&rt, opened(rt.alloc(), 2, 2)?);
-    assert!(rt; end == Some((true, [13, 20])));
+    assert!(rt; end == (true, [13, 20]));
     Ok(())
 }

@@ -64,19 +64,26 @@ fn is_answered(service: &mut Service, step: Step) -> bool {
     }
 }
 
-// Makes the calls of a part of a scene.
-fn make(rt: &impl Abort, service: &mut Service, name: &str, part: usize, steps: &[Step]) {
+// The number of the first step that is answered otherwise than it says, if there is one.
+fn first_wrong(service: &mut Service, steps: &[Step]) -> Option<usize> {
     for (number, step) in steps.iter().enumerate() {
-        assert!(rt;
-            is_answered(service, *step),
-            "{name}: step {number} of part {part}"
-        );
+        if !is_answered(service, *step) {
+            return Some(number);
+        }
+    }
+    None
+}
+
+fn assert_none_wrong(rt: &impl Abort, name: &str, part: usize, wrong: Option<usize>) {
+    if let Some(number) = wrong {
+        panic!(rt; "{name}: step {number} of part {part}");
     }
 }
 
+// Makes the calls of a scene.
 fn play(rt: &impl Abort, service: &mut Service, scene: &Scene) {
     for (part, steps) in scene.parts.iter().enumerate() {
-        make(rt, service, scene.name, part, steps);
+        assert_none_wrong(rt, scene.name, part, first_wrong(service, steps));
     }
 }
 

@@ -4,6 +4,7 @@ ghost use Rattle.like_live.specs.Service.{AreItsSeats};
 
 use like_live::{OpenError, Opening, Service};
 use std::alloc::{AllocError, Global};
+use std::process::Abort;
 use std::test::Fail;
 
 // What a service is opened with.
@@ -126,22 +127,20 @@ fn refuses_wrong_numbers(rt: HostRuntime) -> Result<(), Fail> {
 }
 
 /// Whether a service of two pages is closed, and the counts behind it.
-pub fn closed(service: Service) -> Option<(bool, [u64; 2])>
+pub fn closed(rt: &impl Abort, service: Service) -> (bool, [u64; 2])
     requires { AreItsSeats service.driver service.seats.items }
 {
-    if service.driver.pages() != 2 {
-        return None;
-    }
+    assert!(rt; service.driver.pages() == 2);
     let mut counts = [0, 0];
     let is_closed = service.close(&mut counts).is_ok();
-    Some((is_closed, counts))
+    (is_closed, counts)
 }
 
 // A service is not closed while a seat is there.
 #[test]
 fn closes_no_running_service(rt: HostRuntime) -> Result<(), Fail> {
-    let end = closed(opened(rt.alloc(), 2, 2)?);
-    assert!(rt; end == Some((false, [0, 0])));
+    let end = closed(&rt, opened(rt.alloc(), 2, 2)?);
+    assert!(rt; end == (false, [0, 0]));
     Ok(())
 }
 

@@ -98,15 +98,12 @@ fn in_threads(
     done
 }
 
-fn last_seat(rt: &impl Abort, service: &mut Service) -> LiveSeat<SharedPost> {
-    service.seats.pop().expect(rt, "a seat")
-}
-
 // Lets a service of two seats work in threads.
 fn play(rt: &(impl Abort + Threads + Sync), service: &mut Service) -> (Done, Done) {
-    let mut second = last_seat(rt, service);
-    let mut first = last_seat(rt, service);
-    in_threads(rt, &mut service.driver, &mut first, &mut second)
+    let [first, second] = service.seats.as_mut_slice() else {
+        panic!(rt; "not two seats");
+    };
+    in_threads(rt, &mut service.driver, first, second)
 }
 
 #[test]
