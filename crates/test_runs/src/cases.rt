@@ -1,4 +1,5 @@
 //! Cases of the worked examples.
+use super::lists::push;
 use like_replies::Report;
 use like_requests::{Op, PageRef, Pages, Request, Setup, read_pages, read_requests};
 use like_roles::Gate;
@@ -37,8 +38,7 @@ impl Case {
     pub fn plans(&self, rt: &impl Abort, alloc: Global, pages: &Pages) -> Vec<Vec<Request>> {
         let mut plans = Vec::new(alloc);
         for requests in self.requests {
-            let plan = plan_of(rt, alloc, requests, pages);
-            assert!(rt; plans.push(plan).is_ok());
+            push(rt, &mut plans, plan_of(rt, alloc, requests, pages));
         }
         plans
     }
@@ -47,7 +47,7 @@ impl Case {
     pub fn replay(&self, rt: &impl Abort, alloc: Global) -> Result<Report, ReplayFault> {
         let setup = self.setup(rt, alloc);
         let plans = self.plans(rt, alloc, &setup.pages);
-        replayed(rt, alloc, &setup, plans, &turns(rt, alloc, self.script))
+        replayed(rt, alloc, setup, plans, turns(rt, alloc, self.script))
     }
 
     /// What a replay of these plans ends in, where the case has no script.
@@ -57,7 +57,7 @@ impl Case {
         alloc: Global,
         plans: Vec<Vec<Request>>,
     ) -> Result<Report, ReplayFault> {
-        replay(alloc, &self.setup(rt, alloc), plans, &[])
+        replayed(rt, alloc, self.setup(rt, alloc), plans, Vec::new(alloc))
     }
 
     /// What a run of these plans on threads ends in.
@@ -68,7 +68,7 @@ impl Case {
         plans: Vec<Vec<Request>>,
         gate: &impl Gate,
     ) -> Result<Report, RunFault> {
-        run(rt, alloc, &self.setup(rt, alloc), plans, gate)
+        ran(rt, alloc, self.setup(rt, alloc), plans, gate)
     }
 
     /// The report of a run of these plans on threads.
@@ -83,60 +83,96 @@ impl Case {
     }
 }
 
-/// What a replay of these plans by a script ends in.
+/// What a replay of these plans by a script ends in. It takes its settings and its script, so that no caller has to
+/// drop them: each would prove once more how each of their parts is dropped.
 pub fn replayed(
     rt: &impl Abort,
     alloc: Global,
-    setup: &Setup,
+    setup: Setup,
     plans: Vec<Vec<Request>>,
-    script: &[Turned],
+    script: Vec<Turned>,
 ) -> Result<Report, ReplayFault> {
     assert!(rt; script.len() <= MAX_ENTRIES as usize);
-    replay(alloc, setup, plans, script)
+    replay(alloc, &setup, plans, &script)
+}
+
+/// What a run of these plans on threads ends in. It takes its settings, as `replayed` does.
+pub fn ran(
+    rt: &(impl Abort + Threads + Wait + Sync),
+    alloc: Global,
+    setup: Setup,
+    plans: Vec<Vec<Request>>,
+    gate: &impl Gate,
+) -> Result<Report, RunFault> {
+    run(rt, alloc, &setup, plans, gate)
+}
+
+fn are_counts(report: &Report, counts: &[u64]) -> bool {
+    report.counts.as_slice() == counts
 }
 
 /// Asserts the counts of a report, and drops it: a caller that dropped it would prove once more how each of its parts is
 /// dropped.
 pub fn assert_counts(rt: &impl Abort, report: Report, counts: &[u64]) {
-    assert!(rt; report.counts.as_slice() == counts);
+    assert!(rt; are_counts(&report, counts));
 }
 
 /// Asserts that a text is this.
 pub fn assert_text(rt: &impl Abort, text: &str, wanted: &str) {
-    assert!(rt; text == wanted, "{text}");
+    if text != wanted {
+        rt.panic(text);
+    }
+}
+
+// A file of this header and these rows.
+fn file_of(rt: &impl Abort, alloc: Global, header: &str, rows: &str) -> String {
+    format!(in alloc; "{header}\n{rows}").expect(rt, "memory")
 }
 
 /// The pages of a file, without its header.
 pub fn pages_of(rt: &impl Abort, alloc: Global, pages: &str) -> Pages {
-    let text = format!(in alloc; "name,count,split\n{pages}").expect(rt, "memory");
+    let text = file_of(rt, alloc, "name,count,split", pages);
     read_pages(alloc, text.as_bytes()).expect(rt, "pages")
 }
 
 fn plan_of(rt: &impl Abort, alloc: Global, requests: &str, pages: &Pages) -> Vec<Request> {
-    let text = format!(in alloc; "op,user,page\n{requests}").expect(rt, "memory");
+    let text = file_of(rt, alloc, "op,user,page", requests);
     read_requests(alloc, text.as_bytes(), pages).expect(rt, "requests")
 }
 
-// The entry of a script that a word stands for.
-fn turned(rt: &impl Abort, word: &[u8]) -> Turned {
-    let (Some(kind), Some(digit)) = (word.first(), word.get(1)) else {
-        panic!(rt; "no word");
-    };
-    let index = u32::from(digit.saturating_sub(b'0'));
-    match kind {
+// The byte of a word at a place.
+fn byte(rt: &impl Abort, word: &[u8], place: usize) -> u8 {
+    *word.get(place).expect(rt, "a word")
+}
+
+// The entry of a script that a letter and an index stand for.
+fn turned(letter: u8, index: u32) -> Turned {
+    match letter {
         b'o' => Turned::OpenOne(index),
         b'w' => Turned::Worker(index),
         _ => Turned::Coordinator,
     }
 }
 
+// The entry of a script that a word stands for.
+fn turned_by(rt: &impl Abort, word: &[u8]) -> Turned {
+    let digit = byte(rt, word, 1).saturating_sub(b'0');
+    turned(byte(rt, word, 0), u32::from(digit))
+}
+
 /// The entries of a script whose words are `o0` for an open, `w0` for a worker's turn, `c0` for the coordinator's.
 pub fn turns(rt: &impl Abort, alloc: Global, script: &str) -> Vec<Turned> {
     let mut turns = Vec::new(alloc);
     for word in script.as_bytes().chunks(3) {
-        assert!(rt; turns.push(turned(rt, word)).is_ok());
+        push(rt, &mut turns, turned_by(rt, word));
     }
     turns
+}
+
+// So many requests of page 0 by a user.
+fn plan_of_one(rt: &impl Abort, alloc: Global, op: Op, user: u32, each: usize) -> Vec<Request> {
+    let page = PageRef::Known(0);
+    vec![in alloc; Request { op, user, page }; each].expect(rt, "memory")
 }
 
 /// For each submitter so many requests of page 0 by the user of its number.
@@ -149,9 +185,7 @@ pub fn requests(
 ) -> Vec<Vec<Request>> {
     let mut plans = Vec::new(alloc);
     for user in 0..submitters {
-        let page = PageRef::Known(0);
-        let plan = vec![in alloc; Request { op, user, page }; each].expect(rt, "memory");
-        assert!(rt; plans.push(plan).is_ok());
+        push(rt, &mut plans, plan_of_one(rt, alloc, op, user, each));
     }
     plans
 }

@@ -2,6 +2,7 @@
 ghost use Rattle.std.specs.Prelude.{◌+◌, ◌<◌, ◌≤◌, ◌^◌};
 
 use super::cases::{pages_of, replayed};
+use super::lists::{Alike, are_alike, push};
 use super::players::{Played, Player, play};
 use like_replies::Report;
 use like_requests::{Op, PageRef, Pages, Request, Setup};
@@ -50,18 +51,30 @@ fn draw_hot(draws: &mut Draws) -> Option<u32> {
     }
 }
 
+// The first parts of four pages' rows. What says whether the page is split comes behind them.
+const PARTS: &[&str] = &["a,10,", "b,20,", "c,30,", "d,40,"];
+
+fn parts() -> &'static [&'static str] {
+    PARTS
+}
+
+// Writes a page's row, whose first part this is.
+fn write_row(rt: &impl Abort, rows: &mut String, part: &str, split: bool) {
+    write!(rows, "{part}{}\n", yes_or_no(split)).expect(rt, "memory");
+}
+
+// The rows of pages, of which these are split.
+fn marked_rows(rt: &impl Abort, alloc: Global, parts: &[&str], split: &[bool]) -> String {
+    let mut rows = String::new(alloc);
+    for (part, split) in parts.iter().zip(split) {
+        write_row(rt, &mut rows, part, *split);
+    }
+    rows
+}
+
 // Four pages, of which these are split.
-fn marked_pages(rt: &impl Abort, alloc: Global, split: [bool; 4]) -> Pages {
-    let [a, b, c, d] = split;
-    let rows = format!(in alloc;
-        "a,10,{}\nb,20,{}\nc,30,{}\nd,40,{}\n",
-        yes_or_no(a),
-        yes_or_no(b),
-        yes_or_no(c),
-        yes_or_no(d)
-    )
-    .expect(rt, "memory");
-    pages_of(rt, alloc, &rows)
+fn marked_pages(rt: &impl Abort, alloc: Global, split: &[bool]) -> Pages {
+    pages_of(rt, alloc, &marked_rows(rt, alloc, parts(), split))
 }
 
 // The settings of a run with these pages.
@@ -110,8 +123,7 @@ fn draw_plan(
 {
     let mut plan = Vec::new(alloc);
     for _ in 0..draws.below(7) {
-        let request = draw_request(draws, submitter, submitters);
-        plan.push(request).expect(rt, "memory");
+        push(rt, &mut plan, draw_request(draws, submitter, submitters));
     }
     plan
 }
@@ -127,7 +139,7 @@ fn draw_plans(
     let mut plans = Vec::new(alloc);
     for submitter in 0..submitters {
         let plan = draw_plan(rt, alloc, draws, submitter, submitters);
-        assert!(rt; plans.push(plan).is_ok());
+        push(rt, &mut plans, plan);
     }
     plans
 }
@@ -155,46 +167,37 @@ fn draw_script(
 {
     let mut script = Vec::new(alloc);
     for _ in 0..draws.below(161) {
-        let turn = draw_turn(draws, workers, submitters);
-        script.push(turn).expect(rt, "memory");
+        push(rt, &mut script, draw_turn(draws, workers, submitters));
     }
     script
 }
 
-// Whether a worker's log is what a player took and ran.
-fn is_log_of(log: &WorkerLog, player: &Player) -> bool {
-    log.taken == player.taken && log.ran == player.ran
-}
-
-// Whether each worker's log is what the player of that worker took and ran.
-fn are_as_played(logs: &[WorkerLog], players: &[Player]) -> bool {
-    for (log, player) in logs.iter().zip(players) {
-        if !is_log_of(log, player) {
-            return false;
-        }
+// A worker's log is like a player that took and ran the same.
+impl Alike<Player> for WorkerLog {
+    fn is_like(&self, player: &Player) -> bool {
+        self.taken == player.taken && self.ran == player.ran
     }
-    logs.len() == players.len()
 }
 
 fn is_as_played(report: Report, played: Played) -> bool {
     Some(report.phases) == played.phases
         && report.hot == played.chosen
-        && are_as_played(&report.logs, &played.players)
+        && are_alike(&report.logs, &played.players)
 }
 
 // Whether a run of these plans is replayed as it is played.
 fn is_replayed_as_played(
     rt: &impl Abort,
     alloc: Global,
-    setup: &Setup,
+    setup: Setup,
     split: [bool; 4],
     plans: Vec<Vec<Request>>,
-    script: &[Turned],
+    script: Vec<Turned>,
 ) -> bool
-    requires some { 1 ≤ setup.now.workers }
-    requires few { setup.now.workers ≤ 16 }
+    requires some { 1 ≤ setup.workers }
+    requires few { setup.workers ≤ 16 }
 {
-    let played = play(rt, alloc, setup, split, &plans, script);
+    let played = play(rt, alloc, &setup, split, &plans, &script);
     assert!(rt; played.is_whole(), "memory, or an event of the play");
     let report = replayed(rt, alloc, setup, plans, script).expect(rt, "a report");
     is_as_played(report, played)
@@ -203,11 +206,11 @@ fn is_replayed_as_played(
 // Whether a run that is drawn next is replayed as it is played.
 fn is_next_as_played(rt: &impl Abort, alloc: Global, draws: &mut Draws) -> bool {
     let split = draw_marks(draws);
-    let setup = draw_setup(draws, marked_pages(rt, alloc, split));
+    let setup = draw_setup(draws, marked_pages(rt, alloc, &split));
     let submitters = 1 + draws.below(7);
     let plans = draw_plans(rt, alloc, draws, submitters);
     let script = draw_script(rt, alloc, draws, setup.workers, submitters);
-    is_replayed_as_played(rt, alloc, &setup, split, plans, &script)
+    is_replayed_as_played(rt, alloc, setup, split, plans, script)
 }
 
 #[test]

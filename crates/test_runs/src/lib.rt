@@ -9,6 +9,8 @@ mod drawn;
 #[cfg(test)]
 mod gates;
 #[cfg(test)]
+mod lists;
+#[cfg(test)]
 mod logs;
 #[cfg(test)]
 mod mixed;

@@ -1,4 +1,5 @@
 //! What the logs of workers have.
+use super::lists::{Alike, are_alike};
 use like_roles::{Ran, Took, WorkerLog};
 
 /// A request that ran: its phase, whether it came out of the stash, its submitter and its number.
@@ -16,39 +17,25 @@ pub const NO_LOG: Log = Log {
     ran: &[],
 };
 
-fn is_taken(taken: &[Took], wanted: &[(u32, u32, u32)]) -> bool {
-    for (took, (phase, submitter, number)) in taken.iter().zip(wanted) {
-        if took.phase != *phase || took.submitter != *submitter || took.number != *number {
-            return false;
-        }
+impl Alike<(u32, u32, u32)> for Took {
+    fn is_like(&self, wanted: &(u32, u32, u32)) -> bool {
+        let (phase, submitter, number) = *wanted;
+        self.phase == phase && self.submitter == submitter && self.number == number
     }
-    taken.len() == wanted.len()
 }
 
-fn is_entry(ran: &Ran, entry: &Entry) -> bool {
-    let (phase, stashed, submitter, number) = *entry;
-    ran.phase == phase
-        && ran.stashed == stashed
-        && ran.submitter == submitter
-        && ran.number == number
+impl Alike<Entry> for Ran {
+    fn is_like(&self, wanted: &Entry) -> bool {
+        let (phase, stashed, submitter, number) = *wanted;
+        self.phase == phase
+            && self.stashed == stashed
+            && self.submitter == submitter
+            && self.number == number
+    }
 }
 
-/// Whether this is what ran.
-pub fn is_ran(ran: &[Ran], wanted: &[Entry]) -> bool {
-    for (ran, entry) in ran.iter().zip(wanted) {
-        if !is_entry(ran, entry) {
-            return false;
-        }
+impl Alike<Log> for WorkerLog {
+    fn is_like(&self, wanted: &Log) -> bool {
+        are_alike(&self.taken, wanted.taken) && are_alike(&self.ran, wanted.ran)
     }
-    ran.len() == wanted.len()
-}
-
-/// Whether these are the workers' logs.
-pub fn are_logs(logs: &[WorkerLog], wanted: &[Log]) -> bool {
-    for (log, wanted) in logs.iter().zip(wanted) {
-        if !is_taken(&log.taken, wanted.taken) || !is_ran(&log.ran, wanted.ran) {
-            return false;
-        }
-    }
-    logs.len() == wanted.len()
 }

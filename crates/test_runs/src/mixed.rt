@@ -2,7 +2,8 @@
 //! between which each count has to lie, are computed here from what the workers took and from which likes they ran.
 use super::cases::{Case, SMALL, assert_counts};
 use super::gates::Watch;
-use super::logs::{Entry, is_ran};
+use super::lists::{are_alike, push};
+use super::logs::Entry;
 use like_replies::Report;
 use like_requests::{Op, PageRef, Request};
 use like_roles::{Ran, Reply, Took, WorkerLog};
@@ -38,7 +39,7 @@ fn plan(rt: &impl Abort, alloc: Global, user: u32) -> Vec<Request> {
     for number in 1..2_001 {
         let (op, page) = asked(number);
         let page = PageRef::Known(page);
-        plan.push(Request { op, user, page }).expect(rt, "memory");
+        push(rt, &mut plan, Request { op, user, page });
     }
     plan
 }
@@ -46,8 +47,7 @@ fn plan(rt: &impl Abort, alloc: Global, user: u32) -> Vec<Request> {
 fn plans(rt: &impl Abort, alloc: Global) -> Vec<Vec<Request>> {
     let mut plans = Vec::new(alloc);
     for user in 0..8 {
-        let plan = plan(rt, alloc, user);
-        assert!(rt; plans.push(plan).is_ok());
+        push(rt, &mut plans, plan(rt, alloc, user));
     }
     plans
 }
@@ -63,7 +63,7 @@ fn entry(took: &Took) -> Entry {
 fn order(rt: &impl Abort, alloc: Global, taken: &[Took]) -> Vec<Entry> {
     let mut order = Vec::new(alloc);
     for took in taken {
-        order.push(entry(took)).expect(rt, "memory");
+        push(rt, &mut order, entry(took));
     }
     order
         .sort_by_key(|entry| (entry.0, !entry.1))
@@ -113,7 +113,7 @@ impl Likes {
         let (mut sum, mut other) = (0_u64, 0_u64);
         for likes in self.rows.iter() {
             let up_to = sum.saturating_add(*likes);
-            rows.push(up_to).expect(rt, "memory");
+            push(rt, &mut rows, up_to);
             sum = other;
             other = up_to;
         }
@@ -188,7 +188,7 @@ fn has_right_counts(
 }
 
 fn has_run_order(rt: &impl Abort, alloc: Global, log: &WorkerLog) -> bool {
-    is_ran(&log.ran, &order(rt, alloc, &log.taken))
+    are_alike(&log.ran, &order(rt, alloc, &log.taken))
 }
 
 // Asserts that each worker ran in run order, and that its looks were shown right counts.

@@ -4,6 +4,7 @@
 //! A play that can't go on is stuck.
 ghost use Rattle.std.specs.Prelude.{◌≤◌};
 
+use super::lists::push;
 use like_core::{Core, Event, Shown, Sight};
 use like_requests::{Op, PageRef, Request, Setup, Taken, Verdict};
 use like_roles::{Chosen, Ran, Reply, Took};
@@ -16,7 +17,7 @@ use std::process::Abort;
 
 mod shared;
 
-use shared::{List, Shared, is_joined};
+use shared::{List, Shared, is_joined, open_all};
 
 /// A worker, with what it took and ran so far.
 #[derive(Drop)]
@@ -102,7 +103,7 @@ impl Player {
         if ending {
             shared.merge_and_report(self.worker, self.phase);
             self.answered = true;
-        } else if self.stash.len() < shared.setup.stash as usize {
+        } else if self.stash.len() < shared.stash as usize {
             self.try_one(shared);
         }
     }
@@ -216,7 +217,7 @@ fn round(shared: &mut Shared<'_>, players: &mut [Player]) -> Option<u32> {
 
 // Rounds with all lists open. Gives the phase in which the run ended, if it did.
 fn rounds(shared: &mut Shared<'_>, players: &mut [Player]) -> Option<u32> {
-    shared.open_all();
+    open_all(&mut shared.lists);
     for _ in 0..MAX_ROUNDS {
         let ended = round(shared, players);
         if ended.is_some() {
@@ -250,8 +251,7 @@ fn players_of(rt: &impl Abort, alloc: Global, workers: u32, submitters: u32) -> 
     let mut players = Vec::new(alloc);
     for worker in 0..workers {
         let own = submitters_of(rt, alloc, worker, workers, submitters);
-        let player = Player::new(alloc, worker, own);
-        assert!(rt; players.push(player).is_ok());
+        push(rt, &mut players, Player::new(alloc, worker, own));
     }
     players
 }
@@ -273,7 +273,7 @@ fn closed_lists(rt: &impl Abort, alloc: Global, submitters: usize) -> Vec<List> 
 fn shared_of<'a>(
     rt: &impl Abort,
     alloc: Global,
-    setup: &'a Setup,
+    setup: &Setup,
     split: [bool; 4],
     plans: &'a [Vec<Request>],
 ) -> Shared<'a>
@@ -281,7 +281,10 @@ fn shared_of<'a>(
     requires few { setup.now.workers ≤ 16 }
 {
     Shared {
-        setup,
+        users: setup.users,
+        stash: setup.stash,
+        turns: setup.turns,
+        hot: setup.hot,
         submitters: u32::try_from(plans.len()).unwrap_or(u32::MAX),
         split,
         core: core_of(rt, alloc, setup.workers, &split),

@@ -4,7 +4,8 @@ use super::cases::{
     Case, FULL_STASH, IDLE_WORKERS, LATE_WORKER, PLAIN_LIKES, SMALL, SPLIT_AND_STASH,
     STASH_THEN_LIKE, TWO_SLICES, UNSPLIT, assert_counts, likes,
 };
-use super::logs::{Log, NO_LOG, are_logs};
+use super::lists::{Alike, are_alike};
+use super::logs::{Log, NO_LOG};
 use like_replies::{Place, Report};
 use like_requests::SettingsFault;
 use like_roles::{Chosen, Ran};
@@ -72,7 +73,8 @@ const HOT_EXAMPLE: Example = Example {
     phases: 6,
 };
 
-const EXAMPLES: &[Example] = &[
+// Of one worker, and no hot pages.
+const OF_ONE: &[Example] = &[
     Example {
         name: "plain-likes",
         case: PLAIN_LIKES,
@@ -140,21 +142,6 @@ const EXAMPLES: &[Example] = &[
         phases: 4,
     },
     Example {
-        name: "late-worker",
-        case: LATE_WORKER,
-        logs: &[
-            NO_LOG,
-            Log {
-                taken: &[(1, 1, 1), (1, 1, 2)],
-                ran: &[(2, true, 1, 1), (2, true, 1, 2)],
-            },
-        ],
-        places: &[&[]],
-        hot: &[],
-        counts: &[0],
-        phases: 4,
-    },
-    Example {
         name: "stash-then-like",
         case: STASH_THEN_LIKE,
         logs: &[Log {
@@ -202,6 +189,42 @@ const EXAMPLES: &[Example] = &[
         hot: &[],
         counts: &[8],
         phases: 2,
+    },
+];
+
+// Of pages that may be hot.
+const OF_HOT: &[Example] = &[
+    HOT_EXAMPLE,
+    // The page is never hot.
+    Example {
+        name: "hot-choice by three likes",
+        case: COOL_CHOICE,
+        logs: &[Log {
+            taken: &[(1, 0, 1), (2, 0, 2), (3, 0, 3)],
+            ran: &[(1, false, 0, 1), (2, false, 0, 2), (3, false, 0, 3)],
+        }],
+        hot: &[],
+        phases: 4,
+        ..HOT_EXAMPLE
+    },
+];
+
+// Of several workers.
+const OF_SEVERAL: &[Example] = &[
+    Example {
+        name: "late-worker",
+        case: LATE_WORKER,
+        logs: &[
+            NO_LOG,
+            Log {
+                taken: &[(1, 1, 1), (1, 1, 2)],
+                ran: &[(2, true, 1, 1), (2, true, 1, 2)],
+            },
+        ],
+        places: &[&[]],
+        hot: &[],
+        counts: &[0],
+        phases: 4,
     },
     Example {
         name: "two-slices",
@@ -256,51 +279,48 @@ const EXAMPLES: &[Example] = &[
         counts: &[1],
         phases: 2,
     },
-    HOT_EXAMPLE,
-    // The page is never hot.
-    Example {
-        name: "hot-choice by three likes",
-        case: COOL_CHOICE,
-        logs: &[Log {
-            taken: &[(1, 0, 1), (2, 0, 2), (3, 0, 3)],
-            ran: &[(1, false, 0, 1), (2, false, 0, 2), (3, false, 0, 3)],
-        }],
-        hot: &[],
-        phases: 4,
-        ..HOT_EXAMPLE
-    },
 ];
 
 // A test that takes them from here has none of them in its proof, as it would with a constant.
-fn examples() -> &'static [Example] {
-    EXAMPLES
+fn of_one_worker() -> &'static [Example] {
+    OF_ONE
 }
 
-// Whether the additions to each page stand here.
-fn are_placed(places: &[Vec<Place>], wanted: &[&[Place]]) -> bool {
-    for (places, wanted) in places.iter().zip(wanted) {
-        if places.as_slice() != *wanted {
-            return false;
-        }
+fn of_hot_pages() -> &'static [Example] {
+    OF_HOT
+}
+
+fn of_several_workers() -> &'static [Example] {
+    OF_SEVERAL
+}
+
+impl Alike<&[Place]> for Vec<Place> {
+    fn is_like(&self, wanted: &&[Place]) -> bool {
+        self.as_slice() == *wanted
     }
-    places.len() == wanted.len()
 }
 
 // Whether a report has what its example says.
 fn is_shown(report: &Report, example: &Example) -> bool {
-    are_logs(&report.logs, example.logs)
-        && are_placed(&report.places, example.places)
+    are_alike(&report.logs, example.logs)
+        && are_alike(&report.places, example.places)
         && report.hot.as_slice() == example.hot
         && report.phases == example.phases
 }
 
+fn assert_examples(rt: &impl Abort, alloc: Global, examples: &[Example]) {
+    for example in examples {
+        let report = example.case.replay(rt, alloc).expect(rt, "a report");
+        assert!(rt; is_shown(&report, example), "{}", example.name);
+        assert_counts(rt, report, example.counts);
+    }
+}
+
 #[test]
 fn replays_examples(rt: HostRuntime) {
-    for example in examples() {
-        let report = example.case.replay(&rt, rt.alloc()).expect(&rt, "a report");
-        assert!(rt; is_shown(&report, example), "{}", example.name);
-        assert_counts(&rt, report, example.counts);
-    }
+    assert_examples(&rt, rt.alloc(), of_one_worker());
+    assert_examples(&rt, rt.alloc(), of_hot_pages());
+    assert_examples(&rt, rt.alloc(), of_several_workers());
 }
 
 const AWAY: Case = Case {

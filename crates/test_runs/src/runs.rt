@@ -1,11 +1,11 @@
 //! Runs on threads. What is asserted of them is the same on every schedule.
-use super::cases::{Case, assert_counts, likes, one_page, plain_likes};
+use super::cases::{Case, assert_counts, likes, one_page, plain_likes, ran};
 use super::gates::{Held, Ledger, Watch};
 use super::places::{are_placed_singly, places_of};
 use like_replies::{Answer, Place, Report};
 use like_requests::SettingsFault;
 use like_roles::Reply;
-use like_run::{RunFault, run, run_limited};
+use like_run::{RunFault, run_limited};
 use std::alloc::Global;
 use std::process::Abort;
 use std::sync::Wait;
@@ -64,7 +64,7 @@ fn assert_liked(
 fn runs_plain_likes(rt: HostRuntime) {
     let setup = plain_likes().setup(&rt, rt.alloc());
     let plans = plain_likes().plans(&rt, rt.alloc(), &setup.pages);
-    let report = run(&rt, rt.alloc(), &setup, plans, &Watch::idle()).expect(&rt, "a report");
+    let report = ran(&rt, rt.alloc(), setup, plans, &Watch::idle()).expect(&rt, "a report");
     assert!(rt; are_placed_singly(places_of(&rt, &report)));
     assert_liked(&rt, report, 1, 3, 2, 13);
 }

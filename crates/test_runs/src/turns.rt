@@ -20,6 +20,7 @@ use like_roles::{CoordTurn, Turn};
 use like_run::{MAX_ENTRIES, MAX_ROUNDS, Turned};
 use like_script::check_script;
 use std::alloc::Global;
+use std::fmt::Debug;
 use std::process::Abort;
 use std::snapshot::Snapshot;
 
@@ -45,11 +46,16 @@ fn answer_of(crew: &mut Crew<'_, ListInbox>, entry: &Turned) -> Option<Answer>
     }
 }
 
-// Writes what a turn answers, with a space behind it.
-fn write_answer(rt: &impl Abort, words: &mut String, answer: Answer) {
+// Writes a word, with a space behind it.
+fn write_word(rt: &impl Abort, words: &mut String, word: &impl Debug) {
+    write!(words, "{word:?} ").expect(rt, "memory");
+}
+
+// Writes what a turn answers.
+fn write_answer(rt: &impl Abort, words: &mut String, answer: &Answer) {
     match answer {
-        Answer::Led(turn) => write!(words, "{turn:?} ").expect(rt, "memory"),
-        Answer::Did(turn) => write!(words, "{turn:?} ").expect(rt, "memory"),
+        Answer::Led(turn) => write_word(rt, words, turn),
+        Answer::Did(turn) => write_word(rt, words, turn),
     }
 }
 
@@ -66,7 +72,7 @@ fn answers_of(
     let mut words = String::new(alloc);
     for entry in script {
         if let Some(answer) = answer_of(crew, entry) {
-            write_answer(rt, &mut words, answer);
+            write_answer(rt, &mut words, &answer);
         }
     }
     words

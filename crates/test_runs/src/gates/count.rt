@@ -1,4 +1,4 @@
-//! A number that threads count.
+//! Numbers that threads count.
 use std::sync::atomic::{AtomicU32, Ordering};
 
 #[derive(Drop)]
@@ -24,5 +24,52 @@ impl Count {
 
     pub fn raise(&self, number: u32) {
         self.number.fetch_max(number, Ordering::SeqCst);
+    }
+}
+
+/// A number for each of three submitters or workers.
+#[derive(Drop)]
+pub struct Counts {
+    zeroth: Count,
+    first: Count,
+    second: Count,
+}
+
+impl Counts {
+    pub fn none() -> Counts {
+        Counts {
+            zeroth: Count::none(),
+            first: Count::none(),
+            second: Count::none(),
+        }
+    }
+
+    fn at(&self, place: u32) -> Option<&Count> {
+        match place {
+            0 => Some(&self.zeroth),
+            1 => Some(&self.first),
+            2 => Some(&self.second),
+            _ => None,
+        }
+    }
+
+    pub fn are_all(&self, number: u32) -> bool {
+        self.get(0) == number && self.get(1) == number && self.get(2) == number
+    }
+
+    /// The number at a place, and 0 at a place that is not there.
+    pub fn get(&self, place: u32) -> u32 {
+        match self.at(place) {
+            Some(count) => count.get(),
+            None => 0,
+        }
+    }
+
+    /// Counts one more at a place, and says whether it is now this number.
+    pub fn is_next(&self, place: u32, number: u32) -> bool {
+        match self.at(place) {
+            Some(count) => count.add(1).saturating_add(1) == number,
+            None => false,
+        }
     }
 }

@@ -1,5 +1,5 @@
 //! A gate that holds each call to the one before it, and two workers to each other.
-use super::count::Count;
+use super::count::{Count, Counts};
 use like_roles::Gate;
 use std::thread::yield_now;
 
@@ -14,18 +14,18 @@ const LOOKS: u32 = 1 << 24;
 /// second request must not have run yet.
 #[derive(Drop)]
 pub struct Ledger {
-    pushed: [Count; 3],
-    ran: [Count; 3],
-    entered: [Count; 2],
+    pushed: Counts,
+    ran: Counts,
+    entered: Counts,
     wrong: Count,
 }
 
 impl Ledger {
     pub fn new() -> Ledger {
         Ledger {
-            pushed: [Count::none(), Count::none(), Count::none()],
-            ran: [Count::none(), Count::none(), Count::none()],
-            entered: [Count::none(), Count::none()],
+            pushed: Counts::none(),
+            ran: Counts::none(),
+            entered: Counts::none(),
             wrong: Count::none(),
         }
     }
@@ -37,7 +37,7 @@ impl Ledger {
 
     /// Whether each submitter pushed so many requests, and so many ran of each.
     pub fn has_all(&self, each: u32) -> bool {
-        are_all(&self.pushed, each) && are_all(&self.ran, each)
+        self.pushed.are_all(each) && self.ran.are_all(each)
     }
 
     fn require(&self, holds: bool) {
@@ -47,9 +47,9 @@ impl Ledger {
     }
 
     // Waits until a submitter's request of this number comes to run.
-    fn wait(&self, submitter: usize, number: u32) {
+    fn wait(&self, submitter: u32, number: u32) {
         for _ in 0..LOOKS {
-            if count_of(&self.ran, submitter) >= number {
+            if self.ran.get(submitter) >= number {
                 return;
             }
             yield_now();
@@ -58,47 +58,23 @@ impl Ledger {
     }
 }
 
-fn are_all(counts: &[Count], number: u32) -> bool {
-    for count in counts {
-        if count.get() != number {
-            return false;
-        }
-    }
-    true
-}
-
-fn count_of(counts: &[Count], place: usize) -> u32 {
-    match counts.get(place) {
-        Some(count) => count.get(),
-        None => 0,
-    }
-}
-
-// Counts one more at a place, and says whether it is now this number.
-fn is_next(counts: &[Count], place: u32, number: u32) -> bool {
-    match counts.get(place as usize) {
-        Some(count) => count.add(1).saturating_add(1) == number,
-        None => false,
-    }
-}
-
 impl Gate for Ledger {
     fn push(&self, s: u32, n: u32) {
         if (s, n) == (1, 1) {
             self.wait(0, 2);
         }
-        self.require(is_next(&self.pushed, s, n));
+        self.require(self.pushed.is_next(s, n));
     }
 
     fn run(&self, w: u32, s: u32, n: u32) {
-        self.require(w == s % 2 && n <= count_of(&self.pushed, s as usize));
-        self.require(is_next(&self.ran, s, n));
+        self.require(w == s % 2 && n <= self.pushed.get(s));
+        self.require(self.ran.is_next(s, n));
         if (s, n) == (0, 2) {
             self.wait(1, 2);
         }
     }
 
     fn phase(&self, w: u32, k: u32) {
-        self.require(is_next(&self.entered, w, k.saturating_add(1)));
+        self.require(w < 2 && self.entered.is_next(w, k.saturating_add(1)));
     }
 }

@@ -1,6 +1,6 @@
 //! What a played run has beside its workers: the pure core, the coordinator's counts, and the submitters' lists.
 use like_core::{CoordSight, Core, Event, Shown, is_hot};
-use like_requests::{Numbered, Op, PageRef, Request, Setup, Taken, Verdict};
+use like_requests::{Numbered, Op, PageRef, Request, Taken, Verdict};
 use like_roles::Chosen;
 use like_tables::Held;
 use std::mem::replace;
@@ -30,13 +30,16 @@ impl List {
     }
 }
 
-/// What a run has beside its workers: its settings, how many submitters there are, which pages are marked as split, the
-/// core, the coordinator's turns left, the counts of its last choice, its choices, and the submitters' requests and
-/// lists. It is stuck once memory was wanting, the core refused an event of a turn, or a script named somebody who is not
-/// there.
+/// What a run has beside its workers: of its settings those that a turn asks for, how many submitters there are, which
+/// pages are marked as split, the core, the coordinator's turns left, the counts of its last choice, its choices, and
+/// the submitters' requests and lists. It is stuck once memory was wanting, the core refused an event of a turn, or a
+/// script named somebody who is not there.
 #[derive(Drop)]
 pub struct Shared<'a> {
-    pub setup: &'a Setup,
+    pub users: u32,
+    pub stash: u32,
+    pub turns: u32,
+    pub hot: Option<u32>,
     pub submitters: u32,
     pub split: [bool; 4],
     pub core: Core,
@@ -101,12 +104,12 @@ impl Shared<'_> {
             self.note_choice(phase.saturating_add(1), mask);
         }
         self.step(Event::Release(mask));
-        self.turns_left = self.setup.turns;
+        self.turns_left = self.turns;
     }
 
     // The mask of the phase that comes next.
     fn choose(&mut self, phase: u32) -> u64 {
-        match self.setup.hot {
+        match self.hot {
             Some(least) if is_joined(phase) => self.grown_pages(least),
             _ => 0,
         }
@@ -173,10 +176,10 @@ impl Shared<'_> {
 
     /// What the submitter's list gives next.
     pub fn take(&mut self, submitter: u32) -> Taken {
-        let place = submitter as usize;
-        match (self.plans.get(place), self.lists.get_mut(place)) {
-            (Some(plan), Some(list)) => list.take(plan),
-            _ => Taken::Nothing,
+        let plan = plan_of(self.plans, submitter);
+        match self.lists.get_mut(submitter as usize) {
+            Some(list) => list.take(plan),
+            None => Taken::Nothing,
         }
     }
 
@@ -187,19 +190,13 @@ impl Shared<'_> {
         }
     }
 
-    pub fn open_all(&mut self) {
-        for list in &mut self.lists {
-            list.open = u32::MAX;
-        }
-    }
-
     fn is_home(&self, user: u32, submitter: u32) -> bool {
         user.checked_rem(self.submitters) == Some(submitter)
     }
 
     pub fn verdict(&self, held: &Held) -> Verdict {
         let request = held.ask.request;
-        if request.user >= self.setup.users {
+        if request.user >= self.users {
             Verdict::UnknownUser
         } else if !self.is_home(request.user, held.submitter) {
             Verdict::OtherHome
@@ -208,6 +205,20 @@ impl Shared<'_> {
         } else {
             Verdict::Accepted
         }
+    }
+}
+
+// The requests of a submitter.
+fn plan_of(plans: &[Vec<Request>], submitter: u32) -> &[Request] {
+    match plans.get(submitter as usize) {
+        Some(plan) => plan,
+        None => &[],
+    }
+}
+
+pub fn open_all(lists: &mut [List]) {
+    for list in lists {
+        list.open = u32::MAX;
     }
 }
 
