@@ -1,6 +1,6 @@
 //! What the readers of pages, requests and scripts make of files: of whole ones, and of some that are cut short, fail
 //! in mid-stream, have a byte changed or are of another kind.
-ghost use Rattle.std.specs.Prelude.{◌<◌, length};
+ghost use Rattle.std.specs.Prelude.{◌≡◌, ◌<◌, length};
 
 mod cases;
 mod limits;
@@ -26,12 +26,34 @@ pub fn assert_that(rt: &impl Abort, holds: bool, wrong: &str) {
     assert!(rt; holds, "{wrong}");
 }
 
+/// Stops the test unless a text is as is wanted.
+pub fn assert_text(rt: &impl Abort, text: String, wanted: &str) {
+    assert!(rt; text.as_str() == wanted, "{text}, and not {wanted}");
+}
+
+/// A list of these.
+pub fn list<T: Copy + Drop>(rt: &impl Abort, alloc: Global, items: &[T]) -> Vec<T>
+    ensures { result.items ≡ items.now }
+{
+    Vec::from_slice(alloc, items).expect(rt, "memory")
+}
+
+/// Stops the test unless bytes are as is wanted.
+pub fn assert_bytes(rt: &impl Abort, bytes: Vec<u8>, wanted: &[u8]) {
+    assert_that(rt, bytes.as_slice() == wanted, "other bytes");
+}
+
+/// The parts of a case before a mark and behind it.
+pub fn halves<'a>(rt: &impl Abort, case: &'a str, mark: &str) -> (&'a str, &'a str) {
+    case.split_once(mark).expect(rt, "a case")
+}
+
 // The name, the count and the mark of each page. Each is found by its name.
 fn pages_shown(rt: &impl Abort, alloc: Global, pages: &Pages) -> String {
     let mut text = String::new(alloc);
     for index in 0..pages.len() {
-        assert!(rt; is_found(pages, index));
-        assert!(rt; push_page(&mut text, pages, index), "memory");
+        assert_that(rt, is_found(pages, index), "not found by its name");
+        assert_that(rt, push_page(&mut text, pages, index), "memory");
     }
     text
 }
@@ -55,9 +77,14 @@ fn page_a() -> &'static [u8] {
     b"name,count,split\na,10,no\n"
 }
 
+/// The pages of a file.
+pub fn pages_of(rt: &impl Abort, alloc: Global, file: &[u8]) -> Pages {
+    read_pages(alloc, file).expect(rt, "pages")
+}
+
 /// A page, a, that is not marked.
 pub fn one_page(rt: &impl Abort, alloc: Global) -> Pages {
-    read_pages(alloc, page_a()).expect(rt, "one page")
+    pages_of(rt, alloc, page_a())
 }
 
 fn answer_of_pages<R: Read + Drop>(rt: &impl Abort, alloc: Global, file: R) -> String {
@@ -67,8 +94,8 @@ fn answer_of_pages<R: Read + Drop>(rt: &impl Abort, alloc: Global, file: R) -> S
     }
 }
 
-// Requests are read beside one page.
-fn requests<R: Read + Drop>(
+/// Requests are read beside one page.
+pub fn requests<R: Read + Drop>(
     rt: &impl Abort,
     alloc: Global,
     file: R,
@@ -88,14 +115,13 @@ fn answer<R: Read + Drop>(rt: &impl Abort, alloc: Global, kind: Kind, file: R) -
 
 // Stops the test unless a file of a kind is read as is wanted.
 fn assert_answered(rt: &impl Abort, alloc: Global, kind: Kind, file: &[u8], wanted: &str) {
-    let answer = answer(rt, alloc, kind, file);
-    assert_that(rt, answer.as_str() == wanted, &answer);
+    assert_text(rt, answer(rt, alloc, kind, file), wanted);
 }
 
 // Stops the test unless each file of a kind is read as is wanted.
 fn assert_read(rt: &impl Abort, alloc: Global, kind: Kind, cases: &str) {
     for case in cases.lines() {
-        let (file, wanted) = case.split_once('|').expect(rt, "a case");
+        let (file, wanted) = halves(rt, case, "|");
         assert_answered(rt, alloc, kind, &bytes(rt, alloc, file), wanted);
     }
 }
@@ -113,8 +139,8 @@ fn two_pages() -> &'static [u8] {
 
 #[test]
 fn finds_pages_by_their_names(rt: HostRuntime) {
-    let pages = read_pages(rt.alloc(), two_pages()).expect(&rt, "pages");
-    assert!(rt; has_only_second(&pages));
+    let pages = pages_of(&rt, rt.alloc(), two_pages());
+    assert_that(&rt, has_only_second(&pages), "not the second page alone");
 }
 
 // Whether the second page is found by its name, and no page by another one.
@@ -145,17 +171,17 @@ fn answers(rt: &impl Abort, alloc: Global, kind: Kind, file: &[u8], by_reads: bo
     for number in 0..file.len().saturating_add(2) {
         let answer = answer_within(rt, alloc, kind, file, number, by_reads);
         if answer != last {
-            assert!(rt; write!(text, "{number}: {answer} ").is_ok(), "memory");
+            assert_that(rt, write!(text, "{number}: {answer} ").is_ok(), "memory");
             last = answer;
         }
     }
+    text.pop();
     text
 }
 
 fn assert_answers(rt: &impl Abort, alloc: Global, cases: &[Case], by_reads: bool) {
     for (kind, file, wanted) in cases {
-        let answers = answers(rt, alloc, *kind, *file, by_reads);
-        assert_that(rt, answers.trim_end() == *wanted, &answers);
+        assert_text(rt, answers(rt, alloc, *kind, *file, by_reads), *wanted);
     }
 }
 
@@ -169,30 +195,28 @@ fn a_read_that_fails(rt: HostRuntime) {
     assert_answers(&rt, rt.alloc(), reads(), true);
 }
 
-// Stops the test unless a file is read the same at once and byte by byte, and the good file as is wanted.
-fn assert_both_ways(rt: &impl Abort, alloc: Global, file: &[u8], good: &Case) {
-    let (kind, good, wanted) = *good;
-    let whole = answer(rt, alloc, kind, file);
+// Stops the test unless a file is read the same at once and byte by byte.
+fn assert_both_ways(rt: &impl Abort, alloc: Global, kind: Kind, file: &[u8]) {
     let bytewise = answer(rt, alloc, kind, Trickle::new(file, 1_000));
-    assert!(rt; bytewise == whole, "{bytewise}, and at once {whole}");
-    assert!(rt; file != good || whole.as_str() == wanted);
+    assert_text(rt, bytewise, &answer(rt, alloc, kind, file));
 }
 
-// The same of a good file with a byte replaced by each other one in turn.
-fn assert_replaced(rt: &impl Abort, alloc: Global, good: &Case, place: usize) {
-    let mut replaced = Vec::from_slice(alloc, good.1).expect(rt, "memory");
+// The same of a file with the byte at a place replaced by each one in turn.
+fn assert_replaced(rt: &impl Abort, alloc: Global, kind: Kind, file: &[u8], place: usize) {
+    let mut replaced = list(rt, alloc, file);
     for byte in 0..=255 {
         *replaced.get_mut(place).expect(rt, "a place") = byte;
-        assert_both_ways(rt, alloc, &replaced, good);
+        assert_both_ways(rt, alloc, kind, &replaced);
     }
 }
 
 // However a file is handed out, it is read the same: here with each byte replaced by each other one in turn.
 #[test]
 fn a_byte_that_is_changed(rt: HostRuntime) {
-    for case in changed() {
-        for place in 0..case.1.len() {
-            assert_replaced(&rt, rt.alloc(), case, place);
+    for (kind, good, wanted) in changed() {
+        assert_answered(&rt, rt.alloc(), *kind, *good, *wanted);
+        for place in 0..good.len() {
+            assert_replaced(&rt, rt.alloc(), *kind, *good, place);
         }
     }
 }
@@ -206,7 +230,7 @@ fn a_file_of_another_kind(rt: HostRuntime) {
 
 // Stops the test unless the file of a case is refused by its header, whatever kind it is read as.
 fn assert_headless(rt: &impl Abort, alloc: Global, case: &str) {
-    let (text, _) = case.split_once("=>").expect(rt, "a case");
+    let (text, _) = halves(rt, case, "=>");
     let file = bytes(rt, alloc, text);
     assert_answered(rt, alloc, Kind::Pages, &file, "Err(Header)");
     assert_answered(rt, alloc, Kind::Requests, &file, "Err(Header)");

@@ -1,7 +1,7 @@
 //! What is read of the records of a file, and of numbers.
 mod csv;
 
-use crate::files::assert_that;
+use crate::files::{assert_that, halves};
 pub use csv::csv_cases;
 use like_records::{Records, RecordsFault, decimal};
 use std::alloc::Global;
@@ -19,7 +19,7 @@ fn push_record<R: Read>(rt: &impl Abort, out: &mut Vec<u8>, records: &Records<R>
 }
 
 fn push(rt: &impl Abort, out: &mut Vec<u8>, bytes: &[u8]) {
-    assert!(rt; out.extend_from_slice(bytes).is_ok(), "memory");
+    assert_that(rt, out.extend_from_slice(bytes).is_ok(), "memory");
 }
 
 // Adds the records of a file to the text, and gives the answer behind the last. There are less than 100 records.
@@ -47,28 +47,30 @@ fn ends<R: Read>(
     answer == wanted && records.field_count() == 0 && records.read_next() == wanted
 }
 
-// The records of a file, which ends so.
-fn written<R: Read + Drop>(
+// Whether a file has these records. It has to end so.
+fn is_read<R: Read + Drop>(
     rt: &impl Abort,
     alloc: Global,
     file: R,
+    wanted: &[u8],
     end: Result<bool, RecordsFault>,
-) -> Vec<u8> {
+) -> bool {
     let mut records = Records::new(alloc, file);
     let mut out = Vec::new(alloc);
     let last = push_records(rt, &mut out, &mut records);
-    assert!(rt;
+    assert_that(
+        rt,
         ends(last, &mut records, end),
-        "out of memory, or another end"
+        "out of memory, or another end",
     );
-    out
+    out.as_slice() == wanted
 }
 
 /// The bytes of the file of a case: `/` is LF, `~` is CR, and `?` is a byte that is no text.
 pub fn bytes(rt: &impl Abort, alloc: Global, file: &str) -> Vec<u8> {
     let mut bytes = Vec::new(alloc);
     for byte in file.bytes() {
-        assert!(rt; bytes.push(byte_of(byte)).is_ok());
+        assert_that(rt, bytes.push(byte_of(byte)).is_ok(), "memory");
     }
     bytes
 }
@@ -82,18 +84,26 @@ fn byte_of(byte: u8) -> u8 {
     }
 }
 
-// Whether a text is read as others read it.
-fn is_read_alike(rt: &impl Abort, alloc: Global, case: &str) -> bool {
-    let (text, records) = case.split_once("=>").expect(rt, "a case");
-    let text = bytes(rt, alloc, text);
-    let wanted = bytes(rt, alloc, records);
-    written(rt, alloc, text.as_slice(), Ok(false)).as_slice() == wanted.as_slice()
+// Stops the test unless a text is read as others read it.
+fn assert_alike(rt: &impl Abort, alloc: Global, case: &str) {
+    let (text, records) = halves(rt, case, "=>");
+    let is_alike = is_alike(
+        rt,
+        alloc,
+        &bytes(rt, alloc, text),
+        &bytes(rt, alloc, records),
+    );
+    assert_that(rt, is_alike, case);
+}
+
+fn is_alike(rt: &impl Abort, alloc: Global, file: &[u8], records: &[u8]) -> bool {
+    is_read(rt, alloc, file, records, Ok(false))
 }
 
 #[test]
 fn reads_what_others_read(rt: HostRuntime) {
     for case in csv_cases().lines() {
-        assert_that(&rt, is_read_alike(&rt, rt.alloc(), case), case);
+        assert_alike(&rt, rt.alloc(), case);
     }
 }
 
@@ -115,7 +125,11 @@ fn all_records() -> &'static [(&'static [u8], &'static [u8])] {
 #[test]
 fn gives_each_record_in_order(rt: HostRuntime) {
     for (file, records) in all_records() {
-        assert!(rt; written(&rt, rt.alloc(), *file, Ok(false)).as_slice() == *records);
+        assert_that(
+            &rt,
+            is_alike(&rt, rt.alloc(), *file, *records),
+            "other records",
+        );
     }
 }
 
@@ -126,15 +140,19 @@ fn two_rows() -> &'static [u8] {
 #[test]
 fn a_failed_read_stays_failed(rt: HostRuntime) {
     let file = Trickle::new(two_rows(), 11);
-    let written = written(&rt, rt.alloc(), file, Err(RecordsFault::Read));
-    assert!(rt; written.as_slice() == b"like|1|;".as_slice());
+    let end = Err(RecordsFault::Read);
+    assert_that(
+        &rt,
+        is_read(&rt, rt.alloc(), file, b"like|1|;", end),
+        "other records",
+    );
 }
 
 // Reads so many records.
 fn skip<R: Read>(rt: &impl Abort, records: &mut Records<R>, number: u32) {
     for _ in 0..number {
-        let next = records.read_next();
-        assert!(rt; next == Ok(true), "{next:?}");
+        let is_there = records.read_next().expect(rt, "a record");
+        assert_that(rt, is_there, "no record");
     }
 }
 
@@ -162,7 +180,8 @@ fn all_fields() -> &'static [(&'static [u8], u32, &'static [&'static str], bool)
 #[test]
 fn compares_fields(rt: HostRuntime) {
     for (file, number, fields, wanted) in all_fields() {
-        assert!(rt; has_fields(&rt, rt.alloc(), *file, *number, *fields) == *wanted);
+        let has_fields = has_fields(&rt, rt.alloc(), *file, *number, *fields);
+        assert_that(&rt, has_fields == *wanted, "other fields");
     }
 }
 
@@ -205,9 +224,7 @@ fn all_numbers() -> &'static [(&'static str, usize, u64, Option<u64>)] {
 fn reads_numbers(rt: HostRuntime) {
     for (text, digits, limit, number) in all_numbers() {
         assert!(rt; *digits <= 19);
-        assert!(rt;
-            decimal(text.as_bytes(), *digits, *limit) == *number,
-            "{text}"
-        );
+        let is_read = decimal(text.as_bytes(), *digits, *limit) == *number;
+        assert_that(&rt, is_read, *text);
     }
 }

@@ -1,8 +1,10 @@
-ghost use Rattle.std.specs.Prelude.{◌≡◌, IfOk};
+ghost use Rattle.std.specs.Prelude.{◌≡◌};
 
+use crate::files::list;
 use like_roles::{Added, Ran, WorkerLog};
 use like_tables::Users;
-use std::alloc::{AllocError, Global};
+use std::alloc::Global;
+use std::process::Abort;
 
 mod collection;
 mod place_rows;
@@ -11,13 +13,13 @@ mod texts;
 mod texts_at_once;
 
 // The log of a worker that ran these entries and made these additions.
-fn log_of(alloc: Global, ran: &[Ran], adds: &[Added]) -> Result<WorkerLog, AllocError>
-    ensures { IfOk result (λ log. log.adds.items ≡ adds.now) }
+fn log_of(rt: &impl Abort, alloc: Global, ran: &[Ran], adds: &[Added]) -> WorkerLog
+    ensures { result.adds.items ≡ adds.now }
 {
-    Ok(WorkerLog {
+    WorkerLog {
         taken: Vec::new(alloc),
-        ran: Vec::from_slice(alloc, ran)?,
-        adds: Vec::from_slice(alloc, adds)?,
-        last: Users::new(alloc, 0, 1, 1, 0)?,
-    })
+        ran: list(rt, alloc, ran),
+        adds: list(rt, alloc, adds),
+        last: Users::new(alloc, 0, 1, 1, 0).expect(rt, "memory"),
+    }
 }

@@ -1,10 +1,8 @@
 //! Settings and what is said of them, scripts that fit a run, and the verdict of a request.
-use crate::files::one_page;
+use crate::files::{assert_that, one_page, requests};
 use SettingsFault::{Hot, Plan, Stash, Submitters, Turns, Users, Workers};
 use Verdict::{Accepted, OtherHome, UnknownPage, UnknownUser};
-use like_requests::{
-    Op, PageRef, Request, SettingsFault, Setup, Verdict, check_setup, judge, read_requests,
-};
+use like_requests::{Op, PageRef, Request, SettingsFault, Setup, Verdict, check_setup, judge};
 use like_script::{Turned, check_script};
 use std::alloc::Global;
 use std::process::Abort;
@@ -16,7 +14,7 @@ fn likes(rt: &impl Abort, alloc: Global, numbers: &[u32; 3]) -> Vec<Vec<Request>
     for submitter in 0..submitters {
         let like = like_of(first.saturating_add(submitter));
         let plan = vec![in alloc; like; each as usize].expect(rt, "memory");
-        assert!(rt; plans.push(plan).is_ok());
+        assert_that(rt, plans.push(plan).is_ok(), "memory");
     }
     plans
 }
@@ -102,7 +100,7 @@ fn is_answered(rt: &impl Abort, alloc: Global, case: &Case) -> bool {
 #[test]
 fn checks_the_settings(rt: HostRuntime) {
     for case in all_settings() {
-        assert!(rt; is_answered(&rt, rt.alloc(), case));
+        assert_that(&rt, is_answered(&rt, rt.alloc(), case), "another answer");
     }
 }
 
@@ -111,8 +109,7 @@ fn judged_text() -> &'static [u8] {
 }
 
 fn judged(rt: &impl Abort, alloc: Global) -> Vec<Request> {
-    let pages = one_page(rt, alloc);
-    read_requests(alloc, judged_text(), &pages).expect(rt, "requests")
+    requests(rt, alloc, judged_text()).expect(rt, "requests")
 }
 
 // Whether requests of submitter 0, one of two, are judged so, where there are two users.
@@ -128,15 +125,19 @@ fn are_judged(requests: &[Request], verdicts: &[Verdict]) -> bool {
 #[test]
 fn judges_in_order(rt: HostRuntime) {
     let verdicts = [UnknownUser, OtherHome, UnknownPage, UnknownUser, Accepted];
-    assert!(rt; are_judged(&judged(&rt, rt.alloc()), &verdicts));
+    assert_that(
+        &rt,
+        are_judged(&judged(&rt, rt.alloc()), &verdicts),
+        "another verdict",
+    );
 }
 
 #[test]
 fn names_the_first_entry_that_is_away(rt: HostRuntime) {
     let script = [Turned::OpenOne(4), Turned::Worker(2), Turned::Coordinator];
-    assert!(rt; check_script(&script, 3, 5).is_ok());
+    assert_that(&rt, check_script(&script, 3, 5).is_ok(), "away");
     let fault = check_script(&script, 2, 5).err();
-    assert!(rt; fault == Some(SettingsFault::Script { at: 1 }));
+    assert_that(&rt, fault == Some(SettingsFault::Script { at: 1 }), "not 1");
     let fault = check_script(&script, 3, 4).err();
-    assert!(rt; fault == Some(SettingsFault::Script { at: 0 }));
+    assert_that(&rt, fault == Some(SettingsFault::Script { at: 0 }), "not 0");
 }

@@ -1,7 +1,7 @@
 //! What words ask for, by `parse`.
 mod help;
 
-use crate::files::assert_that;
+use crate::files::{assert_that, halves};
 use like_command::{Asked, ParseFault, parse};
 use std::alloc::{AllocError, Global};
 use std::process::Abort;
@@ -97,7 +97,7 @@ fn assert_asks(rt: &impl Abort, alloc: Global, words: &str, wanted: &str) {
 #[test]
 fn right_words(rt: HostRuntime) {
     for case in all_asked().lines() {
-        let (words, wanted) = case.split_once(" => ").expect(&rt, "a case");
+        let (words, wanted) = halves(&rt, case, " => ");
         assert_asks(&rt, rt.alloc(), words, wanted);
     }
 }
@@ -122,17 +122,12 @@ fn tells(rt: &impl Abort, alloc: Global, fault: &ParseFault, status: u8, line: &
 #[test]
 fn faults(rt: HostRuntime) {
     let fault = asked(rt.alloc(), "replay --workers 17 p.csv r.csv").expect_err(&rt, "asked");
-    assert!(rt;
-        tells(&rt, rt.alloc(), &fault, 2, PAST_THE_BOUNDS),
-        "memory"
-    );
-    assert!(rt;
-        tells(
-            &rt,
-            rt.alloc(),
-            &ParseFault::Memory,
-            4,
-            "likes: out of memory\n"
-        )
+    let is_told = tells(&rt, rt.alloc(), &fault, 2, PAST_THE_BOUNDS);
+    assert_that(&rt, is_told, "memory");
+    let line = "likes: out of memory\n";
+    assert_that(
+        &rt,
+        tells(&rt, rt.alloc(), &ParseFault::Memory, 4, line),
+        "another line",
     );
 }

@@ -1,4 +1,5 @@
 //! How many rows are taken, and refused one past it.
+use crate::files::assert_that;
 use like_requests::{Pages, PagesFault, read_pages};
 use like_script::{ScriptFault, Turned, read_script};
 use std::alloc::{AllocError, Global};
@@ -35,17 +36,18 @@ fn has_length<T: Drop>(list: &Result<Vec<T>, AllocError>, length: usize) -> bool
 #[test]
 fn of_pages(rt: HostRuntime) {
     let pages = pages(&rt, rt.alloc(), 1_024).expect(&rt, "pages");
-    assert!(rt; pages.len() == 1_024);
-    assert!(rt; has_length(&pages.counts(rt.alloc()), 1_024), "memory");
-    assert!(rt; has_length(&pages.marks(rt.alloc()), 1_024), "memory");
+    assert_that(&rt, pages.len() == 1_024, "not 1,024");
+    assert_that(&rt, has_length(&pages.counts(rt.alloc()), 1_024), "memory");
+    assert_that(&rt, has_length(&pages.marks(rt.alloc()), 1_024), "memory");
 }
 
 #[test]
 fn of_a_page_past_them(rt: HostRuntime) {
     let fault = pages(&rt, rt.alloc(), 1_025).err();
-    assert!(rt;
+    assert_that(
+        &rt,
         fault == Some(PagesFault::TooMany),
-        "out of memory, or another answer"
+        "out of memory, or another answer",
     );
 }
 
@@ -64,14 +66,15 @@ fn script(rt: &impl Abort, alloc: Global, turns: usize) -> Result<Vec<Turned>, S
 #[test]
 fn of_entries(rt: HostRuntime) {
     let turns = script(&rt, rt.alloc(), 1_000_000).expect(&rt, "a script");
-    assert!(rt; turns.len() == 1_000_000);
+    assert_that(&rt, turns.len() == 1_000_000, "not a million");
 }
 
 #[test]
 fn of_an_entry_past_them(rt: HostRuntime) {
     let fault = script(&rt, rt.alloc(), 1_000_001).err();
-    assert!(rt;
+    assert_that(
+        &rt,
         fault == Some(ScriptFault::TooMany),
-        "out of memory, or another answer"
+        "out of memory, or another answer",
     );
 }

@@ -1,6 +1,6 @@
 //! Growths that are refused, as checks/refusals does it: want of memory is told, and the next call is right.
-use super::answer;
 use super::cases::{Case, good};
+use super::{answer, assert_that};
 use std::alloc::Global;
 use std::process::Abort;
 
@@ -9,7 +9,11 @@ fn is_refused(rt: &impl Abort, alloc: Global, case: &Case) -> bool {
     let (kind, file, wanted) = *case;
     let answer = answer(rt, alloc, kind, file);
     let is_refused = answer.as_str() == "Err(Memory)";
-    assert!(rt; is_refused || answer.as_str() == wanted);
+    assert_that(
+        rt,
+        is_refused || answer.as_str() == wanted,
+        "another answer",
+    );
     is_refused
 }
 
@@ -18,6 +22,6 @@ fn refused_growths(rt: HostRuntime) {
     for case in good() {
         let first = is_refused(&rt, rt.alloc(), case);
         let second = is_refused(&rt, rt.alloc(), case);
-        assert!(rt; !first && !second, "out of memory, and then right");
+        assert_that(&rt, !first && !second, "out of memory, and then right");
     }
 }

@@ -1,5 +1,5 @@
 //! What logs are collected to.
-use crate::files::{assert_that, shown};
+use crate::files::{assert_text, assert_that, shown};
 use crate::replies::log_of;
 use like_replies::{CollectFault, Replies, collect};
 use like_roles::{Ran, Reply, WorkerLog};
@@ -46,16 +46,16 @@ fn ran(entry: Entry) -> Ran {
 fn log(rt: &impl Abort, alloc: Global, entries: &[Entry]) -> WorkerLog {
     let mut noted = Vec::new(alloc);
     for entry in entries {
-        assert!(rt; noted.push(ran(*entry)).is_ok());
+        assert_that(rt, noted.push(ran(*entry)).is_ok(), "memory");
     }
-    log_of(alloc, &noted, &[]).expect(rt, "memory")
+    log_of(rt, alloc, &noted, &[])
 }
 
 // The logs of workers with these entries.
 fn logs(rt: &impl Abort, alloc: Global, workers: &[&[Entry]]) -> Vec<WorkerLog> {
     let mut logs = Vec::new(alloc);
     for entries in workers {
-        assert!(rt; logs.push(log(rt, alloc, *entries)).is_ok());
+        assert_that(rt, logs.push(log(rt, alloc, *entries)).is_ok(), "memory");
     }
     logs
 }
@@ -142,8 +142,7 @@ fn all_logs() -> &'static [(&'static [u32], &'static [&'static [Entry]], &'stati
 fn entries_and_faults(rt: HostRuntime) {
     for (sizes, workers, wanted) in all_logs() {
         let replies = collected(&rt, rt.alloc(), *sizes, *workers);
-        let answer = shown(&rt, rt.alloc(), &replies);
-        assert_that(&rt, answer.as_str() == *wanted, &answer);
+        assert_text(&rt, shown(&rt, rt.alloc(), &replies), *wanted);
     }
 }
 
@@ -160,5 +159,5 @@ fn one_each(alloc: Global, submitters: u32) -> Result<Vec<Entry>, AllocError> {
 fn as_many_submitters_as_there_may_be(rt: HostRuntime) {
     let entries = one_each(rt.alloc(), 64).expect(&rt, "memory");
     let replies = collected(&rt, rt.alloc(), &[1; 64], &[&entries]).expect(&rt, "replies");
-    assert!(rt; replies.rows.len() == 64);
+    assert_that(&rt, replies.rows.len() == 64, "not 64");
 }

@@ -2,7 +2,8 @@
 ghost use Rattle.std.specs.Prelude.{◌≡◌, length};
 
 use super::places::place;
-use super::texts::{assert_writes, list, one_page};
+use super::texts::{assert_writes, one_page};
+use crate::files::{assert_bytes, list};
 use like_replies::{Place, Replies, Report, write_places};
 use std::alloc::Global;
 use std::process::Abort;
@@ -53,8 +54,8 @@ fn assert_appends(rt: &impl Abort, alloc: Global, report: &Report)
 {
     let pages = one_page(rt, alloc, "name,count,split\na,0,no\n");
     let mut out = list(rt, alloc, b"before\n");
-    write_places(alloc, report, &pages, &mut out).expect(rt, "memory for the text");
-    assert!(rt; out.as_slice() == b"before\nplace,0,0,1,0,a,1\n".as_slice());
+    write_places(alloc, report, &pages, &mut out).expect(rt, "memory");
+    assert_bytes(rt, out, b"before\nplace,0,0,1,0,a,1\n");
 }
 
 #[test]

@@ -1,7 +1,7 @@
 //! Where the additions of logs stand.
 ghost use Rattle.std.specs.Prelude.{◌≡◌, ◌<◌, All};
 
-use crate::files::shown;
+use crate::files::{assert_text, shown};
 use crate::replies::log_of;
 use like_replies::{Place, places};
 use like_roles::Added;
@@ -36,8 +36,8 @@ fn placed(rt: &impl Abort, alloc: Global, pages: u32, first: &[Added], second: &
     requires first { All (λ a. a.page < pages) first.now }
     requires second { All (λ a. a.page < pages) second.now }
 {
-    let first = log_of(alloc, &[], first).expect(rt, "memory");
-    let second = log_of(alloc, &[], second).expect(rt, "memory");
+    let first = log_of(rt, alloc, &[], first);
+    let second = log_of(rt, alloc, &[], second);
     let logs = vec![in alloc; first, second].expect(rt, "memory");
     shown(rt, alloc, &places(alloc, pages, &logs))
 }
@@ -47,16 +47,19 @@ Ok([[Place { worker: 0, phase: 1, old: 10, n: 1 }, Place { worker: 1, phase: 1, 
 Place { worker: 0, phase: 1, old: 12, n: 1 }, Place { worker: 1, phase: 1, old: 12, n: 3 }], \
 [Place { worker: 0, phase: 1, old: 5, n: 2 }], []])";
 
+fn places_text() -> &'static str {
+    PLACES
+}
+
 #[test]
 fn places_by_page_and_count(rt: HostRuntime) {
     let first = [added(0, 12, 1), added(1, 5, 2), added(0, 10, 1)];
     let second = [added(0, 11, 1), added(0, 12, 3)];
     let placed = placed(&rt, rt.alloc(), 3, &first, &second);
-    assert!(rt; placed.as_str() == PLACES, "{placed}");
+    assert_text(&rt, placed, places_text());
 }
 
 #[test]
 fn no_additions(rt: HostRuntime) {
-    let placed = placed(&rt, rt.alloc(), 1, &[], &[]);
-    assert!(rt; placed.as_str() == "Ok([[]])", "{placed}");
+    assert_text(&rt, placed(&rt, rt.alloc(), 1, &[], &[]), "Ok([[]])");
 }

@@ -5,8 +5,9 @@ ghost use Rattle.like_service.specs.declared.reply.Reply.TheVariants.{Refused};
 ghost use Rattle.like_replies.specs.Reported.{Reported, reported};
 ghost use Rattle.like_replies.specs.Rows.{IsWritable};
 
+use crate::files::{assert_bytes, assert_that, list, pages_of};
 use like_replies::{Answer, Replies, Report, WriteFault, write_report};
-use like_requests::{Pages, Verdict, read_pages};
+use like_requests::{Pages, Verdict};
 use like_roles::{Chosen, Reply};
 use std::alloc::Global;
 use std::process::Abort;
@@ -18,16 +19,9 @@ pub const HEADER: &str = "row,id,number,phase,answer,page,count\n";
 pub fn one_page(rt: &impl Abort, alloc: Global, text: &str) -> Pages
     ensures { length result ≡ 1 }
 {
-    let pages = read_pages(alloc, text.as_bytes()).expect(rt, "pages");
+    let pages = pages_of(rt, alloc, text.as_bytes());
     assert!(rt; pages.len() == 1);
     pages
-}
-
-/// A list of these.
-pub fn list<T: Copy + Drop>(rt: &impl Abort, alloc: Global, items: &[T]) -> Vec<T>
-    ensures { result.items ≡ items.now }
-{
-    Vec::from_slice(alloc, items).expect(rt, "memory")
 }
 
 // A report on one page of this count.
@@ -128,9 +122,17 @@ pub fn assert_writes<F: Fn(&mut &mut [u8]) -> Result<(), WriteFault>>(
 {
     for bytes in 0..text.len() {
         let fault = fault_within(rt, alloc, bytes, &write);
-        assert!(rt; fault == Some(WriteFault::Write), "{fault:?}");
+        assert_that(
+            rt,
+            fault == Some(WriteFault::Write),
+            "no fault, or want of memory",
+        );
     }
-    assert!(rt; fills(rt, alloc, text.as_bytes(), &write));
+    assert_that(
+        rt,
+        fills(rt, alloc, text.as_bytes(), &write),
+        "another text",
+    );
 }
 
 // The fault of a write where there is room for so many bytes.
@@ -226,8 +228,8 @@ fn assert_appends(rt: &impl Abort, alloc: Global, report: &Report, text: &str)
 {
     let pages = one_page(rt, alloc, "name,count,split\na,10,no\n");
     let mut out = list(rt, alloc, b"before\n");
-    write_report(alloc, report, &pages, &mut out).expect(rt, "memory for the text");
-    assert!(rt; out.as_slice() == text.as_bytes());
+    write_report(alloc, report, &pages, &mut out).expect(rt, "memory");
+    assert_bytes(rt, out, text.as_bytes());
 }
 
 #[test]

@@ -7,7 +7,8 @@ ghost use Rattle.like_replies.specs.Reported.{reported};
 ghost use Rattle.like_replies.specs.Rows.{IsShowable, IsWritable};
 
 use super::places::place;
-use super::texts::{HEADER, answer, list, one_page};
+use super::texts::{HEADER, answer, one_page};
+use crate::files::{assert_bytes, list};
 use like_replies::{Place, Replies, Report, write_text_at_once};
 use like_roles::Reply;
 use std::alloc::{AllocError, Global};
@@ -109,11 +110,8 @@ fn assert_text(
 {
     let pages = one_page(rt, alloc, "name,count,split\na,0,no\n");
     let mut out = Vec::new(alloc);
-    write_text_at_once(rt, alloc, places, report, &pages, &mut out).expect(
-        rt,
-        "memory for the text",
-    );
-    assert!(rt; out.as_slice() == text.as_bytes());
+    write_text_at_once(rt, alloc, places, report, &pages, &mut out).expect(rt, "memory");
+    assert_bytes(rt, out, text.as_bytes());
 }
 
 // The same of so many likes.

@@ -7,9 +7,9 @@ use std::process::Abort;
 
 // The text of the help that words ask for.
 fn help(rt: &impl Abort, alloc: Global, words: &str) -> String {
-    match asked(alloc, words) {
-        Ok(Asked::Help(text)) => text,
-        other => panic!(rt; "{words}: {other:?}"),
+    match asked(alloc, words).expect(rt, "help") {
+        Asked::Help(text) => text,
+        _ => panic!(rt; "no help"),
     }
 }
 
