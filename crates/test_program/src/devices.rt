@@ -1,5 +1,5 @@
 //! Readers and writers that fail, by `replay_files`.
-use super::replays::fault_of;
+use super::replays::{assert_done, assert_that, fault_of};
 use like_files::DriverFault;
 use like_requests::{PagesFault, RequestsFault};
 use std::alloc::Global;
@@ -85,7 +85,8 @@ fn failing_reads(rt: HostRuntime) {
     for recovers in [false, true] {
         assert_reads_fail(&rt, rt.alloc(), true, pages.len(), recovers);
         assert_reads_fail(&rt, rt.alloc(), false, requests.len(), recovers);
-        assert!(rt; read_fault(&rt, rt.alloc(), ALL, ALL, recovers).is_none());
+        let fault = read_fault(&rt, rt.alloc(), ALL, ALL, recovers);
+        assert_done(&rt, "with all reads", fault);
     }
 }
 
@@ -118,7 +119,7 @@ fn assert_writes_fail(rt: &impl Abort, alloc: Global, settings: &str, length: us
         assert_fails(rt, alloc, settings, once, writes);
     }
     let fault = write_fault(rt, alloc, settings, Narrow::new(1, length, true));
-    assert!(rt; fault.is_none());
+    assert_done(rt, settings, fault);
 }
 
 // Asserts that a writer is at fault at each of its flushes, of which there are so many.
@@ -136,5 +137,5 @@ fn failing_writes(rt: HostRuntime) {
         assert_writes_fail(&rt, rt.alloc(), settings, length);
         assert_flushes_fail(&rt, rt.alloc(), settings, flushes);
     }
-    assert!(rt; DriverFault::Write.status() == 3);
+    assert_that(&rt, DriverFault::Write.status() == 3, "another status");
 }

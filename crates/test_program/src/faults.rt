@@ -1,5 +1,5 @@
 //! The line of each fault, and what the program tells of it.
-use super::replays::options_of;
+use super::replays::{assert_that, options_of};
 use like_command::Options;
 use like_files::DriverFault;
 use like_program::{ProgramFault, tell};
@@ -82,19 +82,19 @@ fn of_script() -> &'static [(DriverFault, &'static str)] {
 // Asserts a fault's line, and that a line is told not to be written unless each of its writes of one byte succeeds.
 fn assert_line(rt: &impl Abort, alloc: Global, options: &Options, fault: DriverFault, want: &str) {
     let mut line = Vec::new(alloc);
-    assert!(rt; fault.line(options, &mut line));
-    assert!(rt; line.as_slice() == want.as_bytes());
+    assert_that(rt, fault.line(options, &mut line), "memory");
+    assert_that(rt, line.as_slice() == want.as_bytes(), want);
     for writes in 0..=want.len() {
         let is_written = fault.line(options, &mut Narrow::new(1, writes, true));
-        assert!(rt; is_written == (writes == want.len()));
+        assert_that(rt, is_written == (writes == want.len()), want);
     }
 }
 
 // Asserts what the program tells of a fault, and with which status.
 fn assert_told(rt: &impl Abort, alloc: Global, fault: &ProgramFault, want: &str, status: u8) {
     let mut line = Vec::new(alloc);
-    assert!(rt; tell(fault, &mut line) == status, "{want}");
-    assert!(rt; line.as_slice() == want.as_bytes(), "{want}");
+    assert_that(rt, tell(fault, &mut line) == status, want);
+    assert_that(rt, line.as_slice() == want.as_bytes(), want);
 }
 
 // Asserts the line of a fault of two request files, with or without a script, by itself and as the program tells it, and

@@ -1,8 +1,8 @@
 //! The program on files, by `serve_words`.
 mod starts;
 
-use crate::program::starts::STARTS;
-use crate::replays::cell;
+use crate::program::starts::starts;
+use crate::replays::{assert_that, cell, owned};
 use like_program::serve_words;
 use std::alloc::Global;
 use std::fs;
@@ -18,8 +18,7 @@ use test_devices::Narrow;
 fn texts(rt: &impl Abort, alloc: Global, text: &str) -> Vec<String> {
     let mut texts = Vec::new(alloc);
     for word in text.split_whitespace() {
-        let word = String::from_str(alloc, word).expect(rt, "memory");
-        assert!(rt; texts.push(word).is_ok());
+        assert_that(rt, texts.push(owned(rt, alloc, word)).is_ok(), "memory");
     }
     texts
 }
@@ -39,17 +38,22 @@ where
     serve_words(rt, alloc, &words, out, errors)
 }
 
-// Writes or removes files, each a name and a text with `>` between them.
+// Writes or removes files.
 fn place_files(rt: &(impl Files + Abort), files: &str, are_there: bool) {
     for file in files.split_terminator('&') {
-        let (name, text) = file.split_once('>').expect(rt, "a file");
-        let done = if are_there {
-            fs::write(rt, name, text)
-        } else {
-            fs::remove_file(rt, name)
-        };
-        assert!(rt; done.is_ok());
+        place_file(rt, file, are_there);
     }
+}
+
+// Writes or removes a file, a name and a text with `>` between them.
+fn place_file(rt: &(impl Files + Abort), file: &str, is_there: bool) {
+    let (name, text) = file.split_once('>').expect(rt, "a file");
+    let done = if is_there {
+        fs::write(rt, name, text)
+    } else {
+        fs::remove_file(rt, name)
+    };
+    assert_that(rt, done.is_ok(), name);
 }
 
 // Whether bytes are a text, in which `..` at an end stands for more.
@@ -94,7 +98,7 @@ where
 
 #[test]
 fn ends_of_starts(rt: HostRuntime) {
-    for start in STARTS.split(';') {
+    for start in starts().split(';') {
         assert_start(&rt, rt.alloc(), start);
     }
 }

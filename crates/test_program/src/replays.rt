@@ -1,12 +1,22 @@
 //! Replays by `replay_files`, from the texts of the files to the text of the report or to the fault.
 mod cases;
 
-use crate::replays::cases::{EXAMPLES, REFUSALS};
+use crate::replays::cases::{examples, refusals};
 use like_command::Options;
 use like_files::{DriverFault, replay_files};
 use std::alloc::Global;
 use std::io::{Read, Write};
 use std::process::Abort;
+
+/// Stops the test and tells what is wrong, unless this holds.
+pub fn assert_that(rt: &impl Abort, holds: bool, wrong: &str) {
+    assert!(rt; holds, "{wrong}");
+}
+
+/// Stops the test and tells the fault, if there is one.
+pub fn assert_done(rt: &impl Abort, name: &str, fault: Option<DriverFault>) {
+    assert!(rt; fault.is_none(), "{name}: {fault:?}");
+}
 
 /// The cell of a text at an index, where `|` stands between cells.
 pub fn cell(text: &str, index: usize) -> &str {
@@ -36,6 +46,11 @@ fn case_of(text: &str) -> Case<'_> {
     }
 }
 
+// The number at an index of the settings, or 0.
+fn number(settings: &str, index: usize) -> u32 {
+    setting(settings, index).unwrap_or(0)
+}
+
 // The number at an index of the settings, if one is there.
 fn setting(settings: &str, index: usize) -> Option<u32> {
     let word = settings.split(' ').nth(index);
@@ -51,21 +66,22 @@ pub fn options_of(
     is_scripted: bool,
 ) -> Options {
     Options {
-        workers: setting(settings, 0).unwrap_or(0),
-        users: setting(settings, 1).unwrap_or(0),
-        stash: setting(settings, 2).unwrap_or(0),
-        turns: setting(settings, 3).unwrap_or(0),
+        workers: number(settings, 0),
+        users: number(settings, 1),
+        stash: number(settings, 2),
+        turns: number(settings, 3),
         hot: setting(settings, 4),
         places: settings.ends_with("places"),
         summary: false,
-        pages: name(rt, alloc, "p.csv"),
+        pages: owned(rt, alloc, "p.csv"),
         requests: names(rt, alloc, files),
         script: script_name(rt, alloc, is_scripted),
     }
 }
 
-fn name(rt: &impl Abort, alloc: Global, name: &str) -> String {
-    String::from_str(alloc, name).expect(rt, "memory")
+/// A text of its own.
+pub fn owned(rt: &impl Abort, alloc: Global, text: &str) -> String {
+    String::from_str(alloc, text).expect(rt, "memory")
 }
 
 // The names of so many request files.
@@ -73,7 +89,7 @@ fn names(rt: &impl Abort, alloc: Global, files: usize) -> Vec<String> {
     let mut names = Vec::new(alloc);
     for file in 0..files {
         let name = format!(in alloc; "r{file}.csv").expect(rt, "memory");
-        assert!(rt; names.push(name).is_ok());
+        assert_that(rt, names.push(name).is_ok(), "memory");
     }
     names
 }
@@ -81,7 +97,7 @@ fn names(rt: &impl Abort, alloc: Global, files: usize) -> Vec<String> {
 // The name of the script, where there is one.
 fn script_name(rt: &impl Abort, alloc: Global, is_there: bool) -> Option<String> {
     if is_there {
-        return Some(name(rt, alloc, "s.csv"));
+        return Some(owned(rt, alloc, "s.csv"));
     }
     None
 }
@@ -150,7 +166,7 @@ pub fn requests_of<'a>(
 ) -> Vec<&'a [u8]> {
     let mut files = Vec::new(alloc);
     for text in texts.split_terminator('&') {
-        assert!(rt; files.push(cut(text, most)).is_ok());
+        assert_that(rt, files.push(cut(text, most)).is_ok(), "memory");
     }
     files
 }
@@ -179,12 +195,18 @@ fn replayed(
 
 // Whether a file of this kind, of which an end is missing, is replayed, or is at fault itself.
 fn is_harmless(rt: &impl Abort, alloc: Global, case: &Case<'_>, file: File, most: usize) -> bool {
-    let fault = replayed(rt, alloc, case, cuts_of(file, most), &mut Vec::new(alloc));
-    match (file, fault) {
-        (_, None) => true,
-        (File::Pages, Some(DriverFault::Pages(_))) => true,
-        (File::Requests, Some(DriverFault::Requests { .. })) => true,
-        (File::Script, Some(DriverFault::Script(_))) => true,
+    match replayed(rt, alloc, case, cuts_of(file, most), &mut Vec::new(alloc)) {
+        None => true,
+        Some(fault) => is_of(&fault, file),
+    }
+}
+
+// Whether a fault is one of a file of this kind.
+fn is_of(fault: &DriverFault, file: File) -> bool {
+    match fault {
+        DriverFault::Pages(_) => matches!(file, File::Pages),
+        DriverFault::Requests { .. } => matches!(file, File::Requests),
+        DriverFault::Script(_) => matches!(file, File::Script),
         _ => false,
     }
 }
@@ -203,12 +225,17 @@ fn is_report(text: &[u8], rows: &str) -> bool {
         == Some(rows.as_bytes())
 }
 
-// Asserts that a case ends in its report, and that files that are cut short do no harm.
-fn assert_example(rt: &impl Abort, alloc: Global, case: &Case<'_>) {
+// Asserts that a case ends in its report.
+fn assert_report(rt: &impl Abort, alloc: Global, case: &Case<'_>) {
     let mut out = Vec::new(alloc);
     let fault = replayed(rt, alloc, case, WHOLE, &mut out);
-    assert!(rt; fault.is_none(), "{}: {fault:?}", case.name);
-    assert!(rt; is_report(&out, case.end), "{}", case.name);
+    assert_done(rt, case.name, fault);
+    assert_that(rt, is_report(&out, case.end), case.name);
+}
+
+// The same, and that files that are cut short do no harm.
+fn assert_example(rt: &impl Abort, alloc: Global, case: &Case<'_>) {
+    assert_report(rt, alloc, case);
     assert_prefixes(rt, alloc, case, File::Pages, case.pages.len());
     assert_prefixes(rt, alloc, case, File::Requests, case.requests.len());
     assert_prefixes(rt, alloc, case, File::Script, case.script.len());
@@ -216,9 +243,8 @@ fn assert_example(rt: &impl Abort, alloc: Global, case: &Case<'_>) {
 
 #[test]
 fn worked_examples(rt: HostRuntime) {
-    for text in EXAMPLES.split(';') {
-        let case = case_of(text);
-        assert_example(&rt, rt.alloc(), &case);
+    for text in examples().split(';') {
+        assert_example(&rt, rt.alloc(), &case_of(text));
     }
 }
 
@@ -229,7 +255,11 @@ fn end_of(
     fault: Option<DriverFault>,
     is_untouched: bool,
 ) -> String {
-    assert!(rt; is_untouched == fault.is_some());
+    assert_that(
+        rt,
+        is_untouched == fault.is_some(),
+        "a report beside a fault, or neither",
+    );
     let end = match fault {
         None => String::from_str(alloc, "a report"),
         Some(fault) => format!(in alloc; "{fault:?} {}", fault.status()),
@@ -248,7 +278,7 @@ fn assert_end(rt: &impl Abort, alloc: Global, text: &str) {
 
 #[test]
 fn refused_replays(rt: HostRuntime) {
-    for text in REFUSALS.split(';') {
+    for text in refusals().split(';') {
         assert_end(&rt, rt.alloc(), text);
     }
 }

@@ -1,5 +1,5 @@
 //! Runs on threads, by `run_files`.
-use super::replays::options_of;
+use super::replays::{assert_done, assert_that, options_of};
 use like_files::{DriverFault, run_files};
 use std::alloc::{AllocError, Global};
 use std::io::Write;
@@ -18,7 +18,7 @@ fn pages() -> &'static str {
 fn requests(rt: &impl Abort, alloc: Global, rows: &str, count: usize) -> String {
     let mut text = String::from_str(alloc, "op,user,page\n").expect(rt, "memory");
     for _ in 0..count {
-        assert!(rt; text.push_str(rows).is_ok());
+        assert_that(rt, text.push_str(rows).is_ok(), "memory");
     }
     text
 }
@@ -79,8 +79,8 @@ fn assert_ends(
     let requests = requests(rt, alloc, "like,0,a\n", likes);
     let mut out = Vec::new(alloc);
     let fault = run_onto(rt, alloc, settings, pages(), &requests, &mut out);
-    assert!(rt; fault.is_none(), "{fault:?}");
-    assert!(rt; out.as_slice().ends_with(end.as_bytes()), "no {end}");
+    assert_done(rt, settings, fault);
+    assert_that(rt, out.as_slice().ends_with(end.as_bytes()), end);
 }
 
 #[test]
@@ -129,7 +129,7 @@ fn assert_writes_fail(
     width: usize,
 ) {
     let (fault, left) = write_fault(rt, alloc, likes, Narrow::new(width, 1_000, true));
-    assert!(rt; fault.is_none());
+    assert_done(rt, "with all writes", fault);
     for writes in 0..1_000 - left.min(1_000) {
         assert_fails(rt, alloc, likes, Narrow::new(width, writes, true), writes);
         let once = Narrow::failing_once(width, writes, usize::MAX);
@@ -199,7 +199,7 @@ fn keeps_to_the_stash(rt: HostRuntime) {
     let pages = "name,count,split\na,0,yes\nb,0,no\n";
     let mut out = Vec::new(rt.alloc());
     let fault = run_onto(&rt, rt.alloc(), "1 1 2 16", pages, &requests, &mut out);
-    assert!(rt; fault.is_none());
+    assert_done(&rt, "a stash of two", fault);
     assert_overtaken_by_one(&rt, rt.alloc(), &out);
 }
 
@@ -207,6 +207,6 @@ fn keeps_to_the_stash(rt: HostRuntime) {
 fn assert_overtaken_by_one(rt: &impl Abort, alloc: Global, report: &[u8]) {
     let report = str::from_utf8(report).expect(rt, "a text");
     let phases = phases(alloc, report).expect(rt, "memory");
-    assert!(rt; phases.len() == 40_000);
-    assert!(rt; most_overtaken(&phases) == 1);
+    assert_that(rt, phases.len() == 40_000, "not 40,000 replies");
+    assert_that(rt, most_overtaken(&phases) == 1, "not one look");
 }

@@ -18,7 +18,13 @@
 /// - `hot-choice`: two likes in phases 1 and 2 make the page hot in phase 3, where the look waits; 3 in its place would take
 ///   one more.
 /// - `counts-turns`: three likes, in phases that the number of turns decides.
-pub const EXAMPLES: &str = "\
+///
+/// A function that takes them from here has none of their text in its proof.
+pub fn examples() -> &'static str {
+    EXAMPLES
+}
+
+const EXAMPLES: &str = "\
 plain-likes|1 2 256 1000|name,count,split\na,10,no\n|op,user,page\nlike,0,a\nlike,1,a\nlike,0,a\n&|-|\
 reply,0,1,0,liked,,\nreply,0,2,0,liked,,\nreply,0,3,0,liked,,\npage,0,,,,a,13\nuser,0,,,,a,\nuser,1,,,,a,\n;\
 no-requests|1 2 256 1000|name,count,split\na,10,no\n|op,user,page\n&|-|page,0,,,,a,10\n;\
@@ -104,7 +110,11 @@ reply,0,1,0,liked,,\nreply,0,2,0,liked,,\nreply,0,3,1,liked,,\npage,0,,,,a,3\nus
 /// - `faults-in-order`: what is told where every file and the settings are at fault, and then as each fault in turn is
 ///   mended.
 /// - `reader-faults`: where the pages file is at fault, the request file is too.
-pub const REFUSALS: &str = "\
+pub fn refusals() -> &'static str {
+    REFUSALS
+}
+
+const REFUSALS: &str = "\
 settings|1 2 256 0|name,count,split\na,10,no\n|op,user,page\nlike,0,a\nlike,1,a\nlike,0,a\n&|-|a report;\
 settings|0 0 0 0|name,count,split\na,10,no\n||-|Settings(Workers) 2;\
 settings|17 2 256 1000|name,count,split\na,10,no\n|op,user,page\nlike,0,a\nlike,1,a\nlike,0,a\n&|-|\
