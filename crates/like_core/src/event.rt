@@ -1,5 +1,5 @@
 /// One step of a worker or of the coordinator. The first number is the worker, the second the page.
-#[derive(Clone, Copy, Debug, PartialEq, Eq)]
+#[derive(Clone, Copy, PartialEq, Eq)]
 pub enum Event {
     /// The worker looks at the phase word.
     Look(u32),

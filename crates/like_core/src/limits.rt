@@ -4,7 +4,7 @@ ghost use Rattle.like_core.specs.OpeningLimits.{run_limits, service_limits, numb
 use crate::phase_word::LAST_PHASE;
 
 /// The limits of a board or a core, which its opening fixes.
-#[derive(Clone, Copy, Debug, PartialEq, Eq)]
+#[derive(Clone, Copy, PartialEq, Eq)]
 pub struct Limits {
     /// The number of the last phase. Its end is never announced.
     pub last_phase: u64,

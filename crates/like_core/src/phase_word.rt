@@ -24,7 +24,7 @@ const NUMBER_AT: u32 = 40;
 
 /// The phase word, unpacked. Bit `i` of `answered` says that worker `i` acknowledged or reported in this phase, bit
 /// `i` of `retired` that it retired.
-#[derive(Clone, Copy, Debug, PartialEq, Eq)]
+#[derive(Clone, Copy, PartialEq, Eq)]
 pub struct PhaseWord {
     pub kind: Kind,
     /// How many workers there are, 1 to 16.

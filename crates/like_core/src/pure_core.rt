@@ -22,7 +22,7 @@ pub use sequence::check_events;
 
 /// The core as a state machine over events: it keeps the phase and the mask of its hot pages, each worker's state, how
 /// many likes of each page each worker has not merged, and each page's count.
-#[derive(Debug, Drop)]
+#[derive(Drop)]
 pub struct Core {
     limits: Limits,
     phase: u64,

@@ -1,7 +1,7 @@
 use crate::sight::{CoordSight, Sight};
 
 /// What an event shows to whoever does it.
-#[derive(Clone, Copy, Debug, PartialEq, Eq)]
+#[derive(Clone, Copy, PartialEq, Eq)]
 pub enum Shown {
     /// Of a worker's look.
     Seen(Sight),

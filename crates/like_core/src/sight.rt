@@ -1,5 +1,5 @@
 /// What a worker sees by a look at the phase word.
-#[derive(Clone, Copy, Debug, PartialEq, Eq)]
+#[derive(Clone, Copy, PartialEq, Eq)]
 pub struct Sight {
     /// The number in the phase word: in a run the present phase, else that phase modulo the modulus of its limits.
     pub number: u32,
@@ -10,7 +10,7 @@ pub struct Sight {
 }
 
 /// What the coordinator sees by a look at the phase word.
-#[derive(Clone, Copy, Debug, PartialEq, Eq)]
+#[derive(Clone, Copy, PartialEq, Eq)]
 pub struct CoordSight {
     /// The number in the phase word, as in a worker's sight.
     pub number: u32,

@@ -1,5 +1,5 @@
 /// The parts of a run or a replay of files, in their order.
-#[derive(Clone, Copy, Debug, PartialEq, Eq)]
+#[derive(Clone, Copy, PartialEq, Eq)]
 pub enum Part {
     Reading,
     Running,

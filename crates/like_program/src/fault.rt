@@ -7,7 +7,7 @@ use std::alloc::{AllocError, AllocFailed};
 use std::io::Write;
 
 /// Why the program has not done what its words ask for.
-#[derive(Debug, Drop)]
+#[derive(Drop)]
 pub enum ProgramFault {
     Words(ParseFault),
     /// A fault of a run or a replay with these options.

@@ -8,7 +8,7 @@ use std::marker::Model;
 
 /// A submitter's requests as a list of which more and more is open to its worker. Its items are the requests,
 /// numbered from 1, and then the end mark. A take moves no list.
-#[derive(Debug, Drop)]
+#[derive(Drop)]
 pub struct ListInbox {
     plan: Vec<Request>,
     // How many items are open, and how many of them were taken.

@@ -1,7 +1,7 @@
 use like_requests::Request;
 
 /// Why a request was not pushed. The request comes back.
-#[derive(Clone, Copy, Debug, PartialEq, Eq)]
+#[derive(Clone, Copy, PartialEq, Eq)]
 pub enum PushRefused {
     /// The queue was full at some moment of the call.
     Full(Request),
@@ -10,7 +10,7 @@ pub enum PushRefused {
 }
 
 /// Why the end mark was not pushed.
-#[derive(Clone, Copy, Debug, PartialEq, Eq)]
+#[derive(Clone, Copy, PartialEq, Eq)]
 pub enum EndRefused {
     /// The queue was full at some moment of the call.
     Full,

@@ -7,14 +7,14 @@ use std::alloc::{AllocError, Global};
 use std::marker::Model;
 
 /// What the pages file says of a page beside its name.
-#[derive(Clone, Copy, Debug)]
+#[derive(Clone, Copy)]
 pub(crate) struct Initial {
     pub count: u64,
     pub split: bool,
 }
 
 // A page with its name, as text.
-#[derive(Debug, Drop)]
+#[derive(Drop)]
 struct Listed {
     name: String,
     initial: Initial,
@@ -22,7 +22,7 @@ struct Listed {
 
 /// Pages in the order in which they were added, found through a hash table by the bytes of their names: at most 1,024,
 /// with distinct names.
-#[derive(Debug, Drop)]
+#[derive(Drop)]
 pub(crate) struct Entries {
     by_name: IndexMap<Vec<u8>, Listed>,
 }

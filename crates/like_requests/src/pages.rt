@@ -15,7 +15,7 @@ pub const MAX_NAME: usize = 64;
 pub const MAX_COUNT: u64 = 1_000_000_000_000_000_000;
 
 /// The pages of the service in the order of the pages file, numbered from 0: 1 to 1,024 of them, with distinct names.
-#[derive(Debug, Drop)]
+#[derive(Drop)]
 pub struct Pages {
     entries: Entries,
 }

@@ -23,14 +23,14 @@ pub struct Request {
 }
 
 /// A request with its number among those of its submitter, from 1.
-#[derive(Clone, Copy, Debug, PartialEq, Eq)]
+#[derive(Clone, Copy, PartialEq, Eq)]
 pub struct Numbered {
     pub number: u32,
     pub request: Request,
 }
 
 /// What a worker takes from a submitter's inbox.
-#[derive(Clone, Copy, Debug, PartialEq, Eq)]
+#[derive(Clone, Copy, PartialEq, Eq)]
 pub enum Taken {
     /// The next request.
     Ask(Numbered),

@@ -30,7 +30,7 @@ pub const MAX_HOT: u32 = 1_000_000;
 pub const MAX_REQUESTS: u32 = 1_000_000;
 
 /// The settings of a run.
-#[derive(Debug, Drop)]
+#[derive(Drop)]
 pub struct Setup {
     /// How many workers there are: 1 to 16.
     pub workers: u32,

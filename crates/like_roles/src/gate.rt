@@ -11,7 +11,7 @@ pub trait Gate: Sync {
 }
 
 /// The gate that holds nothing back.
-#[derive(Clone, Copy, Debug)]
+#[derive(Clone, Copy)]
 pub struct NoGate;
 
 impl Gate for NoGate {

@@ -1,5 +1,5 @@
 /// The likes of a page that a seat added to the page's count from its slice.
-#[derive(Clone, Copy, Debug, PartialEq, Eq)]
+#[derive(Clone, Copy, PartialEq, Eq)]
 pub struct Merged {
     pub page: u32,
     /// The page's count before.

@@ -1,5 +1,5 @@
 /// The hot pages that the coordinator chose for a split phase: bit `p` of the mask is that of page `p`.
-#[derive(Clone, Copy, Debug, PartialEq, Eq)]
+#[derive(Clone, Copy, PartialEq, Eq)]
 pub struct Chosen {
     pub phase: u32,
     pub mask: u64,

@@ -2,7 +2,7 @@ use crate::reply::Reply;
 use like_tables::Users;
 
 /// A request that a worker took.
-#[derive(Clone, Copy, Debug, PartialEq, Eq)]
+#[derive(Clone, Copy, PartialEq, Eq)]
 pub struct Took {
     /// The phase in which it was taken.
     pub phase: u32,
@@ -11,7 +11,7 @@ pub struct Took {
 }
 
 /// A request that a worker ran.
-#[derive(Clone, Copy, Debug, PartialEq, Eq)]
+#[derive(Clone, Copy, PartialEq, Eq)]
 pub struct Ran {
     /// The phase in which it ran.
     pub phase: u32,
@@ -24,7 +24,7 @@ pub struct Ran {
 
 /// An addition that a worker made to a page's count: a like of a page that is not split in the phase, or the merge of all
 /// its likes of a page that is.
-#[derive(Clone, Copy, Debug, PartialEq, Eq)]
+#[derive(Clone, Copy, PartialEq, Eq)]
 pub struct Added {
     pub page: u32,
     pub phase: u32,
@@ -38,7 +38,7 @@ pub struct Added {
 }
 
 /// What a worker has done, when it is gone.
-#[derive(Debug, Drop)]
+#[derive(Drop)]
 pub struct WorkerLog {
     /// The requests that it took, in their order, without end marks.
     pub taken: Vec<Took>,

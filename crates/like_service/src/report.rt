@@ -4,7 +4,7 @@ use crate::place::Place;
 use crate::replies::Replies;
 
 /// What a run reports.
-#[derive(Debug, Drop)]
+#[derive(Drop)]
 pub struct Report {
     /// What each worker has done.
     pub logs: Vec<WorkerLog>,

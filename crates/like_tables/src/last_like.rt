@@ -7,7 +7,7 @@ use std::marker::Model;
 const NO_PAGE: u32 = u32::MAX;
 
 /// The page of a user's last like, if there is one, in four bytes.
-#[derive(Clone, Debug, Drop)]
+#[derive(Clone, Drop)]
 pub(crate) struct LastLike {
     number: u32,
 }

@@ -6,7 +6,7 @@ use std::alloc::{AllocError, Global};
 use std::marker::Model;
 
 /// A set of pages: a bit for each page, 64 to a word, in the order of the pages.
-#[derive(Debug, Drop)]
+#[derive(Drop)]
 pub(crate) struct PageSet {
     words: Vec<u64>,
 }

@@ -7,7 +7,7 @@ use std::alloc::{AllocError, Global};
 use std::marker::Model;
 
 /// A worker's share of the users: those below `users` whose home is one of its submitters.
-#[derive(Debug, Drop)]
+#[derive(Drop)]
 pub(crate) struct UserShare {
     pub users: u32,
     pub submitters: u32,

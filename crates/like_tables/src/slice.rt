@@ -8,7 +8,7 @@ use std::marker::Model;
 /// A worker's slice of the split pages: how many likes of each page it has counted and not merged yet.
 ///
 /// A like of a split page goes here in a split phase, in place of the page's word. It is a number per page, by page.
-#[derive(Debug, Drop)]
+#[derive(Drop)]
 pub struct Slice {
     counts: Vec<u64>,
     // The pages whose number is not 0.

@@ -7,7 +7,7 @@ use std::alloc::{AllocError, Global};
 use std::marker::Model;
 
 /// A worker's stash: what waits in a split phase for the next joined one, first in, first out.
-#[derive(Debug, Drop)]
+#[derive(Drop)]
 pub struct Stash<W: Copy> {
     ring: HeapCircularBuffer<W>,
 }

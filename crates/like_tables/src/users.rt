@@ -13,7 +13,7 @@ use std::marker::Model;
 /// The last likes of the users that a worker serves: those below `users` whose home is one of its submitters.
 ///
 /// Submitter `s` is served by worker `s mod workers`, and the home of user `u` is submitter `u mod submitters`.
-#[derive(Debug, Drop)]
+#[derive(Drop)]
 pub struct Users {
     share: UserShare,
     // The last like of each such user, in the order of the users.

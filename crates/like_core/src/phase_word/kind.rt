@@ -2,7 +2,7 @@ ghost use Rattle.std.specs.Prelude.{◌≡◌, ◌/◌, ◌%◌, ◌↔◌, ◌<
 ghost use Rattle.like_core.specs.word.Kind.{code_of};
 
 /// The kind of a phase: joined or split, and running or ending.
-#[derive(Clone, Copy, Debug, PartialEq, Eq)]
+#[derive(Clone, Copy, PartialEq, Eq)]
 pub enum Kind {
     JoinedRunning,
     JoinedEnding,

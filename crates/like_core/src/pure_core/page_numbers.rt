@@ -4,7 +4,7 @@ use std::alloc::{AllocError, Global};
 use std::marker::Model;
 
 /// A number for each page.
-#[derive(Debug, Drop)]
+#[derive(Drop)]
 pub struct PageNumbers {
     numbers: Vec<u64>,
 }

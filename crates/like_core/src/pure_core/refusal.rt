@@ -1,5 +1,5 @@
 /// Why an event may not happen now: the first of these that stands.
-#[derive(Clone, Copy, Debug, PartialEq, Eq)]
+#[derive(Clone, Copy, PartialEq, Eq)]
 pub enum NotNow {
     /// The worker or the page is not there, or the page of a bit.
     NoSuch,
@@ -12,7 +12,7 @@ pub enum NotNow {
 }
 
 /// The first event of a list that may not happen.
-#[derive(Clone, Copy, Debug, PartialEq, Eq)]
+#[derive(Clone, Copy, PartialEq, Eq)]
 pub struct Wrong {
     /// Its place in the list, from 0.
     pub index: usize,
