@@ -1,5 +1,5 @@
 -- How a live seat is kept, between two calls and within one.
-use Rattle.std.specs.Prelude.{◌≡◌, ℕ, ◌+◌, ◌≤◌, length, All}
+use Rattle.std.specs.Prelude.{◌≡◌, ℕ, ◌+◌, ◌/◌, ◌≤◌, length, All}
 use Rattle.like_core.specs.OpeningLimits.{service_limits}
 use Rattle.like_core.specs.Phase.{IsJoined, IsSplit}
 use Rattle.like_core.specs.Post.{pages_of}
@@ -10,13 +10,14 @@ use Rattle.like_live.specs.declared.asked.Asked.{Asked}
 use Rattle.like_live.specs.declared.asked.Found.{Found}
 use Rattle.like_live.specs.LiveView.{IsLive, IsOwn, RanNext, live_of}
 
--- a live seat's parts agree: a worker's seat, a stash of found looks, the number of pages, and how many more looks may
--- wait
-pub record AreLiveSeatParts (s : SeatView Asked) (found : Waiting Found) (pages room : ℕ) : Type 0 where
+-- a live seat's parts agree: a worker's seat, a stash of found looks, the number of pages, how many more looks may
+-- wait, and half of the room
+pub record AreLiveSeatParts (s : SeatView Asked) (found : Waiting Found) (pages room half : ℕ) : Type 0 where
   pub live : IsLive (live_of s found)
   pub capacity : found.capacity ≡ s.held.capacity
   pub pages_are : pages ≡ pages_of s.post
   pub room_is : room + length s.held.held + length found.held ≡ s.held.capacity
+  pub half_is : half ≡ s.held.capacity / 2
 
 -- a live seat's parts after a look at the phase word that showed a phase that it runs: what waits was asked in that
 -- phase if it is split, and otherwise in the one before

@@ -49,7 +49,7 @@ impl<P: Post> Model for LiveSeat<P> {
 
     ghost view = { λ s. live_of s.seat s.found };
 
-    ghost invariant = { λ s. AreLiveSeatParts s.seat s.found s.pages s.room };
+    ghost invariant = { λ s. AreLiveSeatParts s.seat s.found s.pages s.room s.half };
 }
 
 impl<P: Post + Drop> LiveSeat<P> {

@@ -1,4 +1,4 @@
-use Rattle.std.proofs.Common.{◌≡◌, ◌<◌, arith, refl, ap, sym, subst, ◌∙◌}
+use Rattle.std.proofs.Common.{◌≡◌, ◌<◌, arith, refl, ap, subst}
 use Rattle.like_seat.specs.SeatView.{SeatView, likes_of}
 use Rattle.like_seat.specs.Steps.{CountsLike}
 use Rattle.like_live.specs.declared.asked.Asked.{Asked}
