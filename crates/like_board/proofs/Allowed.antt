@@ -21,7 +21,7 @@ use Rattle.like_core.specs.WorkerState.{RunsJoined, RunsSplit, SawEnding}
 use Rattle.like_core.specs.views.Views.{MayAnnounce, MayCount, MayPublish, MayRelease, fresh, looked_view, answered_view, retired_view, added_view, read_view, glanced_view, masked_view, post_of, likes_merged, adding, looked_coord, announced_coord, counted_coord, published_coord, mask_released, released_coord, made_coord, gathered_coord}
 use Rattle.like_core.specs.views.Actions.{Acknowledges, Reports, Retires, Reads, Glances, Announces, Releases}
 use Rattle.like_core.specs.views.Layout.{mask_place, word_of}
-use Rattle.like_core.specs.views.Shows.{ShowsSome, FitsWorker, FitsCoord, IsStep, IsSteps}
+use Rattle.like_core.specs.views.Shows.{ShowsSome, FitsWorker, FitsCoord, IsKnown, IsStep, IsSteps}
 use Rattle.like_core.proofs.views.Apart.{word_of-injective}
 use Rattle.like_core.proofs.views.Posts.{post_fresh}
 use Rattle.like_board.specs.declared.key.Key.{Key}
@@ -30,6 +30,7 @@ use Rattle.like_board.specs.Rule.{opening_of, IsShowing}
 use Rattle.like_board.specs.Plays.{Looked, Surveyed, TellsLook, TellsSurvey, TellsWorker, TellsCoord, PageAct, TellsAdd, TellsRead, TellsAddAt, TellsReadAt, TellsMask, TellsCount, TellsCountAt}
 use Rattle.like_board.specs.Closed.{TellsLast}
 use Rattle.like_board.proofs.coordinator.Leads.{splits}
+use Rattle.like_board.proofs.worker.Moves.{known_of}
 use Rattle.like_board.proofs.worker.WorkerSteps.{looks, acknowledges, reports, retires}
 use Rattle.like_board.proofs.coordinator.CoordSteps.{surveys, announces, releases}
 use Rattle.like_board.proofs.coordinator.Choosing.{counts, publishes}
@@ -178,8 +179,9 @@ surveying {S} key slots id me is = λ st shows _ at _.
     let r = surveys z st.words st.views id c shows here in
     let found : ℕ = get_or st.words 0 0 in
     let P : Opening → Type 0 = λ y. (l : Surveyed y found c) × (l.fields ≡ r.0.fields) in
-    let told : P c.opening = subst P (sym same) (r.0, refl) in (
-      Coord (looked_coord c found (coord_sight_of r.0.fields)),
+    let told : P c.opening = subst P (sym same) (r.0, refl) in
+    let d : View = Coord (looked_coord c found (coord_sight_of r.0.fields)) in (
+      d,
       keeps,
       tt,
       r.1,
@@ -187,6 +189,8 @@ surveying {S} key slots id me is = λ st shows _ at _.
         record {
           surveyed = told.0;
           view = ap (λ (f : Fields). Coord (looked_coord c found (coord_sight_of f))) (sym told.1);
+          known = subst (λ (y : Opening). IsKnown y d) (sym same)
+              (known_of z _ st.views id (Coord c) d here r.1);
         },
         ap (λ (m : Me S View). m.1) is,
       ),
@@ -267,6 +271,8 @@ counting_page {S} key slots id me page is may = λ st shows _ at _.
     record {
       view =
           refl;
+      known = subst (λ (y : Opening). IsKnown y (Coord d)) (sym same)
+          (known_of z _ st.views id (Coord c) (Coord d) here r.1);
       step = subst (λ (y : Opening). IsStep y (CoordRead page) (Count found) (Coord c) (Coord d))
           (sym same) r.0;
     }

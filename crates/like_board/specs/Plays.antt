@@ -15,7 +15,7 @@ use Rattle.like_core.specs.WorkerState.{IsSightWithin, SeesEndingStill, phase_of
 use Rattle.like_core.specs.Additions.{added_to}
 use Rattle.like_core.specs.views.Views.{looked_view, added_view, masked_view, looked_coord, counted_coord}
 use Rattle.like_core.specs.views.Layout.{word_of}
-use Rattle.like_core.specs.views.Shows.{IsStep}
+use Rattle.like_core.specs.views.Shows.{IsKnown, IsStep}
 use Rattle.like_core.specs.views.Actions.{Adds, ReadsMask, Counts}
 use Rattle.like_board.specs.Known.{worker_view_of, coord_view_of}
 
@@ -53,6 +53,7 @@ pub record TellsLook (v : View) (found : ℕ) (w : View) : Type 0 where
 pub record TellsSurvey (v : View) (found : ℕ) (w : View) : Type 0 where
   pub surveyed : Surveyed (coord_view_of v).opening found (coord_view_of v)
   pub view : w ≡ Coord (looked_coord (coord_view_of v) found (coord_sight_of surveyed.fields))
+  pub known : IsKnown (coord_view_of v).opening w
 
 -- what a worker does, as a relation of its views
 abbrev pub WorkerAct : Type 1
@@ -110,6 +111,7 @@ pub record TellsMask (v : View) (found : ℕ) (w : View) : Type 0 where
 -- what the coordinator's read of a page's count tells: the view after has it, and it is the action
 pub record TellsCount (page : ℕ) (v : View) (found : ℕ) (w : View) : Type 0 where
   pub view : w ≡ Coord (counted_coord (coord_view_of v) page found)
+  pub known : IsKnown (coord_view_of v).opening w
   pub step : let me = coord_view_of v in Counts me page found (counted_coord me page found)
 
 -- the same of a word

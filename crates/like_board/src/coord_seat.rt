@@ -43,6 +43,7 @@ impl CoordSeat {
     ghost use Rattle.like_core.specs.Phase.{IsSplit};
     ghost use Rattle.like_core.specs.views.Views.{looked_coord, announced_coord, counted_coord, published_coord, released_coord, MayAnnounce, MayCount, MayPublish, MayRelease};
     ghost use Rattle.like_core.specs.views.Actions.{Surveys, Announces, Counts, Releases};
+    ghost use Rattle.like_core.specs.views.Shows.{IsKnown};
     ghost use Rattle.like_board.specs.Seats.{board_id, coord_board, coord_view};
 
     /// The present phase. In a phase word stands only its number.
@@ -69,6 +70,7 @@ impl CoordSeat {
         ensures ending { result.ending ≡ (coord_view self.old).ending }
         ensures all_in { (coord_view self.old).all_in ≡ true → result.all_in ≡ true }
         ensures all_gone { let c = coord_view self.old in IsSplit c.phase → result.all_gone ≡ true → c.gone ≡ true }
+        ensures known { IsKnown (coord_view self.old).opening (Coord (coord_view self.new)) }
         ensures event { Surveys (coord_view self.old) result (coord_view self.new) }
     {
         let word = board
@@ -99,6 +101,7 @@ impl CoordSeat {
         requires may { MayCount (coord_view self.old) page }
         ensures board { coord_board self.new ≡ coord_board self.old }
         ensures view { coord_view self.new ≡ counted_coord (coord_view self.old) page result }
+        ensures known { IsKnown (coord_view self.old).opening (Coord (coord_view self.new)) }
         ensures event { Counts (coord_view self.old) page result (coord_view self.new) }
     {
         let word = word_of(page);

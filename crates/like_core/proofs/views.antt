@@ -5,3 +5,4 @@ pub mod KeptReads
 pub mod KeptPlaces
 pub mod Apart
 pub mod Sights
+pub mod Ends

@@ -4,10 +4,11 @@ use Rattle.like_core.specs.declared.worker_state.WorkerState.TheVariants.{Runs, 
 use Rattle.like_core.specs.declared.sight.Sight.{Sight}
 use Rattle.like_core.specs.declared.limits.Limits.{Limits}
 use Rattle.like_core.specs.declared.view.Addition.{Addition}
+use Rattle.like_core.specs.declared.view.Look.{Look}
 use Rattle.like_core.specs.declared.view.PageRead.{PageRead}
 use Rattle.like_core.specs.declared.view.PhaseMask.{PhaseMask}
 use Rattle.like_limits.specs.Limits.{hot_pages}
-use Rattle.like_core.specs.Additions.{addition, all_added, added_to, added_in, page_read}
+use Rattle.like_core.specs.Additions.{addition, look_after, all_added, added_to, added_in, page_read}
 use Rattle.like_core.specs.Phase.{IsSplit, is_marked, split}
 use Rattle.like_core.specs.PhaseMasks.{mask_of, HasMask}
 use Rattle.like_core.specs.WorkerState.{IsRunning, SawEnding, phase_of, seen}
@@ -22,9 +23,9 @@ pub record PostView : Type 0 where
   pub limits : Limits
   -- the worker's state
   pub state : WorkerState
-  -- its last sight, if it looked, and how many looks it made
+  -- its last sight, if it looked, and all its looks, in order, each with how much it had done before
   pub last : Option Sight
-  pub looks : ℕ
+  pub looks : List Look
   -- what it added to pages, in order
   pub additions : List Addition
   -- what it read of pages that were not sliced, and what it read at a glance of pages that were, each in order
@@ -49,7 +50,7 @@ additions_in v phase page = added_in phase page v.additions
 pub record IsFresh (v : PostView) : Type 0 where
   pub runs : v.state ≡ Runs 0
   pub never_looked : v.last ≡ None
-  pub no_looks : v.looks ≡ 0
+  pub no_looks : v.looks ≡ []
   pub added_nothing : v.additions ≡ []
   pub read_nothing : v.reads ≡ []
   pub glanced_nothing : v.glances ≡ []
@@ -66,10 +67,13 @@ KnowsSlices v page =
     IsSplit (phase_of v.state) → is_marked v.marks page ≡ false → page < hot_pages
     → HasMask (phase_of v.state) v.masks
 
--- the post after a look, which is counted
+-- the post after a look
 abbrev pub looked_at : PostView → Sight → PostView
-looked_at v sight =
-    record v { state = seen v.state sight; last = Some sight; looks = v.looks + 1 }
+looked_at v sight = record v {
+  state = seen v.state sight;
+  last = Some sight;
+  looks = v.looks ++ look_after sight v.additions v.reads v.glances ∷ [];
+}
 
 -- the post after an acknowledgement or a report
 abbrev pub answered : PostView → PostView

@@ -3,6 +3,7 @@
 ghost use Rattle.like_core.specs.core.Exclusive.{ReachableIsExclusive};
 ghost use Rattle.like_core.specs.core.Likes.{LikesStayReachable, NoneHoldsWhileJoined};
 ghost use Rattle.like_core.specs.views.Layout.{WordsStandApart};
+ghost use Rattle.like_core.specs.views.Shows.{CountsAreOfOneMoment};
 ghost use Rattle.like_core.specs.word.KindTells.{KindTellsPhase};
 ghost use Rattle.like_core.specs.views.Places.{AdditionKeepsPlaces, ReadKeepsPlaces, GlanceKeepsPlaces, JoinKeepsPlaces};
 ghost use Rattle.like_core.specs.views.Reads.{AdditionKeepsReads, ReadKeepsReads, GlanceKeepsReads, JoinKeepsReads};
@@ -69,6 +70,12 @@ pub fn glance_keeps_places()
 /// A worker's seat that is given back does: its stretches and reads go on to stand in the coordinator's view.
 pub fn join_keeps_places()
     ensures { JoinKeepsPlaces }
+{}
+
+/// The counts that the coordinator read at the end of a phase are those of one moment: each has all that was added by
+/// then. So a page that is read twice there has the same count twice.
+pub fn counts_are_of_one_moment()
+    ensures { CountsAreOfOneMoment }
 {}
 
 /// No two pages have the same word on a board, and none has the phase word or the mask word. These two and the words of

@@ -22,6 +22,15 @@ pub struct PageRead {
     pub after: u64,
 }
 
+/// A look that a worker made at the phase word: what it saw, and what it had done before.
+pub struct Look {
+    pub sight: Sight,
+    /// How many additions, reads and glances it had made.
+    pub additions: u64,
+    pub reads: u64,
+    pub glances: u64,
+}
+
 /// The mask of a phase's hot pages: bit `p` is that of page `p`.
 pub struct PhaseMask {
     pub phase: u64,
@@ -42,8 +51,7 @@ pub struct WorkerSeatView {
     pub state: WorkerState,
     /// Its last sight, if it looked.
     pub last: Option<Sight>,
-    /// How many looks it made.
-    pub looks: u64,
+    pub looks: LinkedList<Look>,
     pub additions: LinkedList<Addition>,
     pub reads: LinkedList<PageRead>,
     /// The counts of sliced pages that it read.

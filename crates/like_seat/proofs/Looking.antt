@@ -63,9 +63,9 @@ splits-after post slice sight mask kept page some = by_state post.state refl (ke
         → RunsSplit (saw_at post sight mask).state × (slices (saw_at post sight mask) page ≡ true)
     by_state (state.Runs k) is odd =
         let seen_is : seen post.state sight ≡ post.state = ap (λ s. seen s sight) is ∙ sym is in
-        let saw_is : saw_at post sight mask ≡ record post { last = Some sight; looks = post.looks + 1 } =
+        let saw_is : saw_at post sight mask ≡ record post { last = Some sight; looks = (looked_at post sight).looks } =
         saw-same post sight mask seen_is
-        ∙ (λ m. record post { state = seen_is m; last = Some sight; looks = post.looks + 1 }) in
+        ∙ (λ m. record post { state = seen_is m; last = Some sight; looks = (looked_at post sight).looks }) in
         subst (λ (p : PostView). RunsSplit p.state × (slices p page ≡ true)) (sym saw_is) (kept page some)
     by_state (state.Answered k) is odd = absurd odd
     by_state state.Gone is odd = absurd odd
@@ -95,9 +95,9 @@ has-after post sight mask has = by_state post.state refl
     by_state : (s : WorkerState) → post.state ≡ s → HasPhaseMask (saw_at post sight mask)
     by_state (state.Runs k) is =
         let seen_is : seen post.state sight ≡ post.state = ap (λ s. seen s sight) is ∙ sym is in
-        let saw_is : saw_at post sight mask ≡ record post { last = Some sight; looks = post.looks + 1 } =
+        let saw_is : saw_at post sight mask ≡ record post { last = Some sight; looks = (looked_at post sight).looks } =
         saw-same post sight mask seen_is
-        ∙ (λ m. record post { state = seen_is m; last = Some sight; looks = post.looks + 1 }) in
+        ∙ (λ m. record post { state = seen_is m; last = Some sight; looks = (looked_at post sight).looks }) in
         subst (λ (p : PostView). HasPhaseMask p) (sym saw_is) has
     by_state (state.Answered k) is = entered k is sight.waits refl
     by_state state.Gone is =

@@ -3,10 +3,12 @@ use Rattle.std.specs.Prelude.{◌≡◌, ℕ, ◌+◌, ◌-◌, ◌≤◌, nat_l
 use Rattle.like_board.specs.Seats.{BoardId}
 use Rattle.like_core.specs.declared.sight.CoordSight.{CoordSight}
 use Rattle.like_core.specs.declared.view.CoordSeatView.{CoordSeatView}
+use Rattle.like_core.specs.declared.view.View.TheVariants.{Coord}
 use Rattle.like_limits.specs.Limits.{hot_pages}
 use Rattle.like_core.specs.OpeningLimits.{number_of}
 use Rattle.like_core.specs.Phase.{IsSplit}
 use Rattle.like_core.specs.views.Actions.{Surveys}
+use Rattle.like_core.specs.views.Shows.{IsKnown}
 use Rattle.like_core.specs.views.Views.{announced_coord, counted_coord, looked_coord, published_coord, released_coord}
 use Rattle.like_core.specs.word.ShownWord.{mask}
 
@@ -41,11 +43,12 @@ pub record IsSightOf (c : CoordSeatView) (sight : CoordSight) : Type 0 where
 abbrev pub saw_word : LeadView → ℕ → CoordSight → LeadView
 saw_word v word sight = record v { seat = looked_coord v.seat word sight }
 
--- it looks, and sees this: the look is the event of the core
+-- it looks, and sees this: the look is the event of the core, and there is a moment at which its seat knows this
 pub record Sees (v : LeadView) (sight : CoordSight) (after : LeadView) : Type 0 where
   pub shows : IsSightOf v.seat sight
   pub event : Surveys v.seat sight after.seat
   pub saw : after ≡ saw_word v after.seat.word sight
+  pub known : IsKnown v.seat.opening (Coord after.seat)
 
 -- after an announcement
 abbrev pub announced : LeadView → LeadView
@@ -64,9 +67,9 @@ abbrev pub counted_from : CoordSeatView → ℕ → List ℕ → CoordSeatView
 counted_from c page [] = c
 counted_from c page (count ∷ counts) = counted_from (counted_coord c page count) (page + 1) counts
 
--- after it read the counts of all pages, which were these
-abbrev pub with_counts : LeadView → List ℕ → LeadView
-with_counts v counts = record v { seat = counted_from v.seat 0 counts }
+-- after it read the counts of the pages from this one on, which were these
+abbrev pub with_counts : LeadView → ℕ → List ℕ → LeadView
+with_counts v from counts = record v { seat = counted_from v.seat from counts }
 
 -- whether a page's count rose by at least so many
 abbrev pub has_risen : ℕ → List ℕ → List ℕ → ℕ → Bool

@@ -1,14 +1,16 @@
-ghost use Rattle.std.specs.Prelude.{◌≡◌, ◌↔◌, ◌%◌, ◌==◌, IfErr, IfOk, IsTrue, length, min};
+ghost use Rattle.std.specs.Prelude.{◌≡◌, ◌↔◌, ◌+◌, ◌%◌, ◌≤◌, ◌==◌, IfErr, IfOk, IsTrue, length, min};
 ghost use Rattle.like_board.specs.Seats.{board_id, coord_board, coord_view};
 ghost use Rattle.like_limits.specs.Limits.{hot_pages};
+ghost use Rattle.like_core.specs.declared.view.View.TheVariants.{Coord};
 ghost use Rattle.like_core.specs.Phase.{IsJoined};
+ghost use Rattle.like_core.specs.views.Shows.{IsKnown};
 ghost use Rattle.like_core.specs.views.Views.{MayAnnounce, MayPublish, MayRelease, SawAllIn};
 ghost use Rattle.like_seat.specs.Lead.{ChoosesRisen, Sees, announced, new_lead, published, released, with_counts};
 
 mod counts;
 mod risen;
 
-use self::counts::read_all;
+use self::counts::read_range;
 use self::risen::count_risen;
 use like_board::{Board, CoordSeat};
 use like_core::{CoordSight, HOT_PAGES};
@@ -109,18 +111,20 @@ impl Lead {
         self.seat.announce(board);
     }
 
-    /// Reads the counts of all pages at the end of a joined phase: each is the page's count at the start and all that was
-    /// added up to that phase. So they are those of one moment.
-    pub fn read_counts(&mut self, board: &Board, counts: &mut [u64])
+    /// Reads the counts of the pages from one on at the end of a joined phase: each is the page's count at the start and
+    /// all that was added up to that phase. So all that are read before the release are those of one moment.
+    pub fn read_counts(&mut self, board: &Board, from: u32, counts: &mut [u64])
         requires here { self.old.board ≡ board_id board.now }
         requires saw { SawAllIn self.old.seat }
         requires joined { IsJoined self.old.seat.phase }
-        requires pages { length counts.old ≡ length self.old.seat.opening.counts }
+        requires pages { from + length counts.old ≤ length self.old.seat.opening.counts }
         ensures len { length counts.new ≡ length counts.old }
-        ensures reads { self.new ≡ with_counts self.old counts.new }
+        ensures reads { self.new ≡ with_counts self.old from counts.new }
         ensures saw { SawAllIn self.new.seat }
+        ensures known { let z = self.old.seat.opening in
+            IsKnown z (Coord self.old.seat) → IsKnown z (Coord self.new.seat) }
     {
-        read_all(&mut self.seat, board, counts);
+        read_range(&mut self.seat, board, from, counts);
     }
 
     /// Chooses the hot pages of the split phase that comes next: the mask of those of the first 64 pages whose counts

@@ -5,7 +5,7 @@ use Rattle.std.proofs.lemmas.List.{get_or-set_same, get_or-set_other}
 use Rattle.std.proofs.lemmas.Bool.{cases_eq, cases_lt, le-ltb, cond-true, cond-false}
 use mathlib.Core.Option.{some, some-injective}
 use lib.ListN.{get_elem?}
-use Rattle.atomic_table.proofs.Lists.{at_set, set_else}
+use Rattle.atomic_table.proofs.Lists.{at_set, set_else, set_here}
 use Rattle.like_core.specs.declared.worker_state.WorkerState.{WorkerState}
 use Rattle.like_core.specs.declared.worker_state.WorkerState.TheVariants.{Gone}
 use Rattle.like_core.specs.declared.sight.CoordSight.{CoordSight}
@@ -24,12 +24,12 @@ use Rattle.like_core.specs.Additions.{added_before}
 use Rattle.like_core.specs.views.Views.{seats_of}
 use Rattle.like_core.specs.views.Reads.{all_before, HaveBetween, IsCounted, ReadsFit}
 use Rattle.like_core.specs.views.Layout.{mask_place, word_of}
-use Rattle.like_core.specs.views.Shows.{Shows, ShowsSome, Moment, Fits, FitsWorker, FitsCoord, FixesMask}
+use Rattle.like_core.specs.views.Shows.{IsKnown, Shows, ShowsSome, Moment, Fits, FitsWorker, FitsCoord, FixesMask}
 use Rattle.like_core.proofs.Updates.{update-same, update-other, update_cases}
 use Rattle.like_core.proofs.word.ShownEvents.{moved}
 use Rattle.like_core.proofs.views.KeptReads.{reads_same, counted_same}
 use Rattle.like_core.proofs.views.Apart.{word_of-past}
-use Rattle.like_core.proofs.views.ViewLists.{sum_part, sum_two, sum_set}
+use Rattle.like_core.proofs.views.ViewLists.{within, sum_part, sum_two, sum_set}
 
 -- the moment at which words and views show some state
 abbrev pub moment_of : (z : Opening) (words : List ℕ) (views : List View) → ShowsSome z words views → Moment z
@@ -39,6 +39,19 @@ moment_of z words views some_state = record {
   state = some_state.state;
   reachable = some_state.reachable;
   shows = some_state.shows;
+  tallied = some_state.tallied;
+  places = some_state.places;
+}
+
+-- after a step of a seat at its place, its new view is known
+pub known_of : (z : Opening) (words : List ℕ) (views : List View) (place : ℕ) (v w : View)
+    → get_elem? views place ≡ some v
+    → ShowsSome z words (set views place w)
+    → IsKnown z w
+known_of z words views place v w at some_state = record {
+  moment = moment_of z words (set views place w) some_state;
+  place = place;
+  mine = set_here views place w (within views place v at);
 }
 
 -- what holds of the value of an option may be exchanged for what follows from it

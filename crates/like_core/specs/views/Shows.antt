@@ -25,7 +25,7 @@ use Rattle.like_core.specs.Additions.{added_in}
 use Rattle.like_core.specs.views.Views.{seats_of}
 use Rattle.like_core.specs.views.Reads.{all_before, IsCounted, ReadsFit}
 use Rattle.like_core.specs.views.Tallies.{Tallied}
-use Rattle.like_core.specs.views.Places.{PlacesTile}
+use Rattle.like_core.specs.views.Places.{PlacesTile, count_after}
 use Rattle.like_core.specs.views.Layout.{phase_place, mask_place, word_of}
 
 -- an opening that a board may have
@@ -159,13 +159,35 @@ pub record ShowsSome (z : Opening) (words : List ℕ) (views : List View) : Type
   pub places : PlacesTile z.counts views
 
 -- a moment of a board, between two steps: its words, the views of all its seats, and the state that they show, which
--- can be reached
+-- can be reached. The views' additions are the likes applied in it, and their stretches tile each page's counts
 pub record Moment (z : Opening) : Type 0 where
   pub words : List ℕ
   pub views : List View
   pub state : CoreState
   pub reachable : Reachable z state
   pub shows : Shows z state words views
+  pub tallied : Tallied z.limits.likes state views
+  pub places : PlacesTile z.counts views
+
+-- a moment at which this is what some seat knows
+pub record IsKnown (z : Opening) (v : View) : Type 0 where
+  pub moment : Moment z
+  pub place : ℕ
+  pub mine : get_elem? moment.views place ≡ some v
+
+-- the end of a board, as the coordinator knows it: a moment at which this is what its seat knows, and all workers are
+-- gone
+pub record IsEnd (z : Opening) (c : CoordSeatView) : Type 0 where
+  pub moment : Moment z
+  pub mine : get_elem? moment.views 0 ≡ some (Coord c)
+  pub gone : AllGone (numbers z moment.state)
+
+-- at a moment at which this is what the coordinator knows, each count that it read in its phase is its page's count at
+-- the start and all that the seats have added by then
+abbrev pub CountsAreOfOneMoment : Type 0
+CountsAreOfOneMoment =
+    (z : Opening) (c : CoordSeatView) (m : Moment z) → get_elem? m.views 0 ≡ some (Coord c)
+    → All (λ r. r.phase ≡ c.phase → r.count ≡ count_after z.counts m.views r.page) c.counted
 
 -- these events may happen in the state, one after the other, and then this one, which shows this
 pub record Happen (z : Opening) (s : CoreState) (events : List Event) (event : Event) (shown : Shown)

@@ -10,7 +10,7 @@ use Rattle.like_core.specs.declared.view.WorkerSeatView.{WorkerSeatView}
 use Rattle.like_core.specs.declared.view.CoordSeatView.{CoordSeatView}
 use Rattle.like_core.specs.declared.view.View.{View}
 use Rattle.like_core.specs.declared.view.View.TheVariants.{Coord, Worker, Spent}
-use Rattle.like_core.specs.Additions.{addition, page_read}
+use Rattle.like_core.specs.Additions.{addition, look_after, page_read}
 use Rattle.like_core.specs.Phase.{IsJoined}
 use Rattle.like_core.specs.WorkerState.{phase_of, seen}
 use Rattle.like_core.specs.Post.{PostView, slices}
@@ -22,7 +22,7 @@ fresh z worker = record {
   worker = worker;
   state = Runs 0;
   last = None;
-  looks = 0;
+  looks = [];
   additions = [];
   reads = [];
   glances = [];
@@ -47,10 +47,13 @@ fresh_coord z word = record {
   joined = [];
 }
 
--- a worker's view after a look, which is counted
+-- a worker's view after a look
 abbrev pub looked_view : WorkerSeatView → Sight → WorkerSeatView
-looked_view v sight =
-    record v { state = seen v.state sight; last = Some sight; looks = v.looks + 1 }
+looked_view v sight = record v {
+  state = seen v.state sight;
+  last = Some sight;
+  looks = v.looks ++ look_after sight v.additions v.reads v.glances ∷ [];
+}
 
 -- a worker's view after an acknowledgement or a report
 abbrev pub answered_view : WorkerSeatView → WorkerSeatView

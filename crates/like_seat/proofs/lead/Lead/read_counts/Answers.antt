@@ -9,11 +9,11 @@ use Rattle.like_seat.proofs.lead.Lead.read_counts.Goals as goal
 
 pub invariant_of-self : goal.invariant_of-self
 invariant_of-self c =
-    let read = c.read_all.ensures.view ∙ counted-is (coord_view c.self.inside.seat) 0 c.read_all.new.counts in
+    let read = c.read_range.ensures.view ∙ counted-is (coord_view c.self.inside.seat) c.args.from c.read_range.new.counts in
     c.self.invariant ∙ sym (ap (λ (d : CoordSeatView). min hot_pages (length d.opening.counts)) read)
 
 pub returns-clause-saw : goal.returns-clause-saw
 returns-clause-saw c =
     let known = coord_view c.self.inside.seat in
     let saw = subst (λ (v : LeadView). SawAllIn v.seat) (sym c.self.view_is) c.requires.saw in
-    subst SawAllIn (sym c.read_all.ensures.view) (saw-still known 0 c.read_all.new.counts saw)
+    subst SawAllIn (sym c.read_range.ensures.view) (saw-still known c.args.from c.read_range.new.counts saw)
