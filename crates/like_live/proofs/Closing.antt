@@ -7,7 +7,7 @@ use Rattle.std.proofs.lemmas.List.Sums.{sum_by-cons}
 use Rattle.like_board.specs.declared.worker_seat.WorkerSeat.{WorkerSeat}
 use Rattle.like_board.specs.Seats.{AreAll, BoardId, board_numbers, last_count, seat_board, seat_meaning}
 use Rattle.like_core.specs.Post.{PostView, additions_of}
-use Rattle.like_seat.specs.Lead.{LeadView}
+use Rattle.like_live.specs.Driver.{DriverView}
 use Rattle.like_live.specs.LiveView.{LiveView, tally}
 use Rattle.like_live.specs.Service.{AreBackFrom, AreGone, AreItsSeats, HasMergedOnceGone, total_of}
 
@@ -55,32 +55,32 @@ abbrev post_at : LiveView → PostView
 post_at s = s.seat.post
 
 -- the seats that were given back are those of the driver's board
-pub back-here : (v : LeadView) (seats : List LiveView) (back : List WorkerSeat)
+pub back-here : (v : DriverView) (seats : List LiveView) (back : List WorkerSeat)
     → AreBackFrom seats back
     → AreItsSeats v seats
-    → All (λ seat. seat_board seat ≡ v.board) back
+    → All (λ seat. seat_board seat ≡ v.lead.board) back
 back-here v seats back same its = λ k d below.
     same-board _ _
-    (all-alike (λ (post : PostView). post.board ≡ board_numbers v.board) seat_meaning post_at back seats same
+    (all-alike (λ (post : PostView). post.board ≡ board_numbers v.lead.board) seat_meaning post_at back seats same
     its.here k d below)
 
 -- each of them once
-pub back-all : (v : LeadView) (seats : List LiveView) (back : List WorkerSeat)
+pub back-all : (v : DriverView) (seats : List LiveView) (back : List WorkerSeat)
     → AreBackFrom seats back
     → AreItsSeats v seats
-    → AreAll v.seat.opening.workers back
+    → AreAll v.lead.seat.opening.workers back
 back-all v seats back same its i there =
     let one : PostView → ℕ = λ post. cond (post.worker == i) 1 0 in
     sum-alike one seat_meaning post_at back seats same ∙ its.all i there
 
 -- of seats that are gone, each page's last count is its first count and the tallies
-pub last-total : (v : LeadView) (seats : List LiveView) (back : List WorkerSeat) (page : ℕ)
+pub last-total : (v : DriverView) (seats : List LiveView) (back : List WorkerSeat) (page : ℕ)
     → AreBackFrom seats back
     → All HasMergedOnceGone seats
     → AreGone seats
-    → last_count v.seat.opening back page ≡ total_of v seats page
+    → last_count v.lead.seat.opening back page ≡ total_of v seats page
 last-total v seats back page same merged gone =
-    ap (λ n. slice_index v.seat.opening.counts page + n)
+    ap (λ n. slice_index v.lead.seat.opening.counts page + n)
     (sum-alike (λ (post : PostView). additions_of post page) seat_meaning post_at back seats same
     ∙ sym (sum-equal (λ s. tally s page) (λ (s : LiveView). additions_of s.seat.post page) seats
     (λ k d below. merged k d below (gone k d below) page)))

@@ -1,13 +1,22 @@
--- What is known once a look showed all seats gone.
-use Rattle.std.proofs.Common.{◌≡◌, ◌%◌, ◌≤◌, ℕ, true, false, List, None, ap, sym, ◌∙◌, subst, arith}
-use Rattle.std.proofs.lemmas.Bool.{ltb-false}
-use Rattle.like_core.specs.OpeningLimits.{service_limits}
+-- What is known once a look showed all seats gone, and what is read then.
+use Rattle.std.proofs.Common.{◌≡◌, ◌+◌, ◌<◌, ℕ, suc, zero, true, List, [], ◌∷◌, length, get_or, slice_index, All, Option, Some, ap, sym, ◌∙◌, subst, arith, add-zero}
+use Rattle.std.proofs.lemmas.List.Elements.{All-head, All-tail}
+use Rattle.std.specs.Prelude.{IsSomeAnd}
 use Rattle.like_core.specs.Phase.{IsJoined}
 use Rattle.like_core.specs.WorkerState.{IsIn}
-use Rattle.like_core.specs.declared.limits.Limits.{Limits}
+use Rattle.like_core.specs.declared.opening.Opening.{Opening}
 use Rattle.like_core.specs.declared.sight.CoordSight.{CoordSight}
-use Rattle.like_seat.specs.Lead.{LeadView, Sees}
-use Rattle.like_live.specs.Driver.{EndsGone, LooksForGone, SnapshotCase, TakesSnapshot, announces_end, ending, is_last, not_gone, not_now, taken}
+use Rattle.like_core.specs.declared.view.CoordSeatView.{CoordSeatView}
+use Rattle.like_core.specs.declared.view.PageCount.{PageCount}
+use Rattle.like_core.specs.declared.view.View.TheVariants.{Coord}
+use Rattle.like_core.specs.views.Places.{count_after}
+use Rattle.like_core.specs.views.Shows.{IsEnd, IsKnown}
+use Rattle.like_core.specs.views.Views.{SawAllIn, counted_coord}
+use Rattle.like_core.proofs.views.Ends.{counted_now, end_known}
+use Rattle.like_seat.specs.Lead.{LeadView, Sees, announced, counted_from, with_counts}
+use Rattle.like_seat.proofs.Leading.{counted-is}
+use Rattle.like_live.specs.Driver.{AreLastCounts, LooksForEnd, ends, goes_on, is_ending}
+use Rattle.like_live.proofs.Turning.{look-keeps, reads-only}
 
 -- who shows all gone shows all in
 all-in-once-gone : (v seen : LeadView) (sight : CoordSight)
@@ -21,67 +30,83 @@ all-in-once-gone v seen sight sees gone =
     let all = known.all_gone.0 (ap (λ (s : CoordSight). s.all_gone) same ∙ gone) in
     sym (ap (λ (s : CoordSight). s.all_in) same) ∙ known.all_in.1 (λ i below. subst (IsIn _) (sym (all i below)) tt)
 
--- a driver that released nothing after all were gone saw that in a joined phase
-joined-once-gone : (v seen : LeadView) (sight : CoordSight)
-    → Sees v sight seen
-    → v.seat.gone ≡ false
+-- the end was seen: the last sight shows a joined phase that is ending, and all gone
+pub record SawEnd (v : LeadView) : Type 0 where
+  pub saw : SawAllIn v.seat
+  pub joined : IsJoined v.seat.phase
+  pub sight : CoordSight
+  pub last : v.seat.last ≡ Some sight
+  pub all_in : sight.all_in ≡ true
+  pub all_gone : sight.all_gone ≡ true
+  pub known : IsKnown v.seat.opening (Coord v.seat)
+
+sees-end : (v w : LeadView) (sight : CoordSight)
+    → Sees v sight w
     → sight.all_gone ≡ true
-    → IsJoined v.seat.phase
-joined-once-gone v seen sight sees before gone =
-    let some : v.seat.phase % 2 ≡ 1 → ⊥ = λ split. (let all = sees.shows.all_gone split gone in cc) in
-    omega arith
+    → sight.ending ≡ true
+    → IsJoined w.seat.phase
+    → SawEnd w
+sees-end v w sight sees gone ending joined =
+    let kept = look-keeps v w sight sees in
+    let all_in = all-in-once-gone v w sight sees gone in
+    record {
+      saw = subst (λ (o : Option CoordSight). IsSomeAnd o (λ s. (s.ending ≡ true) × (s.all_in ≡ true)))
+          (sym kept.last) (ending, all_in);
+      joined = joined;
+      sight = sight;
+      last = kept.last;
+      all_in = all_in;
+      all_gone = gone;
+      known = subst (λ (z : Opening). IsKnown z (Coord w.seat)) (sym kept.same.opening) sees.known;
+    }
 
--- where a phase is ending and all are in, at the end of a joined phase, a snapshot is taken
-no-snapshot : (v after : LeadView) (old counts : List ℕ)
-    → IsJoined v.seat.phase
-    → v.seat.ending ≡ true
-    → v.seat.all_in ≡ true
-    → TakesSnapshot v old None after counts
-    → ⊥
-no-snapshot v after old counts joined ends all takes = by_case takes.case
-  where
-    by_case : SnapshotCase takes.seen takes.sight old None after counts → ⊥
-    by_case (taken _ some _ _) = cc
-    by_case (not_now not_at _ _ _) = not_at (record {
-      joined = subst (λ (l : LeadView). IsJoined l.seat.phase) (sym takes.sees.saw) joined;
-      ending = takes.sees.shows.ending ∙ ends;
-      all_in = takes.sees.shows.all_in all;
-    })
+pub end-seen : (v w : LeadView) → LooksForEnd v true w → SawEnd w
+end-seen v w (goes_on _ _ _ clash) = absurd (cc)
+end-seen v w (is_ending sight sees gone joined ending _) = sees-end v w sight sees gone ending joined
+end-seen v w (ends sight again seen sees _ joined _ _ sees_again is) =
+    let second = look-keeps (announced seen) w again sees_again in
+    sees-end (announced seen) w again sees_again (sym is) sees_again.shows.ending
+    (subst IsJoined (sym second.phase) joined)
 
--- once all were seen gone, only the last phase has no snapshot
-pub last-not-at-end : (v now after : LeadView) (old counts : List ℕ)
-    → v.seat.gone ≡ false
-    → v.seat.opening.limits ≡ service_limits
-    → LooksForGone v true now → TakesSnapshot now old None after counts → now.seat.phase ≡ service_limits.last_phase
-last-not-at-end v now after old counts before limits looks takes = by_case looks.case
-  where
-    phase-is : looks.seen.seat.phase ≡ v.seat.phase
-    phase-is = ap (λ (l : LeadView). l.seat.phase) looks.sees.saw
+-- the counts that were read, of the pages from one on, are among all that the coordinator read in its phase
+read-of : (P : PageCount → Type 0) (c : CoordSeatView) (from : ℕ) (counts : List ℕ)
+    → All P (counted_from c from counts).counted
+    → All P c.counted
+read-of P c from [] all = all
+read-of P c from (x ∷ counts) all =
+    All-tail P (record { phase = c.phase; page = from; count = x }) c.counted
+    (read-of P (counted_coord c from x) (from + 1) counts all)
 
-    joined : looks.sight.all_gone ≡ true → IsJoined looks.seen.seat.phase
-    joined gone = subst IsJoined (sym phase-is) (joined-once-gone v looks.seen looks.sight looks.sees before gone)
+reads-at : (P : PageCount → Type 0) (c : CoordSeatView) (from : ℕ) (counts : List ℕ) (i : ℕ)
+    → All P (counted_from c from counts).counted
+    → i < length counts
+    → P (record { phase = c.phase; page = from + i; count = slice_index counts i })
+reads-at P c from [] i all below = absurd (omega arith)
+reads-at P c from (x ∷ counts) zero all below =
+    subst (λ p. P (record { phase = c.phase; page = p; count = x })) (sym (add-zero from))
+    (All-head P (record { phase = c.phase; page = from; count = x }) c.counted
+    (read-of P (counted_coord c from x) (from + 1) counts all))
+reads-at P c from (x ∷ counts) (suc i) all below =
+    let later : from + 1 + i ≡ from + suc i = omega arith in
+    subst (λ p. P (record { phase = c.phase; page = p; count = slice_index counts i })) later
+    (reads-at P (counted_coord c from x) (from + 1) counts i all (omega arith))
 
-    all-in : looks.sight.all_gone ≡ true → looks.seen.seat.all_in ≡ true
-    all-in gone = ap (λ (l : LeadView). l.seat.all_in) looks.sees.saw
-        ∙ all-in-once-gone v looks.seen looks.sight looks.sees gone
-
-    by_case : EndsGone looks.seen looks.sight true now → now.seat.phase ≡ service_limits.last_phase
-    by_case (not_gone _ clash _) = cc
-    by_case (ending gone ends _ is) =
-        let ending-is : looks.seen.seat.ending ≡ true =
-        ap (λ (l : LeadView). l.seat.ending) looks.sees.saw ∙ sym looks.sees.shows.ending ∙ ends in
-        absurd (no-snapshot now after old counts
-        (subst (λ (l : LeadView). IsJoined l.seat.phase) (sym is) (joined gone))
-        (ap (λ (l : LeadView). l.seat.ending) is ∙ ending-is)
-        (ap (λ (l : LeadView). l.seat.all_in) is ∙ all-in gone) takes)
-    by_case (is_last _ _ past _ is) =
-        let least : service_limits.last_phase ≤ looks.seen.seat.phase = ltb-false _ _ past in
-        let most : v.seat.phase ≤ service_limits.last_phase =
-        subst (λ (l : Limits). v.seat.phase ≤ l.last_phase) limits looks.sees.shows.within in
-        let same : now.seat.phase ≡ looks.seen.seat.phase = ap (λ (l : LeadView). l.seat.phase) is in
-        omega (arith, phase-is)
-    by_case (announces_end gone _ _ _ is) =
-        absurd (no-snapshot now after old counts
-        (subst (λ (l : LeadView). IsJoined l.seat.phase) (sym is) (joined gone))
-        (ap (λ (l : LeadView). l.seat.ending) is)
-        (ap (λ (l : LeadView). l.seat.all_in) is ∙ all-in gone) takes)
+-- they are last counts
+pub last-totals : (v w : LeadView) (from : ℕ) (counts : List ℕ)
+    → SawEnd v
+    → w ≡ with_counts v from counts
+    → IsKnown v.seat.opening (Coord w.seat)
+    → AreLastCounts w from counts
+last-totals v w from counts saw is known =
+    let only = reads-only v.seat from counts in
+    let seat : w.seat ≡ counted_from v.seat from counts = ap (λ (l : LeadView). l.seat) is in
+    let opening : w.seat.opening ≡ v.seat.opening = ap (λ (d : CoordSeatView). d.opening) seat ∙ only.opening in
+    let end : IsEnd w.seat.opening w.seat =
+    end_known w.seat.opening w.seat saw.sight (subst (λ (z : Opening). IsKnown z (Coord w.seat)) (sym opening) known)
+    (ap (λ (d : CoordSeatView). d.last) seat ∙ only.last ∙ saw.last) saw.all_in saw.all_gone in
+    let phase : v.seat.phase ≡ w.seat.phase = sym (ap (λ (d : CoordSeatView). d.phase) seat ∙ only.phase) in
+    let P : PageCount → Type 0 =
+    λ r. r.phase ≡ w.seat.phase → r.count ≡ count_after w.seat.opening.counts end.moment.views r.page in
+    let all : All P (counted_from v.seat from counts).counted =
+    subst (All P) (ap (λ (d : CoordSeatView). d.counted) seat) (counted_now w.seat.opening w.seat end.moment end.mine) in
+    record { end = end; totals = λ i below. reads-at P v.seat from counts i all below phase }

@@ -9,7 +9,7 @@ use lib.ListN.{get_elem?}
 use Rattle.like_board.specs.Seats.{BoardId, board_numbers}
 use Rattle.like_core.specs.declared.opening.Opening.{Opening as CoreOpening}
 use Rattle.like_core.proofs.views.ViewLists.{sum_lone}
-use Rattle.like_seat.specs.Lead.{LeadView}
+use Rattle.like_live.specs.Driver.{DriverView}
 use Rattle.like_live.specs.declared.opening.Opening.{Opening}
 use Rattle.like_live.specs.declared.service.Service.{Service}
 use Rattle.like_live.specs.LiveView.{IsSameSeat, LiveView}
@@ -62,7 +62,8 @@ once-in-order seats n sized each i below =
 -- a service that was opened has all its seats
 pub opened-whole : (o : Opening) (s : Service) → IsOpened o s → AreItsSeats s.driver s.seats.items
 opened-whole o s is =
-    let workers : s.driver.seat.opening.workers ≡ o.seats = ap (λ (l : LeadView). l.seat.opening.workers) is.driver in
+    let workers : s.driver.lead.seat.opening.workers ≡ o.seats =
+    ap (λ (d : DriverView). d.lead.seat.opening.workers) is.driver in
     record {
       len = is.seats.len ∙ sym workers;
       here = λ k d below. (is.seats.each k (get_or s.seats.items k d) (slice_get-get_or s.seats.items k d below)).here;
@@ -95,7 +96,7 @@ calls-keep-whole v w seats after its driver same =
     record {
       len = zip-length IsSameSeat seats after same ∙ its.len ∙ sym (ap (λ (z : CoreOpening). z.workers) driver.opening);
       here = subst (λ (b : BoardId). All (λ s. s.seat.post.board ≡ board_numbers b) after) (sym driver.board)
-          (all-alike (λ (b : List ℕ). b ≡ board_numbers v.board) board_at board_at after seats
+          (all-alike (λ (b : List ℕ). b ≡ board_numbers v.lead.board) board_at board_at after seats
           (zip-map IsSameSeat board_at seats after (λ x y s. s.board) same) its.here);
       all = λ i below.
           let one : ℕ → ℕ = λ n. cond (n == i) 1 0 in

@@ -1,5 +1,5 @@
--- What a driver does in its calls. A driver is seen as its lead.
-use Rattle.std.specs.Prelude.{◌≡◌, ℕ, ◌%◌, ◌==◌, ◌&&◌, ◌||◌, ◌≤◌, ◌⊎◌, nat_lt, Bool, true, false, List, [], length, Vec, vec_capacity, Option, Some, None}
+-- What a driver does in its calls.
+use Rattle.std.specs.Prelude.{◌≡◌, ℕ, ◌+◌, ◌%◌, ◌==◌, ◌&&◌, ◌||◌, ◌<◌, ◌≤◌, ◌⊎◌, nat_lt, Bool, true, false, List, [], length, slice_index, Vec, vec_capacity, Option, Some, None}
 use Rattle.std.specs.declared.alloc.Global.{Global}
 use Rattle.like_board.specs.Rule.{opened_coord}
 use Rattle.like_board.specs.Seats.{BoardId}
@@ -8,11 +8,22 @@ use Rattle.like_core.specs.declared.sight.CoordSight.{CoordSight}
 use Rattle.like_limits.specs.Limits.{max_pages}
 use Rattle.like_core.specs.OpeningLimits.{service_limits}
 use Rattle.like_core.specs.Phase.{IsJoined, IsSplit}
+use Rattle.like_core.specs.views.Places.{count_after}
+use Rattle.like_core.specs.views.Shows.{IsEnd}
 use Rattle.like_seat.specs.Lead.{ChoosesRisen, LeadView, Sees, announced, new_lead, published, released, with_counts}
 use Rattle.like_live.specs.Opening.{board_opening, splits_by}
 use Rattle.like_live.specs.declared.opening.Opening.{Opening}
 use Rattle.like_live.specs.declared.driver_answer.DriverAnswer.{DriverAnswer}
 use Rattle.like_live.specs.declared.driver_answer.DriverAnswer.TheVariants.{Announced, Waiting, Released, Running, Ended}
+
+-- a driver: its lead, and whether its service is over, since it has written last counts
+pub record DriverView : Type 0 where
+  pub lead : LeadView
+  pub is_over : Bool
+
+-- the driver of a lead
+abbrev pub driver_of : LeadView → Bool → DriverView
+driver_of lead is_over = record { lead = lead; is_over = is_over }
 
 -- whether something would be split in the next split phase
 abbrev pub splits_some : LeadView → Bool
@@ -38,28 +49,34 @@ pub data ReleasesNext (v after : LeadView) : Type 0 where
 abbrev pub IsDue : LeadView → Bool → Type 0
 IsDue v may_end = (may_end ≡ true) ⊎ IsSplit v.seat.phase
 
--- the five cases of a turn whose look showed this: each does at most one thing. A phase goes on if nobody asks for its
--- end, or if it may not be ended
+-- the cases of a turn whose look showed this: each does at most one thing. A phase that is ending is released once all
+-- are in. One that runs is ended if that is asked for and may be; but not a joined phase that all seats have left, since
+-- nobody would run the next
 pub data DriverCase (v : LeadView) (sight : CoordSight) (may_end : Bool)
     (answer : DriverAnswer) (after : LeadView) : Type 0 where
-  ended : sight.all_gone ≡ true → answer ≡ Ended → after ≡ v
-      → DriverCase v sight may_end answer after
-  running : sight.all_gone ≡ false → sight.ending ≡ false → (may_end ≡ true → can_end v ≡ false)
-      → answer ≡ Running → after ≡ v → DriverCase v sight may_end answer after
-  announces : sight.all_gone ≡ false → sight.ending ≡ false → can_end v ≡ true → IsDue v may_end
-      → answer ≡ Announced → after ≡ announced v → DriverCase v sight may_end answer after
-  waiting : sight.all_gone ≡ false → sight.ending ≡ true → sight.all_in ≡ false
+  waiting : sight.ending ≡ true → sight.all_in ≡ false
       → answer ≡ Waiting → after ≡ v → DriverCase v sight may_end answer after
-  releases : sight.all_gone ≡ false → sight.ending ≡ true → sight.all_in ≡ true
+  releases : sight.ending ≡ true → sight.all_in ≡ true
       → answer ≡ Released → ReleasesNext v after → DriverCase v sight may_end answer after
+  announces : sight.ending ≡ false → (sight.all_gone ≡ true → IsSplit v.seat.phase) → can_end v ≡ true
+      → IsDue v may_end → answer ≡ Announced → after ≡ announced v → DriverCase v sight may_end answer after
+  running : sight.ending ≡ false → sight.all_gone ≡ false → (may_end ≡ true → can_end v ≡ false)
+      → answer ≡ Running → after ≡ v → DriverCase v sight may_end answer after
+  ended : sight.ending ≡ false → sight.all_gone ≡ true → (may_end ≡ true → IsJoined v.seat.phase)
+      → answer ≡ Ended → after ≡ v → DriverCase v sight may_end answer after
 
--- a turn: it looks, which is the event of the core, and does what the sight asks for
-pub record DriverTurns (v : LeadView) (may_end : Bool) (answer : DriverAnswer) (after : LeadView)
-    : Type 0 where
+-- it looks, which is the event of the core, and does what the sight asks for
+pub record Acts (v : LeadView) (may_end : Bool) (answer : DriverAnswer) (after : LeadView) : Type 0 where
   pub sight : CoordSight
   pub seen : LeadView
   pub sees : Sees v sight seen
   pub case : DriverCase seen sight may_end answer after
+
+-- a turn: a driver acts, until it has written last counts. Then its service is over, and it does nothing more
+pub data DriverTurns (v : DriverView) (may_end : Bool) (answer : DriverAnswer) (after : DriverView) : Type 0 where
+  acts : v.is_over ≡ false → Acts v.lead may_end answer after.lead → after.is_over ≡ false
+      → DriverTurns v may_end answer after
+  over : v.is_over ≡ true → answer ≡ Ended → after ≡ v → DriverTurns v may_end answer after
 
 -- the counts of all pages can be read as those of one moment: a joined phase is ending, and each seat has answered it
 pub record IsBoundary (v : LeadView) (sight : CoordSight) : Type 0 where
@@ -67,78 +84,97 @@ pub record IsBoundary (v : LeadView) (sight : CoordSight) : Type 0 where
   pub ending : sight.ending ≡ true
   pub all_in : sight.all_in ≡ true
 
--- the two cases of a snapshot whose look showed this: each page's count is read and written down, with the phase; or
--- nothing is done
-pub data SnapshotCase (v : LeadView) (sight : CoordSight) (old : List ℕ) (phase : Option ℕ)
+-- the two cases of a snapshot whose look showed this: the counts of the pages from this one on are read and written
+-- down, with the phase; or nothing is done
+pub data SnapshotCase (v : LeadView) (sight : CoordSight) (from : ℕ) (old : List ℕ) (phase : Option ℕ)
     (after : LeadView) (counts : List ℕ) : Type 0 where
   taken : IsBoundary v sight → phase ≡ Some v.seat.phase → length counts ≡ length old
-      → after ≡ with_counts v counts
-      → SnapshotCase v sight old phase after counts
+      → after ≡ with_counts v from counts
+      → SnapshotCase v sight from old phase after counts
   not_now : ¬ IsBoundary v sight → phase ≡ None → counts ≡ old → after ≡ v
-      → SnapshotCase v sight old phase after counts
+      → SnapshotCase v sight from old phase after counts
 
--- a snapshot: it looks, and reads the counts where it may
-pub record TakesSnapshot (v : LeadView) (old : List ℕ) (phase : Option ℕ) (after : LeadView)
+-- it looks, and reads the counts where it may
+pub record ReadsBoundary (v : LeadView) (from : ℕ) (old : List ℕ) (phase : Option ℕ) (after : LeadView)
     (counts : List ℕ) : Type 0 where
   pub sight : CoordSight
   pub seen : LeadView
   pub sees : Sees v sight seen
-  pub case : SnapshotCase seen sight old phase after counts
+  pub case : SnapshotCase seen sight from old phase after counts
 
--- what it does after a look that showed this: if all seats are gone and nobody announced the end of the phase, it
--- announces it, unless the phase is the last
-pub data EndsGone (v : LeadView) (sight : CoordSight) (is_gone : Bool) (after : LeadView) : Type 0 where
-  not_gone : sight.all_gone ≡ false → is_gone ≡ false → after ≡ v → EndsGone v sight is_gone after
-  ending : sight.all_gone ≡ true → sight.ending ≡ true → is_gone ≡ true → after ≡ v → EndsGone v sight is_gone after
-  is_last : sight.all_gone ≡ true → sight.ending ≡ false → nat_lt v.seat.phase service_limits.last_phase ≡ false
-      → is_gone ≡ true → after ≡ v → EndsGone v sight is_gone after
-  announces_end : sight.all_gone ≡ true → sight.ending ≡ false → nat_lt v.seat.phase service_limits.last_phase ≡ true
-      → is_gone ≡ true → after ≡ announced v → EndsGone v sight is_gone after
+-- a snapshot of the pages from this one on; once the service is over there is none
+pub data TakesSnapshot (v : DriverView) (from : ℕ) (old : List ℕ) (phase : Option ℕ) (after : DriverView)
+    (counts : List ℕ) : Type 0 where
+  reads : v.is_over ≡ false → ReadsBoundary v.lead from old phase after.lead counts → after.is_over ≡ false
+      → TakesSnapshot v from old phase after counts
+  none_once_over : v.is_over ≡ true → phase ≡ None → counts ≡ old → after ≡ v
+      → TakesSnapshot v from old phase after counts
 
--- it looks whether all seats are gone, and ends the phase then
-pub record LooksForGone (v : LeadView) (is_gone : Bool) (after : LeadView) : Type 0 where
-  pub sight : CoordSight
-  pub seen : LeadView
-  pub sees : Sees v sight seen
-  pub case : EndsGone seen sight is_gone after
+-- it looks whether all seats have left a joined phase that is ending. If nobody announced its end, it does so, unless
+-- the phase is a service's last, and looks again: while a phase is ending, no seat that has left comes back
+pub data LooksForEnd (v : LeadView) (is_end : Bool) (after : LeadView) : Type 0 where
+  goes_on : (sight : CoordSight) → Sees v sight after
+      → (sight.all_gone ≡ true → IsJoined after.seat.phase
+      → (sight.ending ≡ false) × (nat_lt after.seat.phase service_limits.last_phase ≡ false))
+      → is_end ≡ false → LooksForEnd v is_end after
+  is_ending : (sight : CoordSight) → Sees v sight after
+      → sight.all_gone ≡ true → IsJoined after.seat.phase → sight.ending ≡ true
+      → is_end ≡ true → LooksForEnd v is_end after
+  ends : (sight again : CoordSight) (seen : LeadView) → Sees v sight seen
+      → sight.all_gone ≡ true → IsJoined seen.seat.phase → sight.ending ≡ false
+      → nat_lt seen.seat.phase service_limits.last_phase ≡ true → Sees (announced seen) again after
+      → is_end ≡ again.all_gone → LooksForEnd v is_end after
 
--- the last counts, with no seats given back. If it saw all seats gone, they are those of a snapshot, and nobody adds to
--- them any more. In the last phase of a service there is none, since the end of that phase is never announced
-pub data TakesLast (v : LeadView) (old : List ℕ) (is_done : Bool) (after : LeadView) (counts : List ℕ) : Type 0 where
-  some_left : LooksForGone v false after → is_done ≡ false → counts ≡ old → TakesLast v old is_done after counts
-  not_at_end : (now : LeadView) → LooksForGone v true now → TakesSnapshot now old None after counts
-      → now.seat.phase ≡ service_limits.last_phase
-      → is_done ≡ false → TakesLast v old is_done after counts
-  counted : (now : LeadView) (phase : ℕ) → LooksForGone v true now → TakesSnapshot now old (Some phase) after counts
-      → is_done ≡ true → TakesLast v old is_done after counts
+-- these are last counts, of the pages from this one on: there is a moment at which this is what the driver knows and all
+-- seats are gone, and each is its page's first count and all that the seats have added by then
+pub record AreLastCounts (v : LeadView) (from : ℕ) (counts : List ℕ) : Type 0 where
+  pub end : IsEnd v.seat.opening v.seat
+  pub totals : (i : ℕ) → i < length counts
+      → slice_index counts i ≡ count_after v.seat.opening.counts end.moment.views (from + i)
 
--- what is true of every driver: its board has at most 1,024 pages and the limits of a service, and no phase was
--- released after all seats were gone
-pub record IsService (v : LeadView) : Type 0 where
-  pub few_pages : length v.seat.opening.counts ≤ max_pages
-  pub marks : length v.seat.opening.marks ≡ length v.seat.opening.counts
-  pub limits : v.seat.opening.limits ≡ service_limits
-  pub before_end : v.seat.gone ≡ false
+-- where it sees the end, it reads the counts of the pages from this one on, and they are last counts; or nothing is
+-- written
+pub data ReadsLast (v : LeadView) (from : ℕ) (old : List ℕ) (is_done : Bool) (after : LeadView) (counts : List ℕ)
+    : Type 0 where
+  not_ended : LooksForEnd v false after → is_done ≡ false → counts ≡ old → ReadsLast v from old is_done after counts
+  counted : (now : LeadView) → LooksForEnd v true now → length counts ≡ length old
+      → after ≡ with_counts now from counts → AreLastCounts after from counts
+      → is_done ≡ true → ReadsLast v from old is_done after counts
+
+-- last counts are asked for, of the pages from this one on. Once they are written, the service is over
+pub record TakesLast (v : DriverView) (from : ℕ) (old : List ℕ) (is_done : Bool) (after : DriverView) (counts : List ℕ)
+    : Type 0 where
+  pub case : ReadsLast v.lead from old is_done after.lead counts
+  pub over : after.is_over ≡ (is_done || v.is_over)
+
+-- what is true of every driver: its board has at most 1,024 pages and the limits of a service
+pub record IsService (v : DriverView) : Type 0 where
+  pub few_pages : length v.lead.seat.opening.counts ≤ max_pages
+  pub marks : length v.lead.seat.opening.marks ≡ length v.lead.seat.opening.counts
+  pub limits : v.lead.seat.opening.limits ≡ service_limits
 
 -- it is the same driver: of the same board, which was opened alike, with the same rule for hot pages
-pub record IsSameDriver (v after : LeadView) : Type 0 where
-  pub board : after.board ≡ v.board
-  pub opening : after.seat.opening ≡ v.seat.opening
-  pub hot : after.hot ≡ v.hot
+pub record IsSameDriver (v after : DriverView) : Type 0 where
+  pub board : after.lead.board ≡ v.lead.board
+  pub opening : after.lead.seat.opening ≡ v.lead.seat.opening
+  pub hot : after.lead.hot ≡ v.lead.hot
 
 -- a driver's parts agree: its lead is that of its board, and it knows whether something would be split, and how many
 -- pages there are
-pub record AreDriverParts (board : BoardId) (splits : Bool) (pages : ℕ) (v : LeadView) : Type 0 where
-  pub here : v.board ≡ board
-  pub splits_is : splits ≡ splits_some v
-  pub pages_is : pages ≡ length v.seat.opening.counts
+pub record AreDriverParts (board : BoardId) (splits : Bool) (pages : ℕ) (v : DriverView) : Type 0 where
+  pub here : v.lead.board ≡ board
+  pub splits_is : splits ≡ splits_some v.lead
+  pub pages_is : pages ≡ length v.lead.seat.opening.counts
   pub service : IsService v
 
 -- there is room for the workers' seats that are given back, and none is yet
-pub record HasRoom (back : Vec WorkerSeat Global) (v : LeadView) : Type 0 where
+pub record HasRoom (back : Vec WorkerSeat Global) (v : DriverView) : Type 0 where
   pub none : back.items ≡ []
-  pub enough : v.seat.opening.workers ≤ vec_capacity back
+  pub enough : v.lead.seat.opening.workers ≤ vec_capacity back
 
 -- a new driver at this board: it has done nothing yet
-abbrev pub new_driver : Opening → BoardId → LeadView
-new_driver o board = new_lead board (opened_coord (board_opening o)) o.hot o.counts.items
+abbrev pub new_driver : Opening → BoardId → DriverView
+new_driver o board = record {
+  lead = new_lead board (opened_coord (board_opening o)) o.hot o.counts.items;
+  is_over = false;
+}

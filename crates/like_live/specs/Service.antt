@@ -6,13 +6,12 @@ use Rattle.like_board.specs.declared.worker_seat.WorkerSeat.{WorkerSeat}
 use Rattle.like_core.specs.Post.{IsFresh, additions_of}
 use Rattle.like_core.specs.OpeningLimits.{service_limits}
 use Rattle.like_core.specs.declared.worker_state.WorkerState.TheVariants.{Gone}
-use Rattle.like_seat.specs.Lead.{LeadView}
 use Rattle.like_tables.specs.Share.{share_of}
 use Rattle.like_tables.specs.UserTable.{table_without_likes}
 use Rattle.like_live.specs.declared.opening.Opening.{Opening}
 use Rattle.like_live.specs.declared.service.Service.{Service}
 use Rattle.like_live.specs.LiveView.{IsNewLive, IsSameSeat, LiveView, tally}
-use Rattle.like_live.specs.Driver.{IsSameDriver, new_driver}
+use Rattle.like_live.specs.Driver.{DriverView, IsSameDriver, new_driver}
 use Rattle.like_live.specs.Opening.{IsWithinLimits}
 
 -- a seat of an opened service, by its number: it is new, at this board, and its users are those that are this number
@@ -33,19 +32,19 @@ pub record AreOpenedSeats (o : Opening) (board : BoardId) (seats : List LiveView
 -- a service that was opened so: every limit holds, and its driver and its seats are new ones of one board
 pub record IsOpened (o : Opening) (s : Service) : Type 0 where
   pub within : IsWithinLimits o
-  pub driver : s.driver ≡ new_driver o s.driver.board
-  pub seats : AreOpenedSeats o s.driver.board s.seats.items
+  pub driver : s.driver ≡ new_driver o s.driver.lead.board
+  pub seats : AreOpenedSeats o s.driver.lead.board s.seats.items
 
 -- the seats are those of the driver's board, each of them once
-pub record AreItsSeats (v : LeadView) (seats : List LiveView) : Type 0 where
-  pub len : length seats ≡ v.seat.opening.workers
-  pub here : All (λ s. s.seat.post.board ≡ board_numbers v.board) seats
-  pub all : (i : ℕ) → i < v.seat.opening.workers → count_by (λ s. s.seat.post.worker == i) seats ≡ 1
+pub record AreItsSeats (v : DriverView) (seats : List LiveView) : Type 0 where
+  pub len : length seats ≡ v.lead.seat.opening.workers
+  pub here : All (λ s. s.seat.post.board ≡ board_numbers v.lead.board) seats
+  pub all : (i : ℕ) → i < v.lead.seat.opening.workers → count_by (λ s. s.seat.post.worker == i) seats ≡ 1
 
 -- calls of the driver and of its seats keep them so
 abbrev pub CallsKeepSeats : Type 0
 CallsKeepSeats =
-    (v w : LeadView) (seats after : List LiveView)
+    (v w : DriverView) (seats after : List LiveView)
     → AreItsSeats v seats → IsSameDriver v w → AllZip IsSameSeat seats after → AreItsSeats w after
 
 -- all seats are gone
@@ -61,20 +60,20 @@ abbrev pub AreBackFrom : List LiveView → List WorkerSeat → Type 0
 AreBackFrom seats back = map seat_meaning back ≡ map (λ s. s.seat.post) seats
 
 -- a page's first count, and the tallies of all seats
-abbrev pub total_of : LeadView → List LiveView → ℕ → ℕ
-total_of v seats page = slice_index v.seat.opening.counts page + sum_by (λ s. tally s page) seats
+abbrev pub total_of : DriverView → List LiveView → ℕ → ℕ
+total_of v seats page = slice_index v.lead.seat.opening.counts page + sum_by (λ s. tally s page) seats
 
 -- what is known of a closed service: each page's last count is its total; no seat added in a phase after the driver's;
 -- each count that a look or a glance was shown is within its bounds; each snapshot has all additions up to its phase;
 -- each phase had one mask; and the additions of all seats tile each page's counts
-pub record IsClosedService (v : LeadView) (seats : List LiveView) (counts : List ℕ) : Type 0 where
-  pub len : length counts ≡ length v.seat.opening.counts
+pub record IsClosedService (v : DriverView) (seats : List LiveView) (counts : List ℕ) : Type 0 where
+  pub len : length counts ≡ length v.lead.seat.opening.counts
   pub totals : (page : ℕ) → page < length counts → slice_index counts page ≡ total_of v seats page
   pub back : List WorkerSeat
   pub posts : AreBackFrom seats back
-  pub added : HaveAddedWithin v.seat.phase back
-  pub reads : HaveReadBetween v.seat.opening v.seat.phase back
-  pub glances : HaveGlancedBetween v.seat.opening v.seat.phase back
-  pub snapshots : AreCounted v.seat back
-  pub masks : HaveReadMasks v.seat.masks back
-  pub places : HavePlaces v.seat.opening back
+  pub added : HaveAddedWithin v.lead.seat.phase back
+  pub reads : HaveReadBetween v.lead.seat.opening v.lead.seat.phase back
+  pub glances : HaveGlancedBetween v.lead.seat.opening v.lead.seat.phase back
+  pub snapshots : AreCounted v.lead.seat back
+  pub masks : HaveReadMasks v.lead.seat.masks back
+  pub places : HavePlaces v.lead.seat.opening back

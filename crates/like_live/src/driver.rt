@@ -1,4 +1,4 @@
-ghost use Rattle.std.specs.Prelude.{◌≡◌, IfOk, length};
+ghost use Rattle.std.specs.Prelude.{◌≡◌, ◌+◌, ◌≤◌, IfOk, length};
 ghost use Rattle.std.specs.Arc.{arc_value};
 ghost use Rattle.like_board.specs.Rule.{opened_coord};
 ghost use Rattle.like_board.specs.Seats.{board_id, coord_board, coord_view};
@@ -38,6 +38,8 @@ pub struct Driver {
     /// How many pages there are.
     pages: u32,
     hint: Hint,
+    /// Whether last counts were written.
+    is_over: bool,
     /// Room for the workers' seats that are given back at the end.
     back: Vec<WorkerSeat>,
 }
@@ -45,15 +47,14 @@ pub struct Driver {
 impl Model for Driver {
     ghost use Rattle.std.specs.Arc.{arc_value};
     ghost use Rattle.like_board.specs.Seats.{board_id};
-    ghost use Rattle.like_seat.specs.Lead.{LeadView};
-    ghost use Rattle.like_live.specs.Driver.{AreDriverParts, HasRoom};
+    ghost use Rattle.like_live.specs.Driver.{AreDriverParts, DriverView, HasRoom, driver_of};
 
-    ghost Value = { LeadView };
+    ghost Value = { DriverView };
 
-    ghost view = { λ d. d.lead };
+    ghost view = { λ d. driver_of d.lead d.is_over };
 
-    ghost invariant = { λ d. AreDriverParts (board_id (arc_value d.board)) d.splits d.pages d.lead
-        × HasRoom d.back d.lead };
+    ghost invariant = { λ d. let v = driver_of d.lead d.is_over in
+        AreDriverParts (board_id (arc_value d.board)) d.splits d.pages v × HasRoom d.back v };
 }
 
 impl Driver {
@@ -78,20 +79,25 @@ impl Driver {
                 splits: opening.splits_some(),
                 pages: opening.counts.len() as u32,
                 hint,
+                is_over: false,
                 back,
             }),
             Err(_) => Err(AllocError),
         }
     }
 
-    /// Makes one look at the phase word, and does at most one thing. It announces the end of the phase if `may_end` is
-    /// set, and of a split phase also if the looks that wait at a seat take half of its room. A joined phase goes on if no
-    /// page is marked and none can be hot.
+    /// Makes one look at the phase word, and does at most one thing. A phase that is ending is released once every seat
+    /// has answered it or is gone. A phase that runs is ended if `may_end` is set, and a split phase also if the looks
+    /// that wait at a seat take half of its room. A joined phase goes on if no page is marked and none can be hot, or if
+    /// all seats have left it. Once last counts were written it does nothing.
     pub fn turn(&mut self, may_end: bool) -> DriverAnswer
         ensures case { DriverTurns self.old may_end result self.new }
         ensures keeps { IsService self.new }
         ensures same { IsSameDriver self.old self.new }
     {
+        if self.is_over {
+            return DriverAnswer::Ended;
+        }
         act(
             &mut self.lead,
             &self.board,
@@ -101,34 +107,43 @@ impl Driver {
         )
     }
 
-    /// Writes all pages' counts, if a joined phase is ending and every seat has answered it or is gone. They are the
-    /// counts of one moment, the boundary of that phase and the split one that comes next, and the answer is the phase
-    /// that ends there. Otherwise it writes nothing, and answers none.
-    pub fn snapshot(&mut self, counts: &mut [u64]) -> Option<u64>
-        requires places { length counts.old ≡ length self.old.seat.opening.counts }
-        ensures case { TakesSnapshot self.old counts.old result self.new counts.new }
+    /// Writes the counts of the pages from one on, if a joined phase is ending and every seat has answered it or is gone.
+    /// They are the counts of one moment, the boundary of that phase and the split one that comes next, and the answer is
+    /// the phase that ends there. Otherwise it writes nothing, and answers none. Until the driver releases the next
+    /// phase, further ranges are of the same moment.
+    pub fn snapshot(&mut self, from: u32, counts: &mut [u64]) -> Option<u64>
+        requires places { from + length counts.old ≤ length self.old.lead.seat.opening.counts }
+        ensures case { TakesSnapshot self.old from counts.old result self.new counts.new }
         ensures keeps { IsService self.new }
         ensures same { IsSameDriver self.old self.new }
     {
-        read_boundary(&mut self.lead, &self.board, counts)
+        if self.is_over {
+            return None;
+        }
+        read_boundary(&mut self.lead, &self.board, from, counts)
     }
 
-    /// Writes all pages' last counts, once all seats are gone, and says whether it did. It takes no seats, so it serves
-    /// a host that can't show whose they are. If nobody ended the phase, it does so, unless it is a service's last.
-    pub fn last_counts(&mut self, counts: &mut [u64]) -> bool
-        requires places { length counts.old ≡ length self.old.seat.opening.counts }
-        ensures case { TakesLast self.old counts.old result self.new counts.new }
+    /// Writes the last counts of the pages from one on, once all seats have left a joined phase, and says whether it did.
+    /// It ends that phase, which is never released: the service is over. It can be called again, for any pages, and each
+    /// page then has the same count. It takes no seats, so it serves a host that can't show whose they are.
+    pub fn last_counts(&mut self, from: u32, counts: &mut [u64]) -> bool
+        requires places { from + length counts.old ≤ length self.old.lead.seat.opening.counts }
+        ensures case { TakesLast self.old from counts.old result self.new counts.new }
         ensures keeps { IsService self.new }
         ensures same { IsSameDriver self.old self.new }
     {
-        read_last(&mut self.lead, &self.board, counts)
+        if !read_last(&mut self.lead, &self.board, from, counts) {
+            return false;
+        }
+        self.is_over = true;
+        true
     }
 
     /// Ends the board, once all seats are given back and gone, and writes each page's last count.
     pub(crate) fn finish(self, seats: Vec<LiveSeat<SharedPost>>, counts: &mut [u64])
         requires whole { AreItsSeats self seats.items }
         requires gone { AreGone seats.items }
-        requires places { length counts.old ≡ length self.seat.opening.counts }
+        requires places { length counts.old ≡ length self.lead.seat.opening.counts }
         ensures { IsClosedService self seats.items counts.new }
     {
         let Driver {
@@ -143,14 +158,14 @@ impl Driver {
 
     /// The present phase.
     pub fn phase(&self) -> u64
-        ensures { result ≡ self.now.seat.phase }
+        ensures { result ≡ self.now.lead.seat.phase }
     {
         self.lead.phase()
     }
 
     /// How many pages there are.
     pub fn pages(&self) -> u32
-        ensures { result ≡ length self.now.seat.opening.counts }
+        ensures { result ≡ length self.now.lead.seat.opening.counts }
     {
         self.pages
     }

@@ -50,7 +50,7 @@ impl Service {
     /// tallies of all seats.
     pub fn close(self, counts: &mut [u64]) -> Result<(), NotAllGone>
         requires whole { AreItsSeats self.driver self.seats.items }
-        requires places { length counts.old ≡ length self.driver.seat.opening.counts }
+        requires places { length counts.old ≡ length self.driver.lead.seat.opening.counts }
         ensures gone { OnOk result (AreGone self.seats.items) }
         ensures closed { OnOk result (IsClosedService self.driver self.seats.items counts.new) }
         ensures back { IfErr result (λ refused. refused.service ≡ self) }

@@ -2,7 +2,7 @@ ghost use Rattle.std.specs.Prelude.{◌≡◌, ◌≤◌, true};
 ghost use Rattle.like_board.specs.Seats.{board_id};
 ghost use Rattle.like_core.specs.OpeningLimits.{service_limits};
 ghost use Rattle.like_core.specs.views.Views.{SawAllIn};
-ghost use Rattle.like_live.specs.Driver.{DriverTurns, IsDue, ReleasesNext, may_be_ended, splits_some};
+ghost use Rattle.like_live.specs.Driver.{Acts, IsDue, ReleasesNext, may_be_ended, splits_some};
 
 use crate::driver_answer::DriverAnswer;
 use crate::hint::Hint;
@@ -23,23 +23,24 @@ pub(crate) fn act(
     requires here { lead.old.board ≡ board_id board.now }
     requires limits { lead.old.seat.opening.limits ≡ service_limits }
     requires splits { splits ≡ splits_some lead.old }
-    ensures { DriverTurns lead.old may_end result lead.new }
+    ensures { Acts lead.old may_end result lead.new }
 {
     let sight = lead.look(board);
-    if sight.all_gone {
-        return DriverAnswer::Ended;
-    }
-    if sight.ending && sight.all_in {
+    if sight.ending {
+        if !sight.all_in {
+            return DriverAnswer::Waiting;
+        }
         hint.clear();
         release(lead, board);
         return DriverAnswer::Released;
     }
-    if sight.ending {
-        return DriverAnswer::Waiting;
-    }
-    if may_be_ended(lead.phase(), splits) && is_due(lead, hint, may_end) {
+    let is_left = sight.all_gone && lead.is_joined();
+    if !is_left && may_be_ended(lead.phase(), splits) && is_due(lead, hint, may_end) {
         lead.announce(board);
         return DriverAnswer::Announced;
+    }
+    if sight.all_gone {
+        return DriverAnswer::Ended;
     }
     DriverAnswer::Running
 }

@@ -1,7 +1,7 @@
 use Rattle.std.proofs.Common.{◌≡◌, ◌<◌, ap, sym, ◌∙◌, subst}
 use Rattle.like_core.specs.declared.view.CoordSeatView.{CoordSeatView}
 use Rattle.like_board.specs.Seats.{AreCounted, HaveAddedWithin, HaveGlancedBetween, HavePlaces, HaveReadBetween, HaveReadMasks, board_id, coord_view, last_count}
-use Rattle.like_seat.specs.Lead.{LeadView}
+use Rattle.like_live.specs.Driver.{DriverView}
 use Rattle.like_live.proofs.Closing.{back-all, back-here, last-total}
 use Rattle.like_live.proofs.driver.Driver.finish.Goals as goal
 
@@ -9,12 +9,12 @@ pub last_counts-requires-clause-seats_here : goal.last_counts-requires-clause-se
 last_counts-requires-clause-seats_here c = λ k d below.
     back-here c.args.self c.args.seats.items c.give_back.new.back.items c.give_back.ensures.back c.requires.whole k d
     below
-    ∙ sym (ap (λ (l : LeadView). l.board) c.self.view_is) ∙ c.self.invariant.0.here ∙ ap board_id (sym c.deref.ensures)
+    ∙ sym (ap (λ (d : DriverView). d.lead.board) c.self.view_is) ∙ c.self.invariant.0.here ∙ ap board_id (sym c.deref.ensures)
 
 pub last_counts-requires-clause-all : goal.last_counts-requires-clause-all
 last_counts-requires-clause-all c = λ i there.
-    let seat_is : coord_view c.finish.result ≡ c.args.self.seat =
-    c.finish.ensures.view ∙ ap (λ (l : LeadView). l.seat) c.self.view_is in
+    let seat_is : coord_view c.finish.result ≡ c.args.self.lead.seat =
+    c.finish.ensures.view ∙ ap (λ (d : DriverView). d.lead.seat) c.self.view_is in
     back-all c.args.self c.args.seats.items c.give_back.new.back.items c.give_back.ensures.back c.requires.whole i
     (subst (λ (d : CoordSeatView). i < d.opening.workers) seat_is there)
 
@@ -22,8 +22,8 @@ pub returns : goal.returns
 returns c =
     let back = c.give_back.new.back.items in
     let is = c.last_counts.ensures in
-    let seat_is : coord_view c.finish.result ≡ c.args.self.seat =
-    c.finish.ensures.view ∙ ap (λ (l : LeadView). l.seat) c.self.view_is in
+    let seat_is : coord_view c.finish.result ≡ c.args.self.lead.seat =
+    c.finish.ensures.view ∙ ap (λ (d : DriverView). d.lead.seat) c.self.view_is in
     record {
       len = is.len ∙ c.requires.places;
       totals = λ page there.

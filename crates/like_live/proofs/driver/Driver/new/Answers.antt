@@ -23,7 +23,6 @@ invariant_of-result c =
           few_pages = subst (λ (z : CoreOpening). length z.counts ≤ max_pages) (sym opening) within.0.1;
           marks = subst (λ (z : CoreOpening). length z.marks ≡ length z.counts) (sym opening) within.1.0;
           limits = ap (λ (z : CoreOpening). z.limits) opening;
-          before_end = ap (λ (d : CoordSeatView). d.gone) (seat ∙ c.requires.new);
         };
       },
       record {

@@ -36,7 +36,7 @@ returns c =
     } in
     let phase : c.phase.result ≡ seen.seat.phase =
     c.phase.ensures ∙ ap (λ (l : LeadView). l.seat.phase) reads
-    ∙ (reads-only seen.seat c.read_counts.new.counts).phase in
+    ∙ (reads-only seen.seat c.args.from c.read_counts.new.counts).phase in
     record {
       sight = c.look-sight.result;
       seen = seen;

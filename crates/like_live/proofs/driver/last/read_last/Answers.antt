@@ -1,24 +1,30 @@
-use Rattle.std.proofs.Common.{Bool, Option, ℕ, refl, subst}
-use Rattle.like_live.specs.Driver.{LooksForGone, TakesSnapshot, counted, not_at_end}
-use Rattle.like_live.proofs.Gone.{last-not-at-end}
+use Rattle.std.proofs.Common.{Bool, true, false, refl, subst}
+use Rattle.like_live.specs.Driver.{LooksForEnd, counted, not_ended}
+use Rattle.like_live.proofs.Gone.{end-seen, last-totals}
 use Rattle.like_live.proofs.driver.last.read_last.Goals as goal
 
-pub returns-in-Some : goal.returns-in-Some
-returns-in-Some c =
-    let old = c.args.counts.now in
-    let now = c.end_gone.new.lead in
-    counted now c.in-Some.field-0
-    (subst (λ (b : Bool). LooksForGone c.args.lead.now b now) c.if-not-end_gone.false c.end_gone.ensures)
-    (subst (λ (p : Option ℕ). TakesSnapshot now old p c.read_boundary.new.lead c.read_boundary.new.counts) c.in-Some.is
-    c.read_boundary.ensures) refl
+pub returns-then-not-is_at_end : goal.returns-then-not-is_at_end
+returns-then-not-is_at_end c =
+    not_ended (subst (λ (b : Bool). LooksForEnd c.args.lead.now b c.is_at_end.new.lead) c.if-not-is_at_end.true
+    c.is_at_end.ensures) refl refl
 
-pub returns-in-None : goal.returns-in-None
-returns-in-None c =
-    let old = c.args.counts.now in
-    let now = c.end_gone.new.lead in
-    let looks = subst (λ (b : Bool). LooksForGone c.args.lead.now b now) c.if-not-end_gone.false c.end_gone.ensures in
-    let takes = subst (λ (p : Option ℕ). TakesSnapshot now old p c.read_boundary.new.lead c.read_boundary.new.counts)
-    c.in-None.is c.read_boundary.ensures in
-    not_at_end now looks takes
-    (last-not-at-end c.args.lead.now now c.read_boundary.new.lead old c.read_boundary.new.counts
-    c.requires.before_end c.requires.limits looks takes) refl
+pub read_counts-requires-clause-saw : goal.read_counts-requires-clause-saw
+read_counts-requires-clause-saw c =
+    (end-seen _ _ (subst (λ (b : Bool). LooksForEnd c.args.lead.now b c.is_at_end.new.lead) c.if-not-is_at_end.false
+    c.is_at_end.ensures)).saw
+
+pub read_counts-requires-clause-joined : goal.read_counts-requires-clause-joined
+read_counts-requires-clause-joined c =
+    (end-seen _ _ (subst (λ (b : Bool). LooksForEnd c.args.lead.now b c.is_at_end.new.lead) c.if-not-is_at_end.false
+    c.is_at_end.ensures)).joined
+
+pub returns : goal.returns
+returns c =
+    let now = c.is_at_end.new.lead in
+    let looks : LooksForEnd c.args.lead.now true now =
+    subst (λ (b : Bool). LooksForEnd c.args.lead.now b now) c.if-not-is_at_end.false c.is_at_end.ensures in
+    let saw = end-seen _ _ looks in
+    let reads = c.read_counts.ensures in
+    counted now looks reads.len reads.reads
+    (last-totals now c.read_counts.new.self c.args.from c.read_counts.new.counts saw reads.reads (reads.known saw.known))
+    refl
