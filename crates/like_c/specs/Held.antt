@@ -1,5 +1,5 @@
 -- A call of what a handle holds, and what likes.h tells of it.
-use Rattle.std.specs.Prelude.{◌≡◌, ◌≢◌, ◌⊎◌, ℕ, ◌≤◌, Bool, true, false, length, min, slice_get, take, List, [], ◌∷◌, ◌++◌, Option, Some, None}
+use Rattle.std.specs.Prelude.{◌≡◌, ◌≢◌, ◌⊎◌, ℕ, ◌+◌, ◌≤◌, Bool, true, false, length, min, slice_get, take, List, [], ◌∷◌, ◌++◌, Option, Some, None}
 use Rattle.std.specs.Global.{Global}
 use Rattle.std_alloc.specs.declared.boxed.Box.{Box}
 use Rattle.like_live.specs.LiveView.{LiveView, RanNext}
@@ -12,7 +12,6 @@ use Rattle.like_live.specs.declared.driver_answer.DriverAnswer.{DriverAnswer}
 use Rattle.like_live.specs.Calls.{GlanceCase, LikeCase, LookCase, RetireCase, TakesFound}
 use Rattle.like_live.specs.Driver.{DriverTurns, TakesLast, TakesSnapshot}
 use Rattle.like_live.specs.Moves.{Moves}
-use Rattle.like_seat.specs.Lead.{LeadView}
 use Rattle.like_seat.specs.SeatView.{phase_at}
 use Rattle.like_c.specs.declared.opened.Opened.{Opened}
 use Rattle.like_c.specs.declared.opened.Seated.{Seated}
@@ -77,36 +76,37 @@ pub data DrivesAt (at : Option Opened) (may_end : Bool) (status : ℕ) (after : 
   drives : (o p : Opened) (answer : DriverAnswer) → at ≡ Some o → DriverTurns o.driver may_end answer p.driver
       → status ≡ driver_status answer → p.seats ≡ o.seats → after ≡ Some p → DrivesAt at may_end status after
 
--- how many pages a driver has
-abbrev pub pages_at : Opened → ℕ
-pages_at o = length o.driver.seat.opening.counts
+-- a service has so many pages from this one on
+abbrev pub HasPages : Opened → ℕ → ℕ → Type 0
+HasPages o from many = from + many ≤ length o.driver.lead.seat.opening.counts
 
--- a snapshot is asked for, with room for so many counts
-pub data SnapshotAt (at : Option Opened) (old : List ℕ) (status : ℕ) (counts : List ℕ)
+-- a snapshot of the pages from this one on is asked for, with room for so many counts
+pub data SnapshotAt (at : Option Opened) (from : ℕ) (old : List ℕ) (status : ℕ) (counts : List ℕ)
     (after : Option Opened) : Type 0 where
-  empty_snapshot : at ≡ None → status ≡ 19 → counts ≡ old → after ≡ None → SnapshotAt at old status counts after
-  snapshot_length : (o : Opened) → at ≡ Some o → ¬ (length old ≡ pages_at o) → status ≡ 23 → counts ≡ old
+  empty_snapshot : at ≡ None → status ≡ 19 → counts ≡ old → after ≡ None → SnapshotAt at from old status counts after
+  snapshot_length : (o : Opened) → at ≡ Some o → ¬ HasPages o from (length old) → status ≡ 23 → counts ≡ old
       → after ≡ Some o
-      → SnapshotAt at old status counts after
-  snapshot_waits : (o p : Opened) → at ≡ Some o → length old ≡ pages_at o
-      → TakesSnapshot o.driver old None p.driver counts
-      → status ≡ 15 → p.seats ≡ o.seats → after ≡ Some p → SnapshotAt at old status counts after
-  snapshot_counts : (o p : Opened) (phase : ℕ) → at ≡ Some o → length old ≡ pages_at o
-      → TakesSnapshot o.driver old (Some phase) p.driver counts
-      → status ≡ 17 → p.seats ≡ o.seats → after ≡ Some p → SnapshotAt at old status counts after
+      → SnapshotAt at from old status counts after
+  snapshot_waits : (o p : Opened) → at ≡ Some o → HasPages o from (length old)
+      → TakesSnapshot o.driver from old None p.driver counts
+      → status ≡ 15 → p.seats ≡ o.seats → after ≡ Some p → SnapshotAt at from old status counts after
+  snapshot_counts : (o p : Opened) (phase : ℕ) → at ≡ Some o → HasPages o from (length old)
+      → TakesSnapshot o.driver from old (Some phase) p.driver counts
+      → status ≡ 17 → p.seats ≡ o.seats → after ≡ Some p → SnapshotAt at from old status counts after
 
--- the last counts are asked for: if they are written, the handle is left empty
-pub data ClosesAt (at : Option Opened) (old : List ℕ) (status : ℕ) (counts : List ℕ)
+-- the last counts of the pages from this one on are asked for: the driver stays, whether or not they are written
+pub data LastAt (at : Option Opened) (from : ℕ) (old : List ℕ) (status : ℕ) (counts : List ℕ)
     (after : Option Opened) : Type 0 where
-  empty_close : at ≡ None → status ≡ 19 → counts ≡ old → after ≡ None → ClosesAt at old status counts after
-  close_length : (o : Opened) → at ≡ Some o → ¬ (length old ≡ pages_at o) → status ≡ 23 → counts ≡ old
+  empty_last : at ≡ None → status ≡ 19 → counts ≡ old → after ≡ None → LastAt at from old status counts after
+  last_length : (o : Opened) → at ≡ Some o → ¬ HasPages o from (length old) → status ≡ 23 → counts ≡ old
       → after ≡ Some o
-      → ClosesAt at old status counts after
-  not_ended : (o p : Opened) → at ≡ Some o → length old ≡ pages_at o → TakesLast o.driver old false p.driver counts
-      → status ≡ 22 → p.seats ≡ o.seats → after ≡ Some p → ClosesAt at old status counts after
-  closes : (o : Opened) (now : LeadView) → at ≡ Some o → length old ≡ pages_at o
-      → TakesLast o.driver old true now counts
-      → status ≡ 0 → after ≡ None → ClosesAt at old status counts after
+      → LastAt at from old status counts after
+  not_ended : (o p : Opened) → at ≡ Some o → HasPages o from (length old)
+      → TakesLast o.driver from old false p.driver counts
+      → status ≡ 22 → p.seats ≡ o.seats → after ≡ Some p → LastAt at from old status counts after
+  last_counts : (o p : Opened) → at ≡ Some o → HasPages o from (length old)
+      → TakesLast o.driver from old true p.driver counts
+      → status ≡ 0 → p.seats ≡ o.seats → after ≡ Some p → LastAt at from old status counts after
 
 -- a phase is asked for
 pub data PhaseAt (at : Option Seated) (phase : ℕ) : Type 0 where
@@ -115,7 +115,7 @@ pub data PhaseAt (at : Option Seated) (phase : ℕ) : Type 0 where
 
 pub data DriverPhaseAt (at : Option Opened) (phase : ℕ) : Type 0 where
   empty_driver : at ≡ None → phase ≡ 0 → DriverPhaseAt at phase
-  driver_phase : (o : Opened) → at ≡ Some o → phase ≡ o.driver.seat.phase → DriverPhaseAt at phase
+  driver_phase : (o : Opened) → at ≡ Some o → phase ≡ o.driver.lead.seat.phase → DriverPhaseAt at phase
 
 -- the next seat is handed out, into an empty handle
 pub data HandsOut (from : Option Opened) (to : Option Seated) (status : ℕ) (left : Option Opened)

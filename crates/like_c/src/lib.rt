@@ -3,7 +3,7 @@
 #![tactic(auto)]
 
 ghost use Rattle.std.specs.Prelude.{◌≡◌, ◌<◌, ◌≤◌, ℕ, length, slice_get, None};
-ghost use Rattle.like_c.specs.Held.{ClosesAt, DriverPhaseAt, DrivesAt, GlancesAt, HandsOut, LikesAt, LooksAt, OpensAt, PhaseAt, RetiresAt, RunsAt, SnapshotAt, TakesFoundAt, TurnsAt};
+ghost use Rattle.like_c.specs.Held.{DriverPhaseAt, DrivesAt, GlancesAt, HandsOut, LastAt, LikesAt, LooksAt, OpensAt, PhaseAt, RetiresAt, RunsAt, SnapshotAt, TakesFoundAt, TurnsAt};
 ghost use Rattle.like_c.specs.Opened.{asked_of};
 
 mod driver_handle;
@@ -224,18 +224,19 @@ pub extern "C" fn likes_driver_turn(alloc: Global, driver: &mut DriverHandle, ma
 pub extern "C" fn likes_snapshot(
     alloc: Global,
     driver: &mut DriverHandle,
+    from: u32,
     counts: &mut [u64],
 ) -> u32
-    ensures { SnapshotAt driver.old.held.home counts.old result counts.new driver.new.held.home }
+    ensures { SnapshotAt driver.old.held.home from counts.old result counts.new driver.new.held.home }
 {
     let Some(mut opened) = driver.take(alloc) else {
         return status::EMPTY;
     };
-    if counts.len() != opened.driver.pages() as usize {
+    if !opened.driver.has_pages(from, counts.len()) {
         driver.put(opened);
         return status::WRONG_LENGTH;
     }
-    let phase = opened.driver.snapshot(counts);
+    let phase = opened.driver.snapshot(from, counts);
     driver.put(opened);
     match phase {
         Some(_) => status::COUNTED,
@@ -256,20 +257,27 @@ pub extern "C" fn likes_phase(alloc: Global, driver: &mut DriverHandle) -> u64
     phase
 }
 
-/// The last counts, once all seats are gone. No seats are given back: C cannot show whose they are.
+/// The last counts of the pages from one on, once all seats are gone. No seats are given back: C cannot show whose they
+/// are.
 #[unsafe(no_mangle)]
-pub extern "C" fn likes_close(alloc: Global, driver: &mut DriverHandle, counts: &mut [u64]) -> u32
-    ensures { ClosesAt driver.old.held.home counts.old result counts.new driver.new.held.home }
+pub extern "C" fn likes_last_counts(
+    alloc: Global,
+    driver: &mut DriverHandle,
+    from: u32,
+    counts: &mut [u64],
+) -> u32
+    ensures { LastAt driver.old.held.home from counts.old result counts.new driver.new.held.home }
 {
     let Some(mut opened) = driver.take(alloc) else {
         return status::EMPTY;
     };
-    if counts.len() != opened.driver.pages() as usize {
+    if !opened.driver.has_pages(from, counts.len()) {
         driver.put(opened);
         return status::WRONG_LENGTH;
     }
-    if !opened.driver.last_counts(counts) {
-        driver.put(opened);
+    let is_done = opened.driver.last_counts(from, counts);
+    driver.put(opened);
+    if !is_done {
         return status::NOT_ENDED;
     }
     status::OK

@@ -10,7 +10,7 @@ use Rattle.like_core.specs.declared.view.CoordSeatView.{CoordSeatView}
 use Rattle.like_core.specs.declared.view.PageCount.{PageCount}
 use Rattle.like_core.specs.declared.view.View.TheVariants.{Coord}
 use Rattle.like_core.specs.views.Places.{count_after}
-use Rattle.like_core.specs.views.Shows.{IsEnd, IsKnown}
+use Rattle.like_core.specs.views.Shows.{IsLastMoment, IsKnown}
 use Rattle.like_core.specs.views.Views.{SawAllIn, counted_coord}
 use Rattle.like_core.proofs.views.Ends.{counted_now, end_known}
 use Rattle.like_seat.specs.Lead.{LeadView, Sees, announced, counted_from, with_counts}
@@ -101,7 +101,7 @@ last-totals v w from counts saw is known =
     let only = reads-only v.seat from counts in
     let seat : w.seat ≡ counted_from v.seat from counts = ap (λ (l : LeadView). l.seat) is in
     let opening : w.seat.opening ≡ v.seat.opening = ap (λ (d : CoordSeatView). d.opening) seat ∙ only.opening in
-    let end : IsEnd w.seat.opening w.seat =
+    let end : IsLastMoment w.seat.opening w.seat =
     end_known w.seat.opening w.seat saw.sight (subst (λ (z : Opening). IsKnown z (Coord w.seat)) (sym opening) known)
     (ap (λ (d : CoordSeatView). d.last) seat ∙ only.last ∙ saw.last) saw.all_in saw.all_gone in
     let phase : v.seat.phase ≡ w.seat.phase = sym (ap (λ (d : CoordSeatView). d.phase) seat ∙ only.phase) in

@@ -9,7 +9,7 @@ use Rattle.like_limits.specs.Limits.{max_pages}
 use Rattle.like_core.specs.OpeningLimits.{service_limits}
 use Rattle.like_core.specs.Phase.{IsJoined, IsSplit}
 use Rattle.like_core.specs.views.Places.{count_after}
-use Rattle.like_core.specs.views.Shows.{IsEnd}
+use Rattle.like_core.specs.views.Shows.{IsLastMoment}
 use Rattle.like_seat.specs.Lead.{ChoosesRisen, LeadView, Sees, announced, new_lead, published, released, with_counts}
 use Rattle.like_live.specs.Opening.{board_opening, splits_by}
 use Rattle.like_live.specs.declared.opening.Opening.{Opening}
@@ -128,7 +128,7 @@ pub data LooksForEnd (v : LeadView) (is_end : Bool) (after : LeadView) : Type 0 
 -- these are last counts, of the pages from this one on: there is a moment at which this is what the driver knows and all
 -- seats are gone, and each is its page's first count and all that the seats have added by then
 pub record AreLastCounts (v : LeadView) (from : ℕ) (counts : List ℕ) : Type 0 where
-  pub end : IsEnd v.seat.opening v.seat
+  pub end : IsLastMoment v.seat.opening v.seat
   pub totals : (i : ℕ) → i < length counts
       → slice_index counts i ≡ count_after v.seat.opening.counts end.moment.views (from + i)
 

@@ -1,4 +1,4 @@
-ghost use Rattle.std.specs.Prelude.{◌≡◌, ◌+◌, ◌≤◌, IfOk, length};
+ghost use Rattle.std.specs.Prelude.{◌≡◌, ◌↔◌, ◌+◌, ◌≤◌, IfOk, IsTrue, length};
 ghost use Rattle.std.specs.Arc.{arc_value};
 ghost use Rattle.like_board.specs.Rule.{opened_coord};
 ghost use Rattle.like_board.specs.Seats.{board_id, coord_board, coord_view};
@@ -161,6 +161,13 @@ impl Driver {
         ensures { result ≡ self.now.lead.seat.phase }
     {
         self.lead.phase()
+    }
+
+    /// Whether there are so many pages from one on.
+    pub fn has_pages(&self, from: u32, many: usize) -> bool
+        ensures { IsTrue result ↔ (from + many ≤ length self.now.lead.seat.opening.counts) }
+    {
+        from <= self.pages && many <= (self.pages - from) as usize
     }
 
     /// How many pages there are.

@@ -15,7 +15,7 @@ use Rattle.like_core.specs.word.ShownWord.{shown_word}
 use Rattle.like_core.specs.views.Places.{count_after}
 use Rattle.like_core.specs.views.Reads.{IsCounted, all_before}
 use Rattle.like_core.specs.views.Tallies.{paged}
-use Rattle.like_core.specs.views.Shows.{FitsCoord, IsEnd, IsKnown, Moment}
+use Rattle.like_core.specs.views.Shows.{FitsCoord, IsLastMoment, IsKnown, Moment}
 
 -- the coordinator's counts of its phase are those of the moment
 pub counted_now : (z : Opening) (c : CoordSeatView) (m : Moment z)
@@ -32,13 +32,13 @@ counted_now z c m mine = λ k d below at.
     let present = fits.phase.present in
     counted k d below ∙ ap (λ n. slice_index z.counts r.page + n) (m.tallied.past (r.phase + 1) r.page (omega arith))
 
--- if its last sight showed all in and all gone, this is the end of the board
+-- if its last sight showed all in and all gone, it knows a last moment
 pub end_known : (z : Opening) (c : CoordSeatView) (sight : CoordSight)
     → IsKnown z (Coord c)
     → c.last ≡ Some sight
     → sight.all_in ≡ true
     → sight.all_gone ≡ true
-    → IsEnd z c
+    → IsLastMoment z c
 end_known z c sight known last all_in all_gone =
     let m = known.moment in
     let fits : FitsCoord z m.state c = m.shows.seats.each known.place (Coord c) known.mine in

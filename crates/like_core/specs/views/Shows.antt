@@ -175,9 +175,8 @@ pub record IsKnown (z : Opening) (v : View) : Type 0 where
   pub place : ℕ
   pub mine : get_elem? moment.views place ≡ some v
 
--- the end of a board, as the coordinator knows it: a moment at which this is what its seat knows, and all workers are
--- gone
-pub record IsEnd (z : Opening) (c : CoordSeatView) : Type 0 where
+-- a last moment, as the coordinator knows it: this is what its seat knows, and all workers are gone
+pub record IsLastMoment (z : Opening) (c : CoordSeatView) : Type 0 where
   pub moment : Moment z
   pub mine : get_elem? moment.views 0 ≡ some (Coord c)
   pub gone : AllGone (numbers z moment.state)
