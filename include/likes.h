@@ -169,7 +169,8 @@ size_t likes_run(likes_seat *seat, const likes_request *requests, size_t request
 /* Does what the phase asks of the seat, and nothing else: LIKES_RUNS, BETWEEN, GONE or EMPTY. */
 uint32_t likes_turn(likes_seat *seat);
 
-/* Leaves for good, where the seat runs a joined phase: LIKES_GONE. Else it is likes_turn: call it again. */
+/* Leaves for good, where the seat runs a joined phase, ending or not: LIKES_GONE. What waited is found first.
+ * Elsewhere it is likes_turn: call it again. */
 uint32_t likes_retire(likes_seat *seat);
 
 /* The phase that the seat runs or has answered last, and 0 once it is gone. Phases with odd numbers are split. */

@@ -45,6 +45,12 @@ running (state.Runs k) h = tt
 running (state.Answered k) h = absurd h
 running state.Gone h = absurd h
 
+-- who runs a phase of an even number runs a joined one
+pub joined_since : (s : WorkerState) (phase : ℕ) → IsRunning s → phase ≡ phase_of s → phase % 2 ≡ 0 → RunsJoined s
+joined_since (state.Runs k) phase h is even = ap (λ n. n % 2) (sym is) ∙ even
+joined_since (state.Answered k) phase h is even = absurd h
+joined_since state.Gone phase h is even = absurd h
+
 -- who runs a phase that is not joined runs a split one
 pub split_since : (s : WorkerState) (phase : ℕ) → IsRunning s → phase ≡ phase_of s → (phase % 2 ≡ 0 → ⊥) → RunsSplit s
 split_since (state.Runs k) phase h is odd = let some : phase % 2 ≡ 1 = omega arith in ap (λ n. n % 2) (sym is) ∙ some

@@ -13,15 +13,14 @@ use Rattle.like_live.specs.declared.answer.GlanceAnswer.{GlanceAnswer}
 use Rattle.like_live.specs.declared.answer.LikeAnswer.{LikeAnswer}
 use Rattle.like_live.specs.declared.answer.LookAnswer.{LookAnswer}
 use Rattle.like_live.specs.declared.answer.LookAnswer.TheVariants.{Waits}
-use Rattle.like_live.specs.declared.answer.TurnAnswer.{TurnAnswer}
 use Rattle.like_live.specs.declared.asked.Asked.{Asked}
 use Rattle.like_live.specs.declared.asked.Found.{Found}
 use Rattle.like_live.specs.LiveView.{LiveView, tally, waiting, with_seat}
 use Rattle.like_live.specs.Calls as calls
-use Rattle.like_live.specs.Calls.{GlanceCase, GlancesNow, LikeCase, LikesNow, LookCase, LooksNow, RetireCase, RetiresNow, TakesFound, asked_now}
+use Rattle.like_live.specs.Calls.{GlanceCase, GlancesNow, LikeCase, LikesNow, LookCase, LooksNow, TakesFound, asked_now}
 use Rattle.like_live.specs.History.{Ask, Does, HasDone, HistoriesAreCounted, IsUnused, NoneWaitsOnceGone, Told, ask_of, ask_taken, ask_told, ask_waiting, asks_left, asks_taken, asks_told, glance, like, like_told, likes_told, look, page_liked, pages_liked, retire, take_found, turn}
 use Rattle.like_live.proofs.Calling.{LikesNow-tallies}
-use Rattle.like_live.proofs.Telling.{IsQuiet, IsQuiet-both, IsQuiet-moves, IsQuiet-same, IsTold, IsTold-after, IsTold-quiet, IsWhole, TellsNothing, is_counted, last-more, merged-asks, user_there}
+use Rattle.like_live.proofs.Telling.{IsQuiet, IsQuiet-both, IsQuiet-moves, IsQuiet-retires, IsQuiet-same, IsTold, IsTold-after, IsTold-quiet, IsWhole, TellsNothing, is_counted, last-more, merged-asks, user_there}
 
 -- a like at a seat that runs a phase
 told-like : (v after : LiveView) (user page : ℕ) (answer : LikeAnswer)
@@ -130,24 +129,6 @@ told-glance v after user page answer q =
     IsTold-quiet v after (glance user page answer) q
     (record { likes = λ p. refl; pages = λ u. refl; taken = refl; told = refl })
 
--- a retirement at a seat that runs a phase
-told-retire : (v after : LiveView) (answer : TurnAnswer)
-    → IsWhole v
-    → RetiresNow v answer after
-    → IsTold v after (retire answer)
-told-retire v after answer whole (calls.retires joined none a is) =
-    IsTold-quiet v after (retire answer)
-    (subst (IsQuiet v) (sym is) (record {
-      whole = record { sized = whole.sized; table = whole.table; empty = λ gone. none };
-      tallies = λ p. refl;
-      last = refl;
-      asks = refl;
-    }))
-    (record { likes = λ p. refl; pages = λ u. refl; taken = refl; told = refl })
-told-retire v after answer whole (calls.runs split a is) =
-    IsTold-quiet v after (retire answer) (subst (IsQuiet v) (sym is) (IsQuiet-same v whole))
-    (record { likes = λ p. refl; pages = λ u. refl; taken = refl; told = refl })
-
 -- a found look that is taken
 takes-asks : (fs : List Found) (waits : List Ask) (taken : Option Found) → taken ≡ slice_get fs 0
     → ask_taken (take_found taken) ++ (map ask_of (drop 1 fs) ++ waits) ≡ map ask_of fs ++ waits
@@ -207,15 +188,9 @@ told-does (glance user page answer) v after whole d = told-glance v after user p
         let q = IsQuiet-moves v now _ whole m in
         IsQuiet-both v now after q (quiet-glance now after user page answer q.whole l)
 told-does (take_found taken) v after whole d = told-take v after taken whole d
-told-does (retire answer) v after whole d = by_case d
-  where
-    by_case : RetireCase v answer after → IsTold v after (retire answer)
-    by_case (calls.turns ends m) =
-        IsTold-quiet v after (retire answer) (IsQuiet-moves v after answer whole m)
-        (record { likes = λ p. refl; pages = λ u. refl; taken = refl; told = refl })
-    by_case (calls.runs now m l) =
-        let q = IsQuiet-moves v now _ whole m in
-        IsTold-after v now after (retire answer) q (told-retire now after answer q.whole l)
+told-does (retire answer) v after whole d =
+    IsTold-quiet v after (retire answer) (IsQuiet-retires v after answer whole d)
+    (record { likes = λ p. refl; pages = λ u. refl; taken = refl; told = refl })
 
 -- calls tell what they do, one after the other
 record AreTold (v after : LiveView) (told : List Told) : Type 0 where

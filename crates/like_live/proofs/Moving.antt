@@ -9,7 +9,8 @@ use Rattle.like_seat.proofs.MergedLikes.{merged-tally}
 use Rattle.like_live.specs.declared.answer.TurnAnswer.{TurnAnswer}
 use Rattle.like_live.specs.declared.asked.Asked.{Asked}
 use Rattle.like_live.specs.LiveView.{IsSameSeat, KeepsTallies, LiveView, with_seat}
-use Rattle.like_live.specs.Moves.{FindsAll, Moves, Works, is_gone, looked, acknowledged, waits, works, runs_joined, acknowledges, runs_split, reports}
+use Rattle.like_live.specs.Calls.{RetireCase, RetireWorks, retired_seat, retires, stays}
+use Rattle.like_live.specs.Moves.{FindsAll, Moves, MovesBy, Works, is_gone, looked, acknowledged, waits, works, runs_joined, acknowledges, runs_split, reports}
 
 -- the slice has a number for each page
 abbrev pub IsSized : LiveView → Type 0
@@ -93,9 +94,41 @@ Leaves-works v after ending answer sized (runs_split split e a is) = subst (Leav
 Leaves-works v after ending answer sized (reports s split e a merges is) =
     subst (Leaves v) (sym is) (Leaves-merged v s sized merges)
 
-pub Leaves-moves : (v after : LiveView) (answer : TurnAnswer) → IsSized v → Moves v answer after → Leaves v after
-Leaves-moves v after answer sized (is_gone gone a is) = subst (Leaves v) (sym is) (Leaves-all v)
-Leaves-moves v after answer sized (waits sight mask can w a is) = subst (Leaves v) (sym is) (Leaves-looked v sight mask)
-Leaves-moves v after answer sized (works sight mask can w does) =
+-- to look at the phase word leaves all that, if what the look makes a seat do does
+Leaves-by : (Runs : LiveView → Bool → TurnAnswer → LiveView → Type 0)
+    → ((v after : LiveView) (ending : Bool) (answer : TurnAnswer)
+    → IsSized v
+    → Runs v ending answer after
+    → Leaves v after)
+    → (v after : LiveView) (answer : TurnAnswer)
+    → IsSized v
+    → MovesBy Runs v answer after
+    → Leaves v after
+Leaves-by Runs leaves v after answer sized (is_gone gone a is) = subst (Leaves v) (sym is) (Leaves-all v)
+Leaves-by Runs leaves v after answer sized (waits sight mask can w a is) =
+    subst (Leaves v) (sym is) (Leaves-looked v sight mask)
+Leaves-by Runs leaves v after answer sized (works sight mask can w does) =
     Leaves-both v (looked v sight mask) after (Leaves-looked v sight mask)
-    (Leaves-works (looked v sight mask) after sight.ending answer sized does)
+    (leaves (looked v sight mask) after sight.ending answer sized does)
+
+pub Leaves-moves : (v after : LiveView) (answer : TurnAnswer) → IsSized v → Moves v answer after → Leaves v after
+Leaves-moves = Leaves-by Works Leaves-works
+
+Leaves-retired : (v : LiveView) → Leaves v (retired_seat v)
+Leaves-retired v = record {
+  same = record { board = refl; worker = refl; marks = refl; share = refl };
+  tallies = λ page. refl;
+  last = refl;
+  sized = refl;
+}
+
+Leaves-retire_works : (v after : LiveView) (ending : Bool) (answer : TurnAnswer)
+    → IsSized v
+    → RetireWorks v ending answer after
+    → Leaves v after
+Leaves-retire_works v after ending answer sized (retires now joined a found is) =
+    subst (Leaves v) (sym is) (Leaves-both v now (retired_seat now) (Leaves-found v now found) (Leaves-retired now))
+Leaves-retire_works v after ending answer sized (stays split does) = Leaves-works v after ending answer sized does
+
+pub Leaves-retires : (v after : LiveView) (answer : TurnAnswer) → IsSized v → RetireCase v answer after → Leaves v after
+Leaves-retires = Leaves-by RetireWorks Leaves-retire_works

@@ -18,10 +18,11 @@ use Rattle.like_live.specs.declared.asked.Asked.{Asked}
 use Rattle.like_live.specs.declared.asked.Found.{Found}
 use Rattle.like_live.specs.LiveView.{KeepsTallies, LiveView, tally, waiting, with_seat}
 use Rattle.like_live.specs.Moves as moves
-use Rattle.like_live.specs.Moves.{FindsAll, Moves, Works, looked}
-use Rattle.like_live.specs.Calls.{verdict_at}
+use Rattle.like_live.specs.Moves.{FindsAll, Moves, MovesBy, Works, looked}
+use Rattle.like_live.specs.Calls as calls
+use Rattle.like_live.specs.Calls.{RetireCase, RetireWorks, verdict_at}
 use Rattle.like_live.specs.History.{Told, ask_of, ask_taken, ask_told, ask_waiting, asks_left, like_told, page_liked}
-use Rattle.like_live.proofs.Moving.{IsSized, Leaves-moves}
+use Rattle.like_live.proofs.Moving.{IsSized, Leaves, Leaves-moves, Leaves-retires}
 
 -- a seat with a number for each page and an entry for each user, at which nothing waits once it is gone
 pub record IsWhole (v : LiveView) : Type 0 where
@@ -108,12 +109,12 @@ empty-works v after ending answer (moves.runs_split split e a is) =
 empty-works v after ending answer (moves.reports s split e a merges is) =
     subst IsEmpty (sym is) (λ gone. absurd (cc (sym (ap (λ (t : SeatView Asked). t.post.state) merges.1.1) ∙ gone)))
 
-empty-moves : (v after : LiveView) (answer : TurnAnswer) → IsEmpty v → Moves v answer after → IsEmpty after
-empty-moves v after answer empty (moves.is_gone gone a is) = subst IsEmpty (sym is) empty
-empty-moves v after answer empty (moves.waits sight mask can w a is) =
-    subst IsEmpty (sym is) (λ gone. absurd (seen-there v.seat.post.limits v.seat.post.state sight can gone))
-empty-moves v after answer empty (moves.works sight mask can w does) =
-    empty-works (looked v sight mask) after sight.ending answer does
+empty-retire_works : (v after : LiveView) (ending : Bool) (answer : TurnAnswer)
+    → RetireWorks v ending answer after
+    → IsEmpty after
+empty-retire_works v after ending answer (calls.retires now joined a found is) =
+    λ gone. ap waiting is ∙ ap waiting found.rest
+empty-retire_works v after ending answer (calls.stays split does) = empty-works v after ending answer does
 
 -- a found look is the one that waited
 asks-found : (fs : List Found) → map ask_of fs ≡ map ask_waiting (map (λ f. f.asked) fs)
@@ -141,27 +142,77 @@ works-asks v after ending answer (moves.reports s split e a merges is) =
     ∙ merged-asks v s
     (ap (λ (t : SeatView Asked). t.held) merges.1.1 ∙ ap (λ (t : SeatView Asked). t.held) merges.1.0.1.1)
 
-moves-asks : (v after : LiveView) (answer : TurnAnswer) → Moves v answer after → asks_left after ≡ asks_left v
-moves-asks v after answer (moves.is_gone gone a is) = ap asks_left is
-moves-asks v after answer (moves.waits sight mask can w a is) = ap asks_left is
-moves-asks v after answer (moves.works sight mask can w does) =
-    works-asks (looked v sight mask) after sight.ending answer does
+retire_works-asks : (v after : LiveView) (ending : Bool) (answer : TurnAnswer)
+    → RetireWorks v ending answer after
+    → asks_left after ≡ asks_left v
+retire_works-asks v after ending answer (calls.retires now joined a found is) =
+    ap asks_left is ∙ finds-asks v now found
+retire_works-asks v after ending answer (calls.stays split does) = works-asks v after ending answer does
+
+-- what a look at the phase word makes a seat do leaves nothing waiting at a seat that is gone, and each look that was
+-- asked
+record IsFaithful (Runs : LiveView → Bool → TurnAnswer → LiveView → Type 0) : Type 0 where
+  empty : (v after : LiveView) (ending : Bool) (answer : TurnAnswer) → Runs v ending answer after → IsEmpty after
+  asks : (v after : LiveView) (ending : Bool) (answer : TurnAnswer)
+      → Runs v ending answer after
+      → asks_left after ≡ asks_left v
+
+empty-by : (Runs : LiveView → Bool → TurnAnswer → LiveView → Type 0)
+    → IsFaithful Runs
+    → (v after : LiveView) (answer : TurnAnswer)
+    → IsEmpty v
+    → MovesBy Runs v answer after
+    → IsEmpty after
+empty-by Runs does v after answer empty (moves.is_gone gone a is) = subst IsEmpty (sym is) empty
+empty-by Runs does v after answer empty (moves.waits sight mask can w a is) =
+    subst IsEmpty (sym is) (λ gone. absurd (seen-there v.seat.post.limits v.seat.post.state sight can gone))
+empty-by Runs does v after answer empty (moves.works sight mask can w work) =
+    does.empty (looked v sight mask) after sight.ending answer work
+
+asks-by : (Runs : LiveView → Bool → TurnAnswer → LiveView → Type 0)
+    → IsFaithful Runs
+    → (v after : LiveView) (answer : TurnAnswer)
+    → MovesBy Runs v answer after
+    → asks_left after ≡ asks_left v
+asks-by Runs does v after answer (moves.is_gone gone a is) = ap asks_left is
+asks-by Runs does v after answer (moves.waits sight mask can w a is) = ap asks_left is
+asks-by Runs does v after answer (moves.works sight mask can w work) =
+    does.asks (looked v sight mask) after sight.ending answer work
+
+-- what leaves all that, and each tally and last like, is quiet
+IsQuiet-by : (Runs : LiveView → Bool → TurnAnswer → LiveView → Type 0)
+    → IsFaithful Runs
+    → (v after : LiveView) (answer : TurnAnswer)
+    → IsWhole v
+    → Leaves v after
+    → MovesBy Runs v answer after
+    → IsQuiet v after
+IsQuiet-by Runs does v after answer whole l m = record {
+  whole = record {
+    sized = l.sized ∙ whole.sized ∙ ap length (sym l.same.marks);
+    table = ap (λ (t : UserTable). length t.last) l.last ∙ whole.table
+        ∙ ap (λ (t : UserTable). t.share.users) (sym l.last);
+    empty = empty-by Runs does v after answer whole.empty m;
+  };
+  tallies = l.tallies;
+  last = l.last;
+  asks = asks-by Runs does v after answer m;
+}
 
 -- phase work is quiet
 pub IsQuiet-moves : (v after : LiveView) (answer : TurnAnswer) → IsWhole v → Moves v answer after → IsQuiet v after
 IsQuiet-moves v after answer whole m =
-    let l = Leaves-moves v after answer whole.sized m in
-    record {
-      whole = record {
-        sized = l.sized ∙ whole.sized ∙ ap length (sym l.same.marks);
-        table = ap (λ (t : UserTable). length t.last) l.last ∙ whole.table
-            ∙ ap (λ (t : UserTable). t.share.users) (sym l.last);
-        empty = empty-moves v after answer whole.empty m;
-      };
-      tallies = l.tallies;
-      last = l.last;
-      asks = moves-asks v after answer m;
-    }
+    IsQuiet-by Works (record { empty = empty-works; asks = works-asks }) v after answer whole
+    (Leaves-moves v after answer whole.sized m) m
+
+-- so is a retirement
+pub IsQuiet-retires : (v after : LiveView) (answer : TurnAnswer)
+    → IsWhole v
+    → RetireCase v answer after
+    → IsQuiet v after
+IsQuiet-retires v after answer whole m =
+    IsQuiet-by RetireWorks (record { empty = empty-retire_works; asks = retire_works-asks }) v after answer whole
+    (Leaves-retires v after answer whole.sized m) m
 
 -- the user of a request that is accepted has an entry
 first_test : (a : Bool) (rest : Verdict) → cond (not a) UnknownUser rest ≡ Accepted → a ≡ true

@@ -1,5 +1,5 @@
 -- The calls of a live seat, case by case.
-use Rattle.std.specs.Prelude.{◌≡◌, ◌≢◌, ℕ, ◌+◌, ◌<◌, ◌==◌, nat_lt, if◌then◌else◌, true, false, [], drop, length, slice_get, Option}
+use Rattle.std.specs.Prelude.{◌≡◌, ◌≢◌, ℕ, ◌+◌, ◌<◌, ◌==◌, nat_lt, if◌then◌else◌, Bool, true, false, drop, length, slice_get, Option}
 use Rattle.like_core.specs.Post.{pages_of, retired, slices}
 use Rattle.like_core.specs.WorkerState.{RunsJoined, RunsSplit}
 use Rattle.like_requests.specs.declared.request.Op.TheVariants.{Look}
@@ -23,7 +23,7 @@ use Rattle.like_live.specs.declared.answer.TurnAnswer.TheVariants as turn
 use Rattle.like_live.specs.declared.asked.Asked.{Asked}
 use Rattle.like_live.specs.declared.asked.Found.{Found}
 use Rattle.like_live.specs.LiveView.{LiveView, room_of, tally, waiting, with_seat}
-use Rattle.like_live.specs.Moves.{Moves}
+use Rattle.like_live.specs.Moves.{FindsAll, Moves, MovesBy, Works}
 
 -- a page by its number, if there are so many pages
 abbrev pub page_ref : ℕ → ℕ → PageRef
@@ -107,18 +107,16 @@ pub data GlanceCase (v : LiveView) (user page : ℕ) (answer : GlanceAnswer) (af
 abbrev pub retired_seat : LiveView → LiveView
 retired_seat v = record v { seat = record v.seat { post = retired v.seat.post } }
 
--- what retiring does to a seat that runs a phase: in a joined phase, in which nothing waits, the seat is gone
-pub data RetiresNow (v : LiveView) (answer : TurnAnswer) (after : LiveView) : Type 0 where
-  retires : RunsJoined v.seat.post.state → waiting v ≡ []
-      → answer ≡ turn.Gone → after ≡ retired_seat v → RetiresNow v answer after
-  runs : RunsSplit v.seat.post.state → answer ≡ turn.Runs → after ≡ v → RetiresNow v answer after
+-- what a seat that is to retire does after its look, if it runs a phase. In a joined phase, ending or not, it finds all
+-- looks that wait, and is gone. In a split phase it does what a turn does
+pub data RetireWorks (v : LiveView) (ending : Bool) (answer : TurnAnswer) (after : LiveView) : Type 0 where
+  retires : (now : LiveView) → RunsJoined v.seat.post.state → answer ≡ turn.Gone
+      → FindsAll v now → after ≡ retired_seat now → RetireWorks v ending answer after
+  stays : RunsSplit v.seat.post.state → Works v ending answer after → RetireWorks v ending answer after
 
--- retire case: the answer, and the seat after; the phase work comes first, and if the seat runs no phase after it, this
--- is a turn
-pub data RetireCase (v : LiveView) (answer : TurnAnswer) (after : LiveView) : Type 0 where
-  turns : answer ≢ turn.Runs → Moves v answer after → RetireCase v answer after
-  runs : (now : LiveView) → Moves v turn.Runs now → RetiresNow now answer after
-      → RetireCase v answer after
+-- retire case: the answer, and the seat after
+abbrev pub RetireCase : LiveView → TurnAnswer → LiveView → Type 0
+RetireCase = MovesBy RetireWorks
 
 -- the first of the found looks is taken, if there is one
 abbrev pub TakesFound : LiveView → Option Found → LiveView → Type 0

@@ -72,11 +72,17 @@ pub data Works (v : LiveView) (ending : Bool) (answer : TurnAnswer) (after : Liv
 abbrev pub CanSee : LiveView → Sight → Type 0
 CanSee v sight = IsSightWithin v.seat.post.limits v.seat.post.state sight
 
--- the phase work of a seat: it is gone; or it has answered a phase and waits, since the next is not released yet; or it
--- runs the phase that it looked at, which it enters by that look if it is the next one
-pub data Moves (v : LiveView) (answer : TurnAnswer) (after : LiveView) : Type 0 where
-  is_gone : v.seat.post.state ≡ Gone → answer ≡ turn.Gone → after ≡ v → Moves v answer after
+-- a seat looks at the phase word, and acts on it: it is gone, and does not look; or it has answered a phase and waits,
+-- since the next is not released yet; or it runs the phase that it looked at, which it enters by that look if it is the
+-- next one, and then does this
+pub data MovesBy (Runs : LiveView → Bool → TurnAnswer → LiveView → Type 0) (v : LiveView) (answer : TurnAnswer)
+    (after : LiveView) : Type 0 where
+  is_gone : v.seat.post.state ≡ Gone → answer ≡ turn.Gone → after ≡ v → MovesBy Runs v answer after
   waits : (sight : Sight) (mask : ℕ) → CanSee v sight → sight.waits ≡ true
-      → answer ≡ turn.Between → after ≡ looked v sight mask → Moves v answer after
+      → answer ≡ turn.Between → after ≡ looked v sight mask → MovesBy Runs v answer after
   works : (sight : Sight) (mask : ℕ) → CanSee v sight → sight.waits ≡ false
-      → Works (looked v sight mask) sight.ending answer after → Moves v answer after
+      → Runs (looked v sight mask) sight.ending answer after → MovesBy Runs v answer after
+
+-- the phase work of a seat
+abbrev pub Moves : LiveView → TurnAnswer → LiveView → Type 0
+Moves = MovesBy Works

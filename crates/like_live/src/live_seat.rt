@@ -19,6 +19,7 @@ use crate::hint::Hint;
 use like_core::Post;
 use like_seat::Seat;
 use like_tables::{Stash, Users};
+use moves::work_or_retire;
 pub use requests::MAX_LIKES;
 use std::alloc::{AllocError, Global};
 use std::marker::Model;
@@ -152,8 +153,8 @@ impl<P: Post> LiveSeat<P> {
         }
     }
 
-    /// Retires, if the seat runs a joined phase and nothing waits; otherwise this is a turn. Found looks can still be
-    /// taken.
+    /// Retires, if the seat runs a joined phase, ending or not. What waited is found first. Otherwise this is a turn.
+    /// Found looks can still be taken.
     pub fn retire(&mut self) -> TurnAnswer
         ensures case { RetireCase self.old result self.new }
         ensures keeps { IsLive self.new }
@@ -161,10 +162,14 @@ impl<P: Post> LiveSeat<P> {
         ensures tallies { KeepsTallies self.old self.new }
         ensures last { self.new.seat.last ≡ self.old.seat.last }
     {
-        match self.turn() {
-            TurnAnswer::Runs => self.retire_now(),
-            other => other,
+        if self.seat.is_gone() {
+            return TurnAnswer::Gone;
         }
+        let sight = self.seat.look();
+        if sight.waits {
+            return TurnAnswer::Between;
+        }
+        work_or_retire(&mut self.seat, &mut self.found, sight.ending)
     }
 
     /// Gives and takes out the first of the found looks, if there is one. It makes no look at the phase word.

@@ -230,6 +230,25 @@ const SCENES: &[Scene] = &[
             ],
         ],
     },
+    // Seat 0 makes no call in phase 2 before that is ending.
+    Scene {
+        name: "live_retire",
+        seats: 2,
+        room: 1,
+        parts: &[
+            CHANGE,
+            &[asks!(0, 7, Waits)],
+            CHANGE,
+            &[
+                drive!(true, Announced),
+                retire!(0),
+                found!(7, None, 10),
+                Step::Seat(0, OnSeat::TakeFound(None)),
+                turn!(1, Between),
+                drive!(true, Released),
+            ],
+        ],
+    },
     Scene {
         name: "live_batch",
         seats: 2,

@@ -4,6 +4,7 @@ ghost use Rattle.like_seat.specs.SeatView.{IsSeat};
 ghost use Rattle.like_live.specs.LiveView.{IsLive, RanNext, live_of};
 ghost use Rattle.like_live.specs.Kept.{HasLooked};
 ghost use Rattle.like_live.specs.Moves.{FindsAll, Moves, Works};
+ghost use Rattle.like_live.specs.Calls.{RetireWorks};
 
 use crate::answer::TurnAnswer;
 use crate::asked::{Asked, Found};
@@ -30,6 +31,26 @@ impl<P: Post> LiveSeat<P> {
         }
         work(&mut self.seat, &mut self.found, sight.ending)
     }
+}
+
+// The phase work of a seat that runs a phase and is to retire: in a joined phase it does.
+pub(crate) fn work_or_retire<P: Post>(
+    seat: &mut Seat<P, Asked>,
+    found: &mut Stash<Found>,
+    ending: bool,
+) -> TurnAnswer
+    requires looked { HasLooked seat.old found.old }
+    requires ending { ending ≡ true → SawEnding seat.old.post.last }
+    ensures works { RetireWorks (live_of seat.old found.old) ending result (live_of seat.new found.new) }
+    ensures live { IsLive (live_of seat.new found.new) }
+    ensures capacity { found.new.capacity ≡ found.old.capacity }
+{
+    if seat.phase() % 2 == 1 {
+        return work(seat, found, ending);
+    }
+    find_all(seat, found);
+    seat.retire();
+    TurnAnswer::Gone
 }
 
 // The phase work of a seat that runs a phase.

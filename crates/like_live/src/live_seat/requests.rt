@@ -5,9 +5,9 @@ ghost use Rattle.like_seat.specs.SeatView.{phase_at};
 ghost use Rattle.like_seat.specs.Steps.{holding};
 ghost use Rattle.like_tables.specs.Share.{owns};
 ghost use Rattle.like_live.specs.LiveView.{IsLive, IsOwn, room_of, waiting, with_seat};
-ghost use Rattle.like_live.specs.Calls.{GlancesNow, LikesNow, LooksNow, RetiresNow, verdict_at};
+ghost use Rattle.like_live.specs.Calls.{GlancesNow, LikesNow, LooksNow, verdict_at};
 
-use crate::answer::{GlanceAnswer, LikeAnswer, LookAnswer, TurnAnswer};
+use crate::answer::{GlanceAnswer, LikeAnswer, LookAnswer};
 use crate::asked::Asked;
 use crate::live_seat::LiveSeat;
 use like_core::Post;
@@ -129,18 +129,5 @@ impl<P: Post> LiveSeat<P> {
             return GlanceAnswer::Seen(self.seat.glance(user, page));
         }
         GlanceAnswer::Seen(self.seat.read_for(user, page))
-    }
-
-    // Retires, of a seat that runs a phase, where that is joined.
-    pub(crate) fn retire_now(&mut self) -> TurnAnswer
-        requires { IsRunning self.old.seat.post.state }
-        ensures case { RetiresNow self.old result self.new }
-        ensures keeps { IsLive self.new }
-    {
-        if self.seat.phase() % 2 == 1 {
-            return TurnAnswer::Runs;
-        }
-        self.seat.retire();
-        TurnAnswer::Gone
     }
 }

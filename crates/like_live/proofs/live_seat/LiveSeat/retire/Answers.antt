@@ -1,14 +1,29 @@
-use Rattle.like_live.specs.Calls.{runs, turns}
+use Rattle.std.proofs.Common.{refl, subst}
+use Rattle.like_live.specs.declared.answer.TurnAnswer.TheVariants.{Between}
+use Rattle.like_live.specs.LiveView.{LiveView, live_of}
+use Rattle.like_live.specs.Moves.{waits, works}
+use Rattle.like_live.specs.Calls.{RetireCase, RetireWorks}
+use Rattle.like_live.proofs.Moving.{IsSized, Leaves-retires}
 use Rattle.like_live.proofs.live_seat.LiveSeat.retire.Goals as goal
 
-pub returns-in-Runs-clause-case : goal.returns-in-Runs-clause-case
-returns-in-Runs-clause-case g c = runs c.turn.new.self c.in-Runs.ensures.case c.retire_now.ensures.case
+pub returns-then-sight-clause-case : goal.returns-then-sight-clause-case
+returns-then-sight-clause-case g c =
+    subst (λ (v : LiveView). RetireCase v Between (live_of c.look-sight.new.self c.self.inside.found)) c.self.view_is
+    (waits c.look-sight.result c.look-sight.ensures.looks.0 c.look-sight.ensures.sight c.if-sight.true refl
+    (λ m. live_of (c.look-sight.ensures.looks.1 m) c.self.inside.found))
 
-pub returns-in_default : goal.returns-in_default
-returns-in_default g c = record {
-  case = turns c.in_default.not-Runs c.turn.ensures.case;
-  keeps = c.turn.ensures.keeps;
-  same = c.turn.ensures.same;
-  tallies = c.turn.ensures.tallies;
-  last = c.turn.ensures.last;
-}
+pub returns-clause-case : goal.returns-clause-case
+returns-clause-case g c =
+    let after = live_of c.work_or_retire.new.seat c.work_or_retire.new.found in
+    let sight = c.look-sight.result in
+    let looks = c.look-sight.ensures.looks in
+    subst (λ (v : LiveView). RetireCase v c.work_or_retire.result after) c.self.view_is
+    (works sight looks.0 c.look-sight.ensures.sight c.if-sight.false
+    (subst (λ (v : LiveView). RetireWorks v sight.ending c.work_or_retire.result after)
+    (λ m. live_of (looks.1 m) c.self.inside.found) c.work_or_retire.ensures.works))
+
+pub returns-clause-tallies : goal.returns-clause-tallies
+returns-clause-tallies g c =
+    let after = live_of c.work_or_retire.new.seat c.work_or_retire.new.found in
+    (Leaves-retires c.args.self.now after c.work_or_retire.result
+    (subst IsSized c.self.view_is c.self.invariant.live.seat.sized) (returns-clause-case g c)).tallies
