@@ -36,7 +36,7 @@ pub sum-alike : {A B C : Type 0} (f : C → ℕ) (p : A → C) (q : B → C) (xs
 sum-alike f p q xs ys same = sym (sum-of-map f p xs) ∙ ap (sum_by f) same ∙ sum-of-map f q ys
 
 -- equal numbers have equal sums
-sum-equal : {A : Type 0} (f g : A → ℕ) (xs : List A) → All (λ x. f x ≡ g x) xs → sum_by f xs ≡ sum_by g xs
+pub sum-equal : {A : Type 0} (f g : A → ℕ) (xs : List A) → All (λ x. f x ≡ g x) xs → sum_by f xs ≡ sum_by g xs
 sum-equal f g [] all = refl
 sum-equal f g (x ∷ xs) all =
     sum_by-cons f x xs ∙ (λ i. all 0 x (omega arith) i + sum-equal f g xs (All-tail (λ y. f y ≡ g y) x xs all) i)

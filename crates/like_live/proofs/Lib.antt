@@ -4,6 +4,7 @@ pub mod Closing
 pub mod Finding
 pub mod Gone
 pub mod Histories
+pub mod Moments
 pub mod Moving
 pub mod Newly
 pub mod Requests

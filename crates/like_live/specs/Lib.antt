@@ -4,6 +4,7 @@ pub mod Driver
 pub mod History
 pub mod Kept
 pub mod LiveView
+pub mod Moments
 pub mod Moves
 pub mod Opening
 pub mod Service

@@ -1,5 +1,7 @@
-//! The laws of a live seat's histories. Each is the contract of a function that does nothing.
+//! The laws of a live seat's histories, and of a service's seats at a moment of their board. Each is the contract of a
+//! function that does nothing.
 ghost use Rattle.like_live.specs.History.{HistoriesAreCounted, NoneWaitsOnceGone};
+ghost use Rattle.like_live.specs.Moments.{LastCountsAreTallies, SeatsAreExclusive};
 
 /// Whatever calls a fresh seat is asked: a page's tally is the number of its likes that were told `Liked`. A user's
 /// last like is the page of the user's last one. The looks that were told `Waits` are the found looks that were taken,
@@ -12,4 +14,15 @@ pub fn histories_are_counted()
 /// taken.
 pub fn none_waits_once_gone()
     ensures { NoneWaitsOnceGone }
+{}
+
+/// While one seat of a service runs a joined phase, no seat runs a split one, and none has a like in its slice: so it is
+/// at each moment, which is between any two steps on the board.
+pub fn seats_are_exclusive()
+    ensures { SeatsAreExclusive }
+{}
+
+/// Once all seats are gone, each page's count is its first count and the tallies of all seats.
+pub fn last_counts_are_tallies()
+    ensures { LastCountsAreTallies }
 {}

@@ -1,0 +1,60 @@
+-- The seats of a service at a moment of its board, which is between any two steps: what the board's rule says of them.
+use Rattle.std.specs.Prelude.{◌≡◌, ℕ, ◌+◌, All, List, [], ◌∷◌, flat_map, map, slice_index, sum_by}
+use mathlib.Core.Option.{some}
+use lib.ListN.{get_elem?}
+use Rattle.like_core.specs.declared.opening.Opening.{Opening}
+use Rattle.like_core.specs.declared.view.View.{View}
+use Rattle.like_core.specs.declared.view.View.TheVariants.{Worker}
+use Rattle.like_core.specs.declared.view.WorkerSeatView.{WorkerSeatView}
+use Rattle.like_core.specs.core.Numbers.{AllGone}
+use Rattle.like_core.specs.core.State.{numbers}
+use Rattle.like_core.specs.Post.{PostView}
+use Rattle.like_core.specs.WorkerState.{RunsJoined, RunsSplit}
+use Rattle.like_core.specs.views.Places.{count_after}
+use Rattle.like_core.specs.views.Shows.{Moment}
+use Rattle.like_core.specs.views.Views.{post_of}
+use Rattle.like_live.specs.LiveView.{IsLive, LiveView, tally}
+
+-- a seat's post, the board aside
+abbrev pub post_in : LiveView → PostView
+post_in s = record s.seat.post { board = [] }
+
+-- a seat at a moment: its post is what the view of a worker's seat means
+pub record IsSeatAt (z : Opening) (m : Moment z) (s : LiveView) : Type 0 where
+  pub place : ℕ
+  pub view : WorkerSeatView
+  pub there : get_elem? m.views place ≡ some (Worker view)
+  pub post : post_in s ≡ post_of view
+
+-- no like is in its slice
+abbrev pub HoldsNone : LiveView → Type 0
+HoldsNone s = (page : ℕ) → slice_index s.seat.slice page ≡ 0
+
+-- exclusion: at any moment, while one seat runs a joined phase, no seat runs a split one, and none has a like in its
+-- slice
+abbrev pub SeatsAreExclusive : Type 0
+SeatsAreExclusive =
+    (z : Opening) (m : Moment z) (a b : LiveView) → IsSeatAt z m a → IsSeatAt z m b → IsLive b
+    → RunsJoined a.seat.post.state → ¬ RunsSplit b.seat.post.state × HoldsNone b
+
+-- a view, if it is that of a worker's seat
+abbrev pub worker_in : View → List WorkerSeatView
+worker_in (Worker v) = v ∷ []
+worker_in v = []
+
+-- the views of the workers' seats, in order
+abbrev pub workers_in : List View → List WorkerSeatView
+workers_in views = flat_map worker_in views
+
+-- all seats at a moment: their posts are what the views of the workers' seats mean, and no seat was given back
+pub record AreSeatsAt (z : Opening) (m : Moment z) (seats : List LiveView) : Type 0 where
+  pub posts : map post_in seats ≡ map post_of (workers_in m.views)
+  pub none_back : m.shows.coord.joined ≡ []
+
+-- last counts are tallies: at a moment at which all seats are gone, each page's count is its first count and the tallies
+-- of all seats
+abbrev pub LastCountsAreTallies : Type 0
+LastCountsAreTallies =
+    (z : Opening) (m : Moment z) (seats : List LiveView) → AreSeatsAt z m seats → All IsLive seats
+    → AllGone (numbers z m.state)
+    → (page : ℕ) → count_after z.counts m.views page ≡ slice_index z.counts page + sum_by (λ s. tally s page) seats
