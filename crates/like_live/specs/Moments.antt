@@ -51,8 +51,8 @@ pub record AreSeatsAt (z : Opening) (m : Moment z) (seats : List LiveView) : Typ
   pub posts : map post_in seats ≡ map post_of (workers_in m.views)
   pub none_back : m.shows.coord.joined ≡ []
 
--- last counts are tallies: at a moment at which all seats are gone, each page's count is its first count and the tallies
--- of all seats
+-- last counts are tallies: at a moment at which all seats are gone, each page's count is its first count and the
+-- tallies of all seats
 abbrev pub LastCountsAreTallies : Type 0
 LastCountsAreTallies =
     (z : Opening) (m : Moment z) (seats : List LiveView) → AreSeatsAt z m seats → All IsLive seats

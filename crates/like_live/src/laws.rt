@@ -16,8 +16,8 @@ pub fn none_waits_once_gone()
     ensures { NoneWaitsOnceGone }
 {}
 
-/// While one seat of a service runs a joined phase, no seat runs a split one, and none has a like in its slice: so it is
-/// at each moment, which is between any two steps on the board.
+/// While one seat of a service runs a joined phase, no seat runs a split one, and none has a like in its slice. This is
+/// so at each moment of their board, between any two steps.
 pub fn seats_are_exclusive()
     ensures { SeatsAreExclusive }
 {}
