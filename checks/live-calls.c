@@ -64,12 +64,15 @@ static void plain(void) {
     IS(answer.status, LIKES_SEEN);
     IS(answer.last, 0);
     IS(answer.count, 13);
-    IS(likes_close(&driver, last, 1), LIKES_NOT_ENDED);
+    IS(likes_last_counts(&driver, 0, last, 1), LIKES_NOT_ENDED);
     IS(likes_retire(&seat), LIKES_GONE);
     IS(likes_driver_turn(&driver, true), LIKES_ENDED);
-    IS(likes_close(&driver, last, 1), LIKES_OK);
+    IS(likes_last_counts(&driver, 0, last, 1), LIKES_OK);
     IS(last[0], 13);
+    IS(driver.is_full, true);
     likes_free_seat(&seat);
+    likes_free_driver(&driver);
+    IS(driver.is_full, false);
 }
 
 /* Two seats and two pages, the first of them marked: three phases, step by step. */
@@ -193,9 +196,9 @@ static void empty_handles(void) {
     IS(likes_retire(&seat), LIKES_EMPTY);
     IS(likes_seat_phase(&seat), 0);
     IS(likes_driver_turn(&driver, true), LIKES_EMPTY);
-    IS(likes_snapshot(&driver, counts, 1), LIKES_EMPTY);
+    IS(likes_snapshot(&driver, 0, counts, 1), LIKES_EMPTY);
     IS(likes_phase(&driver), 0);
-    IS(likes_close(&driver, counts, 1), LIKES_EMPTY);
+    IS(likes_last_counts(&driver, 0, counts, 1), LIKES_EMPTY);
     likes_free_seat(&seat);
     likes_free_driver(&driver);
     opened it = open_service((likes_options){.seats = 1, .users = 1, .room = 1, .hot = 0}, counts, 1, NULL);
@@ -287,7 +290,7 @@ static void after_gone(void) {
     IS(found.count, 10);
     IS(likes_take_found(&it.seats[0], &found), false);
     /* The other seat goes on alone. */
-    IS(likes_close(&it.driver, last, 2), LIKES_NOT_ENDED);
+    IS(likes_last_counts(&it.driver, 0, last, 2), LIKES_NOT_ENDED);
     IS(likes_driver_turn(&it.driver, true), LIKES_ANNOUNCED);
     IS(likes_driver_turn(&it.driver, true), LIKES_WAITING);
     IS(likes_turn(&it.seats[1]), LIKES_BETWEEN);
@@ -298,32 +301,174 @@ static void after_gone(void) {
     IS(likes_driver_turn(&it.driver, true), LIKES_RELEASED);
     IS(likes_retire(&it.seats[1]), LIKES_GONE);
     IS(likes_driver_turn(&it.driver, true), LIKES_ENDED);
-    IS(likes_close(&it.driver, last, 1), LIKES_WRONG_LENGTH);
-    IS(likes_close(&it.driver, last, 2), LIKES_OK);
+    IS(likes_last_counts(&it.driver, 0, last, 2), LIKES_OK);
     IS(last[0], 11);
     IS(last[1], 20);
-    IS(it.driver.is_full, false);
+    free_service(&it);
+}
+
+/* A page whose entry in a row of counts was not written. */
+#define UNWRITTEN UINT64_C(0xa5a5a5a5a5a5a5a5)
+
+static void clear(uint64_t *counts, size_t pages) {
+    for (size_t page = 0; page < pages; page++)
+        counts[page] = UNWRITTEN;
+}
+
+/* Ranges of a service with four pages: those that go past the last page are refused by both calls that have one. */
+static void wrong_ranges(likes_driver *driver) {
+    static const struct {
+        uint32_t from;
+        size_t length;
+    } ranges[] = {{0, 5}, {1, 4}, {3, 2}, {4, 1}, {5, 1}, {1u << 31, 4}, {UINT32_MAX - 1, 4}, {UINT32_MAX, 1},
+                  {UINT32_MAX, 5}};
+    uint64_t counts[5];
+    clear(counts, 5);
+    for (size_t n = 0; n < sizeof ranges / sizeof *ranges; n++) {
+        IS(likes_snapshot(driver, ranges[n].from, counts, ranges[n].length), LIKES_WRONG_LENGTH);
+        IS(likes_last_counts(driver, ranges[n].from, counts, ranges[n].length), LIKES_WRONG_LENGTH);
+    }
+    for (size_t page = 0; page < 5; page++)
+        IS(counts[page], UNWRITTEN);
+}
+
+/* Last counts by ranges, as often as one likes, and what the driver answers from then on. */
+static void last_counts(void) {
+    const uint64_t counts[] = {10, 20, 30, 40};
+    const bool marks[] = {true, false, false, true};
+    uint64_t whole[4], parts[4], again[4];
+    likes_seat extra = {0};
+    opened it = open_service((likes_options){.seats = 2, .users = 2, .room = 2, .hot = 0}, counts, 4, marks);
+    change_phase(&it, 2);
+    change_phase(&it, 2);
+    for (uint32_t page = 0; page < 4; page++)
+        for (uint32_t i = 0; i <= page; i++)
+            IS(likes_like(&it.seats[i % 2], i % 2, page), LIKES_LIKED);
+    wrong_ranges(&it.driver);
+    IS(likes_retire(&it.seats[0]), LIKES_GONE);
+    clear(whole, 4);
+    IS(likes_last_counts(&it.driver, 0, whole, 4), LIKES_NOT_ENDED);
+    IS(likes_last_counts(&it.driver, 4, whole, 0), LIKES_NOT_ENDED);
+    IS(whole[0], UNWRITTEN);
+    IS(likes_retire(&it.seats[1]), LIKES_GONE);
+    wrong_ranges(&it.driver);
+    IS(likes_phase(&it.driver), 2);
+    IS(likes_last_counts(&it.driver, 0, whole, 4), LIKES_OK);
+    clear(parts, 4);
+    IS(likes_last_counts(&it.driver, 1, parts + 1, 3), LIKES_OK);
+    IS(parts[0], UNWRITTEN);
+    IS(likes_last_counts(&it.driver, 0, parts, 1), LIKES_OK);
+    clear(again, 4);
+    IS(likes_last_counts(&it.driver, 2, again, 0), LIKES_OK);
+    IS(likes_last_counts(&it.driver, 4, again, 0), LIKES_OK);
+    IS(again[0], UNWRITTEN);
+    for (int times = 0; times < 3; times++) {
+        IS(likes_driver_turn(&it.driver, times < 2), LIKES_ENDED);
+        IS(likes_phase(&it.driver), 2);
+        IS(likes_snapshot(&it.driver, 0, again, 4), LIKES_WAITING);
+        IS(likes_take_seat(&it.driver, &extra), LIKES_NO_SEAT);
+        for (uint32_t i = 0; i < 2; i++)
+            IS(likes_like(&it.seats[i], i, 0), LIKES_GONE);
+    }
+    IS(again[0], UNWRITTEN);
+    wrong_ranges(&it.driver);
+    IS(likes_last_counts(&it.driver, 0, again, 4), LIKES_OK);
+    for (uint32_t page = 0; page < 4; page++) {
+        IS(whole[page], counts[page] + page + 1);
+        IS(parts[page], whole[page]);
+        IS(again[page], whole[page]);
+    }
+    IS(it.driver.is_full, true);
+    free_service(&it);
+}
+
+/* Seats leave in a joined phase that is ending, by their first call in it. The driver then releases a split phase in
+ * which nobody is left: there are no last counts before turns have led to the next joined one. */
+static void all_gone_in_split(void) {
+    const uint64_t counts[] = {10, 20};
+    const bool marks[] = {true, false};
+    uint64_t last[2];
+    likes_answer answer;
+    likes_found found;
+    opened it = open_service((likes_options){.seats = 2, .users = 2, .room = 2, .hot = 0}, counts, 2, marks);
+    change_phase(&it, 2);
+    for (uint32_t i = 0; i < 2; i++) {
+        IS(likes_like(&it.seats[i], i, 0), LIKES_LIKED);
+        IS(likes_look(&it.seats[i], i, 0, 5 + i, &answer), LIKES_WAITS);
+    }
+    change_phase(&it, 2);
+    IS(likes_driver_turn(&it.driver, true), LIKES_ANNOUNCED);
+    IS(likes_retire(&it.seats[0]), LIKES_GONE);
+    IS(likes_take_found(&it.seats[0], &found), true);
+    IS(found.tag, 5);
+    IS(found.count, 12);
+    IS(found.ran, 2);
+    IS(likes_driver_turn(&it.driver, true), LIKES_WAITING);
+    IS(likes_retire(&it.seats[1]), LIKES_GONE);
+    IS(likes_take_found(&it.seats[1], &found), true);
+    IS(found.tag, 6);
+    IS(found.count, 12);
+    IS(likes_driver_turn(&it.driver, true), LIKES_RELEASED);
+    IS(likes_phase(&it.driver), 3);
+    clear(last, 2);
+    IS(likes_last_counts(&it.driver, 0, last, 2), LIKES_NOT_ENDED);
+    IS(likes_driver_turn(&it.driver, true), LIKES_ANNOUNCED);
+    IS(likes_last_counts(&it.driver, 0, last, 2), LIKES_NOT_ENDED);
+    IS(last[0], UNWRITTEN);
+    IS(likes_driver_turn(&it.driver, true), LIKES_RELEASED);
+    IS(likes_driver_turn(&it.driver, true), LIKES_ENDED);
+    IS(likes_phase(&it.driver), 4);
+    IS(likes_last_counts(&it.driver, 0, last, 2), LIKES_OK);
+    IS(last[0], 12);
+    IS(last[1], 20);
+    free_service(&it);
+}
+
+/* Seats leave in a joined phase that is ending, and the last counts are those of that phase. */
+static void last_of_ending(void) {
+    const uint64_t counts[] = {10};
+    const bool marks[] = {true};
+    uint64_t now[1], last[1];
+    opened it = open_service((likes_options){.seats = 1, .users = 1, .room = 1, .hot = 0}, counts, 1, marks);
+    IS(likes_like(&it.seats[0], 0, 0), LIKES_LIKED);
+    IS(likes_driver_turn(&it.driver, true), LIKES_ANNOUNCED);
+    IS(likes_retire(&it.seats[0]), LIKES_GONE);
+    IS(likes_snapshot(&it.driver, 0, now, 1), LIKES_COUNTED);
+    IS(likes_last_counts(&it.driver, 0, last, 1), LIKES_OK);
+    IS(now[0], 11);
+    IS(last[0], 11);
+    IS(likes_snapshot(&it.driver, 0, now, 1), LIKES_WAITING);
+    IS(likes_driver_turn(&it.driver, true), LIKES_ENDED);
+    IS(likes_phase(&it.driver), 0);
     free_service(&it);
 }
 
 /* A driver's answers, with hot pages, and counts of one moment. */
 static void driving(void) {
     const uint64_t counts[] = {5, 5};
-    uint64_t now[2] = {0};
+    uint64_t now[3] = {0};
     likes_answer answer;
     opened it = open_service((likes_options){.seats = 1, .users = 1, .room = 2, .hot = 3}, counts, 2, NULL);
     likes_seat *seat = &it.seats[0];
     IS(likes_driver_turn(&it.driver, false), LIKES_RUNNING);
-    IS(likes_snapshot(&it.driver, now, 1), LIKES_WRONG_LENGTH);
-    IS(likes_snapshot(&it.driver, now, 3), LIKES_WRONG_LENGTH);
-    IS(likes_snapshot(&it.driver, now, 2), LIKES_WAITING);
+    IS(likes_snapshot(&it.driver, 0, now, 3), LIKES_WRONG_LENGTH);
+    IS(likes_snapshot(&it.driver, 0, now, 2), LIKES_WAITING);
     for (int i = 0; i < 3; i++)
         IS(likes_like(seat, 0, 1), LIKES_LIKED);
     IS(likes_like(seat, 0, 0), LIKES_LIKED);
     IS(likes_driver_turn(&it.driver, true), LIKES_ANNOUNCED);
-    IS(likes_snapshot(&it.driver, now, 2), LIKES_WAITING);
+    IS(likes_snapshot(&it.driver, 0, now, 2), LIKES_WAITING);
     IS(likes_turn(seat), LIKES_BETWEEN);
-    IS(likes_snapshot(&it.driver, now, 2), LIKES_COUNTED);
+    IS(likes_snapshot(&it.driver, 1, now + 1, 1), LIKES_COUNTED);
+    IS(now[0], 0);
+    IS(now[1], 8);
+    IS(likes_like(seat, 0, 0), LIKES_BETWEEN);
+    IS(likes_snapshot(&it.driver, 2, now, 0), LIKES_COUNTED);
+    IS(now[0], 0);
+    IS(likes_snapshot(&it.driver, 0, now, 1), LIKES_COUNTED);
+    IS(now[0], 6);
+    now[1] = 0;
+    IS(likes_snapshot(&it.driver, 0, now, 2), LIKES_COUNTED);
     IS(likes_phase(&it.driver), 0);
     IS(now[0], 6);
     IS(now[1], 8);
@@ -336,7 +481,7 @@ static void driving(void) {
     IS(likes_driver_turn(&it.driver, false), LIKES_ANNOUNCED);
     IS(likes_driver_turn(&it.driver, false), LIKES_WAITING);
     IS(likes_turn(seat), LIKES_BETWEEN);
-    IS(likes_snapshot(&it.driver, now, 2), LIKES_WAITING);
+    IS(likes_snapshot(&it.driver, 0, now, 2), LIKES_WAITING);
     IS(likes_driver_turn(&it.driver, false), LIKES_RELEASED);
     IS(likes_driver_turn(&it.driver, false), LIKES_RUNNING);
     free_service(&it);
@@ -398,6 +543,9 @@ int main(int count, char **words) {
     wrong_numbers();
     rows();
     after_gone();
+    last_counts();
+    all_gone_in_split();
+    last_of_ending();
     driving();
     early_end();
     if (count > 1)

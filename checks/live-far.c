@@ -82,9 +82,11 @@ int main(void) {
         two_phases();
     hold(likes_retire(&seat) == LIKES_GONE, "the seat did not retire");
     hold(likes_driver_turn(&driver, true) == LIKES_ENDED, "the service did not end");
-    hold(likes_close(&driver, totals, 2) == LIKES_OK, "the service was not closed");
+    hold(likes_last_counts(&driver, 0, totals, 2) == LIKES_OK, "there are no last counts");
     hold(totals[0] == 10 + liked[0] && totals[1] == 20 + liked[1], "a total is wrong");
+    hold(likes_driver_turn(&driver, true) == LIKES_ENDED && likes_phase(&driver) == phase, "the service went on");
     likes_free_seat(&seat);
+    likes_free_driver(&driver);
     printf("%" PRIu64 " phases, %" PRIu64 " likes\n", phase, liked[0] + liked[1]);
     return 0;
 }

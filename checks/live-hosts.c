@@ -37,6 +37,9 @@ typedef struct {
 
 enum { MOMENTS = 64 };
 
+/* A call that writes the counts of a range of pages: likes_snapshot or likes_last_counts. */
+typedef uint32_t ranged(likes_driver *driver, uint32_t from, uint64_t *counts, size_t counts_len);
+
 /* A round: its numbers, its seats behind locks, and what they have done. */
 typedef struct {
     uint64_t seed;
@@ -235,6 +238,17 @@ static void *play(void *at) {
     return NULL;
 }
 
+/* Has all pages' counts written by one call, or by two calls whose ranges meet at a random page. Whether they were:
+ * where the first range was written, the second is too. */
+static bool has_counts(game *it, uint64_t *random, ranged *call, uint64_t *counts, uint32_t written) {
+    size_t first = below(random, 2) == 0 ? it->pages : below(random, it->pages + 1);
+    if (call(&it->driver, 0, counts, first) != written)
+        return false;
+    if (first < it->pages && call(&it->driver, (uint32_t)first, counts + first, it->pages - first) != written)
+        fail(it, "the counts of %zu pages were written, and not those of the others", first);
+    return true;
+}
+
 /* Changes phases after random times, and makes the turns of seats whose lock is free, until all seats are gone. */
 static void drive(game *it) {
     uint64_t random = it->seed * 37;
@@ -244,11 +258,11 @@ static void drive(game *it) {
         if (it->taken < MOMENTS && below(&random, 4) == 0) {
             moment *next = &it->moments[it->taken];
             next->phase = likes_phase(&it->driver);
-            it->taken += likes_snapshot(&it->driver, next->counts, it->pages) == LIKES_COUNTED;
+            it->taken += has_counts(it, &random, likes_snapshot, next->counts, LIKES_COUNTED);
         }
         uint32_t status = likes_driver_turn(&it->driver, now >= due);
         if (status == LIKES_ENDED)
-            return;
+            break;
         if (status == LIKES_RELEASED)
             due = now + (below(&random, 3) == 0 ? 0 : below(&random, 1000 * (uint64_t)it->longest + 1));
         for (uint32_t i = 0; i < it->options.seats; i++) {
@@ -260,6 +274,9 @@ static void drive(game *it) {
         }
         sched_yield();
     }
+    /* Where all seats have left a split phase, the next joined one comes by turns that may end it. */
+    while (likes_driver_turn(&it->driver, true) != LIKES_ENDED)
+        continue;
 }
 
 /* The likes of each page up to the end of each phase: of all seats, and of each seat. */
@@ -376,9 +393,10 @@ static void check_seen(const game *it, tally *of, uint32_t number) {
 
 static void check(game *it) {
     tally of = counted(it);
-    uint64_t end = of.phases - 1;
-    if (likes_close(&it->driver, it->last, it->pages) != LIKES_OK)
-        fail(it, "the service was not closed");
+    uint64_t end = of.phases - 1, random = it->seed * 41;
+    for (int times = 0; times < 2; times++)
+        if (!has_counts(it, &random, likes_last_counts, it->last, LIKES_OK))
+            fail(it, "there are no last counts");
     for (uint32_t page = 0; page < it->pages; page++)
         if (it->last[page] != it->counts[page] + row_of(of.all, &of, end)[page])
             fail(it, "page %u ended at %llu, with %u likes on %llu", page, (unsigned long long)it->last[page],
@@ -443,6 +461,7 @@ static void play_round(uint64_t seed) {
         likes_free_seat(&it.seats[i]);
         pthread_mutex_destroy(&it.locks[i]);
     }
+    likes_free_driver(&it.driver);
     rounds++;
 }
 

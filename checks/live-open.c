@@ -1,14 +1,21 @@
-/* Opens a service with each of its allocations refused in turn, alone and with all that follow it. Each such opening
- * has to answer that there is no memory, to leave the driver empty, and to give back what it took. No call but
- * likes_open may allocate.
+/* Counts what the library allocates.
  *
- * It stands in for malloc, by way of the names under which the GNU C library has it too. */
+ *   - No call but likes_open may allocate, and none but those that free may give memory back. Each free of a seat or of
+ *     a driver has to give some back, and once all of a service are freed, in any order, all of it.
+ *   - Each allocation of an opening is refused in turn, alone and with all that follow it. Each such opening has to
+ *     answer that there is no memory, to leave the driver empty, and to give back what it took.
+ *
+ * It stands in for malloc and its kin, by way of the names under which the GNU C library has them too. */
 #include "likes.h"
 
+#include <errno.h>
 #include <stdio.h>
+#include <stdlib.h>
 
 void *__libc_malloc(size_t size);
+void *__libc_calloc(size_t number, size_t size);
 void *__libc_realloc(void *block, size_t size);
+void *__libc_memalign(size_t alignment, size_t size);
 void __libc_free(void *block);
 
 /* Which allocations are refused, counted from 1; how many there were; and how many blocks are there now. */
@@ -19,18 +26,45 @@ static bool is_refused(void) {
     return first <= made && made <= last;
 }
 
+/* Counts a block that is new, if there was memory for it. */
+static void *counted(void *block) {
+    blocks += block != NULL;
+    return block;
+}
+
 void *malloc(size_t size) {
-    if (is_refused())
-        return NULL;
-    blocks++;
-    return __libc_malloc(size);
+    return is_refused() ? NULL : counted(__libc_malloc(size));
+}
+
+void *calloc(size_t number, size_t size) {
+    return is_refused() ? NULL : counted(__libc_calloc(number, size));
+}
+
+void *aligned_alloc(size_t alignment, size_t size) {
+    return is_refused() ? NULL : counted(__libc_memalign(alignment, size));
+}
+
+void *memalign(size_t alignment, size_t size) {
+    return aligned_alloc(alignment, size);
+}
+
+int posix_memalign(void **to, size_t alignment, size_t size) {
+    void *block = aligned_alloc(alignment, size);
+    if (block == NULL)
+        return ENOMEM;
+    *to = block;
+    return 0;
 }
 
 void *realloc(void *block, size_t size) {
     if (is_refused())
         return NULL;
-    blocks += block == NULL;
-    return __libc_realloc(block, size);
+    void *moved = __libc_realloc(block, size);
+    if (block == NULL)
+        counted(moved);
+    else if (size == 0 && moved == NULL)
+        blocks--;
+    return moved;
 }
 
 void free(void *block) {
@@ -38,62 +72,187 @@ void free(void *block) {
     __libc_free(block);
 }
 
-static uint32_t open_service(likes_driver *driver, size_t from, size_t to) {
-    static const uint64_t counts[100];
-    static const bool marks[100] = {true};
-    static const likes_options options = {.seats = 3, .users = 1000, .room = 64, .hot = 10};
+enum { SEATS = 3, USERS = 1000, PAGES = 100, ROW = 30, ROOM = 64 };
+
+static likes_driver driver;
+static likes_seat seats[SEATS];
+
+static void fail(int line, const char *call, const char *text) {
+    printf("line %d: %s %s\n", line, call, text);
+    exit(1);
+}
+
+/* Makes a call that allocates nothing and gives nothing back. */
+#define STILL(call)                                                 \
+    do {                                                            \
+        size_t made_before = made, blocks_before = blocks;          \
+        call;                                                       \
+        if (made != made_before)                                    \
+            fail(__LINE__, #call, "allocates");                     \
+        if (blocks != blocks_before)                                \
+            fail(__LINE__, #call, "gives memory back");             \
+    } while (0)
+
+/* The same, of a call with this answer. */
+#define IS(call, expected)                                          \
+    do {                                                            \
+        uint64_t is;                                                \
+        STILL(is = (call));                                         \
+        if (is != (expected))                                       \
+            fail(__LINE__, #call, "is answered otherwise");         \
+    } while (0)
+
+/* Makes a call that frees: it allocates nothing, and gives something back. */
+#define FREES(call)                                                 \
+    do {                                                            \
+        size_t made_before = made, blocks_before = blocks;          \
+        call;                                                       \
+        if (made != made_before)                                    \
+            fail(__LINE__, #call, "allocates");                     \
+        if (blocks >= blocks_before)                                \
+            fail(__LINE__, #call, "gives nothing back");            \
+    } while (0)
+
+/* Opens the service, where these allocations are refused. */
+static uint32_t open_service(size_t from, size_t to) {
+    static const uint64_t counts[PAGES];
+    static const bool marks[PAGES] = {true};
+    static const likes_options options = {.seats = SEATS, .users = USERS, .room = ROOM, .hot = 10};
     first = from;
     last = to;
     made = blocks = 0;
-    uint32_t status = likes_open(&options, counts, 100, marks, 100, driver);
+    uint32_t status = likes_open(&options, counts, PAGES, marks, PAGES, &driver);
     first = last = 0;
     return status;
 }
 
-/* Uses a service and frees it. False: a call has failed, or allocated. */
-static bool use(likes_driver *driver, size_t opened) {
-    likes_seat seats[3] = {{0}};
-    bool is_right = true;
-    for (uint32_t i = 0; i < 3; i++)
-        is_right = is_right && likes_take_seat(driver, &seats[i]) == LIKES_OK;
-    for (uint32_t phase = 0; phase < 8; phase++) {
-        for (uint32_t i = 0; i < 300; i++) {
-            likes_answer answer;
-            likes_like(&seats[i % 3], i, i % 100);
-            likes_look(&seats[i % 3], i, i % 100, i, &answer);
-        }
-        likes_driver_turn(driver, true);
-        for (uint32_t i = 0; i < 3; i++)
-            is_right = is_right && likes_turn(&seats[i]) == LIKES_BETWEEN;
-        is_right = is_right && likes_driver_turn(driver, true) == LIKES_RELEASED;
-    }
-    is_right = is_right && made == opened;
-    for (uint32_t i = 0; i < 3; i++)
-        likes_free_seat(&seats[i]);
-    likes_free_driver(driver);
-    return is_right && blocks == 0;
+static void take_seats(void) {
+    likes_seat extra = {0};
+    for (uint32_t i = 0; i < SEATS; i++)
+        IS(likes_take_seat(&driver, &seats[i]), LIKES_OK);
+    IS(likes_take_seat(&driver, &extra), LIKES_NO_SEAT);
+    IS(likes_take_seat(&driver, &seats[0]), LIKES_IN_USE);
 }
 
-int main(void) {
-    likes_driver driver = {0};
-    if (open_service(&driver, 0, 0) != LIKES_OK) {
-        puts("not opened");
-        return 1;
+/* Each kind of request at each seat, one by one and in rows. More looks are asked for than have room. */
+static void request(uint64_t phase) {
+    likes_answer answer, answers[ROW];
+    likes_request row[ROW];
+    likes_found found;
+    for (uint32_t i = 0; i < 300; i++) {
+        likes_seat *seat = &seats[i % SEATS];
+        STILL(likes_like(seat, i, i % PAGES));
+        STILL(likes_look(seat, i, i % 2 ? 0 : i % PAGES, i, &answer));
+        STILL(likes_glance(seat, i, i % PAGES, &answer));
+        row[i % ROW] = (likes_request){.tag = i, .user = i, .page = i % 7, .op = i % 4};
+        if (i % ROW == ROW - 1)
+            STILL(likes_run(seat, row, ROW, answers, ROW));
+        if (i % 16 == 0)
+            STILL(likes_take_found(seat, &found));
     }
-    size_t allocations = made;
-    if (!use(&driver, allocations)) {
-        puts("a call has failed, or allocated, or not all was given back");
-        return 1;
+    for (uint32_t i = 0; i < SEATS; i++)
+        IS(likes_seat_phase(&seats[i]), phase);
+}
+
+/* A phase with requests, and its end. */
+static void play(uint64_t phase) {
+    uint64_t counts[PAGES];
+    IS(likes_phase(&driver), phase);
+    IS(likes_driver_turn(&driver, false), LIKES_RUNNING);
+    request(phase);
+    IS(likes_driver_turn(&driver, true), LIKES_ANNOUNCED);
+    IS(likes_snapshot(&driver, 0, counts, PAGES), LIKES_WAITING);
+    IS(likes_driver_turn(&driver, true), LIKES_WAITING);
+    for (uint32_t i = 0; i < SEATS; i++)
+        IS(likes_turn(&seats[i]), LIKES_BETWEEN);
+    IS(likes_snapshot(&driver, 10, counts, 20), phase % 2 == 0 ? LIKES_COUNTED : LIKES_WAITING);
+    IS(likes_snapshot(&driver, PAGES, counts, 1), LIKES_WRONG_LENGTH);
+    IS(likes_driver_turn(&driver, true), LIKES_RELEASED);
+}
+
+/* All seats leave, and the service ends. */
+static void end(void) {
+    uint64_t counts[PAGES];
+    IS(likes_last_counts(&driver, 0, counts, PAGES), LIKES_NOT_ENDED);
+    IS(likes_last_counts(&driver, 1, counts, PAGES), LIKES_WRONG_LENGTH);
+    for (uint32_t i = 0; i < SEATS; i++)
+        IS(likes_retire(&seats[i]), LIKES_GONE);
+    IS(likes_driver_turn(&driver, true), LIKES_ENDED);
+    IS(likes_last_counts(&driver, 0, counts, PAGES), LIKES_OK);
+    IS(likes_last_counts(&driver, 10, counts, 20), LIKES_OK);
+    IS(likes_driver_turn(&driver, true), LIKES_ENDED);
+    IS(likes_snapshot(&driver, 0, counts, PAGES), LIKES_WAITING);
+}
+
+/* Calls on empty handles, and openings that are refused. */
+static void refused(void) {
+    static const uint64_t counts[1] = {LIKES_MAX_COUNT + 1};
+    static const bool marks[1];
+    likes_options options = {.seats = 1, .users = 1, .room = 1, .hot = 0};
+    likes_driver none = {0};
+    likes_seat seat = {0};
+    likes_answer answer;
+    STILL(likes_free_seat(&seat));
+    STILL(likes_free_driver(&none));
+    IS(likes_like(&seat, 0, 0), LIKES_EMPTY);
+    IS(likes_look(&seat, 0, 0, 0, &answer), LIKES_EMPTY);
+    IS(likes_driver_turn(&none, true), LIKES_EMPTY);
+    IS(likes_open(&options, counts, 1, marks, 0, &driver), LIKES_IN_USE);
+    size_t held = blocks;
+    if (likes_open(&options, counts, 1, marks, 0, &none) != LIKES_WRONG_COUNT || none.is_full || blocks != held)
+        fail(__LINE__, "an opening with wrong numbers", "is answered otherwise, or leaves blocks behind");
+}
+
+/* How far a service has come when it is freed. */
+enum stage { OPENED, TAKEN, USED, ENDED, STAGES };
+
+/* Makes every call of likes.h on a service up to a stage, and frees it: the driver once so many seats are freed. */
+static void use(enum stage stage, uint32_t seats_first) {
+    if (open_service(0, 0) != LIKES_OK)
+        fail(__LINE__, "likes_open", "has failed");
+    if (stage >= TAKEN)
+        take_seats();
+    refused();
+    for (uint64_t phase = 0; stage >= USED && phase < 8; phase++)
+        play(phase);
+    if (stage == USED)
+        request(8);
+    if (stage == ENDED)
+        end();
+    for (uint32_t i = 0; i <= SEATS; i++) {
+        if (i == seats_first)
+            FREES(likes_free_driver(&driver));
+        if (i < SEATS && stage >= TAKEN)
+            FREES(likes_free_seat(&seats[i]));
     }
+    if (blocks != 0) {
+        printf("stage %d: %zu blocks were not given back\n", (int)stage, blocks);
+        exit(1);
+    }
+}
+
+/* Refuses each of so many allocations of an opening. */
+static void refuse(size_t allocations) {
     for (size_t number = 1; number <= allocations; number++) {
         for (int all = 0; all < 2; all++) {
-            uint32_t status = open_service(&driver, number, all ? SIZE_MAX : number);
+            uint32_t status = open_service(number, all ? SIZE_MAX : number);
             if (status != LIKES_NO_MEMORY || driver.is_full || blocks != 0) {
                 printf("allocation %zu refused: status %u, %zu blocks left\n", number, status, blocks);
-                return 1;
+                exit(1);
             }
         }
     }
+}
+
+int main(void) {
+    for (int stage = OPENED; stage < STAGES; stage++)
+        for (uint32_t seats_first = 0; seats_first <= SEATS; seats_first++)
+            use((enum stage)stage, seats_first);
+    if (open_service(0, 0) != LIKES_OK)
+        fail(__LINE__, "likes_open", "has failed");
+    size_t allocations = made;
+    likes_free_driver(&driver);
+    refuse(allocations);
     printf("each of %zu allocations refused\n", allocations);
     return 0;
 }

@@ -12,12 +12,14 @@
  *   - A handle, likes_driver or likes_seat, begins as {0}, which is empty. Only these calls change it. After a copy,
  *     only one of the two is used.
  *   - No call is made from a signal handler, or in the child of a fork.
- *   - Every seat is called at least once while a phase is ending, by likes_turn if there is nothing else to do. A seat
- *     that isn't called holds up all others.
+ *   - Every seat that isn't gone is called at least once while a phase is ending, by likes_turn if there is nothing
+ *     else to do. A seat that isn't called holds up all others.
  *
  * What the library does
- *   - It tests every number. A wrong one gets a status of its own, and nothing is changed.
- *   - No call waits, sleeps or takes a lock. Only likes_open takes memory, by malloc.
+ *   - It tests every number. A wrong one gets a status of its own, and what was asked for isn't done. A call of a seat
+ *     does the phase work first: a seat that is between two phases answers LIKES_BETWEEN to a wrong user too.
+ *   - No call waits, sleeps or takes a lock, beside what malloc and free do. Only likes_open takes memory. Only
+ *     likes_free_seat and likes_free_driver give some back, and a likes_open that fails.
  */
 #ifndef LIKES_H
 #define LIKES_H
@@ -82,14 +84,14 @@ enum likes_status {
     LIKES_WAITING = 15,   /* the phase is ending, and a seat has yet to answer */
     LIKES_RELEASED = 16,  /* the next phase has begun */
     LIKES_COUNTED = 17,   /* the counts of all pages were written */
-    LIKES_ENDED = 18,     /* all seats are gone */
+    LIKES_ENDED = 18,     /* all seats are gone, and there is nothing left to do */
 
     /* nothing was done */
     LIKES_EMPTY = 19,        /* the handle is empty */
     LIKES_IN_USE = 20,       /* the handle that was to be filled isn't empty */
     LIKES_NO_SEAT = 21,      /* all seats are taken */
-    LIKES_NOT_ENDED = 22,    /* a seat isn't gone yet */
-    LIKES_WRONG_LENGTH = 23, /* the row of counts has not as many entries as there are pages */
+    LIKES_NOT_ENDED = 22,    /* a seat isn't gone yet, or a split phase goes on */
+    LIKES_WRONG_LENGTH = 23, /* the range of pages goes past the last page */
     LIKES_NO_MEMORY = 24,
     LIKES_WRONG_PAGES = 25, /* there are no pages, or more than 1,024 */
     LIKES_WRONG_MARKS = 26, /* there are marks, but not one for each page */
@@ -132,8 +134,8 @@ typedef struct likes_found {
 /* Opens a service.
  *
  * counts has the initial count of each page, marks says which pages are split in every split phase. No marks at all
- * (marks_len 0) mark no page. LIKES_OK fills the driver. Else it stays empty, and the answer is LIKES_IN_USE, the first
- * of LIKES_WRONG_.. that is right, or LIKES_NO_MEMORY. */
+ * (marks_len 0) mark no page. LIKES_OK fills the driver. Else the handle stays as it was, and the answer is
+ * LIKES_IN_USE, the first of LIKES_WRONG_.. that is right, or LIKES_NO_MEMORY. */
 uint32_t likes_open(const likes_options *options, const uint64_t *counts, size_t pages, const bool *marks,
                     size_t marks_len, likes_driver *driver);
 
@@ -169,29 +171,38 @@ size_t likes_run(likes_seat *seat, const likes_request *requests, size_t request
 /* Does what the phase asks of the seat, and nothing else: LIKES_RUNS, BETWEEN, GONE or EMPTY. */
 uint32_t likes_turn(likes_seat *seat);
 
-/* Leaves for good, where the seat runs a joined phase, ending or not: LIKES_GONE. What waited is found first.
- * Elsewhere it is likes_turn: call it again. */
+/* Leaves for good, where the seat runs a joined phase, ending or not: LIKES_GONE. Looks that waited are found first. In
+ * a split phase, and between two phases, it is likes_turn: call it again. */
 uint32_t likes_retire(likes_seat *seat);
 
 /* The phase that the seat runs or has answered last, and 0 once it is gone. Phases with odd numbers are split. */
 uint64_t likes_seat_phase(likes_seat *seat);
 
-/* Does at most one thing for the phases: LIKES_ANNOUNCED, WAITING, RELEASED, RUNNING, ENDED or EMPTY. It ends a phase
- * only where may_end is true, or where the looks that wait at a seat take half of its room. Where no page is marked and
- * none can get hot, the first phase goes on for ever. */
+/* Makes a look, and does at most one thing for the phases: LIKES_ANNOUNCED, WAITING, RELEASED, RUNNING, ENDED or EMPTY.
+ *
+ * It announces the end of a phase where may_end is true. A split phase may end without that: it does where the looks
+ * that wait at a seat take half of its room. Where no page is marked and none can get hot, the first phase goes on for
+ * ever. An ending phase is released once every seat has answered it or is gone, also where all are gone. So turns with
+ * may_end, made when all seats are gone, lead to a joined phase, and there to LIKES_ENDED. */
 uint32_t likes_driver_turn(likes_driver *driver, bool may_end);
 
-/* Writes the counts of all pages at one moment, where a joined phase is ending and every seat has answered it:
- * LIKES_COUNTED. They have all likes of that phase and of those before it. Else nothing is written: LIKES_WAITING,
- * WRONG_LENGTH or EMPTY. The phase ends by a turn later. */
-uint32_t likes_snapshot(likes_driver *driver, uint64_t *counts, size_t pages);
+/* Writes the counts of the pages from, from + 1 and so on, as many as the row has entries, where a joined phase is
+ * ending and every seat has answered it or is gone: LIKES_COUNTED. They have all likes of that phase and of those
+ * before it. Until a turn releases the next phase, further calls write the counts of other pages at the same moment.
+ * Else nothing is written: LIKES_WAITING, WRONG_LENGTH or EMPTY. */
+uint32_t likes_snapshot(likes_driver *driver, uint32_t from, uint64_t *counts, size_t counts_len);
 
 /* The present phase. Phases with odd numbers are split. */
 uint64_t likes_phase(likes_driver *driver);
 
-/* The final counts, when all seats are gone: LIKES_OK, which leaves the driver empty, LIKES_NOT_ENDED,
- * LIKES_WRONG_LENGTH or LIKES_EMPTY. */
-uint32_t likes_close(likes_driver *driver, uint64_t *counts, size_t pages);
+/* Writes the final counts of the pages from, from + 1 and so on, as many as the row has entries, where all seats are
+ * gone in a joined phase: LIKES_OK. Call it as often as you like, for any range: a page has the same count each time.
+ * With the first LIKES_OK the service is over. Its phase is never released, likes_driver_turn answers LIKES_ENDED,
+ * likes_snapshot LIKES_WAITING and likes_take_seat LIKES_NO_SEAT. The driver stays full until it is freed.
+ *
+ * Else nothing is written: LIKES_WRONG_LENGTH, EMPTY, or LIKES_NOT_ENDED, where a seat isn't gone or a split phase goes
+ * on. Then call likes_driver_turn with may_end until it answers LIKES_ENDED, and try again. */
+uint32_t likes_last_counts(likes_driver *driver, uint32_t from, uint64_t *counts, size_t counts_len);
 
 /* Give back memory, and leave the handle empty. An empty handle stays as it is. Found looks that were not taken are
  * lost. A seat that is freed before it is gone holds up all others for ever. */

@@ -348,11 +348,14 @@ static inline uint32_t likes_service_look(likes_service *service, uint32_t user,
 }
 
 /* The counts of all pages at one moment, the end of a joined phase: LIKES_COUNTED. Or LIKES_RUNNING, where no page can
- * be split and so no phase ends, or LIKES_WRONG_LENGTH. It takes up to two phases. The calling thread holds no seat. */
+ * be split and so no phase ends, or LIKES_WRONG_LENGTH, where the row hasn't one entry for each page. It takes up to
+ * two phases. The calling thread holds no seat. */
 static inline uint32_t likes_service_counts(likes_service *service, uint64_t *counts, size_t pages) {
     uint32_t status, turn = LIKES_RELEASED;
+    if (pages != service->pages)
+        return LIKES_WRONG_LENGTH;
     pthread_mutex_lock(&service->driving);
-    while ((status = likes_snapshot(&service->driver, counts, pages)) == LIKES_WAITING && turn != LIKES_RUNNING) {
+    while ((status = likes_snapshot(&service->driver, 0, counts, pages)) == LIKES_WAITING && turn != LIKES_RUNNING) {
         /* Where a joined phase is ending, a turn could release the next one unseen. */
         bool is_ending = turn == LIKES_ANNOUNCED || turn == LIKES_WAITING;
         if (!is_ending || likes_phase(&service->driver) % 2 == 1)
@@ -368,25 +371,24 @@ static inline uint32_t likes_service_counts(likes_service *service, uint64_t *co
     return status;
 }
 
-/* Ends the driver's thread, and has all seats retire. No thread holds a seat, and no call of the service is begun any
- * more but likes_service_wake, likes_take_found, likes_service_rest and likes_service_stop. */
+/* Ends the driver's thread, has all seats retire, and makes the driver's turns until it answers LIKES_ENDED. No thread
+ * holds a seat, and no call of the service is begun any more but likes_service_wake, likes_take_found,
+ * likes_service_rest and likes_service_stop. */
 static inline void likes_service_retire(likes_service *service) {
     __atomic_store_n(&service->is_stopping, true, __ATOMIC_SEQ_CST);
     if (service->has_thread)
         pthread_join(service->thread, NULL);
     service->has_thread = false;
-    uint32_t gone = 0;
-    while (gone < service->seats) {
-        gone = 0;
+    uint32_t status;
+    do {
         for (uint32_t i = 0; i < service->seats; i++) {
-            likes_seat *seat = likes_service_wake(service, i);
-            gone += likes_retire(seat) == LIKES_GONE;
+            likes_retire(likes_service_wake(service, i));
             likes_service_rest(service, i);
         }
         pthread_mutex_lock(&service->driving);
-        likes_driver_turn(&service->driver, true);
+        status = likes_driver_turn(&service->driver, true);
         pthread_mutex_unlock(&service->driving);
-    }
+    } while (status != LIKES_ENDED);
 }
 
 /* Ends the service and gives the final counts: LIKES_OK, or LIKES_WRONG_LENGTH, where nothing was done. All threads are
@@ -395,7 +397,7 @@ static inline uint32_t likes_service_stop(likes_service *service, uint64_t *coun
     if (pages != service->pages)
         return LIKES_WRONG_LENGTH;
     likes_service_retire(service);
-    uint32_t status = likes_close(&service->driver, counts, pages);
+    uint32_t status = likes_last_counts(&service->driver, 0, counts, pages);
     likes_service_free(service);
     return status;
 }

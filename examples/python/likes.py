@@ -54,7 +54,7 @@ def load():
         "retire": ([handle], number),
         "driver_turn": ([handle, c_bool], number),
         "phase": ([handle], c_uint64),
-        "close": ([handle, POINTER(c_uint64), size], number),
+        "last_counts": ([handle, number, POINTER(c_uint64), size], number),
         "free_seat": ([handle], None),
         "free_driver": ([handle], None),
     }
@@ -183,12 +183,12 @@ class Likes:
         """Ends the service, and gives the final counts. All threads are done with it."""
         if not self.driver.is_full:
             return None
-        gone = 0
-        while gone < len(self.seats):
-            gone = sum(self.library.likes_retire(byref(seat)) == GONE for seat, _ in self.seats)
-            self.library.likes_driver_turn(byref(self.driver), True)
+        while self.library.likes_driver_turn(byref(self.driver), True) != ENDED:
+            for seat, _ in self.seats:
+                self.library.likes_retire(byref(seat))
         totals = (c_uint64 * self.pages)()
-        self.check(self.library.likes_close(byref(self.driver), totals, self.pages), OK)
+        self.check(self.library.likes_last_counts(byref(self.driver), 0, totals, self.pages), OK)
         for seat, _ in self.seats:
             self.library.likes_free_seat(byref(seat))
+        self.library.likes_free_driver(byref(self.driver))
         return list(totals)
