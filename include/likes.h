@@ -84,7 +84,7 @@ enum likes_status {
     LIKES_WAITING = 15,   /* the phase is ending, and a seat has yet to answer */
     LIKES_RELEASED = 16,  /* the next phase has begun */
     LIKES_COUNTED = 17,   /* the counts of all pages were written */
-    LIKES_ENDED = 18,     /* all seats are gone, and there is nothing left to do */
+    LIKES_ENDED = 18,     /* all seats are gone, and this turn has nothing to do */
 
     /* nothing was done */
     LIKES_EMPTY = 19,        /* the handle is empty */
