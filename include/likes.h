@@ -18,8 +18,8 @@
  * What the library does
  *   - It tests every number. A wrong one gets a status of its own, and what was asked for isn't done. A call of a seat
  *     does the phase work first: a seat that is between two phases answers LIKES_BETWEEN to a wrong user too.
- *   - No call waits, sleeps or takes a lock, beside what malloc and free do. Only likes_open takes memory, and beside it
- *     only likes_free_seat and likes_free_driver give some back.
+ *   - No call waits, sleeps or takes a lock, beside what malloc and free do. Only likes_open takes memory, and beside
+ *     it only likes_free_seat and likes_free_driver give some back.
  */
 #ifndef LIKES_H
 #define LIKES_H
