@@ -5,13 +5,12 @@ use Rattle.std.proofs.lemmas.List.{nil_from_length}
 use Rattle.std.proofs.lemmas.List.Elements.{All-cons, All-head, All-nil, All-tail}
 use Rattle.std.proofs.lemmas.List.Sums.{sum_by-cons}
 use Rattle.like_board.specs.Seats.{board_numbers}
-use Rattle.like_seat.specs.Lead.{LeadView}
-use Rattle.like_live.specs.Driver.{IsSameDriver}
+use Rattle.like_live.specs.Driver.{DriverView, IsSameDriver}
 use Rattle.like_live.specs.LiveView.{IsSameSeat, LiveView}
 use Rattle.like_live.specs.Service.{AreItsSeats}
 use Rattle.like_live.proofs.Newly.{calls-keep-whole}
 
-turned : (v : LeadView) (a b : LiveView) → AreItsSeats v (a ∷ b ∷ []) → AreItsSeats v (b ∷ a ∷ [])
+turned : (v : DriverView) (a b : LiveView) → AreItsSeats v (a ∷ b ∷ []) → AreItsSeats v (b ∷ a ∷ [])
 turned v a b its =
     let Here : LiveView → Type 0 = λ s. s.seat.post.board ≡ board_numbers v.board in
     record {
@@ -25,7 +24,7 @@ turned v a b its =
     }
 
 -- a driver and its two seats, after calls of each, in the other order
-pub turned-after : (v w : LeadView) (a b c d : LiveView)
+pub turned-after : (v w : DriverView) (a b c d : LiveView)
     → AreItsSeats v (a ∷ b ∷ [])
     → IsSameDriver v w
     → IsSameSeat a c

@@ -34,13 +34,13 @@ fn is_seat_answer(seat: &mut LiveSeat<SharedPost>, call: OnSeat) -> bool {
 // Whether a snapshot is of this phase, or there is none, with these counts behind it.
 fn is_snapshot(driver: &mut Driver, phase: Option<u64>, wanted: [u64; 2]) -> bool {
     let mut counts = [0, 0];
-    driver.pages() == 2 && driver.snapshot(&mut counts) == phase && counts == wanted
+    driver.pages() == 2 && driver.snapshot(0, &mut counts) == phase && counts == wanted
 }
 
 // Whether the last counts are written, or are not, and are these.
 pub fn are_last_counts(driver: &mut Driver, are_written: bool, wanted: [u64; 2]) -> bool {
     let mut counts = [0, 0];
-    driver.pages() == 2 && driver.last_counts(&mut counts) == are_written && counts == wanted
+    driver.pages() == 2 && driver.last_counts(0, &mut counts) == are_written && counts == wanted
 }
 
 // Makes a call of a driver, and says whether it is answered like this.
