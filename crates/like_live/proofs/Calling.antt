@@ -37,7 +37,7 @@ page_there s user page is =
     by_test false e = cc
 
 -- one more in a slice, at a page
-slice-more : (xs : List ℕ) (page other : ℕ)
+pub slice-more : (xs : List ℕ) (page other : ℕ)
     → page < length xs
     → get_or (set xs page (get_or xs page 0 + 1)) other 0 ≡ get_or xs other 0 + cond (page == other) 1 0
 slice-more xs page other there =

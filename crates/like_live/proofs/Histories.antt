@@ -147,7 +147,7 @@ told-take v after taken whole takes = subst (λ w. IsTold v w (take_found taken)
 })
 
 -- each call tells what it does
-told-does : (t : Told) (v after : LiveView) → IsWhole v → Does v t after → IsTold v after t
+pub told-does : (t : Told) (v after : LiveView) → IsWhole v → Does v t after → IsTold v after t
 told-does (turn answer) v after whole m =
     IsTold-quiet v after (turn answer) (IsQuiet-moves v after answer whole m)
     (record { likes = λ p. refl; pages = λ u. refl; taken = refl; told = refl })
@@ -229,7 +229,7 @@ are_told (t ∷ told) v after whole d =
           ∙ append_assoc (asks_left v) (ask_told t) (asks_told told);
     }
 
-whole_at_first : (v : LiveView) → IsUnused v → IsWhole v
+pub whole_at_first : (v : LiveView) → IsUnused v → IsWhole v
 whole_at_first v unused =
     let new = unused.new in
     record {

@@ -1,3 +1,4 @@
+pub mod Answering
 pub mod Batches
 pub mod Calling
 pub mod Closing
@@ -5,6 +6,7 @@ pub mod Finding
 pub mod Gone
 pub mod Histories
 pub mod Moments
+pub mod Keeping
 pub mod Moving
 pub mod Newly
 pub mod Requests

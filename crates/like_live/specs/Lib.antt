@@ -1,3 +1,4 @@
+pub mod Answers
 pub mod Batch
 pub mod Calls
 pub mod Driver

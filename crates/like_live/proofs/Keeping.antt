@@ -1,0 +1,240 @@
+-- What a seat keeps of what it read and glanced at, whatever it does next.
+use Rattle.std.proofs.Common.{◌≡◌, ℕ, ◌+◌, ◌<◌, ◌≤◌, ◌==◌, Bool, List, [], ◌∷◌, ◌++◌, cond, drop, get_or, length, map, Option, Some, None, ap, sym, ◌∙◌, subst, inl, inr, arith, length-append}
+use Rattle.std.specs.List.{All, Contains}
+use Rattle.std.proofs.lemmas.Bool.{eq-eqb}
+use Rattle.std.proofs.lemmas.List.{drop-append-le, get_or-map, length-map}
+use Rattle.std.proofs.lemmas.List.Elements.{All-append, Contains-append_left, Contains-append_right}
+use Rattle.std.proofs.lemmas.List.Sums.{sum_by-append}
+use Rattle.like_core.specs.declared.sight.Sight.{Sight}
+use Rattle.like_core.specs.declared.view.Addition.{Addition}
+use Rattle.like_core.specs.declared.view.PageRead.{PageRead}
+use Rattle.like_core.specs.declared.worker_state.WorkerState.{WorkerState}
+use Rattle.like_core.specs.declared.worker_state.WorkerState.TheVariants as state
+use Rattle.like_core.specs.Additions.{added_in, addition, page_read}
+use Rattle.like_core.specs.Phase.{IsSplit}
+use Rattle.like_core.specs.Post.{answered, has_glanced, has_read, pages_of}
+use Rattle.like_core.specs.WorkerState.{RunsJoined, phase_of, seen}
+use Rattle.like_seat.specs.Merge.{MergesAndReports, merged}
+use Rattle.like_seat.specs.SeatView.{SeatView, phase_at}
+use Rattle.like_seat.specs.Steps.{CountsLike}
+use Rattle.like_seat.proofs.MergedLikes.{merging-all}
+use Rattle.like_live.specs.declared.answer.TurnAnswer.{TurnAnswer}
+use Rattle.like_live.specs.declared.asked.Asked.{Asked}
+use Rattle.like_live.specs.declared.asked.Found.{Found}
+use Rattle.like_live.specs.LiveView.{LiveView, with_seat}
+use Rattle.like_live.specs.Answers.{AreKept, IsRead, found_count}
+use Rattle.like_live.specs.Moves.{FindsAll, Moves, Works, acknowledges, is_gone, looked, read_for, reports, runs_joined, runs_split, waits, with_found, works}
+use Rattle.like_live.proofs.Calling.{slice-more}
+use Rattle.like_live.proofs.Moving.{IsSized}
+
+-- n likes of a page, which the seat had in its slice in a split phase, are kept
+pub record AreHeld (v : LiveView) (phase page from n : ℕ) : Type 0 where
+  pub within : from ≤ length v.seat.post.additions
+  pub split : IsSplit phase
+  pub kept : AreKept v phase page from n
+
+-- each found look was shown a count that the seat read
+abbrev pub AreFound : LiveView → Type 0
+AreFound v = All (λ f. IsRead v (found_count f)) v.found
+
+-- what was read and glanced at stays so, and what is kept stays kept
+pub record Keeps (v after : LiveView) : Type 0 where
+  pub reads : (r : PageRead) → Contains v.seat.post.reads r → Contains after.seat.post.reads r
+  pub glances : (r : PageRead) → Contains v.seat.post.glances r → Contains after.seat.post.glances r
+  pub held : (phase page from n : ℕ) → AreHeld v phase page from n → AreHeld after phase page from n
+  pub found : AreFound v → AreFound after
+
+pub Keeps-all : (v : LiveView) → Keeps v v
+Keeps-all v = record {
+  reads = λ r there. there;
+  glances = λ r there. there;
+  held = λ phase page from n h. h;
+  found = λ all. all;
+}
+
+pub Keeps-both : (v now after : LiveView) → Keeps v now → Keeps now after → Keeps v after
+Keeps-both v now after a b = record {
+  reads = λ r there. b.reads r (a.reads r there);
+  glances = λ r there. b.glances r (a.glances r there);
+  held = λ phase page from n h. b.held phase page from n (a.held phase page from n h);
+  found = λ all. b.found (a.found all);
+}
+
+-- a look at the phase word
+Keeps-looked : (v : LiveView) (sight : Sight) (mask : ℕ) → Keeps v (looked v sight mask)
+Keeps-looked v sight mask = record {
+  reads = λ r there. there;
+  glances = λ r there. there;
+  held = λ phase page from n h. record {
+    within = h.within;
+    split = h.split;
+    kept =
+        elim h.kept [
+          | inl added ↦ inl added
+          | inr still ↦ inr (ap (λ (s : WorkerState). seen s sight) still.0, still.1)
+        ];
+  };
+  found = λ all. all;
+}
+
+-- the seat in another state
+abbrev stopped : LiveView → WorkerState → LiveView
+stopped v s = with_seat v (record v.seat { post = record v.seat.post { state = s } })
+
+-- the end of a joined phase, for the seat
+pub Keeps-stopped : (v : LiveView) (s : WorkerState) → RunsJoined v.seat.post.state → Keeps v (stopped v s)
+Keeps-stopped v s joined = record {
+  reads = λ r there. there;
+  glances = λ r there. there;
+  held = λ phase page from n h. record {
+    within = h.within;
+    split = h.split;
+    kept =
+        elim h.kept [
+          | inl added ↦ inl added
+          | inr still ↦
+              let odd : IsSplit phase = h.split in
+              let even : RunsJoined (state.Runs phase) = subst RunsJoined still.0 joined in
+              absurd (omega arith)
+        ];
+  };
+  found = λ all. all;
+}
+
+-- what a list is mapped to has what each element is mapped to
+mapped : {X Y : Type 0} (f : X → Y) (xs : List X) (k : ℕ) (d : X) → k < length xs → Contains (map f xs) (f (get_or xs k d))
+mapped f xs k d below = (k, omega (arith, length-map xs f), get_or-map f xs k d (f (get_or xs k d)) below)
+
+-- looks that are found
+Keeps-finds : (v after : LiveView) → FindsAll v after → Keeps v after
+Keeps-finds v after f = subst (Keeps v) (sym f.rest) (record {
+  reads = λ r there. Contains-append_left v.seat.post.reads _ r there;
+  glances = λ r there. there;
+  held = λ phase page from n h. record { within = h.within; split = h.split; kept = h.kept };
+  found = λ all.
+      let additions = length v.seat.post.additions in
+      All-append (λ x. IsRead (with_found v f.found) (found_count x)) v.found f.found
+      (λ k d below. let r = all k d below in (r.0, Contains-append_left v.seat.post.reads _ _ r.1))
+      (λ k d below. (
+        additions,
+        Contains-append_right v.seat.post.reads _ _ (mapped (read_for additions) f.found k d below),
+      ));
+})
+
+-- how much later additions have in a phase, once there are more
+more_added : (phase page from : ℕ) (xs ys : List Addition) → from ≤ length xs
+    → added_in phase page (drop from (xs ++ ys)) ≡ added_in phase page (drop from xs) + added_in phase page ys
+more_added phase page from xs ys within =
+    ap (added_in phase page) (drop-append-le from xs ys within) ∙ sum_by-append _ (drop from xs) ys
+
+-- a merge and a report
+Keeps-merged : (v : LiveView) (s : SeatView Asked) → IsSized v → MergesAndReports v.seat s → Keeps v (with_seat v s)
+Keeps-merged v s sized m =
+    let adds = m.1.0.0 in
+    let old = v.seat.post.additions in
+    let is : s ≡ record (merged v.seat adds) { post = answered (merged v.seat adds).post } =
+    m.1.1 ∙ ap (λ (t : SeatView Asked). record t { post = answered t.post }) m.1.0.1.1 in
+    subst (λ (t : SeatView Asked). Keeps v (with_seat v t)) (sym is) (record {
+      reads = λ r there. there;
+      glances = λ r there. there;
+      held = λ phase page from n h.
+          let within : from ≤ length old = h.within in
+          let more = more_added phase page from old adds within in
+          record {
+            within = omega (arith, length-append old adds);
+            split = h.split;
+            kept =
+                elim h.kept [
+                  | inl added ↦ inl (omega arith)
+                  | inr still ↦
+                      let here : phase_at v.seat ≡ phase = ap phase_of still.0 in
+                      let all : added_in phase page adds ≡ get_or v.seat.slice page 0 =
+                      merging-all (λ k. k == phase) (phase_at v.seat) v.seat.slice page (pages_of v.seat.post) adds
+                      m.1.0.1.0 sized
+                      ∙ ap (λ (b : Bool). cond b (get_or v.seat.slice page 0) 0) (eq-eqb _ _ here) in
+                      let few : n ≤ get_or v.seat.slice page 0 = still.1 in
+                      inl (omega arith)
+                ];
+          };
+      found = λ all. all;
+    })
+
+-- a like that is counted
+pub Keeps-counts : (v : LiveView) (s : SeatView Asked) (user page : ℕ) (old : Option ℕ)
+    → page < length v.seat.slice
+    → CountsLike v.seat user page old s
+    → Keeps v (with_seat v s)
+Keeps-counts v s user page None there c = subst (λ (t : SeatView Asked). Keeps v (with_seat v t)) (sym c.1) (record {
+  reads = λ r there. there;
+  glances = λ r there. there;
+  held = λ phase other from n h. record {
+    within = h.within;
+    split = h.split;
+    kept =
+        elim h.kept [
+          | inl added ↦ inl added
+          | inr still ↦
+              let few : n ≤ get_or v.seat.slice other 0 = still.1 in
+              let more = slice-more v.seat.slice page other there in
+              inr (still.0, omega arith)
+        ];
+  };
+  found = λ all. all;
+})
+Keeps-counts v s user page (Some count) there c =
+    let old = v.seat.post.additions in
+    let new = addition (phase_at v.seat) page count 1 ∷ [] in
+    subst (λ (t : SeatView Asked). Keeps v (with_seat v t)) (sym c.1) (record {
+      reads = λ r there. there;
+      glances = λ r there. there;
+      held = λ phase other from n h.
+          let within : from ≤ length old = h.within in
+          let more = more_added phase other from old new within in
+          record {
+            within = omega (arith, length-append old new);
+            split = h.split;
+            kept = elim h.kept [ inl added ↦ inl (omega arith) | inr still ↦ inr still ];
+          };
+      found = λ all. all;
+    })
+
+-- a read
+pub Keeps-read : (v : LiveView) (page count : ℕ)
+    → Keeps v (with_seat v (record v.seat { post = has_read v.seat.post page count }))
+Keeps-read v page count = record {
+  reads = λ r there. Contains-append_left v.seat.post.reads _ r there;
+  glances = λ r there. there;
+  held = λ phase page from n h. record { within = h.within; split = h.split; kept = h.kept };
+  found = λ all k d below. let r = all k d below in (r.0, Contains-append_left v.seat.post.reads _ _ r.1);
+}
+
+-- a glance
+pub Keeps-glanced : (v : LiveView) (page count : ℕ)
+    → Keeps v (with_seat v (record v.seat { post = has_glanced v.seat.post page count }))
+Keeps-glanced v page count = record {
+  reads = λ r there. there;
+  glances = λ r there. Contains-append_left v.seat.post.glances _ r there;
+  held = λ phase page from n h. record { within = h.within; split = h.split; kept = h.kept };
+  found = λ all. all;
+}
+
+-- phase work
+Keeps-works : (v after : LiveView) (ending : Bool) (answer : TurnAnswer)
+    → IsSized v
+    → Works v ending answer after
+    → Keeps v after
+Keeps-works v after ending answer sized (runs_joined joined e a found) = Keeps-finds v after found
+Keeps-works v after ending answer sized (acknowledges now joined e a found is) =
+    subst (Keeps v) (sym is)
+    (Keeps-both v now _ (Keeps-finds v now found)
+    (Keeps-stopped now _ (subst (λ (w : LiveView). RunsJoined w.seat.post.state) (sym found.rest) joined)))
+Keeps-works v after ending answer sized (runs_split split e a is) = subst (Keeps v) (sym is) (Keeps-all v)
+Keeps-works v after ending answer sized (reports s split e a merges is) =
+    subst (Keeps v) (sym is) (Keeps-merged v s sized merges)
+
+pub Keeps-moves : (v after : LiveView) (answer : TurnAnswer) → IsSized v → Moves v answer after → Keeps v after
+Keeps-moves v after answer sized (is_gone gone a is) = subst (Keeps v) (sym is) (Keeps-all v)
+Keeps-moves v after answer sized (waits sight mask can w a is) = subst (Keeps v) (sym is) (Keeps-looked v sight mask)
+Keeps-moves v after answer sized (works sight mask can w does) =
+    Keeps-both v (looked v sight mask) after (Keeps-looked v sight mask)
+    (Keeps-works (looked v sight mask) after sight.ending answer sized does)

@@ -1,0 +1,94 @@
+-- The counts that a seat's calls were told, and what the seat read.
+use Rattle.std.specs.Prelude.{◌≡◌, ◌⊎◌, ℕ, ◌+◌, ◌≤◌, true, false, List, drop, slice_index, Contains, Some}
+use Rattle.std.specs.List.{sum_by}
+use Rattle.like_core.specs.declared.worker_state.WorkerState.TheVariants.{Runs}
+use Rattle.like_core.specs.Additions.{added_before, added_in, page_read}
+use Rattle.like_core.specs.Post.{slices}
+use Rattle.like_seat.specs.Lead.{LeadView}
+use Rattle.like_seat.specs.SeatView.{phase_at}
+use Rattle.like_live.specs.declared.answer.GlanceAnswer.TheVariants as glanced
+use Rattle.like_live.specs.declared.answer.LookAnswer.TheVariants as looked
+use Rattle.like_live.specs.declared.asked.Found.{Found}
+use Rattle.like_live.specs.LiveView.{LiveView}
+use Rattle.like_live.specs.History.{Does, HasDone, IsUnused, Told, glance, look, take_found}
+use Rattle.like_live.specs.Service.{AreGone, IsClosedService}
+
+-- a count that was told: in which phase it ran, of which page
+pub record Shown : Type 0 where
+  pub phase : ℕ
+  pub page : ℕ
+  pub count : ℕ
+
+-- the count that a found look was shown
+abbrev pub found_count : Found → Shown
+found_count f = record { phase = f.phase; page = f.asked.page; count = f.count }
+
+-- if the call was told a count: P is true of it at a look, found looks included, and Q at a glance. `now` is the seat
+-- right after the call
+abbrev pub IfShown : (P Q : Shown → Type 0) → (now : LiveView) → Told → Type 0
+IfShown P Q now (look user page tag (looked.Seen shown)) =
+    P (record { phase = phase_at now.seat; page = page; count = shown.count })
+IfShown P Q now (glance user page (glanced.Seen shown)) =
+    Q (record { phase = phase_at now.seat; page = page; count = shown.count })
+IfShown P Q now (take_found (Some f)) = P (found_count f)
+IfShown P Q now told = Unit {0}
+
+-- the count is that of a read of the seat's, of this page in this phase
+abbrev pub IsRead : LiveView → Shown → Type 0
+IsRead v s = (after : ℕ) × Contains v.seat.post.reads (page_read s.phase s.page s.count after)
+
+-- n likes of a page that the seat had in its slice in a phase, after so many additions: it has added them in that phase,
+-- or it runs that phase and has them in its slice still
+abbrev pub AreKept : LiveView → (phase page after n : ℕ) → Type 0
+AreKept v phase page after n =
+    (n ≤ added_in phase page (drop after v.seat.post.additions))
+    ⊎ ((v.seat.post.state ≡ Runs phase) × (n ≤ slice_index v.seat.slice page))
+
+-- the count is that of a glance of the seat's, of this page in this phase, plus the likes of the page that the seat had
+-- in its slice right after the call; and these likes are kept
+pub record IsGlanced (now v : LiveView) (s : Shown) : Type 0 where
+  pub board : ℕ
+  pub after : ℕ
+  pub there : Contains v.seat.post.glances (page_read s.phase s.page board after)
+  pub sum_is : s.count ≡ board + slice_index now.seat.slice s.page
+  pub kept : AreKept v s.phase s.page after (slice_index now.seat.slice s.page)
+
+-- the count that a glance was told: of a page that is not split then, it is that of a read; of one that is, that of a
+-- glance and the seat's own likes
+pub record IsReadOrGlanced (now v : LiveView) (s : Shown) : Type 0 where
+  pub plain : slices now.seat.post s.page ≡ false → IsRead v s
+  pub split : slices now.seat.post s.page ≡ true → IsGlanced now v s
+
+-- a call in a seat's history: some calls were made before it, and some after it
+pub record IsCallOf (v now after : LiveView) (t : Told) : Type 0 where
+  pub earlier : List Told
+  pub before : LiveView
+  pub first : HasDone v earlier before
+  pub call : Does before t now
+  pub later : List Told
+  pub rest : HasDone now later after
+
+-- the law of answers: whatever calls a fresh seat is asked, the count that each of them was told is among what the seat
+-- read
+abbrev pub AnswersAreReads : Type 0
+AnswersAreReads =
+    (v now after : LiveView) (t : Told)
+    → IsUnused v → IsCallOf v now after t
+    → IfShown (IsRead after) (IsReadOrGlanced now after) now t
+
+-- how much these seats have added to a page in the phases before one
+abbrev pub seats_added_before : List LiveView → ℕ → ℕ → ℕ
+seats_added_before seats phase page = sum_by (λ v. added_before phase page v.seat.post.additions) seats
+
+-- the count has the page's first count and all that these seats added in earlier phases, and nothing of a later phase
+pub record IsWithinAdded (v : LeadView) (seats : List LiveView) (s : Shown) : Type 0 where
+  pub least : slice_index v.seat.opening.counts s.page + seats_added_before seats s.phase s.page ≤ s.count
+  pub most : s.count ≤ slice_index v.seat.opening.counts s.page + seats_added_before seats (s.phase + 1) s.page
+
+-- each count that a seat of a closed service was told is within these bounds
+abbrev pub AnswersAreBounded : Type 0
+AnswersAreBounded =
+    (driver : LeadView) (seats : List LiveView) (counts : List ℕ) (v now after : LiveView) (t : Told)
+    → IsClosedService driver seats counts → AreGone seats → Contains seats after
+    → IsUnused v → IsCallOf v now after t
+    → IfShown (IsWithinAdded driver seats) (IsWithinAdded driver seats) now t
