@@ -1,37 +1,28 @@
--- The law of answers.
-use Rattle.std.proofs.Common.{◌≡◌, ℕ, ◌+◌, ◌<◌, Bool, true, false, List, [], ◌∷◌, drop, get_or, length, Option, Some, None, refl, ap, sym, ◌∙◌, subst, inl, inr, arith}
-use Rattle.std.specs.List.{All, Contains, slice_get}
-use Rattle.std.proofs.lemmas.Bool.{and_parts, eqb-true}
-use Rattle.std.proofs.lemmas.List.Elements.{All-drop, All-head, All-nil, Contains-push}
-use Rattle.like_core.specs.declared.worker_state.WorkerState.{WorkerState}
-use Rattle.like_core.specs.declared.worker_state.WorkerState.TheVariants as state
-use Rattle.like_core.specs.Additions.{page_read}
-use Rattle.like_core.specs.Phase.{IsSplit}
-use Rattle.like_core.specs.Post.{PostView, has_glanced, has_read, slices}
-use Rattle.like_core.specs.WorkerState.{IsRunning, RunsJoined, RunsSplit, phase_of}
-use Rattle.like_seat.specs.SeatView.{SeatView, phase_at}
-use Rattle.like_live.specs.declared.answer.GlanceAnswer.{GlanceAnswer}
+-- The laws of answers.
+use Rattle.std.proofs.Common.{◌≡◌, ℕ, ◌+◌, ◌⊎◌, ◌≤◌, Bool, true, false, List, [], ◌∷◌, length, Some, refl, sym, ◌∙◌, subst, inl, inr, arith}
+use Rattle.std.specs.List.{All, Contains}
+use Rattle.std.proofs.lemmas.List.Elements.{All-contains, All-nil}
+use Rattle.like_core.specs.Additions.{added_before, page_read}
+use Rattle.like_core.specs.Post.{PostView, slices}
 use Rattle.like_live.specs.declared.answer.GlanceAnswer.TheVariants as glanced
-use Rattle.like_live.specs.declared.answer.LikeAnswer.{LikeAnswer}
-use Rattle.like_live.specs.declared.answer.LookAnswer.{LookAnswer}
 use Rattle.like_live.specs.declared.answer.LookAnswer.TheVariants as looked
-use Rattle.like_live.specs.declared.answer.TurnAnswer.{TurnAnswer}
-use Rattle.like_live.specs.declared.answer.TurnAnswer.TheVariants as turned
-use Rattle.like_live.specs.declared.asked.Asked.{Asked}
-use Rattle.like_live.specs.declared.asked.Found.{Found}
-use Rattle.like_live.specs.LiveView.{LiveView, with_seat}
-use Rattle.like_live.specs.Answers.{AnswersAreReads, IfShown, IsCallOf, IsGlanced, IsRead, IsReadOrGlanced, Shown, found_count}
-use Rattle.like_live.specs.Calls as calls
-use Rattle.like_live.specs.Calls.{GlanceCase, GlancesNow, LikeCase, LikesNow, LookCase, LooksNow, RetireCase, RetiresNow, TakesFound}
-use Rattle.like_live.specs.History.{Does, HasDone, IsUnused, Told, glance, like, look, retire, take_found, turn}
-use Rattle.like_live.specs.Moves as moves
-use Rattle.like_live.specs.Moves.{Moves, Works}
-use Rattle.like_live.proofs.Calling.{page_there}
-use Rattle.like_live.proofs.Finding.{running}
+use Rattle.like_live.specs.LiveView.{LiveView}
+use Rattle.like_live.specs.Answers.{AnswersAreBounded, AnswersAreReads, IfShown, IsGlanced, IsRead, IsReadOrGlanced, IsWithinAdded, Shown, found_count, seats_added_before}
+use Rattle.like_live.specs.Service.{AreBackFrom}
+use Rattle.like_live.proofs.Closing.{all-alike, sum-alike}
+use Rattle.like_board.specs.declared.worker_seat.WorkerSeat.{WorkerSeat}
+use Rattle.like_board.specs.Seats.{seat_meaning, seats_before}
+use Rattle.like_core.specs.declared.view.Addition.{Addition}
+use Rattle.like_core.specs.declared.view.PageRead.{PageRead}
+use Rattle.like_core.specs.views.Reads.{AreBetween, IsBetween}
+use Rattle.like_seat.specs.Lead.{LeadView}
+use Rattle.like_core.specs.declared.worker_state.WorkerState.TheVariants.{Gone}
+use Rattle.like_live.specs.History.{HasDone, Told, glance, look, take_found}
 use Rattle.like_live.proofs.Histories.{told-does, whole_at_first}
-use Rattle.like_live.proofs.Keeping.{AreFound, AreHeld, Keeps, Keeps-all, Keeps-both, Keeps-counts, Keeps-glanced, Keeps-moves, Keeps-read, Keeps-stopped}
-use Rattle.like_live.proofs.Moving.{IsSized, Leaves-moves}
+use Rattle.like_live.proofs.Keeping.{AreFound, Keeps, Keeps-all, Keeps-both}
 use Rattle.like_live.proofs.Telling.{IsWhole}
+use Rattle.like_live.proofs.CallsKeep.{Keeps-does}
+use Rattle.like_live.proofs.Showing.{IsJustRead, shows}
 
 -- what holds of a count that was told may be said otherwise
 pub IfShown-map : (P Q R S : Shown → Type 0) → ((s : Shown) → P s → R s) → ((s : Shown) → Q s → S s)
@@ -42,240 +33,6 @@ IfShown-map P Q R S p q now (look user page tag (looked.Seen shown)) h = p _ h
 IfShown-map P Q R S p q now (glance user page (glanced.Seen shown)) h = q _ h
 IfShown-map P Q R S p q now (take_found (Some f)) h = p _ h
 IfShown-map P Q R S p q now t h = tt
-
--- phase work leaves the slice a number for each page
-sized-moves : (v after : LiveView) (answer : TurnAnswer) → IsSized v → Moves v answer after → IsSized after
-sized-moves v after answer sized m =
-    let l = Leaves-moves v after answer sized m in
-    l.sized ∙ sized ∙ ap length (sym l.same.marks)
-
--- what a seat that runs a phase keeps, by call
-Keeps-likes : (v after : LiveView) (user page : ℕ) (answer : LikeAnswer)
-    → IsSized v
-    → LikesNow v user page answer after
-    → Keeps v after
-Keeps-likes v after user page answer sized (calls.refused fails a is) = subst (Keeps v) (sym is) (Keeps-all v)
-Keeps-likes v after user page answer sized (calls.full accepted most a is) = subst (Keeps v) (sym is) (Keeps-all v)
-Keeps-likes v after user page answer sized (calls.liked old s accepted few a counts is) =
-    subst (Keeps v) (sym is)
-    (Keeps-counts v s user page old
-    (subst (λ (n : ℕ). page < n) (sym sized) (page_there v.seat user page accepted)) counts)
-
-Keeps-looks : (v after : LiveView) (user page tag : ℕ) (answer : LookAnswer)
-    → LooksNow v user page tag answer after
-    → Keeps v after
-Keeps-looks v after user page tag answer (calls.refused fails a is) = subst (Keeps v) (sym is) (Keeps-all v)
-Keeps-looks v after user page tag answer (calls.no_room accepted split none a is) =
-    subst (Keeps v) (sym is) (Keeps-all v)
-Keeps-looks v after user page tag answer (calls.seen shown s accepted plain a reads is) =
-    subst (Keeps v) (sym (is ∙ ap (with_seat v) reads.read)) (Keeps-read v page shown.count)
-Keeps-looks v after user page tag answer (calls.waits accepted split room a is) =
-    subst (Keeps v) (sym is) (record {
-      reads = λ r there. there;
-      glances = λ r there. there;
-      held = λ phase other from n h. record { within = h.within; split = h.split; kept = h.kept };
-      found = λ all. all;
-    })
-
-Keeps-glances : (v after : LiveView) (user page : ℕ) (answer : GlanceAnswer)
-    → GlancesNow v user page answer after
-    → Keeps v after
-Keeps-glances v after user page answer (calls.refused fails a is) = subst (Keeps v) (sym is) (Keeps-all v)
-Keeps-glances v after user page answer (calls.plain shown s accepted plain a reads is) =
-    subst (Keeps v) (sym (is ∙ ap (with_seat v) reads.read)) (Keeps-read v page shown.count)
-Keeps-glances v after user page answer (calls.split shown s accepted split a glances is) =
-    subst (Keeps v) (sym (is ∙ ap (with_seat v) glances.glanced)) (Keeps-glanced v page glances.count)
-
-Keeps-takes : (v after : LiveView) (taken : Option Found) → TakesFound v taken after → Keeps v after
-Keeps-takes v after taken takes = subst (Keeps v) (sym takes.1) (record {
-  reads = λ r there. there;
-  glances = λ r there. there;
-  held = λ phase other from n h. record { within = h.within; split = h.split; kept = h.kept };
-  found = λ all. All-drop (λ f. IsRead v (found_count f)) 1 v.found all;
-})
-
-Keeps-retires : (v after : LiveView) (answer : TurnAnswer) → IsSized v → RetireCase v answer after → Keeps v after
-Keeps-retires v after answer sized (calls.turns ends m) = Keeps-moves v after answer sized m
-Keeps-retires v after answer sized (calls.runs now m l) = Keeps-both v now after (Keeps-moves v now _ sized m) (by_case l)
-  where
-    by_case : RetiresNow now answer after → Keeps now after
-    by_case (calls.retires joined none a is) = subst (Keeps now) (sym is) (Keeps-stopped now _ joined)
-    by_case (calls.runs split a is) = subst (Keeps now) (sym is) (Keeps-all now)
-
--- each call keeps what the seat read
-Keeps-does : (t : Told) (v after : LiveView) → IsSized v → Does v t after → Keeps v after
-Keeps-does (turn answer) v after sized m = Keeps-moves v after answer sized m
-Keeps-does (like user page answer) v after sized d = by_case d
-  where
-    by_case : LikeCase v user page answer after → Keeps v after
-    by_case (calls.gone m a) = Keeps-moves v after _ sized m
-    by_case (calls.between m a) = Keeps-moves v after _ sized m
-    by_case (calls.runs now m l) =
-        Keeps-both v now after (Keeps-moves v now _ sized m)
-        (Keeps-likes now after user page answer (sized-moves v now _ sized m) l)
-Keeps-does (look user page tag answer) v after sized d = by_case d
-  where
-    by_case : LookCase v user page tag answer after → Keeps v after
-    by_case (calls.gone m a) = Keeps-moves v after _ sized m
-    by_case (calls.between m a) = Keeps-moves v after _ sized m
-    by_case (calls.runs now m l) =
-        Keeps-both v now after (Keeps-moves v now _ sized m) (Keeps-looks now after user page tag answer l)
-Keeps-does (glance user page answer) v after sized d = by_case d
-  where
-    by_case : GlanceCase v user page answer after → Keeps v after
-    by_case (calls.gone m a) = Keeps-moves v after _ sized m
-    by_case (calls.between m a) = Keeps-moves v after _ sized m
-    by_case (calls.runs now m l) =
-        Keeps-both v now after (Keeps-moves v now _ sized m) (Keeps-glances now after user page answer l)
-Keeps-does (take_found taken) v after sized d = Keeps-takes v after taken d
-Keeps-does (retire answer) v after sized d = Keeps-retires v after answer sized d
-
--- who is told that it runs a phase runs one
-runs-works : (v now : LiveView) (ending : Bool) → Works v ending turned.Runs now → IsRunning now.seat.post.state
-runs-works v now ending (moves.runs_joined joined e a found) =
-    subst (λ (w : LiveView). IsRunning w.seat.post.state) (sym found.rest) (running v.seat.post.state joined)
-runs-works v now ending (moves.acknowledges then joined e a found is) = absurd (cc a)
-runs-works v now ending (moves.runs_split split e a is) =
-    subst (λ (w : LiveView). IsRunning w.seat.post.state) (sym is) (some v.seat.post.state split)
-  where
-    some : (s : WorkerState) → RunsSplit s → IsRunning s
-    some (state.Runs k) h = tt
-    some (state.Answered k) h = absurd h
-    some state.Gone h = absurd h
-runs-works v now ending (moves.reports s split e a merges is) = absurd (cc a)
-
-runs-moves : (v now : LiveView) → Moves v turned.Runs now → IsRunning now.seat.post.state
-runs-moves v now (moves.is_gone gone a is) = absurd (cc a)
-runs-moves v now (moves.waits sight mask can w a is) = absurd (cc a)
-runs-moves v now (moves.works sight mask can w does) = runs-works (moves.looked v sight mask) now sight.ending does
-
--- the phase that it runs
-runs_this : (s : WorkerState) → IsRunning s → s ≡ state.Runs (phase_of s)
-runs_this (state.Runs k) h = refl
-runs_this (state.Answered k) h = absurd h
-runs_this state.Gone h = absurd h
-
--- a page is split in a split phase alone
-split_phase : (post : PostView) (page : ℕ) → slices post page ≡ true → IsSplit (phase_of post.state)
-split_phase post page split = eqb-true _ _ ((and_parts _ _ split).0)
-
--- a glance right after it: what it was told of a split page is a count on the board and the slice, which is held
-record IsJustGlanced (now : LiveView) (s : Shown) : Type 0 where
-  board : ℕ
-  from : ℕ
-  there : Contains now.seat.post.glances (page_read s.phase s.page board from)
-  sum_is : s.count ≡ board + get_or now.seat.slice s.page 0
-  held : AreHeld now s.phase s.page from (get_or now.seat.slice s.page 0)
-
-record IsJustRead (now : LiveView) (s : Shown) : Type 0 where
-  plain : slices now.seat.post s.page ≡ false → IsRead now s
-  split : slices now.seat.post s.page ≡ true → IsJustGlanced now s
-
--- right after the call: what a look was told
-shows-look : (v after : LiveView) (user page tag : ℕ) (answer : LookAnswer)
-    → LookCase v user page tag answer after
-    → IfShown (IsRead after) (IsJustRead after) after (look user page tag answer)
-shows-look v after user page tag answer d = by_case d
-  where
-    P : LookAnswer → Type 0
-    P x = IfShown (IsRead after) (IsJustRead after) after (look user page tag x)
-
-    now_case : (now : LiveView) → LooksNow now user page tag answer after → P answer
-    now_case now (calls.refused fails a is) = subst P (sym a) tt
-    now_case now (calls.no_room accepted split none a is) = subst P (sym a) tt
-    now_case now (calls.waits accepted split room a is) = subst P (sym a) tt
-    now_case now (calls.seen shown s accepted plain a reads is) =
-        subst P (sym a)
-        (subst (λ w. IfShown (IsRead w) (IsJustRead w) w (look user page tag (looked.Seen shown)))
-        (sym (is ∙ ap (with_seat now) reads.read))
-        (length now.seat.post.additions, Contains-push now.seat.post.reads _))
-
-    by_case : LookCase v user page tag answer after → P answer
-    by_case (calls.gone m a) = subst P (sym a) tt
-    by_case (calls.between m a) = subst P (sym a) tt
-    by_case (calls.runs now m l) = now_case now l
-
--- and what a glance was told
-shows-glance : (v after : LiveView) (user page : ℕ) (answer : GlanceAnswer)
-    → GlanceCase v user page answer after
-    → IfShown (IsRead after) (IsJustRead after) after (glance user page answer)
-shows-glance v after user page answer d = by_case d
-  where
-    P : GlanceAnswer → Type 0
-    P x = IfShown (IsRead after) (IsJustRead after) after (glance user page x)
-
-    now_case : (now : LiveView) → IsRunning now.seat.post.state → GlancesNow now user page answer after → P answer
-    now_case now runs (calls.refused fails a is) = subst P (sym a) tt
-    now_case now runs (calls.plain shown s accepted plain a reads is) =
-        subst P (sym a)
-        (subst (λ w. IfShown (IsRead w) (IsJustRead w) w (glance user page (glanced.Seen shown)))
-        (sym (is ∙ ap (with_seat now) reads.read))
-        (record {
-          plain = λ _. (length now.seat.post.additions, Contains-push now.seat.post.reads _);
-          split = λ split. absurd (cc (sym plain ∙ split));
-        }))
-    now_case now runs (calls.split shown s accepted split a glances is) =
-        subst P (sym a)
-        (subst (λ w. IfShown (IsRead w) (IsJustRead w) w (glance user page (glanced.Seen shown)))
-        (sym (is ∙ ap (with_seat now) glances.glanced))
-        (record {
-          plain = λ plain. absurd (cc (sym plain ∙ split));
-          split = λ _. record {
-            board = glances.count;
-            from = length now.seat.post.additions;
-            there = Contains-push now.seat.post.glances _;
-            sum_is = glances.counts;
-            held = record {
-              within = omega arith;
-              split = split_phase now.seat.post page split;
-              kept = inr (runs_this now.seat.post.state runs, omega arith);
-            };
-          };
-        }))
-
-    by_case : GlanceCase v user page answer after → P answer
-    by_case (calls.gone m a) = subst P (sym a) tt
-    by_case (calls.between m a) = subst P (sym a) tt
-    by_case (calls.runs now m l) = now_case now (runs-moves v now m) l
-
--- and what a found look was shown
-first_found : (v after : LiveView) (fs : List Found) (taken : Option Found)
-    → All (λ f. IsRead v (found_count f)) fs
-    → taken ≡ slice_get fs 0
-    → IfShown (IsRead v) (IsJustRead v) after (take_found taken)
-first_found v after [] taken all is =
-    subst (λ o. IfShown (IsRead v) (IsJustRead v) after (take_found o)) (sym is) tt
-first_found v after (f ∷ fs) taken all is =
-    subst (λ o. IfShown (IsRead v) (IsJustRead v) after (take_found o)) (sym is)
-    (All-head (λ x. IsRead v (found_count x)) f fs all)
-
-shows-take : (v after : LiveView) (taken : Option Found)
-    → AreFound v
-    → TakesFound v taken after
-    → IfShown (IsRead after) (IsJustRead after) after (take_found taken)
-shows-take v after taken found takes =
-    subst (λ w. IfShown (IsRead w) (IsJustRead w) w (take_found taken)) (sym takes.1)
-    (by_case taken (first_found v v v.found taken found takes.0))
-  where
-    now : LiveView
-    now = record v { found = drop 1 v.found }
-
-    by_case : (o : Option Found) → IfShown (IsRead v) (IsJustRead v) v (take_found o)
-        → IfShown (IsRead now) (IsJustRead now) now (take_found o)
-    by_case (Some f) h = h
-    by_case None h = tt
-
--- right after a call
-shows : (t : Told) (v after : LiveView)
-    → AreFound v
-    → Does v t after
-    → IfShown (IsRead after) (IsJustRead after) after t
-shows (turn answer) v after found d = tt
-shows (like user page answer) v after found d = tt
-shows (look user page tag answer) v after found d = shows-look v after user page tag answer d
-shows (glance user page answer) v after found d = shows-glance v after user page answer d
-shows (take_found taken) v after found d = shows-take v after taken found d
-shows (retire answer) v after found d = tt
 
 -- what calls keep, one after the other
 record Comes (v after : LiveView) : Type 0 where
@@ -298,10 +55,9 @@ still now after s keeps h = record {
       let g = h.split split in
       record {
         board = g.board;
-        after = g.from;
         there = keeps.glances _ g.there;
         sum_is = g.sum_is;
-        kept = (keeps.held s.phase s.page g.from _ g.held).kept;
+        kept = (keeps.held s.phase s.page _ _ g.held).kept;
       };
 }
 
@@ -317,3 +73,85 @@ answers_are_reads v now after t unused is =
     (λ s h. still now after s rest.keeps h)
     now t
     (shows t is.before now (first.keeps.found none) is.call)
+
+abbrev post_at : LiveView → PostView
+post_at s = s.seat.post
+
+-- each count of a list that is within its bounds is
+is_between : (counts : List ℕ) (before : ℕ → ℕ → ℕ) (last : ℕ) (own : List Addition) (reads : List PageRead)
+    (r : PageRead)
+    → AreBetween counts before last own reads
+    → Contains reads r
+    → IsBetween counts before own r
+is_between counts before last own reads r all there =
+    (All-contains (λ (x : PageRead). (x.phase ≤ last) × IsBetween counts before own x) reads r all there).1
+
+module _ (driver : LeadView) (seats : List LiveView) (back : List WorkerSeat) (same : AreBackFrom seats back) where
+  -- the seats that were given back have added the same before a phase
+  same_before : (phase page : ℕ) → seats_before back phase page ≡ seats_added_before seats phase page
+  same_before phase page =
+      sum-alike (λ (p : PostView). added_before phase page p.additions) seat_meaning post_at back seats same
+
+  -- a count that was read is within its bounds
+  read-bounded : (last : ℕ) (own : List Addition) (reads : List PageRead) (s : Shown) (from : ℕ)
+      → AreBetween driver.seat.opening.counts (seats_before back) last own reads
+      → Contains reads (page_read s.phase s.page s.count from)
+      → IsWithinAdded driver seats s
+  read-bounded last own reads s from all there =
+      let is = is_between driver.seat.opening.counts (seats_before back) last own reads
+      (page_read s.phase s.page s.count from) all there in
+      let least = is.least in
+      let most = is.most in
+      let a = same_before s.phase s.page in
+      let b = same_before (s.phase + 1) s.page in
+      record { least = omega arith; most = omega arith }
+
+  -- so is one that was glanced at, with the seat's own likes, if these were added
+  glance-bounded : (last : ℕ) (now after : LiveView) (s : Shown)
+      → after.seat.post.state ≡ Gone
+      → AreBetween driver.seat.opening.counts (seats_before back) last after.seat.post.additions after.seat.post.glances
+      → IsGlanced now after s
+      → IsWithinAdded driver seats s
+  glance-bounded last now after s gone all g =
+      let is = is_between driver.seat.opening.counts (seats_before back) last after.seat.post.additions
+      after.seat.post.glances (page_read s.phase s.page g.board (length now.seat.post.additions)) all g.there in
+      let least = is.least in
+      let most = is.most in
+      let a = same_before s.phase s.page in
+      let b = same_before (s.phase + 1) s.page in
+      let sum = g.sum_is in
+      elim g.kept [
+        | inl added ↦ record { least = omega arith; most = omega arith }
+        | inr there ↦ absurd (cc (sym there.0 ∙ gone))
+      ]
+
+-- a glance's count is one or the other
+either : (now after : LiveView) (s : Shown) → IsReadOrGlanced now after s → IsRead after s ⊎ IsGlanced now after s
+either now after s h = by_test (slices now.seat.post s.page) refl
+  where
+    by_test : (b : Bool) → slices now.seat.post s.page ≡ b → IsRead after s ⊎ IsGlanced now after s
+    by_test true is = inr (h.split is)
+    by_test false is = inl (h.plain is)
+
+pub answers_are_bounded : AnswersAreBounded
+answers_are_bounded driver seats counts v now after t closed gone there unused call =
+    let back = closed.back in
+    let gone_here = All-contains (λ (s : LiveView). s.seat.post.state ≡ Gone) seats after gone there in
+    let reads = All-contains (λ (s : LiveView). AreBetween driver.seat.opening.counts (seats_before back)
+    driver.seat.phase s.seat.post.additions s.seat.post.reads) seats after
+    (all-alike (λ (p : PostView). AreBetween driver.seat.opening.counts (seats_before back) driver.seat.phase
+    p.additions p.reads) post_at seat_meaning seats back (sym closed.posts) closed.reads) there in
+    let glances = All-contains (λ (s : LiveView). AreBetween driver.seat.opening.counts (seats_before back)
+    driver.seat.phase s.seat.post.additions s.seat.post.glances) seats after
+    (all-alike (λ (p : PostView). AreBetween driver.seat.opening.counts (seats_before back) driver.seat.phase
+    p.additions p.glances) post_at seat_meaning seats back (sym closed.posts) closed.glances) there in
+    let read : (s : Shown) → IsRead after s → IsWithinAdded driver seats s =
+    λ s r. read-bounded driver seats back closed.posts driver.seat.phase _ _ s r.0 reads r.1 in
+    IfShown-map (IsRead after) (IsReadOrGlanced now after) (IsWithinAdded driver seats) (IsWithinAdded driver seats)
+    read
+    (λ s h.
+    elim (either now after s h) [
+      | inl r ↦ read s r
+      | inr g ↦ glance-bounded driver seats back closed.posts driver.seat.phase now after s gone_here glances g
+    ])
+    now t (answers_are_reads v now after t unused call)

@@ -10,7 +10,7 @@ use Rattle.like_core.specs.declared.view.Addition.{Addition}
 use Rattle.like_core.specs.declared.view.PageRead.{PageRead}
 use Rattle.like_core.specs.declared.worker_state.WorkerState.{WorkerState}
 use Rattle.like_core.specs.declared.worker_state.WorkerState.TheVariants as state
-use Rattle.like_core.specs.Additions.{added_in, addition, page_read}
+use Rattle.like_core.specs.Additions.{added_in, addition}
 use Rattle.like_core.specs.Phase.{IsSplit}
 use Rattle.like_core.specs.Post.{answered, has_glanced, has_read, pages_of}
 use Rattle.like_core.specs.WorkerState.{RunsJoined, phase_of, seen}
@@ -20,7 +20,6 @@ use Rattle.like_seat.specs.Steps.{CountsLike}
 use Rattle.like_seat.proofs.MergedLikes.{merging-all}
 use Rattle.like_live.specs.declared.answer.TurnAnswer.{TurnAnswer}
 use Rattle.like_live.specs.declared.asked.Asked.{Asked}
-use Rattle.like_live.specs.declared.asked.Found.{Found}
 use Rattle.like_live.specs.LiveView.{LiveView, with_seat}
 use Rattle.like_live.specs.Answers.{AreKept, IsRead, found_count}
 use Rattle.like_live.specs.Moves.{FindsAll, Moves, Works, acknowledges, is_gone, looked, read_for, reports, runs_joined, runs_split, waits, with_found, works}

@@ -1,6 +1,7 @@
 pub mod Answering
 pub mod Batches
 pub mod Calling
+pub mod CallsKeep
 pub mod Closing
 pub mod Finding
 pub mod Gone
@@ -10,5 +11,6 @@ pub mod Keeping
 pub mod Moving
 pub mod Newly
 pub mod Requests
+pub mod Showing
 pub mod Telling
 pub mod Turning

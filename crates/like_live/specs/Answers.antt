@@ -1,5 +1,5 @@
 -- The counts that a seat's calls were told, and what the seat read.
-use Rattle.std.specs.Prelude.{◌≡◌, ◌⊎◌, ℕ, ◌+◌, ◌≤◌, true, false, List, drop, slice_index, Contains, Some}
+use Rattle.std.specs.Prelude.{◌≡◌, ◌⊎◌, ℕ, ◌+◌, ◌≤◌, true, false, List, drop, length, slice_index, Contains, Some}
 use Rattle.std.specs.List.{sum_by}
 use Rattle.like_core.specs.declared.worker_state.WorkerState.TheVariants.{Runs}
 use Rattle.like_core.specs.Additions.{added_before, added_in, page_read}
@@ -48,10 +48,9 @@ AreKept v phase page after n =
 -- in its slice right after the call; and these likes are kept
 pub record IsGlanced (now v : LiveView) (s : Shown) : Type 0 where
   pub board : ℕ
-  pub after : ℕ
-  pub there : Contains v.seat.post.glances (page_read s.phase s.page board after)
+  pub there : Contains v.seat.post.glances (page_read s.phase s.page board (length now.seat.post.additions))
   pub sum_is : s.count ≡ board + slice_index now.seat.slice s.page
-  pub kept : AreKept v s.phase s.page after (slice_index now.seat.slice s.page)
+  pub kept : AreKept v s.phase s.page (length now.seat.post.additions) (slice_index now.seat.slice s.page)
 
 -- the count that a glance was told: of a page that is not split then, it is that of a read; of one that is, that of a
 -- glance and the seat's own likes

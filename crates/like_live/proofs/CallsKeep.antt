@@ -1,0 +1,104 @@
+-- What each call keeps of what the seat read and glanced at.
+use Rattle.std.proofs.Common.{ℕ, ◌<◌, length, Option, ap, sym, ◌∙◌, subst}
+use Rattle.std.proofs.lemmas.List.Elements.{All-drop}
+use Rattle.like_live.specs.declared.answer.GlanceAnswer.{GlanceAnswer}
+use Rattle.like_live.specs.declared.answer.LikeAnswer.{LikeAnswer}
+use Rattle.like_live.specs.declared.answer.LookAnswer.{LookAnswer}
+use Rattle.like_live.specs.declared.answer.TurnAnswer.{TurnAnswer}
+use Rattle.like_live.specs.declared.asked.Found.{Found}
+use Rattle.like_live.specs.LiveView.{LiveView, with_seat}
+use Rattle.like_live.specs.Answers.{IsRead, found_count}
+use Rattle.like_live.specs.Calls as calls
+use Rattle.like_live.specs.Calls.{GlanceCase, GlancesNow, LikeCase, LikesNow, LookCase, LooksNow, RetireCase, RetiresNow, TakesFound}
+use Rattle.like_live.specs.History.{Does, Told, glance, like, look, retire, take_found, turn}
+use Rattle.like_live.specs.Moves.{Moves}
+use Rattle.like_live.proofs.Calling.{page_there}
+use Rattle.like_live.proofs.Keeping.{Keeps, Keeps-all, Keeps-both, Keeps-counts, Keeps-glanced, Keeps-moves, Keeps-read, Keeps-stopped}
+use Rattle.like_live.proofs.Moving.{IsSized, Leaves-moves}
+
+-- phase work leaves the slice a number for each page
+sized-moves : (v after : LiveView) (answer : TurnAnswer) → IsSized v → Moves v answer after → IsSized after
+sized-moves v after answer sized m =
+    let l = Leaves-moves v after answer sized m in
+    l.sized ∙ sized ∙ ap length (sym l.same.marks)
+
+-- what a seat that runs a phase keeps, by call
+Keeps-likes : (v after : LiveView) (user page : ℕ) (answer : LikeAnswer)
+    → IsSized v
+    → LikesNow v user page answer after
+    → Keeps v after
+Keeps-likes v after user page answer sized (calls.refused fails a is) = subst (Keeps v) (sym is) (Keeps-all v)
+Keeps-likes v after user page answer sized (calls.full accepted most a is) = subst (Keeps v) (sym is) (Keeps-all v)
+Keeps-likes v after user page answer sized (calls.liked old s accepted few a counts is) =
+    subst (Keeps v) (sym is)
+    (Keeps-counts v s user page old
+    (subst (λ (n : ℕ). page < n) (sym sized) (page_there v.seat user page accepted)) counts)
+
+Keeps-looks : (v after : LiveView) (user page tag : ℕ) (answer : LookAnswer)
+    → LooksNow v user page tag answer after
+    → Keeps v after
+Keeps-looks v after user page tag answer (calls.refused fails a is) = subst (Keeps v) (sym is) (Keeps-all v)
+Keeps-looks v after user page tag answer (calls.no_room accepted split none a is) =
+    subst (Keeps v) (sym is) (Keeps-all v)
+Keeps-looks v after user page tag answer (calls.seen shown s accepted plain a reads is) =
+    subst (Keeps v) (sym (is ∙ ap (with_seat v) reads.read)) (Keeps-read v page shown.count)
+Keeps-looks v after user page tag answer (calls.waits accepted split room a is) =
+    subst (Keeps v) (sym is) (record {
+      reads = λ r there. there;
+      glances = λ r there. there;
+      held = λ phase other from n h. record { within = h.within; split = h.split; kept = h.kept };
+      found = λ all. all;
+    })
+
+Keeps-glances : (v after : LiveView) (user page : ℕ) (answer : GlanceAnswer)
+    → GlancesNow v user page answer after
+    → Keeps v after
+Keeps-glances v after user page answer (calls.refused fails a is) = subst (Keeps v) (sym is) (Keeps-all v)
+Keeps-glances v after user page answer (calls.plain shown s accepted plain a reads is) =
+    subst (Keeps v) (sym (is ∙ ap (with_seat v) reads.read)) (Keeps-read v page shown.count)
+Keeps-glances v after user page answer (calls.split shown s accepted split a glances is) =
+    subst (Keeps v) (sym (is ∙ ap (with_seat v) glances.glanced)) (Keeps-glanced v page glances.count)
+
+Keeps-takes : (v after : LiveView) (taken : Option Found) → TakesFound v taken after → Keeps v after
+Keeps-takes v after taken takes = subst (Keeps v) (sym takes.1) (record {
+  reads = λ r there. there;
+  glances = λ r there. there;
+  held = λ phase other from n h. record { within = h.within; split = h.split; kept = h.kept };
+  found = λ all. All-drop (λ f. IsRead v (found_count f)) 1 v.found all;
+})
+
+Keeps-retires : (v after : LiveView) (answer : TurnAnswer) → IsSized v → RetireCase v answer after → Keeps v after
+Keeps-retires v after answer sized (calls.turns ends m) = Keeps-moves v after answer sized m
+Keeps-retires v after answer sized (calls.runs now m l) = Keeps-both v now after (Keeps-moves v now _ sized m) (by_case l)
+  where
+    by_case : RetiresNow now answer after → Keeps now after
+    by_case (calls.retires joined none a is) = subst (Keeps now) (sym is) (Keeps-stopped now _ joined)
+    by_case (calls.runs split a is) = subst (Keeps now) (sym is) (Keeps-all now)
+
+-- each call keeps what the seat read
+pub Keeps-does : (t : Told) (v after : LiveView) → IsSized v → Does v t after → Keeps v after
+Keeps-does (turn answer) v after sized m = Keeps-moves v after answer sized m
+Keeps-does (like user page answer) v after sized d = by_case d
+  where
+    by_case : LikeCase v user page answer after → Keeps v after
+    by_case (calls.gone m a) = Keeps-moves v after _ sized m
+    by_case (calls.between m a) = Keeps-moves v after _ sized m
+    by_case (calls.runs now m l) =
+        Keeps-both v now after (Keeps-moves v now _ sized m)
+        (Keeps-likes now after user page answer (sized-moves v now _ sized m) l)
+Keeps-does (look user page tag answer) v after sized d = by_case d
+  where
+    by_case : LookCase v user page tag answer after → Keeps v after
+    by_case (calls.gone m a) = Keeps-moves v after _ sized m
+    by_case (calls.between m a) = Keeps-moves v after _ sized m
+    by_case (calls.runs now m l) =
+        Keeps-both v now after (Keeps-moves v now _ sized m) (Keeps-looks now after user page tag answer l)
+Keeps-does (glance user page answer) v after sized d = by_case d
+  where
+    by_case : GlanceCase v user page answer after → Keeps v after
+    by_case (calls.gone m a) = Keeps-moves v after _ sized m
+    by_case (calls.between m a) = Keeps-moves v after _ sized m
+    by_case (calls.runs now m l) =
+        Keeps-both v now after (Keeps-moves v now _ sized m) (Keeps-glances now after user page answer l)
+Keeps-does (take_found taken) v after sized d = Keeps-takes v after taken d
+Keeps-does (retire answer) v after sized d = Keeps-retires v after answer sized d

@@ -1,0 +1,171 @@
+-- What each call shows, right after it.
+use Rattle.std.proofs.Common.{◌≡◌, ℕ, ◌+◌, Bool, true, false, List, [], ◌∷◌, drop, get_or, length, Option, Some, None, refl, ap, sym, ◌∙◌, subst, inr, arith}
+use Rattle.std.specs.List.{All, Contains, slice_get}
+use Rattle.std.proofs.lemmas.Bool.{and_parts, eqb-true}
+use Rattle.std.proofs.lemmas.List.Elements.{All-head, Contains-push}
+use Rattle.like_core.specs.declared.worker_state.WorkerState.{WorkerState}
+use Rattle.like_core.specs.declared.worker_state.WorkerState.TheVariants as state
+use Rattle.like_core.specs.Additions.{page_read}
+use Rattle.like_core.specs.Phase.{IsSplit}
+use Rattle.like_core.specs.Post.{PostView, slices}
+use Rattle.like_core.specs.WorkerState.{IsRunning, RunsSplit, phase_of}
+use Rattle.like_live.specs.declared.answer.GlanceAnswer.{GlanceAnswer}
+use Rattle.like_live.specs.declared.answer.GlanceAnswer.TheVariants as glanced
+use Rattle.like_live.specs.declared.answer.LookAnswer.{LookAnswer}
+use Rattle.like_live.specs.declared.answer.LookAnswer.TheVariants as looked
+use Rattle.like_live.specs.declared.answer.TurnAnswer.TheVariants as turned
+use Rattle.like_live.specs.declared.asked.Found.{Found}
+use Rattle.like_live.specs.LiveView.{LiveView, with_seat}
+use Rattle.like_live.specs.Answers.{IfShown, IsRead, Shown, found_count}
+use Rattle.like_live.specs.Calls as calls
+use Rattle.like_live.specs.Calls.{GlanceCase, GlancesNow, LikeCase, LikesNow, LookCase, LooksNow, RetireCase, RetiresNow, TakesFound}
+use Rattle.like_live.specs.History.{Does, Told, glance, like, look, retire, take_found, turn}
+use Rattle.like_live.specs.Moves as moves
+use Rattle.like_live.specs.Moves.{Moves, Works}
+use Rattle.like_live.proofs.Finding.{running}
+use Rattle.like_live.proofs.Keeping.{AreFound, AreHeld}
+
+-- who is told that it runs a phase runs one
+runs-works : (v now : LiveView) (ending : Bool) → Works v ending turned.Runs now → IsRunning now.seat.post.state
+runs-works v now ending (moves.runs_joined joined e a found) =
+    subst (λ (w : LiveView). IsRunning w.seat.post.state) (sym found.rest) (running v.seat.post.state joined)
+runs-works v now ending (moves.acknowledges then joined e a found is) = absurd (cc a)
+runs-works v now ending (moves.runs_split split e a is) =
+    subst (λ (w : LiveView). IsRunning w.seat.post.state) (sym is) (some v.seat.post.state split)
+  where
+    some : (s : WorkerState) → RunsSplit s → IsRunning s
+    some (state.Runs k) h = tt
+    some (state.Answered k) h = absurd h
+    some state.Gone h = absurd h
+runs-works v now ending (moves.reports s split e a merges is) = absurd (cc a)
+
+runs-moves : (v now : LiveView) → Moves v turned.Runs now → IsRunning now.seat.post.state
+runs-moves v now (moves.is_gone gone a is) = absurd (cc a)
+runs-moves v now (moves.waits sight mask can w a is) = absurd (cc a)
+runs-moves v now (moves.works sight mask can w does) = runs-works (moves.looked v sight mask) now sight.ending does
+
+-- the phase that it runs
+runs_this : (s : WorkerState) → IsRunning s → s ≡ state.Runs (phase_of s)
+runs_this (state.Runs k) h = refl
+runs_this (state.Answered k) h = absurd h
+runs_this state.Gone h = absurd h
+
+-- a page is split in a split phase alone
+split_phase : (post : PostView) (page : ℕ) → slices post page ≡ true → IsSplit (phase_of post.state)
+split_phase post page split = eqb-true _ _ ((and_parts _ _ split).0)
+
+-- a glance right after it: what it was told of a split page is a count on the board and the slice, which is held
+pub record IsJustGlanced (now : LiveView) (s : Shown) : Type 0 where
+  pub board : ℕ
+  pub there : Contains now.seat.post.glances (page_read s.phase s.page board (length now.seat.post.additions))
+  pub sum_is : s.count ≡ board + get_or now.seat.slice s.page 0
+  pub held : AreHeld now s.phase s.page (length now.seat.post.additions) (get_or now.seat.slice s.page 0)
+
+pub record IsJustRead (now : LiveView) (s : Shown) : Type 0 where
+  pub plain : slices now.seat.post s.page ≡ false → IsRead now s
+  pub split : slices now.seat.post s.page ≡ true → IsJustGlanced now s
+
+-- right after the call: what a look was told
+shows-look : (v after : LiveView) (user page tag : ℕ) (answer : LookAnswer)
+    → LookCase v user page tag answer after
+    → IfShown (IsRead after) (IsJustRead after) after (look user page tag answer)
+shows-look v after user page tag answer d = by_case d
+  where
+    P : LookAnswer → Type 0
+    P x = IfShown (IsRead after) (IsJustRead after) after (look user page tag x)
+
+    now_case : (now : LiveView) → LooksNow now user page tag answer after → P answer
+    now_case now (calls.refused fails a is) = subst P (sym a) tt
+    now_case now (calls.no_room accepted split none a is) = subst P (sym a) tt
+    now_case now (calls.waits accepted split room a is) = subst P (sym a) tt
+    now_case now (calls.seen shown s accepted plain a reads is) =
+        subst P (sym a)
+        (subst (λ w. IfShown (IsRead w) (IsJustRead w) w (look user page tag (looked.Seen shown)))
+        (sym (is ∙ ap (with_seat now) reads.read))
+        (length now.seat.post.additions, Contains-push now.seat.post.reads _))
+
+    by_case : LookCase v user page tag answer after → P answer
+    by_case (calls.gone m a) = subst P (sym a) tt
+    by_case (calls.between m a) = subst P (sym a) tt
+    by_case (calls.runs now m l) = now_case now l
+
+-- and what a glance was told
+shows-glance : (v after : LiveView) (user page : ℕ) (answer : GlanceAnswer)
+    → GlanceCase v user page answer after
+    → IfShown (IsRead after) (IsJustRead after) after (glance user page answer)
+shows-glance v after user page answer d = by_case d
+  where
+    P : GlanceAnswer → Type 0
+    P x = IfShown (IsRead after) (IsJustRead after) after (glance user page x)
+
+    now_case : (now : LiveView) → IsRunning now.seat.post.state → GlancesNow now user page answer after → P answer
+    now_case now runs (calls.refused fails a is) = subst P (sym a) tt
+    now_case now runs (calls.plain shown s accepted plain a reads is) =
+        subst P (sym a)
+        (subst (λ w. IfShown (IsRead w) (IsJustRead w) w (glance user page (glanced.Seen shown)))
+        (sym (is ∙ ap (with_seat now) reads.read))
+        (record {
+          plain = λ _. (length now.seat.post.additions, Contains-push now.seat.post.reads _);
+          split = λ split. absurd (cc (sym plain ∙ split));
+        }))
+    now_case now runs (calls.split shown s accepted split a glances is) =
+        subst P (sym a)
+        (subst (λ w. IfShown (IsRead w) (IsJustRead w) w (glance user page (glanced.Seen shown)))
+        (sym (is ∙ ap (with_seat now) glances.glanced))
+        (record {
+          plain = λ plain. absurd (cc (sym plain ∙ split));
+          split = λ _. record {
+            board = glances.count;
+            there = Contains-push now.seat.post.glances _;
+            sum_is = glances.counts;
+            held = record {
+              within = omega arith;
+              split = split_phase now.seat.post page split;
+              kept = inr (runs_this now.seat.post.state runs, omega arith);
+            };
+          };
+        }))
+
+    by_case : GlanceCase v user page answer after → P answer
+    by_case (calls.gone m a) = subst P (sym a) tt
+    by_case (calls.between m a) = subst P (sym a) tt
+    by_case (calls.runs now m l) = now_case now (runs-moves v now m) l
+
+-- and what a found look was shown
+first_found : (v after : LiveView) (fs : List Found) (taken : Option Found)
+    → All (λ f. IsRead v (found_count f)) fs
+    → taken ≡ slice_get fs 0
+    → IfShown (IsRead v) (IsJustRead v) after (take_found taken)
+first_found v after [] taken all is =
+    subst (λ o. IfShown (IsRead v) (IsJustRead v) after (take_found o)) (sym is) tt
+first_found v after (f ∷ fs) taken all is =
+    subst (λ o. IfShown (IsRead v) (IsJustRead v) after (take_found o)) (sym is)
+    (All-head (λ x. IsRead v (found_count x)) f fs all)
+
+shows-take : (v after : LiveView) (taken : Option Found)
+    → AreFound v
+    → TakesFound v taken after
+    → IfShown (IsRead after) (IsJustRead after) after (take_found taken)
+shows-take v after taken found takes =
+    subst (λ w. IfShown (IsRead w) (IsJustRead w) w (take_found taken)) (sym takes.1)
+    (by_case taken (first_found v v v.found taken found takes.0))
+  where
+    now : LiveView
+    now = record v { found = drop 1 v.found }
+
+    by_case : (o : Option Found) → IfShown (IsRead v) (IsJustRead v) v (take_found o)
+        → IfShown (IsRead now) (IsJustRead now) now (take_found o)
+    by_case (Some f) h = h
+    by_case None h = tt
+
+-- right after a call
+pub shows : (t : Told) (v after : LiveView)
+    → AreFound v
+    → Does v t after
+    → IfShown (IsRead after) (IsJustRead after) after t
+shows (turn answer) v after found d = tt
+shows (like user page answer) v after found d = tt
+shows (look user page tag answer) v after found d = shows-look v after user page tag answer d
+shows (glance user page answer) v after found d = shows-glance v after user page answer d
+shows (take_found taken) v after found d = shows-take v after taken found d
+shows (retire answer) v after found d = tt
