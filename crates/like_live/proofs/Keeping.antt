@@ -105,7 +105,7 @@ mapped : {X Y : Type 0} (f : X → Y) (xs : List X) (k : ℕ) (d : X) → k < le
 mapped f xs k d below = (k, omega (arith, length-map xs f), get_or-map f xs k d (f (get_or xs k d)) below)
 
 -- looks that are found
-Keeps-finds : (v after : LiveView) → FindsAll v after → Keeps v after
+pub Keeps-finds : (v after : LiveView) → FindsAll v after → Keeps v after
 Keeps-finds v after f = subst (Keeps v) (sym f.rest) (record {
   reads = λ r there. Contains-append_left v.seat.post.reads _ r there;
   glances = λ r there. there;

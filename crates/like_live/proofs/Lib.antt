@@ -1,5 +1,6 @@
 pub mod Answering
 pub mod Batches
+pub mod Bounding
 pub mod Calling
 pub mod CallsKeep
 pub mod Closing

@@ -25,6 +25,16 @@ use Rattle.like_live.specs.Moves.{Moves, Works}
 use Rattle.like_live.proofs.Finding.{running}
 use Rattle.like_live.proofs.Keeping.{AreFound, AreHeld}
 
+-- what holds of a count that was told may be said otherwise
+pub IfShown-map : (P Q R S : Shown → Type 0) → ((s : Shown) → P s → R s) → ((s : Shown) → Q s → S s)
+    → (now : LiveView) (t : Told)
+    → IfShown P Q now t
+    → IfShown R S now t
+IfShown-map P Q R S p q now (look user page tag (looked.Seen shown)) h = p _ h
+IfShown-map P Q R S p q now (glance user page (glanced.Seen shown)) h = q _ h
+IfShown-map P Q R S p q now (take_found (Some f)) h = p _ h
+IfShown-map P Q R S p q now t h = tt
+
 -- who is told that it runs a phase runs one
 runs-works : (v now : LiveView) (ending : Bool) → Works v ending turned.Runs now → IsRunning now.seat.post.state
 runs-works v now ending (moves.runs_joined joined e a found) =

@@ -64,8 +64,8 @@ abbrev pub total_of : DriverView → List LiveView → ℕ → ℕ
 total_of v seats page = slice_index v.lead.seat.opening.counts page + sum_by (λ s. tally s page) seats
 
 -- what is known of a closed service: each page's last count is its total; no seat added in a phase after the driver's;
--- each count that a look or a glance was shown is within its bounds; each snapshot has all additions up to its phase;
--- each phase had one mask; and the additions of all seats tile each page's counts
+-- each count that a seat read or glanced at is within its bounds; each snapshot has all additions up to its phase; each
+-- phase had one mask; and the additions of all seats tile each page's counts
 pub record IsClosedService (v : DriverView) (seats : List LiveView) (counts : List ℕ) : Type 0 where
   pub len : length counts ≡ length v.lead.seat.opening.counts
   pub totals : (page : ℕ) → page < length counts → slice_index counts page ≡ total_of v seats page

@@ -1,5 +1,5 @@
-//! The laws of a live seat's histories, and of a service's seats at a moment of their board. Each is the contract of a
-//! function that does nothing.
+//! The laws of a live seat's histories and answers, and of a service's seats at a moment of their board. Each is the
+//! contract of a function that does nothing.
 ghost use Rattle.like_live.specs.Answers.{AnswersAreBounded, AnswersAreReads};
 ghost use Rattle.like_live.specs.History.{HistoriesAreCounted, NoneWaitsOnceGone};
 ghost use Rattle.like_live.specs.Moments.{LastCountsAreTallies, SeatsAreExclusive};
@@ -28,15 +28,15 @@ pub fn last_counts_are_tallies()
     ensures { LastCountsAreTallies }
 {}
 
-/// Whatever calls a fresh seat is asked: each count that a look was told, at once or when it was taken as found, is one
-/// that the seat read of its page, in the phase in which the look ran. So is each count that a glance was told of a page
-/// that is not split. Of a split page, it is a count at which the seat glanced plus the seat's slice of the page, and
-/// these likes are among those that the seat adds later in that phase.
+/// Whatever calls a fresh seat is asked: each count that a look is told, at once or with a found look that is taken, is
+/// one that the seat read of its page, in the phase in which the look ran. So is each count that a glance is told of a
+/// page that isn't split. Of a split page, it is a count at which the seat glanced plus the seat's slice of the page.
+/// The seat adds these likes in that phase, or has them in its slice still.
 pub fn answers_are_reads()
     ensures { AnswersAreReads }
 {}
 
-/// Each count that a seat of a closed service was told has the page's first count and all likes that the seats added in
+/// Each count that a call of a closed service was told has the page's first count and all likes that the seats added in
 /// earlier phases, and none that a seat added in a later one.
 pub fn answers_are_bounded()
     ensures { AnswersAreBounded }

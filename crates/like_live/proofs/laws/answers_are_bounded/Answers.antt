@@ -1,4 +1,4 @@
-use Rattle.like_live.proofs.Answering.{answers_are_bounded}
+use Rattle.like_live.proofs.Bounding.{answers_are_bounded}
 use Rattle.like_live.proofs.laws.answers_are_bounded.Goals as goal
 
 pub returns : goal.returns
