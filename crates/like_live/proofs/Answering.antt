@@ -1,12 +1,12 @@
 -- The law of answers.
-use Rattle.std.proofs.Common.{List, [], ◌∷◌, sym, subst}
+use Rattle.std.proofs.Common.{List, [], ◌∷◌, get_or, refl, sym, subst}
 use Rattle.std.specs.List.{All}
 use Rattle.std.proofs.lemmas.List.Elements.{All-nil}
 use Rattle.like_live.specs.LiveView.{LiveView}
 use Rattle.like_live.specs.Answers.{AnswersAreReads, IsRead, IsReadOrGlanced, Shown, found_count}
 use Rattle.like_live.specs.History.{HasDone, Told}
 use Rattle.like_live.proofs.Histories.{told-does, whole_at_first}
-use Rattle.like_live.proofs.Keeping.{AreFound, Keeps, Keeps-all, Keeps-both}
+use Rattle.like_live.proofs.Keeping.{AreFound, IsRead-later, Keeps, Keeps-all, Keeps-both, own-later}
 use Rattle.like_live.proofs.Telling.{IsWhole}
 use Rattle.like_live.proofs.CallsKeep.{Keeps-does}
 use Rattle.like_live.proofs.Showing.{IfShown-map, IsJustRead, shows}
@@ -27,13 +27,17 @@ comes (t ∷ told) v after whole d =
 -- what was read or glanced at right after a call was so at the end
 still : (now after : LiveView) (s : Shown) → Keeps now after → IsJustRead now s → IsReadOrGlanced now after s
 still now after s keeps h = record {
-  plain = λ plain. let r = h.plain plain in (r.0, keeps.reads _ r.1);
+  plain = λ plain. IsRead-later now after s keeps (h.plain plain);
   split = λ split.
       let g = h.split split in
       record {
+        after = g.from;
         board = g.board;
+        sliced = get_or now.seat.slice s.page 0;
         there = keeps.glances _ g.there;
-        sum_is = g.sum_is;
+        sliced_is = refl;
+        count_is = g.count_is;
+        own = own-later now after s.phase s.page g.from s.own _ keeps g.own;
         kept = (keeps.held s.phase s.page _ _ g.held).kept;
       };
 }
@@ -46,7 +50,7 @@ answers_are_reads v now after t unused is =
     let whole = (told-does t is.before now first.whole is.call).whole in
     let rest = comes is.later now after whole is.rest in
     IfShown-map (IsRead now) (IsJustRead now) (IsRead after) (IsReadOrGlanced now after)
-    (λ s r. (r.0, rest.keeps.reads _ r.1))
+    (λ s r. IsRead-later now after s rest.keeps r)
     (λ s h. still now after s rest.keeps h)
     now t
     (shows t is.before now (first.keeps.found none) is.call)

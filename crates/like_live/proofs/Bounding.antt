@@ -1,5 +1,5 @@
 -- The bounds of what was told.
-use Rattle.std.proofs.Common.{◌≡◌, ℕ, ◌+◌, ◌⊎◌, ◌≤◌, Bool, true, false, List, length, refl, sym, ◌∙◌, inl, inr, arith}
+use Rattle.std.proofs.Common.{◌≡◌, ℕ, ◌+◌, ◌⊎◌, ◌≤◌, Bool, true, false, List, refl, sym, ◌∙◌, inl, inr, arith}
 use Rattle.std.specs.List.{All, Contains}
 use Rattle.std.proofs.lemmas.List.Elements.{All-contains}
 use Rattle.like_core.specs.declared.view.Addition.{Addition}
@@ -63,6 +63,7 @@ module _ (driver : LeadView) (seats : List LiveView) (back : List WorkerSeat) (s
   read-bounded s all r =
       let is = is_between first (seats_before back) driver.seat.phase after.seat.post.additions after.seat.post.reads
       (page_read s.phase s.page s.count r.0) all r.1 in
+      let own = r.2 in
       let least = is.least in
       let most = is.most in
       let a = same_before s.phase s.page in
@@ -77,12 +78,13 @@ module _ (driver : LeadView) (seats : List LiveView) (back : List WorkerSeat) (s
       → IsWithinAdded driver seats s
   glance-bounded now s gone all g =
       let is = is_between first (seats_before back) driver.seat.phase after.seat.post.additions after.seat.post.glances
-      (page_read s.phase s.page g.board (length now.seat.post.additions)) all g.there in
+      (page_read s.phase s.page g.board g.after) all g.there in
+      let own = g.own in
       let least = is.least in
       let most = is.most in
       let a = same_before s.phase s.page in
       let b = same_before (s.phase + 1) s.page in
-      let sum = g.sum_is in
+      let sum = g.count_is in
       elim g.kept [
         | inl added ↦ record { least = omega arith; most = omega arith }
         | inr still ↦ absurd (cc (sym still.0 ∙ gone))

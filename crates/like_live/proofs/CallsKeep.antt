@@ -1,5 +1,5 @@
 -- What each call keeps of what the seat read and glanced at.
-use Rattle.std.proofs.Common.{ℕ, ◌<◌, length, Option, ap, sym, ◌∙◌, subst}
+use Rattle.std.proofs.Common.{ℕ, ◌<◌, length, Option, ap, sym, ◌∙◌, subst, [], append-nil}
 use Rattle.std.proofs.lemmas.List.Elements.{All-drop}
 use Rattle.like_live.specs.declared.answer.GlanceAnswer.{GlanceAnswer}
 use Rattle.like_live.specs.declared.answer.LikeAnswer.{LikeAnswer}
@@ -46,6 +46,8 @@ Keeps-looks v after user page tag answer (calls.waits accepted split room a is) 
     subst (Keeps v) (sym is) (record {
       reads = λ r there. there;
       glances = λ r there. there;
+      more = [];
+      additions = sym (append-nil v.seat.post.additions);
       held = λ phase other from n h. record { within = h.within; split = h.split; kept = h.kept };
       found = λ all. all;
     })
@@ -63,6 +65,8 @@ Keeps-takes : (v after : LiveView) (taken : Option Found) → TakesFound v taken
 Keeps-takes v after taken takes = subst (Keeps v) (sym takes.1) (record {
   reads = λ r there. there;
   glances = λ r there. there;
+  more = [];
+  additions = sym (append-nil v.seat.post.additions);
   held = λ phase other from n h. record { within = h.within; split = h.split; kept = h.kept };
   found = λ all. All-drop (λ f. IsRead v (found_count f)) 1 v.found all;
 })

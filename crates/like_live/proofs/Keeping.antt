@@ -1,10 +1,10 @@
 -- What a seat keeps of what it read and glanced at, whatever it does next.
-use Rattle.std.proofs.Common.{◌≡◌, ℕ, ◌+◌, ◌<◌, ◌≤◌, ◌==◌, Bool, List, [], ◌∷◌, ◌++◌, cond, drop, get_or, length, map, Option, Some, None, ap, sym, ◌∙◌, subst, inl, inr, arith, length-append}
-use Rattle.std.specs.List.{All, Contains}
+use Rattle.std.proofs.Common.{◌≡◌, ℕ, zero, suc, ◌+◌, ◌<◌, ◌≤◌, ◌==◌, ◌&&◌, Bool, List, [], ◌∷◌, ◌++◌, cond, drop, take, get_or, length, map, Option, Some, None, refl, ap, sym, ◌∙◌, subst, inl, inr, arith, append-nil, append_assoc, length-append}
+use Rattle.std.specs.List.{All, Contains, sum_by}
 use Rattle.std.proofs.lemmas.Bool.{eq-eqb}
 use Rattle.std.proofs.lemmas.List.{drop-append-le, get_or-map, length-map}
 use Rattle.std.proofs.lemmas.List.Elements.{All-append, Contains-append_left, Contains-append_right}
-use Rattle.std.proofs.lemmas.List.Sums.{sum_by-append}
+use Rattle.std.proofs.lemmas.List.Sums.{sum_by-append, sum_by-cons}
 use Rattle.like_core.specs.declared.sight.Sight.{Sight}
 use Rattle.like_core.specs.declared.view.Addition.{Addition}
 use Rattle.like_core.specs.declared.view.PageRead.{PageRead}
@@ -21,7 +21,7 @@ use Rattle.like_seat.proofs.MergedLikes.{merging-all}
 use Rattle.like_live.specs.declared.answer.TurnAnswer.{TurnAnswer}
 use Rattle.like_live.specs.declared.asked.Asked.{Asked}
 use Rattle.like_live.specs.LiveView.{LiveView, with_seat}
-use Rattle.like_live.specs.Answers.{AreKept, IsRead, found_count}
+use Rattle.like_live.specs.Answers.{AreKept, IsRead, Shown, found_count}
 use Rattle.like_live.specs.Moves.{FindsAll, Moves, Works, acknowledges, is_gone, looked, read_for, reports, runs_joined, runs_split, waits, with_found, works}
 use Rattle.like_live.proofs.Calling.{slice-more}
 use Rattle.like_live.proofs.Moving.{IsSized}
@@ -36,10 +36,12 @@ pub record AreHeld (v : LiveView) (phase page from n : ℕ) : Type 0 where
 abbrev pub AreFound : LiveView → Type 0
 AreFound v = All (λ f. IsRead v (found_count f)) v.found
 
--- what was read and glanced at stays so, and what is kept stays kept
+-- what was read and glanced at stays so, what was added stands first, and what is kept stays kept
 pub record Keeps (v after : LiveView) : Type 0 where
   pub reads : (r : PageRead) → Contains v.seat.post.reads r → Contains after.seat.post.reads r
   pub glances : (r : PageRead) → Contains v.seat.post.glances r → Contains after.seat.post.glances r
+  pub more : List Addition
+  pub additions : after.seat.post.additions ≡ v.seat.post.additions ++ more
   pub held : (phase page from n : ℕ) → AreHeld v phase page from n → AreHeld after phase page from n
   pub found : AreFound v → AreFound after
 
@@ -47,6 +49,8 @@ pub Keeps-all : (v : LiveView) → Keeps v v
 Keeps-all v = record {
   reads = λ r there. there;
   glances = λ r there. there;
+  more = [];
+  additions = sym (append-nil v.seat.post.additions);
   held = λ phase page from n h. h;
   found = λ all. all;
 }
@@ -55,15 +59,44 @@ pub Keeps-both : (v now after : LiveView) → Keeps v now → Keeps now after �
 Keeps-both v now after a b = record {
   reads = λ r there. b.reads r (a.reads r there);
   glances = λ r there. b.glances r (a.glances r there);
+  more = a.more ++ b.more;
+  additions =
+      b.additions ∙ ap (λ xs. xs ++ b.more) a.additions ∙ append_assoc v.seat.post.additions a.more b.more;
   held = λ phase page from n h. b.held phase page from n (a.held phase page from n h);
   found = λ all. b.found (a.found all);
 }
+
+-- the first of more additions have no less
+take-more : (f : Addition → ℕ) (n : ℕ) (xs ys : List Addition) → sum_by f (take n xs) ≤ sum_by f (take n (xs ++ ys))
+take-more f zero xs ys = omega arith
+take-more f (suc n) [] ys = omega arith
+take-more f (suc n) (x ∷ xs) ys =
+    let less = take-more f n xs ys in
+    omega (arith, sum_by-cons f x (take n xs), sum_by-cons f x (take n (xs ++ ys)))
+
+-- own likes are among the same first additions, once there are more
+pub own-later : (v after : LiveView) (phase page from own slice : ℕ)
+    → Keeps v after
+    → own ≤ added_in phase page (take from v.seat.post.additions) + slice
+    → own ≤ added_in phase page (take from after.seat.post.additions) + slice
+own-later v after phase page from own slice keeps few =
+    let f : Addition → ℕ = λ a. cond ((a.phase == phase) && (a.page == page)) a.likes 0 in
+    let some = take-more f from v.seat.post.additions keeps.more in
+    subst (λ xs. own ≤ added_in phase page (take from xs) + slice) (sym keeps.additions) (omega arith)
+
+-- a count that was read is
+pub IsRead-later : (v after : LiveView) (s : Shown) → Keeps v after → IsRead v s → IsRead after s
+IsRead-later v after s keeps r =
+    let few = own-later v after s.phase s.page r.0 s.own 0 keeps (omega (arith, r.2)) in
+    (r.0, keeps.reads _ r.1, omega arith)
 
 -- a look at the phase word
 Keeps-looked : (v : LiveView) (sight : Sight) (mask : ℕ) → Keeps v (looked v sight mask)
 Keeps-looked v sight mask = record {
   reads = λ r there. there;
   glances = λ r there. there;
+  more = [];
+  additions = sym (append-nil v.seat.post.additions);
   held = λ phase page from n h. record {
     within = h.within;
     split = h.split;
@@ -85,6 +118,8 @@ pub Keeps-stopped : (v : LiveView) (s : WorkerState) → RunsJoined v.seat.post.
 Keeps-stopped v s joined = record {
   reads = λ r there. there;
   glances = λ r there. there;
+  more = [];
+  additions = sym (append-nil v.seat.post.additions);
   held = λ phase page from n h. record {
     within = h.within;
     split = h.split;
@@ -109,14 +144,19 @@ pub Keeps-finds : (v after : LiveView) → FindsAll v after → Keeps v after
 Keeps-finds v after f = subst (Keeps v) (sym f.rest) (record {
   reads = λ r there. Contains-append_left v.seat.post.reads _ r there;
   glances = λ r there. there;
+  more = [];
+  additions = sym (append-nil v.seat.post.additions);
   held = λ phase page from n h. record { within = h.within; split = h.split; kept = h.kept };
   found = λ all.
       let additions = length v.seat.post.additions in
       All-append (λ x. IsRead (with_found v f.found) (found_count x)) v.found f.found
-      (λ k d below. let r = all k d below in (r.0, Contains-append_left v.seat.post.reads _ _ r.1))
+      (λ k d below.
+      let r = all k d below in
+      (r.0, Contains-append_left v.seat.post.reads _ _ r.1, r.2))
       (λ k d below. (
         additions,
         Contains-append_right v.seat.post.reads _ _ (mapped (read_for additions) f.found k d below),
+        omega arith,
       ));
 })
 
@@ -136,6 +176,8 @@ Keeps-merged v s sized m =
     subst (λ (t : SeatView Asked). Keeps v (with_seat v t)) (sym is) (record {
       reads = λ r there. there;
       glances = λ r there. there;
+      more = adds;
+      additions = refl;
       held = λ phase page from n h.
           let within : from ≤ length old = h.within in
           let more = more_added phase page from old adds within in
@@ -155,7 +197,9 @@ Keeps-merged v s sized m =
                       inl (omega arith)
                 ];
           };
-      found = λ all. all;
+      found = λ all k d below.
+          let r = all k d below in
+          (r.0, r.1, omega arith);
     })
 
 -- a like that is counted
@@ -166,6 +210,8 @@ pub Keeps-counts : (v : LiveView) (s : SeatView Asked) (user page : ℕ) (old : 
 Keeps-counts v s user page None there c = subst (λ (t : SeatView Asked). Keeps v (with_seat v t)) (sym c.1) (record {
   reads = λ r there. there;
   glances = λ r there. there;
+  more = [];
+  additions = sym (append-nil v.seat.post.additions);
   held = λ phase other from n h. record {
     within = h.within;
     split = h.split;
@@ -186,6 +232,8 @@ Keeps-counts v s user page (Some count) there c =
     subst (λ (t : SeatView Asked). Keeps v (with_seat v t)) (sym c.1) (record {
       reads = λ r there. there;
       glances = λ r there. there;
+      more = new;
+      additions = refl;
       held = λ phase other from n h.
           let within : from ≤ length old = h.within in
           let more = more_added phase other from old new within in
@@ -194,7 +242,9 @@ Keeps-counts v s user page (Some count) there c =
             split = h.split;
             kept = elim h.kept [ inl added ↦ inl (omega arith) | inr still ↦ inr still ];
           };
-      found = λ all. all;
+      found = λ all k d below.
+          let r = all k d below in
+          (r.0, r.1, omega arith);
     })
 
 -- a read
@@ -203,8 +253,12 @@ pub Keeps-read : (v : LiveView) (page count : ℕ)
 Keeps-read v page count = record {
   reads = λ r there. Contains-append_left v.seat.post.reads _ r there;
   glances = λ r there. there;
+  more = [];
+  additions = sym (append-nil v.seat.post.additions);
   held = λ phase page from n h. record { within = h.within; split = h.split; kept = h.kept };
-  found = λ all k d below. let r = all k d below in (r.0, Contains-append_left v.seat.post.reads _ _ r.1);
+  found = λ all k d below.
+      let r = all k d below in
+      (r.0, Contains-append_left v.seat.post.reads _ _ r.1, r.2);
 }
 
 -- a glance
@@ -213,6 +267,8 @@ pub Keeps-glanced : (v : LiveView) (page count : ℕ)
 Keeps-glanced v page count = record {
   reads = λ r there. there;
   glances = λ r there. Contains-append_left v.seat.post.glances _ r there;
+  more = [];
+  additions = sym (append-nil v.seat.post.additions);
   held = λ phase page from n h. record { within = h.within; split = h.split; kept = h.kept };
   found = λ all. all;
 }

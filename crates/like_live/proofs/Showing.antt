@@ -1,14 +1,17 @@
 -- What each call shows, right after it.
-use Rattle.std.proofs.Common.{◌≡◌, ℕ, ◌+◌, Bool, true, false, List, [], ◌∷◌, drop, get_or, length, Option, Some, None, refl, ap, sym, ◌∙◌, subst, inr, arith}
+use Rattle.std.proofs.Common.{◌≡◌, ℕ, ◌+◌, ◌≤◌, Bool, true, false, List, [], ◌∷◌, cond, drop, take, get_or, length, Option, Some, None, refl, ap, sym, ◌∙◌, subst, inr, arith}
 use Rattle.std.specs.List.{All, Contains, slice_get}
 use Rattle.std.proofs.lemmas.Bool.{and_parts, eqb-true}
 use Rattle.std.proofs.lemmas.List.Elements.{All-head, Contains-push}
+use Rattle.std.proofs.Math.Seq.{take-length}
+use Rattle.like_core.specs.declared.view.Addition.{Addition}
 use Rattle.like_core.specs.declared.worker_state.WorkerState.{WorkerState}
 use Rattle.like_core.specs.declared.worker_state.WorkerState.TheVariants as state
-use Rattle.like_core.specs.Additions.{page_read}
+use Rattle.like_core.specs.Additions.{added_in, page_read}
 use Rattle.like_core.specs.Phase.{IsSplit}
 use Rattle.like_core.specs.Post.{PostView, slices}
 use Rattle.like_core.specs.WorkerState.{IsRunning, RunsSplit, phase_of}
+use Rattle.like_seat.specs.SeatView.{phase_at}
 use Rattle.like_live.specs.declared.answer.GlanceAnswer.{GlanceAnswer}
 use Rattle.like_live.specs.declared.answer.GlanceAnswer.TheVariants as glanced
 use Rattle.like_live.specs.declared.answer.LookAnswer.{LookAnswer}
@@ -16,7 +19,7 @@ use Rattle.like_live.specs.declared.answer.LookAnswer.TheVariants as looked
 use Rattle.like_live.specs.declared.answer.TurnAnswer.TheVariants as turned
 use Rattle.like_live.specs.declared.asked.Found.{Found}
 use Rattle.like_live.specs.LiveView.{LiveView, with_seat}
-use Rattle.like_live.specs.Answers.{IfShown, IsRead, Shown, found_count}
+use Rattle.like_live.specs.Answers.{IfShown, IsRead, Shown, counted_now, found_count}
 use Rattle.like_live.specs.Calls as calls
 use Rattle.like_live.specs.Calls.{GlanceCase, GlancesNow, LikeCase, LikesNow, LookCase, LooksNow, RetireCase, RetiresNow, TakesFound}
 use Rattle.like_live.specs.History.{Does, Told, glance, like, look, retire, take_found, turn}
@@ -25,7 +28,7 @@ use Rattle.like_live.specs.Moves.{Moves, Works}
 use Rattle.like_live.proofs.Finding.{running}
 use Rattle.like_live.proofs.Keeping.{AreFound, AreHeld}
 
--- what holds of a count that was told may be said otherwise
+-- what follows from a fact on each count that was told holds too
 pub IfShown-map : (P Q R S : Shown → Type 0) → ((s : Shown) → P s → R s) → ((s : Shown) → Q s → S s)
     → (now : LiveView) (t : Told)
     → IfShown P Q now t
@@ -64,16 +67,30 @@ runs_this state.Gone h = absurd h
 split_phase : (post : PostView) (page : ℕ) → slices post page ≡ true → IsSplit (phase_of post.state)
 split_phase post page split = eqb-true _ _ ((and_parts _ _ split).0)
 
--- a glance right after it: what it was told of a split page is a count on the board and the slice, which is held
+-- right after a glance at a split page: what it was told is a count on the board and the slice, which is held
 pub record IsJustGlanced (now : LiveView) (s : Shown) : Type 0 where
+  pub from : ℕ
   pub board : ℕ
-  pub there : Contains now.seat.post.glances (page_read s.phase s.page board (length now.seat.post.additions))
-  pub sum_is : s.count ≡ board + get_or now.seat.slice s.page 0
-  pub held : AreHeld now s.phase s.page (length now.seat.post.additions) (get_or now.seat.slice s.page 0)
+  pub there : Contains now.seat.post.glances (page_read s.phase s.page board from)
+  pub count_is : s.count ≡ board + get_or now.seat.slice s.page 0
+  pub own : s.own ≤ added_in s.phase s.page (take from now.seat.post.additions) + get_or now.seat.slice s.page 0
+  pub held : AreHeld now s.phase s.page from (get_or now.seat.slice s.page 0)
 
+-- right after a glance
 pub record IsJustRead (now : LiveView) (s : Shown) : Type 0 where
   pub plain : slices now.seat.post s.page ≡ false → IsRead now s
   pub split : slices now.seat.post s.page ≡ true → IsJustGlanced now s
+
+-- what a seat has counted in its phase, by whether the page is split
+counted-is : (v : LiveView) (page : ℕ) (split : Bool)
+    → slices v.seat.post page ≡ split
+    → counted_now v page
+    ≡ added_in (phase_at v.seat) page (take (length v.seat.post.additions) v.seat.post.additions)
+    + cond split (get_or v.seat.slice page 0) 0
+counted-is v page split is =
+    let all : List Addition = v.seat.post.additions in
+    ap (λ (b : Bool). added_in (phase_at v.seat) page all + cond b (get_or v.seat.slice page 0) 0) is
+    ∙ ap (λ xs. added_in (phase_at v.seat) page xs + cond split (get_or v.seat.slice page 0) 0) (sym (take-length all))
 
 -- right after the call: what a look was told
 shows-look : (v after : LiveView) (user page tag : ℕ) (answer : LookAnswer)
@@ -92,7 +109,8 @@ shows-look v after user page tag answer d = by_case d
         subst P (sym a)
         (subst (λ w. IfShown (IsRead w) (IsJustRead w) w (look user page tag (looked.Seen shown)))
         (sym (is ∙ ap (with_seat now) reads.read))
-        (length now.seat.post.additions, Contains-push now.seat.post.reads _))
+        (let own = counted-is now page false plain in
+        (length now.seat.post.additions, Contains-push now.seat.post.reads _, omega arith)))
 
     by_case : LookCase v user page tag answer after → P answer
     by_case (calls.gone m a) = subst P (sym a) tt
@@ -115,7 +133,9 @@ shows-glance v after user page answer d = by_case d
         (subst (λ w. IfShown (IsRead w) (IsJustRead w) w (glance user page (glanced.Seen shown)))
         (sym (is ∙ ap (with_seat now) reads.read))
         (record {
-          plain = λ _. (length now.seat.post.additions, Contains-push now.seat.post.reads _);
+          plain = λ _.
+              let own = counted-is now page false plain in
+              (length now.seat.post.additions, Contains-push now.seat.post.reads _, omega arith);
           split = λ split. absurd (cc (sym plain ∙ split));
         }))
     now_case now runs (calls.split shown s accepted split a glances is) =
@@ -125,9 +145,11 @@ shows-glance v after user page answer d = by_case d
         (record {
           plain = λ plain. absurd (cc (sym plain ∙ split));
           split = λ _. record {
+            from = length now.seat.post.additions;
             board = glances.count;
             there = Contains-push now.seat.post.glances _;
-            sum_is = glances.counts;
+            count_is = glances.counts;
+            own = let own = counted-is now page true split in omega arith;
             held = record {
               within = omega arith;
               split = split_phase now.seat.post page split;

@@ -1,9 +1,9 @@
 -- The counts that a seat's calls were told, and what the seat read.
-use Rattle.std.specs.Prelude.{◌≡◌, ◌⊎◌, ℕ, ◌+◌, ◌≤◌, true, false, List, drop, length, slice_index, Contains, Some}
+use Rattle.std.specs.Prelude.{◌≡◌, ◌⊎◌, ℕ, ◌+◌, ◌≤◌, if◌then◌else◌, true, false, List, drop, slice_index, take, Contains, Some}
 use Rattle.std.specs.List.{sum_by}
 use Rattle.like_core.specs.declared.worker_state.WorkerState.TheVariants.{Runs}
 use Rattle.like_core.specs.Additions.{added_before, added_in, page_read}
-use Rattle.like_core.specs.Post.{slices}
+use Rattle.like_core.specs.Post.{additions_in, slices}
 use Rattle.like_seat.specs.Lead.{LeadView}
 use Rattle.like_seat.specs.SeatView.{phase_at}
 use Rattle.like_live.specs.declared.answer.GlanceAnswer.TheVariants as glanced
@@ -13,29 +13,43 @@ use Rattle.like_live.specs.LiveView.{LiveView}
 use Rattle.like_live.specs.History.{Does, HasDone, IsUnused, Told, glance, look, take_found}
 use Rattle.like_live.specs.Service.{AreGone, IsClosedService}
 
--- a count that was told: in which phase it ran, of which page
+-- a count that was told: the phase and the page; how many likes of the page the seat had counted in that phase before,
+-- at least; and the count
 pub record Shown : Type 0 where
   pub phase : ℕ
   pub page : ℕ
+  pub own : ℕ
   pub count : ℕ
 
--- the count that a found look was shown
+-- how many likes of a page a seat has counted in its phase: those that it added in it, and if the page is split, those
+-- in its slice
+abbrev pub counted_now : LiveView → ℕ → ℕ
+counted_now v page =
+    additions_in v.seat.post (phase_at v.seat) page
+    + (if slices v.seat.post page then slice_index v.seat.slice page else 0)
+
+-- a count of a page that was told right before the seat was this
+abbrev pub shown_now : LiveView → (page count : ℕ) → Shown
+shown_now v page count =
+    record { phase = phase_at v.seat; page = page; own = counted_now v page; count = count }
+
+-- the count that a found look was shown: it ran before the seat counted a like in its phase
 abbrev pub found_count : Found → Shown
-found_count f = record { phase = f.phase; page = f.asked.page; count = f.count }
+found_count f = record { phase = f.phase; page = f.asked.page; own = 0; count = f.count }
 
 -- if the call was told a count: P is true of it at a look, found looks included, and Q at a glance. `now` is the seat
 -- right after the call
 abbrev pub IfShown : (P Q : Shown → Type 0) → (now : LiveView) → Told → Type 0
-IfShown P Q now (look user page tag (looked.Seen shown)) =
-    P (record { phase = phase_at now.seat; page = page; count = shown.count })
-IfShown P Q now (glance user page (glanced.Seen shown)) =
-    Q (record { phase = phase_at now.seat; page = page; count = shown.count })
+IfShown P Q now (look user page tag (looked.Seen shown)) = P (shown_now now page shown.count)
+IfShown P Q now (glance user page (glanced.Seen shown)) = Q (shown_now now page shown.count)
 IfShown P Q now (take_found (Some f)) = P (found_count f)
 IfShown P Q now told = Unit {0}
 
--- the count is that of a read of the seat's, of this page in this phase
+-- the count is that of a read of the seat's, of this page in this phase, after the seat's own likes
 abbrev pub IsRead : LiveView → Shown → Type 0
-IsRead v s = (after : ℕ) × Contains v.seat.post.reads (page_read s.phase s.page s.count after)
+IsRead v s =
+    (after : ℕ) × Contains v.seat.post.reads (page_read s.phase s.page s.count after)
+    × (s.own ≤ added_in s.phase s.page (take after v.seat.post.additions))
 
 -- n likes of a page that the seat had in its slice in a phase, after so many additions: it has added them in that phase,
 -- or it runs that phase and has them in its slice still
@@ -44,13 +58,17 @@ AreKept v phase page after n =
     (n ≤ added_in phase page (drop after v.seat.post.additions))
     ⊎ ((v.seat.post.state ≡ Runs phase) × (n ≤ slice_index v.seat.slice page))
 
--- the count is that of a glance of the seat's, of this page in this phase, plus the likes of the page that the seat had
--- in its slice right after the call; and these likes are kept
+-- the count is that of a glance of the seat's, of this page in this phase, after the seat's own additions; plus the likes
+-- of the page that the seat had in its slice then, which are kept
 pub record IsGlanced (now v : LiveView) (s : Shown) : Type 0 where
+  pub after : ℕ
   pub board : ℕ
-  pub there : Contains v.seat.post.glances (page_read s.phase s.page board (length now.seat.post.additions))
-  pub sum_is : s.count ≡ board + slice_index now.seat.slice s.page
-  pub kept : AreKept v s.phase s.page (length now.seat.post.additions) (slice_index now.seat.slice s.page)
+  pub sliced : ℕ
+  pub there : Contains v.seat.post.glances (page_read s.phase s.page board after)
+  pub sliced_is : sliced ≡ slice_index now.seat.slice s.page
+  pub count_is : s.count ≡ board + sliced
+  pub own : s.own ≤ added_in s.phase s.page (take after v.seat.post.additions) + sliced
+  pub kept : AreKept v s.phase s.page after sliced
 
 -- the count that a glance was told: of a page that is not split then, it is that of a read; of one that is, that of a
 -- glance and the seat's own likes
@@ -79,9 +97,11 @@ AnswersAreReads =
 abbrev pub seats_added_before : List LiveView → ℕ → ℕ → ℕ
 seats_added_before seats phase page = sum_by (λ v. added_before phase page v.seat.post.additions) seats
 
--- the count has the page's first count and all that these seats added in earlier phases, and nothing of a later phase
+-- the count has the page's first count, all that these seats added in earlier phases, and the seat's own likes of the
+-- phase before; and nothing of a later phase
 pub record IsWithinAdded (v : LeadView) (seats : List LiveView) (s : Shown) : Type 0 where
-  pub least : slice_index v.seat.opening.counts s.page + seats_added_before seats s.phase s.page ≤ s.count
+  pub least :
+      slice_index v.seat.opening.counts s.page + seats_added_before seats s.phase s.page + s.own ≤ s.count
   pub most : s.count ≤ slice_index v.seat.opening.counts s.page + seats_added_before seats (s.phase + 1) s.page
 
 -- each count that a seat of a closed service was told is within these bounds

@@ -36,8 +36,9 @@ pub fn answers_are_reads()
     ensures { AnswersAreReads }
 {}
 
-/// Each count that a call of a closed service was told has the page's first count and all likes that the seats added in
-/// earlier phases, and none that a seat added in a later one.
+/// Each count that a call of a closed service was told has the page's first count, all likes that the seats added in
+/// earlier phases, and the seat's own likes in that phase before the call. It has none that a seat added in a later
+/// phase. (A found look runs before its seat counts a like in the phase.)
 pub fn answers_are_bounded()
     ensures { AnswersAreBounded }
 {}
