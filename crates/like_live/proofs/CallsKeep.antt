@@ -73,7 +73,8 @@ Keeps-takes v after taken takes = subst (Keeps v) (sym takes.1) (record {
 
 Keeps-retires : (v after : LiveView) (answer : TurnAnswer) → IsSized v → RetireCase v answer after → Keeps v after
 Keeps-retires v after answer sized (calls.turns ends m) = Keeps-moves v after answer sized m
-Keeps-retires v after answer sized (calls.runs now m l) = Keeps-both v now after (Keeps-moves v now _ sized m) (by_case l)
+Keeps-retires v after answer sized (calls.runs now m l) =
+    Keeps-both v now after (Keeps-moves v now _ sized m) (by_case l)
   where
     by_case : RetiresNow now answer after → Keeps now after
     by_case (calls.retires joined none a is) = subst (Keeps now) (sym is) (Keeps-stopped now _ joined)

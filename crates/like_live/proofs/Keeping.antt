@@ -136,7 +136,9 @@ Keeps-stopped v s joined = record {
 }
 
 -- what a list is mapped to has what each element is mapped to
-mapped : {X Y : Type 0} (f : X → Y) (xs : List X) (k : ℕ) (d : X) → k < length xs → Contains (map f xs) (f (get_or xs k d))
+mapped : {X Y : Type 0} (f : X → Y) (xs : List X) (k : ℕ) (d : X)
+    → k < length xs
+    → Contains (map f xs) (f (get_or xs k d))
 mapped f xs k d below = (k, omega (arith, length-map xs f), get_or-map f xs k d (f (get_or xs k d)) below)
 
 -- looks that are found

@@ -13,8 +13,8 @@ use Rattle.like_live.specs.LiveView.{LiveView}
 use Rattle.like_live.specs.History.{Does, HasDone, IsUnused, Told, glance, look, take_found}
 use Rattle.like_live.specs.Service.{AreGone, IsClosedService}
 
--- a count that was told: the phase and the page; how many likes of the page the seat had counted in that phase before,
--- at least; and the count
+-- a count that was told: the phase in which it ran, and its page; at least how many likes of the page the seat had
+-- counted in that phase before; and the count
 pub record Shown : Type 0 where
   pub phase : ℕ
   pub page : ℕ
@@ -28,7 +28,7 @@ counted_now v page =
     additions_in v.seat.post (phase_at v.seat) page
     + (if slices v.seat.post page then slice_index v.seat.slice page else 0)
 
--- a count of a page that was told right before the seat was this
+-- a count of a page that a call was told, if this is the seat right after the call
 abbrev pub shown_now : LiveView → (page count : ℕ) → Shown
 shown_now v page count =
     record { phase = phase_at v.seat; page = page; own = counted_now v page; count = count }
@@ -45,21 +45,21 @@ IfShown P Q now (glance user page (glanced.Seen shown)) = Q (shown_now now page 
 IfShown P Q now (take_found (Some f)) = P (found_count f)
 IfShown P Q now told = Unit {0}
 
--- the count is that of a read of the seat's, of this page in this phase, after the seat's own likes
+-- the count is that of a read of the seat's, of this page in this phase, which has the seat's own likes before it
 abbrev pub IsRead : LiveView → Shown → Type 0
 IsRead v s =
     (after : ℕ) × Contains v.seat.post.reads (page_read s.phase s.page s.count after)
     × (s.own ≤ added_in s.phase s.page (take after v.seat.post.additions))
 
--- n likes of a page that the seat had in its slice in a phase, after so many additions: it has added them in that phase,
--- or it runs that phase and has them in its slice still
+-- n likes of a page that the seat had in its slice in a phase, after so many additions: it has added them in that
+-- phase, or it runs that phase and has them in its slice still
 abbrev pub AreKept : LiveView → (phase page after n : ℕ) → Type 0
 AreKept v phase page after n =
     (n ≤ added_in phase page (drop after v.seat.post.additions))
     ⊎ ((v.seat.post.state ≡ Runs phase) × (n ≤ slice_index v.seat.slice page))
 
--- the count is that of a glance of the seat's, of this page in this phase, after the seat's own additions; plus the likes
--- of the page that the seat had in its slice then, which are kept
+-- the count is that of a glance of the seat's, of this page in this phase, plus the likes of the page that the seat had
+-- in its slice then, which are kept; the seat's own likes are added before the glance or in that slice
 pub record IsGlanced (now v : LiveView) (s : Shown) : Type 0 where
   pub after : ℕ
   pub board : ℕ
