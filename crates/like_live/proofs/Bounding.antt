@@ -10,7 +10,7 @@ use Rattle.like_core.specs.Post.{PostView, slices}
 use Rattle.like_core.specs.views.Reads.{AreBetween, IsBetween}
 use Rattle.like_board.specs.declared.worker_seat.WorkerSeat.{WorkerSeat}
 use Rattle.like_board.specs.Seats.{seat_meaning, seats_before}
-use Rattle.like_seat.specs.Lead.{LeadView}
+use Rattle.like_live.specs.Driver.{DriverView}
 use Rattle.like_live.specs.LiveView.{LiveView}
 use Rattle.like_live.specs.Answers.{AnswersAreBounded, IsGlanced, IsRead, IsReadOrGlanced, IsWithinAdded, Shown, seats_added_before}
 use Rattle.like_live.specs.Service.{AreBackFrom}
@@ -38,14 +38,14 @@ either now after s h = by_test (slices now.seat.post s.page) refl
     by_test true is = inr (h.split is)
     by_test false is = inl (h.plain is)
 
-module _ (driver : LeadView) (seats : List LiveView) (back : List WorkerSeat) (same : AreBackFrom seats back)
+module _ (driver : DriverView) (seats : List LiveView) (back : List WorkerSeat) (same : AreBackFrom seats back)
     (after : LiveView) (there : Contains seats after) where
   abbrev first : List ℕ
-  first = driver.seat.opening.counts
+  first = driver.lead.seat.opening.counts
 
   -- some reads of a seat are within their bounds
   abbrev Fit : (PostView → List PageRead) → PostView → Type 0
-  Fit pick p = AreBetween first (seats_before back) driver.seat.phase p.additions (pick p)
+  Fit pick p = AreBetween first (seats_before back) driver.lead.seat.phase p.additions (pick p)
 
   -- those of a seat are, if they are of each seat that was given back
   fit : (pick : PostView → List PageRead) → All (λ seat. Fit pick (seat_meaning seat)) back → Fit pick (post_at after)
@@ -61,7 +61,7 @@ module _ (driver : LeadView) (seats : List LiveView) (back : List WorkerSeat) (s
   -- a count that was read is within its bounds
   read-bounded : (s : Shown) → Fit (λ p. p.reads) (post_at after) → IsRead after s → IsWithinAdded driver seats s
   read-bounded s all r =
-      let is = is_between first (seats_before back) driver.seat.phase after.seat.post.additions after.seat.post.reads
+      let is = is_between first (seats_before back) driver.lead.seat.phase after.seat.post.additions after.seat.post.reads
       (page_read s.phase s.page s.count r.0) all r.1 in
       let own = r.2 in
       let least = is.least in
@@ -77,7 +77,7 @@ module _ (driver : LeadView) (seats : List LiveView) (back : List WorkerSeat) (s
       → IsGlanced now after s
       → IsWithinAdded driver seats s
   glance-bounded now s gone all g =
-      let is = is_between first (seats_before back) driver.seat.phase after.seat.post.additions after.seat.post.glances
+      let is = is_between first (seats_before back) driver.lead.seat.phase after.seat.post.additions after.seat.post.glances
       (page_read s.phase s.page g.board g.after) all g.there in
       let own = g.own in
       let least = is.least in

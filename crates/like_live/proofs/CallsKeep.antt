@@ -1,6 +1,7 @@
 -- What each call keeps of what the seat read and glanced at.
-use Rattle.std.proofs.Common.{ℕ, ◌<◌, length, Option, ap, sym, ◌∙◌, subst, [], append-nil}
+use Rattle.std.proofs.Common.{ℕ, ◌<◌, Bool, length, Option, ap, sym, ◌∙◌, subst, [], append-nil}
 use Rattle.std.proofs.lemmas.List.Elements.{All-drop}
+use Rattle.like_core.specs.WorkerState.{RunsJoined}
 use Rattle.like_live.specs.declared.answer.GlanceAnswer.{GlanceAnswer}
 use Rattle.like_live.specs.declared.answer.LikeAnswer.{LikeAnswer}
 use Rattle.like_live.specs.declared.answer.LookAnswer.{LookAnswer}
@@ -9,11 +10,11 @@ use Rattle.like_live.specs.declared.asked.Found.{Found}
 use Rattle.like_live.specs.LiveView.{LiveView, with_seat}
 use Rattle.like_live.specs.Answers.{IsRead, found_count}
 use Rattle.like_live.specs.Calls as calls
-use Rattle.like_live.specs.Calls.{GlanceCase, GlancesNow, LikeCase, LikesNow, LookCase, LooksNow, RetireCase, RetiresNow, TakesFound}
+use Rattle.like_live.specs.Calls.{GlanceCase, GlancesNow, LikeCase, LikesNow, LookCase, LooksNow, RetireCase, RetireWorks, TakesFound}
 use Rattle.like_live.specs.History.{Does, Told, glance, like, look, retire, take_found, turn}
 use Rattle.like_live.specs.Moves.{Moves}
 use Rattle.like_live.proofs.Calling.{page_there}
-use Rattle.like_live.proofs.Keeping.{Keeps, Keeps-all, Keeps-both, Keeps-counts, Keeps-glanced, Keeps-moves, Keeps-read, Keeps-stopped}
+use Rattle.like_live.proofs.Keeping.{Keeps, Keeps-all, Keeps-both, Keeps-by, Keeps-counts, Keeps-finds, Keeps-glanced, Keeps-moves, Keeps-read, Keeps-stopped, Keeps-works}
 use Rattle.like_live.proofs.Moving.{IsSized, Leaves-moves}
 
 -- phase work leaves the slice a number for each page
@@ -71,14 +72,19 @@ Keeps-takes v after taken takes = subst (Keeps v) (sym takes.1) (record {
   found = λ all. All-drop (λ f. IsRead v (found_count f)) 1 v.found all;
 })
 
+Keeps-retire_works : (v after : LiveView) (ending : Bool) (answer : TurnAnswer)
+    → IsSized v
+    → RetireWorks v ending answer after
+    → Keeps v after
+Keeps-retire_works v after ending answer sized (calls.retires now joined a found is) =
+    subst (Keeps v) (sym is)
+    (Keeps-both v now _ (Keeps-finds v now found)
+    (Keeps-stopped now _ (subst (λ (w : LiveView). RunsJoined w.seat.post.state) (sym found.rest) joined)))
+Keeps-retire_works v after ending answer sized (calls.stays split works) =
+    Keeps-works v after ending answer sized works
+
 Keeps-retires : (v after : LiveView) (answer : TurnAnswer) → IsSized v → RetireCase v answer after → Keeps v after
-Keeps-retires v after answer sized (calls.turns ends m) = Keeps-moves v after answer sized m
-Keeps-retires v after answer sized (calls.runs now m l) =
-    Keeps-both v now after (Keeps-moves v now _ sized m) (by_case l)
-  where
-    by_case : RetiresNow now answer after → Keeps now after
-    by_case (calls.retires joined none a is) = subst (Keeps now) (sym is) (Keeps-stopped now _ joined)
-    by_case (calls.runs split a is) = subst (Keeps now) (sym is) (Keeps-all now)
+Keeps-retires v after answer sized m = Keeps-by RetireWorks Keeps-retire_works v after answer sized m
 
 -- each call keeps what the seat read
 pub Keeps-does : (t : Told) (v after : LiveView) → IsSized v → Does v t after → Keeps v after

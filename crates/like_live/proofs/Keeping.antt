@@ -22,7 +22,7 @@ use Rattle.like_live.specs.declared.answer.TurnAnswer.{TurnAnswer}
 use Rattle.like_live.specs.declared.asked.Asked.{Asked}
 use Rattle.like_live.specs.LiveView.{LiveView, with_seat}
 use Rattle.like_live.specs.Answers.{AreKept, IsRead, Shown, found_count}
-use Rattle.like_live.specs.Moves.{FindsAll, Moves, Works, acknowledges, is_gone, looked, read_for, reports, runs_joined, runs_split, waits, with_found, works}
+use Rattle.like_live.specs.Moves.{FindsAll, Moves, MovesBy, Works, acknowledges, is_gone, looked, read_for, reports, runs_joined, runs_split, waits, with_found, works}
 use Rattle.like_live.proofs.Calling.{slice-more}
 use Rattle.like_live.proofs.Moving.{IsSized}
 
@@ -276,7 +276,7 @@ Keeps-glanced v page count = record {
 }
 
 -- phase work
-Keeps-works : (v after : LiveView) (ending : Bool) (answer : TurnAnswer)
+pub Keeps-works : (v after : LiveView) (ending : Bool) (answer : TurnAnswer)
     → IsSized v
     → Works v ending answer after
     → Keeps v after
@@ -289,9 +289,19 @@ Keeps-works v after ending answer sized (runs_split split e a is) = subst (Keeps
 Keeps-works v after ending answer sized (reports s split e a merges is) =
     subst (Keeps v) (sym is) (Keeps-merged v s sized merges)
 
-pub Keeps-moves : (v after : LiveView) (answer : TurnAnswer) → IsSized v → Moves v answer after → Keeps v after
-Keeps-moves v after answer sized (is_gone gone a is) = subst (Keeps v) (sym is) (Keeps-all v)
-Keeps-moves v after answer sized (waits sight mask can w a is) = subst (Keeps v) (sym is) (Keeps-looked v sight mask)
-Keeps-moves v after answer sized (works sight mask can w does) =
+-- a look keeps that, and so does all that is done by it
+pub Keeps-by : (Runs : LiveView → Bool → TurnAnswer → LiveView → Type 0)
+    → ((v after : LiveView) (ending : Bool) (answer : TurnAnswer) → IsSized v → Runs v ending answer after → Keeps v after)
+    → (v after : LiveView) (answer : TurnAnswer)
+    → IsSized v
+    → MovesBy Runs v answer after
+    → Keeps v after
+Keeps-by Runs does v after answer sized (is_gone gone a is) = subst (Keeps v) (sym is) (Keeps-all v)
+Keeps-by Runs does v after answer sized (waits sight mask can w a is) =
+    subst (Keeps v) (sym is) (Keeps-looked v sight mask)
+Keeps-by Runs does v after answer sized (works sight mask can w runs) =
     Keeps-both v (looked v sight mask) after (Keeps-looked v sight mask)
-    (Keeps-works (looked v sight mask) after sight.ending answer sized does)
+    (does (looked v sight mask) after sight.ending answer sized runs)
+
+pub Keeps-moves : (v after : LiveView) (answer : TurnAnswer) → IsSized v → Moves v answer after → Keeps v after
+Keeps-moves v after answer sized m = Keeps-by Works Keeps-works v after answer sized m

@@ -4,11 +4,11 @@ use Rattle.std.specs.List.{sum_by}
 use Rattle.like_core.specs.declared.worker_state.WorkerState.TheVariants.{Runs}
 use Rattle.like_core.specs.Additions.{added_before, added_in, page_read}
 use Rattle.like_core.specs.Post.{additions_in, slices}
-use Rattle.like_seat.specs.Lead.{LeadView}
 use Rattle.like_seat.specs.SeatView.{phase_at}
 use Rattle.like_live.specs.declared.answer.GlanceAnswer.TheVariants as glanced
 use Rattle.like_live.specs.declared.answer.LookAnswer.TheVariants as looked
 use Rattle.like_live.specs.declared.asked.Found.{Found}
+use Rattle.like_live.specs.Driver.{DriverView}
 use Rattle.like_live.specs.LiveView.{LiveView}
 use Rattle.like_live.specs.History.{Does, HasDone, IsUnused, Told, glance, look, take_found}
 use Rattle.like_live.specs.Service.{AreGone, IsClosedService}
@@ -99,15 +99,15 @@ seats_added_before seats phase page = sum_by (λ v. added_before phase page v.se
 
 -- the count has the page's first count, all that these seats added in earlier phases, and the seat's own likes of the
 -- phase before; and nothing of a later phase
-pub record IsWithinAdded (v : LeadView) (seats : List LiveView) (s : Shown) : Type 0 where
+pub record IsWithinAdded (v : DriverView) (seats : List LiveView) (s : Shown) : Type 0 where
   pub least :
-      slice_index v.seat.opening.counts s.page + seats_added_before seats s.phase s.page + s.own ≤ s.count
-  pub most : s.count ≤ slice_index v.seat.opening.counts s.page + seats_added_before seats (s.phase + 1) s.page
+      slice_index v.lead.seat.opening.counts s.page + seats_added_before seats s.phase s.page + s.own ≤ s.count
+  pub most : s.count ≤ slice_index v.lead.seat.opening.counts s.page + seats_added_before seats (s.phase + 1) s.page
 
 -- each count that a seat of a closed service was told is within these bounds
 abbrev pub AnswersAreBounded : Type 0
 AnswersAreBounded =
-    (driver : LeadView) (seats : List LiveView) (counts : List ℕ) (v now after : LiveView) (t : Told)
+    (driver : DriverView) (seats : List LiveView) (counts : List ℕ) (v now after : LiveView) (t : Told)
     → IsClosedService driver seats counts → AreGone seats → Contains seats after
     → IsUnused v → IsCallOf v now after t
     → IfShown (IsWithinAdded driver seats) (IsWithinAdded driver seats) now t
