@@ -27,5 +27,7 @@ pub use post::Post;
 pub use pure_core::{Core, NotNow, Wrong, check_events};
 pub use shown::Shown;
 pub use sight::{CoordSight, Sight};
-pub use view::{Addition, CoordSeatView, Look, PageCount, PageRead, PhaseMask, View, WorkerSeatView};
+pub use view::{
+    Addition, CoordSeatView, Look, PageCount, PageRead, PhaseMask, View, WorkerSeatView,
+};
 pub use worker_state::WorkerState;

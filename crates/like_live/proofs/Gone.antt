@@ -1,5 +1,5 @@
 -- What is known once a look showed all seats gone, and what is read then.
-use Rattle.std.proofs.Common.{◌≡◌, ◌+◌, ◌<◌, ℕ, suc, zero, true, List, [], ◌∷◌, length, get_or, slice_index, All, Option, Some, ap, sym, ◌∙◌, subst, arith, add-zero}
+use Rattle.std.proofs.Common.{◌≡◌, ◌+◌, ◌<◌, ℕ, suc, zero, true, List, [], ◌∷◌, length, slice_index, All, Option, Some, ap, sym, ◌∙◌, subst, arith, add-zero}
 use Rattle.std.proofs.lemmas.List.Elements.{All-head, All-tail}
 use Rattle.std.specs.Prelude.{IsSomeAnd}
 use Rattle.like_core.specs.Phase.{IsJoined}
@@ -14,7 +14,6 @@ use Rattle.like_core.specs.views.Shows.{IsLastMoment, IsKnown}
 use Rattle.like_core.specs.views.Views.{SawAllIn, counted_coord}
 use Rattle.like_core.proofs.views.Ends.{counted_now, end_known}
 use Rattle.like_seat.specs.Lead.{LeadView, Sees, announced, counted_from, with_counts}
-use Rattle.like_seat.proofs.Leading.{counted-is}
 use Rattle.like_live.specs.Driver.{AreLastCounts, LooksForEnd, ends, goes_on, is_ending}
 use Rattle.like_live.proofs.Turning.{look-keeps, reads-only}
 

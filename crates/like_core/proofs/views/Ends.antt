@@ -1,7 +1,6 @@
 -- What the coordinator knows, of the moments of its board.
-use Rattle.std.proofs.Common.{◌≡◌, ℕ, ◌+◌, true, get_or, Option, Some, ap, ◌∙◌, subst, arith}
+use Rattle.std.proofs.Common.{◌≡◌, ◌+◌, true, get_or, Option, Some, ap, ◌∙◌, subst, arith}
 use Rattle.std.specs.Prelude.{All, IfSome, slice_index}
-use Rattle.std.specs.List.{sum_by}
 use mathlib.Core.Option.{some}
 use lib.ListN.{get_elem?}
 use Rattle.like_core.specs.declared.opening.Opening.{Opening}
@@ -9,12 +8,11 @@ use Rattle.like_core.specs.declared.sight.CoordSight.{CoordSight}
 use Rattle.like_core.specs.declared.view.CoordSeatView.{CoordSeatView}
 use Rattle.like_core.specs.declared.view.PageCount.{PageCount}
 use Rattle.like_core.specs.declared.view.View.TheVariants.{Coord}
-use Rattle.like_core.specs.core.Numbers.{AllGone, CoordSees}
+use Rattle.like_core.specs.core.Numbers.{CoordSees}
 use Rattle.like_core.specs.core.State.{numbers}
 use Rattle.like_core.specs.word.ShownWord.{shown_word}
 use Rattle.like_core.specs.views.Places.{count_after}
 use Rattle.like_core.specs.views.Reads.{IsCounted, all_before}
-use Rattle.like_core.specs.views.Tallies.{paged}
 use Rattle.like_core.specs.views.Shows.{FitsCoord, IsLastMoment, IsKnown, Moment}
 
 -- the coordinator's counts of its phase are those of the moment

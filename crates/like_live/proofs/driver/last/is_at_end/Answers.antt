@@ -1,5 +1,5 @@
-use Rattle.std.proofs.Common.{◌≡◌, ◌%◌, nat_lt, true, false, sym, ap, ◌∙◌, subst, refl, arith, rules}
-use Rattle.std.proofs.lemmas.Bool.{eq-eqb, eqb-true, le-ltb, not-false, not-true}
+use Rattle.std.proofs.Common.{◌≡◌, ◌%◌, nat_lt, true, false, sym, ◌∙◌, subst, refl, rules}
+use Rattle.std.proofs.lemmas.Bool.{eq-eqb, eqb-true, not-false, not-true}
 use Rattle.like_core.specs.OpeningLimits.{service_limits}
 use Rattle.like_core.specs.Phase.{IsJoined}
 use Rattle.like_seat.specs.Lead.{LeadView, Sees}

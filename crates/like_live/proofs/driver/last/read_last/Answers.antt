@@ -1,4 +1,4 @@
-use Rattle.std.proofs.Common.{Bool, true, false, refl, subst}
+use Rattle.std.proofs.Common.{Bool, true, refl, subst}
 use Rattle.like_live.specs.Driver.{LooksForEnd, counted, not_ended}
 use Rattle.like_live.proofs.Gone.{end-seen, last-totals}
 use Rattle.like_live.proofs.driver.last.read_last.Goals as goal
