@@ -20,8 +20,8 @@ use Rattle.like_c.specs.declared.rows.FoundRow.{FoundRow}
 use Rattle.like_c.specs.declared.rows.RequestRow.{RequestRow}
 use Rattle.like_c.specs.Rows.{found_row, glance_row, look_row, status_row}
 use Rattle.like_live.specs.declared.open_error.OpenError.{OpenError}
-use Rattle.like_live.specs.Opening.{Asking}
-use Rattle.like_c.specs.Opened.{IsOpenedAs, IsRefusedAs}
+use Rattle.like_live.specs.Opening.{Asking, IsRefusedFor, numbers_of}
+use Rattle.like_c.specs.Opened.{IsOpenedAs}
 use Rattle.like_c.specs.Status.{open_status, driver_status, like_status, turn_status}
 
 -- a seat is called: an empty handle stays empty and answers EMPTY
@@ -133,8 +133,8 @@ pub data HandsOut (from : Option Opened) (to : Option Seated) (status : ℕ) (le
 pub data OpensAt (asked : Asking) (at : Option Opened) (status : ℕ) (after : Option Opened) : Type 0 where
   open_in_use : at ≢ None → status ≡ 20 → after ≡ at → OpensAt asked at status after
   opens : (o : Opened) → at ≡ None → IsOpenedAs asked o → status ≡ 0 → after ≡ Some o → OpensAt asked at status after
-  refused : (error : OpenError) → at ≡ None → IsRefusedAs asked error → status ≡ open_status error → after ≡ None
-      → OpensAt asked at status after
+  refused : (error : OpenError) → at ≡ None → IsRefusedFor (numbers_of asked) error → status ≡ open_status error
+      → after ≡ None → OpensAt asked at status after
 
 -- a row that tells its request that it must wait
 abbrev pub IsToWait : AnswerRow → Type 0

@@ -1,10 +1,8 @@
 -- What a service is opened with from C.
-use Rattle.std.specs.Prelude.{◌≡◌, ◌⊎◌, ◌==◌, if◌then◌else◌, ℕ, Bool, false, List, [], ◌∷◌, length, map, replicate, reverse, Option, Some, None}
+use Rattle.std.specs.Prelude.{◌≡◌, ◌==◌, if◌then◌else◌, ℕ, Bool, false, List, [], ◌∷◌, length, map, replicate, reverse, Option, Some, None}
 use Rattle.like_live.specs.declared.opening.Opening.{Opening}
 use Rattle.like_live.specs.declared.service.Service.{Service}
-use Rattle.like_live.specs.Opening.{Asking, IsFirstWrong, asking}
-use Rattle.like_live.specs.declared.open_error.OpenError.{OpenError}
-use Rattle.like_live.specs.declared.open_error.OpenError.TheVariants.{Memory}
+use Rattle.like_live.specs.Opening.{Asking, asking}
 use Rattle.like_live.specs.Service.{IsOpened}
 use Rattle.like_live.specs.LiveView.{LiveView}
 use Rattle.std.specs.Global.{Global}
@@ -45,7 +43,3 @@ pub record IsOpenedAs (asked : Asking) (it : Opened) : Type 0 where
   pub opened : IsOpened opening service
   pub driver : it.driver ≡ service.driver
   pub seats : reverse (map seat_in it.seats.items) ≡ service.seats.items
-
--- why none was opened: a number is wrong, and this is the first one; or there is no memory
-abbrev pub IsRefusedAs : Asking → OpenError → Type 0
-IsRefusedAs asked error = IsFirstWrong asked error ⊎ (error ≡ Memory)

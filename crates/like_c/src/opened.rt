@@ -1,15 +1,12 @@
 //! What stands behind the two handles.
-ghost use Rattle.std.specs.Prelude.{◌≡◌, IfErr, IfOk, map, reverse};
-ghost use Rattle.like_live.specs.Opening.{asking};
-ghost use Rattle.like_c.specs.Opened.{IsOpenedAs, IsRefusedAs, asked_of, hot_of, marks_of, seat_in};
+ghost use Rattle.std.specs.Prelude.{◌≡◌, IfErr, IfOk, MatchResult, map, reverse};
+ghost use Rattle.like_live.specs.Opening.{AreWithinLimits, IsFirstWrong, IsRefusedFor, asking, numbers_of};
+ghost use Rattle.like_c.specs.Opened.{IsOpenedAs, asked_of, hot_of, marks_of, seat_in};
 
 use crate::rows::Options;
 use like_board::SharedPost;
 use like_live::{Driver, LiveSeat, OpenError, Opening, Service};
 use std::alloc::{AllocError, Global};
-
-/// The most pages that a service may have.
-const MAX_PAGES: usize = 1024;
 
 /// A seat, as a type without parameters, so that a handle can own it.
 #[derive(Drop)]
@@ -25,7 +22,8 @@ pub struct Opened {
 }
 
 impl Opened {
-    /// Opens a service. Each seat is boxed here, so that handing it out takes no memory.
+    /// Opens a service. Every number is tested before any memory is taken. Each seat is boxed here, so that handing it
+    /// out takes no memory.
     pub(crate) fn new(
         alloc: Global,
         options: &Options,
@@ -33,9 +31,12 @@ impl Opened {
         marks: &[bool],
     ) -> Result<Box<Opened, Global>, OpenError>
         ensures opened { IfOk result (λ b. IsOpenedAs (asked_of options.now counts.now marks.now) b.value) }
-        ensures refused { IfErr result (IsRefusedAs (asked_of options.now counts.now marks.now)) }
+        ensures refused { IfErr result (IsRefusedFor (numbers_of (asked_of options.now counts.now marks.now))) }
     {
-        let opening = opening_of(alloc, options, counts, marks)?;
+        check(options, counts, marks)?;
+        let Ok(opening) = opening_of(alloc, options, counts, marks) else {
+            return Err(OpenError::Memory);
+        };
         let Service { driver, seats } = Service::open(alloc, &opening)?;
         let seats = boxed(alloc, seats)?;
         match Box::new(alloc, Opened { driver, seats }) {
@@ -66,30 +67,38 @@ fn boxed(
     Ok(boxed)
 }
 
-// The opening that C asks for. A length beyond the limits is told before anything is copied.
+// Tests every number of what C asks for. If it passes no marks, no page is marked.
+fn check(options: &Options, counts: &[u64], marks: &[bool]) -> Result<(), OpenError>
+    ensures { let numbers = numbers_of (asked_of options.now counts.now marks.now) in
+        MatchResult result (λ _. AreWithinLimits numbers) (IsFirstWrong numbers) }
+{
+    let marked = match marks.len() {
+        0 => counts.len(),
+        marked => marked,
+    };
+    let hot = hot_of(options.hot);
+    Opening::check_numbers(
+        counts,
+        marked,
+        options.seats,
+        options.users,
+        options.room,
+        hot,
+    )
+}
+
+// The opening that C asks for.
 fn opening_of(
     alloc: Global,
     options: &Options,
     counts: &[u64],
     marks: &[bool],
-) -> Result<Opening, OpenError>
-    ensures asks { IfOk result (λ opening. asking opening ≡ asked_of options.now counts.now marks.now) }
-    ensures refused { IfErr result (IsRefusedAs (asked_of options.now counts.now marks.now)) }
+) -> Result<Opening, AllocError>
+    ensures { IfOk result (λ opening. asking opening ≡ asked_of options.now counts.now marks.now) }
 {
-    if counts.len() < 1 || counts.len() > MAX_PAGES {
-        return Err(OpenError::Pages);
-    }
-    if marks.len() != 0 && marks.len() != counts.len() {
-        return Err(OpenError::Marks);
-    }
-    let Ok(marks) = marks_of(alloc, counts.len(), marks) else {
-        return Err(OpenError::Memory);
-    };
-    let Ok(counts) = Vec::from_slice(alloc, counts) else {
-        return Err(OpenError::Memory);
-    };
+    let marks = marks_of(alloc, counts.len(), marks)?;
     Ok(Opening {
-        counts,
+        counts: Vec::from_slice(alloc, counts)?,
         marks,
         seats: options.seats,
         users: options.users,

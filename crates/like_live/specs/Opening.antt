@@ -31,32 +31,57 @@ asking o = record {
   hot = o.hot;
 }
 
+-- the numbers that are tested: of the marks only how many there are
+pub record Numbers : Type 0 where
+  pub counts : List ℕ
+  pub marks : ℕ
+  pub seats : ℕ
+  pub users : ℕ
+  pub room : ℕ
+  pub hot : Option ℕ
+
+abbrev pub numbers_of : Asking → Numbers
+numbers_of a = record {
+  counts = a.counts;
+  marks = length a.marks;
+  seats = a.seats;
+  users = a.users;
+  room = a.room;
+  hot = a.hot;
+}
+
 -- the limit that this error says is broken
-abbrev pub Holds : Asking → OpenError → Type 0
-Holds a Pages = (1 ≤ length a.counts) × (length a.counts ≤ max_pages)
-Holds a Marks = length a.marks ≡ length a.counts
-Holds a Counts = All (λ count. count ≤ max_count) a.counts
-Holds a Seats = (1 ≤ a.seats) × (a.seats ≤ max_workers)
-Holds a Users = 1 ≤ a.users
-Holds a Room = (1 ≤ a.room) × (a.room ≤ max_stash)
-Holds a Hot = IsHotLimit a.hot
-Holds a Memory = ⊤
+abbrev pub Holds : Numbers → OpenError → Type 0
+Holds n Pages = (1 ≤ length n.counts) × (length n.counts ≤ max_pages)
+Holds n Marks = n.marks ≡ length n.counts
+Holds n Counts = All (λ count. count ≤ max_count) n.counts
+Holds n Seats = (1 ≤ n.seats) × (n.seats ≤ max_workers)
+Holds n Users = 1 ≤ n.users
+Holds n Room = (1 ≤ n.room) × (n.room ≤ max_stash)
+Holds n Hot = IsHotLimit n.hot
+Holds n Memory = ⊤
 
 -- the limits, in the order of their tests
 abbrev pub limits : List OpenError
 limits = Pages ∷ Marks ∷ Counts ∷ Seats ∷ Users ∷ Room ∷ Hot ∷ []
 
 -- every limit holds
+abbrev pub AreWithinLimits : Numbers → Type 0
+AreWithinLimits n = AllByRecursion (Holds n) limits
+
 abbrev pub IsWithinLimits : Opening → Type 0
-IsWithinLimits o = AllByRecursion (Holds (asking o)) limits
+IsWithinLimits o = AreWithinLimits (numbers_of (asking o))
 
 -- the first limit that is broken
-abbrev pub IsFirstWrong : Asking → OpenError → Type 0
-IsFirstWrong a error = FailsFirst (Holds a) limits error
+abbrev pub IsFirstWrong : Numbers → OpenError → Type 0
+IsFirstWrong n error = FailsFirst (Holds n) limits error
 
 -- why no service was opened: a number is wrong, and this is the first one; or there is no memory
+abbrev pub IsRefusedFor : Numbers → OpenError → Type 0
+IsRefusedFor n error = IsFirstWrong n error ⊎ ((error ≡ Memory) × AreWithinLimits n)
+
 abbrev pub IsRefused : Opening → OpenError → Type 0
-IsRefused o error = IsFirstWrong (asking o) error ⊎ ((error ≡ Memory) × IsWithinLimits o)
+IsRefused o = IsRefusedFor (numbers_of (asking o))
 
 -- whether something would be split in a split phase: a page is marked, or pages can be hot
 abbrev pub splits_by : List Bool → Option ℕ → Bool

@@ -1,7 +1,7 @@
 ghost use Rattle.std.specs.Prelude.{◌≡◌, ◌%◌, ◌≤◌, ◌↔◌, IsTrue, MatchResult};
 ghost use Rattle.std.specs.List.{list_any};
 ghost use Rattle.like_requests.specs.Setup.{IsHotLimit};
-ghost use Rattle.like_live.specs.Opening.{IsFirstWrong, IsWithinLimits, asking, splits_by};
+ghost use Rattle.like_live.specs.Opening.{AreWithinLimits, IsFirstWrong, IsWithinLimits, Numbers, asking, numbers_of, splits_by};
 
 use crate::open_error::OpenError;
 use like_requests::{MAX_COUNT, MAX_HOT, MAX_PAGES, MAX_STASH, MAX_WORKERS};
@@ -26,28 +26,52 @@ pub struct Opening {
 impl Opening {
     /// Tests every number, in the order of `OpenError`, whose `Memory` it never answers.
     pub fn check(&self) -> Result<(), OpenError>
-        ensures { MatchResult result (λ _. IsWithinLimits self.now) (IsFirstWrong (asking self.now)) }
+        ensures { MatchResult result (λ _. IsWithinLimits self.now) (IsFirstWrong (numbers_of (asking self.now))) }
     {
-        let pages = self.counts.len();
+        let marks = self.marks.len();
+        Opening::check_numbers(
+            &self.counts,
+            marks,
+            self.seats,
+            self.users,
+            self.room,
+            self.hot,
+        )
+    }
+
+    /// Tests the same of an opening that is not made yet, and would have so many marks.
+    pub fn check_numbers(
+        counts: &[u64],
+        marks: usize,
+        seats: u32,
+        users: u32,
+        room: u32,
+        hot: Option<u32>,
+    ) -> Result<(), OpenError>
+        ensures { let numbers : Numbers =
+            record { counts = counts.now; marks = marks; seats = seats; users = users; room = room; hot = hot } in
+            MatchResult result (λ _. AreWithinLimits numbers) (IsFirstWrong numbers) }
+    {
+        let pages = counts.len();
         if pages < 1 || pages > MAX_PAGES as usize {
             return Err(OpenError::Pages);
         }
-        if self.marks.len() != pages {
+        if marks != pages {
             return Err(OpenError::Marks);
         }
-        if !self.counts.iter().all(|count| *count <= MAX_COUNT) {
+        if !counts.iter().all(|count| *count <= MAX_COUNT) {
             return Err(OpenError::Counts);
         }
-        if self.seats < 1 || self.seats > MAX_WORKERS {
+        if seats < 1 || seats > MAX_WORKERS {
             return Err(OpenError::Seats);
         }
-        if self.users < 1 {
+        if users < 1 {
             return Err(OpenError::Users);
         }
-        if self.room < 1 || self.room > MAX_STASH {
+        if room < 1 || room > MAX_STASH {
             return Err(OpenError::Room);
         }
-        if !is_hot_limit(self.hot) {
+        if !is_hot_limit(hot) {
             return Err(OpenError::Hot);
         }
         Ok(())
