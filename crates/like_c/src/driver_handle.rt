@@ -8,7 +8,6 @@ use std::alloc::Global;
 
 /// A driver, or none, as C holds it.
 #[repr(C)]
-#[derive(Drop)]
 pub struct DriverHandle {
     pub(crate) held: HeldDriver,
     full: bool,
@@ -37,10 +36,13 @@ impl DriverHandle {
         ensures none { result ≡ None → self.old.held.home ≡ None }
         ensures left { self.new.held.home ≡ None }
     {
-        let DriverHandle { held, full, .. } = std::mem::replace(self, DriverHandle::empty(alloc));
-        if !full {
+        if !self.full {
             return None;
         }
+        let DriverHandle { held, full: _full } = std::mem::replace(
+            self,
+            DriverHandle::empty(alloc),
+        );
         Some(held.into_parts().into_box())
     }
 
@@ -50,6 +52,8 @@ impl DriverHandle {
         ensures { self.new.held.home ≡ Some driver.value }
     {
         let held = HeldDriver::of_parts(Parts::of(driver));
-        *self = DriverHandle { held, full: true };
+        let full = DriverHandle { held, full: true };
+        let DriverHandle { held, full: _full } = std::mem::replace(self, full);
+        held.discard();
     }
 }

@@ -7,9 +7,8 @@ use crate::parts::Parts;
 use std::alloc::Global;
 use std::marker::Model;
 
-/// A driver behind a pointer, or none, as C holds it.
+/// A driver behind a pointer, or none, as C holds it. It is not `Drop`, so no code can lose a driver.
 #[repr(C)]
-#[derive(Drop)]
 pub struct HeldDriver {
     ptr: *mut u8,
     alloc: Global,
@@ -47,6 +46,12 @@ impl HeldDriver {
     {
         let ptr = std::ptr::null_mut();
         HeldDriver { ptr, alloc }
+    }
+
+    pub(crate) fn discard(self)
+        requires { self.home ≡ None }
+    {
+        let HeldDriver { ptr: _, alloc: _ } = self;
     }
 }
 

@@ -7,9 +7,8 @@ use crate::parts::Parts;
 use std::alloc::Global;
 use std::marker::Model;
 
-/// A seat behind a pointer, or none, as C holds it.
+/// A seat behind a pointer, or none, as C holds it. It is not `Drop`, so no code can lose a seat.
 #[repr(C)]
-#[derive(Drop)]
 pub struct HeldSeat {
     ptr: *mut u8,
     alloc: Global,
@@ -47,6 +46,12 @@ impl HeldSeat {
     {
         let ptr = std::ptr::null_mut();
         HeldSeat { ptr, alloc }
+    }
+
+    pub(crate) fn discard(self)
+        requires { self.home ≡ None }
+    {
+        let HeldSeat { ptr: _, alloc: _ } = self;
     }
 }
 

@@ -287,12 +287,12 @@ pub extern "C" fn likes_last_counts(
 pub extern "C" fn likes_free_seat(alloc: Global, seat: &mut SeatHandle)
     ensures { seat.new.held.home ≡ None }
 {
-    let _taken = seat.take(alloc);
+    drop(seat.take(alloc));
 }
 
 #[unsafe(no_mangle)]
 pub extern "C" fn likes_free_driver(alloc: Global, driver: &mut DriverHandle)
     ensures { driver.new.held.home ≡ None }
 {
-    let _taken = driver.take(alloc);
+    drop(driver.take(alloc));
 }

@@ -8,7 +8,6 @@ use std::alloc::Global;
 
 /// A seat, or none, as C holds it.
 #[repr(C)]
-#[derive(Drop)]
 pub struct SeatHandle {
     pub(crate) held: HeldSeat,
     full: bool,
@@ -37,10 +36,10 @@ impl SeatHandle {
         ensures none { result ≡ None → self.old.held.home ≡ None }
         ensures left { self.new.held.home ≡ None }
     {
-        let SeatHandle { held, full, .. } = std::mem::replace(self, SeatHandle::empty(alloc));
-        if !full {
+        if !self.full {
             return None;
         }
+        let SeatHandle { held, full: _full } = std::mem::replace(self, SeatHandle::empty(alloc));
         Some(held.into_parts().into_box())
     }
 
@@ -50,6 +49,8 @@ impl SeatHandle {
         ensures { self.new.held.home ≡ Some seat.value }
     {
         let held = HeldSeat::of_parts(Parts::of(seat));
-        *self = SeatHandle { held, full: true };
+        let full = SeatHandle { held, full: true };
+        let SeatHandle { held, full: _full } = std::mem::replace(self, full);
+        held.discard();
     }
 }
