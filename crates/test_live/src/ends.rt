@@ -4,10 +4,12 @@ ghost use Rattle.like_live.specs.LiveView.{IsSameSeat};
 ghost use Rattle.like_live.specs.Service.{AreItsSeats};
 
 use crate::services::{closed, opened};
+use crate::threads::works;
 use like_board::SharedPost;
 use like_live::{Driver, DriverAnswer, LikeAnswer, LiveSeat, Service, TurnAnswer};
 use std::process::Abort;
 use std::test::Fail;
+use std::thread::Threads;
 
 // Makes a turn of a driver, which ends a phase or releases the next.
 fn drives(rt: &impl Abort, driver: &mut Driver, wanted: DriverAnswer)
@@ -72,8 +74,32 @@ fn plays(
     retires(rt, second);
 }
 
-// Plays a service, and closes it with its two seats in the other order.
-fn closes(rt: &impl Abort, service: Service) -> (bool, [u64; 2])
+/// Who plays a service: one thread, or a thread for the driver and for each seat.
+#[derive(Clone, Copy)]
+pub enum Host {
+    Alone,
+    Threads,
+}
+
+fn hosts(
+    rt: &(impl Abort + Threads + Sync),
+    host: Host,
+    driver: &mut Driver,
+    first: &mut LiveSeat<SharedPost>,
+    second: &mut LiveSeat<SharedPost>,
+)
+    ensures driver { IsSameDriver driver.old driver.new }
+    ensures first { IsSameSeat first.old first.new }
+    ensures second { IsSameSeat second.old second.new }
+{
+    match host {
+        Host::Alone => plays(rt, driver, first, second),
+        Host::Threads => works(rt, driver, first, second),
+    }
+}
+
+/// Plays a service, and closes it with its two seats in the other order.
+pub fn closes(rt: &(impl Abort + Threads + Sync), service: Service, host: Host) -> (bool, [u64; 2])
     requires { AreItsSeats service.driver service.seats.items }
 {
     let Service {
@@ -85,7 +111,7 @@ fn closes(rt: &impl Abort, service: Service) -> (bool, [u64; 2])
     if !seats.is_empty() {
         panic!(rt; "more than two seats");
     }
-    plays(rt, &mut driver, &mut first, &mut second);
+    hosts(rt, host, &mut driver, &mut first, &mut second);
     seats.push_reserved(second);
     seats.push_reserved(first);
     closed(rt, Service { driver, seats })
@@ -93,7 +119,7 @@ fn closes(rt: &impl Abort, service: Service) -> (bool, [u64; 2])
 
 #[test]
 fn closes_a_service(rt: HostRuntime) -> Result<(), Fail> {
-    let end = closes(&rt, opened(rt.alloc(), 2, 2)?);
+    let end = closes(&rt, opened(rt.alloc(), 2, 2)?, Host::Alone);
     assert!(rt; end == (true, [13, 20]));
     Ok(())
 }

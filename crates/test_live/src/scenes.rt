@@ -103,6 +103,13 @@ macro_rules! asks {
     };
 }
 
+// A look at page 0 by seat 1 that waits.
+macro_rules! asks_seat_1 {
+    ($user:literal, $tag:literal) => {
+        Step::Seat(1, OnSeat::Look($user, 0, $tag, LookAnswer::Waits))
+    };
+}
+
 // A found look of user 0 at page 0 that seat 0 gives. It was asked in phase 1.
 macro_rules! found {
     ($tag:literal, $last:expr, $count:literal) => {
@@ -147,6 +154,14 @@ const CHANGE: &[Step] = &[
     turn!(0, Between),
     turn!(1, Between),
     drive!(true, Released),
+];
+
+// The same of a phase that is not due.
+const EARLY_CHANGE: &[Step] = &[
+    drive!(false, Announced),
+    turn!(0, Between),
+    turn!(1, Between),
+    drive!(false, Released),
 ];
 
 const LOOK: Call = Call::Look {
@@ -277,6 +292,34 @@ const SCENES: &[Scene] = &[
             turn!(0, Runs),
             Step::Seat(0, OnSeat::Phase(1)),
         ]],
+    },
+    // A split phase ends early once the looks that wait at one of the seats take half of its room. In phase 3, looks
+    // that were found before don't count, nor does what ended phase 1.
+    Scene {
+        name: "ends_at_half_the_room",
+        seats: 2,
+        room: 4,
+        parts: &[
+            CHANGE,
+            &[
+                drive!(false, Running),
+                asks!(0, 1, Waits),
+                asks_seat_1!(1, 2),
+                drive!(false, Running),
+                asks!(2, 3, Waits),
+            ],
+            EARLY_CHANGE,
+            CHANGE,
+            &[
+                turn!(0, Runs),
+                drive!(false, Running),
+                asks!(0, 4, Waits),
+                asks_seat_1!(1, 5),
+                drive!(false, Running),
+                asks_seat_1!(3, 6),
+            ],
+            EARLY_CHANGE,
+        ],
     },
     // The end of `live-plain`: the last counts, once the only seat is gone.
     Scene {

@@ -126,6 +126,41 @@ fn refuses_wrong_numbers(rt: HostRuntime) -> Result<(), Fail> {
     Ok(())
 }
 
+// The least numbers of each kind, and the largest.
+const AT_LIMITS: &[Numbers] = &[
+    Numbers {
+        counts: &[0],
+        marks: &[false],
+        seats: 1,
+        users: 1,
+        room: 1,
+        hot: Some(1),
+    },
+    Numbers {
+        counts: &[1_000_000_000_000_000_000; 1_024],
+        marks: &[true; 1_024],
+        seats: 16,
+        users: 1,
+        room: 4_096,
+        hot: Some(1_000_000),
+    },
+];
+
+fn all_at_limits() -> &'static [Numbers] {
+    AT_LIMITS
+}
+
+#[test]
+fn opens_at_each_limit(rt: HostRuntime) -> Result<(), Fail> {
+    for numbers in all_at_limits() {
+        let opening = opening_of(rt.alloc(), numbers)?;
+        let service = open(rt.alloc(), &opening)?;
+        assert!(rt; service.seats.len() == numbers.seats as usize);
+        assert!(rt; service.driver.pages() as usize == numbers.counts.len());
+    }
+    Ok(())
+}
+
 /// Whether a service of two pages is closed, and the counts behind it.
 pub fn closed(rt: &impl Abort, service: Service) -> (bool, [u64; 2])
     requires { AreItsSeats service.driver service.seats.items }

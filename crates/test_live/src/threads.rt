@@ -1,11 +1,15 @@
-//! A service whose seats and driver are each called by a thread. What they end with is the same on every schedule.
-use crate::play::are_last_counts;
+//! A service whose seats and driver are each called by a thread, and which is then closed. What they end with is the same
+//! on every schedule.
+ghost use Rattle.like_live.specs.Driver.{IsSameDriver};
+ghost use Rattle.like_live.specs.LiveView.{IsSameSeat};
+
+use crate::ends::{Host, closes};
 use crate::services::opened;
 use like_board::SharedPost;
-use like_live::{Driver, DriverAnswer, LikeAnswer, LiveSeat, LookAnswer, Service, TurnAnswer};
+use like_live::{Driver, DriverAnswer, LikeAnswer, LiveSeat, LookAnswer, TurnAnswer};
 use std::process::Abort;
 use std::test::Fail;
-use std::thread::{Threads, join};
+use std::thread::{Threads, join_mut};
 
 // How many likes a seat's thread makes.
 const LIKES: u64 = 10_000;
@@ -25,7 +29,9 @@ struct Done {
 
 impl Done {
     // A like, and then a look whose tag says how many have waited before.
-    fn like_and_look(&mut self, seat: &mut LiveSeat<SharedPost>, user: u32) {
+    fn like_and_look(&mut self, seat: &mut LiveSeat<SharedPost>, user: u32)
+        ensures { IsSameSeat seat.old seat.new }
+    {
         if seat.like(user, 0) != LikeAnswer::Liked {
             return;
         }
@@ -41,7 +47,9 @@ impl Done {
     }
 
     // Takes a found look, if there is one.
-    fn take(&mut self, seat: &mut LiveSeat<SharedPost>) {
+    fn take(&mut self, seat: &mut LiveSeat<SharedPost>)
+        ensures { IsSameSeat seat.old seat.new }
+    {
         if let Some(found) = seat.take_found() {
             self.in_turn = self.in_turn && found.asked.tag == self.found;
             self.found = self.found.saturating_add(1);
@@ -50,7 +58,9 @@ impl Done {
 }
 
 // A seat's thread.
-fn work(seat: &mut LiveSeat<SharedPost>, user: u32) -> Done {
+fn work(seat: &mut LiveSeat<SharedPost>, user: u32) -> Done
+    ensures { IsSameSeat seat.old seat.new }
+{
     let mut done = Done {
         liked: 0,
         waited: 0,
@@ -71,7 +81,9 @@ fn work(seat: &mut LiveSeat<SharedPost>, user: u32) -> Done {
 }
 
 // The driver's thread.
-fn drive(driver: &mut Driver) {
+fn drive(driver: &mut Driver)
+    ensures { IsSameDriver driver.old driver.new }
+{
     for _ in 0..CALLS {
         if driver.turn(true) == DriverAnswer::Ended {
             break;
@@ -84,8 +96,11 @@ fn work_both(
     rt: &(impl Threads + Sync),
     first: &mut LiveSeat<SharedPost>,
     second: &mut LiveSeat<SharedPost>,
-) -> (Done, Done) {
-    join(rt, || work(first, 0), || work(second, 1))
+) -> (Done, Done)
+    ensures first { IsSameSeat first.old first.new }
+    ensures second { IsSameSeat second.old second.new }
+{
+    join_mut(rt, &mut || work(first, 0), &mut || work(second, 1))
 }
 
 fn in_threads(
@@ -93,25 +108,38 @@ fn in_threads(
     driver: &mut Driver,
     first: &mut LiveSeat<SharedPost>,
     second: &mut LiveSeat<SharedPost>,
-) -> (Done, Done) {
-    let (_, done) = join(rt, || drive(driver), || work_both(rt, first, second));
+) -> (Done, Done)
+    ensures driver { IsSameDriver driver.old driver.new }
+    ensures first { IsSameSeat first.old first.new }
+    ensures second { IsSameSeat second.old second.new }
+{
+    let (_, done) = join_mut(
+        rt,
+        &mut || drive(driver),
+        &mut || work_both(rt, first, second),
+    );
     done
 }
 
-// Lets a service of two seats work in threads.
-fn play(rt: &(impl Abort + Threads + Sync), service: &mut Service) -> (Done, Done) {
-    let [first, second] = service.seats.as_mut_slice() else {
-        panic!(rt; "not two seats");
-    };
-    in_threads(rt, &mut service.driver, first, second)
+/// Lets the driver and both seats work in threads, until both seats are gone.
+pub fn works(
+    rt: &(impl Abort + Threads + Sync),
+    driver: &mut Driver,
+    first: &mut LiveSeat<SharedPost>,
+    second: &mut LiveSeat<SharedPost>,
+)
+    ensures driver { IsSameDriver driver.old driver.new }
+    ensures first { IsSameSeat first.old first.new }
+    ensures second { IsSameSeat second.old second.new }
+{
+    let (first, second) = in_threads(rt, driver, first, second);
+    assert!(rt; first.is_all());
+    assert!(rt; second.is_all());
 }
 
 #[test]
 fn live_threads(rt: HostRuntime) -> Result<(), Fail> {
-    let mut service = opened(rt.alloc(), 2, 2)?;
-    let (first, second) = play(&rt, &mut service);
-    assert!(rt; first.is_all());
-    assert!(rt; second.is_all());
-    assert!(rt; are_last_counts(&mut service.driver, true, [20_010, 20]));
+    let end = closes(&rt, opened(rt.alloc(), 2, 2)?, Host::Threads);
+    assert!(rt; end == (true, [20_010, 20]));
     Ok(())
 }

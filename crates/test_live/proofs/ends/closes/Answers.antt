@@ -12,10 +12,10 @@ closed-requires g c =
     let all = two-of c.args.service.seats.items c.pop.new.self.items none.items c.pop.result c.pop-2.result
     c.expect-first.result c.expect-second.result c.pop.ensures.items c.pop-2.ensures.items c.expect-second.ensures
     c.expect-first.ensures empty in
-    let back = back-of none.items c.push_reserved.new.self.items c.push_reserved-2.new.self.items c.plays.new.first
-    c.plays.new.second empty c.push_reserved.ensures.items c.push_reserved-2.ensures.items in
-    subst (AreItsSeats c.plays.new.driver) (sym back)
-    (turned-after c.args.service.driver c.plays.new.driver c.expect-first.result c.expect-second.result
-    c.plays.new.first c.plays.new.second
-    (subst (AreItsSeats c.args.service.driver) all c.requires) c.plays.ensures.driver c.plays.ensures.first
-    c.plays.ensures.second)
+    let back = back-of none.items c.push_reserved.new.self.items c.push_reserved-2.new.self.items c.hosts.new.first
+    c.hosts.new.second empty c.push_reserved.ensures.items c.push_reserved-2.ensures.items in
+    subst (AreItsSeats c.hosts.new.driver) (sym back)
+    (turned-after c.args.service.driver c.hosts.new.driver c.expect-first.result c.expect-second.result
+    c.hosts.new.first c.hosts.new.second
+    (subst (AreItsSeats c.args.service.driver) all c.requires) c.hosts.ensures.driver c.hosts.ensures.first
+    c.hosts.ensures.second)
