@@ -48,6 +48,7 @@ impl HeldSeat {
         HeldSeat { ptr, alloc }
     }
 
+    /// Ends one that is empty.
     pub(crate) fn discard(self)
         requires { self.home ≡ None }
     {
