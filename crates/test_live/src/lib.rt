@@ -2,6 +2,7 @@
 #![tactic(auto)]
 
 #[cfg(test)]
+mod batches;
 mod ends;
 #[cfg(test)]
 mod play;

@@ -14,8 +14,8 @@ use std::thread::{Threads, join_mut};
 // How many likes a seat's thread makes.
 const LIKES: u64 = 10_000;
 
-// More calls than any schedule needs.
-const CALLS: u64 = 1 << 40;
+/// More calls than any schedule needs.
+pub const CALLS: u64 = 1 << 40;
 
 // What a seat's thread did: its likes, and how many looks waited and were found. `in_turn` says that each found look
 // had the next tag of those that waited.
@@ -80,8 +80,8 @@ fn work(seat: &mut LiveSeat<SharedPost>, user: u32) -> Done
     done
 }
 
-// The driver's thread.
-fn drive(driver: &mut Driver)
+/// The driver's thread.
+pub fn drive(driver: &mut Driver)
     ensures { IsSameDriver driver.old driver.new }
 {
     for _ in 0..CALLS {
