@@ -3,3 +3,4 @@ pub mod Looking
 pub mod MergedLikes
 pub mod Merging
 pub mod WholeMerge
+pub mod SliceLogs

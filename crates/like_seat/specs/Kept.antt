@@ -9,7 +9,8 @@ use Rattle.like_seat.specs.declared.tables.Tables.{Tables}
 
 -- the seat of a post and what is kept beside it
 abbrev pub view_of : {W : Type 0} → PostView → Tables W → SeatView W
-view_of post t = record { post = post; held = t.held; slice = t.slice; last = t.last }
+view_of post t =
+    record { post = post; held = t.held; slice = t.slice; sliced = t.sliced.likes; last = t.last }
 
 -- whether the page is split in the phase that the worker runs, as its tables have it
 abbrev pub is_split_by : {W : Type 0} → Tables W → ℕ → Bool

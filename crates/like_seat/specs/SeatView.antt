@@ -6,15 +6,17 @@ use Rattle.like_core.specs.OpeningLimits.{AreLimits}
 use Rattle.like_core.specs.PhaseMasks.{HasMask}
 use Rattle.like_core.specs.Post.{PostView, additions_of, pages_of, slices}
 use Rattle.like_core.specs.WorkerState.{RunsSplit, phase_of}
+use Rattle.like_seat.specs.SlicedLike.{SlicedLike}
 use Rattle.like_tables.specs.UserTable.{UserTable}
 use Rattle.like_tables.specs.Waiting.{IsWaiting, Waiting}
 
 -- its post; what it holds, which is its stash in a split phase and its backlog in a joined one; its slice, a number for
--- each page; and the last likes of its users
+-- each page; all likes that ever went into its slice, in order; and the last likes of its users
 pub record SeatView (W : Type 0) : Type 0 where
   pub post : PostView
   pub held : Waiting W
   pub slice : List ℕ
+  pub sliced : List SlicedLike
   pub last : UserTable
 
 -- the phase that it runs or has answered

@@ -9,13 +9,15 @@ use Rattle.like_tables.specs.UserTable.{UserTable, last_of, with_last}
 use Rattle.like_seat.specs.declared.merged.Merged.{Merged}
 use Rattle.like_seat.specs.declared.seen.Seen.{Seen}
 use Rattle.like_seat.specs.SeatView.{SeatView, tally_of}
+use Rattle.like_seat.specs.SlicedLike.{sliced_like}
 
--- a seat that has done nothing yet: it holds nothing, and its slice is empty
+-- a seat that has done nothing yet: it holds nothing, its slice is empty, and no like ever went into it
 pub record IsNewSeat {W : Type 0} (post : PostView) (room : ℕ) (users : UserTable) (s : SeatView W)
     : Type 0 where
   pub at_post : s.post ≡ post
   pub held : s.held ≡ record { held = []; capacity = room }
   pub slice : s.slice ≡ replicate (length post.marks) 0
+  pub sliced : s.sliced ≡ []
   pub last : s.last ≡ users
 
 -- the masks that were read by who enters a phase: in a split one also that one's, which is this
@@ -41,9 +43,12 @@ saw s sight mask = record s { post = saw_at s.post sight mask }
 abbrev pub Looks : {W : Type 0} → SeatView W → Sight → SeatView W → Type 0
 Looks s sight after = (mask : ℕ) × (after ≡ saw s sight mask)
 
--- one more like of a page in the slice
+-- one more like of a page in the slice, after all looks so far
 abbrev pub sliced : {W : Type 0} → SeatView W → ℕ → SeatView W
-sliced s page = record s { slice = slice_set s.slice page (slice_index s.slice page + 1) }
+sliced s page = record s {
+  slice = slice_set s.slice page (slice_index s.slice page + 1);
+  sliced = s.sliced ++ sliced_like page (length s.post.looks) ∷ [];
+}
 
 -- n is added to a page's count on the board, which was this before
 abbrev pub with_addition : {W : Type 0} → SeatView W → ℕ → ℕ → ℕ → SeatView W

@@ -10,6 +10,7 @@ mod lead;
 mod merged;
 mod seat;
 mod seen;
+mod slice_log;
 mod tables;
 
 pub use lead::{Lead, NoLead};

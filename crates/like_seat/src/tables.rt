@@ -5,6 +5,7 @@ ghost use Rattle.like_core.specs.declared.worker_state.WorkerState.TheVariants.{
 ghost use Rattle.like_seat.specs.Kept.{is_split_by};
 ghost use Rattle.like_seat.specs.Steps.{masks_entered};
 
+use crate::slice_log::SliceLog;
 use like_core::{Post, WorkerState, is_hot};
 use like_tables::{Slice, Stash, Users};
 use std::alloc::{AllocError, Global};
@@ -21,6 +22,8 @@ pub(crate) struct Tables<W: Copy> {
     /// What waits for the next joined phase, and in that phase what is left of it.
     pub held: Stash<W>,
     pub slice: Slice,
+    /// The likes that went into the slice.
+    pub sliced: SliceLog,
     /// How many likes it has counted: what was added on the board, and the slice.
     pub likes: u64,
     /// The last likes of its users.
@@ -42,6 +45,7 @@ impl<W: Copy> Tables<W> {
         ensures state { IfOk result (λ tables. tables.state ≡ Runs 0) }
         ensures held { IfOk result (λ tables. tables.held ≡ record { held = []; capacity = room }) }
         ensures slice { IfOk result (λ tables. tables.slice ≡ replicate (length marks.items) 0) }
+        ensures sliced { IfOk result (λ tables. tables.sliced.likes ≡ []) }
         ensures likes { IfOk result (λ tables. tables.likes ≡ 0) }
         ensures last { IfOk result (λ tables. tables.last ≡ last) }
     {
@@ -52,6 +56,7 @@ impl<W: Copy> Tables<W> {
             hot: 0,
             held: Stash::new(alloc, room)?,
             slice: Slice::new(alloc, pages)?,
+            sliced: SliceLog::new(),
             likes: 0,
             last,
         })

@@ -36,6 +36,7 @@ impl<P: Post, W: Copy> Seat<P, W> {
         self.tables.likes += 1;
         if sliced {
             self.tables.slice.add(page);
+            self.tables.sliced = self.tables.sliced.then(&self.post, page);
             return None;
         }
         Some(self.post.add(page, 1))

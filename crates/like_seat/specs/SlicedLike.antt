@@ -1,0 +1,17 @@
+-- A like that a seat counted in its slice.
+use Rattle.std.specs.Prelude.{ℕ, List, refl}
+use Rattle.std.specs.Coded.{Coded, code_by, coded×, coded_ℕ, coded_list}
+
+-- its page, and how many looks the seat had made before
+pub record SlicedLike : Type 0 where
+  pub page : ℕ
+  pub looks : ℕ
+
+-- a like of this page, after so many looks
+abbrev pub sliced_like : ℕ → ℕ → SlicedLike
+sliced_like page looks = record { page = page; looks = looks }
+
+-- how the logic stores a list of them
+abbrev pub likes_code : Coded (List SlicedLike)
+likes_code =
+    coded_list (code_by (ℕ × ℕ) (coded× coded_ℕ coded_ℕ) (λ l. (l.page, l.looks)) (λ p. sliced_like p.0 p.1) (λ _. refl))
