@@ -100,6 +100,7 @@ pub record Finding (v now : LiveView) : Type 0 where
       ≡ record v.seat.post { reads = v.seat.post.reads ++ map (read_for (length v.seat.post.additions)) found }
   pub capacity : now.seat.held.capacity ≡ v.seat.held.capacity
   pub slice : now.seat.slice ≡ v.seat.slice
+  pub sliced : now.seat.sliced ≡ v.seat.sliced
   pub last : now.seat.last ≡ v.seat.last
   pub found_is : now.found ≡ v.found ++ found
 
@@ -112,6 +113,7 @@ Finding-start v = record {
   post = λ m. record v.seat.post { reads = sym (append-nil v.seat.post.reads) m };
   capacity = refl;
   slice = refl;
+  sliced = refl;
   last = refl;
   found_is = sym (append-nil v.found);
 }
@@ -128,6 +130,7 @@ Finding-end v now f none = record {
       post = f.post m;
       held = record { held = none m; capacity = f.capacity m };
       slice = f.slice m;
+      sliced = f.sliced m;
       last = f.last m;
     };
     found = f.found_is m;
@@ -185,9 +188,10 @@ pub Finding-more : (v now next : LiveView) (a : Asked) (f : Found) → Finding v
     ≡ record now.seat.post { reads = now.seat.post.reads ++ read_for (length v.seat.post.additions) f ∷ [] }
     → next.seat.held.capacity ≡ now.seat.held.capacity
     → next.seat.slice ≡ now.seat.slice
+    → next.seat.sliced ≡ now.seat.sliced
     → next.seat.last ≡ now.seat.last
     → next.found ≡ now.found ++ f ∷ [] → Finding v next
-Finding-more v now next a f d first is shown post capacity slice last found = record {
+Finding-more v now next a f d first is shown post capacity slice sliced last found = record {
   found = d.found ++ f ∷ [];
   order =
       ap (λ (xs : List Asked). xs ++ waiting next) (map-append (λ (x : Found). x.asked) d.found (f ∷ []))
@@ -202,6 +206,7 @@ Finding-more v now next a f d first is shown post capacity slice last found = re
       ∙ (λ m. record v.seat.post { reads = reads m });
   capacity = capacity ∙ d.capacity;
   slice = slice ∙ d.slice;
+  sliced = sliced ∙ d.sliced;
   last = last ∙ d.last;
   found_is = found ∙ ap (λ xs. xs ++ f ∷ []) d.found_is ∙ append_assoc v.found d.found (f ∷ []);
 }
@@ -266,5 +271,6 @@ Finding-next v now s after found a seen phase d first is reads phase_is found_is
     }))
     (ap (λ (t : SeatView Asked). t.held.capacity) e)
     (ap (λ (t : SeatView Asked). t.slice) e)
+    (ap (λ (t : SeatView Asked). t.sliced) e)
     (ap (λ (t : SeatView Asked). t.last) e)
     found_is

@@ -73,5 +73,6 @@ pub record IsNewLive (post : PostView) (room : ℕ) (users : UserTable) (v : Liv
   pub at_post : v.seat.post ≡ post
   pub held : v.seat.held ≡ record { held = []; capacity = room }
   pub slice : v.seat.slice ≡ replicate (pages_of post) 0
+  pub sliced : v.seat.sliced ≡ []
   pub last : v.seat.last ≡ users
   pub found : v.found ≡ []

@@ -1,8 +1,8 @@
-use Rattle.std.proofs.Common.{ap, sym, ◌∙◌}
+use Rattle.std.proofs.Common.{ap, refl, sym, ◌∙◌}
 use Rattle.like_tables.specs.Waiting.{Waiting}
 use Rattle.like_live.specs.declared.asked.Found.{Found}
 use Rattle.like_live.specs.LiveView.{live_of}
-use Rattle.like_live.proofs.Finding.{Finding-first, Finding-next, Finding-ran, joined_phase}
+use Rattle.like_live.proofs.Finding.{Finding-first, Finding-next, Finding-ran, Finding-start, joined_phase}
 use Rattle.like_live.proofs.live_seat.moves.find_each.Goals as goal
 
 pub read_for-seen-requires-clause-there : goal.read_for-seen-requires-clause-there
@@ -18,6 +18,13 @@ read_for-seen-requires-clause-owned g c =
     let now = live_of c.loop-asked.seat c.loop-asked.found in
     (Finding-first v now c.next_held.new.self c.in-Some.asked c.loop-asked.invariant.finding c.requires.looked.own
     (sym c.in-Some.ensures.first) c.in-Some.ensures.rest).owned
+
+pub loop-asked-init : goal.loop-asked-init
+loop-asked-init g c = record {
+  finding = Finding-start (live_of c.args.seat.now c.args.found.now);
+  seat = c.phase-phase.ensures.seat;
+  capacity = refl;
+}
 
 pub loop-asked-preserved : goal.loop-asked-preserved
 loop-asked-preserved g c =
