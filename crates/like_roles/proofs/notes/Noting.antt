@@ -1,5 +1,5 @@
 -- What a turn does to the additions that are noted.
-use Rattle.std.proofs.Common.{◌≡◌, ◌≢◌, ℕ, zero, suc, ◌+◌, ◌<◌, ◌≤◌, ◌==◌, nat_le, Bool, true, false, ◌&&◌, cond, inl, inr, List, [], ◌∷◌, ◌++◌, All, length, get_or, map, slice_index, slice_set, Some, None, subst, refl, ap, sym, ◌∙◌, eq-eqb, arith, append-nil}
+use Rattle.std.proofs.Common.{◌≡◌, ◌≢◌, ℕ, zero, suc, ◌+◌, ◌<◌, ◌≤◌, ◌==◌, nat_le, Bool, true, false, ◌&&◌, cond, inl, inr, List, [], ◌∷◌, ◌++◌, All, length, get_or, map, Some, None, subst, refl, ap, sym, ◌∙◌, eq-eqb, arith, append-nil}
 use Rattle.std.proofs.lemmas.Bool.{cases_eq, cases_lt, ne_eqb, le-leb}
 use Rattle.std.proofs.lemmas.List.{length-map, map-append}
 use Rattle.std.proofs.lemmas.List.Elements.{All-push}
@@ -14,6 +14,7 @@ use Rattle.like_core.specs.declared.worker_state.WorkerState.TheVariants as stat
 use Rattle.like_core.specs.WorkerState.{RunsSome, phase_of, seen}
 use Rattle.like_core.specs.Post.{slices}
 use Rattle.like_tables.specs.declared.held.Held.{Held}
+use Rattle.like_seat.specs.Steps as steps
 use Rattle.like_service.specs.declared.log.Added.{Added}
 use Rattle.like_service.specs.declared.log.Ran.{Ran}
 use Rattle.like_service.specs.declared.reply.Reply.{Reply}
@@ -23,7 +24,7 @@ use Rattle.like_roles.specs.worker.Shown.{adds_before_looks, look_ran}
 use Rattle.like_service.specs.Likes.{AcceptedLike, like_ran, likes_within}
 use Rattle.like_roles.specs.worker.Serve.{GivesReply, refuses, likes, looks, with_addition, counted, noted_at, ran_now}
 use Rattle.like_service.specs.Service.{Service, is_split_in, submitters}
-use Rattle.like_roles.specs.worker.WorkerView.{WorkerView, phase_at}
+use Rattle.like_roles.specs.worker.WorkerView.{WorkerView, phase_at, seat_of, with_seat}
 use Rattle.like_roles.proofs.notes.Noted.{AddsLikes, apart, count-all, count-none, looks-adds, looks-push, no-more, none-passes, noted-each, noted-push}
 use Rattle.like_roles.proofs.counts.Tallied.{accepted-false, accepted-true, like_ran-is, look_ran-is, verdict_at-served, within-none, within-one}
 
@@ -114,7 +115,7 @@ one_like service v e page old user notes was un now like no_look_ran alike = by_
     k = phase_at v
 
     sliced : WorkerView
-    sliced = record v { slice = slice_set v.slice page (slice_index v.slice page + 1) }
+    sliced = with_seat v (steps.sliced (seat_of v) page)
 
     P : WorkerView → Type 0
     P w = IsNotedNow service k w (v.ran ++ e ∷ [])

@@ -24,6 +24,7 @@ view_of s d = record {
   post = s.post;
   held = s.held;
   slice = s.slice;
+  sliced = s.sliced;
   last = s.last;
   left = d.left.items;
   ended = d.ended.items;

@@ -29,6 +29,7 @@ pub record IsNew (s : Setup) (sizes : List ℕ) (worker : ℕ) (post : PostView)
   pub at_post : v.post ≡ post
   pub held : v.held ≡ record { held = []; capacity = s.stash }
   pub slice : v.slice ≡ replicate (length s.pages) 0
+  pub sliced : v.sliced ≡ []
   pub left : v.left ≡ dealt s.workers worker sizes
   pub ended : v.ended ≡ replicate (length v.left) false
   pub cursor : v.cursor ≡ 0

@@ -7,6 +7,7 @@ use Rattle.like_service.specs.Looks.{page_looked_at}
 use Rattle.like_core.specs.WorkerState.{phase_of}
 use Rattle.like_core.specs.Post.{PostView, slices}
 use Rattle.like_seat.specs.SeatView.{SeatView}
+use Rattle.like_seat.specs.SlicedLike.{SlicedLike}
 use Rattle.like_tables.specs.Share.{submitter_of}
 use Rattle.like_tables.specs.declared.held.Held.{Held}
 use Rattle.like_tables.specs.UserTable.{UserTable}
@@ -16,14 +17,15 @@ use Rattle.like_service.specs.declared.log.Ran.{Ran}
 use Rattle.like_service.specs.declared.log.Took.{Took}
 
 -- its post; the looks that it holds, which are its stash in a split phase and its backlog in a joined one; its slice, a
--- number for each page; for each of its submitters by place, how many requests of it were not taken yet and whether its
--- end mark was taken; the place at which it looks for a submitter next; the place of the submitter that it tries, if it
--- tries one; the last likes of its users; what it took and what it ran; whether it notes its additions, and those that it
--- noted
+-- number for each page; all likes that ever went into its slice, in order; for each of its submitters by place, how
+-- many requests of it were not taken yet and whether its end mark was taken; the place at which it looks for a
+-- submitter next; the place of the submitter that it tries, if it tries one; the last likes of its users; what it took
+-- and what it ran; whether it notes its additions, and those that it noted
 pub record WorkerView : Type 0 where
   pub post : PostView
   pub held : Waiting Held
   pub slice : List ℕ
+  pub sliced : List SlicedLike
   pub left : List ℕ
   pub ended : List Bool
   pub cursor : ℕ
@@ -36,11 +38,13 @@ pub record WorkerView : Type 0 where
 
 -- its seat
 abbrev pub seat_of : WorkerView → SeatView Held
-seat_of v = record { post = v.post; held = v.held; slice = v.slice; last = v.last }
+seat_of v =
+    record { post = v.post; held = v.held; slice = v.slice; sliced = v.sliced; last = v.last }
 
 -- with its seat like this, and all else the same
 abbrev pub with_seat : WorkerView → SeatView Held → WorkerView
-with_seat v s = record v { post = s.post; held = s.held; slice = s.slice; last = s.last }
+with_seat v s =
+    record v { post = s.post; held = s.held; slice = s.slice; sliced = s.sliced; last = s.last }
 
 -- the phase that it runs or has answered
 abbrev pub phase_at : WorkerView → ℕ
