@@ -7,11 +7,10 @@ use Rattle.like_core.specs.Phase.{IsJoined, IsSplit}
 use Rattle.like_core.specs.WorkerState.{RunsJoined, RunsSome, RunsSplit, phase_of}
 use Rattle.like_core.specs.Post.{slices}
 use Rattle.like_tables.specs.declared.held.Held.{Held}
-use Rattle.like_seat.specs.Steps.{sliced}
 use Rattle.like_service.specs.declared.log.Ran.{Ran}
 use Rattle.like_service.specs.declared.reply.Reply.{Reply}
-use Rattle.like_roles.specs.worker.Serve.{GivesReply, refuses, likes, looks, with_addition, counted, liked, shown, ran_now, Runs}
-use Rattle.like_roles.specs.worker.WorkerView.{WorkerView, phase_at, seat_of, with_seat}
+use Rattle.like_roles.specs.worker.Serve.{GivesReply, refuses, likes, looks, sliced, with_addition, counted, liked, shown, ran_now, Runs}
+use Rattle.like_roles.specs.worker.WorkerView.{WorkerView, phase_at}
 
 -- a worker that runs a phase that is split runs a split phase
 pub runs-split : (s : WorkerState) → RunsSome (λ _. Unit {0}) s → IsSplit (phase_of s) → RunsSplit s
@@ -27,10 +26,9 @@ runs-joined state.Gone r even = absurd r
 
 -- what holds with one more like in the slice, and with one more on the board, holds once a like is counted
 pub counted_by : (P : WorkerView → Type 0) (v : WorkerView) (page old : ℕ)
-    → P (with_seat v (sliced (seat_of v) page))
-    → P (with_addition v page old 1) → P (counted v page old)
+    → P (sliced v page) → P (with_addition v page old 1) → P (counted v page old)
 counted_by P v page old in_slice on_board = by_test (slices v.post page) where
-  by_test : (b : Bool) → P (cond b (with_seat v (sliced (seat_of v) page)) (with_addition v page old 1))
+  by_test : (b : Bool) → P (cond b (sliced v page) (with_addition v page old 1))
   by_test true = in_slice
   by_test false = on_board
 

@@ -14,7 +14,6 @@ use Rattle.like_core.specs.declared.worker_state.WorkerState.TheVariants as stat
 use Rattle.like_core.specs.WorkerState.{RunsSome, phase_of, seen}
 use Rattle.like_core.specs.Post.{slices}
 use Rattle.like_tables.specs.declared.held.Held.{Held}
-use Rattle.like_seat.specs.Steps as steps
 use Rattle.like_service.specs.declared.log.Added.{Added}
 use Rattle.like_service.specs.declared.log.Ran.{Ran}
 use Rattle.like_service.specs.declared.reply.Reply.{Reply}
@@ -22,9 +21,9 @@ use Rattle.like_service.specs.places.Adds.{IsOfLikes, addition_of, is_add_to, ad
 use Rattle.like_roles.specs.worker.Follows.{adds_to, IsAsked, IsNoted, IsServed, IsUnmerged}
 use Rattle.like_roles.specs.worker.Shown.{adds_before_looks, look_ran}
 use Rattle.like_service.specs.Likes.{AcceptedLike, like_ran, likes_within}
-use Rattle.like_roles.specs.worker.Serve.{GivesReply, refuses, likes, looks, with_addition, counted, noted_at, ran_now}
+use Rattle.like_roles.specs.worker.Serve.{GivesReply, refuses, likes, looks, sliced, with_addition, counted, noted_at, ran_now}
 use Rattle.like_service.specs.Service.{Service, is_split_in, submitters}
-use Rattle.like_roles.specs.worker.WorkerView.{WorkerView, phase_at, seat_of, with_seat}
+use Rattle.like_roles.specs.worker.WorkerView.{WorkerView, phase_at}
 use Rattle.like_roles.proofs.notes.Noted.{AddsLikes, apart, count-all, count-none, looks-adds, looks-push, no-more, none-passes, noted-each, noted-push}
 use Rattle.like_roles.proofs.counts.Tallied.{accepted-false, accepted-true, like_ran-is, look_ran-is, verdict_at-served, within-none, within-one}
 
@@ -113,9 +112,6 @@ one_like service v e page old user notes was un now like no_look_ran alike = by_
   where
     k : ℕ
     k = phase_at v
-
-    sliced : WorkerView
-    sliced = with_seat v (steps.sliced (seat_of v) page)
 
     P : WorkerView → Type 0
     P w = IsNotedNow service k w (v.ran ++ e ∷ [])
@@ -207,9 +203,9 @@ one_like service v e page old user notes was un now like no_look_ran alike = by_
 
     by_test : (b : Bool) → slices v.post page ≡ b → P (counted v page old)
     by_test true e' =
-        subst (λ (b : Bool). P (cond b sliced (with_addition v page old 1))) (sym e') (in_slice (alike ∙ e'))
+        subst (λ (b : Bool). P (cond b (sliced v page) (with_addition v page old 1))) (sym e') (in_slice (alike ∙ e'))
     by_test false e' =
-        subst (λ (b : Bool). P (cond b sliced (with_addition v page old 1))) (sym e') (on_board (alike ∙ e'))
+        subst (λ (b : Bool). P (cond b (sliced v page) (with_addition v page old 1))) (sym e') (on_board (alike ∙ e'))
 
 -- whatever the answer is, of a worker that notes its additions
 pub GivesReply-noted : (service : Service) (v : WorkerView) (h : Held) (stashed : Bool) (answer : Reply)

@@ -49,12 +49,14 @@ abbrev pub with_addition : WorkerView → ℕ → ℕ → ℕ → WorkerView
 with_addition v page old n =
     noting (with_seat v (steps.with_addition (seat_of v) page old n)) page old n
 
+-- one more like of a page in the slice
+abbrev pub sliced : WorkerView → ℕ → WorkerView
+sliced v page = with_seat v (steps.sliced (seat_of v) page)
+
 -- one more like of a page: in the slice, where the page is sliced, else on the board, where its count was this
 abbrev pub counted : WorkerView → ℕ → ℕ → WorkerView
 counted v page old =
-    if slices v.post page
-    then with_seat v (steps.sliced (seat_of v) page)
-    else with_addition v page old 1
+    if slices v.post page then sliced v page else with_addition v page old 1
 
 -- a user's accepted like of a page is counted, and is the user's last like
 abbrev pub liked : WorkerView → ℕ → ℕ → ℕ → WorkerView
