@@ -1,5 +1,5 @@
 -- A turn leaves whose post it is, and at which board.
-use Rattle.std.proofs.Common.{◌≡◌, ℕ, ◌+◌, Bool, true, false, cond, List, refl, ap, ◌∙◌, get_or, set}
+use Rattle.std.proofs.Common.{◌≡◌, ℕ, Bool, true, false, cond, List, refl, ap, ◌∙◌}
 use Rattle.like_requests.specs.declared.request.Numbered.{Numbered}
 use Rattle.like_requests.specs.declared.request.Request.{Request}
 use Rattle.like_requests.specs.declared.request.Taken.{Taken}
@@ -7,7 +7,7 @@ use Rattle.like_core.specs.Post.{slices}
 use Rattle.like_tables.specs.declared.held.Held.{Held}
 use Rattle.like_service.specs.declared.reply.Reply.{Reply}
 use Rattle.like_roles.specs.declared.turn.Turn.{Turn}
-use Rattle.like_roles.specs.worker.Serve.{Runs, GivesReply, refuses, likes, looks, with_addition, liked}
+use Rattle.like_roles.specs.worker.Serve.{Runs, GivesReply, refuses, likes, looks, sliced, with_addition, liked}
 use Rattle.like_roles.specs.worker.Turns as turns
 use Rattle.like_roles.specs.worker.Turns.{Gives, TakesAsk, Turns, Works, saw, settled, with_taken, without_first}
 use Rattle.like_roles.specs.worker.WorkerView.{WorkerView}
@@ -18,9 +18,7 @@ whose v = (v.post.worker, v.post.board)
 
 liked-whose : (v : WorkerView) (user page old : ℕ) → whose (liked v user page old) ≡ whose v
 liked-whose v user page old = by_test (slices v.post page) where
-  by_test : (b : Bool)
-      → whose (cond b (record v { slice = set v.slice page (get_or v.slice page 0 + 1) }) (with_addition v page old 1))
-      ≡ whose v
+  by_test : (b : Bool) → whose (cond b (sliced v page) (with_addition v page old 1)) ≡ whose v
   by_test true = refl
   by_test false = refl
 

@@ -1,5 +1,5 @@
 -- What a turn does to what a worker saw.
-use Rattle.std.proofs.Common.{◌≡◌, ◌≢◌, ℕ, ◌+◌, ◌≤◌, ◌<◌, Bool, true, false, cond, List, [], ◌∷◌, ◌++◌, length, get_or, set, Option, Some, None, refl, ap, sym, ◌∙◌, arith, subst, MatchBool}
+use Rattle.std.proofs.Common.{◌≡◌, ◌≢◌, ℕ, ◌+◌, ◌≤◌, ◌<◌, Bool, true, false, cond, List, [], ◌∷◌, ◌++◌, length, get_or, Option, Some, None, refl, ap, sym, ◌∙◌, arith, subst, MatchBool}
 use Rattle.std.specs.Option.{IfSome}
 use Rattle.std.specs.List.{All}
 use Rattle.std.proofs.lemmas.List.Elements.{All-push}
@@ -18,7 +18,7 @@ use Rattle.like_service.specs.declared.log.Took.{Took}
 use Rattle.like_service.specs.declared.reply.Reply.{Reply}
 use Rattle.like_roles.specs.declared.turn.Turn.{Turn}
 use Rattle.like_roles.specs.declared.turn.Turn.TheVariants as turn
-use Rattle.like_roles.specs.worker.Serve.{Runs, GivesReply, refuses, likes, looks, with_addition, liked}
+use Rattle.like_roles.specs.worker.Serve.{Runs, GivesReply, refuses, likes, looks, sliced, with_addition, liked}
 use Rattle.like_roles.specs.worker.Turns as turns
 use Rattle.like_roles.specs.worker.Turns.{Gives, TakesAsk, Turns, Works, merged, saw, settled, with_taken, without_first}
 use Rattle.like_roles.specs.worker.WorkerView.{WorkerView, phase_at, submitter_at}
@@ -104,9 +104,7 @@ running_here P state.Gone r = absurd r
 -- a request that runs leaves the last sight
 liked-last : (v : WorkerView) (user page old : ℕ) → (liked v user page old).post.last ≡ v.post.last
 liked-last v user page old = by_test (slices v.post page) where
-  by_test : (b : Bool)
-      → (cond b (record v { slice = set v.slice page (get_or v.slice page 0 + 1) })
-      (with_addition v page old 1)).post.last ≡ v.post.last
+  by_test : (b : Bool) → (cond b (sliced v page) (with_addition v page old 1)).post.last ≡ v.post.last
   by_test true = refl
   by_test false = refl
 

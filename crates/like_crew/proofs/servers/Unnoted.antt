@@ -1,5 +1,5 @@
 -- A turn of a worker that notes no additions notes none.
-use Rattle.std.proofs.Common.{◌≡◌, ℕ, ◌+◌, ◌++◌, Bool, true, false, cond, List, [], ◌∷◌, length, refl, ap, ◌∙◌, get_or, set, append-nil}
+use Rattle.std.proofs.Common.{◌≡◌, ℕ, ◌++◌, Bool, true, false, cond, List, [], ◌∷◌, length, refl, ap, ◌∙◌, append-nil}
 use Rattle.like_requests.specs.declared.request.Numbered.{Numbered}
 use Rattle.like_requests.specs.declared.request.Request.{Request}
 use Rattle.like_requests.specs.declared.request.Taken.{Taken}
@@ -9,7 +9,7 @@ use Rattle.like_tables.specs.declared.held.Held.{Held}
 use Rattle.like_service.specs.declared.log.Added.{Added}
 use Rattle.like_service.specs.declared.reply.Reply.{Reply}
 use Rattle.like_roles.specs.declared.turn.Turn.{Turn}
-use Rattle.like_roles.specs.worker.Serve.{Runs, GivesReply, refuses, likes, looks, noted, noted_if, with_addition, liked}
+use Rattle.like_roles.specs.worker.Serve.{Runs, GivesReply, refuses, likes, looks, noted, noted_if, sliced, with_addition, liked}
 use Rattle.like_roles.specs.worker.Turns as turns
 use Rattle.like_roles.specs.worker.Turns.{Gives, TakesAsk, Turns, Works, saw, settled, with_taken, without_first}
 use Rattle.like_roles.specs.worker.WorkerView.{WorkerView, phase_at}
@@ -24,9 +24,7 @@ noted-none v adds n = ap (λ (b : Bool). v.adds ++ noted_if b (length v.ran) add
 
 liked-adds : (v : WorkerView) (user page old : ℕ) → v.notes ≡ false → adds_of (liked v user page old) ≡ v.adds
 liked-adds v user page old n = by_test (slices v.post page) where
-  by_test : (b : Bool)
-      → adds_of (cond b (record v { slice = set v.slice page (get_or v.slice page 0 + 1) })
-      (with_addition v page old 1)) ≡ v.adds
+  by_test : (b : Bool) → adds_of (cond b (sliced v page) (with_addition v page old 1)) ≡ v.adds
   by_test true = refl
   by_test false = noted-none v (record { phase = phase_at v; page = page; old = old; likes = 1 } ∷ []) n
 
