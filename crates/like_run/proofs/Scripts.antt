@@ -1,5 +1,5 @@
 -- Entries and rounds that are made one after the other.
-use Rattle.std.proofs.Common.{ℕ, zero, suc, ◌+◌, List, [], ◌∷◌, ◌++◌, refl, subst}
+use Rattle.std.proofs.Common.{ℕ, zero, suc, List, [], ◌∷◌, ◌++◌, refl, subst}
 use Rattle.like_script.specs.declared.turned.Turned.{Turned}
 use Rattle.like_crew.specs.declared.crew.Crew.{Crew}
 use Rattle.like_crew.specs.Steps.{IsRound}
