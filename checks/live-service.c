@@ -168,7 +168,7 @@ int main(int count, char **words) {
     }
     uint64_t seed = strtoull(words[1], NULL, 10), seconds = strtoull(words[2], NULL, 10);
     uint64_t end = likes_clock() + seconds * UINT64_C(1000000000);
-    static const uint32_t rooms[] = {1, 4, 4096}, periods[] = {0, 100, 1000, 5000};
+    static const uint32_t rooms[] = {1, 4, 4096}, periods[] = {1, 100, 1000, 5000};
     refused();
     for (uint64_t round = 0; likes_clock() < end; round++) {
         until = likes_clock() + UINT64_C(400000000);

@@ -9,10 +9,18 @@
  * likes_take_found, likes_service_rest. While a seat rests, the driver's thread does its phase work. While it is awake,
  * the thread that holds it calls it at least once each phase, and waits for nothing else.
  *
- * At one seat, looks come either from likes_service_look, or with tags of your own: not both.
+ * At a seat of which other threads ask likes_service_look, take your own looks by likes_service_take_found.
+ *
+ * A service works only where it was started, and until it is stopped. A call of a copy, or of one that isn't started,
+ * does nothing and answers LIKES_MOVED or LIKES_NOT_STARTED.
  */
 #ifndef LIKES_HELPERS_H
 #define LIKES_HELPERS_H
+
+/* In strict C11, the C library declares what is of POSIX only on request. */
+#if defined(__STRICT_ANSI__) && !defined(_POSIX_C_SOURCE) && !defined(_GNU_SOURCE)
+#define _POSIX_C_SOURCE 200809L
+#endif
 
 #include "likes.h"
 
@@ -23,34 +31,54 @@
 #include <string.h>
 #include <time.h>
 
+#ifndef CLOCK_MONOTONIC
+#error "include likes_helpers.h before all other headers, or define _POSIX_C_SOURCE as 200809L"
+#endif
+
 #ifdef __cplusplus
 extern "C" {
 #endif
 
-/* The driver's thread can't be started: one status more of likes_service_start. */
-#define LIKES_NO_THREAD 32u
+/* What the helpers' calls answer, beside the statuses of likes.h. */
+enum likes_helper_status {
+    LIKES_NO_THREAD = 1000,    /* the driver's thread can't be started */
+    LIKES_WRONG_PERIOD = 1001, /* the period is 0 */
+    LIKES_NOT_STARTED = 1002,  /* the service isn't started, or it was stopped */
+    LIKES_MOVED = 1003,        /* the service is a copy */
+    LIKES_UNKNOWN_SEAT = 1004, /* the service has fewer seats */
+    LIKES_TAKEN = 1005         /* the look was found, but somebody took it by likes_take_found */
+};
 
 /* So often a call tries again at once while its seat is between phases, before it yields the processor. */
 #define LIKES_SPINS 64u
 
-/* A look of likes_service_look that waits. */
+/* A look of likes_service_look that waits. Its tag is its address. */
 typedef struct likes_wait {
     struct likes_wait *next;
+    uint64_t asked; /* the phase in which it was asked */
     likes_found found;
-    bool is_found;
+    uint32_t status; /* LIKES_WAITS, LIKES_SEEN or LIKES_TAKEN */
 } likes_wait;
+
+/* Found looks with tags of the host's, in a ring: those that came before one of likes_service_look. */
+typedef struct likes_ring {
+    likes_found *at;
+    uint32_t first, length, room;
+} likes_ring;
 
 /* A seat behind its lock. Rooms of 128 bytes keep what one thread writes out of the cache lines of others. */
 typedef struct likes_place {
     pthread_mutex_t lock;
     pthread_cond_t found;
     likes_wait *first, **last; /* the looks of likes_service_look that wait, in the order of asking */
+    likes_ring others;
     char apart[128];
     likes_seat seat;
     char apart_too[128];
 } likes_place;
 
 typedef struct likes_service {
+    struct likes_service *mark; /* where the service was started; NULL: it isn't */
     likes_place places[LIKES_MAX_SEATS];
     uint32_t seats;
     size_t pages;
@@ -71,8 +99,12 @@ static inline const char *likes_status_name(uint32_t status) {
         /* 9 */ "unknown page", "unknown op", "full", "gone", "running", "announced", "waiting", "released",
         /* 17 */ "counted", "ended", "empty", "in use", "no seat", "not ended", "wrong length", "no memory",
         /* 25 */ "wrong pages", "wrong marks", "wrong count", "wrong seats", "wrong users", "wrong room", "wrong hot",
-        /* 32 */ "no thread",
     };
+    static const char *const helpers_names[] = {
+        /* 1000 */ "no thread", "wrong period", "not started", "moved", "unknown seat", "taken",
+    };
+    if (status >= LIKES_NO_THREAD && status <= LIKES_TAKEN)
+        return helpers_names[status - LIKES_NO_THREAD];
     return status < sizeof names / sizeof *names ? names[status] : "unknown status";
 }
 
@@ -84,7 +116,7 @@ static inline uint64_t likes_clock(void) {
 }
 
 static inline void likes_sleep(uint64_t nanoseconds) {
-    struct timespec length = {0, (long)nanoseconds};
+    struct timespec length = {(time_t)(nanoseconds / 1000000000), (long)(nanoseconds % 1000000000)};
     nanosleep(&length, NULL);
 }
 
@@ -96,6 +128,26 @@ static inline void likes_set_time(uint64_t *at, uint64_t time) {
 static inline uint64_t likes_time_left(const uint64_t *at, uint64_t now) {
     uint64_t time = __atomic_load_n(at, __ATOMIC_SEQ_CST);
     return time > now ? time - now : 0;
+}
+
+/* What is wrong with a service: LIKES_NOT_STARTED, LIKES_MOVED, or LIKES_OK. */
+static inline uint32_t likes_service_fault(const likes_service *service) {
+    if (service->mark == service)
+        return LIKES_OK;
+    return service->mark == NULL ? LIKES_NOT_STARTED : LIKES_MOVED;
+}
+
+/* The same, or LIKES_UNKNOWN_SEAT. */
+static inline uint32_t likes_service_seat_fault(const likes_service *service, uint32_t number) {
+    uint32_t fault = likes_service_fault(service);
+    return fault == LIKES_OK && number >= service->seats ? (uint32_t)LIKES_UNKNOWN_SEAT : fault;
+}
+
+/* Writes an answer that shows nothing, and gives its status. */
+static inline uint32_t likes_refuse(likes_answer *answer, uint32_t status) {
+    memset(answer, 0, sizeof *answer);
+    answer->status = status;
+    return status;
 }
 
 /* The driver's turn, with `driving` held. From the end of one split phase to that of the next is a period, or less
@@ -123,6 +175,9 @@ static inline uint32_t likes_service_turn(likes_service *service) {
 
 /* Makes a turn of the driver, unless another thread is making one. */
 static inline uint32_t likes_service_drive(likes_service *service) {
+    uint32_t fault = likes_service_fault(service);
+    if (fault != LIKES_OK)
+        return fault;
     if (pthread_mutex_trylock(&service->driving) != 0)
         return LIKES_WAITING;
     uint32_t status = likes_service_turn(service);
@@ -145,23 +200,68 @@ static inline void likes_service_pause(likes_service *service, unsigned tries) {
         sched_yield();
 }
 
-/* Hands the looks that were found at a place to the threads that wait for them, with its lock held. */
+static inline void likes_ring_put(likes_ring *ring, const likes_found *found) {
+    ring->at[(ring->first + ring->length++) % ring->room] = *found;
+}
+
+static inline void likes_ring_take(likes_ring *ring, likes_found *found) {
+    *found = ring->at[ring->first];
+    ring->first = (ring->first + 1) % ring->room;
+    ring->length--;
+}
+
+/* The look that waits at a place with this tag, or NULL. */
+static inline likes_wait *likes_place_wait(const likes_place *place, uint64_t tag) {
+    likes_wait *wait = place->first;
+    while (wait != NULL && (uint64_t)(uintptr_t)wait != tag)
+        wait = wait->next;
+    return wait;
+}
+
+/* Ends the first wait of a place. */
+static inline void likes_place_end(likes_place *place, uint32_t status) {
+    place->first->status = status;
+    place->first = place->first->next;
+    if (place->first == NULL)
+        place->last = &place->first;
+}
+
+/* Ends the waits before one, or all before NULL, whose looks were found and aren't there any more. */
+static inline void likes_place_drop(likes_place *place, const likes_wait *wait) {
+    while (place->first != wait)
+        likes_place_end(place, LIKES_TAKEN);
+}
+
+/* Hands a found look to the thread that waits for it, or keeps it if its tag is the host's. */
+static inline void likes_place_hand(likes_place *place, const likes_found *found) {
+    likes_wait *wait = likes_place_wait(place, found->tag);
+    if (wait == NULL) {
+        likes_ring_put(&place->others, found);
+        return;
+    }
+    likes_place_drop(place, wait);
+    wait->found = *found;
+    likes_place_end(place, LIKES_SEEN);
+}
+
+/* Hands out the looks that were found at a place, with its lock held. When a seat runs a phase, all looks that it was
+ * asked in earlier ones have been found. */
 static inline void likes_place_deliver(likes_place *place) {
     likes_found found;
-    bool is_any = false;
-    while (place->first != NULL && likes_take_found(&place->seat, &found)) {
-        likes_wait *wait = place->first;
-        if (found.tag != (uint64_t)(uintptr_t)wait) {
-            fputs("likes: a seat has looks of likes_service_look and looks with other tags\n", stderr);
-            abort();
+    const likes_wait *first = place->first;
+    while (place->first != NULL && place->others.length < place->others.room) {
+        if (likes_take_found(&place->seat, &found)) {
+            likes_place_hand(place, &found);
+        } else {
+            uint64_t phase = likes_seat_phase(&place->seat);
+            likes_wait *wait = place->first;
+            while (wait != NULL && wait->asked != phase)
+                wait = wait->next;
+            likes_place_drop(place, wait);
+            break;
         }
-        place->first = wait->next;
-        if (place->first == NULL)
-            place->last = &place->first;
-        wait->found = found;
-        wait->is_found = is_any = true;
     }
-    if (is_any)
+    if (place->first != first)
         pthread_cond_broadcast(&place->found);
 }
 
@@ -184,7 +284,7 @@ static inline uint64_t likes_service_nap(const likes_service *service) {
     return left < 50000 ? 50000 : left > 1000000 ? 1000000 : left;
 }
 
-/* What the driver's thread does. */
+/* What the driver's thread does, until it is told to stop or all seats are gone. */
 static inline void *likes_service_thread(void *at) {
     likes_service *service = (likes_service *)at;
     unsigned tries = 0;
@@ -199,6 +299,8 @@ static inline void *likes_service_thread(void *at) {
                 sched_yield();
             else
                 likes_sleep(50000);
+        } else if (status == LIKES_ENDED) {
+            break;
         } else {
             tries = 0;
         }
@@ -206,10 +308,12 @@ static inline void *likes_service_thread(void *at) {
     return NULL;
 }
 
-/* Frees the seats and the driver, and the locks. */
+/* Frees the seats and the driver, the rings and the locks. */
 static inline void likes_service_free(likes_service *service) {
+    service->mark = NULL;
     for (uint32_t i = 0; i < LIKES_MAX_SEATS; i++) {
         likes_free_seat(&service->places[i].seat);
+        free(service->places[i].others.at);
         pthread_mutex_destroy(&service->places[i].lock);
         pthread_cond_destroy(&service->places[i].found);
     }
@@ -217,13 +321,8 @@ static inline void likes_service_free(likes_service *service) {
     pthread_mutex_destroy(&service->driving);
 }
 
-/* Opens a service and starts its driver's thread. options and counts are those of likes_open. marks has one for each
- * page, or is NULL: none is marked. period is the time from the end of one split phase to that of the next, in
- * microseconds: no look waits much longer. 1000 suits most hosts.
- * LIKES_OK, an answer of likes_open, or LIKES_NO_THREAD; but for LIKES_OK there is nothing to be stopped. */
-static inline uint32_t likes_service_start(likes_service *service, const likes_options *options, const uint64_t *counts,
-                                           size_t pages, const bool *marks, uint32_t period) {
-    static const bool no_marks[1] = {false};
+/* Makes a service that isn't started, with its locks. */
+static inline void likes_service_clear(likes_service *service) {
     memset(service, 0, sizeof *service);
     pthread_mutex_init(&service->driving, NULL);
     for (uint32_t i = 0; i < LIKES_MAX_SEATS; i++) {
@@ -232,14 +331,41 @@ static inline uint32_t likes_service_start(likes_service *service, const likes_o
         pthread_cond_init(&place->found, NULL);
         place->last = &place->first;
     }
+}
+
+/* Takes the seats, and memory for twice as many found looks as each has room for. */
+static inline uint32_t likes_service_take(likes_service *service, uint32_t seats, uint32_t room) {
+    service->seats = seats;
+    for (uint32_t i = 0; i < seats; i++) {
+        likes_place *place = &service->places[i];
+        likes_take_seat(&service->driver, &place->seat);
+        place->others.room = 2 * room;
+        place->others.at = (likes_found *)calloc(2 * room, sizeof *place->others.at);
+        if (place->others.at == NULL)
+            return LIKES_NO_MEMORY;
+    }
+    return LIKES_OK;
+}
+
+/* Opens a service and starts its driver's thread. options and counts are those of likes_open. marks has one for each
+ * page, or is NULL: none is marked. period is the time from the end of one split phase to that of the next, in
+ * microseconds, 1 or more: no look waits much longer. 1000 suits most hosts.
+ * LIKES_OK, an answer of likes_open, LIKES_WRONG_PERIOD or LIKES_NO_THREAD; but for LIKES_OK there is nothing to be
+ * stopped. */
+static inline uint32_t likes_service_start(likes_service *service, const likes_options *options, const uint64_t *counts,
+                                           size_t pages, const bool *marks, uint32_t period) {
+    static const bool no_marks[1] = {false};
+    likes_service_clear(service);
     size_t marks_len = marks == NULL ? 0 : pages;
-    uint32_t status = likes_open(options, counts, pages, marks == NULL ? no_marks : marks, marks_len, &service->driver);
+    uint32_t status = LIKES_WRONG_PERIOD;
+    if (period > 0)
+        status = likes_open(options, counts, pages, marks_len == 0 ? no_marks : marks, marks_len, &service->driver);
+    if (status == LIKES_OK)
+        status = likes_service_take(service, options->seats, options->room);
     if (status == LIKES_OK) {
-        service->seats = options->seats;
+        service->mark = service;
         service->pages = pages;
         service->period = (uint64_t)period * 1000;
-        for (uint32_t i = 0; i < service->seats; i++)
-            likes_take_seat(&service->driver, &service->places[i].seat);
         service->has_thread = pthread_create(&service->thread, NULL, likes_service_thread, service) == 0;
         if (!service->has_thread)
             status = LIKES_NO_THREAD;
@@ -249,22 +375,34 @@ static inline uint32_t likes_service_start(likes_service *service, const likes_o
     return status;
 }
 
-/* Takes a seat's lock. Until likes_service_rest, the seat is this thread's, which may make any call on it. */
+/* Takes a seat's lock. Until likes_service_rest, the seat is this thread's, which may make any call on it. NULL, and
+ * nothing is done, where likes_service_seat_fault isn't LIKES_OK. */
 static inline likes_seat *likes_service_wake(likes_service *service, uint32_t number) {
+    if (likes_service_seat_fault(service, number) != LIKES_OK)
+        return NULL;
     pthread_mutex_lock(&service->places[number].lock);
     return &service->places[number].seat;
 }
 
 /* Gives the lock back. A thread does so before it waits for anything. */
 static inline void likes_service_rest(likes_service *service, uint32_t number) {
+    if (likes_service_seat_fault(service, number) != LIKES_OK)
+        return;
     likes_place_deliver(&service->places[number]);
     pthread_mutex_unlock(&service->places[number].lock);
 }
 
 /* Runs a row of requests at a seat that is awake, through changes of phases, and gives the number of rows done. It
- * stops early only at a look that has no room: take found looks, and go on with that row. */
+ * stops early only at a look that has no room: take found looks, and go on with that row. Where
+ * likes_service_seat_fault isn't LIKES_OK, it is the status of the first answer, and no row is done. */
 static inline size_t likes_service_run(likes_service *service, uint32_t number, const likes_request *requests,
                                        size_t length, likes_answer *answers) {
+    uint32_t fault = likes_service_seat_fault(service, number);
+    if (fault != LIKES_OK) {
+        if (length > 0)
+            likes_refuse(answers, fault);
+        return 0;
+    }
     likes_seat *seat = &service->places[number].seat;
     size_t done = likes_run(seat, requests, length, answers, length);
     for (unsigned tries = 0; done < length && answers[done].status == LIKES_BETWEEN; tries++) {
@@ -272,6 +410,19 @@ static inline size_t likes_service_run(likes_service *service, uint32_t number, 
         done += likes_run(seat, requests + done, length - done, answers + done, length - done);
     }
     return done;
+}
+
+/* Takes the next found look with a tag of the host's, at a seat that is awake, in the order of asking. False: there is
+ * none. */
+static inline bool likes_service_take_found(likes_service *service, uint32_t number, likes_found *found) {
+    if (likes_service_seat_fault(service, number) != LIKES_OK)
+        return false;
+    likes_place *place = &service->places[number];
+    likes_place_deliver(place);
+    if (place->others.length == 0)
+        return likes_take_found(&place->seat, found);
+    likes_ring_take(&place->others, found);
+    return true;
 }
 
 /* Takes up to so many found looks at once, and gives their number. */
@@ -284,6 +435,9 @@ static inline size_t likes_take_all_found(likes_seat *seat, likes_found *found, 
 
 /* Adds one like: an answer of likes_like, but never LIKES_BETWEEN. Any thread may call it. */
 static inline uint32_t likes_service_like(likes_service *service, uint32_t user, uint32_t page) {
+    uint32_t fault = likes_service_fault(service);
+    if (fault != LIKES_OK)
+        return fault;
     uint32_t number = likes_seat_of(user, service->seats);
     likes_seat *seat = likes_service_wake(service, number);
     uint32_t status = likes_like(seat, user, page);
@@ -298,6 +452,9 @@ static inline uint32_t likes_service_like(likes_service *service, uint32_t user,
 /* Looks at once: an answer of likes_glance, but never LIKES_BETWEEN. Any thread may call it. */
 static inline uint32_t likes_service_glance(likes_service *service, uint32_t user, uint32_t page,
                                             likes_answer *answer) {
+    uint32_t fault = likes_service_fault(service);
+    if (fault != LIKES_OK)
+        return likes_refuse(answer, fault);
     uint32_t number = likes_seat_of(user, service->seats);
     likes_seat *seat = likes_service_wake(service, number);
     uint32_t status = likes_glance(seat, user, page, answer);
@@ -312,25 +469,36 @@ static inline uint32_t likes_service_glance(likes_service *service, uint32_t use
 /* Waits for a look that waits at a place, with its lock held. */
 static inline void likes_place_await(likes_place *place, likes_wait *wait, likes_answer *answer) {
     wait->next = NULL;
-    wait->is_found = false;
+    wait->asked = likes_seat_phase(&place->seat);
+    wait->status = LIKES_WAITS;
     *place->last = wait;
     place->last = &wait->next;
-    while (!wait->is_found)
+    while (wait->status == LIKES_WAITS)
         pthread_cond_wait(&place->found, &place->lock);
-    answer->count = wait->found.count;
-    answer->last = wait->found.last;
-    answer->status = LIKES_SEEN;
+    likes_refuse(answer, wait->status);
+    if (wait->status == LIKES_SEEN) {
+        answer->count = wait->found.count;
+        answer->last = wait->found.last;
+    }
 }
 
 /* Looks, and waits until the look is found if it has to: an answer of likes_look, but never LIKES_BETWEEN or
- * LIKES_WAITS, and LIKES_NO_ROOM only where looks with tags of the host's fill the seat. Any thread may call it. */
+ * LIKES_WAITS, and LIKES_NO_ROOM only where looks with tags of the host's fill the seat. LIKES_TAKEN: somebody took it
+ * by likes_take_found. Any thread may call it. */
 static inline uint32_t likes_service_look(likes_service *service, uint32_t user, uint32_t page, likes_answer *answer) {
+    uint32_t fault = likes_service_fault(service);
+    if (fault != LIKES_OK)
+        return likes_refuse(answer, fault);
     uint32_t number = likes_seat_of(user, service->seats);
     likes_place *place = &service->places[number];
     likes_wait wait;
     likes_service_wake(service, number);
     for (unsigned tries = 0;; tries++) {
-        likes_look(&place->seat, user, page, (uint64_t)(uintptr_t)&wait, answer);
+        /* What the seat may find before this look has to have room in the ring. */
+        if (place->others.length > place->others.room / 2)
+            likes_refuse(answer, LIKES_NO_ROOM);
+        else
+            likes_look(&place->seat, user, page, (uint64_t)(uintptr_t)&wait, answer);
         if (answer->status == LIKES_BETWEEN) {
             likes_service_pause(service, tries);
         } else if (answer->status == LIKES_NO_ROOM && place->first != NULL) {
@@ -347,15 +515,18 @@ static inline uint32_t likes_service_look(likes_service *service, uint32_t user,
     return answer->status;
 }
 
-/* The counts of all pages at one moment, the end of a joined phase: LIKES_COUNTED. Or LIKES_RUNNING, where no page can
- * be split and so no phase ends, or LIKES_WRONG_LENGTH, where the row hasn't one entry for each page. It takes up to
- * two phases. The calling thread holds no seat. */
+/* The counts of all pages at one moment, the end of a joined phase, or the final counts where all seats are gone:
+ * LIKES_COUNTED. Or LIKES_RUNNING, where no page can be split and so no phase ends, or LIKES_WRONG_LENGTH, where the row
+ * hasn't one entry for each page. It takes up to two phases. The calling thread holds no seat. */
 static inline uint32_t likes_service_counts(likes_service *service, uint64_t *counts, size_t pages) {
-    uint32_t status, turn = LIKES_RELEASED;
+    uint32_t status = likes_service_fault(service), turn = LIKES_RELEASED;
+    if (status != LIKES_OK)
+        return status;
     if (pages != service->pages)
         return LIKES_WRONG_LENGTH;
     pthread_mutex_lock(&service->driving);
-    while ((status = likes_snapshot(&service->driver, 0, counts, pages)) == LIKES_WAITING && turn != LIKES_RUNNING) {
+    while ((status = likes_snapshot(&service->driver, 0, counts, pages)) == LIKES_WAITING && turn != LIKES_RUNNING &&
+           turn != LIKES_ENDED) {
         /* Where a joined phase is ending, a turn could release the next one unseen. */
         bool is_ending = turn == LIKES_ANNOUNCED || turn == LIKES_WAITING;
         if (!is_ending || likes_phase(&service->driver) % 2 == 1)
@@ -363,23 +534,25 @@ static inline uint32_t likes_service_counts(likes_service *service, uint64_t *co
         likes_service_turns(service);
         sched_yield();
     }
+    if (turn == LIKES_ENDED && likes_last_counts(&service->driver, 0, counts, pages) == LIKES_OK)
+        status = LIKES_COUNTED;
     likes_set_time(&service->due, 0);
     likes_set_time(&service->next, 0);
     pthread_mutex_unlock(&service->driving);
-    if (status == LIKES_WAITING)
-        return LIKES_RUNNING;
-    return status;
+    return status == LIKES_WAITING ? (uint32_t)LIKES_RUNNING : status;
 }
 
-/* Ends the driver's thread, has all seats retire, and makes the driver's turns until it answers LIKES_ENDED. No thread
- * holds a seat, and no call of the service is begun any more but likes_service_wake, likes_take_found,
- * likes_service_rest and likes_service_stop. */
-static inline void likes_service_retire(likes_service *service) {
+/* Ends the driver's thread, has all seats retire, and makes the driver's turns until it answers LIKES_ENDED: LIKES_OK.
+ * No thread holds a seat, and no call of the service is begun any more but likes_service_wake, likes_take_found,
+ * likes_service_take_found, likes_service_rest, likes_service_counts and likes_service_stop. */
+static inline uint32_t likes_service_retire(likes_service *service) {
+    uint32_t status = likes_service_fault(service);
+    if (status != LIKES_OK)
+        return status;
     __atomic_store_n(&service->is_stopping, true, __ATOMIC_SEQ_CST);
     if (service->has_thread)
         pthread_join(service->thread, NULL);
     service->has_thread = false;
-    uint32_t status;
     do {
         for (uint32_t i = 0; i < service->seats; i++) {
             likes_retire(likes_service_wake(service, i));
@@ -389,15 +562,19 @@ static inline void likes_service_retire(likes_service *service) {
         status = likes_driver_turn(&service->driver, true);
         pthread_mutex_unlock(&service->driving);
     } while (status != LIKES_ENDED);
+    return LIKES_OK;
 }
 
 /* Ends the service and gives the final counts: LIKES_OK, or LIKES_WRONG_LENGTH, where nothing was done. All threads are
  * done with it. Found looks that were not taken are lost: take them between likes_service_retire and this. */
 static inline uint32_t likes_service_stop(likes_service *service, uint64_t *counts, size_t pages) {
+    uint32_t status = likes_service_fault(service);
+    if (status != LIKES_OK)
+        return status;
     if (pages != service->pages)
         return LIKES_WRONG_LENGTH;
     likes_service_retire(service);
-    uint32_t status = likes_last_counts(&service->driver, 0, counts, pages);
+    status = likes_last_counts(&service->driver, 0, counts, pages);
     likes_service_free(service);
     return status;
 }

@@ -1,0 +1,263 @@
+/* Wrong uses of likes_helpers.h, each of which has to be answered by a status: calls of a service that isn't started,
+ * was stopped or is a copy; wrong seats and periods; seats that have all left; and looks with tags of the host's at a
+ * seat of which likes_service_look is asked too.
+ *
+ * It ends with status 1 and a line where a call is answered otherwise, and by a signal after 30 seconds. */
+#include "likes_helpers.h"
+
+#include <unistd.h>
+
+enum { LOOKS = 200 };
+
+static likes_service service, copy;
+static bool is_over;
+
+#define IS(call, expected)                                                                                      \
+    do {                                                                                                        \
+        uint64_t is = (call), should = (expected);                                                              \
+        if (is != should) {                                                                                     \
+            printf("line %d: %s is %llu (%s), and not %llu\n", __LINE__, #call, (unsigned long long)is,          \
+                   likes_status_name((uint32_t)is), (unsigned long long)should);                                \
+            exit(1);                                                                                            \
+        }                                                                                                       \
+    } while (0)
+
+/* A service with a page that is split in every split phase, and one that never is. */
+static uint32_t start(uint32_t seats, uint32_t room, uint32_t period) {
+    static const uint64_t counts[] = {10, 20};
+    static const bool marks[] = {true, false};
+    likes_options options = {.seats = seats, .users = 100, .room = room, .hot = 0};
+    return likes_service_start(&service, &options, counts, 2, marks, period);
+}
+
+/* Every call of a service answers this. */
+static void all_refused(likes_service *it, uint32_t status) {
+    likes_request request = {.op = LIKES_LIKE};
+    likes_answer answer = {.count = 1};
+    likes_found found;
+    uint64_t counts[2] = {5, 6};
+    IS(likes_service_like(it, 0, 0), status);
+    IS(likes_service_look(it, 0, 0, &answer), status);
+    IS(answer.status, status);
+    IS(answer.count, 0);
+    IS(likes_service_glance(it, 0, 0, &answer), status);
+    IS(answer.status, status);
+    IS(likes_service_wake(it, 0) == NULL, true);
+    IS(likes_service_run(it, 0, &request, 1, &answer), 0);
+    IS(answer.status, status);
+    IS(likes_service_run(it, 0, &request, 0, &answer), 0);
+    IS(likes_service_take_found(it, 0, &found), false);
+    likes_service_rest(it, 0);
+    IS(likes_service_drive(it), status);
+    likes_service_tick(it);
+    IS(likes_service_counts(it, counts, 2), status);
+    IS(likes_service_retire(it), status);
+    IS(likes_service_stop(it, counts, 2), status);
+    IS(counts[0], 5);
+    IS(counts[1], 6);
+}
+
+static void not_started(void) {
+    uint64_t totals[2];
+    all_refused(&service, LIKES_NOT_STARTED);
+    IS(start(17, 4, 1000), LIKES_WRONG_SEATS);
+    all_refused(&service, LIKES_NOT_STARTED);
+    IS(start(2, 4, 0), LIKES_WRONG_PERIOD);
+    all_refused(&service, LIKES_NOT_STARTED);
+    IS(start(2, 4, 1), LIKES_OK);
+    IS(likes_service_like(&service, 0, 0), LIKES_LIKED);
+    IS(likes_service_stop(&service, totals, 1), LIKES_WRONG_LENGTH);
+    IS(likes_service_stop(&service, totals, 2), LIKES_OK);
+    IS(totals[0], 11);
+    all_refused(&service, LIKES_NOT_STARTED);
+}
+
+/* A copy is refused, and the service goes on. */
+static void moved(void) {
+    uint64_t totals[2];
+    IS(start(2, 4, 1000), LIKES_OK);
+    pthread_mutex_lock(&service.driving); /* so that nobody writes meanwhile */
+    memcpy(&copy, &service, sizeof copy);
+    pthread_mutex_unlock(&service.driving);
+    all_refused(&copy, LIKES_MOVED);
+    IS(likes_service_like(&service, 1, 1), LIKES_LIKED);
+    IS(likes_service_stop(&service, totals, 2), LIKES_OK);
+    IS(totals[1], 21);
+    all_refused(&copy, LIKES_MOVED);
+}
+
+static void unknown_seats(void) {
+    static const uint32_t numbers[] = {2, 15, 16, 17, UINT32_MAX};
+    likes_request request = {.op = LIKES_LIKE};
+    likes_answer answer;
+    likes_found found;
+    uint64_t totals[2];
+    IS(start(2, 4, 1000), LIKES_OK);
+    for (size_t i = 0; i < sizeof numbers / sizeof *numbers; i++) {
+        IS(likes_service_seat_fault(&service, numbers[i]), LIKES_UNKNOWN_SEAT);
+        IS(likes_service_wake(&service, numbers[i]) == NULL, true);
+        IS(likes_service_run(&service, numbers[i], &request, 1, &answer), 0);
+        IS(answer.status, LIKES_UNKNOWN_SEAT);
+        IS(likes_service_take_found(&service, numbers[i], &found), false);
+        likes_service_rest(&service, numbers[i]);
+    }
+    IS(likes_service_seat_fault(&service, 1), LIKES_OK);
+    IS(likes_service_stop(&service, totals, 2), LIKES_OK);
+}
+
+/* How long this process has had a processor, in nanoseconds. */
+static uint64_t worked(void) {
+    struct timespec time;
+    clock_gettime(CLOCK_PROCESS_CPUTIME_ID, &time);
+    return (uint64_t)time.tv_sec * UINT64_C(1000000000) + (uint64_t)time.tv_nsec;
+}
+
+/* All seats leave while the driver's thread goes on: it takes no time, and the counts are the final ones. */
+static void all_gone(void) {
+    uint64_t totals[2];
+    likes_answer answer;
+    IS(start(2, 4, 1000), LIKES_OK);
+    IS(likes_service_like(&service, 0, 0), LIKES_LIKED);
+    IS(likes_service_like(&service, 1, 1), LIKES_LIKED);
+    for (uint32_t i = 0; i < 2; i++) {
+        while (likes_retire(likes_service_wake(&service, i)) != LIKES_GONE) {
+            likes_service_rest(&service, i);
+            sched_yield();
+        }
+        likes_service_rest(&service, i);
+    }
+    likes_sleep(100000000);
+    uint64_t before = worked();
+    likes_sleep(300000000);
+    IS(worked() - before < 100000000, true);
+    for (int times = 0; times < 2; times++) {
+        IS(likes_service_counts(&service, totals, 2), LIKES_COUNTED);
+        IS(totals[0], 11);
+        IS(totals[1], 21);
+    }
+    IS(likes_service_like(&service, 0, 0), LIKES_GONE);
+    IS(likes_service_look(&service, 0, 0, &answer), LIKES_GONE);
+    IS(likes_service_stop(&service, totals, 2), LIKES_OK);
+    IS(totals[0], 11);
+}
+
+/* Makes a look at a seat by its row, with a tag. Whether it waits. */
+static bool look_waits(uint64_t tag) {
+    likes_request request = {.tag = tag, .op = LIKES_LOOK};
+    likes_answer answer;
+    likes_service_wake(&service, 0);
+    bool waits = likes_service_run(&service, 0, &request, 1, &answer) == 1 && answer.status == LIKES_WAITS;
+    likes_service_rest(&service, 0);
+    return waits;
+}
+
+/* Takes the looks that waited, whose tags are 1, 2 and so on. */
+static uint64_t take_tagged(uint64_t taken) {
+    likes_found found;
+    likes_service_wake(&service, 0);
+    while (likes_service_take_found(&service, 0, &found))
+        IS(found.tag, ++taken);
+    likes_service_rest(&service, 0);
+    return taken;
+}
+
+/* One thread asks both kinds of looks, and takes its own only where there is no room: each is answered, and none is
+ * lost. */
+static void tagged(void) {
+    uint64_t totals[2], asked = 0, taken = 0, full = 0;
+    likes_answer answer;
+    IS(start(1, 4, 100), LIKES_OK);
+    while (asked < LOOKS || full == 0) {
+        asked += look_waits(asked + 1);
+        uint32_t status = likes_service_look(&service, 0, 0, &answer);
+        if (status == LIKES_NO_ROOM) {
+            taken = take_tagged(taken);
+            full++;
+        } else {
+            IS(status, LIKES_SEEN);
+            IS(answer.count, 10);
+        }
+    }
+    IS(likes_service_retire(&service), LIKES_OK);
+    taken = take_tagged(taken);
+    IS(taken, asked);
+    IS(likes_service_stop(&service, totals, 2), LIKES_OK);
+}
+
+/* Asks likes_service_look again and again, and counts how often the answer was taken by somebody. */
+static void *ask(void *at) {
+    uint64_t *taken = (uint64_t *)at;
+    while (!__atomic_load_n(&is_over, __ATOMIC_SEQ_CST)) {
+        likes_answer answer;
+        uint32_t status = likes_service_look(&service, 0, 0, &answer);
+        IS(status == LIKES_SEEN || status == LIKES_TAKEN, true);
+        IS(answer.count, status == LIKES_SEEN ? 10 : 0);
+        *taken += status == LIKES_TAKEN;
+    }
+    return NULL;
+}
+
+/* Holds the seat until it has taken a found look past the helpers. Whether there was one, for a while. */
+static bool take_one(void) {
+    likes_found found;
+    bool is_taken = false;
+    likes_seat *seat = likes_service_wake(&service, 0);
+    for (uint64_t end = likes_clock() + 5000000; !is_taken && likes_clock() < end;) {
+        likes_service_drive(&service);
+        likes_turn(seat);
+        is_taken = likes_take_found(seat, &found);
+    }
+    likes_service_rest(&service, 0);
+    return is_taken;
+}
+
+/* Threads wait for looks at one seat, of which this one takes some: each look is answered or taken, once. */
+static void taken(int askers) {
+    pthread_t threads[2];
+    uint64_t missed[2] = {0}, totals[2], taken = 0;
+    is_over = false;
+    IS(start(1, 8, 100), LIKES_OK);
+    for (int i = 0; i < askers; i++)
+        IS(pthread_create(&threads[i], NULL, ask, &missed[i]), 0);
+    while (taken < LOOKS) {
+        taken += take_one();
+        likes_sleep(500000);
+    }
+    __atomic_store_n(&is_over, true, __ATOMIC_SEQ_CST);
+    for (int i = 0; i < askers; i++)
+        pthread_join(threads[i], NULL);
+    IS(missed[0] + missed[1], taken);
+    IS(likes_service_stop(&service, totals, 2), LIKES_OK);
+}
+
+/* Each status has a name of its own. */
+static void names(void) {
+    for (uint32_t status = LIKES_OK; status <= LIKES_TAKEN; status++) {
+        bool is_known = status <= LIKES_WRONG_HOT || status >= LIKES_NO_THREAD;
+        IS(strcmp(likes_status_name(status), "unknown status") != 0, is_known);
+        for (uint32_t other = LIKES_OK; other < status && is_known; other++)
+            IS(strcmp(likes_status_name(status), likes_status_name(other)) != 0, true);
+    }
+    IS(strcmp(likes_status_name(LIKES_NO_THREAD), "no thread"), 0);
+    IS(strcmp(likes_status_name(LIKES_WRONG_PERIOD), "wrong period"), 0);
+    IS(strcmp(likes_status_name(LIKES_NOT_STARTED), "not started"), 0);
+    IS(strcmp(likes_status_name(LIKES_MOVED), "moved"), 0);
+    IS(strcmp(likes_status_name(LIKES_UNKNOWN_SEAT), "unknown seat"), 0);
+    IS(strcmp(likes_status_name(LIKES_TAKEN), "taken"), 0);
+    IS(strcmp(likes_status_name(LIKES_TAKEN + 1), "unknown status"), 0);
+    IS(strcmp(likes_status_name(UINT32_MAX), "unknown status"), 0);
+}
+
+int main(void) {
+    alarm(30);
+    not_started();
+    moved();
+    unknown_seats();
+    all_gone();
+    tagged();
+    taken(1);
+    taken(2);
+    names();
+    puts("all wrong uses answered right");
+    return 0;
+}
