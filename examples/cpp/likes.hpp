@@ -28,7 +28,10 @@ class Service;
 class Seat {
 public:
     Seat(likes_service *service, std::uint32_t number)
-        : service_(service), number_(number), seat_(likes_service_wake(service, number)) {}
+        : service_(service), number_(number), seat_(likes_service_wake(service, number)) {
+        if (seat_ == nullptr)
+            throw Error(likes_service_seat_fault(service, number));
+    }
     ~Seat() { likes_service_rest(service_, number_); }
     Seat(const Seat &) = delete;
     Seat &operator=(const Seat &) = delete;
@@ -37,13 +40,15 @@ public:
     std::size_t run(const std::vector<likes_request> &requests, std::vector<likes_answer> &answers,
                     std::size_t from = 0) {
         answers.resize(requests.size());
+        if (from >= requests.size())
+            return requests.size();
         return from + likes_service_run(service_, number_, requests.data() + from, requests.size() - from,
                                         answers.data() + from);
     }
 
     std::optional<likes_found> take_found() {
         likes_found found;
-        if (!likes_take_found(seat_, &found))
+        if (!likes_service_take_found(service_, number_, &found))
             return std::nullopt;
         return found;
     }
@@ -61,14 +66,12 @@ private:
 class Service {
 public:
     Service(likes_options options, const std::vector<std::uint64_t> &counts, std::uint32_t period = 1000)
-        : service_(new likes_service), pages_(counts.size()) {
-        check(likes_service_start(service_.get(), &options, counts.data(), pages_, nullptr, period), LIKES_OK);
-        runs_ = true;
+        : service_(new likes_service), totals_(counts.size()) {
+        if (counts.empty())
+            throw Error(LIKES_WRONG_PAGES);
+        check(likes_service_start(service_.get(), &options, counts.data(), counts.size(), nullptr, period), LIKES_OK);
     }
-    ~Service() {
-        if (runs_)
-            stop();
-    }
+    ~Service() { end(); }
     Service(const Service &) = delete;
     Service &operator=(const Service &) = delete;
 
@@ -92,17 +95,19 @@ public:
 
     std::uint32_t seats() const { return service_->seats; }
 
+    // A seat below seats().
     Seat hold(std::uint32_t number) { return Seat(service_.get(), number); }
 
-    // Ends the service, and gives the final counts. All threads are done with it.
+    // Ends the service, and gives the final counts, each time the same. All threads are done with it.
     std::vector<std::uint64_t> stop() {
-        std::vector<std::uint64_t> totals(pages_);
-        runs_ = false;
-        check(likes_service_stop(service_.get(), totals.data(), pages_), LIKES_OK);
-        return totals;
+        end();
+        return totals_;
     }
 
 private:
+    // What is stopped is left alone.
+    void end() { likes_service_stop(service_.get(), totals_.data(), totals_.size()); }
+
     static void check(std::uint32_t status, std::uint32_t wanted) {
         if (status != wanted)
             throw Error(status);
@@ -115,8 +120,7 @@ private:
     }
 
     std::unique_ptr<likes_service> service_;
-    std::size_t pages_;
-    bool runs_ = false;
+    std::vector<std::uint64_t> totals_;
 };
 
 } // namespace likes

@@ -3,19 +3,32 @@
 A call from Python takes about a microsecond by itself, so a program with many likes hands over rows of them (`run`).
 Other threads run while a row is run. There is no driver's thread: a call that has to wait makes the driver's turns and
 those of the seats that nobody holds.
+
+A number that C would cut, below 0 or over 2^32 - 1, is a ValueError, and what isn't a whole number is a TypeError; then
+nothing was done. What the library refuses is a Refused with its Status, and any call after close is Closed.
 """
 
 import ctypes
+import enum
+import operator
 import os
+import struct
 import threading
 import time
 from ctypes import POINTER, Structure, byref, c_bool, c_size_t, c_uint32, c_uint64, c_void_p
 
-OK, LIKED, SEEN, WAITS, RUNS, BETWEEN, NO_ROOM = range(7)
-UNKNOWN_USER, OTHER_SEAT, UNKNOWN_PAGE, UNKNOWN_OP, FULL, GONE = range(7, 13)
-RELEASED, COUNTED, ENDED = 16, 17, 18
+# The statuses of likes.h, numbered from 0.
+Status = enum.IntEnum(
+    "Status",
+    "OK LIKED SEEN WAITS RUNS BETWEEN NO_ROOM UNKNOWN_USER OTHER_SEAT UNKNOWN_PAGE UNKNOWN_OP FULL GONE RUNNING"
+    " ANNOUNCED WAITING RELEASED COUNTED ENDED EMPTY IN_USE NO_SEAT NOT_ENDED WRONG_LENGTH NO_MEMORY WRONG_PAGES"
+    " WRONG_MARKS WRONG_COUNT WRONG_SEATS WRONG_USERS WRONG_ROOM WRONG_HOT",
+    start=0,
+)
+STATUSES = list(Status)
+OK, LIKED, SEEN, WAITS = STATUSES[:4]
 LIKE, LOOK, GLANCE = range(3)
-NO_PAGE = 2**32 - 1
+MOST = NO_PAGE = 2**32 - 1
 
 
 class Handle(Structure):
@@ -30,6 +43,10 @@ class Request(Structure):
     _fields_ = [("tag", c_uint64), ("user", c_uint32), ("page", c_uint32), ("op", c_uint32), ("unused", c_uint32)]
 
 
+# A Request from a tag, a user, a page and an op.
+REQUEST = struct.Struct("=QIII4x")
+
+
 class Answer(Structure):
     _fields_ = [("count", c_uint64), ("last", c_uint32), ("status", c_uint32)]
 
@@ -42,8 +59,8 @@ class Found(Structure):
 
 
 def load():
-    """The library: the file that LIKES_LIBRARY names, or liblikes.so."""
-    library = ctypes.CDLL(os.environ.get("LIKES_LIBRARY", "liblikes.so"))
+    """The library: the file that LIKES_LIBRARY names, or liblikes.so.0."""
+    library = ctypes.CDLL(os.environ.get("LIKES_LIBRARY", "liblikes.so.0"))
     handle, number, size = POINTER(Handle), c_uint32, c_size_t
     calls = {
         "open": ([POINTER(Options), POINTER(c_uint64), size, POINTER(c_bool), size, handle], number),
@@ -68,8 +85,23 @@ class Refused(Exception):
     """A call was answered by this status of likes.h."""
 
     def __init__(self, status):
-        super().__init__(f"status {status}")
-        self.status = status
+        self.status = Status(status)
+        super().__init__(self.status.name.lower().replace("_", " "))
+
+
+class Closed(Exception):
+    """A call of a service that is closed."""
+
+    def __init__(self):
+        super().__init__("the service is closed")
+
+
+def whole(name, value, most=MOST):
+    """A whole number that C can hold, with its name for errors."""
+    value = operator.index(value)
+    if not 0 <= value <= most:
+        raise ValueError(f"{name} {value} is not from 0 to {most}")
+    return value
 
 
 class Row:
@@ -79,8 +111,16 @@ class Row:
         self.length, self.done, self.waits = len(requests), 0, 0
         self.rows, self.answers = (Request * self.length)(), (Answer * self.length)()
         self.told = [None] * self.length
-        for tag, (row, (op, user, page)) in enumerate(zip(self.rows, requests)):
-            row.tag, row.user, row.page, row.op = tag, user, page, op
+        for tag, (op, user, page) in enumerate(requests):
+            self.put(tag, op, user, page)
+
+    def put(self, tag, op, user, page):
+        try:
+            REQUEST.pack_into(self.rows, tag * REQUEST.size, tag, user, page, op)
+        except struct.error:
+            for name, value in (("op", op), ("user", user), ("page", page)):
+                whole(name, value)
+            raise
 
     def go_on(self, library, seat):
         """Runs what is left at a seat that this thread holds, and takes what was found. Whether all is answered."""
@@ -91,7 +131,7 @@ class Row:
         for at in range(begun, self.done):
             answer = self.answers[at]
             self.waits += answer.status == WAITS
-            self.told[at] = shown(answer) if answer.status == SEEN else answer.status
+            self.told[at] = shown(answer) if answer.status == SEEN else STATUSES[answer.status]
         library.likes_turn(seat)
         found = Found()
         while library.likes_take_found(seat, byref(found)):
@@ -109,15 +149,17 @@ class Likes:
     """A service. Its methods may be called by any thread."""
 
     def __init__(self, counts, users, seats=1, room=4096, hot=0, marks=(), period=0.001):
+        if not period > 0:
+            raise ValueError(f"period {period} is not over 0")
         self.library, self.pages, self.period, self.due = load(), len(counts), period, 0.0
-        self.driver, self.driving = Handle(), threading.Lock()
-        self.seats = [(Handle(), threading.Lock()) for _ in range(seats)]
+        self.driver, self.driving, self.seats, self.totals = Handle(), threading.Lock(), [], None
+        options = Options(whole("seats", seats), whole("users", users), whole("room", room), whole("hot", hot))
+        counts = (c_uint64 * max(1, self.pages))(*(whole("count", count, 2**64 - 1) for count in counts))
         row = (c_bool * max(1, len(marks)))(*marks)
-        options = Options(seats, users, room, hot)
-        counts = (c_uint64 * max(1, self.pages))(*counts)
         self.check(self.library.likes_open(options, counts, self.pages, row, len(marks), byref(self.driver)), OK)
-        for seat, _ in self.seats:
-            self.check(self.library.likes_take_seat(byref(self.driver), byref(seat)), OK)
+        for _ in range(options.seats):
+            self.seats.append((Handle(), threading.Lock()))
+            self.check(self.library.likes_take_seat(byref(self.driver), byref(self.seats[-1][0])), OK)
 
     def __enter__(self):
         return self
@@ -131,7 +173,7 @@ class Likes:
             raise Refused(status)
 
     def seat_of(self, user):
-        return user % len(self.seats)
+        return whole("user", user) % len(self.seats)
 
     def drive(self):
         """Makes a turn of the driver, unless another thread is making one."""
@@ -140,7 +182,7 @@ class Likes:
         try:
             now = time.monotonic()
             status = self.library.likes_driver_turn(byref(self.driver), now >= self.due)
-            if status == RELEASED and self.library.likes_phase(byref(self.driver)) % 2 == 1:
+            if status == Status.RELEASED and self.library.likes_phase(byref(self.driver)) % 2 == 1:
                 self.due = now + self.period
         finally:
             self.driving.release()
@@ -155,10 +197,12 @@ class Likes:
 
     def run(self, number, requests):
         """Runs rows of (op, user, page) at a seat. Gives an answer for each: for a look the tuple (page of the user's
-        last like or None, count), for a like LIKED, and the status of a request that is refused."""
+        last like or None, count), for a like LIKED, and the Status of a request that is refused."""
         row = Row(requests)
-        seat, lock = self.seats[number]
+        seat, lock = self.seats[whole("seat", number, len(self.seats) - 1)]
         with lock:
+            if self.totals is not None:
+                raise Closed
             while not row.go_on(self.library, byref(seat)):
                 self.turns()
         return row.told
@@ -180,10 +224,10 @@ class Likes:
         return self.one(GLANCE, user, page, SEEN)
 
     def close(self):
-        """Ends the service, and gives the final counts. All threads are done with it."""
-        if not self.driver.is_full:
-            return None
-        while self.library.likes_driver_turn(byref(self.driver), True) != ENDED:
+        """Ends the service, and gives the final counts. All threads are done with it. It may be called again."""
+        if self.totals is not None:
+            return self.totals
+        while self.library.likes_driver_turn(byref(self.driver), True) != Status.ENDED:
             for seat, _ in self.seats:
                 self.library.likes_retire(byref(seat))
         totals = (c_uint64 * self.pages)()
@@ -191,4 +235,5 @@ class Likes:
         for seat, _ in self.seats:
             self.library.likes_free_seat(byref(seat))
         self.library.likes_free_driver(byref(self.driver))
-        return list(totals)
+        self.totals = list(totals)
+        return self.totals

@@ -1,0 +1,70 @@
+// Wrong uses of examples/cpp/likes.hpp: seats and users that don't exist, wrong numbers for a new service, empty rows,
+// and calls after the end. Each has to throw likes::Error with its status, or to do nothing.
+//
+// It ends with status 1 and a line where something else happens.
+#include "likes.hpp"
+
+#include <cstdlib>
+#include <iostream>
+
+static void hold(bool is_right, const char *text) {
+    if (!is_right) {
+        std::cout << "wrong: " << text << "\n";
+        std::exit(1);
+    }
+}
+
+// The status that a call throws, or LIKES_OK.
+template <typename Call> static std::uint32_t thrown(Call call) {
+    try {
+        call();
+    } catch (const likes::Error &error) {
+        return error.status;
+    }
+    return LIKES_OK;
+}
+
+static void openings() {
+    auto open = [](likes_options options, std::vector<std::uint64_t> counts, std::uint32_t period) {
+        return thrown([&] { likes::Service service(options, counts, period); });
+    };
+    hold(open({2, 9, 4, 0}, {}, 1000) == LIKES_WRONG_PAGES, "no pages");
+    hold(open({2, 9, 4, 0}, {0}, 0) == LIKES_WRONG_PERIOD, "period 0");
+    hold(open({0, 9, 4, 0}, {0}, 1000) == LIKES_WRONG_SEATS, "no seats");
+    hold(open({2, 9, 4, 0}, {0}, 1000) == LIKES_OK, "a right opening");
+}
+
+// Only seats 0 and 1 can be held.
+static void seats(likes::Service &service) {
+    for (std::uint32_t number : {2u, 15u, 16u, 1000u, UINT32_MAX})
+        hold(thrown([&] { service.hold(number); }) == LIKES_UNKNOWN_SEAT, "a seat too many was held");
+    for (std::uint32_t number : {0u, 1u}) {
+        std::vector<likes_answer> answers;
+        likes::Seat seat = service.hold(number);
+        hold(seat.run({}, answers) == 0 && answers.empty(), "an empty row");
+        hold(seat.run({likes_request{}}, answers, 5) == 1, "a row from behind its end");
+        hold(!seat.take_found(), "a look was found");
+    }
+}
+
+// Calls after the end. A second end gives the same counts.
+static void late(likes::Service &service) {
+    const std::vector<std::uint64_t> totals = {5, 8};
+    for (int times = 0; times < 3; times++)
+        hold(service.stop() == totals, "other final counts");
+    hold(thrown([&] { service.like(4, 0); }) == LIKES_NOT_STARTED, "a like after the end");
+    hold(thrown([&] { service.look(4, 0); }) == LIKES_NOT_STARTED, "a look after the end");
+    hold(thrown([&] { service.glance(4, 0); }) == LIKES_NOT_STARTED, "a glance after the end");
+    hold(thrown([&] { service.hold(0); }) == LIKES_NOT_STARTED, "a seat after the end");
+}
+
+int main() {
+    openings();
+    likes::Service service({2, 9, 4, 0}, {5, 7});
+    service.like(4, 1);
+    hold(thrown([&] { service.like(9, 1); }) == LIKES_UNKNOWN_USER, "a user too many");
+    hold(thrown([&] { service.look(4, 2); }) == LIKES_UNKNOWN_PAGE, "a page too many");
+    seats(service);
+    late(service);
+    std::cout << "all wrong uses refused\n";
+}

@@ -1,0 +1,102 @@
+#!/usr/bin/env python3
+"""Gives the class Likes of examples/python what C would cut or misread, and calls it after its end.
+
+Each has to be refused with the right exception, and nothing of it counted. It also compares the names and numbers of
+the statuses with likes.h. The library is the file that LIKES_LIBRARY names.
+"""
+
+import os
+import re
+import sys
+
+ROOT = os.path.dirname(os.path.dirname(os.path.realpath(__file__)))
+sys.path.insert(0, f"{ROOT}/examples/python")
+
+from likes import GLANCE, LIKE, LIKED, LOOK, Closed, Likes, Refused, Status  # noqa: E402
+
+# Numbers that C holds in 32 bits only if they are cut, and what is no whole number.
+OUTSIDE = [-1, -(2**32) + 4, 2**32, 2**32 + 4, 2**64 + 4]
+NO_NUMBERS = [4.0, "4", None]
+
+wrong = []
+
+
+def refused(what, kind, call, *words, **named):
+    """Makes a call that has to raise exactly this."""
+    try:
+        got = call(*words, **named)
+    except Exception as error:  # noqa: BLE001
+        if type(error) is not kind or not str(error):
+            wrong.append(f"{what}: {error!r}, and not {kind.__name__}")
+    else:
+        wrong.append(f"{what}: {got!r}, and not {kind.__name__}")
+
+
+def openings():
+    """Wrong numbers for a new service."""
+    right = {"counts": [0], "users": 9, "seats": 2, "room": 4, "hot": 0}
+    bad = [(value, ValueError) for value in OUTSIDE] + [(value, TypeError) for value in NO_NUMBERS]
+    for value, kind in bad:
+        for name in ("users", "seats", "room", "hot"):
+            refused(f"{name} {value!r}", kind, Likes, **{**right, name: value})
+        if not isinstance(value, int) or not 0 <= value < 2**64:
+            refused(f"count {value!r}", kind, Likes, **{**right, "counts": [0, value]})
+    refused("period 0", ValueError, Likes, **right, period=0)
+    refused("period -1", ValueError, Likes, **right, period=-1)
+    refused("17 seats", Refused, Likes, **{**right, "seats": 17})
+    refused("2^32 - 1 seats", Refused, Likes, **{**right, "seats": 2**32 - 1})
+    refused("no pages", Refused, Likes, **{**right, "counts": []})
+
+
+def requests(service):
+    """Wrong numbers in requests, alone and behind a right one, which isn't run then."""
+    for kind, values in ((ValueError, OUTSIDE), (TypeError, NO_NUMBERS)):
+        for value in values:
+            for call in (service.like, service.look, service.glance):
+                refused(f"user {value!r}", kind, call, value, 0)
+                refused(f"page {value!r}", kind, call, 4, value)
+            for row in ((value, 4, 0), (LIKE, value, 0), (LIKE, 4, value)):
+                refused(f"request {row}", kind, service.run, 0, [(LIKE, 4, 0), row])
+    for number in (-1, 2, 2**32):
+        refused(f"seat {number}", ValueError, service.run, number, [(LIKE, 4, 0)])
+
+
+def closed(service):
+    """Calls after the end."""
+    for call in (service.like, service.look, service.glance):
+        refused("a call after close", Closed, call, 4, 0)
+    refused("a row after close", Closed, service.run, 0, [(LIKE, 4, 0)])
+    refused("no row after close", Closed, service.run, 0, [])
+
+
+def statuses():
+    """The statuses, as likes.h has them."""
+    with open(f"{ROOT}/include/likes.h", encoding="ascii") as file:
+        text = re.search(r"enum likes_status \{(.*?)\n\};", file.read(), re.S)[1]
+    told = {name: int(value) for name, value in re.findall(r"LIKES_(\w+) = (\d+)", text)}
+    here = {status.name: status.value for status in Status}
+    if told != here:
+        wrong.append(f"statuses: {set(told.items()) ^ set(here.items())}")
+
+
+def main():
+    openings()
+    with Likes(counts=[5, 0], users=9, seats=2) as service:
+        requests(service)
+        service.like(4, 1)
+        answers = service.run(0, [(LIKE, 4, 0), (GLANCE, 4, 0), (LOOK, 6, 1), (LIKE, 4, 2), (LIKE, 9, 0), (3, 4, 0)])
+    right = [LIKED, (0, 6), (None, 1), Status.UNKNOWN_PAGE, Status.UNKNOWN_USER, Status.UNKNOWN_OP]
+    if answers != right:
+        wrong.append(f"a row: {answers}")
+    closed(service)
+    if service.close() != [6, 1]:
+        wrong.append(f"final counts: {service.close()}")
+    statuses()
+    for line in wrong[:20]:
+        print(f"wrong: {line}")
+    print("not all held" if wrong else "all wrong numbers and late calls refused")
+    return 1 if wrong else 0
+
+
+if __name__ == "__main__":
+    sys.exit(main())
