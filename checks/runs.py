@@ -21,6 +21,9 @@ ROOT = os.path.dirname(os.path.dirname(os.path.realpath(__file__)))
 MEMORY = b"likes: out of memory\n"
 START = b"likes: a thread could not be started\n"
 
+# What examples/c/first.c prints.
+FIRST = "page 1 has 1 like, and user 7 last liked page 0\na like of page 2: unknown page\ntotals: 11 and 1\n"
+
 # How a run ended: its status, below 0 where a signal ended it; what it wrote; how many seconds of a processor it took;
 # whether it was stopped since it took too long; and the most memory that it held, in bytes, or this program before it.
 Ended = collections.namedtuple("Ended", "status out errors seconds hung memory")

@@ -32,6 +32,10 @@
 extern "C" {
 #endif
 
+/* The version of this file and of the library, 0.1: 1,000 times the number of the ABI, and a number that grows with each
+ * change. docs/EMBEDDING.md has the rule. */
+#define LIKES_VERSION 1
+
 /* The coordinator of a service: it ends and releases phases. Its fields are the library's. */
 typedef struct likes_driver {
     void *at;
