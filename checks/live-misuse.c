@@ -50,6 +50,7 @@ static void all_refused(likes_service *it, uint32_t status) {
     likes_service_rest(it, 0);
     IS(likes_service_drive(it), status);
     likes_service_tick(it);
+    likes_service_turns(it);
     IS(likes_service_counts(it, counts, 2), status);
     IS(likes_service_retire(it), status);
     IS(likes_service_stop(it, counts, 2), status);

@@ -32,8 +32,8 @@
 extern "C" {
 #endif
 
-/* The version of this file and of the library, 0.1: 1,000 times the number of the ABI, and a number that grows with each
- * change. docs/EMBEDDING.md has the rule. */
+/* The version of this file and of the library, 0.1: 1,000 times the number of the ABI, plus a number within it.
+ * docs/EMBEDDING.md says when it changes. */
 #define LIKES_VERSION 1
 
 /* The coordinator of a service: it ends and releases phases. Its fields are the library's. */

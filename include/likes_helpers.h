@@ -267,6 +267,8 @@ static inline void likes_place_deliver(likes_place *place) {
 
 /* Does the phase work of the seats that rest. */
 static inline void likes_service_turns(likes_service *service) {
+    if (likes_service_fault(service) != LIKES_OK)
+        return;
     for (uint32_t i = 0; i < service->seats; i++) {
         likes_place *place = &service->places[i];
         if (pthread_mutex_trylock(&place->lock) == 0) {
@@ -516,8 +518,8 @@ static inline uint32_t likes_service_look(likes_service *service, uint32_t user,
 }
 
 /* The counts of all pages at one moment, the end of a joined phase, or the final counts where all seats are gone:
- * LIKES_COUNTED. Or LIKES_RUNNING, where no page can be split and so no phase ends, or LIKES_WRONG_LENGTH, where the row
- * hasn't one entry for each page. It takes up to two phases. The calling thread holds no seat. */
+ * LIKES_COUNTED. Or LIKES_RUNNING, where no page can be split and so no phase ends, or LIKES_WRONG_LENGTH, where the
+ * row hasn't one entry for each page. It takes up to two phases. The calling thread holds no seat. */
 static inline uint32_t likes_service_counts(likes_service *service, uint64_t *counts, size_t pages) {
     uint32_t status = likes_service_fault(service), turn = LIKES_RELEASED;
     if (status != LIKES_OK)

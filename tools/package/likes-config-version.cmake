@@ -1,4 +1,5 @@
-# ABI 0 may change with each version, so only the version itself will do. From ABI 1 on, so does any later one of its ABI.
+# ABI 0 may change with each version, so a program gets the version that it asks for. From ABI 1 on, it gets that or a
+# later one of the same ABI.
 set(PACKAGE_VERSION "@VERSION@")
 if(PACKAGE_FIND_VERSION VERSION_EQUAL PACKAGE_VERSION)
   set(PACKAGE_VERSION_EXACT TRUE)
