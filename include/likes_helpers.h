@@ -211,7 +211,7 @@ static inline void likes_ring_take(likes_ring *ring, likes_found *found) {
 }
 
 /* The look that waits at a place with this tag, or NULL. */
-static inline likes_wait *likes_place_wait(const likes_place *place, uint64_t tag) {
+static inline likes_wait *likes_place_find(const likes_place *place, uint64_t tag) {
     likes_wait *wait = place->first;
     while (wait != NULL && (uint64_t)(uintptr_t)wait != tag)
         wait = wait->next;
@@ -234,7 +234,7 @@ static inline void likes_place_drop(likes_place *place, const likes_wait *wait) 
 
 /* Hands a found look to the thread that waits for it, or keeps it if its tag is the host's. */
 static inline void likes_place_hand(likes_place *place, const likes_found *found) {
-    likes_wait *wait = likes_place_wait(place, found->tag);
+    likes_wait *wait = likes_place_find(place, found->tag);
     if (wait == NULL) {
         likes_ring_put(&place->others, found);
         return;
@@ -336,7 +336,7 @@ static inline void likes_service_clear(likes_service *service) {
 }
 
 /* Takes the seats, and memory for twice as many found looks as each has room for. */
-static inline uint32_t likes_service_take(likes_service *service, uint32_t seats, uint32_t room) {
+static inline uint32_t likes_service_take_seats(likes_service *service, uint32_t seats, uint32_t room) {
     service->seats = seats;
     for (uint32_t i = 0; i < seats; i++) {
         likes_place *place = &service->places[i];
@@ -363,7 +363,7 @@ static inline uint32_t likes_service_start(likes_service *service, const likes_o
     if (period > 0)
         status = likes_open(options, counts, pages, marks_len == 0 ? no_marks : marks, marks_len, &service->driver);
     if (status == LIKES_OK)
-        status = likes_service_take(service, options->seats, options->room);
+        status = likes_service_take_seats(service, options->seats, options->room);
     if (status == LIKES_OK) {
         service->mark = service;
         service->pages = pages;
