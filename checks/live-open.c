@@ -157,6 +157,7 @@ static void request(uint64_t phase) {
 /* A phase with requests, and its end. */
 static void play(uint64_t phase) {
     uint64_t counts[PAGES];
+    IS(likes_version(), LIKES_VERSION);
     IS(likes_phase(&driver), phase);
     IS(likes_driver_turn(&driver, false), LIKES_RUNNING);
     request(phase);

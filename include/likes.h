@@ -36,6 +36,9 @@ extern "C" {
  * docs/EMBEDDING.md says when it changes. */
 #define LIKES_VERSION 1
 
+/* The version of the library that the program runs with. A shared library may be newer than this file. */
+uint32_t likes_version(void);
+
 /* The coordinator of a service: it ends and releases phases. Its fields are the library's. */
 typedef struct likes_driver {
     void *at;

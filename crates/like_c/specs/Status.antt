@@ -11,6 +11,10 @@ use Rattle.like_live.specs.declared.driver_answer.DriverAnswer.TheVariants as dr
 use Rattle.like_live.specs.declared.open_error.OpenError.{OpenError}
 use Rattle.like_live.specs.declared.open_error.OpenError.TheVariants as open_error
 
+-- the version of likes.h
+abbrev pub version : ℕ
+version = 1
+
 abbrev pub verdict_status : Verdict → ℕ
 verdict_status Accepted = 0
 verdict_status UnknownUser = 7

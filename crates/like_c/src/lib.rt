@@ -5,6 +5,7 @@
 ghost use Rattle.std.specs.Prelude.{◌≡◌, ◌<◌, ◌≤◌, ℕ, length, slice_get, None};
 ghost use Rattle.like_c.specs.Held.{DriverPhaseAt, DrivesAt, GlancesAt, HandsOut, LastAt, LikesAt, LooksAt, OpensAt, PhaseAt, RetiresAt, RunsAt, SnapshotAt, TakesFoundAt, TurnsAt};
 ghost use Rattle.like_c.specs.Opened.{asked_of};
+ghost use Rattle.like_c.specs.Status.{version};
 
 mod driver_handle;
 mod held_driver;
@@ -20,6 +21,17 @@ pub use driver_handle::DriverHandle;
 pub use rows::{AnswerRow, FoundRow, Options, RequestRow};
 pub use seat_handle::SeatHandle;
 use std::alloc::Global;
+
+/// 1,000 times the number of the ABI, plus a number within it.
+const VERSION: u32 = 1;
+
+/// The version of `likes.h` that the library has.
+#[unsafe(no_mangle)]
+pub extern "C" fn likes_version() -> u32
+    ensures { result ≡ version }
+{
+    VERSION
+}
 
 /// Opens a service. The driver's handle has to be empty, and is full after `OK`.
 #[unsafe(no_mangle)]
