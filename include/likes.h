@@ -90,7 +90,7 @@ enum likes_status {
     LIKES_ANNOUNCED = 14, /* the end of the phase was announced */
     LIKES_WAITING = 15,   /* the phase is ending, and a seat has yet to answer */
     LIKES_RELEASED = 16,  /* the next phase has begun */
-    LIKES_COUNTED = 17,   /* the counts of all pages were written */
+    LIKES_COUNTED = 17,   /* the counts of these pages were written */
     LIKES_ENDED = 18,     /* all seats are gone, and this turn has nothing to do */
 
     /* nothing was done */
@@ -142,7 +142,7 @@ typedef struct likes_found {
  *
  * counts has the initial count of each page, marks says which pages are split in every split phase. No marks at all
  * (marks_len 0) mark no page. LIKES_OK fills the driver. Else the handle stays as it was, and the answer is
- * LIKES_IN_USE, the first of LIKES_WRONG_.. that is right, or LIKES_NO_MEMORY. */
+ * LIKES_IN_USE, the first of LIKES_WRONG_.. that applies, or LIKES_NO_MEMORY. */
 uint32_t likes_open(const likes_options *options, const uint64_t *counts, size_t pages, const bool *marks,
                     size_t marks_len, likes_driver *driver);
 

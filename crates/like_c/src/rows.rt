@@ -110,7 +110,7 @@ impl AnswerRow {
         }
     }
 
-    // Whether its request is to wait, and to be made again.
+    // Whether its request must wait, and be made again.
     #[inline(always)]
     fn is_to_wait(&self) -> bool
         ensures { IsTrue result ↔ IsToWait self.now }
@@ -152,7 +152,7 @@ fn answer_other(seat: &mut LiveSeat<SharedPost>, request: &RequestRow, row: &mut
     }
 }
 
-// Answers one row, and says whether it is to wait.
+// Answers one row, and says whether it must wait.
 #[inline(always)]
 fn answer(seat: &mut LiveSeat<SharedPost>, request: &RequestRow, row: &mut AnswerRow) -> bool
     ensures row { AnswersRow seat.old request.now row.new seat.new }

@@ -1,20 +1,24 @@
 -- What is known once a look showed all seats gone, and what is read then.
-use Rattle.std.proofs.Common.{◌≡◌, ◌+◌, ◌<◌, ℕ, suc, zero, true, List, [], ◌∷◌, length, slice_index, All, Option, Some, ap, sym, ◌∙◌, subst, arith, add-zero}
+use Rattle.std.proofs.Common.{◌≡◌, ◌+◌, ◌<◌, ℕ, suc, zero, Bool, true, false, List, [], ◌∷◌, length, slice_index, All, Option, Some, ap, sym, ◌∙◌, subst, arith, add-zero}
 use Rattle.std.proofs.lemmas.List.Elements.{All-head, All-tail}
-use Rattle.std.specs.Prelude.{IsSomeAnd}
+use Rattle.std.specs.Prelude.{IfSome, IsSomeAnd}
 use Rattle.like_core.specs.Phase.{IsJoined}
 use Rattle.like_core.specs.WorkerState.{IsIn}
+use Rattle.like_core.specs.OpeningLimits.{number_of}
+use Rattle.like_core.specs.core.Numbers.{CoordSees}
+use Rattle.like_core.specs.core.State.{numbers}
+use Rattle.like_core.specs.word.ShownWord.{shown_word}
 use Rattle.like_core.specs.declared.opening.Opening.{Opening}
 use Rattle.like_core.specs.declared.sight.CoordSight.{CoordSight}
 use Rattle.like_core.specs.declared.view.CoordSeatView.{CoordSeatView}
 use Rattle.like_core.specs.declared.view.PageCount.{PageCount}
 use Rattle.like_core.specs.declared.view.View.TheVariants.{Coord}
 use Rattle.like_core.specs.views.Places.{count_after}
-use Rattle.like_core.specs.views.Shows.{IsLastMoment, IsKnown}
+use Rattle.like_core.specs.views.Shows.{FitsCoord, IsLastMoment, IsKnown}
 use Rattle.like_core.specs.views.Views.{SawAllIn, counted_coord}
 use Rattle.like_core.proofs.views.Ends.{counted_now, end_known}
 use Rattle.like_seat.specs.Lead.{LeadView, Sees, announced, counted_from, with_counts}
-use Rattle.like_live.specs.Driver.{AreLastCounts, LooksForEnd, ends, goes_on, is_ending}
+use Rattle.like_live.specs.Driver.{AreLastCounts, DriverView, LastCountsStay, LooksForEnd, ReadsLast, TakesLast, counted, ends, goes_on, is_ending, is_last, not_ended}
 use Rattle.like_live.proofs.Turning.{look-keeps, reads-only}
 
 -- who shows all gone shows all in
@@ -61,11 +65,12 @@ sees-end v w sight sees gone ending joined =
 
 pub end-seen : (v w : LeadView) → LooksForEnd v true w → SawEnd w
 end-seen v w (goes_on _ _ _ clash) = absurd (cc)
-end-seen v w (is_ending sight sees gone joined ending _) = sees-end v w sight sees gone ending joined
-end-seen v w (ends sight again seen sees _ joined _ _ sees_again is) =
+end-seen v w (is_last _ _ _ _ _ clash) = absurd (cc)
+end-seen v w (is_ending sight sees left ending _) = sees-end v w sight sees left.all_gone ending left.joined
+end-seen v w (ends sight again seen sees left _ _ sees_again is) =
     let second = look-keeps (announced seen) w again sees_again in
     sees-end (announced seen) w again sees_again (sym is) sees_again.shows.ending
-    (subst IsJoined (sym second.phase) joined)
+    (subst IsJoined (sym second.phase) left.joined)
 
 -- the counts that were read, of the pages from one on, are among all that the coordinator read in its phase
 read-of : (P : PageCount → Type 0) (c : CoordSeatView) (from : ℕ) (counts : List ℕ)
@@ -109,3 +114,124 @@ last-totals v w from counts saw is known =
     let all : All P (counted_from v.seat from counts).counted =
     subst (All P) (ap (λ (d : CoordSeatView). d.counted) seat) (counted_now w.seat.opening w.seat end.moment end.mine) in
     record { end = end; totals = λ i below. reads-at P v.seat from counts i all below phase }
+
+-- the end is still seen: what the last sight showed
+record StillEnded (v : LeadView) : Type 0 where
+  pub joined : IsJoined v.seat.phase
+  pub sight : CoordSight
+  pub last : v.seat.last ≡ Some sight
+  pub ending : sight.ending ≡ true
+  pub all_in : sight.all_in ≡ true
+  pub all_gone : sight.all_gone ≡ true
+
+-- the next look shows it again
+record ShowsEnd (again : CoordSight) : Type 0 where
+  pub ending : again.ending ≡ true
+  pub all_gone : again.all_gone ≡ true
+
+seen-again : (v w : LeadView) (again : CoordSight) → StillEnded v → Sees v again w → ShowsEnd again
+seen-again v w again saw sees =
+    let m = sees.event.moment in
+    let z = v.seat.opening in
+    let fits : FitsCoord z m.state v.seat = m.shows.seats.each sees.event.place (Coord v.seat) sees.event.mine in
+    let before = subst (λ (o : Option CoordSight). IfSome o (λ s. s.all_in ≡ true
+    → CoordSees (numbers z m.state) s × (v.seat.word ≡ shown_word z m.state))) saw.last fits.phase.stays saw.all_in in
+    let told = sees.event.happen.tells in
+    let same : told.0 ≡ again = cc (told.1) in
+    let known = told.2 in
+    record {
+      ending = sym (ap (λ (s : CoordSight). s.ending) same) ∙ known.ending ∙ sym before.0.ending ∙ saw.ending;
+      all_gone = sym (ap (λ (s : CoordSight). s.all_gone) same) ∙ known.all_gone.1 (before.0.all_gone.0 saw.all_gone);
+    }
+
+-- so it is found again, by one look
+record FoundAgain (v w : LeadView) (is_end : Bool) : Type 0 where
+  pub is : is_end ≡ true
+  pub counted : w.seat.counted ≡ v.seat.counted
+
+found-again : (v w : LeadView) (is_end : Bool) → StillEnded v → LooksForEnd v is_end w → FoundAgain v w is_end
+found-again v w is_end saw (goes_on sight sees clash _) =
+    let shows = seen-again v w sight saw sees in
+    let joined = subst IsJoined (sym (look-keeps v w sight sees).phase) saw.joined in
+    absurd (clash (record { joined = joined; all_gone = shows.all_gone }))
+found-again v w is_end saw (is_last sight sees _ none _ _) =
+    let bad : true ≡ false = sym (seen-again v w sight saw sees).ending ∙ none in absurd (cc)
+found-again v w is_end saw (is_ending sight sees _ _ is) =
+    record { is = is; counted = ap (λ (l : LeadView). l.seat.counted) sees.saw }
+found-again v w is_end saw (ends sight again seen sees _ none _ _ _) =
+    let bad : true ≡ false = sym (seen-again v seen sight saw sees).ending ∙ none in absurd (cc)
+
+-- once last counts were written it is so
+still-ended : (u v : LeadView) (from : ℕ) (counts : List ℕ)
+    → LooksForEnd u true v
+    → StillEnded (with_counts v from counts)
+still-ended u v from counts looks =
+    let saw = end-seen u v looks in
+    let only = reads-only v.seat from counts in
+    record {
+      joined = subst IsJoined (sym only.phase) saw.joined;
+      sight = saw.sight;
+      last = only.last ∙ saw.last;
+      ending = (subst (λ (o : Option CoordSight). IsSomeAnd o (λ s. (s.ending ≡ true) × (s.all_in ≡ true)))
+          saw.last saw.saw).0;
+      all_in = saw.all_in;
+      all_gone = saw.all_gone;
+    }
+
+-- what was read before is among what was read, at the same moment
+same-counts : (v now w : LeadView) (from next : ℕ) (counts later : List ℕ) (first : LeadView)
+    → v ≡ with_counts first from counts
+    → now.seat.counted ≡ v.seat.counted
+    → first.seat.phase ≡ w.seat.phase
+    → w ≡ with_counts now next later
+    → AreLastCounts w next later
+    → (i j : ℕ) → i < length counts → j < length later → from + i ≡ next + j
+    → slice_index counts i ≡ slice_index later j
+same-counts v now w from next counts later first is_v same phase is_w last i j below there page =
+    let end = last.end in
+    let P : PageCount → Type 0 =
+    λ r. r.phase ≡ w.seat.phase → r.count ≡ count_after w.seat.opening.counts end.moment.views r.page in
+    let all : All P (counted_from now.seat next later).counted =
+    subst (All P) (ap (λ (l : LeadView). l.seat.counted) is_w) (counted_now w.seat.opening w.seat end.moment end.mine) in
+    let before : All P (counted_from first.seat from counts).counted =
+    subst (All P) (same ∙ ap (λ (l : LeadView). l.seat.counted) is_v) (read-of P now.seat next later all) in
+    reads-at P first.seat from counts i before below phase
+    ∙ ap (λ p. count_after w.seat.opening.counts end.moment.views p) page
+    ∙ sym (last.totals j there)
+
+end-phase : (v w : LeadView) (is_end : Bool) → LooksForEnd v is_end w → w.seat.phase ≡ v.seat.phase
+end-phase v w is_end (goes_on sight sees _ _) = (look-keeps v w sight sees).phase
+end-phase v w is_end (is_last sight sees _ _ _ _) = (look-keeps v w sight sees).phase
+end-phase v w is_end (is_ending sight sees _ _ _) = (look-keeps v w sight sees).phase
+end-phase v w is_end (ends sight again seen sees _ _ _ sees_again _) =
+    (look-keeps (announced seen) w again sees_again).phase ∙ (look-keeps v seen sight sees).phase
+
+again-read : (first v w : LeadView) (from next : ℕ) (counts others later : List ℕ) (is_done : Bool)
+    → v ≡ with_counts first from counts
+    → StillEnded v
+    → ReadsLast v next others is_done w later
+    → (is_done ≡ true) × ((i j : ℕ) → i < length counts → j < length later → from + i ≡ next + j
+    → slice_index counts i ≡ slice_index later j)
+again-read first v w from next counts others later is_done is_v saw (not_ended looks _ _) =
+    let bad : false ≡ true = (found-again v w false saw looks).is in absurd (cc)
+again-read first v w from next counts others later is_done is_v saw (counted now looks _ is_w last done) =
+    let found = found-again v now true saw looks in
+    let only = reads-only now.seat next later in
+    let phase : first.seat.phase ≡ w.seat.phase =
+    sym (ap (λ (l : LeadView). l.seat.phase) is_w ∙ only.phase ∙ end-phase v now true looks
+    ∙ ap (λ (l : LeadView). l.seat.phase) is_v ∙ (reads-only first.seat from counts).phase) in
+    (done, same-counts v now w from next counts later first is_v found.counted phase is_w last)
+
+taken-again : (u v w : LeadView) (from next : ℕ) (old others counts later : List ℕ) (is_done : Bool)
+    → ReadsLast u from old true v counts
+    → ReadsLast v next others is_done w later
+    → (is_done ≡ true) × ((i j : ℕ) → i < length counts → j < length later → from + i ≡ next + j
+    → slice_index counts i ≡ slice_index later j)
+taken-again u v w from next old others counts later is_done (not_ended _ bad _) second = absurd (cc)
+taken-again u v w from next old others counts later is_done (counted first looks _ is_v _ _) second =
+    again-read first v w from next counts others later is_done is_v
+    (subst StillEnded (sym is_v) (still-ended u first from counts looks)) second
+
+pub last_counts_stay : LastCountsStay
+last_counts_stay u v w from next old others counts later is_done first second =
+    taken-again u.lead v.lead w.lead from next old others counts later is_done first.case second.case

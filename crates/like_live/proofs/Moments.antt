@@ -1,5 +1,5 @@
 -- What a moment of a service's board tells of its seats.
-use Rattle.std.proofs.Common.{◌≡◌, ℕ, suc, ◌+◌, List, [], ◌∷◌, slice_index, refl, ap, sym, ◌∙◌, subst, inl, inr, arith}
+use Rattle.std.proofs.Common.{◌≡◌, ℕ, suc, ◌+◌, List, [], ◌∷◌, slice_index, refl, ap, sym, ◌∙◌, subst, inl, inr, arith, get_or}
 use Rattle.std.specs.List.{All, sum_by}
 use Rattle.std.proofs.lemmas.Bool.{cases_eq}
 use Rattle.std.proofs.lemmas.List.Elements.{All-cons, All-nil}
@@ -23,7 +23,8 @@ use Rattle.like_core.specs.views.Shows.{FitsWorker, Moment}
 use Rattle.like_core.specs.views.Tallies.{paged}
 use Rattle.like_core.specs.views.Views.{post_of}
 use Rattle.like_core.proofs.core.CoreReached.{reachable_is_exclusive}
-use Rattle.like_live.specs.LiveView.{IsLive, LiveView, tally}
+use Rattle.like_seat.specs.SeatView.{IsSeat}
+use Rattle.like_live.specs.LiveView.{LiveView, tally}
 use Rattle.like_live.specs.Moments.{HoldsNone, IsSeatAt, LastCountsAreTallies, SeatsAreExclusive, post_in, workers_in}
 use Rattle.like_live.specs.Service.{HasMergedOnceGone}
 use Rattle.like_live.proofs.Closing.{all-alike, sum-alike, sum-equal}
@@ -56,11 +57,11 @@ state-at z m s at =
     fits.state ∙ sym (ap (λ (p : PostView). p.state) at.post)
 
 -- who runs no split phase has no like in its slice
-none-held : (s : LiveView) → IsLive s → ¬ RunsSplit s.seat.post.state → HoldsNone s
+none-held : (s : LiveView) → IsSeat s.seat → ¬ RunsSplit s.seat.post.state → HoldsNone s
 none-held s live apart page =
     elim (cases_eq (slice_index s.seat.slice page) 0) [
       | inl none ↦ none
-      | inr held ↦ absurd (apart (live.seat.split page held).0)
+      | inr held ↦ absurd (apart (live.split page held).0)
     ]
 
 pub seats_are_exclusive : SeatsAreExclusive
@@ -73,7 +74,7 @@ seats_are_exclusive z m a b at_a at_b live joined =
     (apart, none-held b live apart)
 
 -- a seat that is gone has added all its likes
-merged-once-gone : (s : LiveView) → IsLive s → HasMergedOnceGone s
+merged-once-gone : (s : LiveView) → IsSeat s.seat → HasMergedOnceGone s
 merged-once-gone s live gone page =
     let none = none-held s live (λ split. subst RunsSplit gone split) page in
     omega arith
@@ -118,7 +119,7 @@ last_counts_are_tallies z m seats at live gone page =
     let are_gone : All (λ s. s.seat.post.state ≡ state.Gone) seats =
     all-alike (λ (p : PostView). p.state ≡ state.Gone) post_in post_of seats views same all_gone in
     let merged = sum-equal (λ s. tally s page) (λ (s : LiveView). additions_of s.seat.post page) seats
-    (λ k d below. merged-once-gone _ (live k d below) (are_gone k d below) page) in
+    (λ k d below. merged-once-gone (get_or seats k d) (live k d below) (are_gone k d below) page) in
     let added = added-by page m.views
     (λ place c there.
     let first : place ≡ 0 = m.shows.seats.only place c there in

@@ -12,7 +12,7 @@ use Rattle.like_seat.specs.Lead.{ChoosesRisen, LeadView, Sees, announced, counte
 use Rattle.like_seat.proofs.Leading.{counted-is}
 use Rattle.like_live.specs.declared.driver_answer.DriverAnswer.{DriverAnswer}
 use Rattle.like_live.specs.Opening.{splits_by}
-use Rattle.like_live.specs.Driver.{Acts, AreDriverParts, DriverCase, DriverView, HasRoom, IsSameDriver, IsService, LooksForEnd, ReadsBoundary, ReadsLast, ReleasesNext, SnapshotCase, announces, counted, ended, ends, goes_on, is_ending, not_ended, not_now, releases, releases_joined, releases_split, running, taken, waiting}
+use Rattle.like_live.specs.Driver.{Acts, AreDriverParts, DriverCase, DriverView, HasRoom, IsSameDriver, IsService, LooksForEnd, ReadsBoundary, ReadsLast, ReleasesNext, SnapshotCase, announces, counted, ended, ends, goes_on, is_ending, is_last, not_ended, not_now, releases, releases_joined, releases_split, running, taken, waiting}
 
 -- it is the same lead
 pub record IsSameLead (v w : LeadView) : Type 0 where
@@ -117,8 +117,9 @@ snapshot-same v w sight from old counts phase (not_now _ _ _ is) = unchanged v w
 
 end-same : (v w : LeadView) (is_end : Bool) → LooksForEnd v is_end w → IsSameLead v w
 end-same v w is_end (goes_on sight sees _ _) = (look-keeps v w sight sees).same
-end-same v w is_end (is_ending sight sees _ _ _ _) = (look-keeps v w sight sees).same
-end-same v w is_end (ends sight again seen sees _ _ _ _ sees_again _) =
+end-same v w is_end (is_last sight sees _ _ _ _) = (look-keeps v w sight sees).same
+end-same v w is_end (is_ending sight sees _ _ _) = (look-keeps v w sight sees).same
+end-same v w is_end (ends sight again seen sees _ _ _ sees_again _) =
     let first = (look-keeps v seen sight sees).same in
     let second = (look-keeps (announced seen) w again sees_again).same in
     record {

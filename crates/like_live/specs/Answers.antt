@@ -13,8 +13,8 @@ use Rattle.like_live.specs.LiveView.{LiveView}
 use Rattle.like_live.specs.History.{Does, HasDone, IsUnused, Told, glance, look, take_found}
 use Rattle.like_live.specs.Service.{AreGone, IsClosedService}
 
--- a count that was told: the phase in which it ran, and its page; at least how many likes of the page the seat had
--- counted in that phase before; and the count
+-- a count that a call was told: the phase in which the call ran; the page; how many likes of the page the seat is known
+-- to have counted in that phase before; and the count
 pub record Shown : Type 0 where
   pub phase : ℕ
   pub page : ℕ

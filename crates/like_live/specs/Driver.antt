@@ -9,7 +9,8 @@ use Rattle.like_limits.specs.Limits.{max_pages}
 use Rattle.like_core.specs.OpeningLimits.{service_limits}
 use Rattle.like_core.specs.Phase.{IsJoined, IsSplit}
 use Rattle.like_core.specs.views.Places.{count_after}
-use Rattle.like_core.specs.views.Shows.{IsLastMoment}
+use Rattle.like_core.specs.declared.view.View.TheVariants.{Coord}
+use Rattle.like_core.specs.views.Shows.{IsKnown, IsLastMoment}
 use Rattle.like_seat.specs.Lead.{ChoosesRisen, LeadView, Sees, announced, new_lead, published, released, with_counts}
 use Rattle.like_live.specs.Opening.{board_opening, splits_by}
 use Rattle.like_live.specs.declared.opening.Opening.{Opening}
@@ -21,7 +22,7 @@ pub record DriverView : Type 0 where
   pub lead : LeadView
   pub is_over : Bool
 
--- the driver of a lead
+-- the driver with this lead, and whether its service is over
 abbrev pub driver_of : LeadView → Bool → DriverView
 driver_of lead is_over = record { lead = lead; is_over = is_over }
 
@@ -45,12 +46,17 @@ pub data ReleasesNext (v after : LeadView) : Type 0 where
   releases_split : IsJoined v.seat.phase → (m : ℕ) (chosen : LeadView) → ChoosesRisen v m chosen
       → after ≡ released (published chosen m) → ReleasesNext v after
 
--- the end of its phase is asked for: by `may_end`; or, in a split phase, by a hint of a seat
+-- the end of its phase may be announced: `may_end` says so, or the phase is split, where a seat can ask for it
 abbrev pub IsDue : LeadView → Bool → Type 0
 IsDue v may_end = (may_end ≡ true) ⊎ IsSplit v.seat.phase
 
+-- all seats have left a joined phase
+pub record IsLeft (v : LeadView) (sight : CoordSight) : Type 0 where
+  pub joined : IsJoined v.seat.phase
+  pub all_gone : sight.all_gone ≡ true
+
 -- the cases of a turn whose look showed this: each does at most one thing. A phase that is ending is released once all
--- are in. One that runs is ended if that is asked for and may be; but not a joined phase that all seats have left, since
+-- are in. One that runs is ended if that is asked for and may be, but not a joined phase that all seats have left, since
 -- nobody would run the next
 pub data DriverCase (v : LeadView) (sight : CoordSight) (may_end : Bool)
     (answer : DriverAnswer) (after : LeadView) : Type 0 where
@@ -58,7 +64,7 @@ pub data DriverCase (v : LeadView) (sight : CoordSight) (may_end : Bool)
       → answer ≡ Waiting → after ≡ v → DriverCase v sight may_end answer after
   releases : sight.ending ≡ true → sight.all_in ≡ true
       → answer ≡ Released → ReleasesNext v after → DriverCase v sight may_end answer after
-  announces : sight.ending ≡ false → (sight.all_gone ≡ true → IsSplit v.seat.phase) → can_end v ≡ true
+  announces : sight.ending ≡ false → ¬ IsLeft v sight → can_end v ≡ true
       → IsDue v may_end → answer ≡ Announced → after ≡ announced v → DriverCase v sight may_end answer after
   running : sight.ending ≡ false → sight.all_gone ≡ false → (may_end ≡ true → can_end v ≡ false)
       → answer ≡ Running → after ≡ v → DriverCase v sight may_end answer after
@@ -94,13 +100,14 @@ pub data SnapshotCase (v : LeadView) (sight : CoordSight) (from : ℕ) (old : Li
   not_now : ¬ IsBoundary v sight → phase ≡ None → counts ≡ old → after ≡ v
       → SnapshotCase v sight from old phase after counts
 
--- it looks, and reads the counts where it may
+-- it looks, and reads the counts where it may; there is a moment at which this is what it knows after that
 pub record ReadsBoundary (v : LeadView) (from : ℕ) (old : List ℕ) (phase : Option ℕ) (after : LeadView)
     (counts : List ℕ) : Type 0 where
   pub sight : CoordSight
   pub seen : LeadView
   pub sees : Sees v sight seen
   pub case : SnapshotCase seen sight from old phase after counts
+  pub known : IsKnown v.seat.opening (Coord after.seat)
 
 -- a snapshot of the pages from this one on; once the service is over there is none
 pub data TakesSnapshot (v : DriverView) (from : ℕ) (old : List ℕ) (phase : Option ℕ) (after : DriverView)
@@ -113,15 +120,14 @@ pub data TakesSnapshot (v : DriverView) (from : ℕ) (old : List ℕ) (phase : O
 -- it looks whether all seats have left a joined phase that is ending. If nobody announced its end, it does so, unless
 -- the phase is a service's last, and looks again: while a phase is ending, no seat that has left comes back
 pub data LooksForEnd (v : LeadView) (is_end : Bool) (after : LeadView) : Type 0 where
-  goes_on : (sight : CoordSight) → Sees v sight after
-      → (sight.all_gone ≡ true → IsJoined after.seat.phase
-      → (sight.ending ≡ false) × (nat_lt after.seat.phase service_limits.last_phase ≡ false))
+  goes_on : (sight : CoordSight) → Sees v sight after → ¬ IsLeft after sight
       → is_end ≡ false → LooksForEnd v is_end after
-  is_ending : (sight : CoordSight) → Sees v sight after
-      → sight.all_gone ≡ true → IsJoined after.seat.phase → sight.ending ≡ true
+  is_last : (sight : CoordSight) → Sees v sight after → IsLeft after sight → sight.ending ≡ false
+      → nat_lt after.seat.phase service_limits.last_phase ≡ false
+      → is_end ≡ false → LooksForEnd v is_end after
+  is_ending : (sight : CoordSight) → Sees v sight after → IsLeft after sight → sight.ending ≡ true
       → is_end ≡ true → LooksForEnd v is_end after
-  ends : (sight again : CoordSight) (seen : LeadView) → Sees v sight seen
-      → sight.all_gone ≡ true → IsJoined seen.seat.phase → sight.ending ≡ false
+  ends : (sight again : CoordSight) (seen : LeadView) → Sees v sight seen → IsLeft seen sight → sight.ending ≡ false
       → nat_lt seen.seat.phase service_limits.last_phase ≡ true → Sees (announced seen) again after
       → is_end ≡ again.all_gone → LooksForEnd v is_end after
 
@@ -146,6 +152,14 @@ pub record TakesLast (v : DriverView) (from : ℕ) (old : List ℕ) (is_done : B
     : Type 0 where
   pub case : ReadsLast v.lead from old is_done after.lead counts
   pub over : after.is_over ≡ (is_done || v.is_over)
+
+-- last counts stay: once they were written, they are written whenever they are asked for, and a page has the same count
+abbrev pub LastCountsStay : Type 0
+LastCountsStay =
+    (u v w : DriverView) (from next : ℕ) (old others counts later : List ℕ) (is_done : Bool)
+    → TakesLast u from old true v counts → TakesLast v next others is_done w later
+    → (is_done ≡ true) × ((i j : ℕ) → i < length counts → j < length later → from + i ≡ next + j
+    → slice_index counts i ≡ slice_index later j)
 
 -- what is true of every driver: its board has at most 1,024 pages and the limits of a service
 pub record IsService (v : DriverView) : Type 0 where

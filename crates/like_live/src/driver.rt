@@ -88,8 +88,8 @@ impl Driver {
 
     /// Makes one look at the phase word, and does at most one thing. A phase that is ending is released once every seat
     /// has answered it or is gone. A phase that runs is ended if `may_end` is set, and a split phase also if the looks
-    /// that wait at a seat take half of its room. A joined phase goes on if no page is marked and none can be hot, or if
-    /// all seats have left it. Once last counts were written it does nothing.
+    /// that wait at a seat take half of its room. A joined phase goes on if no page is marked and none can be hot, or
+    /// if all seats have left it. Once last counts were written it does nothing.
     pub fn turn(&mut self, may_end: bool) -> DriverAnswer
         ensures case { DriverTurns self.old may_end result self.new }
         ensures keeps { IsService self.new }
@@ -107,10 +107,10 @@ impl Driver {
         )
     }
 
-    /// Writes the counts of the pages from one on, if a joined phase is ending and every seat has answered it or is gone.
-    /// They are the counts of one moment, the boundary of that phase and the split one that comes next, and the answer is
-    /// the phase that ends there. Otherwise it writes nothing, and answers none. Until the driver releases the next
-    /// phase, further ranges are of the same moment.
+    /// Writes the counts of the pages from one on, if a joined phase is ending and every seat has answered it or is
+    /// gone. They are the counts of one moment, the boundary of that phase and the split one that comes next, and the
+    /// answer is the phase that ends there. Otherwise it writes nothing, and answers none. Until the driver releases
+    /// the next phase, further ranges are of the same moment.
     pub fn snapshot(&mut self, from: u32, counts: &mut [u64]) -> Option<u64>
         requires places { from + length counts.old ≤ length self.old.lead.seat.opening.counts }
         ensures case { TakesSnapshot self.old from counts.old result self.new counts.new }
@@ -123,9 +123,9 @@ impl Driver {
         read_boundary(&mut self.lead, &self.board, from, counts)
     }
 
-    /// Writes the last counts of the pages from one on, once all seats have left a joined phase, and says whether it did.
-    /// It ends that phase, which is never released: the service is over. It can be called again, for any pages, and each
-    /// page then has the same count. It takes no seats, so it serves a host that can't show whose they are.
+    /// Writes the last counts of the pages from one on, once all seats have left a joined phase, and says whether it
+    /// did. It ends that phase, which is never released: the service is over. It can be called again, for any pages,
+    /// and each page then has the same count. It takes no seats, so it serves a host that can't show whose they are.
     pub fn last_counts(&mut self, from: u32, counts: &mut [u64]) -> bool
         requires places { from + length counts.old ≤ length self.old.lead.seat.opening.counts }
         ensures case { TakesLast self.old from counts.old result self.new counts.new }

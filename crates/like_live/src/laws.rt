@@ -1,6 +1,7 @@
 //! The laws of a live seat's histories and answers, and of a service's seats at a moment of their board. Each is the
 //! contract of a function that does nothing.
 ghost use Rattle.like_live.specs.Answers.{AnswersAreBounded, AnswersAreReads};
+ghost use Rattle.like_live.specs.Driver.{LastCountsStay};
 ghost use Rattle.like_live.specs.History.{HistoriesAreCounted, NoneWaitsOnceGone};
 ghost use Rattle.like_live.specs.Moments.{LastCountsAreTallies, SeatsAreExclusive};
 
@@ -41,4 +42,10 @@ pub fn answers_are_reads()
 /// phase. (A found look runs before its seat counts a like in the phase.)
 pub fn answers_are_bounded()
     ensures { AnswersAreBounded }
+{}
+
+/// Once last counts were written, they are written whenever they are asked for, and a page has the same count each
+/// time.
+pub fn last_counts_stay()
+    ensures { LastCountsStay }
 {}

@@ -23,7 +23,7 @@ pub use driver::Driver;
 pub use driver_answer::DriverAnswer;
 pub use laws::{
     answers_are_bounded, answers_are_reads, histories_are_counted, last_counts_are_tallies,
-    none_waits_once_gone, seats_are_exclusive,
+    last_counts_stay, none_waits_once_gone, seats_are_exclusive,
 };
 pub use live_seat::{LiveSeat, MAX_LIKES};
 pub use open_error::OpenError;

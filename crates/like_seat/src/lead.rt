@@ -54,8 +54,8 @@ pub struct NoLead {
 }
 
 impl Lead {
-    /// The lead of a board that was made with these counts. Where `hot` is a number, a page is hot in a split phase if it
-    /// got as many likes since the choice before. All its room is made here: its steps take no memory.
+    /// The lead of a board that was made with these counts. Where `hot` is a number, a page is hot in a split phase if
+    /// it got as many likes since the choice before. All its room is made here: its steps take no memory.
     pub fn new(
         alloc: Global,
         seat: CoordSeat,
@@ -111,8 +111,8 @@ impl Lead {
         self.seat.announce(board);
     }
 
-    /// Reads the counts of the pages from one on at the end of a joined phase: each is the page's count at the start and
-    /// all that was added up to that phase. So all that are read before the release are those of one moment.
+    /// Reads the counts of the pages from one on at the end of a joined phase: each is the page's count at the start
+    /// and all that was added up to that phase. So all that are read before the release are those of one moment.
     pub fn read_counts(&mut self, board: &Board, from: u32, counts: &mut [u64])
         requires here { self.old.board ≡ board_id board.now }
         requires saw { SawAllIn self.old.seat }

@@ -1,5 +1,5 @@
-//! A service whose seats and driver are each called by a thread, and which is then closed. What they end with is the same
-//! on every schedule.
+//! A service whose seats and driver are each called by a thread, and which is then closed. What they end with is the
+//! same on every schedule.
 ghost use Rattle.like_live.specs.Driver.{IsSameDriver};
 ghost use Rattle.like_live.specs.LiveView.{IsSameSeat};
 

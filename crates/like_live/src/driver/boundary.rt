@@ -5,8 +5,8 @@ ghost use Rattle.like_live.specs.Driver.{ReadsBoundary};
 use like_board::Board;
 use like_seat::Lead;
 
-// Looks, and writes the counts of the pages from one on where a joined phase is ending and all are in. The answer is that
-// phase.
+// Looks, and writes the counts of the pages from one on where a joined phase is ending and all are in. The answer is
+// that phase.
 pub(crate) fn read_boundary(
     lead: &mut Lead,
     board: &Board,

@@ -3,7 +3,7 @@ ghost use Rattle.like_board.specs.Seats.{board_id};
 ghost use Rattle.like_core.specs.OpeningLimits.{service_limits};
 ghost use Rattle.like_live.specs.Driver.{LooksForEnd, ReadsLast};
 
-use super::turns::LAST_PHASE;
+use super::turns::{LAST_PHASE, is_left};
 use like_board::Board;
 use like_seat::Lead;
 
@@ -29,10 +29,7 @@ fn is_at_end(lead: &mut Lead, board: &Board) -> bool
     ensures { LooksForEnd lead.old result lead.new }
 {
     let sight = lead.look(board);
-    if !sight.all_gone {
-        return false;
-    }
-    if !lead.is_joined() {
+    if !is_left(lead, sight) {
         return false;
     }
     if sight.ending {

@@ -1,12 +1,13 @@
-ghost use Rattle.std.specs.Prelude.{◌≡◌, ◌≤◌, true};
+ghost use Rattle.std.specs.Prelude.{◌≡◌, ◌≤◌, ◌↔◌, true, IsTrue};
 ghost use Rattle.like_board.specs.Seats.{board_id};
 ghost use Rattle.like_core.specs.OpeningLimits.{service_limits};
 ghost use Rattle.like_core.specs.views.Views.{SawAllIn};
-ghost use Rattle.like_live.specs.Driver.{Acts, IsDue, ReleasesNext, may_be_ended, splits_some};
+ghost use Rattle.like_live.specs.Driver.{Acts, IsDue, IsLeft, ReleasesNext, may_be_ended, splits_some};
 
 use crate::driver_answer::DriverAnswer;
 use crate::hint::Hint;
 use like_board::Board;
+use like_core::CoordSight;
 use like_seat::Lead;
 
 /// The last phase of a service.
@@ -34,8 +35,7 @@ pub(crate) fn act(
         release(lead, board);
         return DriverAnswer::Released;
     }
-    let is_left = sight.all_gone && lead.is_joined();
-    if !is_left && may_be_ended(lead.phase(), splits) && is_due(lead, hint, may_end) {
+    if !is_left(lead, sight) && may_be_ended(lead.phase(), splits) && is_due(lead, hint, may_end) {
         lead.announce(board);
         return DriverAnswer::Announced;
     }
@@ -43,6 +43,13 @@ pub(crate) fn act(
         return DriverAnswer::Ended;
     }
     DriverAnswer::Running
+}
+
+// Whether all seats have left a joined phase.
+pub(crate) fn is_left(lead: &Lead, sight: CoordSight) -> bool
+    ensures { IsTrue result ↔ IsLeft lead.now sight }
+{
+    sight.all_gone && lead.is_joined()
 }
 
 // Whether the end of the phase is asked for. A hint counts in split phases alone, since looks wait in these alone.

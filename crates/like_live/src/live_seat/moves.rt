@@ -33,7 +33,7 @@ impl<P: Post> LiveSeat<P> {
     }
 }
 
-// The phase work of a seat that runs a phase and is to retire: in a joined phase it does.
+// The phase work of a seat that is to retire: in a joined phase it finds what waits, and retires.
 pub(crate) fn work_or_retire<P: Post>(
     seat: &mut Seat<P, Asked>,
     found: &mut Stash<Found>,

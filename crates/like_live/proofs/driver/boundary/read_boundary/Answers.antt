@@ -1,8 +1,11 @@
-use Rattle.std.proofs.Common.{◌≡◌, ◌%◌, true, false, Some, ap, sym, ◌∙◌, refl}
+use Rattle.std.proofs.Common.{◌≡◌, ◌%◌, true, false, Some, ap, sym, ◌∙◌, subst, refl}
 use Rattle.std.proofs.lemmas.Bool.{eq-eqb, eqb-true, not-false, not-true}
+use Rattle.like_core.specs.declared.opening.Opening.{Opening}
+use Rattle.like_core.specs.declared.view.View.TheVariants.{Coord}
+use Rattle.like_core.specs.views.Shows.{IsKnown}
 use Rattle.like_seat.specs.Lead.{LeadView}
 use Rattle.like_live.specs.Driver.{IsBoundary, not_now, taken}
-use Rattle.like_live.proofs.Turning.{reads-only}
+use Rattle.like_live.proofs.Turning.{look-keeps, reads-only}
 use Rattle.like_live.proofs.driver.boundary.read_boundary.Goals as goal
 use Rattle.like_live.proofs.driver.boundary.read_boundary.Goals.{then-not-sight-via-then-not-sight, then-not-sight-via-else-not-sight+then-not-sight-2, then-not-sight-via-else-not-sight+else-not-sight-2+then-not-is_joined}
 
@@ -23,6 +26,7 @@ returns-then-not-sight c =
       seen = seen;
       sees = c.look-sight.ensures;
       case = not_now not_at refl refl refl;
+      known = c.look-sight.ensures.known;
     }
 
 pub returns : goal.returns
@@ -37,9 +41,13 @@ returns c =
     let phase : c.phase.result ≡ seen.seat.phase =
     c.phase.ensures ∙ ap (λ (l : LeadView). l.seat.phase) reads
     ∙ (reads-only seen.seat c.args.from c.read_counts.new.counts).phase in
+    let opening = (look-keeps c.args.lead.now seen c.look-sight.result c.look-sight.ensures).same.opening in
     record {
       sight = c.look-sight.result;
       seen = seen;
       sees = c.look-sight.ensures;
       case = taken at (ap Some phase) c.read_counts.ensures.len reads;
+      known = subst (λ (z : Opening). IsKnown z (Coord c.read_counts.new.self.seat)) opening
+          (c.read_counts.ensures.known
+          (subst (λ (z : Opening). IsKnown z (Coord seen.seat)) (sym opening) c.look-sight.ensures.known));
     }
