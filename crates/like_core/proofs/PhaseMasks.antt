@@ -67,15 +67,3 @@ masks-both a b c first then_keeps = (
   then_keeps.0 ++ first.0,
   then_keeps.1 ∙ (ap (λ (l : List PhaseMask). then_keeps.0 ++ l) first.1 ∙ sym (append_assoc then_keeps.0 first.0 a)),
 )
-
--- a page is split in the same way by another mask of a split phase that is the same
-pub split-by : (marked : ℕ → Bool) (hot other : ℕ → ℕ) (phase page : ℕ)
-    → (IsSplit phase → hot phase ≡ other phase)
-    → split marked hot phase page ≡ split marked other phase page
-split-by marked hot other phase page same = elim (cases_eq (phase % 2) 1) [
-  | inl odd ↦ ap (λ n. (phase % 2 == 1) && (marked page || is_hot n page)) (same odd)
-  | inr even ↦
-      let none : (phase % 2 == 1) ≡ false = ne_eqb (phase % 2) 1 even in
-      (λ m. none m && (marked page || is_hot (hot phase) page))
-      ∙ sym (λ m. none m && (marked page || is_hot (other phase) page))
-]

@@ -40,10 +40,6 @@ slice_get-set_other (y ∷ xs) (suc i) zero x below = absurd (omega arith)
 slice_get-set_other (y ∷ xs) zero (suc k) x below = refl
 slice_get-set_other (y ∷ xs) (suc i) (suc k) x below = slice_get-set_other xs i k x (omega arith)
 
--- no call is made at first
-pub HasRun-start : (v : LiveView) (calls : List Call) (answers : List Answer) → HasRun v calls answers 0 v
-HasRun-start v calls answers = record { told = []; history = refl; were = tt }
-
 -- one call more of a batch
 pub HasRun-more : (v now after : LiveView) (calls : List Call) (answers : List Answer) (i : ℕ) (c : Call) (a : Answer)
     → HasRun v calls answers i now

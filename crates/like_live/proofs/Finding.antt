@@ -1,11 +1,10 @@
 -- How the looks that wait are found, one after the other.
-use Rattle.std.proofs.Common.{◌≡◌, ℕ, ◌+◌, ◌%◌, ◌<◌, ◌≤◌, ◌||◌, Bool, false, cond, List, [], ◌∷◌, ◌++◌, length, map, drop, Some, None, refl, ap, sym, ◌∙◌, subst, arith, append-nil, append_assoc, length-append, IsTrue}
+use Rattle.std.proofs.Common.{◌≡◌, ℕ, ◌+◌, ◌%◌, ◌<◌, ◌≤◌, ◌||◌, Bool, false, List, [], ◌∷◌, ◌++◌, length, map, drop, Some, None, refl, ap, sym, ◌∙◌, subst, arith, append-nil, append_assoc, length-append, IsTrue}
 use Rattle.std.specs.List.{All, slice_get}
 use Rattle.std.proofs.lemmas.Bool.{ne_eqb, and_left}
 use Rattle.std.proofs.lemmas.List.{get_or-map, get_or_append_left, map-append, length-map}
 use Rattle.std.proofs.lemmas.List.Elements.{All-append, All-nil, All-push, All-head, All-drop}
 use Rattle.like_core.specs.declared.view.Addition.{Addition}
-use Rattle.like_core.specs.declared.sight.Sight.{Sight}
 use Rattle.like_core.specs.declared.view.PageRead.{PageRead}
 use Rattle.like_core.specs.Additions.{added_to, page_read}
 use Rattle.like_core.specs.declared.worker_state.WorkerState.{WorkerState}
@@ -13,7 +12,7 @@ use Rattle.like_core.specs.declared.worker_state.WorkerState.TheVariants as stat
 use Rattle.like_core.specs.Post.{PostView, has_read, slices}
 use Rattle.like_core.specs.Phase.{IsJoined, is_hot, is_marked}
 use Rattle.like_core.specs.PhaseMasks.{mask_of}
-use Rattle.like_core.specs.WorkerState.{IsRunning, RunsJoined, RunsSplit, phase_of, seen as seen_by}
+use Rattle.like_core.specs.WorkerState.{IsRunning, RunsJoined, RunsSplit, phase_of}
 use Rattle.like_tables.specs.Share.{owns}
 use Rattle.like_tables.specs.UserTable.{UserTable, last_of}
 use Rattle.like_seat.specs.declared.seen.Seen.{Seen}
@@ -69,21 +68,6 @@ plain post page joined =
     let even = joined_phase post.state joined in
     and_left _ (is_marked post.marks page || is_hot (mask_of post.masks (phase_of post.state)) page)
     (ne_eqb _ 1 (λ odd. absurd (omega arith)))
-
--- what waits at a seat that a look shows a joined phase was asked in the phase before
-pub asked_before : (s : WorkerState) (sight : Sight) (waits : List Asked)
-    → sight.waits ≡ false
-    → (IsJoined (phase_of s) → waits ≡ [])
-    → All (λ a. a.phase ≡ phase_of s) waits
-    → IsJoined (phase_of (seen_by s sight))
-    → All (λ a. phase_of (seen_by s sight) ≡ a.phase + 1) waits
-asked_before (state.Runs k) sight waits some none asked joined =
-    subst (All (λ (a : Asked). k ≡ a.phase + 1)) (sym (none joined)) (All-nil (λ (a : Asked). k ≡ a.phase + 1))
-asked_before (state.Answered k) sight waits some none asked joined = λ i d below.
-    ap (λ (b : Bool). phase_of (cond b (state.Answered k) (state.Runs (k + 1)))) some
-    ∙ ap (λ n. n + 1) (sym (asked i d below))
-asked_before state.Gone sight waits some none asked joined =
-    subst (All (λ (a : Asked). 0 ≡ a.phase + 1)) (sym (none joined)) (All-nil (λ (a : Asked). 0 ≡ a.phase + 1))
 
 -- what is true of all that waited is true of what each found look was
 all_asked : (P : Asked → Type 0) (fs : List Found) → All P (map (λ f. f.asked) fs) → All (λ f. P f.asked) fs
@@ -147,21 +131,6 @@ Finding-own v now f own =
     drop_front : {X : Type 0} (xs ys : List X) → drop (length xs) (xs ++ ys) ≡ ys
     drop_front [] ys = refl
     drop_front (x ∷ xs) ys = drop_front xs ys
-
--- as many looks wait and are found as before
-pub Finding-room : (v now : LiveView)
-    → Finding v now
-    → length (waiting now) + length now.found ≡ length (waiting v) + length v.found
-Finding-room v now f =
-    let asked = map (λ (x : Found). x.asked) f.found in
-    omega (
-      arith,
-      ap length f.order,
-      length-append asked (waiting now),
-      length-map f.found (λ (x : Found). x.asked),
-      ap length f.found_is,
-      length-append v.found f.found,
-    )
 
 -- what is true of all of a list is true of all of its front
 front : {X : Type 0} (P : X → Type 0) (xs ys : List X) → All P (xs ++ ys) → All P xs

@@ -4,7 +4,6 @@ use Rattle.std.proofs.lemmas.List.Elements.{All-head, All-tail}
 use Rattle.std.specs.Prelude.{IfSome, IsSomeAnd}
 use Rattle.like_core.specs.Phase.{IsJoined}
 use Rattle.like_core.specs.WorkerState.{IsIn}
-use Rattle.like_core.specs.OpeningLimits.{number_of}
 use Rattle.like_core.specs.core.Numbers.{CoordSees}
 use Rattle.like_core.specs.core.State.{numbers}
 use Rattle.like_core.specs.word.ShownWord.{shown_word}
@@ -18,7 +17,7 @@ use Rattle.like_core.specs.views.Shows.{FitsCoord, IsLastMoment, IsKnown}
 use Rattle.like_core.specs.views.Views.{SawAllIn, counted_coord}
 use Rattle.like_core.proofs.views.Ends.{counted_now, end_known}
 use Rattle.like_seat.specs.Lead.{LeadView, Sees, announced, counted_from, with_counts}
-use Rattle.like_live.specs.Driver.{AreLastCounts, DriverView, LastCountsStay, LooksForEnd, ReadsLast, TakesLast, counted, ends, goes_on, is_ending, is_last, not_ended}
+use Rattle.like_live.specs.Driver.{AreLastCounts, LastCountsStay, LooksForEnd, ReadsLast, counted, ends, goes_on, is_ending, is_last, not_ended}
 use Rattle.like_live.proofs.Turning.{look-keeps, reads-only}
 
 -- who shows all gone shows all in
