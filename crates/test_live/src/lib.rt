@@ -5,6 +5,8 @@
 mod batches;
 mod ends;
 #[cfg(test)]
+mod memory;
+#[cfg(test)]
 mod play;
 #[cfg(test)]
 mod scenes;

@@ -1,0 +1,44 @@
+//! What a service takes is given back where its seats and its driver are dropped, in each order. No contract says so.
+use crate::services::opened;
+use like_live::{LikeAnswer, Service};
+use std::alloc::Global;
+use std::fs;
+use std::process::Abort;
+use std::rt::Files;
+use std::test::Fail;
+
+// So many services are opened: a block that each of them keeps is 16 bytes or more.
+const SERVICES: usize = 100_000;
+
+// The pages of memory that a process may come to have beside.
+const PAGES: usize = 256;
+
+// Opens a service of two seats, of which one likes, and drops all: the driver first, or a seat.
+fn opens_and_drops(rt: &impl Abort, alloc: Global, is_driver_first: bool) -> Result<(), Fail> {
+    let Service { driver, mut seats } = opened(alloc, 2, 2)?;
+    let mut seat = seats.pop().ok_or("no seat")?;
+    assert!(rt; seat.like(1, 0) == LikeAnswer::Liked);
+    if is_driver_first {
+        drop(driver);
+    }
+    Ok(())
+}
+
+// The pages of memory that this process has: the first number that the system tells of it.
+fn pages(rt: &(impl Files + Alloc)) -> Result<usize, Fail> {
+    let told = fs::read_to_string(rt, "/proc/self/statm")?;
+    let first = told.split(' ').next().ok_or("no number")?;
+    Ok(first.parse::<usize>()?)
+}
+
+#[test]
+fn memory_is_given_back(rt: HostRuntime) -> Result<(), Fail> {
+    opens_and_drops(&rt, rt.alloc(), true)?;
+    let before = pages(&rt)?;
+    for service in 0..SERVICES {
+        opens_and_drops(&rt, rt.alloc(), service % 2 == 0)?;
+    }
+    let more = pages(&rt)?.saturating_sub(before);
+    assert!(rt; more < PAGES, "{more} pages were kept");
+    Ok(())
+}
