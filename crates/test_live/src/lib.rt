@@ -3,6 +3,7 @@
 
 #[cfg(test)]
 mod batches;
+#[cfg(test)]
 mod ends;
 #[cfg(test)]
 mod memory;
