@@ -23,7 +23,7 @@ use Rattle.like_run.specs.declared.rounds.fault.ReplayFault.TheVariants as why
 use Rattle.like_service.specs.RunFault as on_threads
 use Rattle.like_service.specs.declared.run_fault.RunFault.{RunFault}
 use Rattle.like_service.specs.declared.run_fault.RunFault.TheVariants as threads
-use Rattle.like_script.specs.declared.turned.Turned.{Turned}
+use Rattle.like_requests.specs.declared.script.Turned.{Turned}
 use Rattle.like_command.specs.declared.options.Options.{Options}
 use Rattle.like_replies.specs.PlaceRows.{text_of}
 use Rattle.like_replies.specs.Summary.{requests_in}

@@ -11,7 +11,7 @@ use Rattle.like_requests.specs.declared.request.Request.{Request}
 use Rattle.like_requests.specs.declared.requests_file.RequestsFault.{RequestsFault}
 use Rattle.like_requests.specs.declared.requests_file.RequestsFault.TheVariants.{Memory, Read}
 use Rattle.like_requests.specs.declared.setup.Setup.{Setup}
-use Rattle.like_script.specs.declared.turned.Turned.{Turned}
+use Rattle.like_requests.specs.declared.script.Turned.{Turned}
 use Rattle.like_files.proofs.Planned.{requests_of}
 use Rattle.like_files.specs.FailedReads.{TellsPlanRead, TellsRead}
 use Rattle.like_files.specs.Inputs.{GivesPlan, GivesPlans, RefusesLists, RefusesPlans}

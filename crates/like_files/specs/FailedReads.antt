@@ -3,7 +3,7 @@ use Rattle.std.specs.Prelude.{◌≡◌, ◌-◌, ◌^◌, ℕ, List, min, slice
 use Rattle.like_records.specs.Reading.{ReadFailed}
 use Rattle.like_requests.specs.declared.pages_file.PagesFault.TheVariants as pages_fault
 use Rattle.like_requests.specs.declared.requests_file.RequestsFault.TheVariants as requests_fault
-use Rattle.like_script.specs.declared.file.ScriptFault.TheVariants as script_fault
+use Rattle.like_requests.specs.declared.script_file.ScriptFault.TheVariants as script_fault
 use Rattle.like_files.specs.declared.fault.DriverFault.{DriverFault}
 use Rattle.like_files.specs.declared.fault.DriverFault.TheVariants.{Pages, Requests, Script}
 

@@ -9,7 +9,7 @@ use Rattle.like_run.specs.declared.rounds.fault.ReplayFault.{ReplayFault}
 use Rattle.like_run.specs.declared.rounds.fault.ReplayFault.TheVariants as replay
 use Rattle.like_service.specs.declared.run_fault.RunFault.{RunFault}
 use Rattle.like_service.specs.declared.run_fault.RunFault.TheVariants as run
-use Rattle.like_script.specs.declared.file.ScriptFault.TheVariants as script
+use Rattle.like_requests.specs.declared.script_file.ScriptFault.TheVariants as script
 use Rattle.like_files.specs.declared.fault.DriverFault.{DriverFault}
 use Rattle.like_files.specs.declared.fault.DriverFault.TheVariants.{Pages, Requests, Script, Settings, Start, Unfinished, Write, Memory}
 

@@ -18,9 +18,9 @@ use Rattle.like_replies.specs.Summary.{summary_of}
 use Rattle.like_replies.specs.declared.summary.Summary.{Summary}
 use Rattle.like_service.specs.EndToEnd.{IsRightReport}
 use Rattle.like_service.specs.places.Tiling.{HasNoPlaces, HasRightPlaces}
-use Rattle.like_script.specs.File.{IsScriptFault, IsScriptFile}
-use Rattle.like_script.specs.declared.file.ScriptFault.{ScriptFault}
-use Rattle.like_script.specs.declared.turned.Turned.{Turned}
+use Rattle.like_requests.specs.ScriptFile.{IsScriptFault, IsScriptFile}
+use Rattle.like_requests.specs.declared.script_file.ScriptFault.{ScriptFault}
+use Rattle.like_requests.specs.declared.script.Turned.{Turned}
 use Rattle.like_command.specs.declared.options.Options.{Options}
 use Rattle.like_files.specs.declared.fault.DriverFault.{DriverFault}
 use Rattle.like_files.specs.declared.fault.DriverFault.TheVariants as driver

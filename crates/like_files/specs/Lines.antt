@@ -5,7 +5,7 @@ use Rattle.std.specs.Option.{option_map_or}
 use Rattle.like_requests.specs.declared.pages_file.PagesFault.TheVariants as pages
 use Rattle.like_requests.specs.declared.requests_file.RequestsFault.TheVariants as requests
 use Rattle.like_requests.specs.declared.setup.SettingsFault.TheVariants as settings
-use Rattle.like_script.specs.declared.file.ScriptFault.TheVariants as script
+use Rattle.like_requests.specs.declared.script_file.ScriptFault.TheVariants as script
 use Rattle.like_command.specs.declared.options.Options.{Options}
 use Rattle.like_command.specs.Fault as words
 use Rattle.like_files.specs.declared.fault.DriverFault.{DriverFault}

@@ -5,7 +5,7 @@ use Rattle.std.specs.declared.alloc.Global.{Global}
 use Rattle.like_requests.specs.declared.pages_file.PagesFault.TheVariants as pages_fault
 use Rattle.like_requests.specs.declared.requests_file.RequestsFault.{RequestsFault}
 use Rattle.like_requests.specs.declared.requests_file.RequestsFault.TheVariants as requests_fault
-use Rattle.like_script.specs.declared.file.ScriptFault.TheVariants as script_fault
+use Rattle.like_requests.specs.declared.script_file.ScriptFault.TheVariants as script_fault
 use Rattle.like_command.specs.declared.options.Options.{Options}
 use Rattle.like_files.specs.declared.fault.DriverFault.{DriverFault}
 use Rattle.like_files.specs.declared.fault.DriverFault.TheVariants.{Pages, Requests, Script}

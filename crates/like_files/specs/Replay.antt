@@ -6,8 +6,8 @@ use Rattle.like_requests.specs.declared.setup.Setup.{Setup}
 use Rattle.like_run.specs.Rounds as replay
 use Rattle.like_run.specs.declared.rounds.fault.ReplayFault.{ReplayFault}
 use Rattle.like_run.specs.declared.rounds.fault.ReplayFault.TheVariants as why
-use Rattle.like_script.specs.declared.file.ScriptFault.{ScriptFault}
-use Rattle.like_script.specs.declared.turned.Turned.{Turned}
+use Rattle.like_requests.specs.declared.script_file.ScriptFault.{ScriptFault}
+use Rattle.like_requests.specs.declared.script.Turned.{Turned}
 use Rattle.like_files.specs.Inputs.{GivesLists, GivesScript, Inputs, RefusesLists, RefusesScript, WritesReport, setup_of}
 use Rattle.like_replies.specs.declared.summary.Summary.{Summary}
 use Rattle.like_command.specs.declared.options.Options.{Options}

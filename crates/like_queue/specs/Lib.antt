@@ -1,3 +1,4 @@
 pub mod Inbox
 pub mod Line
+pub mod Lines
 pub mod Rule

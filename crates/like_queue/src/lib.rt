@@ -1,9 +1,11 @@
-//! How requests reach the workers: as a list that is opened by and by, or through a queue between two threads.
+//! How requests reach the workers: as a list that is opened by and by, or through a queue between two threads. And what
+//! the threads of a run need for that: a line for each submitter, and where they wait.
 #![tactic(auto)]
 
 mod inbox;
 mod known;
 mod line;
+mod lines;
 mod list_inbox;
 mod refused;
 mod rule;
@@ -14,6 +16,7 @@ mod take_pass;
 
 pub use inbox::{Inbox, TakeWith};
 pub use line::{BATCH, Line};
+pub use lines::{Lines, Parkers, ends_of, hear, submit, tell};
 pub use list_inbox::ListInbox;
 pub use refused::{EndRefused, PushRefused};
 pub use send_end::SendEnd;

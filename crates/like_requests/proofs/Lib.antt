@@ -1,7 +1,9 @@
 pub mod Added
+pub mod FirstAway
 pub mod Found
 pub mod Fronts
 pub mod Names
 pub mod PagesRead
 pub mod Planned
 pub mod RequestsRead
+pub mod ScriptRead

@@ -2,5 +2,7 @@ pub mod Entries
 pub mod Pages
 pub mod PagesFile
 pub mod RequestsFile
+pub mod Script
+pub mod ScriptFile
 pub mod Setup
 pub mod Verdict

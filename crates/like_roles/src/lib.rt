@@ -7,13 +7,12 @@
 
 mod coord_turn;
 mod coordinator;
-mod gate;
 mod turn;
 mod worker;
 
 pub use coord_turn::CoordTurn;
 pub use coordinator::{Coordinator, NoCoordinator};
-pub use gate::{Gate, NoGate};
+pub use like_requests::{Gate, NoGate};
 pub use like_service::{Added, Chosen, Ran, Reply, Took, WorkerLog};
 pub use turn::Turn;
 pub use worker::{NoWorker, Worker};

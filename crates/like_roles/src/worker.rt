@@ -16,10 +16,9 @@ mod desk;
 mod places;
 
 use self::desk::Desk;
-use crate::gate::Gate;
 use crate::turn::Turn;
 use like_core::Post;
-use like_requests::{Setup, Taken};
+use like_requests::{Gate, Setup, Taken};
 use like_seat::Seat;
 use like_service::WorkerLog;
 use like_tables::{Held, Users};

@@ -4,9 +4,9 @@ use Rattle.std.specs.List.{AllZip}
 use Rattle.like_requests.specs.declared.request.Request.{Request}
 use Rattle.like_requests.specs.declared.setup.Setup.{Setup}
 use Rattle.like_board.specs.Seats.{board_id, board_numbers}
-use Rattle.like_script.specs.declared.turned.Turned.{Turned}
-use Rattle.like_script.specs.declared.turned.Turned.TheVariants.{OpenOne, Worker, Coordinator}
-use Rattle.like_script.specs.Fit.{IsInRun}
+use Rattle.like_requests.specs.declared.script.Turned.{Turned}
+use Rattle.like_requests.specs.declared.script.Turned.TheVariants.{OpenOne, Worker, Coordinator}
+use Rattle.like_requests.specs.Script.{IsInRun}
 use Rattle.like_crew.specs.declared.crew.Crew.{Crew}
 use Rattle.like_crew.specs.declared.site.Site.{Site}
 use Rattle.like_service.specs.Asked.{service_of}

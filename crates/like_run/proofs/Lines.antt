@@ -7,8 +7,8 @@ use Rattle.like_requests.specs.declared.request.Request.{Request}
 use Rattle.like_queue.specs.Line.{LineId, Sender, Taker, inbox_of}
 use Rattle.like_crew.specs.Server.{untouched}
 use Rattle.like_crew.proofs.Makings.{all-map}
-use Rattle.like_lines.specs.declared.lines.Lines.{Lines}
-use Rattle.like_lines.specs.Lines.{AreLines, AreNewEnds, new_sender, new_taker}
+use Rattle.like_queue.specs.declared.lines.Lines.{Lines}
+use Rattle.like_queue.specs.Lines.{AreLines, AreNewEnds, new_sender, new_taker}
 
 -- their ends are untouched inboxes of their plans
 inboxes-new : (lines : List LineId) → map inbox_of (map new_taker lines) ≡ map untouched (map (λ line. line.plan) lines)

@@ -1,6 +1,6 @@
 -- Entries and rounds that are made one after the other.
 use Rattle.std.proofs.Common.{ℕ, zero, suc, List, [], ◌∷◌, ◌++◌, refl, subst}
-use Rattle.like_script.specs.declared.turned.Turned.{Turned}
+use Rattle.like_requests.specs.declared.script.Turned.{Turned}
 use Rattle.like_crew.specs.declared.crew.Crew.{Crew}
 use Rattle.like_crew.specs.Steps.{IsRound}
 use Rattle.like_run.specs.Script.{Makes, MakesAll, MakesRounds}

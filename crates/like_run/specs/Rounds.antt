@@ -5,11 +5,11 @@ use Rattle.like_requests.specs.declared.request.Request.{Request}
 use Rattle.like_requests.specs.declared.setup.Setup.{Setup}
 use Rattle.like_run.specs.declared.rounds.fault.ReplayFault.{ReplayFault}
 use Rattle.like_run.specs.declared.rounds.fault.ReplayFault.TheVariants.{Settings, Memory, Unfinished}
-use Rattle.like_script.specs.declared.turned.Turned.{Turned}
-use Rattle.like_script.specs.declared.turned.Turned.TheVariants.{OpenOne, Worker, Coordinator}
+use Rattle.like_requests.specs.declared.script.Turned.{Turned}
+use Rattle.like_requests.specs.declared.script.Turned.TheVariants.{OpenOne, Worker, Coordinator}
 use Rattle.like_crew.specs.Crew.{HasInbox}
 use Rattle.like_crew.specs.Server.{ServerView}
-use Rattle.like_script.specs.Fit.{IsFirstAway, IsInRun}
+use Rattle.like_requests.specs.Script.{IsFirstAway, IsInRun}
 
 -- a crew with these servers can make an entry: its submitter has an inbox, or its worker is there
 abbrev pub CanMake : List ServerView → Turned → Type 0

@@ -1,8 +1,8 @@
 -- How a replay follows its script.
 use Rattle.std.specs.Prelude.{◌≡◌, ℕ, zero, suc, List, [], ◌∷◌}
 use Rattle.std.specs.List.{AllZip}
-use Rattle.like_script.specs.declared.turned.Turned.{Turned}
-use Rattle.like_script.specs.declared.turned.Turned.TheVariants.{OpenOne, Worker, Coordinator}
+use Rattle.like_requests.specs.declared.script.Turned.{Turned}
+use Rattle.like_requests.specs.declared.script.Turned.TheVariants.{OpenOne, Worker, Coordinator}
 use Rattle.like_crew.specs.declared.crew.Crew.{Crew}
 use Rattle.like_crew.specs.declared.ended.Ended.{Ended}
 use Rattle.like_crew.specs.Ended.{HasEnded}

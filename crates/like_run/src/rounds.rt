@@ -1,7 +1,7 @@
 ghost use Rattle.std.specs.Prelude.{◌≡◌, ◌≤◌, ℕ, All, IfErr, IfOk, OnOk, length, false, true};
 ghost use Rattle.like_requests.specs.Setup.{FitsRun};
 ghost use Rattle.like_roles.specs.coordinator.CoordTurns.{HasEndedJoined};
-ghost use Rattle.like_script.specs.Fit.{IsInRun};
+ghost use Rattle.like_requests.specs.Script.{IsInRun};
 ghost use Rattle.like_limits.specs.Limits.{max_entries};
 ghost use Rattle.like_service.specs.Asked.{lists_of};
 ghost use Rattle.like_crew.specs.Crew.{AreGone, GoesOn};
@@ -13,8 +13,7 @@ ghost use Rattle.like_run.specs.Script.{FollowsScript, Makes, MakesAll, MakesRou
 
 use like_crew::{Crew, Ended, Site, report_of};
 use like_queue::ListInbox;
-use like_requests::{Request, Setup, check_setup};
-use like_script::{Turned, check_script};
+use like_requests::{Request, Setup, Turned, check_script, check_setup};
 use like_service::Report;
 use std::alloc::Global;
 use std::snapshot::Snapshot;

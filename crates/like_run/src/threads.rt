@@ -5,7 +5,7 @@ ghost use Rattle.like_service.specs.EndToEnd.{IsRightReport};
 ghost use Rattle.like_crew.specs.Ended.{IsEnded};
 ghost use Rattle.like_crew.specs.Site.{AreSeats, IsSite};
 ghost use Rattle.like_service.specs.places.Tiling.{HasNoPlaces, HasRightPlaces};
-ghost use Rattle.like_lines.specs.Lines.{AreNewEnds};
+ghost use Rattle.like_queue.specs.Lines.{AreNewEnds};
 ghost use Rattle.like_run.specs.Threads.{HasEndedOn, IsRunFaultUnderWay};
 ghost use Rattle.like_service.specs.RunFault.{IsRunFault};
 
@@ -14,8 +14,7 @@ use crate::threads::room::Room;
 use crate::threads::submitters::start_submitters;
 use crate::threads::workers::start_workers;
 use like_crew::{Crew, Ended, Seats, Site, report_of};
-use like_lines::{Lines, Parkers, ends_of, tell};
-use like_queue::{SendEnd, TakeEnd};
+use like_queue::{Lines, Parkers, SendEnd, TakeEnd, ends_of, tell};
 use like_requests::{Request, Setup, check_setup};
 use like_roles::Gate;
 use like_service::{Report, RunFault};

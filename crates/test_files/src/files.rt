@@ -8,8 +8,9 @@ mod refused;
 
 use crate::records::{bytes, csv_cases};
 use cases::{Case, Kind, changed, pages_files, prefixes, reads, request_files, scripts};
-use like_requests::{Pages, PagesFault, Request, RequestsFault, read_pages, read_requests};
-use like_script::read_script;
+use like_requests::{
+    Pages, PagesFault, Request, RequestsFault, read_pages, read_requests, read_script,
+};
 use std::alloc::{AllocError, Global};
 use std::fmt::Debug;
 use std::io::Read;

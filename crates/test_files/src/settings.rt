@@ -2,8 +2,9 @@
 use crate::files::{assert_that, one_page, requests};
 use SettingsFault::{Hot, Plan, Stash, Submitters, Turns, Users, Workers};
 use Verdict::{Accepted, OtherHome, UnknownPage, UnknownUser};
-use like_requests::{Op, PageRef, Request, SettingsFault, Setup, Verdict, check_setup, judge};
-use like_script::{Turned, check_script};
+use like_requests::{
+    Op, PageRef, Request, SettingsFault, Setup, Turned, Verdict, check_script, check_setup, judge,
+};
 use std::alloc::Global;
 use std::process::Abort;
 

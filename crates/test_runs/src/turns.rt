@@ -1,7 +1,7 @@
 //! The answers of each turn of a script.
 ghost use Rattle.std.specs.Prelude.{All, length};
 ghost use Rattle.like_requests.specs.Setup.{FitsRun};
-ghost use Rattle.like_script.specs.Fit.{IsInRun};
+ghost use Rattle.like_requests.specs.Script.{IsInRun};
 ghost use Rattle.like_roles.specs.coordinator.CoordTurns.{HasEndedJoined};
 ghost use Rattle.like_service.specs.Asked.{lists_of};
 ghost use Rattle.like_crew.specs.Crew.{AreGone, GoesOn};
@@ -15,10 +15,9 @@ use super::cases::{
 use like_crew::{Crew, Ended, Site, report_of};
 use like_queue::ListInbox;
 use like_replies::Report;
-use like_requests::{Request, Setup, check_setup};
+use like_requests::{Request, Setup, check_script, check_setup};
 use like_roles::{CoordTurn, Turn};
 use like_run::{MAX_ENTRIES, MAX_ROUNDS, Turned};
-use like_script::check_script;
 use std::alloc::Global;
 use std::fmt::Debug;
 use std::process::Abort;

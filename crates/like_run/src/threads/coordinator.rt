@@ -6,7 +6,7 @@ ghost use Rattle.like_crew.specs.Ended.{HaveLeft};
 use crate::threads::worker::{Owes, Served};
 use like_board::WorkerSeat;
 use like_crew::Captain;
-use like_lines::Parkers;
+use like_queue::Parkers;
 use like_roles::CoordTurn;
 use like_service::WorkerLog;
 use std::sync::{OnceToken, Wait};

@@ -1,8 +1,7 @@
 ghost use Rattle.std.specs.Prelude.{◌≡◌, ◌≤◌, true, [], length, vec_capacity};
-ghost use Rattle.like_lines.specs.Lines.{AreNewEnds};
+ghost use Rattle.like_queue.specs.Lines.{AreNewEnds};
 
-use like_lines::{Parkers, submit};
-use like_queue::SendEnd;
+use like_queue::{Parkers, SendEnd, submit};
 use like_roles::Gate;
 use std::sync::{OnceLock, Wait};
 use std::thread::{JoinHandle, Scope, Threads};

@@ -1,7 +1,6 @@
 //! How many rows are taken, and refused one past it.
 use crate::files::assert_that;
-use like_requests::{Pages, PagesFault, read_pages};
-use like_script::{ScriptFault, Turned, read_script};
+use like_requests::{Pages, PagesFault, ScriptFault, Turned, read_pages, read_script};
 use std::alloc::{AllocError, Global};
 use std::process::Abort;
 

@@ -1,7 +1,7 @@
 use Rattle.std.proofs.Common.{List, Vec, Global}
 use Rattle.like_records.specs.Rows.{Record}
-use Rattle.like_script.specs.File.{IsScriptFault, IsScriptFile}
-use Rattle.like_script.specs.declared.turned.Turned.{Turned}
+use Rattle.like_requests.specs.ScriptFile.{IsScriptFault, IsScriptFile}
+use Rattle.like_requests.specs.declared.script.Turned.{Turned}
 use Rattle.like_files.proofs.Planned.{of_records}
 use Rattle.like_files.proofs.replay.read_turns.Goals as goal
 

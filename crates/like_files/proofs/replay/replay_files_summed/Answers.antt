@@ -2,7 +2,7 @@ use Rattle.std.proofs.Common.{map, Option, Result, Ok, Err, IfErr, IfOk, List, â
 use Rattle.std.proofs.lemmas.Result.{err_from_is_err_and}
 use Rattle.like_requests.specs.Pages.{Page}
 use Rattle.like_requests.specs.declared.request.Request.{Request}
-use Rattle.like_script.specs.declared.turned.Turned.{Turned}
+use Rattle.like_requests.specs.declared.script.Turned.{Turned}
 use Rattle.like_service.specs.Asked.{lists_of}
 use Rattle.like_replies.specs.declared.summary.Summary.{Summary}
 use Rattle.like_command.specs.declared.options.Options.{Options}

@@ -7,10 +7,9 @@ ghost use Rattle.like_roles.specs.worker.Desk.{view_of, CanServe, HasRoomForOne,
 ghost use Rattle.like_roles.specs.worker.WorkerView.{is_look_at_sliced};
 ghost use Rattle.like_roles.specs.worker.Serve.{Likes, Runs, GivesReply};
 
-use crate::gate::Gate;
 use crate::worker::desk::{Desk, phase_of_run};
 use like_core::Post;
-use like_requests::{Op, PageRef, Verdict};
+use like_requests::{Gate, Op, PageRef, Verdict};
 use like_seat::Seat;
 use like_service::{Ran, Reply};
 use like_tables::Held;

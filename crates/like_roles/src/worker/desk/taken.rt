@@ -2,12 +2,11 @@ ghost use Rattle.std.specs.Prelude.{◌≡◌, ◌<◌, ◌≤◌, ◌+◌, ◌-
 ghost use Rattle.like_roles.specs.worker.Desk.{view_of, IsSound, IsTried};
 ghost use Rattle.like_roles.specs.worker.Turns.{CanGive, Gives, IsNext, TakesAsk};
 
-use crate::gate::Gate;
 use crate::turn::Turn;
 use crate::worker::desk::request::waits;
 use crate::worker::desk::{Desk, phase_of_run};
 use like_core::Post;
-use like_requests::{Numbered, Taken};
+use like_requests::{Gate, Numbered, Taken};
 use like_seat::Seat;
 use like_service::Took;
 use like_tables::Held;

@@ -6,12 +6,11 @@ ghost use Rattle.like_tables.specs.Share.{Share, submitter_of};
 ghost use Rattle.like_roles.specs.worker.Desk.{view_of, HasSubmitters, IsSettled, IsSound, WorksAt};
 ghost use Rattle.like_roles.specs.worker.Turns.{Turns};
 
-use crate::gate::Gate;
 use crate::turn::Turn;
 use crate::worker::desk::{Desk, phase_of_run};
 use crate::worker::places::next_place;
 use like_core::{Post, Sight};
-use like_requests::Verdict;
+use like_requests::{Gate, Verdict};
 use like_seat::Seat;
 use like_tables::Held;
 

@@ -1,5 +1,5 @@
 use Rattle.std.proofs.Common.{sym, subst}
-use Rattle.like_script.specs.declared.turned.Turned.{Turned}
+use Rattle.like_requests.specs.declared.script.Turned.{Turned}
 use Rattle.like_run.specs.Rounds.{CanMake}
 use Rattle.like_run.specs.Script.{Makes}
 use Rattle.like_run.proofs.rounds.make.Goals as goal

@@ -1,7 +1,7 @@
 use Rattle.std.proofs.Common.{◌≡◌, List, get_or, take, refl, sym, subst}
 use Rattle.std.proofs.lemmas.List.{take_all, take_more}
-use Rattle.like_script.specs.declared.turned.Turned.{Turned}
-use Rattle.like_script.specs.declared.turned.Turned.TheVariants.{OpenOne}
+use Rattle.like_requests.specs.declared.script.Turned.{Turned}
+use Rattle.like_requests.specs.declared.script.Turned.TheVariants.{OpenOne}
 use Rattle.like_crew.proofs.Coordinated.{crew-further, crew-same}
 use Rattle.like_run.specs.Script.{MakesAll}
 use Rattle.like_run.proofs.Entries.{can-make-later}

@@ -9,9 +9,9 @@ use Rattle.like_requests.specs.declared.setup.Setup.{Setup}
 use Rattle.like_service.specs.declared.report.Report.{Report}
 use Rattle.like_run.specs.declared.rounds.fault.ReplayFault.{ReplayFault}
 use Rattle.like_run.specs.declared.rounds.fault.ReplayFault.TheVariants.{Settings, Memory, Unfinished}
-use Rattle.like_script.specs.declared.turned.Turned.{Turned}
+use Rattle.like_requests.specs.declared.script.Turned.{Turned}
 use Rattle.like_run.specs.Rounds.{CanReplayScript, IsReplayFaultUnderWay, IsReplayFault}
-use Rattle.like_script.specs.Fit.{IsFirstAway, IsInRun}
+use Rattle.like_requests.specs.Script.{IsFirstAway, IsInRun}
 use Rattle.like_run.proofs.rounds.replay_noting.Goals as goal
 
 abbrev requests_of : Vec Request Global → List Request

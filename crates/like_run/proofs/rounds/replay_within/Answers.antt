@@ -2,7 +2,7 @@ use Rattle.std.proofs.Common.{List, Vec, Global, get_or, sym, subst}
 use Rattle.std.proofs.lemmas.List.{length-map}
 use Rattle.like_requests.specs.Setup.{FitsRun}
 use Rattle.like_requests.specs.declared.request.Request.{Request}
-use Rattle.like_script.specs.Fit.{IsInRun}
+use Rattle.like_requests.specs.Script.{IsInRun}
 use Rattle.like_service.specs.Asked.{lists_of}
 use Rattle.like_crew.specs.Ended.{IsEnded}
 use Rattle.like_crew.specs.Site.{IsSite}

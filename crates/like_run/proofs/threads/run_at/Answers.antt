@@ -19,8 +19,8 @@ use Rattle.like_crew.proofs.Asked.{requests_of}
 use Rattle.like_crew.proofs.Ending.{as-many, has-ended}
 use Rattle.like_crew.proofs.Makings.{all-small, are-untouched, plans-are}
 use Rattle.like_service.specs.declared.run_fault.RunFault.{RunFault}
-use Rattle.like_lines.specs.declared.lines.Lines.{Lines}
-use Rattle.like_lines.specs.Lines.{AreLines, new_sender, new_taker}
+use Rattle.like_queue.specs.declared.lines.Lines.{Lines}
+use Rattle.like_queue.specs.Lines.{AreLines, new_sender, new_taker}
 use Rattle.like_run.specs.Threads.{HasEndedOn}
 use Rattle.like_run.proofs.Lines.{ends-new, inboxes-of, many-ends}
 use Rattle.like_run.proofs.threads.run_at.Goals as goal

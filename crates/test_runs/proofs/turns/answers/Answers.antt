@@ -4,7 +4,7 @@ use Rattle.std.specs.Prelude.{MatchResult}
 use Rattle.like_requests.proofs.Planned.{fits-run}
 use Rattle.like_requests.specs.Setup.{IsFirstBroken, IsWithinLimits}
 use Rattle.like_requests.specs.declared.request.Request.{Request}
-use Rattle.like_script.specs.Fit.{IsFirstAway, IsInRun}
+use Rattle.like_requests.specs.Script.{IsFirstAway, IsInRun}
 use Rattle.test_runs.proofs.turns.answers.Goals as goal
 
 abbrev requests_of : Vec Request Global → List Request

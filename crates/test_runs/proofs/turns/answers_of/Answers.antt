@@ -1,5 +1,5 @@
 use Rattle.std.proofs.Common.{get_or}
-use Rattle.like_script.specs.declared.turned.Turned.TheVariants.{OpenOne}
+use Rattle.like_requests.specs.declared.script.Turned.TheVariants.{OpenOne}
 use Rattle.like_crew.proofs.Coordinated.{crew-further, crew-same}
 use Rattle.like_run.proofs.Entries.{can-make-later}
 use Rattle.test_runs.proofs.turns.answers_of.Goals as goal

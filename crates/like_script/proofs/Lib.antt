@@ -1,2 +1,0 @@
-pub mod FirstAway
-pub mod ScriptRead

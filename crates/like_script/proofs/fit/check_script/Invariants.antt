@@ -1,7 +1,0 @@
-use Rattle.std.proofs.Common.{ℕ, ◌<◌, slice_index_or}
-use Rattle.like_script.specs.declared.turned.Turned.{Turned}
-use Rattle.like_script.specs.Fit.{IsInRun}
-use Rattle.like_script.proofs.fit.check_script.Given as goal
-
-abbrev pub invariant-loop-at : goal.invariant-loop-at
-invariant-loop-at l = (k : ℕ) (d : Turned) → k < l.at → IsInRun l.workers l.submitters (slice_index_or l.script k d)
