@@ -1,16 +1,17 @@
-ghost use Rattle.std.specs.Prelude.{◌≡◌, ◌<◌, IfOk, length, map, true};
+ghost use Rattle.std.specs.Prelude.{◌≡◌, ◌<◌, ◌≤◌, All, IfOk, length, map, true};
+ghost use Rattle.like_limits.specs.Limits.{max_requests};
+ghost use Rattle.like_queue.specs.Inbox.{view_of};
 ghost use Rattle.like_requests.specs.Setup.{FitsRun};
 ghost use Rattle.std.specs.List.{AllZip};
 ghost use Rattle.like_roles.specs.coordinator.CoordTurns.{CoordTurns, HasEndedJoined};
 ghost use Rattle.like_service.specs.Asked.{lists_of};
 ghost use Rattle.like_crew.specs.Crew.{AreGone, GoesOn, HasInbox, IsCrew};
 ghost use Rattle.like_crew.specs.Ended.{HasEnded};
-ghost use Rattle.like_crew.specs.Server.{AreUntouched, plans_of};
+ghost use Rattle.like_crew.specs.Server.{AreUntouched, plans_of, untouched};
 ghost use Rattle.like_crew.specs.ServerTurns.{OpensAll, ServerTurns};
 ghost use Rattle.like_crew.specs.Site.{AreSeats, IsSite};
 ghost use Rattle.like_crew.specs.Steps.{AtServer, IsRound, OpensMore};
 
-use crate::crew::lists::list_inboxes;
 use crate::crew::new_servers::servers_of;
 use crate::crew::servers::{finish_all, open_all, open_one, turn_of, turns};
 use crate::ended::Ended;
@@ -23,7 +24,6 @@ use std::alloc::{AllocError, Global};
 
 mod captain;
 mod hands;
-mod lists;
 mod new_servers;
 mod server;
 mod servers;
@@ -155,4 +155,16 @@ impl<'a> Crew<'a, ListInbox> {
     {
         open_all(&mut self.servers);
     }
+}
+
+// The inboxes of plans, of which nothing is open.
+fn list_inboxes(alloc: Global, plans: Vec<Vec<Request>>) -> Result<Vec<ListInbox>, AllocError>
+    requires { All (λ plan. length plan.items ≤ max_requests) plans.items }
+    ensures { IfOk result (λ inboxes. map view_of inboxes.items ≡ map untouched (lists_of plans.items)) }
+{
+    let mut inboxes = Vec::new(alloc);
+    for plan in plans {
+        inboxes.push(ListInbox::new(plan))?;
+    }
+    Ok(inboxes)
 }

@@ -2,7 +2,7 @@ use Rattle.std.proofs.Common.{◌≡◌, map}
 use Rattle.like_queue.specs.Inbox.{view_of}
 use Rattle.like_service.specs.Asked.{lists_of}
 use Rattle.like_crew.specs.Server.{untouched}
-use Rattle.like_crew.proofs.crew.lists.list_inboxes.Given as goal
+use Rattle.like_crew.proofs.crew.list_inboxes.Given as goal
 
 abbrev pub invariant-loop-plan : goal.invariant-loop-plan
 invariant-loop-plan l = map view_of l.inboxes.items ≡ map untouched (lists_of l.yielded)
