@@ -8,8 +8,7 @@ use Rattle.like_core.specs.declared.view.PhaseMask.{PhaseMask}
 use Rattle.like_board.specs.declared.board.Board.{Board}
 use Rattle.like_board.specs.declared.coord_seat.CoordSeat.{CoordSeat}
 use Rattle.like_board.specs.declared.worker_seat.WorkerSeat.{WorkerSeat}
-use Rattle.like_board.specs.declared.board_post.BoardPost.{BoardPost}
-use Rattle.like_board.specs.declared.shared_post.SharedPost.{SharedPost}
+use Rattle.like_board.specs.declared.post.PostAt.{PostAt}
 use Rattle.like_core.specs.Additions.{added_before}
 use Rattle.like_core.specs.Post.{PostView, IsFresh, additions_of}
 use Rattle.like_core.specs.views.Views.{fresh, post_of}
@@ -43,11 +42,11 @@ abbrev pub seat_view : WorkerSeat → WorkerSeatView
 seat_view seat = worker_view_of seat.seat.me.0
 
 -- the board of a post
-abbrev pub post_board : BoardPost → TableId
+abbrev pub post_board : {B : Type 0} {held : _} → PostAt B held → TableId
 post_board post = seat_board post.seat
 
 -- what a post knows
-abbrev pub post_view : BoardPost → WorkerSeatView
+abbrev pub post_view : {B : Type 0} {held : _} → PostAt B held → WorkerSeatView
 post_view post = seat_view post.seat
 
 -- the numbers that tell boards apart
@@ -60,20 +59,8 @@ abbrev pub seat_meaning : WorkerSeat → PostView
 seat_meaning seat = record (post_of (seat_view seat)) { board = board_numbers (seat_board seat) }
 
 -- what a post means
-abbrev pub post_meaning : BoardPost → PostView
+abbrev pub post_meaning : {B : Type 0} {held : _} → PostAt B held → PostView
 post_meaning post = seat_meaning post.seat
-
--- the board of a shared post
-abbrev pub shared_board : SharedPost → TableId
-shared_board post = seat_board post.seat
-
--- what it knows
-abbrev pub shared_view : SharedPost → WorkerSeatView
-shared_view post = seat_view post.seat
-
--- what it means
-abbrev pub shared_meaning : SharedPost → PostView
-shared_meaning post = seat_meaning post.seat
 
 -- the seats of the workers of a board in order, none of which made a step yet
 abbrev pub AreFresh : TableId → Opening → List WorkerSeat → Type 0

@@ -3,19 +3,19 @@
 #![tactic(auto)]
 
 mod board;
-mod board_post;
 mod closed_board;
 mod coord_seat;
+mod holder;
 mod key;
 mod layout;
 mod new_seats;
 mod plays;
+mod post;
 mod rule;
-mod shared_post;
 mod worker_seat;
 
 pub use board::Board;
-pub use board_post::BoardPost;
 pub use coord_seat::CoordSeat;
-pub use shared_post::SharedPost;
+pub use holder::HoldsBoard;
+pub use post::{BoardPost, PostAt, SharedPost};
 pub use worker_seat::WorkerSeat;

@@ -6,12 +6,11 @@ ghost use Rattle.like_core.specs.views.Layout.{word_of};
 ghost use Rattle.like_board.specs.Known.{worker_view_of};
 
 use crate::board::Board;
-use crate::board_post::BoardPost;
 use crate::layout::{MASK_WORD, PHASE_WORD, word_of};
 use crate::plays::{
     Acknowledging, Adding, Glancing, Looking, Reading, ReadingMask, Reporting, Retiring,
 };
-use crate::shared_post::SharedPost;
+use crate::post::{BoardPost, PostAt, SharedPost};
 use atomic_table::Seat;
 use like_core::{PhaseWord, Sight, View};
 use std::sync::Arc;
@@ -41,7 +40,7 @@ impl WorkerSeat {
     ghost use Rattle.like_core.specs.Additions.{added_to};
     ghost use Rattle.like_core.specs.views.Views.{looked_view, answered_view, retired_view, added_view, read_view, glanced_view, masked_view};
     ghost use Rattle.like_core.specs.views.Actions.{Looks, Acknowledges, Reports, Retires, Adds, Reads, Glances, ReadsMask};
-    ghost use Rattle.like_board.specs.Seats.{board_id, seat_board, seat_view, seat_meaning, post_board, post_view, post_meaning, shared_board, shared_view, shared_meaning};
+    ghost use Rattle.like_board.specs.Seats.{board_id, seat_board, seat_view, seat_meaning, post_board, post_view, post_meaning};
 
     /// Takes the seat to its board.
     pub fn at(self, board: &Board) -> BoardPost<'_>
@@ -50,17 +49,17 @@ impl WorkerSeat {
         ensures view { post_view result ≡ seat_view self }
         ensures meaning { post_meaning result ≡ seat_meaning self }
     {
-        BoardPost { board, seat: self }
+        PostAt { board, seat: self }
     }
 
     /// The same at a board that the post owns together with others.
     pub fn at_shared(self, board: Arc<Board>) -> SharedPost
         requires { seat_board self ≡ board_id (arc_value board) }
-        ensures board { shared_board result ≡ seat_board self }
-        ensures view { shared_view result ≡ seat_view self }
-        ensures meaning { shared_meaning result ≡ seat_meaning self }
+        ensures board { post_board result ≡ seat_board self }
+        ensures view { post_view result ≡ seat_view self }
+        ensures meaning { post_meaning result ≡ seat_meaning self }
     {
-        for_any_thread(SharedPost { board, seat: self })
+        for_any_thread(PostAt { board, seat: self })
     }
 
     #[inline(always)]

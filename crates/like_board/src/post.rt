@@ -1,32 +1,40 @@
 ghost use Rattle.std.specs.Prelude.{◌≡◌, ◌<◌, ◌≢◌, ◌≤◌};
 
 use crate::board::Board;
+use crate::holder::HoldsBoard;
 use crate::worker_seat::WorkerSeat;
 use like_core::{Post, Sight};
+use std::sync::Arc;
 
 /// A worker's seat at its board. Each call is one step on one of the board's words, and none waits.
 #[derive(Drop)]
-pub struct BoardPost<'a> {
-    pub(crate) board: &'a Board,
+pub struct PostAt<B: HoldsBoard> {
+    pub(crate) board: B,
     pub(crate) seat: WorkerSeat,
-    ghost here: { seat.seat.table_id ≡ board.now.table.shared.table_id },
+    ghost here: { seat.seat.table_id ≡ B.held board },
 }
 
-impl BoardPost<'_> {
+/// At a board that it borrows.
+pub type BoardPost<'a> = PostAt<&'a Board>;
+
+/// At a board that it owns together with others. It borrows nothing, so any thread may take it.
+pub type SharedPost = PostAt<Arc<Board>>;
+
+impl<B: HoldsBoard + Drop> PostAt<B> {
     ghost use Rattle.like_board.specs.Seats.{seat_board, seat_view, seat_meaning, post_board, post_view, post_meaning};
 
     /// Gives the seat back.
     pub fn back(self) -> WorkerSeat
-        ensures board { seat_board result ≡ post_board self.entry }
-        ensures view { seat_view result ≡ post_view self.entry }
-        ensures meaning { seat_meaning result ≡ post_meaning self.entry }
+        ensures board { seat_board result ≡ post_board self }
+        ensures view { seat_view result ≡ post_view self }
+        ensures meaning { seat_meaning result ≡ post_meaning self }
     {
-        let BoardPost { board: _, seat } = self;
+        let PostAt { board: _, seat } = self;
         seat
     }
 }
 
-impl Post for BoardPost<'_> {
+impl<B: HoldsBoard> Post for PostAt<B> {
     ghost use Rattle.like_core.specs.declared.worker_state.WorkerState.TheVariants.{Gone};
     ghost use Rattle.like_limits.specs.Limits.{total_bound};
     ghost use Rattle.like_core.specs.WorkerState.{RunsJoined, RunsSplit, SawEnding, IsSightWithin, SeesEndingStill, phase_of, seen};
@@ -37,6 +45,7 @@ impl Post for BoardPost<'_> {
 
     ghost view = { post_meaning };
 
+    #[inline(always)]
     fn look(&mut self) -> Sight
         requires { (post_meaning self.old).state ≢ Gone }
         ensures sight { let v = post_meaning self.old in IsSightWithin v.limits v.state result }
@@ -47,7 +56,7 @@ impl Post for BoardPost<'_> {
         ensures known { post_view self.new ≡ looked_view (post_view self.old) result }
         ensures event { Looks (post_view self.old) result (post_view self.new) }
     {
-        let board = self.board;
+        let board = self.board.board();
         self.seat.look(board)
     }
 
@@ -59,7 +68,7 @@ impl Post for BoardPost<'_> {
         ensures known { post_view self.new ≡ answered_view (post_view self.old) }
         ensures event { Acknowledges (post_view self.old) (post_view self.new) }
     {
-        let board = self.board;
+        let board = self.board.board();
         self.seat.acknowledge(board);
     }
 
@@ -71,7 +80,7 @@ impl Post for BoardPost<'_> {
         ensures known { post_view self.new ≡ answered_view (post_view self.old) }
         ensures event { Reports (post_view self.old) (post_view self.new) }
     {
-        let board = self.board;
+        let board = self.board.board();
         self.seat.report(board);
     }
 
@@ -82,10 +91,11 @@ impl Post for BoardPost<'_> {
         ensures known { post_view self.new ≡ retired_view (post_view self.old) }
         ensures event { Retires (post_view self.old) (post_view self.new) }
     {
-        let board = self.board;
+        let board = self.board.board();
         self.seat.retire(board);
     }
 
+    #[inline(always)]
     fn add(&mut self, page: u32, n: u64) -> u64
         requires { MayAdd (post_meaning self.old) page n }
         ensures view { post_meaning self.new ≡ added (post_meaning self.old) page result n }
@@ -94,10 +104,11 @@ impl Post for BoardPost<'_> {
         ensures known { post_view self.new ≡ added_view (post_view self.old) page result n }
         ensures event { Adds (post_view self.old) page n result (post_view self.new) }
     {
-        let board = self.board;
+        let board = self.board.board();
         self.seat.add(board, page, n)
     }
 
+    #[inline(always)]
     fn read(&mut self, page: u32) -> u64
         requires { MayRead (post_meaning self.old) page }
         ensures view { post_meaning self.new ≡ has_read (post_meaning self.old) page result }
@@ -106,10 +117,11 @@ impl Post for BoardPost<'_> {
         ensures known { post_view self.new ≡ read_view (post_view self.old) page result }
         ensures event { Reads (post_view self.old) page result (post_view self.new) }
     {
-        let board = self.board;
+        let board = self.board.board();
         self.seat.read(board, page)
     }
 
+    #[inline(always)]
     fn glance(&mut self, page: u32) -> u64
         requires { MayGlance (post_meaning self.old) page }
         ensures view { post_meaning self.new ≡ has_glanced (post_meaning self.old) page result }
@@ -119,7 +131,7 @@ impl Post for BoardPost<'_> {
         ensures known { post_view self.new ≡ glanced_view (post_view self.old) page result }
         ensures event { Glances (post_view self.old) page result (post_view self.new) }
     {
-        let board = self.board;
+        let board = self.board.board();
         self.seat.glance(board, page)
     }
 
@@ -130,7 +142,7 @@ impl Post for BoardPost<'_> {
         ensures known { post_view self.new ≡ masked_view (post_view self.old) result }
         ensures event { ReadsMask (post_view self.old) result (post_view self.new) }
     {
-        let board = self.board;
+        let board = self.board.board();
         self.seat.hot(board)
     }
 }
