@@ -45,6 +45,10 @@ total_bound = 2 ^ 63
 abbrev pub hot_pages : ℕ
 hot_pages = 64
 
+-- the most marked pages of a live service
+abbrev pub max_marks : ℕ
+max_marks = 64
+
 -- the most likes that may be asked of a page before it is chosen as hot
 abbrev pub max_hot : ℕ
 max_hot = 1000000

@@ -7,6 +7,7 @@ pub mod Closing
 pub mod Finding
 pub mod Gone
 pub mod Histories
+pub mod Marking
 pub mod Moments
 pub mod Keeping
 pub mod Moving

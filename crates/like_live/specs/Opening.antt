@@ -1,7 +1,7 @@
 -- What a service may be opened with.
-use Rattle.std.specs.Prelude.{◌≡◌, ◌⊎◌, ℕ, ◌≤◌, ◌||◌, All, Bool, List, [], ◌∷◌, length, Option, is_some, ⊤}
-use Rattle.std.specs.List.{AllByRecursion, list_any}
-use Rattle.like_limits.specs.Limits.{max_count, max_pages, max_stash, max_workers}
+use Rattle.std.specs.Prelude.{◌≡◌, ◌≢◌, ◌⊎◌, ℕ, ◌<◌, ◌≤◌, ◌==◌, ◌||◌, All, AllPairs, Bool, List, [], ◌∷◌, length, map, Option, is_some, ⊤}
+use Rattle.std.specs.List.{AllByRecursion, list_any, range_with_len}
+use Rattle.like_limits.specs.Limits.{max_count, max_marks, max_pages, max_stash, max_workers}
 use Rattle.like_core.specs.OpeningLimits.{service_limits}
 use Rattle.like_core.specs.core.State.{opening_with}
 use Rattle.like_core.specs.declared.opening.Opening.{Opening as CoreOpening}
@@ -14,7 +14,7 @@ use Rattle.like_live.specs.declared.opening.Opening.{Opening}
 -- what is asked for
 pub record Asking : Type 0 where
   pub counts : List ℕ
-  pub marks : List Bool
+  pub marks : List ℕ
   pub seats : ℕ
   pub users : ℕ
   pub room : ℕ
@@ -31,10 +31,10 @@ asking o = record {
   hot = o.hot;
 }
 
--- the numbers that are tested: of the marks only how many there are
+-- the numbers that are tested
 pub record Numbers : Type 0 where
   pub counts : List ℕ
-  pub marks : ℕ
+  pub marks : List ℕ
   pub seats : ℕ
   pub users : ℕ
   pub room : ℕ
@@ -43,17 +43,23 @@ pub record Numbers : Type 0 where
 abbrev pub numbers_of : Asking → Numbers
 numbers_of a = record {
   counts = a.counts;
-  marks = length a.marks;
+  marks = a.marks;
   seats = a.seats;
   users = a.users;
   room = a.room;
   hot = a.hot;
 }
 
+-- these can be marked, of so many pages: a few, and no two alike
+pub record AreMarks (pages : ℕ) (marks : List ℕ) : Type 0 where
+  pub few : length marks ≤ max_marks
+  pub there : All (λ page. page < pages) marks
+  pub unlike : AllPairs (λ page other. page ≢ other) marks
+
 -- the limit that this error says is broken
 abbrev pub Holds : Numbers → OpenError → Type 0
 Holds n Pages = (1 ≤ length n.counts) × (length n.counts ≤ max_pages)
-Holds n Marks = n.marks ≡ length n.counts
+Holds n Marks = AreMarks (length n.counts) n.marks
 Holds n Counts = All (λ count. count ≤ max_count) n.counts
 Holds n Seats = (1 ≤ n.seats) × (n.seats ≤ max_workers)
 Holds n Users = 1 ≤ n.users
@@ -87,6 +93,11 @@ IsRefused o = IsRefusedFor (numbers_of (asking o))
 abbrev pub splits_by : List Bool → Option ℕ → Bool
 splits_by marks hot = list_any (λ mark. mark) marks || is_some hot
 
+-- whether each of so many pages is marked
+abbrev pub marks_by : ℕ → List ℕ → List Bool
+marks_by pages marks = map (λ page. list_any (λ marked. marked == page) marks) (range_with_len 0 pages)
+
 -- the opening of the service's board
 abbrev pub board_opening : Opening → CoreOpening
-board_opening o = opening_with service_limits o.seats o.counts.items o.marks.items
+board_opening o =
+    opening_with service_limits o.seats o.counts.items (marks_by (length o.counts.items) o.marks.items)

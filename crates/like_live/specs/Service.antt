@@ -12,7 +12,7 @@ use Rattle.like_live.specs.declared.opening.Opening.{Opening}
 use Rattle.like_live.specs.declared.service.Service.{Service}
 use Rattle.like_live.specs.LiveView.{IsNewLive, IsSameSeat, LiveView, tally}
 use Rattle.like_live.specs.Driver.{DriverView, IsSameDriver, new_driver}
-use Rattle.like_live.specs.Opening.{IsWithinLimits}
+use Rattle.like_live.specs.Opening.{IsWithinLimits, board_opening}
 
 -- a seat of an opened service, by its number: it is new, at this board, and its users are those that are this number
 -- modulo the number of seats
@@ -20,7 +20,7 @@ pub record IsOpenedSeat (o : Opening) (board : BoardId) (number : ℕ) (s : Live
   pub here : s.seat.post.board ≡ board_numbers board
   pub worker : s.seat.post.worker ≡ number
   pub fresh : IsFresh s.seat.post
-  pub marks : s.seat.post.marks ≡ o.marks.items
+  pub marks : s.seat.post.marks ≡ (board_opening o).marks
   pub limits : s.seat.post.limits ≡ service_limits
   pub new : IsNewLive s.seat.post o.room (table_without_likes (share_of o.users o.seats o.seats number)) s
 

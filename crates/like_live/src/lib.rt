@@ -27,5 +27,5 @@ pub use laws::{
 };
 pub use live_seat::{LiveSeat, MAX_LIKES};
 pub use open_error::OpenError;
-pub use opening::Opening;
+pub use opening::{MAX_MARKS, Opening};
 pub use service::{NotAllGone, Service, calls_keep_seats};

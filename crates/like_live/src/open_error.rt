@@ -5,7 +5,7 @@ use thiserror::Error;
 pub enum OpenError {
     #[error("between 1 and 1,024 pages")]
     Pages,
-    #[error("one mark for each page")]
+    #[error("at most 64 marks, each a page, no two alike")]
     Marks,
     #[error("first counts of at most 10^18")]
     Counts,

@@ -1,18 +1,20 @@
-ghost use Rattle.std.specs.Prelude.{◌≡◌, ◌%◌, ◌≤◌, ◌↔◌, IsTrue, MatchResult};
-ghost use Rattle.std.specs.List.{list_any};
+ghost use Rattle.std.specs.Prelude.{◌≡◌, ◌≢◌, ◌%◌, ◌≤◌, ◌↔◌, AllPairs, IsTrue, MatchResult};
 ghost use Rattle.like_requests.specs.Setup.{IsHotLimit};
-ghost use Rattle.like_live.specs.Opening.{AreWithinLimits, IsFirstWrong, IsWithinLimits, Numbers, asking, numbers_of, splits_by};
+ghost use Rattle.like_live.specs.Opening.{AreMarks, AreWithinLimits, IsFirstWrong, IsWithinLimits, Numbers, asking, board_opening, numbers_of, splits_by};
 
 use crate::open_error::OpenError;
 use like_requests::{MAX_COUNT, MAX_HOT, MAX_PAGES, MAX_STASH, MAX_WORKERS};
+
+/// The most marked pages: those that are split in every split phase.
+pub const MAX_MARKS: usize = 64;
 
 /// What a service is opened with.
 #[derive(Debug, Drop)]
 pub struct Opening {
     /// Each page's first count: 1 to 1,024 pages, each count at most 10^18.
     pub counts: Vec<u64>,
-    /// Whether each page is split in every split phase.
-    pub marks: Vec<bool>,
+    /// The numbers of the pages that are split in every split phase: at most 64, no two alike, in any order.
+    pub marks: Vec<u32>,
     /// How many seats there are: 1 to 16.
     pub seats: u32,
     /// How many users there are, at least one. User `u` belongs to seat `u mod seats`.
@@ -28,10 +30,9 @@ impl Opening {
     pub fn check(&self) -> Result<(), OpenError>
         ensures { MatchResult result (λ _. IsWithinLimits self.now) (IsFirstWrong (numbers_of (asking self.now))) }
     {
-        let marks = self.marks.len();
         Opening::check_numbers(
             &self.counts,
-            marks,
+            &self.marks,
             self.seats,
             self.users,
             self.room,
@@ -39,24 +40,24 @@ impl Opening {
         )
     }
 
-    /// Tests the same of an opening that is not made yet, and would have so many marks.
+    /// Tests the same of an opening that is not made yet.
     pub fn check_numbers(
         counts: &[u64],
-        marks: usize,
+        marks: &[u32],
         seats: u32,
         users: u32,
         room: u32,
         hot: Option<u32>,
     ) -> Result<(), OpenError>
         ensures { let numbers : Numbers =
-            record { counts = counts.now; marks = marks; seats = seats; users = users; room = room; hot = hot } in
+            record { counts = counts.now; marks = marks.now; seats = seats; users = users; room = room; hot = hot } in
             MatchResult result (λ _. AreWithinLimits numbers) (IsFirstWrong numbers) }
     {
         let pages = counts.len();
         if pages < 1 || pages > MAX_PAGES as usize {
             return Err(OpenError::Pages);
         }
-        if marks != pages {
+        if !are_marks(marks, pages) {
             return Err(OpenError::Marks);
         }
         if !counts.iter().all(|count| *count <= MAX_COUNT) {
@@ -87,9 +88,10 @@ impl Opening {
 
     /// Whether something would be split in a split phase: a page is marked, or pages can be hot.
     pub(crate) fn splits_some(&self) -> bool
-        ensures { result ≡ splits_by self.now.marks.items self.now.hot }
+        requires { IsWithinLimits self.now }
+        ensures { result ≡ splits_by (board_opening self.now).marks self.now.hot }
     {
-        any_marked(&self.marks) || self.hot.is_some()
+        !self.marks.is_empty() || self.hot.is_some()
     }
 }
 
@@ -103,9 +105,23 @@ fn is_hot_limit(hot: Option<u32>) -> bool
     }
 }
 
-// Whether a page is marked.
-fn any_marked(marks: &[bool]) -> bool
-    ensures { result ≡ list_any (λ mark. mark) marks.now }
+// Whether these can be marked, of so many pages.
+fn are_marks(marks: &[u32], pages: usize) -> bool
+    ensures { IsTrue result ↔ AreMarks pages marks.now }
 {
-    marks.iter().any(|mark| *mark)
+    marks.len() <= MAX_MARKS
+        && marks.iter().all(|page| (*page as usize) < pages)
+        && are_unlike(marks)
+}
+
+// Whether no two of these are alike.
+fn are_unlike(pages: &[u32]) -> bool
+    ensures { IsTrue result ↔ AllPairs (λ page other. page ≢ other) pages.now }
+{
+    for later in 0..pages.len() {
+        if pages[..later].contains(&pages[later]) {
+            return false;
+        }
+    }
+    true
 }

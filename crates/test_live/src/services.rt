@@ -11,7 +11,7 @@ use std::test::Fail;
 #[derive(Clone, Copy)]
 struct Numbers {
     counts: &'static [u64],
-    marks: &'static [bool],
+    marks: &'static [u32],
     seats: u32,
     users: u32,
     room: u32,
@@ -21,7 +21,7 @@ struct Numbers {
 // Two pages, the first of them marked, with 10 and 20 likes, and users 0 to 3.
 const PLAIN: Numbers = Numbers {
     counts: &[10, 20],
-    marks: &[true, false],
+    marks: &[0],
     seats: 2,
     users: 4,
     room: 2,
@@ -77,7 +77,14 @@ const WRONG: &[(Numbers, OpenError)] = &[
     (WRONG_COUNTS, OpenError::Counts),
     (
         Numbers {
-            marks: &[],
+            marks: &[0, 2],
+            ..WRONG_COUNTS
+        },
+        OpenError::Marks,
+    ),
+    (
+        Numbers {
+            marks: &[1, 0, 1],
             ..WRONG_COUNTS
         },
         OpenError::Marks,
@@ -85,7 +92,6 @@ const WRONG: &[(Numbers, OpenError)] = &[
     (
         Numbers {
             counts: &[],
-            marks: &[],
             ..PLAIN
         },
         OpenError::Pages,
@@ -130,7 +136,7 @@ fn refuses_wrong_numbers(rt: HostRuntime) -> Result<(), Fail> {
 const AT_LIMITS: &[Numbers] = &[
     Numbers {
         counts: &[0],
-        marks: &[false],
+        marks: &[],
         seats: 1,
         users: 1,
         room: 1,
@@ -138,7 +144,7 @@ const AT_LIMITS: &[Numbers] = &[
     },
     Numbers {
         counts: &[1_000_000_000_000_000_000; 1_024],
-        marks: &[true; 1_024],
+        marks: &[1_023, 0],
         seats: 16,
         users: 1,
         room: 4_096,
@@ -158,6 +164,28 @@ fn opens_at_each_limit(rt: HostRuntime) -> Result<(), Fail> {
         assert!(rt; service.seats.len() == numbers.seats as usize);
         assert!(rt; service.driver.pages() as usize == numbers.counts.len());
     }
+    Ok(())
+}
+
+// Whether a service of 100 pages is opened with so many of them marked, the last of these first.
+fn opens_with_marks(alloc: Global, many: u32) -> Result<bool, Fail> {
+    let numbers = Numbers {
+        counts: &[0; 100],
+        ..PLAIN
+    };
+    let mut opening = opening_of(alloc, &numbers)?;
+    opening.marks = (0..many).rev().collect(alloc)?;
+    match Service::open(alloc, &opening) {
+        Ok(_) => Ok(true),
+        Err(OpenError::Marks) => Ok(false),
+        Err(_) => Err(Fail::new("no service")),
+    }
+}
+
+#[test]
+fn opens_with_64_marks_at_most(rt: HostRuntime) -> Result<(), Fail> {
+    assert!(rt; opens_with_marks(rt.alloc(), 64)?);
+    assert!(rt; !opens_with_marks(rt.alloc(), 65)?);
     Ok(())
 }
 

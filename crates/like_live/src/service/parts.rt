@@ -1,10 +1,10 @@
 //! The parts of a service, as it is opened and closed.
-ghost use Rattle.std.specs.Prelude.{◌≡◌, ◌<◌, ◌↔◌, IfOk, IsTrue, length};
+ghost use Rattle.std.specs.Prelude.{◌≡◌, ◌<◌, ◌↔◌, All, IfOk, IsTrue, length};
 ghost use Rattle.std.specs.Arc.{arc_value};
 ghost use Rattle.like_board.specs.Seats.{AreFresh, board_id, seat_board, seat_meaning, seat_view};
 ghost use Rattle.like_core.specs.Post.{IsFresh};
 ghost use Rattle.like_core.specs.views.Views.{fresh};
-ghost use Rattle.like_live.specs.Opening.{IsWithinLimits, board_opening};
+ghost use Rattle.like_live.specs.Opening.{IsWithinLimits, board_opening, marks_by};
 ghost use Rattle.like_live.specs.Service.{AreGone, AreOpenedSeats, IsOpenedSeat, IsOpened};
 
 use crate::driver::Driver;
@@ -25,16 +25,29 @@ pub(crate) fn are_gone(seats: &[LiveSeat<SharedPost>]) -> bool
     seats.iter().all(|seat| seat.is_gone())
 }
 
+// Whether each of so many pages is marked, where the marked ones are told by number.
+fn marks_by(alloc: Global, pages: usize, marks: &[u32]) -> Result<Vec<bool>, AllocError>
+    requires { All (λ page. page < pages) marks.now }
+    ensures { IfOk result (λ by_page. by_page.items ≡ marks_by pages marks.now) }
+{
+    let mut by_page = Vec::from_elem(alloc, false, pages)?;
+    for page in marks {
+        by_page[*page as usize] = true;
+    }
+    Ok(by_page)
+}
+
 // A new service. All its room is made here.
 pub(crate) fn new_service(alloc: Global, opening: &Opening) -> Result<Service, AllocError>
     requires within { IsWithinLimits opening.now }
     ensures { IfOk result (IsOpened opening.now) }
 {
+    let marks = marks_by(alloc, opening.counts.len(), &opening.marks)?;
     let (board, coord, workers) = Board::with_limits(
         alloc,
         opening.seats,
         &opening.counts,
-        &opening.marks,
+        &marks,
         Limits::of_service(),
     )?;
     let board = Arc::new(alloc, board)?;
@@ -83,7 +96,7 @@ fn new_seat(
     ensures { IfOk result (IsOpenedSeat opening.now (board_id (arc_value board.now)) number) }
 {
     let post = worker.at_shared(Arc::try_clone(board)?);
-    let marks = Vec::from_slice(alloc, &opening.marks)?;
+    let marks = marks_by(alloc, opening.counts.len(), &opening.marks)?;
     let last = Users::new(alloc, opening.users, opening.seats, opening.seats, number)?;
     match LiveSeat::new(alloc, post, marks, opening.room, last, hint.share()?) {
         Ok(seat) => Ok(seat),

@@ -5,6 +5,7 @@ use Rattle.like_core.specs.declared.view.CoordSeatView.{CoordSeatView}
 use Rattle.like_board.specs.Seats.{coord_view}
 use Rattle.like_seat.specs.Lead.{LeadView}
 use Rattle.like_live.specs.Opening.{board_opening, splits_by}
+use Rattle.like_live.proofs.Marking.{length-marks_by}
 use Rattle.like_live.proofs.driver.Driver.new.Goals as goal
 
 pub invariant_of-result : goal.invariant_of-result
@@ -21,7 +22,8 @@ invariant_of-result c =
         pages_is = c.len.ensures ∙ o.counts.ok.0 ∙ sym (ap (λ (z : CoreOpening). length z.counts) opening);
         service = record {
           few_pages = subst (λ (z : CoreOpening). length z.counts ≤ max_pages) (sym opening) within.0.1;
-          marks = subst (λ (z : CoreOpening). length z.marks ≡ length z.counts) (sym opening) within.1.0;
+          marks = subst (λ (z : CoreOpening). length z.marks ≡ length z.counts) (sym opening)
+              (length-marks_by (length o.counts.items) o.marks.items);
           limits = ap (λ (z : CoreOpening). z.limits) opening;
         };
       },
