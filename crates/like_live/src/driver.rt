@@ -19,6 +19,7 @@ use crate::driver_answer::DriverAnswer;
 use crate::hint::Hint;
 use crate::live_seat::LiveSeat;
 use crate::opening::Opening;
+use crate::phase_now::PhaseNow;
 use like_board::{Board, CoordSeat, SharedPost, WorkerSeat};
 use like_seat::Lead;
 use std::alloc::{AllocError, Global};
@@ -38,6 +39,8 @@ pub struct Driver {
     /// How many pages there are.
     pages: u32,
     hint: Hint,
+    /// The phase, for other threads.
+    phase_now: PhaseNow,
     /// Whether last counts were written.
     is_over: bool,
     /// Room for the workers' seats that are given back at the end.
@@ -72,6 +75,7 @@ impl Driver {
         ensures { IfOk result (λ driver. driver ≡ new_driver opening.now (board_id (arc_value board))) }
     {
         let back = Vec::with_capacity(alloc, opening.seats as usize)?;
+        let phase_now = PhaseNow::new(alloc)?;
         match Lead::new(alloc, coord, opening.hot, &opening.counts) {
             Ok(lead) => Ok(Driver {
                 board,
@@ -79,6 +83,7 @@ impl Driver {
                 splits: opening.splits_some(),
                 pages: opening.counts.len() as u32,
                 hint,
+                phase_now,
                 is_over: false,
                 back,
             }),
@@ -98,13 +103,17 @@ impl Driver {
         if self.is_over {
             return DriverAnswer::Ended;
         }
-        act(
+        let answer = act(
             &mut self.lead,
             &self.board,
             &self.hint,
             self.splits,
             may_end,
-        )
+        );
+        if answer == DriverAnswer::Released {
+            self.phase_now.set(self.lead.phase());
+        }
+        answer
     }
 
     /// Writes the counts of the pages from one on, if a joined phase is ending and every seat has answered it or is
@@ -161,6 +170,11 @@ impl Driver {
         ensures { result ≡ self.now.lead.seat.phase }
     {
         self.lead.phase()
+    }
+
+    /// The phase for other threads, which read it without the driver (see `PhaseNow::share`).
+    pub fn phase_now(&self) -> Result<PhaseNow, AllocError> {
+        self.phase_now.share()
     }
 
     /// Whether there are so many pages from one on.

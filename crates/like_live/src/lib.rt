@@ -14,6 +14,7 @@ mod laws;
 mod live_seat;
 mod open_error;
 mod opening;
+mod phase_now;
 mod service;
 
 pub use answer::{GlanceAnswer, LikeAnswer, LookAnswer, TurnAnswer};
@@ -28,4 +29,5 @@ pub use laws::{
 pub use live_seat::{LiveSeat, MAX_LIKES};
 pub use open_error::OpenError;
 pub use opening::{MAX_MARKS, Opening};
+pub use phase_now::PhaseNow;
 pub use service::{NotAllGone, Service, calls_keep_seats};

@@ -2,7 +2,7 @@
 ghost use Rattle.std.specs.Prelude.{IfOk};
 ghost use Rattle.like_live.specs.Service.{AreItsSeats};
 
-use like_live::{OpenError, Opening, Service};
+use like_live::{DriverAnswer, OpenError, Opening, Service, TurnAnswer};
 use std::alloc::{AllocError, Global};
 use std::process::Abort;
 use std::test::Fail;
@@ -214,5 +214,27 @@ fn tells_the_seat_of_a_user(rt: HostRuntime) -> Result<(), Fail> {
     opening.seats = 2;
     assert!(rt; opening.seat_of(3) == 1);
     assert!(rt; opening.seat_of(2) == 0);
+    Ok(())
+}
+
+// It compiles only where any thread may hold and read the value.
+fn for_any_thread<T: Send + Sync>(_value: &T) {}
+
+// Another owner sees the phase that the driver releases, and still has it once the driver is dropped.
+#[test]
+fn tells_the_phase_to_another_owner(rt: HostRuntime) -> Result<(), Fail> {
+    let Service {
+        mut driver,
+        mut seats,
+    } = opened(rt.alloc(), 1, 2)?;
+    let phase = driver.phase_now()?;
+    let other = phase.share()?;
+    for_any_thread(&other);
+    assert!(rt; driver.turn(true) == DriverAnswer::Announced && other.get() == 0);
+    let mut seat = seats.pop().ok_or("no seat")?;
+    assert!(rt; seat.turn() == TurnAnswer::Between);
+    assert!(rt; driver.turn(true) == DriverAnswer::Released && other.get() == 1);
+    drop(driver);
+    assert!(rt; phase.get() == 1 && other.get() == 1);
     Ok(())
 }
