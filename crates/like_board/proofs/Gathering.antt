@@ -125,7 +125,7 @@ gathers z words views place other c v some_state at apart mine =
         rooms = λ page.
             let before = some_state.tallied.rooms page in
             let more = sum_by-cons (λ (w : WorkerSeatView). left_to z.limits.likes page w) v c.joined in
-            let same = sum_gathered (room z.limits.likes page) views place other c v at mine refl (omega arith) in
+            let same = sum_gathered (room z.limits page) views place other c v at mine refl (omega arith) in
             omega arith;
         past = λ phase page later.
             sum_gathered (before_in phase page) views place other c v at mine refl

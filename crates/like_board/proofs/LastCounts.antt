@@ -1,5 +1,5 @@
 -- What the last words are, in terms of the seats that were given back.
-use Rattle.std.proofs.Common.{◌≡◌, ℕ, zero, suc, ◌+◌, ◌<◌, ◌≤◌, ◌==◌, nat_lt, ◌&&◌, inl, inr, cond, List, [], ◌∷◌, ◌++◌, All, length, map, get_or, slice_index, count_by, Bool, IfSome, subst, ap, sym, ◌∙◌, refl, eq-eqb, arith}
+use Rattle.std.proofs.Common.{◌≡◌, ℕ, zero, suc, ◌+◌, ◌^◌, ◌<◌, ◌≤◌, ◌==◌, nat_lt, ◌&&◌, inl, inr, cond, List, [], ◌∷◌, ◌++◌, All, length, map, get_or, slice_index, count_by, Bool, IfSome, subst, ap, sym, ◌∙◌, refl, eq-eqb, arith}
 use Rattle.std.specs.List.{sum_by}
 use Rattle.std.proofs.lemmas.List.{append-nil, length-append}
 use Rattle.std.proofs.lemmas.List.Sums.{sum_by-cons}
@@ -13,7 +13,6 @@ use Rattle.like_core.specs.declared.view.WorkerSeatView.{WorkerSeatView}
 use Rattle.like_core.specs.declared.view.CoordSeatView.{CoordSeatView}
 use Rattle.like_core.specs.declared.view.View.{View}
 use Rattle.like_core.specs.declared.view.View.TheVariants.{Coord}
-use Rattle.like_limits.specs.Limits.{max_pages}
 use Rattle.like_core.specs.Post.{additions_of}
 use Rattle.like_core.specs.Additions.{added_to, added_before}
 use Rattle.like_core.specs.views.Views.{post_of, seats_of}
@@ -255,6 +254,11 @@ closes z words views place v c seats shows at_view back =
     k (seat_view (get_or seats k seat)) (at_mapped seat_view seats k seat below)
     in
     let old : FitsCoord z shows.state d = shows.shows.seats.each place (Coord d) at in
+    let few : length z.counts < 2 ^ 32 =
+    (let within = shows.shows.opening.few_pages in
+    let fits = shows.shows.opening.limits.pages in
+    omega arith)
+    in
     let past : (page : ℕ)
     → seats_before seats (c.phase + 1) page ≡ sum_by (λ seat. additions_of (seat_meaning seat) page) seats =
     λ page.
@@ -264,8 +268,7 @@ closes z words views place v c seats shows at_view back =
     sum_by-map seat_view (λ (w : WorkerSeatView). added_to page w.additions) seats)
     in (
       record {
-        few_pages = subst (λ (y : Opening). length y.counts ≤ max_pages)
-            (sym old.seats.opening) shows.shows.opening.few_pages;
+        few_pages = subst (λ (y : Opening). length y.counts < 2 ^ 32) (sym old.seats.opening) few;
         phases = λ k seat below.
             closed_phase z words views place d shows at k (seat_view (get_or seats k seat))
             (at_mapped seat_view seats k seat below);

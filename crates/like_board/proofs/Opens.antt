@@ -1,5 +1,5 @@
 -- What a new board shows.
-use Rattle.std.proofs.Common.{◌≡◌, ℕ, zero, suc, ◌<◌, ◌≤◌, nat_lt, Bool, false, List, [], ◌∷◌, All, length, get_or, subst, ap, sym, ◌∙◌, refl, arith, add-zero}
+use Rattle.std.proofs.Common.{◌≡◌, ℕ, zero, suc, ◌<◌, ◌-◌, ◌*◌, ◌≤◌, nat_lt, Bool, false, List, [], ◌∷◌, All, length, get_or, subst, ap, sym, ◌∙◌, refl, arith, add-zero}
 use Rattle.std.proofs.lemmas.Bool.{cond-true, lt-ltb, le-ltb}
 use Rattle.std.proofs.Math.Nat.{zero-mod}
 use Rattle.std.proofs.lemmas.List.Elements.{All-nil}
@@ -13,7 +13,7 @@ use Rattle.like_core.specs.declared.view.WorkerSeatView.{WorkerSeatView}
 use Rattle.like_core.specs.declared.view.CoordSeatView.{CoordSeatView}
 use Rattle.like_core.specs.declared.view.View.{View}
 use Rattle.like_core.specs.declared.view.View.TheVariants.{Coord}
-use Rattle.like_limits.specs.Limits.{max_count, max_pages, max_workers}
+use Rattle.like_limits.specs.Limits.{max_count}
 use Rattle.like_core.specs.OpeningLimits.{AreLimits}
 use Rattle.like_core.specs.core.Numbers.{AllIn}
 use Rattle.like_core.specs.word.Word.{packed}
@@ -112,7 +112,14 @@ opens z words opening width word pages mask_word =
           coordinator = All-nil (IsCounted z.counts (all_before (Coord c ∷ [])));
         };
       };
-      tallied = record { sums = λ page. refl; rooms = λ page. omega arith; past = λ phase page later. refl };
+      tallied = record {
+        sums = λ page. refl;
+        rooms = λ page.
+            let none_made : z.limits.seats - c.made ≡ z.limits.seats = omega arith in
+            let whole = ap (λ (n : ℕ). z.limits.likes * n) none_made in
+            omega arith;
+        past = λ phase page later. refl;
+      };
       places = places_open z.counts c refl;
     }
   where
@@ -151,9 +158,9 @@ pub opens_key : (key : Key) (counts : List ℕ) (marks : List Bool) (word : ℕ)
     → words ≡ items
     → AreFirst items word counts
     → 1 ≤ key.workers
-    → key.workers ≤ max_workers
+    → key.workers ≤ key.limits.seats
     → length marks ≡ length counts
-    → length counts ≤ max_pages
+    → length counts ≤ key.limits.pages
     → All (λ n. n ≤ max_count) counts
     → AreLimits key.limits
     → ShowsSome (opening_of key) words (first_view key ∷ [])
@@ -165,7 +172,7 @@ opens_key key counts marks word items words counts_are marks_are word_is words_a
     record {
       some_worker = some_worker;
       few_workers = few_workers;
-      few_pages = subst (λ (n : ℕ). n ≤ max_pages) (sym sized) few_pages;
+      few_pages = subst (λ (n : ℕ). n ≤ key.limits.pages) (sym sized) few_pages;
       marks = ap length marks_are ∙ (same_pages ∙ sym sized);
       counts = subst (All (λ (n : ℕ). n ≤ max_count)) (sym counts_are) low;
       limits = lawful;

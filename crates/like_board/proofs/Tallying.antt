@@ -5,11 +5,11 @@ use Rattle.std.proofs.lemmas.List.Sums.{sum_by_push}
 use mathlib.Core.Option.{some}
 use lib.ListN.{get_elem?}
 use Rattle.atomic_table.proofs.Lists.{at_snoc}
+use Rattle.like_core.specs.declared.limits.Limits.{Limits}
 use Rattle.like_core.specs.declared.opening.Opening.{Opening}
 use Rattle.like_core.specs.declared.view.CoordSeatView.{CoordSeatView}
 use Rattle.like_core.specs.declared.view.View.{View}
 use Rattle.like_core.specs.declared.view.View.TheVariants.{Coord, Worker}
-use Rattle.like_limits.specs.Limits.{max_workers}
 use Rattle.like_core.specs.core.State.{CoreState, Label}
 use Rattle.like_core.specs.views.Views.{fresh, made_coord}
 use Rattle.like_core.specs.views.Reads.{before_in}
@@ -19,22 +19,22 @@ use Rattle.like_core.proofs.views.KeptPlaces.{placed_nothing, places_push, place
 use Rattle.like_core.proofs.views.ViewLists.{sum_set, sum_swap}
 
 -- after a step that applies no like, with a new view that has the same additions
-pub tallied_on : (likes : ℕ) (s t : CoreState) (views : List View) (place : ℕ) (a b : View)
+pub tallied_on : (l : Limits) (s t : CoreState) (views : List View) (place : ℕ) (a b : View)
     → s.phase ≤ t.phase
     → ((page : ℕ) → t.applied page ≡ s.applied page)
     → get_elem? views place ≡ some a
     → ((page : ℕ) → paged page b ≡ paged page a)
-    → ((page : ℕ) → room likes page b ≡ room likes page a)
+    → ((page : ℕ) → room l page b ≡ room l page a)
     → ((phase page : ℕ) → before_in phase page b ≡ before_in phase page a)
-    → Tallied likes s views
-    → Tallied likes t (set views place b)
-tallied_on likes s t views place a b on applied at same_pages same_rooms same_before old = record {
+    → Tallied l s views
+    → Tallied l t (set views place b)
+tallied_on l s t views place a b on applied at same_pages same_rooms same_before old = record {
   sums = λ page.
-      ap (λ (l : List Label). length l) (applied page) ∙
+      ap (λ (ls : List Label). length ls) (applied page) ∙
       (old.sums page ∙ sym (sum_set (paged page) views place a b at (same_pages page)));
   rooms = λ page.
-      let sized = ap (λ (l : List Label). length l) (applied page) in
-      let same = sum_set (room likes page) views place a b at (same_rooms page) in
+      let sized = ap (λ (ls : List Label). length ls) (applied page) in
+      let same = sum_set (room l page) views place a b at (same_rooms page) in
       let before = old.rooms page in
       omega arith;
   past = λ phase page later.
@@ -43,20 +43,20 @@ tallied_on likes s t views place a b on applied at same_pages same_rooms same_be
 }
 
 -- so much room has one more worker
-room_of_one : (likes made : ℕ)
-    → made < max_workers
-    → likes * (max_workers - made) ≡ likes * (max_workers - (made + 1)) + likes
-room_of_one likes made few =
-    let rest : ℕ = max_workers - (made + 1) in
-    let more : max_workers - made ≡ suc rest = omega arith in
+room_of_one : (seats likes made : ℕ)
+    → made < seats
+    → likes * (seats - made) ≡ likes * (seats - (made + 1)) + likes
+room_of_one seats likes made few =
+    let rest : ℕ = seats - (made + 1) in
+    let more : seats - made ≡ suc rest = omega arith in
     ap (λ k. likes * k) more ∙ mul-suc likes rest
 
 -- after a worker's seat was made
 pub tallied_made : (z : Opening) (s : CoreState) (views : List View) (place : ℕ) (c : CoordSeatView)
     → get_elem? views place ≡ some (Coord c)
-    → c.made < 16
-    → Tallied z.limits.likes s views
-    → Tallied z.limits.likes s (set views place (Coord (made_coord c)) ++ Worker (fresh z c.made) ∷ [])
+    → c.made < z.limits.seats
+    → Tallied z.limits s views
+    → Tallied z.limits s (set views place (Coord (made_coord c)) ++ Worker (fresh z c.made) ∷ [])
 tallied_made z s views place c at few old =
     let d : CoordSeatView = made_coord c in
     let new : View = Worker (fresh z c.made) in
@@ -70,10 +70,10 @@ tallied_made z s views place c at few old =
           omega arith;
       rooms = λ page.
           let before = old.rooms page in
-          let swap = sum_swap (room z.limits.likes page) views place (Coord c) (Coord d) at in
-          let more = sum_by_push (room z.limits.likes page) changed new in
-          let all : room z.limits.likes page new ≡ z.limits.likes = omega arith in
-          let one = room_of_one z.limits.likes c.made few in
+          let swap = sum_swap (room z.limits page) views place (Coord c) (Coord d) at in
+          let more = sum_by_push (room z.limits page) changed new in
+          let all : room z.limits page new ≡ z.limits.likes = omega arith in
+          let one = room_of_one z.limits.seats z.limits.likes c.made few in
           omega arith;
       past = λ phase page later.
           let before = old.past phase page later in

@@ -1,9 +1,8 @@
 -- What is known of a board where all workers' seats were given back.
-use Rattle.std.specs.Prelude.{◌≡◌, ℕ, ◌<◌, ◌≤◌, All, List, [], length, map}
+use Rattle.std.specs.Prelude.{◌≡◌, ℕ, ◌^◌, ◌<◌, All, List, [], length, map}
 use Rattle.like_core.specs.declared.view.CoordSeatView.{CoordSeatView}
 use Rattle.like_core.specs.declared.view.View.{View}
 use Rattle.like_core.specs.declared.view.View.TheVariants.{Coord}
-use Rattle.like_limits.specs.Limits.{max_pages}
 use Rattle.like_core.specs.WorkerState.{SawNoLater}
 use Rattle.like_core.specs.views.Views.{gathered_all}
 use Rattle.like_core.specs.views.Layout.{word_of}
@@ -20,7 +19,7 @@ pub record HasAllBack (v : View) (c : CoordSeatView) (seats : List WorkerSeat) :
 -- what is known then: how many pages the board has; what the seats saw, added and read in which phases; and where they
 -- added
 pub record IsClosed (c : CoordSeatView) (seats : List WorkerSeat) : Type 0 where
-  pub few_pages : length c.opening.counts ≤ max_pages
+  pub few_pages : length c.opening.counts < 2 ^ 32
   pub phases : All (λ seat. SawNoLater c.phase (seat_meaning seat).last) seats
   pub added : HaveAddedWithin c.phase seats
   pub stand : HaveAddedBetween c.opening c.phase seats

@@ -58,9 +58,9 @@ impl Board {
         limits: Limits,
     ) -> Result<(Board, CoordSeat, Vec<WorkerSeat>), AllocError>
         requires some_worker { 1 ≤ workers }
-        requires few_workers { workers ≤ max_workers }
+        requires few_workers { workers ≤ limits.seats }
         requires same_pages { length split.now ≡ length counts.now }
-        requires few_pages { length counts.now ≤ max_pages }
+        requires few_pages { length counts.now ≤ limits.pages }
         requires counts { All (λ count. count ≤ max_count) counts.now }
         requires limits { AreLimits limits }
         ensures coord_here { IfOk result (λ r. coord_board r.1 ≡ board_id r.0) }

@@ -1,9 +1,8 @@
 //! How a board ends: all seats are given back, and the words are the last counts.
-ghost use Rattle.std.specs.Prelude.{◌≡◌, ℕ, ◌<◌, ◌≤◌, [], All, List, length, map, slice_index};
+ghost use Rattle.std.specs.Prelude.{◌≡◌, ℕ, ◌^◌, ◌<◌, [], All, List, length, map, slice_index};
 ghost use Rattle.like_core.specs.declared.view.CoordSeatView.{CoordSeatView};
 ghost use Rattle.like_core.specs.declared.view.View.TheVariants.{Coord};
 ghost use Rattle.like_core.specs.declared.worker_state.WorkerState.TheVariants.{Gone};
-ghost use Rattle.like_limits.specs.Limits.{max_pages};
 ghost use Rattle.like_core.specs.WorkerState.{SawNoLater};
 ghost use Rattle.like_core.specs.views.Layout.{word_of};
 ghost use Rattle.like_core.specs.views.Views.{gathered_all};
@@ -39,7 +38,7 @@ fn gather(board: &Board, coord: &mut Seat<(), View>, mut seats: Vec<WorkerSeat>)
 fn write_counts(board: &Board, coord: &mut Seat<(), View>, counts: &mut [u64])
     requires here { coord.old.table_id ≡ board_id board.now }
     requires sized { coord.old.table_id.words ≡ word_of (length counts.old) }
-    requires few_pages { length counts.old ≤ max_pages }
+    requires few_pages { length counts.old < 2 ^ 32 }
     ensures len { length counts.new ≡ length counts.old }
     ensures counts { (c : CoordSeatView) (seats : List WorkerSeat) → HasAllBack coord.old.me.0 c seats
         → length c.opening.counts ≡ length counts.old → (page : ℕ) → page < length counts.old

@@ -1,7 +1,6 @@
-ghost use Rattle.std.specs.Prelude.{◌≡◌, ◌≤◌, ◌↔◌, true, [], length, IsSome, IsTrue};
+ghost use Rattle.std.specs.Prelude.{◌≡◌, ◌^◌, ◌<◌, ◌≤◌, ◌↔◌, true, [], length, IsSome, IsTrue};
 ghost use Rattle.std.specs.Option.{option_map};
 ghost use Rattle.like_core.specs.declared.view.View.TheVariants.{Coord};
-ghost use Rattle.like_limits.specs.Limits.{max_pages};
 ghost use Rattle.like_core.specs.OpeningLimits.{AreLimits, number_of};
 ghost use Rattle.like_core.specs.word.Word.{packed};
 ghost use Rattle.like_core.specs.word.PhaseWord.{fields_of};
@@ -28,7 +27,7 @@ pub struct CoordSeat {
     ghost is_coord: { seat.me ≡ (Coord (coord_view_of seat.me.0), []) },
     ghost saw: { packed (fields_of seen) ≡ (coord_view_of seat.me.0).word },
     ghost sized: { seat.table_id.words ≡ word_of (length (coord_view_of seat.me.0).opening.counts) },
-    ghost few_pages: { length (coord_view_of seat.me.0).opening.counts ≤ max_pages },
+    ghost few_pages: { length (coord_view_of seat.me.0).opening.counts < 2 ^ 32 },
     ghost present: { phase ≡ (coord_view_of seat.me.0).phase },
     ghost within: { let c = coord_view_of seat.me.0 in IsSome c.last → c.phase ≤ limits.last_phase },
     ghost made_all: { (coord_view_of seat.me.0).made ≡ (coord_view_of seat.me.0).opening.workers },

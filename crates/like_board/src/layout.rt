@@ -1,6 +1,5 @@
 //! Where the words of a board stand in its table.
-ghost use Rattle.std.specs.Prelude.{◌≡◌, ℕ, ◌<◌, ◌≤◌, length, slice_index, IfOk};
-ghost use Rattle.like_limits.specs.Limits.{max_pages};
+ghost use Rattle.std.specs.Prelude.{◌≡◌, ℕ, ◌^◌, ◌<◌, length, slice_index, IfOk};
 ghost use Rattle.like_core.specs.views.Layout.{mask_place, phase_place, word_of};
 
 use std::alloc::{AllocError, Global};
@@ -35,7 +34,7 @@ pub(crate) fn first_words(
     phase_word: u64,
     counts: &[u64],
 ) -> Result<Vec<u64>, AllocError>
-    requires few_pages { length counts.now ≤ max_pages }
+    requires few_pages { length counts.now < 2 ^ 32 }
     ensures len { IfOk result (λ words. length words.items ≡ word_of (length counts.now)) }
     ensures phase_word { IfOk result (λ words. slice_index words.items phase_place ≡ phase_word) }
     ensures mask_word { IfOk result (λ words. slice_index words.items mask_place ≡ 0) }

@@ -12,6 +12,10 @@ pub struct Limits {
     pub likes: u64,
     /// The number in a phase word is the phase modulo this even number.
     pub modulus: u32,
+    /// The most pages.
+    pub pages: u32,
+    /// The most workers.
+    pub seats: u32,
 }
 
 impl Limits {
@@ -24,6 +28,8 @@ impl Limits {
             last_phase: u64::from(LAST_PHASE),
             likes: 64_000_000,
             modulus: 1 << 24,
+            pages: 1_024,
+            seats: 16,
         }
     }
 
@@ -36,6 +42,8 @@ impl Limits {
             last_phase: u64::MAX - 1,
             likes: 1 << 56,
             modulus: LAST_PHASE,
+            pages: 1 << 24,
+            seats: 16,
         }
     }
 

@@ -90,9 +90,9 @@ impl Core {
         limits: Limits,
     ) -> Result<Core, AllocError>
         requires some_worker { 1 ≤ workers }
-        requires few_workers { workers ≤ max_workers }
+        requires few_workers { workers ≤ limits.seats }
         requires same_pages { length split.now ≡ length counts.now }
-        requires few_pages { length counts.now ≤ max_pages }
+        requires few_pages { length counts.now ≤ limits.pages }
         requires counts { All (λ count. count < total_bound) counts.now }
         requires limits { AreLimits limits }
         ensures start { IfOk result (λ core.

@@ -3,7 +3,7 @@ use Rattle.std.proofs.Common.{Vec, Global, vec_capacity, ◌≡◌, ◌≤◌, l
 use Rattle.std.specs.Prelude.{IsSomeAnd}
 use Rattle.like_board.specs.Seats.{BoardId}
 use Rattle.like_board.specs.declared.worker_seat.WorkerSeat.{WorkerSeat}
-use Rattle.like_limits.specs.Limits.{max_pages}
+use Rattle.like_core.specs.OpeningLimits.{service_limits}
 use Rattle.like_core.specs.declared.opening.Opening.{Opening}
 use Rattle.like_core.specs.declared.sight.CoordSight.{CoordSight}
 use Rattle.like_core.specs.declared.view.CoordSeatView.{CoordSeatView}
@@ -155,7 +155,7 @@ last-same v w from old counts is_done (counted now looks _ is _ _) =
 -- the same driver is kept
 pub same-service : (v w : DriverView) → IsSameDriver v w → IsService v → IsService w
 same-service v w is service = record {
-  few_pages = subst (λ (z : Opening). length z.counts ≤ max_pages) (sym is.opening) service.few_pages;
+  few_pages = subst (λ (z : Opening). length z.counts ≤ service_limits.pages) (sym is.opening) service.few_pages;
   marks = subst (λ (z : Opening). length z.marks ≡ length z.counts) (sym is.opening) service.marks;
   limits = ap (λ (z : Opening). z.limits) is.opening ∙ service.limits;
 }

@@ -5,7 +5,6 @@ use Rattle.like_board.specs.Rule.{opened_coord}
 use Rattle.like_board.specs.Seats.{BoardId}
 use Rattle.like_board.specs.declared.worker_seat.WorkerSeat.{WorkerSeat}
 use Rattle.like_core.specs.declared.sight.CoordSight.{CoordSight}
-use Rattle.like_limits.specs.Limits.{max_pages}
 use Rattle.like_core.specs.OpeningLimits.{service_limits}
 use Rattle.like_core.specs.Phase.{IsJoined, IsSplit}
 use Rattle.like_core.specs.views.Places.{count_after}
@@ -161,9 +160,9 @@ LastCountsStay =
     → (is_done ≡ true) × ((i j : ℕ) → i < length counts → j < length later → from + i ≡ next + j
     → slice_index counts i ≡ slice_index later j)
 
--- what is true of every driver: its board has at most 1,024 pages and the limits of a service
+-- what is true of every driver: its board has the limits of a service, and no more pages than these allow
 pub record IsService (v : DriverView) : Type 0 where
-  pub few_pages : length v.lead.seat.opening.counts ≤ max_pages
+  pub few_pages : length v.lead.seat.opening.counts ≤ service_limits.pages
   pub marks : length v.lead.seat.opening.marks ≡ length v.lead.seat.opening.counts
   pub limits : v.lead.seat.opening.limits ≡ service_limits
 

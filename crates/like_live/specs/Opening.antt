@@ -1,7 +1,7 @@
 -- What a service may be opened with.
 use Rattle.std.specs.Prelude.{◌≡◌, ◌≢◌, ◌⊎◌, ℕ, ◌<◌, ◌≤◌, ◌==◌, ◌||◌, All, AllPairs, Bool, List, [], ◌∷◌, length, map, Option, is_some, ⊤}
 use Rattle.std.specs.List.{AllByRecursion, list_any, range_with_len}
-use Rattle.like_limits.specs.Limits.{max_count, max_marks, max_pages, max_stash, max_workers}
+use Rattle.like_limits.specs.Limits.{max_count, max_marks, max_stash}
 use Rattle.like_core.specs.OpeningLimits.{service_limits}
 use Rattle.like_core.specs.core.State.{opening_with}
 use Rattle.like_core.specs.declared.opening.Opening.{Opening as CoreOpening}
@@ -58,10 +58,10 @@ pub record AreMarks (pages : ℕ) (marks : List ℕ) : Type 0 where
 
 -- the limit that this error says is broken
 abbrev pub Holds : Numbers → OpenError → Type 0
-Holds n Pages = (1 ≤ length n.counts) × (length n.counts ≤ max_pages)
+Holds n Pages = (1 ≤ length n.counts) × (length n.counts ≤ service_limits.pages)
 Holds n Marks = AreMarks (length n.counts) n.marks
 Holds n Counts = All (λ count. count ≤ max_count) n.counts
-Holds n Seats = (1 ≤ n.seats) × (n.seats ≤ max_workers)
+Holds n Seats = (1 ≤ n.seats) × (n.seats ≤ service_limits.seats)
 Holds n Users = 1 ≤ n.users
 Holds n Room = (1 ≤ n.room) × (n.room ≤ max_stash)
 Holds n Hot = IsHotLimit n.hot

@@ -1,6 +1,6 @@
 ghost use Rattle.std.specs.Prelude.{◌≡◌, ◌≤◌, ◌↔◌, ℕ, IfOk, IfSome, IsTrue};
 ghost use Rattle.like_core.specs.declared.worker_state.WorkerState.TheVariants.{Gone};
-ghost use Rattle.like_limits.specs.Limits.{max_pages, max_stash};
+ghost use Rattle.like_limits.specs.Limits.{max_stash};
 ghost use Rattle.like_core.specs.OpeningLimits.{service_limits};
 ghost use Rattle.like_core.specs.Post.{IsFresh, additions_of, pages_of};
 ghost use Rattle.like_core.specs.WorkerState.{IsRunning};
@@ -67,7 +67,7 @@ impl<P: Post + Drop> LiveSeat<P> {
         requires fresh { IsFresh (P.view post) }
         requires limits { (P.view post).limits ≡ service_limits }
         requires marks { marks.items ≡ (P.view post).marks }
-        requires few_pages { pages_of (P.view post) ≤ max_pages }
+        requires few_pages { pages_of (P.view post) ≤ service_limits.pages }
         requires some { 1 ≤ room }
         requires few { room ≤ max_stash }
         requires home { last.share.submitters ≡ last.share.workers }

@@ -3,7 +3,7 @@ use thiserror::Error;
 /// Why a service was not opened. Of several wrong numbers the first is told, in this order.
 #[derive(Clone, Copy, Debug, PartialEq, Eq, Error)]
 pub enum OpenError {
-    #[error("between 1 and 1,024 pages")]
+    #[error("between 1 and 16,777,216 pages")]
     Pages,
     #[error("at most 64 marks, each a page, no two alike")]
     Marks,

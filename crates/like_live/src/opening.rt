@@ -3,7 +3,13 @@ ghost use Rattle.like_requests.specs.Setup.{IsHotLimit};
 ghost use Rattle.like_live.specs.Opening.{AreMarks, AreWithinLimits, IsFirstWrong, IsWithinLimits, Numbers, asking, board_opening, numbers_of, splits_by};
 
 use crate::open_error::OpenError;
-use like_requests::{MAX_COUNT, MAX_HOT, MAX_PAGES, MAX_STASH, MAX_WORKERS};
+use like_requests::{MAX_COUNT, MAX_HOT, MAX_STASH};
+
+/// The most pages of a service.
+const MAX_PAGES: u32 = 1 << 24;
+
+/// The most seats of a service.
+const MAX_SEATS: u32 = 16;
 
 /// The most marked pages: those that are split in every split phase.
 pub const MAX_MARKS: usize = 64;
@@ -11,7 +17,7 @@ pub const MAX_MARKS: usize = 64;
 /// What a service is opened with.
 #[derive(Debug, Drop)]
 pub struct Opening {
-    /// Each page's first count: 1 to 1,024 pages, each count at most 10^18.
+    /// Each page's first count: 1 to 16,777,216 pages, each count at most 10^18.
     pub counts: Vec<u64>,
     /// The numbers of the pages that are split in every split phase: at most 64, no two alike, in any order.
     pub marks: Vec<u32>,
@@ -63,7 +69,7 @@ impl Opening {
         if !counts.iter().all(|count| *count <= MAX_COUNT) {
             return Err(OpenError::Counts);
         }
-        if seats < 1 || seats > MAX_WORKERS {
+        if seats < 1 || seats > MAX_SEATS {
             return Err(OpenError::Seats);
         }
         if users < 1 {

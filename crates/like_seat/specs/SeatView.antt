@@ -1,7 +1,6 @@
 -- What a worker's seat is, as contracts see it.
 use Rattle.std.specs.Prelude.{◌≡◌, ◌≢◌, ℕ, ◌+◌, ◌≤◌, true, List, length, slice_index, sum}
 use Rattle.like_core.specs.Additions.{all_added}
-use Rattle.like_limits.specs.Limits.{max_pages}
 use Rattle.like_core.specs.OpeningLimits.{AreLimits}
 use Rattle.like_core.specs.PhaseMasks.{HasMask}
 use Rattle.like_core.specs.Post.{PostView, additions_of, pages_of, slices}
@@ -40,11 +39,10 @@ abbrev pub IsSliceInSplit : PostView → List ℕ → Type 0
 IsSliceInSplit post slice =
     (page : ℕ) → slice_index slice page ≢ 0 → RunsSplit post.state × (slices post page ≡ true)
 
--- what is true of every seat: its board has at most 1,024 pages and lawful limits, and its phase is within them; its
--- slice has a number for each page; it has counted no more likes than a worker may add; and it holds no more than it has
--- room for
+-- what is true of every seat: its board's limits are lawful, and its pages and its phase are within them; its slice has a
+-- number for each page; it has counted no more likes than a worker may add; and it holds no more than it has room for
 pub record IsSeat {W : Type 0} (s : SeatView W) : Type 0 where
-  pub few_pages : pages_of s.post ≤ max_pages
+  pub few_pages : pages_of s.post ≤ s.post.limits.pages
   pub limits : AreLimits s.post.limits
   pub within : phase_at s ≤ s.post.limits.last_phase
   pub sized : length s.slice ≡ pages_of s.post

@@ -1,6 +1,6 @@
 ghost use Rattle.std.specs.Prelude.{◌≡◌, ◌≤◌, ◌↔◌, IfErr, IfOk, IsTrue};
 ghost use Rattle.like_core.specs.declared.worker_state.WorkerState.TheVariants.{Gone};
-ghost use Rattle.like_limits.specs.Limits.{max_pages, max_stash};
+ghost use Rattle.like_limits.specs.Limits.{max_stash};
 ghost use Rattle.like_core.specs.OpeningLimits.{AreLimits};
 ghost use Rattle.like_core.specs.Post.{IsFresh, pages_of};
 ghost use Rattle.like_seat.specs.SeatView.{IsSeat, likes_of, phase_at};
@@ -57,7 +57,7 @@ impl<P: Post, W: Copy> Seat<P, W> {
         requires fresh { IsFresh (P.view post) }
         requires limits { AreLimits (P.view post).limits }
         requires marks { marks.items ≡ (P.view post).marks }
-        requires few_pages { pages_of (P.view post) ≤ max_pages }
+        requires few_pages { pages_of (P.view post) ≤ (P.view post).limits.pages }
         requires some { 1 ≤ room }
         requires few { room ≤ max_stash }
         ensures new { IfOk result (IsNewSeat (P.view post) room last) }

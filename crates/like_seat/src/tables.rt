@@ -1,5 +1,5 @@
-ghost use Rattle.std.specs.Prelude.{◌≡◌, ◌<◌, ◌≤◌, [], IfOk, length, replicate};
-ghost use Rattle.like_limits.specs.Limits.{max_pages, max_stash};
+ghost use Rattle.std.specs.Prelude.{◌≡◌, ◌^◌, ◌<◌, ◌≤◌, [], IfOk, length, replicate};
+ghost use Rattle.like_limits.specs.Limits.{max_stash};
 ghost use Rattle.like_core.specs.WorkerState.{phase_of};
 ghost use Rattle.like_core.specs.declared.worker_state.WorkerState.TheVariants.{Runs};
 ghost use Rattle.like_seat.specs.Kept.{is_split_by};
@@ -38,7 +38,7 @@ impl<W: Copy> Tables<W> {
         room: u32,
         last: Users,
     ) -> Result<Tables<W>, AllocError>
-        requires few_pages { length marks.items ≤ max_pages }
+        requires few_pages { length marks.items < 2 ^ 32 }
         requires some { 1 ≤ room }
         requires few { room ≤ max_stash }
         ensures marks { IfOk result (λ tables. tables.marks ≡ marks) }

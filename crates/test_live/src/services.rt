@@ -2,7 +2,9 @@
 ghost use Rattle.std.specs.Prelude.{IfOk};
 ghost use Rattle.like_live.specs.Service.{AreItsSeats};
 
-use like_live::{DriverAnswer, OpenError, Opening, Service, TurnAnswer};
+use like_live::{DriverAnswer, GlanceAnswer, LikeAnswer, OpenError, Opening, Service, TurnAnswer};
+use like_requests::Verdict;
+use like_seat::Seen;
 use std::alloc::{AllocError, Global};
 use std::process::Abort;
 use std::test::Fail;
@@ -143,8 +145,8 @@ const AT_LIMITS: &[Numbers] = &[
         hot: Some(1),
     },
     Numbers {
-        counts: &[1_000_000_000_000_000_000; 1_024],
-        marks: &[1_023, 0],
+        counts: &[1_000_000_000_000_000_000; 2],
+        marks: &[1, 0],
         seats: 16,
         users: 1,
         room: 4_096,
@@ -186,6 +188,30 @@ fn opens_with_marks(alloc: Global, many: u32) -> Result<bool, Fail> {
 fn opens_with_64_marks_at_most(rt: HostRuntime) -> Result<(), Fail> {
     assert!(rt; opens_with_marks(rt.alloc(), 64)?);
     assert!(rt; !opens_with_marks(rt.alloc(), 65)?);
+    Ok(())
+}
+
+// A service of 100,000 pages, whose last page gets a like.
+#[test]
+fn opens_a_hundred_thousand_pages(rt: HostRuntime) -> Result<(), Fail> {
+    let opening = Opening {
+        counts: Vec::from_elem(rt.alloc(), 7, 100_000)?,
+        marks: Vec::new(rt.alloc()),
+        seats: 1,
+        users: 1,
+        room: 1,
+        hot: None,
+    };
+    let Service { driver, mut seats } = open(rt.alloc(), &opening)?;
+    assert!(rt; driver.pages() == 100_000);
+    let mut seat = seats.pop().expect(&rt, "a seat is there");
+    assert!(rt; seat.like(0, 99_999) == LikeAnswer::Liked);
+    assert!(rt; seat.like(0, 100_000) == LikeAnswer::Refused(Verdict::UnknownPage));
+    let seen = Seen {
+        last: Some(99_999),
+        count: 8,
+    };
+    assert!(rt; seat.glance(0, 99_999) == GlanceAnswer::Seen(seen));
     Ok(())
 }
 

@@ -1,5 +1,5 @@
 ghost use Rattle.std.specs.Prelude.{◌≡◌, ◌+◌, ◌≤◌, true, IfOk, IfSome, slice_index, vec_len};
-ghost use Rattle.like_limits.specs.Limits.{max_count, max_pages, max_workers};
+ghost use Rattle.like_limits.specs.Limits.{max_count};
 ghost use Rattle.like_core.specs.declared.worker_state.WorkerState.TheVariants.{Gone};
 ghost use Rattle.like_core.specs.OpeningLimits.{AreLimits, run_limits};
 ghost use Rattle.like_core.specs.Post.{additions_of};
@@ -52,9 +52,9 @@ fn opened(
     limits: Limits,
 ) -> Result<(Board, CoordSeat, Vec<WorkerSeat>), AllocError>
     requires some { 1 ≤ workers }
-    requires few { workers ≤ max_workers }
+    requires few { workers ≤ limits.seats }
     requires some_page { 1 ≤ pages }
-    requires few_pages { pages ≤ max_pages }
+    requires few_pages { pages ≤ limits.pages }
     requires small { count ≤ max_count }
     requires limits { AreLimits limits }
     ensures opened { IfOk result (λ r. AreOpened (board_id r.0) pages marked limits r.1 r.2.items) }
@@ -255,7 +255,8 @@ fn plays(
     parts: &[&[Step]],
 ) -> Result<(), Fail>
     requires some { 1 ≤ workers }
-    requires few { workers ≤ 2 }
+    requires few { workers ≤ limits.seats }
+    requires page { 1 ≤ limits.pages }
     requires small { count ≤ max_count }
     requires limits { AreLimits limits }
 {

@@ -1,4 +1,4 @@
-ghost use Rattle.std.specs.Prelude.{◌<◌};
+ghost use Rattle.std.specs.Prelude.{◌≡◌, ◌<◌, ◌≤◌};
 ghost use Rattle.like_core.specs.OpeningLimits.{AreLimits};
 
 mod cases;
@@ -90,6 +90,8 @@ fn assert_limits_of_one(
     modulus: u32,
 ) -> Result<(), Fail>
     requires limits { AreLimits limits }
+    requires seat { 1 ≤ limits.seats }
+    requires page { 1 ≤ limits.pages }
     requires some { 0 < modulus }
 {
     let mut core = Core::with_limits(alloc, 1, &[0], &[true], limits)?;
@@ -102,14 +104,18 @@ fn refuses_announcement_in_last_phase(rt: HostRuntime) -> Result<(), Fail> {
     assert_limits_of_one(&rt, rt.alloc(), Limits::of_run(), 16_777_214, 16_777_216)
 }
 
-/// Limits whose last phase is 4, with numbers modulo 2.
+/// Limits of one page and one worker whose last phase is 4, with numbers modulo 2.
 pub fn small_limits() -> Limits
-    ensures { AreLimits result }
+    ensures lawful { AreLimits result }
+    ensures page { result.pages ≡ 1 }
+    ensures seat { result.seats ≡ 1 }
 {
     Limits {
         last_phase: 4,
         likes: 2,
         modulus: 2,
+        pages: 1,
+        seats: 1,
     }
 }
 
@@ -119,31 +125,25 @@ fn takes_numbers_modulo_2(rt: HostRuntime) -> Result<(), Fail> {
     assert_limits_of_one(&rt, rt.alloc(), small_limits(), 4, 2)
 }
 
-// Whether the last phase and the likes of limits are these, and a phase has this number.
-fn are_limits(limits: Limits, last_phase: u64, likes: u64, phase: u64, number: u32) -> bool
-    requires { 0 < limits.modulus }
-{
-    limits.last_phase == last_phase && limits.likes == likes && limits.number(phase) == number
-}
-
 #[test]
 fn limits_are_these_numbers(rt: HostRuntime) -> Result<(), Fail> {
-    let run = are_limits(
-        Limits::of_run(),
-        16_777_214,
-        64_000_000,
-        16_777_214,
-        16_777_214,
-    );
-    assert!(rt; run);
-    let service = are_limits(
-        Limits::of_service(),
-        18_446_744_073_709_551_614,
-        72_057_594_037_927_936,
-        16_777_215,
-        1,
-    );
-    assert!(rt; service);
+    let run = Limits {
+        last_phase: 16_777_214,
+        likes: 64_000_000,
+        modulus: 16_777_216,
+        pages: 1_024,
+        seats: 16,
+    };
+    assert!(rt; Limits::of_run() == run);
+    let service = Limits {
+        last_phase: 18_446_744_073_709_551_614,
+        likes: 72_057_594_037_927_936,
+        modulus: 16_777_214,
+        pages: 16_777_216,
+        seats: 16,
+    };
+    assert!(rt; Limits::of_service() == service);
+    assert!(rt; Limits::of_service().number(16_777_215) == 1);
     Ok(())
 }
 

@@ -95,7 +95,7 @@ counts z words views place c page some_state at may =
         state = s;
         reachable = some_state.reachable;
         shows = after_it;
-        tallied = tallied_on z.limits.likes s s views place (Coord c) (Coord d) (omega arith) (λ _. refl) at (λ _. refl)
+        tallied = tallied_on z.limits s s views place (Coord c) (Coord d) (omega arith) (λ _. refl) at (λ _. refl)
             (λ _. refl) (λ _ _. refl) some_state.tallied;
         places = places_same z.counts views place (Coord c) (Coord d) at (λ _. refl) (λ _. refl)
             (λ _ _ has. has) some_state.places;
@@ -146,7 +146,7 @@ publishes z words views place c mask some_state at may =
           known.1
           fits
           (λ v f. f);
-      tallied = tallied_on z.limits.likes s s views place (Coord c) (Coord d) (omega arith) (λ _. refl) at (λ _. refl)
+      tallied = tallied_on z.limits s s views place (Coord c) (Coord d) (omega arith) (λ _. refl) at (λ _. refl)
           (λ _. refl) (λ _ _. refl) some_state.tallied;
       places = places_same z.counts views place (Coord c) (Coord d) at (λ _. refl) (λ _. refl)
           (λ _ _ has. has) some_state.places;

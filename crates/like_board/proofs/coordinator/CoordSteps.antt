@@ -101,7 +101,7 @@ surveys z words views place c some_state at =
         state = s;
         reachable = some_state.reachable;
         shows = after_it;
-        tallied = tallied_on z.limits.likes s s views place (Coord c) (Coord d) (omega arith) (λ _. refl) at (λ _. refl)
+        tallied = tallied_on z.limits s s views place (Coord c) (Coord d) (omega arith) (λ _. refl) at (λ _. refl)
             (λ _. refl) (λ _ _. refl) some_state.tallied;
         places = places_same z.counts views place (Coord c) (Coord d) at (λ _. refl) (λ _. refl)
             (λ _ _ has. has) some_state.places;
@@ -205,7 +205,7 @@ announces z words views place c some_state at may =
         state = t;
         reachable = reachable;
         shows = after_it;
-        tallied = tallied_on z.limits.likes s t views place (Coord c) (Coord d) (omega arith) (λ _. refl) at (λ _. refl)
+        tallied = tallied_on z.limits s t views place (Coord c) (Coord d) (omega arith) (λ _. refl) at (λ _. refl)
             (λ _. refl) (λ _ _. refl) some_state.tallied;
         places = places_same z.counts views place (Coord c) (Coord d) at (λ _. refl) (λ _. refl)
             (λ _ _ has. has) some_state.places;
@@ -381,7 +381,7 @@ releases z words views place c modulus seen modulus_is some_state at may seen_la
         state = t;
         reachable = goes_on_by z s (Release mask) some_state.reachable permits;
         shows = after_it;
-        tallied = tallied_on z.limits.likes s t views place (Coord c) (Coord d) (omega arith) (λ _. refl) at (λ _. refl)
+        tallied = tallied_on z.limits s t views place (Coord c) (Coord d) (omega arith) (λ _. refl) at (λ _. refl)
             (λ _. refl) (λ _ _. refl) some_state.tallied;
         places = places_same z.counts views place (Coord c) (Coord d) at (λ _. refl) (λ _. refl)
             (λ _ _ has. has) some_state.places;

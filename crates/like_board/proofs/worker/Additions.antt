@@ -8,12 +8,13 @@ use mathlib.Core.Option.{some}
 use lib.ListN.{get_elem?}
 use Rattle.like_core.specs.declared.worker_state.WorkerState.TheVariants.{Runs}
 use Rattle.like_core.specs.declared.shown.Shown.TheVariants.{Old}
+use Rattle.like_core.specs.declared.limits.Limits.{Limits}
 use Rattle.like_core.specs.declared.opening.Opening.{Opening}
 use Rattle.like_core.specs.declared.view.PageCount.{PageCount}
 use Rattle.like_core.specs.declared.view.WorkerSeatView.{WorkerSeatView}
 use Rattle.like_core.specs.declared.view.View.{View}
 use Rattle.like_core.specs.declared.view.View.TheVariants.{Coord, Worker}
-use Rattle.like_limits.specs.Limits.{max_count, max_workers}
+use Rattle.like_limits.specs.Limits.{max_count}
 use Rattle.like_core.specs.Functions.{update}
 use Rattle.like_core.specs.Phase.{is_marked, split}
 use Rattle.like_core.specs.core.Table.{IsShown}
@@ -91,25 +92,25 @@ fits_added z s v page count n rest f present = record {
 -- how long the lists are after the addition
 applied_here : (s : CoreState) (i page n : ℕ) → length (applied_by s i page n page) ≡ length (s.applied page) + n
 applied_here s i page n =
-    ap (λ (l : List Label). length l) (update-same s.applied page (s.applied page ++ replicate n (label i s.phase))) ∙
+    ap (λ (ls : List Label). length ls) (update-same s.applied page (s.applied page ++ replicate n (label i s.phase))) ∙
     (length-append (s.applied page) (replicate n (label i s.phase)) ∙
     ap (λ (k : ℕ). length (s.applied page) + k) (length-replicate n (label i s.phase)))
 
 applied_else : (s : CoreState) (i page n q : ℕ) → q ≢ page → length (applied_by s i page n q) ≡ length (s.applied q)
 applied_else s i page n q other =
-    ap (λ (l : List Label). length l)
+    ap (λ (ls : List Label). length ls)
     (update-other s.applied page (s.applied page ++ replicate n (label i s.phase)) q other)
 
 -- what the views have added and may still add, after an addition
-tallied_added : (likes : ℕ) (s : CoreState) (views : List View) (place : ℕ) (v : WorkerSeatView) (page count n : ℕ)
+tallied_added : (l : Limits) (s : CoreState) (views : List View) (place : ℕ) (v : WorkerSeatView) (page count n : ℕ)
     (rest : ℕ → List ℕ)
     → get_elem? views place ≡ some (Worker v)
     → phase_of v.state ≡ s.phase
-    → added_to page v.additions + n ≤ likes
-    → Tallied likes s views
-    → Tallied likes (record s { unmerged = rest; applied = applied_by s v.worker page n })
+    → added_to page v.additions + n ≤ l.likes
+    → Tallied l s views
+    → Tallied l (record s { unmerged = rest; applied = applied_by s v.worker page n })
     (set views place (Worker (added_view v page count n)))
-tallied_added likes s views place v page count n rest at present few old =
+tallied_added l s views place v page count n rest at present few old =
     let w : WorkerSeatView = added_view v page count n in
     let sums_now : (q : ℕ) → length (applied_by s v.worker page n q) ≡ sum_by (paged q) (set views place (Worker w)) =
     λ q.
@@ -129,14 +130,14 @@ tallied_added likes s views place v page count n rest at present few old =
     ]
     in
     let rooms_now : (q : ℕ)
-    → length (applied_by s v.worker page n q) + sum_by (room likes q) (set views place (Worker w))
-    ≤ likes * max_workers =
+    → length (applied_by s v.worker page n q) + sum_by (room l q) (set views place (Worker w))
+    ≤ l.likes * l.seats =
     λ q.
     elim (cases_eq q page) [
       | inl same ↦
           rw same
           (let before = old.rooms page in
-          let swap = sum_swap (room likes page) views place (Worker v) (Worker w) at in
+          let swap = sum_swap (room l page) views place (Worker v) (Worker w) at in
           let more = added_to_here v.additions (phase_of v.state) page count n in
           let long = applied_here s v.worker page n in
           omega arith)
@@ -144,8 +145,8 @@ tallied_added likes s views place v page count n rest at present few old =
           let before = old.rooms q in
           let long = applied_else s v.worker page n q other in
           let same =
-          sum_set (room likes q) views place (Worker v) (Worker w) at
-          (ap (λ (k : ℕ). likes - k) (added_to_else v.additions (phase_of v.state) page count n q other))
+          sum_set (room l q) views place (Worker v) (Worker w) at
+          (ap (λ (k : ℕ). l.likes - k) (added_to_else v.additions (phase_of v.state) page count n q other))
           in
           omega arith
     ]
@@ -234,7 +235,7 @@ adds z words views place v page n some_state at may =
     let same = ap (λ (y : Opening). y.limits.likes) old.opening in
     omega arith)
     in
-    let own_room = sum_part (room z.limits.likes page) views place (Worker v) at in
+    let own_room = sum_part (room z.limits page) views place (Worker v) at in
     let bound = sh.opening.limits.likes in
     let low = count_low z.counts page on sh.opening.counts in
     let full = some_state.tallied.rooms page in
@@ -295,7 +296,7 @@ adds z words views place v page n some_state at may =
         state = t;
         reachable = subst (Reachable z) {x = last} {y = t} a.leads reached;
         shows = shows;
-        tallied = tallied_added z.limits.likes s views place v page count n a.rest at present few some_state.tallied;
+        tallied = tallied_added z.limits s views place v page count n a.rest at present few some_state.tallied;
         places = addition_keeps_places z.counts views place v page count n at (omega arith)
             (some_likes (post_of v) page n may) some_state.places;
       },

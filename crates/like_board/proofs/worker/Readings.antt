@@ -135,7 +135,7 @@ reads_word z words views place v page event rs gs some_state at running may_ther
         state = s;
         reachable = some_state.reachable;
         shows = shows;
-        tallied = tallied_on z.limits.likes s s views place (Worker v) (Worker w) (omega arith) (λ _. refl) at
+        tallied = tallied_on z.limits s s views place (Worker v) (Worker w) (omega arith) (λ _. refl) at
             (λ _. refl) (λ _. refl) (λ _ _. refl) some_state.tallied;
         places = keep_places (omega arith) some_state.places;
       },
@@ -251,7 +251,7 @@ reads_mask z words views place v some_state at split_phase =
         state = s;
         reachable = some_state.reachable;
         shows = shows;
-        tallied = tallied_on z.limits.likes s s views place (Worker v) (Worker w) (omega arith) (λ _. refl) at
+        tallied = tallied_on z.limits s s views place (Worker v) (Worker w) (omega arith) (λ _. refl) at
             (λ _. refl) (λ _. refl) (λ _ _. refl) some_state.tallied;
         places = places_same z.counts views place (Worker v) (Worker w) at (λ _. refl) (λ _. refl)
             (λ _ _ has. has) some_state.places;

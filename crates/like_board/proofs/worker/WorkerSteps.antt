@@ -184,7 +184,7 @@ looks z words views place v some_state at there =
         state = t;
         reachable = goes_on_by z s (Look i) some_state.reachable permits;
         shows = shows_after;
-        tallied = tallied_on z.limits.likes s t views place (Worker v) (Worker w) (omega arith) (λ _. refl) at
+        tallied = tallied_on z.limits s t views place (Worker v) (Worker w) (omega arith) (λ _. refl) at
             (λ _. refl) (λ _. refl) (λ _ _. refl) some_state.tallied;
         places = places_same z.counts views place (Worker v) (Worker w) at (λ _. refl) (λ _. refl)
             (λ _ _ has. has) some_state.places;
@@ -265,7 +265,7 @@ acknowledges z words views place v some_state at joined saw =
         reachable = goes_on_by z s (Acknowledge v.worker) some_state.reachable permits;
         shows = after_it;
         tallied =
-            tallied_on z.limits.likes s (moved s v.worker (Answered s.phase)) views place (Worker v)
+            tallied_on z.limits s (moved s v.worker (Answered s.phase)) views place (Worker v)
             (Worker (answered_view v))
             (omega arith) (λ _. refl) at (λ _. refl) (λ _. refl) (λ _ _. refl) some_state.tallied;
         places = places_same z.counts views place (Worker v) (Worker (answered_view v)) at (λ _. refl) (λ _. refl)
@@ -318,7 +318,7 @@ reports z words views place v some_state at split saw =
         reachable = goes_on_by z s (Report v.worker) some_state.reachable permits;
         shows = after_it;
         tallied =
-            tallied_on z.limits.likes s (moved s v.worker (Answered s.phase)) views place (Worker v)
+            tallied_on z.limits s (moved s v.worker (Answered s.phase)) views place (Worker v)
             (Worker (answered_view v))
             (omega arith) (λ _. refl) at (λ _. refl) (λ _. refl) (λ _ _. refl) some_state.tallied;
         places = places_same z.counts views place (Worker v) (Worker (answered_view v)) at (λ _. refl) (λ _. refl)
@@ -381,7 +381,7 @@ retires z words views place v some_state at joined =
         reachable = goes_on_by z s (Retire i) some_state.reachable permits;
         shows = after_it;
         tallied =
-            tallied_on z.limits.likes s (moved s i Gone) views place (Worker v) (Worker (retired_view v)) (omega arith)
+            tallied_on z.limits s (moved s i Gone) views place (Worker v) (Worker (retired_view v)) (omega arith)
             (λ _. refl) at (λ _. refl)
             (λ _. refl) (λ _ _. refl) some_state.tallied;
         places = places_same z.counts views place (Worker v) (Worker (retired_view v)) at (λ _. refl) (λ _. refl)

@@ -64,7 +64,7 @@ shown_lawful z s opening p none =
     let parity = number-parity z.limits s.phase opening.limits in
     record {
       some_worker = opening.some_worker;
-      few_workers = opening.few_workers;
+      few_workers = (let few = opening.few_workers in let seats = opening.limits.seats in omega arith);
       answered = mask-lt (λ i. has_answered s.phase (s.state i)) z.workers;
       retired = mask-lt (λ i. is_gone (s.state i)) z.workers;
       apart = mask_apart (λ i. has_answered s.phase (s.state i)) (λ i. is_gone (s.state i)) z.workers

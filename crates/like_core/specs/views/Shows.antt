@@ -10,7 +10,7 @@ use Rattle.like_core.specs.declared.view.WorkerSeatView.{WorkerSeatView}
 use Rattle.like_core.specs.declared.view.CoordSeatView.{CoordSeatView}
 use Rattle.like_core.specs.declared.view.View.{View}
 use Rattle.like_core.specs.declared.view.View.TheVariants.{Coord, Worker, Spent}
-use Rattle.like_limits.specs.Limits.{max_count, max_pages, max_workers}
+use Rattle.like_limits.specs.Limits.{max_count}
 use Rattle.like_core.specs.Phase.{IsSplit}
 use Rattle.like_core.specs.OpeningLimits.{number_of, AreLimits}
 use Rattle.like_core.specs.PhaseMasks.{mask_of}
@@ -31,8 +31,8 @@ use Rattle.like_core.specs.views.Layout.{phase_place, mask_place, word_of}
 -- an opening that a board may have
 pub record IsOpening (z : Opening) : Type 0 where
   pub some_worker : 1 ≤ z.workers
-  pub few_workers : z.workers ≤ max_workers
-  pub few_pages : length z.counts ≤ max_pages
+  pub few_workers : z.workers ≤ z.limits.seats
+  pub few_pages : length z.counts ≤ z.limits.pages
   -- each page has a mark
   pub marks : length z.marks ≡ length z.counts
   pub counts : All (λ n. n ≤ max_count) z.counts
@@ -154,7 +154,7 @@ pub record ShowsSome (z : Opening) (words : List ℕ) (views : List View) : Type
   pub reachable : Reachable z state
   pub shows : Shows z state words views
   -- the views' additions are the likes applied in it, and no count can wrap by what may still be added
-  pub tallied : Tallied z.limits.likes state views
+  pub tallied : Tallied z.limits state views
   -- the stretches of the views' additions tile each page's counts
   pub places : PlacesTile z.counts views
 
@@ -166,7 +166,7 @@ pub record Moment (z : Opening) : Type 0 where
   pub state : CoreState
   pub reachable : Reachable z state
   pub shows : Shows z state words views
-  pub tallied : Tallied z.limits.likes state views
+  pub tallied : Tallied z.limits state views
   pub places : PlacesTile z.counts views
 
 -- a moment at which this is what some seat knows

@@ -1,9 +1,9 @@
 use Rattle.std.specs.Prelude.{◌≡◌, ℕ, ◌+◌, ◌-◌, ◌*◌, ◌<◌, ◌≤◌, List, length}
 use Rattle.std.specs.List.{sum_by}
+use Rattle.like_core.specs.declared.limits.Limits.{Limits}
 use Rattle.like_core.specs.declared.view.WorkerSeatView.{WorkerSeatView}
 use Rattle.like_core.specs.declared.view.View.{View}
 use Rattle.like_core.specs.declared.view.View.TheVariants.{Coord, Worker, Spent}
-use Rattle.like_limits.specs.Limits.{max_workers}
 use Rattle.like_core.specs.core.State.{CoreState}
 use Rattle.like_core.specs.Additions.{added_to}
 use Rattle.like_core.specs.views.Reads.{all_before}
@@ -20,18 +20,18 @@ left_to likes page v = likes - added_to page v.additions
 
 -- how much the worker of a view may still add to a page: the coordinator's has what workers without a seat yet may add,
 -- and those whose seat was given back
-abbrev pub room : ℕ → ℕ → View → ℕ
-room likes page (Coord c) = likes * (max_workers - c.made) + sum_by (λ v. left_to likes page v) c.joined
-room likes page (Worker v) = left_to likes page v
-room likes page Spent = 0
+abbrev pub room : Limits → ℕ → View → ℕ
+room l page (Coord c) = l.likes * (l.seats - c.made) + sum_by (λ v. left_to l.likes page v) c.joined
+room l page (Worker v) = left_to l.likes page v
+room l page Spent = 0
 
--- the tallies of what the views have added, if each worker may add this many likes to a page
-pub record Tallied (likes : ℕ) (s : CoreState) (views : List View) : Type 0 where
+-- the tallies of what the views have added, within the limits of the opening
+pub record Tallied (l : Limits) (s : CoreState) (views : List View) : Type 0 where
   -- the likes applied to a page are all that the views have added to it
   pub sums : (page : ℕ) → length (s.applied page) ≡ sum_by (paged page) views
-  -- with what may still be added, they are at most what 16 workers may add
+  -- with what may still be added, they are at most what all seats may add
   pub rooms : (page : ℕ)
-      → length (s.applied page) + sum_by (room likes page) views ≤ likes * max_workers
+      → length (s.applied page) + sum_by (room l page) views ≤ l.likes * l.seats
   -- nothing was added in a later phase
   pub past : (phase page : ℕ) → s.phase < phase
       → all_before views phase page ≡ sum_by (paged page) views

@@ -1,5 +1,5 @@
 use Rattle.std.proofs.Common.{◌≡◌, ◌≤◌, length, vec_capacity, rules, ap, sym, ◌∙◌, subst}
-use Rattle.like_limits.specs.Limits.{max_pages}
+use Rattle.like_core.specs.OpeningLimits.{service_limits}
 use Rattle.like_core.specs.declared.opening.Opening.{Opening as CoreOpening}
 use Rattle.like_core.specs.declared.view.CoordSeatView.{CoordSeatView}
 use Rattle.like_board.specs.Seats.{coord_view}
@@ -21,7 +21,7 @@ invariant_of-result c =
         splits_is = c.splits_some.ensures ∙ sym (λ i. splits_by (opening i).marks (lead i).hot);
         pages_is = c.len.ensures ∙ o.counts.ok.0 ∙ sym (ap (λ (z : CoreOpening). length z.counts) opening);
         service = record {
-          few_pages = subst (λ (z : CoreOpening). length z.counts ≤ max_pages) (sym opening) within.0.1;
+          few_pages = subst (λ (z : CoreOpening). length z.counts ≤ service_limits.pages) (sym opening) within.0.1;
           marks = subst (λ (z : CoreOpening). length z.marks ≡ length z.counts) (sym opening)
               (length-marks_by (length o.counts.items) o.marks.items);
           limits = ap (λ (z : CoreOpening). z.limits) opening;
