@@ -1,5 +1,5 @@
 -- What is known of a board where all workers' seats were given back.
-use Rattle.std.specs.Prelude.{◌≡◌, ℕ, ◌^◌, ◌<◌, All, List, [], length, map}
+use Rattle.std.specs.Prelude.{◌≡◌, ℕ, ◌^◌, ◌<◌, All, List, [], length, map, slice_index}
 use Rattle.like_core.specs.declared.view.CoordSeatView.{CoordSeatView}
 use Rattle.like_core.specs.declared.view.View.{View}
 use Rattle.like_core.specs.declared.view.View.TheVariants.{Coord}
@@ -16,18 +16,33 @@ pub record HasAllBack (v : View) (c : CoordSeatView) (seats : List WorkerSeat) :
   pub made : c.made ≡ c.opening.workers
   pub all : AreAll c.opening.workers seats
 
--- what is known then: how many pages the board has; what the seats saw, added and read in which phases; and where they
--- added
+-- what is known then: how many pages the board has, and how the steps of all seats fit together
 pub record IsClosed (c : CoordSeatView) (seats : List WorkerSeat) : Type 0 where
   pub few_pages : length c.opening.counts < 2 ^ 32
+  -- no worker saw a greater number than the coordinator's phase
   pub phases : All (λ seat. SawNoLater c.phase (seat_meaning seat).last) seats
+  -- none added in a later phase
   pub added : HaveAddedWithin c.phase seats
+  -- the stretch of each addition lies between all additions of earlier phases and all up to its phase
   pub stand : HaveAddedBetween c.opening c.phase seats
+  -- each count that a worker read has all additions of earlier phases, none of later ones, and its own so far
   pub reads : HaveReadBetween c.opening c.phase seats
+  -- and so has each count at which it glanced
   pub glances : HaveGlancedBetween c.opening c.phase seats
+  -- each count that the coordinator read has all additions up to its phase
   pub counted : AreCounted c seats
+  -- each mask that a worker read is the one with which the coordinator released its phase
   pub masks : HaveReadMasks c.masks seats
+  -- the stretches of all additions tile each page's counts, and each count that a worker read has its place there
   pub places : HavePlaces c.opening seats
+
+-- a board was closed with these seats: its last counts, and what is known of the seats' steps
+pub record IsClosedBoard (c : CoordSeatView) (seats : List WorkerSeat) (counts : List ℕ) : Type 0 where
+  -- one for each page
+  pub len : length counts ≡ length c.opening.counts
+  -- the page's count at the start and all that was added to it
+  pub totals : (page : ℕ) → page < length counts → slice_index counts page ≡ last_count c.opening seats page
+  pub closed : IsClosed c seats
 
 -- what a read of a word tells then: that, and the last count of the page whose word it is
 pub record TellsLast (word : ℕ) (v : View) (found : ℕ) : Type 0 where

@@ -3,13 +3,12 @@ ghost use Rattle.std.specs.Prelude.{◌≡◌, ℕ, ◌^◌, ◌<◌, [], All, L
 ghost use Rattle.like_core.specs.declared.view.CoordSeatView.{CoordSeatView};
 ghost use Rattle.like_core.specs.declared.view.View.TheVariants.{Coord};
 ghost use Rattle.like_core.specs.declared.worker_state.WorkerState.TheVariants.{Gone};
-ghost use Rattle.like_core.specs.WorkerState.{SawNoLater};
 ghost use Rattle.like_core.specs.views.Layout.{word_of};
 ghost use Rattle.like_core.specs.views.Views.{gathered_all};
 ghost use Rattle.like_board.specs.declared.worker_seat.WorkerSeat.{WorkerSeat};
 ghost use Rattle.like_board.specs.Known.{coord_view_of};
-ghost use Rattle.like_board.specs.Seats.{board_id, coord_board, coord_view, seat_board, seat_view, seat_meaning, AreAll, last_count, HaveAddedBetween, HaveAddedWithin, HaveReadBetween, HaveGlancedBetween, HaveReadMasks, HavePlaces, AreCounted};
-ghost use Rattle.like_board.specs.Closed.{HasAllBack};
+ghost use Rattle.like_board.specs.Seats.{board_id, coord_board, coord_view, seat_board, seat_view, seat_meaning, AreAll, last_count};
+ghost use Rattle.like_board.specs.Closed.{IsClosedBoard, HasAllBack};
 
 use crate::board::Board;
 use crate::coord_seat::CoordSeat;
@@ -51,24 +50,13 @@ fn write_counts(board: &Board, coord: &mut Seat<(), View>, counts: &mut [u64])
 }
 
 impl Board {
-    /// The last counts of a board that several own: all seats are given back, so no step on it can follow. Each clause is
-    /// that of `close`.
+    /// The last counts of a board that several own: all seats are given back, so no step on it can follow.
     pub fn last_counts(&self, coord: CoordSeat, seats: Vec<WorkerSeat>, counts: &mut [u64])
         requires coord_here { coord_board coord ≡ board_id self.now }
         requires seats_here { All (λ seat. seat_board seat ≡ board_id self.now) seats.items }
         requires all { AreAll (coord_view coord).opening.workers seats.items }
         requires places { length counts.old ≡ length (coord_view coord).opening.counts }
-        ensures len { length counts.new ≡ length counts.old }
-        ensures counts { (page : ℕ) → page < length counts.old →
-            slice_index counts.new page ≡ last_count (coord_view coord).opening seats.items page }
-        ensures phases { All (λ seat. SawNoLater (coord_view coord).phase (seat_meaning seat).last) seats.items }
-        ensures added { HaveAddedWithin (coord_view coord).phase seats.items }
-        ensures stand { HaveAddedBetween (coord_view coord).opening (coord_view coord).phase seats.items }
-        ensures reads { HaveReadBetween (coord_view coord).opening (coord_view coord).phase seats.items }
-        ensures glances { HaveGlancedBetween (coord_view coord).opening (coord_view coord).phase seats.items }
-        ensures counted { AreCounted (coord_view coord) seats.items }
-        ensures masks { HaveReadMasks (coord_view coord).masks seats.items }
-        ensures places { HavePlaces (coord_view coord).opening seats.items }
+        ensures { IsClosedBoard (coord_view coord) seats.items counts.new }
     {
         let CoordSeat {
             seat: mut coord,
@@ -79,31 +67,14 @@ impl Board {
         write_counts(self, &mut coord, counts);
     }
 
-    /// Ends the board, where each worker's seat is given back and all are gone, and writes each page's last count: its
-    /// count at the start and all that was added to it. No worker saw a greater number than the coordinator's phase,
-    /// and none added in a later phase.
-    /// Each count that a worker read has all additions of earlier phases and its own before in that phase, and none of
-    /// a later phase nor of its own later ones; each that the coordinator read has all additions up to its phase. Each
-    /// mask that a worker read is the one with which the coordinator released its phase. The stretches of all additions
-    /// to a page tile its counts from the first to the last; each count that a worker read is the first one or the end
-    /// of a stretch; and each worker's additions and reads of a page are in the order of these counts.
+    /// Ends the board, where each worker's seat is given back and all are gone, and writes each page's last count.
     pub fn close(self, coord: CoordSeat, seats: Vec<WorkerSeat>, counts: &mut [u64])
         requires coord_here { coord_board coord ≡ board_id self }
         requires seats_here { All (λ seat. seat_board seat ≡ board_id self) seats.items }
         requires all { AreAll (coord_view coord).opening.workers seats.items }
         requires gone { All (λ seat. (seat_meaning seat).state ≡ Gone) seats.items }
         requires places { length counts.old ≡ length (coord_view coord).opening.counts }
-        ensures len { length counts.new ≡ length counts.old }
-        ensures counts { (page : ℕ) → page < length counts.old →
-            slice_index counts.new page ≡ last_count (coord_view coord).opening seats.items page }
-        ensures phases { All (λ seat. SawNoLater (coord_view coord).phase (seat_meaning seat).last) seats.items }
-        ensures added { HaveAddedWithin (coord_view coord).phase seats.items }
-        ensures stand { HaveAddedBetween (coord_view coord).opening (coord_view coord).phase seats.items }
-        ensures reads { HaveReadBetween (coord_view coord).opening (coord_view coord).phase seats.items }
-        ensures glances { HaveGlancedBetween (coord_view coord).opening (coord_view coord).phase seats.items }
-        ensures counted { AreCounted (coord_view coord) seats.items }
-        ensures masks { HaveReadMasks (coord_view coord).masks seats.items }
-        ensures places { HavePlaces (coord_view coord).opening seats.items }
+        ensures { IsClosedBoard (coord_view coord) seats.items counts.new }
     {
         self.last_counts(coord, seats, counts);
     }

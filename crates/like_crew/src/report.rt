@@ -1,6 +1,7 @@
 ghost use Rattle.std.specs.Prelude.{◌≡◌, ◌<◌, ◌≤◌, ℕ, false, true, All, IfOk, IfSome, length, slice_index};
 ghost use Rattle.like_requests.specs.Setup.{FitsRun};
-ghost use Rattle.like_board.specs.Seats.{AreCounted, board_id, coord_view, last_count, seat_meaning, HaveAddedBetween, HavePlaces, HaveReadBetween, HaveReadMasks};
+ghost use Rattle.like_board.specs.Closed.{IsClosedBoard};
+ghost use Rattle.like_board.specs.Seats.{board_id, coord_view};
 ghost use Rattle.like_service.specs.Asked.{lists_of};
 ghost use Rattle.like_service.specs.EndToEnd.{IsRightReport};
 ghost use Rattle.like_crew.specs.Ended.{AreLeft, IsEnded};
@@ -70,16 +71,7 @@ fn final_counts(
 ) -> Vec<u64>
     requires left { AreLeft (board_id board) coord seats.items }
     requires places { length initial.items ≡ length (coord_view coord).opening.counts }
-    ensures len { length result.items ≡ length initial.items }
-    ensures counts { (page : ℕ) → page < length initial.items
-        → slice_index result.items page ≡ last_count (coord_view coord).opening seats.items page }
-    ensures phases { All (λ seat. IfSome (seat_meaning seat).last (λ sight. sight.number ≤ (coord_view coord).phase))
-        seats.items }
-    ensures stand { HaveAddedBetween (coord_view coord).opening (coord_view coord).phase seats.items }
-    ensures reads { HaveReadBetween (coord_view coord).opening (coord_view coord).phase seats.items }
-    ensures masks { HaveReadMasks (coord_view coord).masks seats.items }
-    ensures counted { AreCounted (coord_view coord) seats.items }
-    ensures places { HavePlaces (coord_view coord).opening seats.items }
+    ensures { IsClosedBoard (coord_view coord) seats.items result.items }
 {
     let mut counts = initial;
     board.close(coord, seats, &mut counts);

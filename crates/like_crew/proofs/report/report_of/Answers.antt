@@ -49,7 +49,7 @@ replies_of-requires-clause-once c =
     (c.deref.ensures.value ∙ c.requires.site.sizes)
     (logs-size c.args.setup.now plans c.args.site e c.requires.ended)
     c.requires.within.numbers.workers.0
-    (log-at c.args.setup.now plans c.args.site e c.requires.ended c.final_counts-counts.ensures.masks))
+    (log-at c.args.setup.now plans c.args.site e c.requires.ended c.final_counts-counts.ensures.closed.masks))
 
 -- the number of submitters
 submitters-are : (many : ℕ) (sizes : List ℕ) (plans : List (List Request))
@@ -97,20 +97,21 @@ returns-clause-report c =
     c.deref.ensures.value ∙ c.requires.site.sizes in
     let many = submitters-are c.len.result c.args.site.sizes.items (lists_of c.args.plans.now.value.items)
     (c.len.ensures ∙ c.args.site.sizes.ok.0) c.requires.site.sizes in
-    let before : length c.args.site.counts.items ≡ length c.args.setup.now.pages =
-    ap (λ (xs : List ℕ). length xs) c.requires.site.counts
+    let told = c.final_counts-counts.ensures in
+    let pages : length c.final_counts-counts.result.items ≡ length c.args.setup.now.pages =
+    told.len ∙ ap (λ (z : Opening). length z.counts) h.opening
     ∙ length-map c.args.setup.now.pages (λ (p : Page). p.count) in
-    let logs = logs-are c.args.setup.now plans c.args.site e h c.final_counts-counts.ensures.masks
-    c.final_counts-counts.ensures.counted c.final_counts-counts.ensures.phases in
+    let logs = logs-are c.args.setup.now plans c.args.site e h told.closed.masks told.closed.counted
+    told.closed.phases in
     record {
       workers_all = size;
       logs = logs;
       replies = subst (λ sizes. IsCollected sizes (entries_in e.logs.items) (rows_of c.in_ok-replies.replies)) sized
           (subst (λ (logs : List WorkerLog). IsCollected c.deref.result.now (entries_in logs)
           (rows_of c.in_ok-replies.replies)) c.deref-2.ensures.value c.in_ok-replies.ensures);
-      counts = counts-are c.args.setup.now plans c.args.site e h c.final_counts-counts.ensures.masks
-          c.final_counts-counts.result.items refl (c.final_counts-counts.ensures.len ∙ before)
-          (λ page there. c.final_counts-counts.ensures.counts page (omega (arith, there, before)));
+      counts = counts-are c.args.setup.now plans c.args.site e h told.closed.masks
+          c.final_counts-counts.result.items refl pages
+          (λ page there. told.totals page (omega (arith, there, pages)));
       last = last-likes-are
           (asked c.args.setup.now plans (runs_of e.logs.items)) workers e.logs.items c.in_ok-last.last.items size
           c.requires.within.numbers.workers.0 (λ worker log at. (logs worker log at).0) c.in_ok-last.ensures.len
@@ -120,10 +121,8 @@ returns-clause-report c =
           c.deref-3.ensures.value
           ∙ ap (λ n. slice_get e.logs.items (worker_of (length e.logs.items) (home n user))) many ∙ at));
       joined = h.joined;
-      seen = seen-counts c.args.setup.now plans c.args.site e h c.final_counts-counts.ensures.masks refl
-          c.final_counts-counts.ensures.reads;
-      hot = chosen-are c.args.setup.now plans c.args.site e h c.final_counts-counts.ensures.masks
-          c.final_counts-counts.ensures.counted;
+      seen = seen-counts c.args.setup.now plans c.args.site e h told.closed.masks refl told.closed.reads;
+      hot = chosen-are c.args.setup.now plans c.args.site e h told.closed.masks told.closed.counted;
     }
 
 pub places_of-requires-clause-few : goal.places_of-requires-clause-few
@@ -140,8 +139,9 @@ places_of-requires-clause-few c =
 pub places_of-requires-clause-there : goal.places_of-requires-clause-there
 places_of-requires-clause-there c notes =
     let plans : List (List Request) = lists_of c.args.plans.now.value.items in
-    let there = all-there c.args.setup.now plans c.args.site c.args.ended c.requires.ended
-    c.final_counts-counts.ensures.masks c.final_counts-counts.ensures.counted notes c.requires.within.there in
+    let closed = c.final_counts-counts.ensures.closed in
+    let there = all-there c.args.setup.now plans c.args.site c.args.ended c.requires.ended closed.masks closed.counted
+    notes c.requires.within.there in
     subst (λ (n : ℕ). All (λ (log : WorkerLog). All (λ (a : Added). a.page < n) log.adds.items) c.deref-4.result.now)
     (sym c.len-2.ensures.len)
     (subst (λ (logs : List WorkerLog). All
@@ -154,22 +154,20 @@ returns-clause-places c notes =
     let setup : Setup = c.args.setup.now in
     let e = c.args.ended in
     let h = c.requires.ended in
-    let counts = c.final_counts-counts in
-    let before : length c.args.site.counts.items ≡ length setup.pages =
-    ap (λ (xs : List ℕ). length xs) c.requires.site.counts ∙ length-map setup.pages (λ (p : Page). p.count) in
+    let told = c.final_counts-counts.ensures in
+    let closed = told.closed in
+    let pages : length c.final_counts-counts.result.items ≡ length setup.pages =
+    told.len ∙ ap (λ (z : Opening). length z.counts) h.opening ∙ length-map setup.pages (λ (p : Page). p.count) in
     let P : ℕ → List WorkerLog → Type 0 = λ pages logs. ArePlaces pages logs (lists_in c.in_ok-places.places.items) in
-    let placed = placed-are setup plans c.args.site e h counts.ensures.masks counts.ensures.counted notes
-    counts.ensures.places in
+    let placed = placed-are setup plans c.args.site e h closed.masks closed.counted notes closed.places in
     record {
-      likes = of-likes setup plans c.args.site e h counts.ensures.masks counts.ensures.counted notes
-          counts.ensures.phases;
-      tiles = tiles-are setup plans c.args.site e h counts.ensures.masks counts.ensures.counted notes
-          c.requires.within.there counts.result.items (counts.ensures.len ∙ before)
-          (λ page there. counts.ensures.counts page (omega (arith, there, before))) counts.ensures.places;
+      likes = of-likes setup plans c.args.site e h closed.masks closed.counted notes closed.phases;
+      tiles = tiles-are setup plans c.args.site e h closed.masks closed.counted notes
+          c.requires.within.there c.final_counts-counts.result.items pages
+          (λ page there. told.totals page (omega (arith, there, pages))) closed.places;
       ends = λ worker d within. (placed worker d within).ends;
       order = λ worker d within. (placed worker d within).order;
-      in_time = stand-are setup plans c.args.site e h counts.ensures.masks counts.ensures.counted notes
-          counts.ensures.stand;
+      in_time = stand-are setup plans c.args.site e h closed.masks closed.counted notes closed.stand;
       rows = subst (λ (n : ℕ). P n e.logs.items) c.len-2.ensures.len
           (subst (P c.len-2.result) c.deref-4.ensures.value (c.in_ok-places.ensures.noted notes));
     }

@@ -1,6 +1,7 @@
-use Rattle.std.proofs.Common.{◌≡◌, ◌<◌, ap, sym, ◌∙◌, subst}
+use Rattle.std.proofs.Common.{◌≡◌, ◌<◌, length, ap, sym, ◌∙◌, subst}
 use Rattle.like_core.specs.declared.view.CoordSeatView.{CoordSeatView}
-use Rattle.like_board.specs.Seats.{AreCounted, HaveAddedWithin, HaveGlancedBetween, HavePlaces, HaveReadBetween, HaveReadMasks, board_id, coord_view, last_count}
+use Rattle.like_board.specs.Closed.{IsClosed}
+use Rattle.like_board.specs.Seats.{board_id, coord_view, last_count}
 use Rattle.like_live.specs.Driver.{DriverView}
 use Rattle.like_live.proofs.Closing.{back-all, back-here, last-total}
 use Rattle.like_live.proofs.driver.Driver.finish.Goals as goal
@@ -24,19 +25,21 @@ returns c =
     let is = c.last_counts.ensures in
     let seat_is : coord_view c.finish.result ≡ c.args.self.lead.seat =
     c.finish.ensures.view ∙ ap (λ (d : DriverView). d.lead.seat) c.self.view_is in
+    let closed : IsClosed c.args.self.lead.seat back =
+    subst (λ (d : CoordSeatView). IsClosed d back) seat_is is.closed in
     record {
-      len = is.len ∙ c.requires.places;
+      len = is.len ∙ ap (λ (d : CoordSeatView). length d.opening.counts) seat_is;
       totals = λ page there.
-          is.counts page (subst (λ n. page < n) is.len there)
+          is.totals page there
           ∙ ap (λ (d : CoordSeatView). last_count d.opening back page) seat_is
           ∙ last-total c.args.self c.args.seats.items back page c.give_back.ensures.back c.give_back.ensures.merged
           c.requires.gone;
       back = back;
       posts = c.give_back.ensures.back;
-      added = subst (λ (d : CoordSeatView). HaveAddedWithin d.phase back) seat_is is.added;
-      reads = subst (λ (d : CoordSeatView). HaveReadBetween d.opening d.phase back) seat_is is.reads;
-      glances = subst (λ (d : CoordSeatView). HaveGlancedBetween d.opening d.phase back) seat_is is.glances;
-      snapshots = subst (λ (d : CoordSeatView). AreCounted d back) seat_is is.counted;
-      masks = subst (λ (d : CoordSeatView). HaveReadMasks d.masks back) seat_is is.masks;
-      places = subst (λ (d : CoordSeatView). HavePlaces d.opening back) seat_is is.places;
+      added = closed.added;
+      reads = closed.reads;
+      glances = closed.glances;
+      snapshots = closed.counted;
+      masks = closed.masks;
+      places = closed.places;
     }
