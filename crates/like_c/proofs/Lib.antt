@@ -1,3 +1,4 @@
 pub mod Answering
-pub mod DriverAsBox
-pub mod SeatAsBox
+pub mod DriverHandleBox
+pub mod HandleSends
+pub mod SeatHandleBox

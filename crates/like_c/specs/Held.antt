@@ -1,5 +1,5 @@
 -- A call of what a handle holds, and what likes.h tells of it.
-use Rattle.std.specs.Prelude.{◌≡◌, ◌≢◌, ◌⊎◌, ℕ, ◌+◌, ◌≤◌, Bool, true, false, length, min, slice_get, take, List, [], ◌∷◌, ◌++◌, Option, Some, None}
+use Rattle.std.specs.Prelude.{◌≡◌, ◌≢◌, ◌⊎◌, ℕ, ◌+◌, ◌≤◌, ◌<◌, ◌==◌, if◌then◌else◌, Bool, true, false, length, min, replicate, slice_get, take, List, [], ◌∷◌, ◌++◌, Option, Some, None}
 use Rattle.std.specs.Global.{Global}
 use Rattle.std_alloc.specs.declared.boxed.Box.{Box}
 use Rattle.like_live.specs.LiveView.{LiveView, RanNext}
@@ -13,132 +13,82 @@ use Rattle.like_live.specs.Calls.{GlanceCase, LikeCase, LookCase, RetireCase, Ta
 use Rattle.like_live.specs.Driver.{DriverTurns, TakesLast, TakesSnapshot}
 use Rattle.like_live.specs.Moves.{Moves}
 use Rattle.like_seat.specs.SeatView.{phase_at}
+use Rattle.like_c.specs.declared.opened.BoxedSeat.{BoxedSeat}
 use Rattle.like_c.specs.declared.opened.Opened.{Opened}
-use Rattle.like_c.specs.declared.opened.Seated.{Seated}
 use Rattle.like_c.specs.declared.rows.AnswerRow.{AnswerRow}
 use Rattle.like_c.specs.declared.rows.FoundRow.{FoundRow}
+use Rattle.like_c.specs.declared.rows.Options.{Options}
 use Rattle.like_c.specs.declared.rows.RequestRow.{RequestRow}
-use Rattle.like_c.specs.Rows.{found_row, glance_row, look_row, status_row}
+use Rattle.like_c.specs.Rows.{found_row, glance_op, glance_row, like_op, look_op, look_row, status_row}
 use Rattle.like_live.specs.declared.open_error.OpenError.{OpenError}
-use Rattle.like_live.specs.Opening.{Asking, IsRefusedFor, numbers_of}
-use Rattle.like_c.specs.Opened.{IsOpenedAs}
-use Rattle.like_c.specs.Status.{open_status, driver_status, like_status, turn_status}
+use Rattle.like_live.specs.Opening.{IsRefusedFor, numbers_of}
+use Rattle.like_c.specs.Opened.{IsOpenedAs, asked_of}
+use Rattle.like_c.specs.Status.{driver_status, last_status, like_status, open_status, snapshot_status, turn_status}
+use Rattle.like_c.specs.Status as status
 
--- a seat is called: an empty handle stays empty and answers EMPTY
-pub data LikesAt (user page : ℕ) (at : Option Seated) (status : ℕ) (after : Option Seated) : Type 0 where
-  empty_like : at ≡ None → status ≡ 19 → after ≡ None → LikesAt user page at status after
-  likes : (s t : Seated) (answer : LikeAnswer) → at ≡ Some s → LikeCase s.seat user page answer t.seat
-      → status ≡ like_status answer → after ≡ Some t → LikesAt user page at status after
+-- a call of a handle: where that is empty, this is so, and it stays empty; where it holds something, the call does this
+-- to it
+pub data At {A : Type 0} (empty : Type 0) (does : A → A → Type 0) (at after : Option A) : Type 0 where
+  at_none : at ≡ None → empty → after ≡ None → At empty does at after
+  at_some : (x y : A) → at ≡ Some x → does x y → after ≡ Some y → At empty does at after
 
-pub data LooksAt (user page tag : ℕ) (at : Option Seated) (row : AnswerRow) (after : Option Seated) : Type 0 where
-  empty_look : at ≡ None → row ≡ status_row 19 → after ≡ None → LooksAt user page tag at row after
-  looks : (s t : Seated) (answer : LookAnswer) → at ≡ Some s → LookCase s.seat user page tag answer t.seat
-      → row ≡ look_row answer → after ≡ Some t → LooksAt user page tag at row after
+abbrev pub LikesAt : ℕ → ℕ → Option BoxedSeat → ℕ → Option BoxedSeat → Type 0
+LikesAt user page at result after =
+    At (result ≡ status.empty) (λ s t. (answer : LikeAnswer)
+    × LikeCase s.seat user page answer t.seat × (result ≡ like_status answer)) at after
 
-pub data GlancesAt (user page : ℕ) (at : Option Seated) (row : AnswerRow) (after : Option Seated) : Type 0 where
-  empty_glance : at ≡ None → row ≡ status_row 19 → after ≡ None → GlancesAt user page at row after
-  glances : (s t : Seated) (answer : GlanceAnswer) → at ≡ Some s → GlanceCase s.seat user page answer t.seat
-      → row ≡ glance_row answer → after ≡ Some t → GlancesAt user page at row after
+abbrev pub LooksAt : ℕ → ℕ → ℕ → Option BoxedSeat → AnswerRow → Option BoxedSeat → Type 0
+LooksAt user page tag at row after =
+    At (row ≡ status_row status.empty) (λ s t. (answer : LookAnswer)
+    × LookCase s.seat user page tag answer t.seat × (row ≡ look_row answer)) at after
 
-pub data TurnsAt (at : Option Seated) (status : ℕ) (after : Option Seated) : Type 0 where
-  empty_turn : at ≡ None → status ≡ 19 → after ≡ None → TurnsAt at status after
-  turns : (s t : Seated) (answer : TurnAnswer) → at ≡ Some s → Moves s.seat answer t.seat
-      → status ≡ turn_status answer → after ≡ Some t → TurnsAt at status after
+abbrev pub GlancesAt : ℕ → ℕ → Option BoxedSeat → AnswerRow → Option BoxedSeat → Type 0
+GlancesAt user page at row after =
+    At (row ≡ status_row status.empty) (λ s t. (answer : GlanceAnswer)
+    × GlanceCase s.seat user page answer t.seat × (row ≡ glance_row answer)) at after
 
-pub data RetiresAt (at : Option Seated) (status : ℕ) (after : Option Seated) : Type 0 where
-  empty_retire : at ≡ None → status ≡ 19 → after ≡ None → RetiresAt at status after
-  retires : (s t : Seated) (answer : TurnAnswer) → at ≡ Some s → RetireCase s.seat answer t.seat
-      → status ≡ turn_status answer → after ≡ Some t → RetiresAt at status after
+abbrev pub TurnsAt : Option BoxedSeat → ℕ → Option BoxedSeat → Type 0
+TurnsAt at result after =
+    At (result ≡ status.empty) (λ s t. (answer : TurnAnswer)
+    × Moves s.seat answer t.seat × (result ≡ turn_status answer)) at after
 
--- one request of a row is answered so
-pub data AnswersRow (v : LiveView) (request : RequestRow) (row : AnswerRow) (after : LiveView) : Type 0 where
-  row_like : (answer : LikeAnswer) → request.op ≡ 0 → LikeCase v request.user request.page answer after
-      → row ≡ status_row (like_status answer) → AnswersRow v request row after
-  row_look : (answer : LookAnswer) → request.op ≡ 1 → LookCase v request.user request.page request.tag answer after
-      → row ≡ look_row answer → AnswersRow v request row after
-  row_glance : (answer : GlanceAnswer) → request.op ≡ 2 → GlanceCase v request.user request.page answer after
-      → row ≡ glance_row answer → AnswersRow v request row after
-  row_unknown : 3 ≤ request.op → row ≡ status_row 10 → after ≡ v → AnswersRow v request row after
+abbrev pub RetiresAt : Option BoxedSeat → ℕ → Option BoxedSeat → Type 0
+RetiresAt at result after =
+    At (result ≡ status.empty) (λ s t. (answer : TurnAnswer)
+    × RetireCase s.seat answer t.seat × (result ≡ turn_status answer)) at after
+
+-- a phase is asked for, and nothing changes
+abbrev pub PhaseAt : Option BoxedSeat → ℕ → Option BoxedSeat → Type 0
+PhaseAt at phase after = At (phase ≡ 0) (λ s t. (phase ≡ phase_at s.seat.seat) × (t ≡ s)) at after
+
+abbrev pub DriverPhaseAt : Option Opened → ℕ → Option Opened → Type 0
+DriverPhaseAt at phase after = At (phase ≡ 0) (λ o p. (phase ≡ o.driver.lead.seat.phase) × (p ≡ o)) at after
 
 -- a found look is taken, and its row is written: it ran in the phase after the one in which it was asked. If there is
 -- none, the row stays as it was
-pub data TakesFoundAt (at : Option Seated) (old : FoundRow) (is_found : Bool) (row : FoundRow)
-    (after : Option Seated) : Type 0 where
-  empty_found : at ≡ None → is_found ≡ false → row ≡ old → after ≡ None → TakesFoundAt at old is_found row after
-  none_found : (s t : Seated) → at ≡ Some s → TakesFound s.seat None t.seat
-      → is_found ≡ false → row ≡ old → after ≡ Some t → TakesFoundAt at old is_found row after
-  takes_found : (s t : Seated) (found : Found) → at ≡ Some s → TakesFound s.seat (Some found) t.seat → RanNext found
-      → is_found ≡ true → row ≡ found_row found → after ≡ Some t → TakesFoundAt at old is_found row after
+pub data WritesFound (old : FoundRow) (is_found : Bool) (row : FoundRow) (s t : BoxedSeat) : Type 0 where
+  none_found : TakesFound s.seat None t.seat → is_found ≡ false → row ≡ old → WritesFound old is_found row s t
+  found : (it : Found) → TakesFound s.seat (Some it) t.seat → RanNext it → is_found ≡ true → row ≡ found_row it
+      → WritesFound old is_found row s t
 
--- a driver takes a turn. The seats that were not taken yet stay
-pub data DrivesAt (at : Option Opened) (may_end : Bool) (status : ℕ) (after : Option Opened) : Type 0 where
-  empty_drive : at ≡ None → status ≡ 19 → after ≡ None → DrivesAt at may_end status after
-  drives : (o p : Opened) (answer : DriverAnswer) → at ≡ Some o → DriverTurns o.driver may_end answer p.driver
-      → status ≡ driver_status answer → p.seats ≡ o.seats → after ≡ Some p → DrivesAt at may_end status after
+abbrev pub TakesFoundAt : Option BoxedSeat → FoundRow → Bool → FoundRow → Option BoxedSeat → Type 0
+TakesFoundAt at old is_found row after =
+    At ((is_found ≡ false) × (row ≡ old)) (WritesFound old is_found row) at after
 
--- a service has so many pages from this one on
-abbrev pub HasPages : Opened → ℕ → ℕ → Type 0
-HasPages o from many = from + many ≤ length o.driver.lead.seat.opening.counts
-
--- a snapshot of the pages from this one on is asked for, with room for so many counts
-pub data SnapshotAt (at : Option Opened) (from : ℕ) (old : List ℕ) (status : ℕ) (counts : List ℕ)
-    (after : Option Opened) : Type 0 where
-  empty_snapshot : at ≡ None → status ≡ 19 → counts ≡ old → after ≡ None → SnapshotAt at from old status counts after
-  snapshot_length : (o : Opened) → at ≡ Some o → ¬ HasPages o from (length old) → status ≡ 23 → counts ≡ old
-      → after ≡ Some o
-      → SnapshotAt at from old status counts after
-  snapshot_waits : (o p : Opened) → at ≡ Some o → HasPages o from (length old)
-      → TakesSnapshot o.driver from old None p.driver counts
-      → status ≡ 15 → p.seats ≡ o.seats → after ≡ Some p → SnapshotAt at from old status counts after
-  snapshot_counts : (o p : Opened) (phase : ℕ) → at ≡ Some o → HasPages o from (length old)
-      → TakesSnapshot o.driver from old (Some phase) p.driver counts
-      → status ≡ 17 → p.seats ≡ o.seats → after ≡ Some p → SnapshotAt at from old status counts after
-
--- the last counts of the pages from this one on are asked for: the driver stays, whether or not they are written
-pub data LastAt (at : Option Opened) (from : ℕ) (old : List ℕ) (status : ℕ) (counts : List ℕ)
-    (after : Option Opened) : Type 0 where
-  empty_last : at ≡ None → status ≡ 19 → counts ≡ old → after ≡ None → LastAt at from old status counts after
-  last_length : (o : Opened) → at ≡ Some o → ¬ HasPages o from (length old) → status ≡ 23 → counts ≡ old
-      → after ≡ Some o
-      → LastAt at from old status counts after
-  not_ended : (o p : Opened) → at ≡ Some o → HasPages o from (length old)
-      → TakesLast o.driver from old false p.driver counts
-      → status ≡ 22 → p.seats ≡ o.seats → after ≡ Some p → LastAt at from old status counts after
-  last_counts : (o p : Opened) → at ≡ Some o → HasPages o from (length old)
-      → TakesLast o.driver from old true p.driver counts
-      → status ≡ 0 → p.seats ≡ o.seats → after ≡ Some p → LastAt at from old status counts after
-
--- a phase is asked for
-pub data PhaseAt (at : Option Seated) (phase : ℕ) : Type 0 where
-  empty_phase : at ≡ None → phase ≡ 0 → PhaseAt at phase
-  seat_phase : (s : Seated) → at ≡ Some s → phase ≡ phase_at s.seat.seat → PhaseAt at phase
-
-pub data DriverPhaseAt (at : Option Opened) (phase : ℕ) : Type 0 where
-  empty_driver : at ≡ None → phase ≡ 0 → DriverPhaseAt at phase
-  driver_phase : (o : Opened) → at ≡ Some o → phase ≡ o.driver.lead.seat.phase → DriverPhaseAt at phase
-
--- the next seat is handed out, into an empty handle
-pub data HandsOut (from : Option Opened) (to : Option Seated) (status : ℕ) (left : Option Opened)
-    (after : Option Seated) : Type 0 where
-  hand_in_use : to ≢ None → status ≡ 20 → left ≡ from → after ≡ to → HandsOut from to status left after
-  hand_empty : to ≡ None → from ≡ None → status ≡ 19 → left ≡ None → after ≡ None → HandsOut from to status left after
-  hand_none : (o p : Opened) → to ≡ None → from ≡ Some o → o.seats.items ≡ [] → p.driver ≡ o.driver
-      → p.seats.items ≡ []
-      → status ≡ 21 → left ≡ Some p → after ≡ None → HandsOut from to status left after
-  hands : (o p : Opened) (s : Seated) (b : Box Seated Global) → to ≡ None → from ≡ Some o → p.driver ≡ o.driver
-      → o.seats.items ≡ p.seats.items ++ b ∷ [] → b.value ≡ s
-      → status ≡ 0 → left ≡ Some p → after ≡ Some s → HandsOut from to status left after
-
--- a service is opened as asked for, into an empty handle; or the first wrong number is told, or that there is no memory
-pub data OpensAt (asked : Asking) (at : Option Opened) (status : ℕ) (after : Option Opened) : Type 0 where
-  open_in_use : at ≢ None → status ≡ 20 → after ≡ at → OpensAt asked at status after
-  opens : (o : Opened) → at ≡ None → IsOpenedAs asked o → status ≡ 0 → after ≡ Some o → OpensAt asked at status after
-  refused : (error : OpenError) → at ≡ None → IsRefusedFor (numbers_of asked) error → status ≡ open_status error
-      → after ≡ None → OpensAt asked at status after
+-- one request of a row is answered so
+pub data AnswersRow (v : LiveView) (request : RequestRow) (row : AnswerRow) (after : LiveView) : Type 0 where
+  row_like : (answer : LikeAnswer) → request.op ≡ like_op → LikeCase v request.user request.page answer after
+      → row ≡ status_row (like_status answer) → AnswersRow v request row after
+  row_look : (answer : LookAnswer) → request.op ≡ look_op
+      → LookCase v request.user request.page request.tag answer after
+      → row ≡ look_row answer → AnswersRow v request row after
+  row_glance : (answer : GlanceAnswer) → request.op ≡ glance_op → GlanceCase v request.user request.page answer after
+      → row ≡ glance_row answer → AnswersRow v request row after
+  row_unknown : glance_op < request.op → row ≡ status_row status.unknown_op → after ≡ v → AnswersRow v request row after
 
 -- a row that tells its request that it must wait
 abbrev pub IsToWait : AnswerRow → Type 0
-IsToWait row = (row.status ≡ 5) ⊎ (row.status ≡ 6)
+IsToWait row = (row.status ≡ status.between) ⊎ (row.status ≡ status.no_room)
 
 -- these requests are answered one by one, each in its row, and none must wait
 abbrev pub RowsAnswered : LiveView → List RequestRow → List AnswerRow → LiveView → Type 0
@@ -161,16 +111,90 @@ pub data RunsRows (v : LiveView) (requests : List RequestRow) (rows : List Answe
 -- the first answer, if there is one, tells that the handle is empty
 abbrev pub with_empty : List AnswerRow → List AnswerRow
 with_empty [] = []
-with_empty (row ∷ rows) = status_row 19 ∷ rows
+with_empty (row ∷ rows) = status_row status.empty ∷ rows
 
 -- the answers that have no request stay as they were
 abbrev pub KeepsUnasked : List RequestRow → List AnswerRow → List AnswerRow → Type 0
 KeepsUnasked requests old rows = (i : ℕ) → length requests ≤ i → slice_get rows i ≡ slice_get old i
 
 -- rows are run at a handle; an empty one does none, and tells so in the first answer
-pub data RunsAt (at : Option Seated) (requests : List RequestRow) (old rows : List AnswerRow) (done : ℕ)
-    (after : Option Seated) : Type 0 where
-  empty_run : at ≡ None → done ≡ 0 → rows ≡ with_empty old → after ≡ None → RunsAt at requests old rows done after
-  runs : (s t : Seated) → at ≡ Some s → RunsRows s.seat requests rows done t.seat
-      → KeepsUnasked requests old rows → after ≡ Some t
-      → RunsAt at requests old rows done after
+abbrev pub RunsAt :
+    Option BoxedSeat → List RequestRow → List AnswerRow → List AnswerRow → ℕ → Option BoxedSeat → Type 0
+RunsAt at requests old rows done after =
+    At ((done ≡ 0) × (rows ≡ with_empty old))
+    (λ s t. RunsRows s.seat requests rows done t.seat × KeepsUnasked requests old rows) at after
+
+-- nothing but the driver has changed
+abbrev pub KeepsRest : Opened → Opened → Type 0
+KeepsRest o p = p ≡ record o { driver = p.driver }
+
+-- whether a turn may end the phase, if the number says it
+abbrev pub may_end_of : ℕ → Option Bool
+may_end_of end = if end == 0 then Some false else if end == 1 then Some true else None
+
+-- a driver takes a turn, if the end is known
+pub data Drives (end result : ℕ) (o p : Opened) : Type 0 where
+  drives : (may_end : Bool) (answer : DriverAnswer) → may_end_of end ≡ Some may_end
+      → DriverTurns o.driver may_end answer p.driver → KeepsRest o p → result ≡ driver_status answer
+      → Drives end result o p
+  unknown_end : may_end_of end ≡ None → p ≡ o → result ≡ status.unknown_end → Drives end result o p
+
+abbrev pub DrivesAt : Option Opened → ℕ → ℕ → Option Opened → Type 0
+DrivesAt at end result after = At (result ≡ status.empty) (Drives end result) at after
+
+-- a service has so many pages from this one on
+abbrev pub HasPages : Opened → ℕ → ℕ → Type 0
+HasPages o from many = from + many ≤ length o.driver.lead.seat.opening.counts
+
+-- a snapshot of the pages from this one on is asked for, with room for so many counts
+pub data Snapshots (from : ℕ) (old : List ℕ) (result : ℕ) (counts : List ℕ) (o p : Opened) : Type 0 where
+  snapshot_range : ¬ HasPages o from (length old) → result ≡ status.wrong_range → counts ≡ old → p ≡ o
+      → Snapshots from old result counts o p
+  snapshots : (phase : Option ℕ) → HasPages o from (length old)
+      → TakesSnapshot o.driver from old phase p.driver counts → result ≡ snapshot_status phase → KeepsRest o p
+      → Snapshots from old result counts o p
+
+abbrev pub SnapshotAt : Option Opened → ℕ → List ℕ → ℕ → List ℕ → Option Opened → Type 0
+SnapshotAt at from old result counts after =
+    At ((result ≡ status.empty) × (counts ≡ old)) (Snapshots from old result counts) at after
+
+-- the last counts of the pages from this one on are asked for: the driver stays, whether or not they are written
+pub data WritesLast (from : ℕ) (old : List ℕ) (result : ℕ) (counts : List ℕ) (o p : Opened) : Type 0 where
+  last_range : ¬ HasPages o from (length old) → result ≡ status.wrong_range → counts ≡ old → p ≡ o
+      → WritesLast from old result counts o p
+  last_counts : (is_done : Bool) → HasPages o from (length old)
+      → TakesLast o.driver from old is_done p.driver counts → result ≡ last_status is_done → KeepsRest o p
+      → WritesLast from old result counts o p
+
+abbrev pub LastAt : Option Opened → ℕ → List ℕ → ℕ → List ℕ → Option Opened → Type 0
+LastAt at from old result counts after =
+    At ((result ≡ status.empty) × (counts ≡ old)) (WritesLast from old result counts) at after
+
+-- the next seat is handed out, into an empty handle
+pub data HandsOut (from : Option Opened) (to : Option BoxedSeat) (result : ℕ) (left : Option Opened)
+    (after : Option BoxedSeat) : Type 0 where
+  hand_in_use : to ≢ None → result ≡ status.in_use → left ≡ from → after ≡ to → HandsOut from to result left after
+  hand_empty : to ≡ None → from ≡ None → result ≡ status.empty → left ≡ None → after ≡ None
+      → HandsOut from to result left after
+  hand_none : (o p : Opened) → to ≡ None → from ≡ Some o → p ≡ record o { seats = p.seats } → o.seats.items ≡ []
+      → p.seats.items ≡ [] → result ≡ status.all_taken → left ≡ Some p → after ≡ None
+      → HandsOut from to result left after
+  hands : (o p : Opened) (b : Box BoxedSeat Global) → to ≡ None → from ≡ Some o → p ≡ record o { seats = p.seats }
+      → o.seats.items ≡ p.seats.items ++ b ∷ [] → result ≡ status.ok → left ≡ Some p → after ≡ Some b.value
+      → HandsOut from to result left after
+
+-- no reserved field is in use
+abbrev pub IsUnreserved : Options → Type 0
+IsUnreserved options = options.reserved ≡ replicate 6 0
+
+-- a service is opened as asked for, into an empty handle; or it is told what is wrong first, or that there is no memory
+pub data OpensAt (options : Options) (counts : List ℕ) (marks : List Bool) (at : Option Opened) (result : ℕ)
+    (after : Option Opened) : Type 0 where
+  open_in_use : at ≢ None → result ≡ status.in_use → after ≡ at → OpensAt options counts marks at result after
+  open_reserved : at ≡ None → ¬ IsUnreserved options → result ≡ status.wrong_reserved → after ≡ None
+      → OpensAt options counts marks at result after
+  opens : (o : Opened) → at ≡ None → IsUnreserved options → IsOpenedAs (asked_of options counts marks) o
+      → result ≡ status.ok → after ≡ Some o → OpensAt options counts marks at result after
+  refused : (error : OpenError) → at ≡ None → IsUnreserved options
+      → IsRefusedFor (numbers_of (asked_of options counts marks)) error → result ≡ open_status error → after ≡ None
+      → OpensAt options counts marks at result after

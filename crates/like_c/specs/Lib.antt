@@ -1,6 +1,6 @@
+pub mod Handle
 pub mod Held
-pub mod HeldDriver
-pub mod HeldSeat
+pub mod Lends
 pub mod Opened
 pub mod Rows
 pub mod Status

@@ -7,7 +7,7 @@ use Rattle.like_live.specs.Service.{IsOpened}
 use Rattle.like_live.specs.LiveView.{LiveView}
 use Rattle.std.specs.Global.{Global}
 use Rattle.std_alloc.specs.declared.boxed.Box.{Box}
-use Rattle.like_c.specs.declared.opened.Seated.{Seated}
+use Rattle.like_c.specs.declared.opened.BoxedSeat.{BoxedSeat}
 use Rattle.like_c.specs.declared.opened.Opened.{Opened}
 use Rattle.like_c.specs.declared.rows.Options.{Options}
 
@@ -32,7 +32,7 @@ asked_of options counts marks = record {
 }
 
 -- the seat in a box
-abbrev pub seat_in : Box Seated Global → LiveView
+abbrev pub seat_in : Box BoxedSeat Global → LiveView
 seat_in b = b.value.seat
 
 -- a service was opened as is asked for, and these are its driver and its seats, the first one last

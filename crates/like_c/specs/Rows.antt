@@ -10,6 +10,17 @@ use Rattle.like_live.specs.declared.asked.Found.{Found}
 use Rattle.like_c.specs.declared.rows.AnswerRow.{AnswerRow}
 use Rattle.like_c.specs.declared.rows.FoundRow.{FoundRow}
 use Rattle.like_c.specs.Status.{verdict_status}
+use Rattle.like_c.specs.Status as status
+
+-- what is asked for in a request
+abbrev pub like_op : ℕ
+like_op = 0
+
+abbrev pub look_op : ℕ
+look_op = 1
+
+abbrev pub glance_op : ℕ
+glance_op = 2
 
 -- a page, or the number that stands for none
 abbrev pub page_or_none : Option ℕ → ℕ
@@ -22,21 +33,21 @@ status_row status = record { count = 0; last = 0; status = status }
 
 -- what was seen
 abbrev pub seen_row : Seen → AnswerRow
-seen_row seen = record { count = seen.count; last = page_or_none seen.last; status = 2 }
+seen_row seen = record { count = seen.count; last = page_or_none seen.last; status = status.seen }
 
 abbrev pub look_row : LookAnswer → AnswerRow
 look_row (look.Seen seen) = seen_row seen
-look_row look.Waits = status_row 3
-look_row look.Between = status_row 5
-look_row look.NoRoom = status_row 6
+look_row look.Waits = status_row status.waits
+look_row look.Between = status_row status.between
+look_row look.NoRoom = status_row status.no_room
 look_row (look.Refused verdict) = status_row (verdict_status verdict)
-look_row look.Gone = status_row 12
+look_row look.Gone = status_row status.gone
 
 abbrev pub glance_row : GlanceAnswer → AnswerRow
 glance_row (glance.Seen seen) = seen_row seen
-glance_row glance.Between = status_row 5
+glance_row glance.Between = status_row status.between
 glance_row (glance.Refused verdict) = status_row (verdict_status verdict)
-glance_row glance.Gone = status_row 12
+glance_row glance.Gone = status_row status.gone
 
 abbrev pub found_row : Found → FoundRow
 found_row found = record {
@@ -47,5 +58,5 @@ found_row found = record {
   user = found.asked.user;
   page = found.asked.page;
   last = page_or_none found.last;
-  unused = 0;
+  reserved = 0;
 }

@@ -1,59 +1,90 @@
-ghost use Rattle.std.specs.Prelude.{◌≡◌, ◌≢◌, ◌↔◌, IsTrue, IfSome, Option, Some, None};
+ghost use Rattle.std.specs.Prelude.{◌≡◌, ◌≢◌, ◌↔◌, IsTrue, MatchOption, Option, Some, None};
+ghost use Rattle.std.specs.Borrow.{sem};
+ghost use Rattle.std.specs.Coded.{coded_option};
 ghost use Rattle.like_c.specs.declared.opened.Opened.{Opened};
+ghost use Rattle.like_c.specs.contracts.opened.Opened.{the_row};
+ghost use Rattle.like_c.specs.Handle.{handle_owns};
 
-use crate::held_driver::HeldDriver;
 use crate::opened::Opened;
 use crate::parts::Parts;
 use std::alloc::Global;
+use std::marker::Model;
 
-/// A driver, or none, as C holds it.
+/// A driver behind a pointer, or none behind the null pointer, as C holds it. It is not `Drop`, so no code can lose a
+/// driver.
 #[repr(C)]
 pub struct DriverHandle {
-    pub(crate) held: HeldDriver,
-    full: bool,
-    ghost known: { IsTrue full ↔ (held.home ≢ None) },
+    at: *mut u8,
+    pub ghost home: { Option Opened } by { coded_option the_row.coded },
+}
+
+impl Model for DriverHandle {
+    ghost also_owns = { λ h. handle_owns the_row h.at h.home };
 }
 
 impl DriverHandle {
-    /// Whether there is one.
-    pub(crate) fn is_full(&self) -> bool
-        ensures { IsTrue result ↔ (self.now.held.home ≢ None) }
-    {
-        self.full
-    }
+    ghost use Rattle.like_c.specs.Lends.{LendsDriver};
 
-    /// None.
-    fn empty(alloc: Global) -> DriverHandle
-        ensures { result.held.home ≡ None }
+    /// The driver, if there is one. The pointer is read alone.
+    #[inline(always)]
+    pub(crate) fn get(&mut self) -> Option<&mut Opened>
+        ensures* lends { sem 𝓛 (LendsDriver self.entry result) }
+        ensures driver { MatchOption result (self.old.home ≡ None) (λ driver. self.old.home ≡ Some driver.now) }
     {
-        let held = HeldDriver::empty(alloc);
-        DriverHandle { held, full: false }
-    }
-
-    /// Takes the driver out, if there is one.
-    pub(crate) fn take(&mut self, alloc: Global) -> Option<Box<Opened, Global>>
-        ensures taken { IfSome result (λ b. self.old.held.home ≡ Some b.value) }
-        ensures none { result ≡ None → self.old.held.home ≡ None }
-        ensures left { self.new.held.home ≡ None }
-    {
-        if !self.full {
+        if self.at.is_null() {
             return None;
         }
-        let DriverHandle { held, full: _full } = std::mem::replace(
-            self,
-            DriverHandle::empty(alloc),
-        );
-        Some(held.into_parts().into_box())
+        unsafe { Some(&mut *(self.at as *mut Opened)) }
+    }
+
+    /// Whether there is one.
+    #[inline(always)]
+    pub(crate) fn is_full(&mut self) -> bool
+        ensures full { IsTrue result ↔ (self.old.home ≢ None) }
+        ensures same { self.new.home ≡ self.old.home }
+    {
+        match self.get() {
+            Some(_driver) => true,
+            None => false,
+        }
     }
 
     /// Puts a driver in the place of none.
     pub(crate) fn put(&mut self, driver: Box<Opened, Global>)
-        requires { self.old.held.home ≡ None }
-        ensures { self.new.held.home ≡ Some driver.value }
+        requires { self.old.home ≡ None }
+        ensures { self.new.home ≡ Some driver.value }
     {
-        let held = HeldDriver::of_parts(Parts::of(driver));
-        let full = DriverHandle { held, full: true };
-        let DriverHandle { held, full: _full } = std::mem::replace(self, full);
-        held.discard();
+        self.put_parts(Parts::of(driver));
+    }
+
+    /// Takes the driver out, if there is one.
+    pub(crate) fn take(&mut self, alloc: Global) -> Option<Box<Opened, Global>>
+        ensures taken { MatchOption result (self.old.home ≡ None) (λ driver. self.old.home ≡ Some driver.value) }
+        ensures left { self.new.home ≡ None }
+    {
+        if !self.is_full() {
+            return None;
+        }
+        Some(self.take_parts(alloc).into_box())
+    }
+
+    fn put_parts(&mut self, parts: Parts<Opened, Global>)
+        requires { self.old.home ≡ None }
+        ensures { self.new.home ≡ Some parts.value }
+    {
+        let Parts { ptr, alloc: _ } = parts;
+        self.at = ptr as *mut u8;
+    }
+
+    fn take_parts(&mut self, alloc: Global) -> Parts<Opened, Global>
+        requires some { self.old.home ≢ None }
+        ensures taken { Some result.value ≡ self.old.home }
+        ensures left { self.new.home ≡ None }
+    {
+        let ptr = self.at as *mut Opened;
+        self.at = std::ptr::null_mut();
+        Parts { ptr, alloc }
     }
 }
+
+unsafe impl Send for DriverHandle {}

@@ -3,13 +3,10 @@
 #![tactic(auto)]
 
 ghost use Rattle.std.specs.Prelude.{◌≡◌, ◌<◌, ◌≤◌, ℕ, length, slice_get, None};
-ghost use Rattle.like_c.specs.Held.{DriverPhaseAt, DrivesAt, GlancesAt, HandsOut, LastAt, LikesAt, LooksAt, OpensAt, PhaseAt, RetiresAt, RunsAt, SnapshotAt, TakesFoundAt, TurnsAt};
-ghost use Rattle.like_c.specs.Opened.{asked_of};
+ghost use Rattle.like_c.specs.Held.{DriverPhaseAt, DrivesAt, GlancesAt, HandsOut, LastAt, LikesAt, LooksAt, OpensAt, PhaseAt, RetiresAt, RunsAt, SnapshotAt, TakesFoundAt, TurnsAt, may_end_of};
 ghost use Rattle.like_c.specs.Status.{version};
 
 mod driver_handle;
-mod held_driver;
-mod held_seat;
 mod opened;
 mod parts;
 mod rows;
@@ -23,7 +20,7 @@ pub use seat_handle::SeatHandle;
 use std::alloc::Global;
 
 /// 1,000 times the number of the ABI, plus a number within it.
-const VERSION: u32 = 1;
+const VERSION: u32 = 2;
 
 /// The version of `likes.h` that the library has.
 #[unsafe(no_mangle)]
@@ -35,17 +32,20 @@ pub extern "C" fn likes_version() -> u32
 
 /// Opens a service. The driver's handle has to be empty, and is full after `OK`.
 #[unsafe(no_mangle)]
-pub extern "C" fn likes_open(
+pub extern "C" fn likes_open_nonnull(
     alloc: Global,
     options: &Options,
     counts: &[u64],
     marks: &[bool],
     driver: &mut DriverHandle,
 ) -> u32
-    ensures { OpensAt (asked_of options.now counts.now marks.now) driver.old.held.home result driver.new.held.home }
+    ensures { OpensAt options.now counts.now marks.now driver.old.home result driver.new.home }
 {
     if driver.is_full() {
         return status::IN_USE;
+    }
+    if !options.is_unreserved() {
+        return status::WRONG_RESERVED;
     }
     match Opened::new(alloc, options, counts, marks) {
         Ok(opened) => {
@@ -56,99 +56,165 @@ pub extern "C" fn likes_open(
     }
 }
 
-/// Hands out the next seat. All boxes were made by `likes_open`: this takes no memory.
+/// Hands out the next seat. All boxes were made by `likes_open_nonnull`: this takes no memory.
 #[unsafe(no_mangle)]
-pub extern "C" fn likes_take_seat(
-    alloc: Global,
-    driver: &mut DriverHandle,
-    seat: &mut SeatHandle,
-) -> u32
-    ensures { HandsOut driver.old.held.home seat.old.held.home result driver.new.held.home seat.new.held.home }
+pub extern "C" fn likes_driver_take_seat(driver: &mut DriverHandle, seat: &mut SeatHandle) -> u32
+    ensures { HandsOut driver.old.home seat.old.home result driver.new.home seat.new.home }
 {
     if seat.is_full() {
         return status::IN_USE;
     }
-    let Some(mut opened) = driver.take(alloc) else {
+    let Some(opened) = driver.get() else {
         return status::EMPTY;
     };
-    let next = opened.seats.pop();
-    driver.put(opened);
-    match next {
+    match opened.seats.pop() {
         Some(taken) => {
             seat.put(taken);
             status::OK
         }
-        None => status::NO_SEAT,
+        None => status::ALL_TAKEN,
     }
 }
 
 #[unsafe(no_mangle)]
-pub extern "C" fn likes_like(alloc: Global, seat: &mut SeatHandle, user: u32, page: u32) -> u32
-    ensures { LikesAt user page seat.old.held.home result seat.new.held.home }
+pub extern "C" fn likes_driver_turn(driver: &mut DriverHandle, end: u32) -> u32
+    ensures { DrivesAt driver.old.home end result driver.new.home }
 {
-    let Some(mut taken) = seat.take(alloc) else {
+    let Some(opened) = driver.get() else {
         return status::EMPTY;
     };
-    let answer = taken.seat.like(user, page);
-    seat.put(taken);
-    status::of_like(answer)
+    match may_end_of(end) {
+        Some(may_end) => status::of_driver(opened.driver.turn(may_end)),
+        None => status::UNKNOWN_END,
+    }
+}
+
+// Whether a turn may end the phase, if the number says it.
+fn may_end_of(end: u32) -> Option<bool>
+    ensures { result ≡ may_end_of end }
+{
+    match end {
+        0 => Some(false),
+        1 => Some(true),
+        _ => None,
+    }
 }
 
 #[unsafe(no_mangle)]
-pub extern "C" fn likes_look(
-    alloc: Global,
+pub extern "C" fn likes_driver_snapshot_nonnull(
+    driver: &mut DriverHandle,
+    from: u32,
+    counts: &mut [u64],
+) -> u32
+    ensures { SnapshotAt driver.old.home from counts.old result counts.new driver.new.home }
+{
+    let Some(opened) = driver.get() else {
+        return status::EMPTY;
+    };
+    if !opened.driver.has_pages(from, counts.len()) {
+        return status::WRONG_RANGE;
+    }
+    match opened.driver.snapshot(from, counts) {
+        Some(_) => status::COUNTED,
+        None => status::NO_MOMENT,
+    }
+}
+
+#[unsafe(no_mangle)]
+pub extern "C" fn likes_driver_phase(driver: &mut DriverHandle) -> u64
+    ensures { DriverPhaseAt driver.old.home result driver.new.home }
+{
+    match driver.get() {
+        Some(opened) => opened.driver.phase(),
+        None => 0,
+    }
+}
+
+/// The last counts of the pages from one on, once all seats are gone. No seats are given back: C cannot show whose they
+/// are.
+#[unsafe(no_mangle)]
+pub extern "C" fn likes_driver_last_counts_nonnull(
+    driver: &mut DriverHandle,
+    from: u32,
+    counts: &mut [u64],
+) -> u32
+    ensures { LastAt driver.old.home from counts.old result counts.new driver.new.home }
+{
+    let Some(opened) = driver.get() else {
+        return status::EMPTY;
+    };
+    if !opened.driver.has_pages(from, counts.len()) {
+        return status::WRONG_RANGE;
+    }
+    if opened.driver.last_counts(from, counts) {
+        status::COUNTED
+    } else {
+        status::NOT_ENDED
+    }
+}
+
+#[unsafe(no_mangle)]
+pub extern "C" fn likes_driver_free_nonnull(alloc: Global, driver: &mut DriverHandle)
+    ensures { driver.new.home ≡ None }
+{
+    drop(driver.take(alloc));
+}
+
+#[unsafe(no_mangle)]
+pub extern "C" fn likes_seat_like(seat: &mut SeatHandle, user: u32, page: u32) -> u32
+    ensures { LikesAt user page seat.old.home result seat.new.home }
+{
+    let Some(boxed) = seat.get() else {
+        return status::EMPTY;
+    };
+    status::of_like(boxed.seat.like(user, page))
+}
+
+#[unsafe(no_mangle)]
+pub extern "C" fn likes_seat_look(
     seat: &mut SeatHandle,
     user: u32,
     page: u32,
     tag: u64,
     answer: &mut AnswerRow,
 ) -> u32
-    ensures case { LooksAt user page tag seat.old.held.home answer.new seat.new.held.home }
+    ensures case { LooksAt user page tag seat.old.home answer.new seat.new.home }
     ensures status { result ≡ answer.new.status }
 {
-    let Some(mut taken) = seat.take(alloc) else {
+    let Some(boxed) = seat.get() else {
         *answer = AnswerRow::of(status::EMPTY);
         return status::EMPTY;
     };
-    *answer = AnswerRow::of_look(taken.seat.look(user, page, tag));
-    seat.put(taken);
+    *answer = AnswerRow::of_look(boxed.seat.look(user, page, tag));
     answer.status
 }
 
 #[unsafe(no_mangle)]
-pub extern "C" fn likes_glance(
-    alloc: Global,
+pub extern "C" fn likes_seat_glance(
     seat: &mut SeatHandle,
     user: u32,
     page: u32,
     answer: &mut AnswerRow,
 ) -> u32
-    ensures case { GlancesAt user page seat.old.held.home answer.new seat.new.held.home }
+    ensures case { GlancesAt user page seat.old.home answer.new seat.new.home }
     ensures status { result ≡ answer.new.status }
 {
-    let Some(mut taken) = seat.take(alloc) else {
+    let Some(boxed) = seat.get() else {
         *answer = AnswerRow::of(status::EMPTY);
         return status::EMPTY;
     };
-    *answer = AnswerRow::of_glance(taken.seat.glance(user, page));
-    seat.put(taken);
+    *answer = AnswerRow::of_glance(boxed.seat.glance(user, page));
     answer.status
 }
 
 #[unsafe(no_mangle)]
-pub extern "C" fn likes_take_found(
-    alloc: Global,
-    seat: &mut SeatHandle,
-    found: &mut FoundRow,
-) -> bool
-    ensures { TakesFoundAt seat.old.held.home found.old result found.new seat.new.held.home }
+pub extern "C" fn likes_seat_take_found(seat: &mut SeatHandle, found: &mut FoundRow) -> bool
+    ensures { TakesFoundAt seat.old.home found.old result found.new seat.new.home }
 {
-    let Some(mut taken) = seat.take(alloc) else {
+    let Some(boxed) = seat.get() else {
         return false;
     };
-    let next = taken.seat.take_found();
-    seat.put(taken);
-    match next {
+    match boxed.seat.take_found() {
         Some(it) => {
             *found = FoundRow::of(it);
             true
@@ -158,153 +224,60 @@ pub extern "C" fn likes_take_found(
 }
 
 /// Runs rows one by one. It stops before the first that is `BETWEEN` or `NO_ROOM`, whose answer has that status, and at
-/// the end of the shorter row. The answers behind are left as they were. The seat is taken out of its handle once for
-/// all rows.
+/// the end of the shorter row. The answers behind are left as they were.
 #[unsafe(no_mangle)]
-pub extern "C" fn likes_run(
-    alloc: Global,
+pub extern "C" fn likes_seat_run_nonnull(
     seat: &mut SeatHandle,
     requests: &[RequestRow],
     answers: &mut [AnswerRow],
 ) -> usize
-    ensures rows { RunsAt seat.old.held.home requests.now answers.old answers.new result seat.new.held.home }
+    ensures rows { RunsAt seat.old.home requests.now answers.old answers.new result seat.new.home }
     ensures requests { result ≤ length requests.now }
     ensures answers { result ≤ length answers.old }
     ensures rest { (i : ℕ) → result < i → slice_get answers.new i ≡ slice_get answers.old i }
 {
-    let Some(mut taken) = seat.take(alloc) else {
+    let Some(boxed) = seat.get() else {
         if let Some(first) = answers.first_mut() {
             *first = AnswerRow::of(status::EMPTY);
         }
         return 0;
     };
-    let done = rows::run(&mut taken.seat, requests, answers);
-    seat.put(taken);
-    done
+    rows::run(&mut boxed.seat, requests, answers)
 }
 
 #[unsafe(no_mangle)]
-pub extern "C" fn likes_turn(alloc: Global, seat: &mut SeatHandle) -> u32
-    ensures { TurnsAt seat.old.held.home result seat.new.held.home }
+pub extern "C" fn likes_seat_turn(seat: &mut SeatHandle) -> u32
+    ensures { TurnsAt seat.old.home result seat.new.home }
 {
-    let Some(mut taken) = seat.take(alloc) else {
+    let Some(boxed) = seat.get() else {
         return status::EMPTY;
     };
-    let answer = taken.seat.turn();
-    seat.put(taken);
-    status::of_turn(answer)
+    status::of_turn(boxed.seat.turn())
 }
 
 #[unsafe(no_mangle)]
-pub extern "C" fn likes_retire(alloc: Global, seat: &mut SeatHandle) -> u32
-    ensures { RetiresAt seat.old.held.home result seat.new.held.home }
+pub extern "C" fn likes_seat_retire(seat: &mut SeatHandle) -> u32
+    ensures { RetiresAt seat.old.home result seat.new.home }
 {
-    let Some(mut taken) = seat.take(alloc) else {
+    let Some(boxed) = seat.get() else {
         return status::EMPTY;
     };
-    let answer = taken.seat.retire();
-    seat.put(taken);
-    status::of_turn(answer)
+    status::of_turn(boxed.seat.retire())
 }
 
 #[unsafe(no_mangle)]
-pub extern "C" fn likes_seat_phase(alloc: Global, seat: &mut SeatHandle) -> u64
-    ensures phase { PhaseAt seat.old.held.home result }
-    ensures same { seat.new.held.home ≡ seat.old.held.home }
+pub extern "C" fn likes_seat_phase(seat: &mut SeatHandle) -> u64
+    ensures { PhaseAt seat.old.home result seat.new.home }
 {
-    let Some(taken) = seat.take(alloc) else {
-        return 0;
-    };
-    let phase = taken.seat.phase();
-    seat.put(taken);
-    phase
-}
-
-#[unsafe(no_mangle)]
-pub extern "C" fn likes_driver_turn(alloc: Global, driver: &mut DriverHandle, may_end: bool) -> u32
-    ensures { DrivesAt driver.old.held.home may_end result driver.new.held.home }
-{
-    let Some(mut opened) = driver.take(alloc) else {
-        return status::EMPTY;
-    };
-    let answer = opened.driver.turn(may_end);
-    driver.put(opened);
-    status::of_driver(answer)
-}
-
-#[unsafe(no_mangle)]
-pub extern "C" fn likes_snapshot(
-    alloc: Global,
-    driver: &mut DriverHandle,
-    from: u32,
-    counts: &mut [u64],
-) -> u32
-    ensures { SnapshotAt driver.old.held.home from counts.old result counts.new driver.new.held.home }
-{
-    let Some(mut opened) = driver.take(alloc) else {
-        return status::EMPTY;
-    };
-    if !opened.driver.has_pages(from, counts.len()) {
-        driver.put(opened);
-        return status::WRONG_LENGTH;
-    }
-    let phase = opened.driver.snapshot(from, counts);
-    driver.put(opened);
-    match phase {
-        Some(_) => status::COUNTED,
-        None => status::WAITING,
+    match seat.get() {
+        Some(boxed) => boxed.seat.phase(),
+        None => 0,
     }
 }
 
 #[unsafe(no_mangle)]
-pub extern "C" fn likes_phase(alloc: Global, driver: &mut DriverHandle) -> u64
-    ensures phase { DriverPhaseAt driver.old.held.home result }
-    ensures same { driver.new.held.home ≡ driver.old.held.home }
-{
-    let Some(opened) = driver.take(alloc) else {
-        return 0;
-    };
-    let phase = opened.driver.phase();
-    driver.put(opened);
-    phase
-}
-
-/// The last counts of the pages from one on, once all seats are gone. No seats are given back: C cannot show whose they
-/// are.
-#[unsafe(no_mangle)]
-pub extern "C" fn likes_last_counts(
-    alloc: Global,
-    driver: &mut DriverHandle,
-    from: u32,
-    counts: &mut [u64],
-) -> u32
-    ensures { LastAt driver.old.held.home from counts.old result counts.new driver.new.held.home }
-{
-    let Some(mut opened) = driver.take(alloc) else {
-        return status::EMPTY;
-    };
-    if !opened.driver.has_pages(from, counts.len()) {
-        driver.put(opened);
-        return status::WRONG_LENGTH;
-    }
-    let is_done = opened.driver.last_counts(from, counts);
-    driver.put(opened);
-    if !is_done {
-        return status::NOT_ENDED;
-    }
-    status::OK
-}
-
-#[unsafe(no_mangle)]
-pub extern "C" fn likes_free_seat(alloc: Global, seat: &mut SeatHandle)
-    ensures { seat.new.held.home ≡ None }
+pub extern "C" fn likes_seat_free_nonnull(alloc: Global, seat: &mut SeatHandle)
+    ensures { seat.new.home ≡ None }
 {
     drop(seat.take(alloc));
-}
-
-#[unsafe(no_mangle)]
-pub extern "C" fn likes_free_driver(alloc: Global, driver: &mut DriverHandle)
-    ensures { driver.new.held.home ≡ None }
-{
-    drop(driver.take(alloc));
 }

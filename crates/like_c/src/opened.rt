@@ -8,17 +8,26 @@ use like_board::SharedPost;
 use like_live::{Driver, LiveSeat, OpenError, Opening, Service};
 use std::alloc::{AllocError, Global};
 
+// At the end of a box: what two boxes have in use lies as far apart, 128 bytes.
+type Apart = [u64; 16];
+
+const APART: Apart = [0; 16];
+
 /// A seat, as a type without parameters, so that a handle can own it.
 #[derive(Drop)]
-pub struct Seated {
+#[repr(C)]
+pub struct BoxedSeat {
     pub(crate) seat: LiveSeat<SharedPost>,
+    apart: Apart,
 }
 
 /// A driver, and the seats that were not taken yet, the first one last.
 #[derive(Drop)]
+#[repr(C)]
 pub struct Opened {
     pub(crate) driver: Driver,
-    pub(crate) seats: Vec<Box<Seated, Global>>,
+    pub(crate) seats: Vec<Box<BoxedSeat, Global>>,
+    apart: Apart,
 }
 
 impl Opened {
@@ -39,7 +48,14 @@ impl Opened {
         };
         let Service { driver, seats } = Service::open(alloc, &opening)?;
         let seats = boxed(alloc, seats)?;
-        match Box::new(alloc, Opened { driver, seats }) {
+        match Box::new(
+            alloc,
+            Opened {
+                driver,
+                seats,
+                apart: APART,
+            },
+        ) {
             Ok(opened) => Ok(opened),
             Err(_) => Err(OpenError::Memory),
         }
@@ -50,7 +66,7 @@ impl Opened {
 fn boxed(
     alloc: Global,
     mut seats: Vec<LiveSeat<SharedPost>>,
-) -> Result<Vec<Box<Seated, Global>>, OpenError>
+) -> Result<Vec<Box<BoxedSeat, Global>>, OpenError>
     ensures boxed { IfOk result (λ boxed. reverse (map seat_in boxed.items) ≡ seats.items) }
     ensures refused { IfErr result (λ error. error ≡ OpenError.Memory) }
 {
@@ -59,7 +75,7 @@ fn boxed(
         Err(_) => return Err(OpenError::Memory),
     };
     while let Some(seat) = seats.pop() {
-        match Box::new(alloc, Seated { seat }) {
+        match Box::new(alloc, BoxedSeat { seat, apart: APART }) {
             Ok(seated) => boxed.push_reserved(seated),
             Err(_) => return Err(OpenError::Memory),
         }

@@ -1,7 +1,7 @@
 //! The rows that cross between C and Rattle.
-ghost use Rattle.std.specs.Prelude.{◌≡◌, ◌<◌, ◌≤◌, ◌↔◌, ℕ, IsTrue, length, slice_get};
-ghost use Rattle.like_c.specs.Held.{AnswersRow, IsToWait, KeepsUnasked, RunsRows};
-ghost use Rattle.like_c.specs.Rows.{found_row, glance_row, look_row, page_or_none, seen_row, status_row};
+ghost use Rattle.std.specs.Prelude.{◌≡◌, ◌<◌, ◌≤◌, ◌≢◌, ◌↔◌, ℕ, IsTrue, length, slice_get};
+ghost use Rattle.like_c.specs.Held.{AnswersRow, IsToWait, IsUnreserved, KeepsUnasked, RunsRows};
+ghost use Rattle.like_c.specs.Rows.{found_row, glance_row, like_op, look_row, page_or_none, seen_row, status_row};
 
 use crate::status;
 use like_board::SharedPost;
@@ -11,6 +11,13 @@ use like_seat::Seen;
 /// In the place of a page: the user has liked none.
 const NO_PAGE: u32 = u32::MAX;
 
+// What is asked for in a request.
+const LIKE: u64 = 0;
+
+const LOOK: u64 = 1;
+
+const GLANCE: u64 = 2;
+
 #[repr(C)]
 #[derive(Clone, Copy)]
 pub struct Options {
@@ -18,6 +25,16 @@ pub struct Options {
     pub users: u32,
     pub room: u32,
     pub hot: u32,
+    pub reserved: [u64; 6],
+}
+
+impl Options {
+    /// Whether no reserved field is in use.
+    pub(crate) fn is_unreserved(&self) -> bool
+        ensures { IsTrue result ↔ IsUnreserved self.now }
+    {
+        self.reserved == [0; 6]
+    }
 }
 
 #[repr(C)]
@@ -26,8 +43,8 @@ pub struct RequestRow {
     pub tag: u64,
     pub user: u32,
     pub page: u32,
-    pub op: u32,
-    pub unused: u32,
+    /// C's `op`, and as its high half C's `reserved`.
+    pub op: u64,
 }
 
 #[repr(C)]
@@ -48,7 +65,7 @@ pub struct FoundRow {
     pub user: u32,
     pub page: u32,
     pub last: u32,
-    pub unused: u32,
+    pub reserved: u32,
 }
 
 #[inline(always)]
@@ -131,7 +148,7 @@ impl FoundRow {
             user: found.asked.user,
             page: found.asked.page,
             last: page_or_none(found.last),
-            unused: 0,
+            reserved: 0,
         }
     }
 }
@@ -140,14 +157,14 @@ impl FoundRow {
 // a like costs less.
 #[inline(never)]
 fn answer_other(seat: &mut LiveSeat<SharedPost>, request: &RequestRow, row: &mut AnswerRow)
-    requires { 1 ≤ request.now.op }
+    requires { request.now.op ≢ like_op }
     ensures { AnswersRow seat.old request.now row.new seat.new }
 {
     match request.op {
-        1 => {
+        LOOK => {
             *row = AnswerRow::of_look(seat.look(request.user, request.page, request.tag));
         }
-        2 => *row = AnswerRow::of_glance(seat.glance(request.user, request.page)),
+        GLANCE => *row = AnswerRow::of_glance(seat.glance(request.user, request.page)),
         _ => *row = AnswerRow::of(status::UNKNOWN_OP),
     }
 }
@@ -158,7 +175,7 @@ fn answer(seat: &mut LiveSeat<SharedPost>, request: &RequestRow, row: &mut Answe
     ensures row { AnswersRow seat.old request.now row.new seat.new }
     ensures waits { IsTrue result ↔ IsToWait row.new }
 {
-    if request.op != 0 {
+    if request.op != LIKE {
         answer_other(seat, request, row);
         return row.is_to_wait();
     }

@@ -1,56 +1,90 @@
-ghost use Rattle.std.specs.Prelude.{◌≡◌, ◌≢◌, ◌↔◌, IsTrue, IfSome, Option, Some, None};
-ghost use Rattle.like_c.specs.declared.opened.Seated.{Seated};
+ghost use Rattle.std.specs.Prelude.{◌≡◌, ◌≢◌, ◌↔◌, IsTrue, MatchOption, Option, Some, None};
+ghost use Rattle.std.specs.Borrow.{sem};
+ghost use Rattle.std.specs.Coded.{coded_option};
+ghost use Rattle.like_c.specs.declared.opened.BoxedSeat.{BoxedSeat};
+ghost use Rattle.like_c.specs.contracts.opened.BoxedSeat.{the_row};
+ghost use Rattle.like_c.specs.Handle.{handle_owns};
 
-use crate::held_seat::HeldSeat;
-use crate::opened::Seated;
+use crate::opened::BoxedSeat;
 use crate::parts::Parts;
 use std::alloc::Global;
+use std::marker::Model;
 
-/// A seat, or none, as C holds it.
+/// A seat behind a pointer, or none behind the null pointer, as C holds it. It is not `Drop`, so no code can lose a
+/// seat.
 #[repr(C)]
 pub struct SeatHandle {
-    pub(crate) held: HeldSeat,
-    full: bool,
-    ghost known: { IsTrue full ↔ (held.home ≢ None) },
+    at: *mut u8,
+    pub ghost home: { Option BoxedSeat } by { coded_option the_row.coded },
+}
+
+impl Model for SeatHandle {
+    ghost also_owns = { λ h. handle_owns the_row h.at h.home };
 }
 
 impl SeatHandle {
-    /// Whether there is one.
-    pub(crate) fn is_full(&self) -> bool
-        ensures { IsTrue result ↔ (self.now.held.home ≢ None) }
-    {
-        self.full
-    }
+    ghost use Rattle.like_c.specs.Lends.{LendsSeat};
 
-    /// None.
-    fn empty(alloc: Global) -> SeatHandle
-        ensures { result.held.home ≡ None }
+    /// The seat, if there is one. The pointer is read alone.
+    #[inline(always)]
+    pub(crate) fn get(&mut self) -> Option<&mut BoxedSeat>
+        ensures* lends { sem 𝓛 (LendsSeat self.entry result) }
+        ensures seat { MatchOption result (self.old.home ≡ None) (λ seat. self.old.home ≡ Some seat.now) }
     {
-        let held = HeldSeat::empty(alloc);
-        SeatHandle { held, full: false }
-    }
-
-    /// Takes the seat out, if there is one.
-    pub(crate) fn take(&mut self, alloc: Global) -> Option<Box<Seated, Global>>
-        ensures taken { IfSome result (λ b. self.old.held.home ≡ Some b.value) }
-        ensures none { result ≡ None → self.old.held.home ≡ None }
-        ensures left { self.new.held.home ≡ None }
-    {
-        if !self.full {
+        if self.at.is_null() {
             return None;
         }
-        let SeatHandle { held, full: _full } = std::mem::replace(self, SeatHandle::empty(alloc));
-        Some(held.into_parts().into_box())
+        unsafe { Some(&mut *(self.at as *mut BoxedSeat)) }
+    }
+
+    /// Whether there is one.
+    #[inline(always)]
+    pub(crate) fn is_full(&mut self) -> bool
+        ensures full { IsTrue result ↔ (self.old.home ≢ None) }
+        ensures same { self.new.home ≡ self.old.home }
+    {
+        match self.get() {
+            Some(_seat) => true,
+            None => false,
+        }
     }
 
     /// Puts a seat in the place of none.
-    pub(crate) fn put(&mut self, seat: Box<Seated, Global>)
-        requires { self.old.held.home ≡ None }
-        ensures { self.new.held.home ≡ Some seat.value }
+    pub(crate) fn put(&mut self, seat: Box<BoxedSeat, Global>)
+        requires { self.old.home ≡ None }
+        ensures { self.new.home ≡ Some seat.value }
     {
-        let held = HeldSeat::of_parts(Parts::of(seat));
-        let full = SeatHandle { held, full: true };
-        let SeatHandle { held, full: _full } = std::mem::replace(self, full);
-        held.discard();
+        self.put_parts(Parts::of(seat));
+    }
+
+    /// Takes the seat out, if there is one.
+    pub(crate) fn take(&mut self, alloc: Global) -> Option<Box<BoxedSeat, Global>>
+        ensures taken { MatchOption result (self.old.home ≡ None) (λ seat. self.old.home ≡ Some seat.value) }
+        ensures left { self.new.home ≡ None }
+    {
+        if !self.is_full() {
+            return None;
+        }
+        Some(self.take_parts(alloc).into_box())
+    }
+
+    fn put_parts(&mut self, parts: Parts<BoxedSeat, Global>)
+        requires { self.old.home ≡ None }
+        ensures { self.new.home ≡ Some parts.value }
+    {
+        let Parts { ptr, alloc: _ } = parts;
+        self.at = ptr as *mut u8;
+    }
+
+    fn take_parts(&mut self, alloc: Global) -> Parts<BoxedSeat, Global>
+        requires some { self.old.home ≢ None }
+        ensures taken { Some result.value ≡ self.old.home }
+        ensures left { self.new.home ≡ None }
+    {
+        let ptr = self.at as *mut BoxedSeat;
+        self.at = std::ptr::null_mut();
+        Parts { ptr, alloc }
     }
 }
+
+unsafe impl Send for SeatHandle {}

@@ -19,55 +19,61 @@ pub(crate) const BETWEEN: u32 = 5;
 
 pub(crate) const NO_ROOM: u32 = 6;
 
-pub(crate) const UNKNOWN_USER: u32 = 7;
+pub(crate) const LIKE_LIMIT: u32 = 7;
 
-pub(crate) const OTHER_SEAT: u32 = 8;
+pub(crate) const GONE: u32 = 8;
 
-pub(crate) const UNKNOWN_PAGE: u32 = 9;
+pub(crate) const GOES_ON: u32 = 9;
 
-pub(crate) const UNKNOWN_OP: u32 = 10;
+pub(crate) const ANNOUNCED: u32 = 10;
 
-pub(crate) const FULL: u32 = 11;
+pub(crate) const NOT_ALL_IN: u32 = 11;
 
-pub(crate) const GONE: u32 = 12;
+pub(crate) const RELEASED: u32 = 12;
 
-pub(crate) const RUNNING: u32 = 13;
+pub(crate) const ENDED: u32 = 13;
 
-pub(crate) const ANNOUNCED: u32 = 14;
+pub(crate) const COUNTED: u32 = 14;
 
-pub(crate) const WAITING: u32 = 15;
+pub(crate) const NO_MOMENT: u32 = 15;
 
-pub(crate) const RELEASED: u32 = 16;
+pub(crate) const NOT_ENDED: u32 = 16;
 
-pub(crate) const COUNTED: u32 = 17;
+pub(crate) const ALL_TAKEN: u32 = 17;
 
-pub(crate) const ENDED: u32 = 18;
+pub(crate) const EMPTY: u32 = 100;
 
-pub(crate) const EMPTY: u32 = 19;
+pub(crate) const IN_USE: u32 = 101;
 
-pub(crate) const IN_USE: u32 = 20;
+pub(crate) const NO_MEMORY: u32 = 102;
 
-pub(crate) const NO_SEAT: u32 = 21;
+pub(crate) const UNKNOWN_USER: u32 = 103;
 
-pub(crate) const NOT_ENDED: u32 = 22;
+pub(crate) const OTHER_SEAT: u32 = 104;
 
-pub(crate) const WRONG_LENGTH: u32 = 23;
+pub(crate) const UNKNOWN_PAGE: u32 = 105;
 
-pub(crate) const NO_MEMORY: u32 = 24;
+pub(crate) const UNKNOWN_OP: u32 = 106;
 
-pub(crate) const WRONG_PAGES: u32 = 25;
+pub(crate) const UNKNOWN_END: u32 = 107;
 
-pub(crate) const WRONG_MARKS: u32 = 26;
+pub(crate) const WRONG_RANGE: u32 = 108;
 
-pub(crate) const WRONG_COUNT: u32 = 27;
+pub(crate) const WRONG_RESERVED: u32 = 109;
 
-pub(crate) const WRONG_SEATS: u32 = 28;
+pub(crate) const WRONG_PAGES: u32 = 110;
 
-pub(crate) const WRONG_USERS: u32 = 29;
+pub(crate) const WRONG_MARKS: u32 = 111;
 
-pub(crate) const WRONG_ROOM: u32 = 30;
+pub(crate) const WRONG_COUNT: u32 = 112;
 
-pub(crate) const WRONG_HOT: u32 = 31;
+pub(crate) const WRONG_SEATS: u32 = 113;
+
+pub(crate) const WRONG_USERS: u32 = 114;
+
+pub(crate) const WRONG_ROOM: u32 = 115;
+
+pub(crate) const WRONG_HOT: u32 = 116;
 
 #[inline(always)]
 pub(crate) fn of_verdict(verdict: Verdict) -> u32
@@ -89,7 +95,7 @@ pub(crate) fn of_like(answer: LikeAnswer) -> u32
         LikeAnswer::Liked => LIKED,
         LikeAnswer::Between => BETWEEN,
         LikeAnswer::Refused(verdict) => of_verdict(verdict),
-        LikeAnswer::Full => FULL,
+        LikeAnswer::Full => LIKE_LIMIT,
         LikeAnswer::Gone => GONE,
     }
 }
@@ -109,9 +115,9 @@ pub(crate) fn of_driver(answer: DriverAnswer) -> u32
 {
     match answer {
         DriverAnswer::Announced => ANNOUNCED,
-        DriverAnswer::Waiting => WAITING,
+        DriverAnswer::Waiting => NOT_ALL_IN,
         DriverAnswer::Released => RELEASED,
-        DriverAnswer::Running => RUNNING,
+        DriverAnswer::Running => GOES_ON,
         DriverAnswer::Ended => ENDED,
     }
 }

@@ -1,10 +1,11 @@
-use Rattle.std.proofs.Common.{Some, ap, refl, sym, ◌∙◌}
-use Rattle.like_c.specs.Held.{drives}
+use Rattle.std.proofs.Common.{refl, sym, ◌∙◌}
+use Rattle.like_c.specs.Held.{at_some, drives, unknown_end}
 use Rattle.like_c.proofs.likes_driver_turn.Goals as goal
 
-pub returns : goal.returns
-returns c =
-    drives c.deref_mut.result.now
-    (record c.deref_mut.result.now { driver = c.turn-answer.new.self }) c.turn-answer.result
-    (c.in-Some.ensures.taken ∙ ap Some (sym c.deref_mut.ensures.value)) c.turn-answer.ensures.case
-    c.of_driver.ensures refl c.put.ensures
+pub returns-in-Some-may_end_of : goal.returns-in-Some-may_end_of
+returns-in-Some-may_end_of c =
+    at_some _ _ c.in-Some.ensures.driver
+    (drives c.in-Some-may_end_of.may_end c.turn.result (sym c.in-Some-may_end_of.ensures) c.turn.ensures.case refl c.of_driver.ensures) refl
+
+pub returns-in-None : goal.returns-in-None
+returns-in-None c = at_some _ _ c.in-Some.ensures.driver (unknown_end (sym c.in-None.ensures) refl refl) refl

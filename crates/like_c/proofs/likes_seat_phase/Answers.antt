@@ -1,7 +1,6 @@
-use Rattle.std.proofs.Common.{Some, ap, sym, ◌∙◌}
-use Rattle.like_c.specs.Held.{seat_phase}
+use Rattle.std.proofs.Common.{refl}
+use Rattle.like_c.specs.Held.{at_some}
 use Rattle.like_c.proofs.likes_seat_phase.Goals as goal
 
-pub returns-clause-phase : goal.returns-clause-phase
-returns-clause-phase c =
-    seat_phase c.deref.result.now (c.in-Some.ensures.taken ∙ ap Some (sym c.deref.ensures)) c.phase-phase.ensures
+pub returns-in-Some : goal.returns-in-Some
+returns-in-Some c = at_some _ _ c.in-Some.ensures.seat (c.phase.ensures, refl) refl

@@ -7,7 +7,7 @@ use Rattle.like_c.proofs.Answering.{rows-more, set-behind, set-there, take-befor
 use Rattle.like_c.proofs.rows.run.Goals as goal
 
 abbrev none : RequestRow
-none = record { tag = 0; user = 0; page = 0; op = 0; unused = 0 }
+none = record { tag = 0; user = 0; page = 0; op = 0 }
 
 pub returns-then-answer-clause-rows : goal.returns-then-answer-clause-rows
 returns-then-answer-clause-rows c =
