@@ -1,4 +1,5 @@
 pub mod Answering
 pub mod DriverHandleBox
 pub mod HandleSends
+pub mod PhaseHandleBox
 pub mod SeatHandleBox

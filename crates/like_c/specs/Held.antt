@@ -13,6 +13,7 @@ use Rattle.like_live.specs.Calls.{GlanceCase, LikeCase, LookCase, RetireCase, Ta
 use Rattle.like_live.specs.Driver.{DriverTurns, TakesLast, TakesSnapshot}
 use Rattle.like_live.specs.Moves.{Moves}
 use Rattle.like_seat.specs.SeatView.{phase_at}
+use Rattle.like_c.specs.declared.opened.BoxedPhase.{BoxedPhase}
 use Rattle.like_c.specs.declared.opened.BoxedSeat.{BoxedSeat}
 use Rattle.like_c.specs.declared.opened.Opened.{Opened}
 use Rattle.like_c.specs.declared.rows.AnswerRow.{AnswerRow}
@@ -170,25 +171,46 @@ abbrev pub LastAt : Option Opened → ℕ → List ℕ → ℕ → List ℕ → 
 LastAt at from old result counts after =
     At ((result ≡ status.empty) × (counts ≡ old)) (WritesLast from old result counts) at after
 
--- the next seat is handed out, into an empty handle
-pub data HandsOut (from : Option Opened) (to : Option BoxedSeat) (result : ℕ) (left : Option Opened)
-    (after : Option BoxedSeat) : Type 0 where
-  hand_in_use : to ≢ None → result ≡ status.in_use → left ≡ from → after ≡ to → HandsOut from to result left after
+-- the next seat leaves those that were not taken yet, or there is none
+pub data TakesSeat (o : Opened) (taken : Option BoxedSeat) (p : Opened) : Type 0 where
+  no_seat : o.seats.items ≡ [] → taken ≡ None → p ≡ record o { seats = p.seats } → p.seats.items ≡ []
+      → TakesSeat o taken p
+  next_seat : (b : Box BoxedSeat Global) → o.seats.items ≡ p.seats.items ++ b ∷ [] → taken ≡ Some b.value
+      → p ≡ record o { seats = p.seats } → TakesSeat o taken p
+
+-- the phase is taken, or it was taken before
+pub data TakesPhase (o : Opened) (taken : Option BoxedPhase) (p : Opened) : Type 0 where
+  no_phase : o.phase ≡ None → taken ≡ None → p ≡ o → TakesPhase o taken p
+  the_phase : (b : Box BoxedPhase Global) → o.phase ≡ Some b → taken ≡ Some b.value → p ≡ record o { phase = None }
+      → TakesPhase o taken p
+
+-- something is taken like this from a driver, and handed out into an empty handle
+pub data HandsOut {A : Type 0} (takes : Opened → Option A → Opened → Type 0) (from : Option Opened) (to : Option A)
+    (result : ℕ) (left : Option Opened) (after : Option A) : Type 0 where
+  hand_in_use : to ≢ None → result ≡ status.in_use → left ≡ from → after ≡ to → HandsOut takes from to result left after
   hand_empty : to ≡ None → from ≡ None → result ≡ status.empty → left ≡ None → after ≡ None
-      → HandsOut from to result left after
-  hand_none : (o p : Opened) → to ≡ None → from ≡ Some o → p ≡ record o { seats = p.seats } → o.seats.items ≡ []
-      → p.seats.items ≡ [] → result ≡ status.all_taken → left ≡ Some p → after ≡ None
-      → HandsOut from to result left after
-  hands : (o p : Opened) (b : Box BoxedSeat Global) → to ≡ None → from ≡ Some o → p ≡ record o { seats = p.seats }
-      → o.seats.items ≡ p.seats.items ++ b ∷ [] → result ≡ status.ok → left ≡ Some p → after ≡ Some b.value
-      → HandsOut from to result left after
+      → HandsOut takes from to result left after
+  hand_none : (o p : Opened) → to ≡ None → from ≡ Some o → takes o None p → result ≡ status.all_taken
+      → left ≡ Some p → after ≡ None → HandsOut takes from to result left after
+  hands : (o p : Opened) (x : A) → to ≡ None → from ≡ Some o → takes o (Some x) p → result ≡ status.ok
+      → left ≡ Some p → after ≡ Some x → HandsOut takes from to result left after
+
+abbrev pub HandsSeat : Option Opened → Option BoxedSeat → ℕ → Option Opened → Option BoxedSeat → Type 0
+HandsSeat = HandsOut TakesSeat
+
+abbrev pub HandsPhase : Option Opened → Option BoxedPhase → ℕ → Option Opened → Option BoxedPhase → Type 0
+HandsPhase = HandsOut TakesPhase
+
+-- the phase is read. No contract says which it is: an empty handle gives 0
+abbrev pub PhaseNowAt : Option BoxedPhase → ℕ → Option BoxedPhase → Type 0
+PhaseNowAt at phase after = At (phase ≡ 0) (λ p q. q ≡ p) at after
 
 -- no reserved field is in use
 abbrev pub IsUnreserved : Options → Type 0
 IsUnreserved options = options.reserved ≡ replicate 6 0
 
 -- a service is opened as asked for, into an empty handle; or it is told what is wrong first, or that there is no memory
-pub data OpensAt (options : Options) (counts : List ℕ) (marks : List Bool) (at : Option Opened) (result : ℕ)
+pub data OpensAt (options : Options) (counts marks : List ℕ) (at : Option Opened) (result : ℕ)
     (after : Option Opened) : Type 0 where
   open_in_use : at ≢ None → result ≡ status.in_use → after ≡ at → OpensAt options counts marks at result after
   open_reserved : at ≡ None → ¬ IsUnreserved options → result ≡ status.wrong_reserved → after ≡ None

@@ -1,5 +1,5 @@
 -- What a service is opened with from C.
-use Rattle.std.specs.Prelude.{◌≡◌, ◌==◌, if◌then◌else◌, ℕ, Bool, false, List, [], ◌∷◌, length, map, replicate, reverse, Option, Some, None}
+use Rattle.std.specs.Prelude.{◌≡◌, ◌==◌, if◌then◌else◌, ℕ, List, map, reverse, IsSome, Option, Some, None}
 use Rattle.like_live.specs.declared.opening.Opening.{Opening}
 use Rattle.like_live.specs.declared.service.Service.{Service}
 use Rattle.like_live.specs.Opening.{Asking, asking}
@@ -15,16 +15,11 @@ use Rattle.like_c.specs.declared.rows.Options.{Options}
 abbrev pub hot_of : ℕ → Option ℕ
 hot_of hot = if hot == 0 then None else Some hot
 
--- the marks of so many pages: no marks at all mark none
-abbrev pub marks_of : ℕ → List Bool → List Bool
-marks_of pages [] = replicate pages false
-marks_of pages (mark ∷ marks) = mark ∷ marks
-
 -- what is asked for
-abbrev pub asked_of : Options → List ℕ → List Bool → Asking
+abbrev pub asked_of : Options → List ℕ → List ℕ → Asking
 asked_of options counts marks = record {
   counts = counts;
-  marks = marks_of (length counts) marks;
+  marks = marks;
   seats = options.seats;
   users = options.users;
   room = options.room;
@@ -35,7 +30,8 @@ asked_of options counts marks = record {
 abbrev pub seat_in : Box BoxedSeat Global → LiveView
 seat_in b = b.value.seat
 
--- a service was opened as is asked for, and these are its driver and its seats, the first one last
+-- a service was opened as is asked for, and these are its driver, its seats, the first one last, and its
+-- phase
 pub record IsOpenedAs (asked : Asking) (it : Opened) : Type 0 where
   pub opening : Opening
   pub asks : asking opening ≡ asked
@@ -43,3 +39,4 @@ pub record IsOpenedAs (asked : Asking) (it : Opened) : Type 0 where
   pub opened : IsOpened opening service
   pub driver : it.driver ≡ service.driver
   pub seats : reverse (map seat_in it.seats.items) ≡ service.seats.items
+  pub phase : IsSome it.phase

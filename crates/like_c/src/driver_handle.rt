@@ -18,6 +18,8 @@ pub struct DriverHandle {
     pub ghost home: { Option Opened } by { coded_option the_row.coded },
 }
 
+const _: () = prove!(size_of::<DriverHandle>() == 8);
+
 impl Model for DriverHandle {
     ghost also_owns = { λ h. handle_owns the_row h.at h.home };
 }

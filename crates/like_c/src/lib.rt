@@ -3,18 +3,20 @@
 #![tactic(auto)]
 
 ghost use Rattle.std.specs.Prelude.{◌≡◌, ◌<◌, ◌≤◌, ℕ, length, slice_get, None};
-ghost use Rattle.like_c.specs.Held.{DriverPhaseAt, DrivesAt, GlancesAt, HandsOut, LastAt, LikesAt, LooksAt, OpensAt, PhaseAt, RetiresAt, RunsAt, SnapshotAt, TakesFoundAt, TurnsAt, may_end_of};
+ghost use Rattle.like_c.specs.Held.{DriverPhaseAt, DrivesAt, GlancesAt, HandsPhase, HandsSeat, LastAt, LikesAt, LooksAt, OpensAt, PhaseAt, PhaseNowAt, RetiresAt, RunsAt, SnapshotAt, TakesFoundAt, TurnsAt, may_end_of};
 ghost use Rattle.like_c.specs.Status.{version};
 
 mod driver_handle;
 mod opened;
 mod parts;
+mod phase_handle;
 mod rows;
 mod seat_handle;
 mod status;
 
 use crate::opened::Opened;
 pub use driver_handle::DriverHandle;
+pub use phase_handle::PhaseHandle;
 pub use rows::{AnswerRow, FoundRow, Options, RequestRow};
 pub use seat_handle::SeatHandle;
 use std::alloc::Global;
@@ -36,7 +38,7 @@ pub extern "C" fn likes_open_nonnull(
     alloc: Global,
     options: &Options,
     counts: &[u64],
-    marks: &[bool],
+    marks: &[u32],
     driver: &mut DriverHandle,
 ) -> u32
     ensures { OpensAt options.now counts.now marks.now driver.old.home result driver.new.home }
@@ -59,7 +61,7 @@ pub extern "C" fn likes_open_nonnull(
 /// Hands out the next seat. All boxes were made by `likes_open_nonnull`: this takes no memory.
 #[unsafe(no_mangle)]
 pub extern "C" fn likes_driver_take_seat(driver: &mut DriverHandle, seat: &mut SeatHandle) -> u32
-    ensures { HandsOut driver.old.home seat.old.home result driver.new.home seat.new.home }
+    ensures { HandsSeat driver.old.home seat.old.home result driver.new.home seat.new.home }
 {
     if seat.is_full() {
         return status::IN_USE;
@@ -70,6 +72,26 @@ pub extern "C" fn likes_driver_take_seat(driver: &mut DriverHandle, seat: &mut S
     match opened.seats.pop() {
         Some(taken) => {
             seat.put(taken);
+            status::OK
+        }
+        None => status::ALL_TAKEN,
+    }
+}
+
+/// Hands out the phase, once.
+#[unsafe(no_mangle)]
+pub extern "C" fn likes_driver_take_phase(driver: &mut DriverHandle, phase: &mut PhaseHandle) -> u32
+    ensures { HandsPhase driver.old.home phase.old.home result driver.new.home phase.new.home }
+{
+    if phase.is_full() {
+        return status::IN_USE;
+    }
+    let Some(opened) = driver.get() else {
+        return status::EMPTY;
+    };
+    match opened.phase.take() {
+        Some(taken) => {
+            phase.put(taken);
             status::OK
         }
         None => status::ALL_TAKEN,
@@ -280,4 +302,23 @@ pub extern "C" fn likes_seat_free_nonnull(alloc: Global, seat: &mut SeatHandle)
     ensures { seat.new.home ≡ None }
 {
     drop(seat.take(alloc));
+}
+
+/// The phase that the driver released last. The handle is read alone, but lent to one call at a time: what C holds may
+/// not be shared (docs/DECISIONS.md).
+#[unsafe(no_mangle)]
+pub extern "C" fn likes_phase_now(phase: &mut PhaseHandle) -> u64
+    ensures { PhaseNowAt phase.old.home result phase.new.home }
+{
+    match phase.get() {
+        Some(boxed) => boxed.phase.get(),
+        None => 0,
+    }
+}
+
+#[unsafe(no_mangle)]
+pub extern "C" fn likes_phase_free_nonnull(alloc: Global, phase: &mut PhaseHandle)
+    ensures { phase.new.home ≡ None }
+{
+    drop(phase.take(alloc));
 }

@@ -1,11 +1,11 @@
-//! What stands behind the two handles.
+//! What is behind the handles.
 ghost use Rattle.std.specs.Prelude.{◌≡◌, IfErr, IfOk, MatchResult, map, reverse};
 ghost use Rattle.like_live.specs.Opening.{AreWithinLimits, IsFirstWrong, IsRefusedFor, asking, numbers_of};
-ghost use Rattle.like_c.specs.Opened.{IsOpenedAs, asked_of, hot_of, marks_of, seat_in};
+ghost use Rattle.like_c.specs.Opened.{IsOpenedAs, asked_of, hot_of, seat_in};
 
 use crate::rows::Options;
 use like_board::SharedPost;
-use like_live::{Driver, LiveSeat, OpenError, Opening, Service};
+use like_live::{Driver, LiveSeat, OpenError, Opening, PhaseNow, Service};
 use std::alloc::{AllocError, Global};
 
 // At the end of a box: what two boxes have in use lies as far apart, 128 bytes.
@@ -21,23 +21,36 @@ pub struct BoxedSeat {
     apart: Apart,
 }
 
-/// A driver, and the seats that were not taken yet, the first one last.
+/// The phase of a service.
+#[derive(Drop)]
+#[repr(C)]
+pub struct BoxedPhase {
+    pub(crate) phase: PhaseNow,
+    apart: Apart,
+}
+
+/// A driver, and what was not taken yet: seats, the first one last, and the phase.
 #[derive(Drop)]
 #[repr(C)]
 pub struct Opened {
     pub(crate) driver: Driver,
     pub(crate) seats: Vec<Box<BoxedSeat, Global>>,
+    pub(crate) phase: Option<Box<BoxedPhase, Global>>,
     apart: Apart,
 }
 
+const _: () = prove!(size_of::<BoxedSeat>() == size_of::<LiveSeat<SharedPost>>() + 128);
+
+const _: () = prove!(size_of::<BoxedPhase>() == size_of::<PhaseNow>() + 128);
+
 impl Opened {
-    /// Opens a service. Every number is tested before any memory is taken. Each seat is boxed here, so that handing it
-    /// out takes no memory.
+    /// Opens a service. Every number is tested before any memory is taken. The seats and the phase are boxed
+    /// here, so that handing them out takes no memory.
     pub(crate) fn new(
         alloc: Global,
         options: &Options,
         counts: &[u64],
-        marks: &[bool],
+        marks: &[u32],
     ) -> Result<Box<Opened, Global>, OpenError>
         ensures opened { IfOk result (λ b. IsOpenedAs (asked_of options.now counts.now marks.now) b.value) }
         ensures refused { IfErr result (IsRefusedFor (numbers_of (asked_of options.now counts.now marks.now))) }
@@ -48,14 +61,16 @@ impl Opened {
         };
         let Service { driver, seats } = Service::open(alloc, &opening)?;
         let seats = boxed(alloc, seats)?;
-        match Box::new(
-            alloc,
-            Opened {
-                driver,
-                seats,
-                apart: APART,
-            },
-        ) {
+        let Ok(phase) = boxed_phase(alloc, &driver) else {
+            return Err(OpenError::Memory);
+        };
+        let opened = Opened {
+            driver,
+            seats,
+            phase: Some(phase),
+            apart: APART,
+        };
+        match Box::new(alloc, opened) {
             Ok(opened) => Ok(opened),
             Err(_) => Err(OpenError::Memory),
         }
@@ -83,19 +98,20 @@ fn boxed(
     Ok(boxed)
 }
 
-// Tests every number of what C asks for. If it passes no marks, no page is marked.
-fn check(options: &Options, counts: &[u64], marks: &[bool]) -> Result<(), OpenError>
+fn boxed_phase(alloc: Global, driver: &Driver) -> Result<Box<BoxedPhase, Global>, AllocError> {
+    let phase = driver.phase_now()?;
+    Ok(Box::new(alloc, BoxedPhase { phase, apart: APART })?)
+}
+
+// Tests every number of what C asks for.
+fn check(options: &Options, counts: &[u64], marks: &[u32]) -> Result<(), OpenError>
     ensures { let numbers = numbers_of (asked_of options.now counts.now marks.now) in
         MatchResult result (λ _. AreWithinLimits numbers) (IsFirstWrong numbers) }
 {
-    let marked = match marks.len() {
-        0 => counts.len(),
-        marked => marked,
-    };
     let hot = hot_of(options.hot);
     Opening::check_numbers(
         counts,
-        marked,
+        marks,
         options.seats,
         options.users,
         options.room,
@@ -108,29 +124,18 @@ fn opening_of(
     alloc: Global,
     options: &Options,
     counts: &[u64],
-    marks: &[bool],
+    marks: &[u32],
 ) -> Result<Opening, AllocError>
     ensures { IfOk result (λ opening. asking opening ≡ asked_of options.now counts.now marks.now) }
 {
-    let marks = marks_of(alloc, counts.len(), marks)?;
     Ok(Opening {
         counts: Vec::from_slice(alloc, counts)?,
-        marks,
+        marks: Vec::from_slice(alloc, marks)?,
         seats: options.seats,
         users: options.users,
         room: options.room,
         hot: hot_of(options.hot),
     })
-}
-
-// The marks of so many pages.
-fn marks_of(alloc: Global, pages: usize, marks: &[bool]) -> Result<Vec<bool>, AllocError>
-    ensures { IfOk result (λ given. given.items ≡ marks_of pages marks.now) }
-{
-    if marks.len() == 0 {
-        return Vec::from_elem(alloc, false, pages);
-    }
-    Vec::from_slice(alloc, marks)
 }
 
 // How many likes make a page hot, if any do.

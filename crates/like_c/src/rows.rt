@@ -28,6 +28,15 @@ pub struct Options {
     pub reserved: [u64; 6],
 }
 
+// The sizes that likes.h pins.
+const _: () = prove!(size_of::<Options>() == 64);
+
+const _: () = prove!(size_of::<RequestRow>() == 24);
+
+const _: () = prove!(size_of::<AnswerRow>() == 16);
+
+const _: () = prove!(size_of::<FoundRow>() == 48);
+
 impl Options {
     /// Whether no reserved field is in use.
     pub(crate) fn is_unreserved(&self) -> bool

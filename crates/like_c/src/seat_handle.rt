@@ -18,6 +18,8 @@ pub struct SeatHandle {
     pub ghost home: { Option BoxedSeat } by { coded_option the_row.coded },
 }
 
+const _: () = prove!(size_of::<SeatHandle>() == 8);
+
 impl Model for SeatHandle {
     ghost also_owns = { λ h. handle_owns the_row h.at h.home };
 }
