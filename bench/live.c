@@ -126,7 +126,7 @@ static likes_seat *seat_of(const player *it) {
 static void take(player *it) {
     likes_found found;
     uint64_t now = 0;
-    while (likes_take_found(seat_of(it), &found)) {
+    while (likes_seat_take_found(seat_of(it), &found)) {
         if (!it->is_timed)
             continue;
         if (now == 0)
@@ -159,10 +159,10 @@ static void live(player *it, const likes_request *row, likes_answer *answers) {
 /* One request by a call of its own. */
 static uint32_t single_call(player *it, const likes_request *request, likes_answer *answer) {
     if (request->op == LIKES_LIKE)
-        return likes_like(seat_of(it), request->user, request->page);
+        return likes_seat_like(seat_of(it), request->user, request->page);
     if (request->op == LIKES_LOOK)
-        return likes_look(seat_of(it), request->user, request->page, request->tag, answer);
-    return likes_glance(seat_of(it), request->user, request->page, answer);
+        return likes_seat_look(seat_of(it), request->user, request->page, request->tag, answer);
+    return likes_seat_glance(seat_of(it), request->user, request->page, answer);
 }
 
 static void single(player *it, const likes_request *row, likes_answer *answers) {
@@ -270,7 +270,7 @@ static void start(const kind *of, uint32_t threads) {
     memset(shards, 0, sizeof shards);
     for (uint32_t page = 0; of->row == mutex && page < PAGES; page++)
         pthread_mutex_init(&counts.locked[page].lock, NULL);
-    if (of->period > 0 && likes_service_start(&service, &options, none, PAGES, NULL, of->period) != LIKES_OK)
+    if (of->period > 0 && likes_service_start(&service, &options, none, PAGES, NULL, 0, of->period) != LIKES_OK)
         fail("no service was started");
     for (uint32_t i = 0; i < threads; i++) {
         player *it = &players[i];
@@ -431,12 +431,12 @@ static void stop_thread(void) {
 
 /* Goes on to the next split phase. */
 static void go_to_split(void) {
-    uint64_t phase = likes_phase(&service.driver);
+    uint64_t phase = likes_driver_phase(&service.driver);
     likes_seat *seat = seat_of(&players[0]);
     while (likes_seat_phase(seat) <= phase || likes_seat_phase(seat) % 2 == 0) {
-        likes_driver_turn(&service.driver, true);
-        likes_service_turns(&service);
-        likes_turn(seat);
+        likes_driver_turn(&service.driver, LIKES_END_IF_IT_SERVES);
+        likes_service_seat_turns(&service);
+        likes_seat_turn(seat);
     }
 }
 

@@ -1,10 +1,14 @@
-/* Makes every call of likes.h on one thread, with right and wrong numbers, and compares what each answers.
+/* Makes every call of likes.h on one thread, with right and wrong numbers, and compares what each answers. No call may
+ * write a handle, but for those that fill it or free it.
  *
  * It prints a line for each answer that is wrong, and ends with status 1 where there was one. checks/live builds and
  * runs it. With a number as its word it also makes so many millions of calls, and asks that memory stays as it was. */
 #include "likes_helpers.h"
 
 #include <malloc.h>
+#include <signal.h>
+#include <sys/mman.h>
+#include <unistd.h>
 
 static int wrong;
 
@@ -13,39 +17,49 @@ static int wrong;
         uint64_t is = (call), should = (expected);                                                     \
         if (is != should) {                                                                            \
             printf("line %d: %s is %llu (%s), and not %llu\n", __LINE__, #call, (unsigned long long)is, \
-                   likes_status_name((uint32_t)is), (unsigned long long)should);                       \
+                   likes_status_text((uint32_t)is), (unsigned long long)should);                       \
             wrong++;                                                                                   \
         }                                                                                              \
     } while (0)
 
-/* A service with all its seats. */
+/* A count that was not written. */
+#define UNWRITTEN UINT64_C(0xa5a5a5a5a5a5a5a5)
+
+/* A service: its handles, side by side, and their bytes as they were once all were filled. */
 typedef struct {
     likes_driver driver;
     likes_seat seats[LIKES_MAX_SEATS];
+    likes_phase phase;
+    unsigned char filled[8 * (LIKES_MAX_SEATS + 2)];
 } opened;
 
-static opened open_service(likes_options options, const uint64_t *counts, size_t pages, const bool *marks) {
+static opened open_service(likes_options options, const uint64_t *counts, size_t pages, const uint32_t *marks,
+                           size_t marks_len) {
     opened it = {0};
-    IS(likes_open(&options, counts, pages, marks, marks == NULL ? 0 : pages, &it.driver), LIKES_OK);
+    IS(likes_open(&options, counts, pages, marks, marks_len, &it.driver), LIKES_OK);
     for (uint32_t i = 0; i < options.seats; i++)
-        IS(likes_take_seat(&it.driver, &it.seats[i]), LIKES_OK);
+        IS(likes_driver_take_seat(&it.driver, &it.seats[i]), LIKES_OK);
+    IS(likes_driver_take_phase(&it.driver, &it.phase), LIKES_OK);
+    memcpy(it.filled, &it, sizeof it.filled);
     return it;
 }
 
-/* Marks for services in which nothing is marked: a row is never NULL. */
-static const bool none[1];
-
 static void change_phase(opened *it, uint32_t seats) {
-    IS(likes_driver_turn(&it->driver, true), LIKES_ANNOUNCED);
+    IS(likes_driver_turn(&it->driver, LIKES_END_IF_IT_SERVES), LIKES_ANNOUNCED);
     for (uint32_t i = 0; i < seats; i++)
-        IS(likes_turn(&it->seats[i]), LIKES_BETWEEN);
-    IS(likes_driver_turn(&it->driver, false), LIKES_RELEASED);
+        IS(likes_seat_turn(&it->seats[i]), LIKES_BETWEEN);
+    IS(likes_driver_turn(&it->driver, LIKES_NO_END), LIKES_RELEASED);
 }
 
+/* Frees a service, whose handles nothing has written. */
 static void free_service(opened *it) {
+    static const unsigned char empty[sizeof it->filled];
+    IS(memcmp(it, it->filled, sizeof it->filled), 0);
     for (uint32_t i = 0; i < LIKES_MAX_SEATS; i++)
-        likes_free_seat(&it->seats[i]);
-    likes_free_driver(&it->driver);
+        likes_seat_free(&it->seats[i]);
+    likes_driver_free(&it->driver);
+    likes_phase_free(&it->phase);
+    IS(memcmp(it, empty, sizeof it->filled), 0);
 }
 
 /* One seat and one page, from the first like to the last count. */
@@ -56,54 +70,54 @@ static void plain(void) {
     likes_driver driver = {0};
     likes_seat seat = {0};
     likes_options options = {.seats = 1, .users = 2, .room = 1, .hot = 0};
-    IS(likes_open(&options, counts, 1, none, 0, &driver), LIKES_OK);
-    IS(likes_take_seat(&driver, &seat), LIKES_OK);
+    IS(likes_open(&options, counts, 1, NULL, 0, &driver), LIKES_OK);
+    IS(likes_driver_take_seat(&driver, &seat), LIKES_OK);
     for (uint32_t i = 0; i < 3; i++)
-        IS(likes_like(&seat, i % 2, 0), LIKES_LIKED);
-    IS(likes_look(&seat, 0, 0, 5, &answer), LIKES_SEEN);
+        IS(likes_seat_like(&seat, i % 2, 0), LIKES_LIKED);
+    IS(likes_seat_look(&seat, 0, 0, 5, &answer), LIKES_SEEN);
     IS(answer.status, LIKES_SEEN);
     IS(answer.last, 0);
     IS(answer.count, 13);
-    IS(likes_last_counts(&driver, 0, last, 1), LIKES_NOT_ENDED);
-    IS(likes_retire(&seat), LIKES_GONE);
-    IS(likes_driver_turn(&driver, true), LIKES_ENDED);
-    IS(likes_last_counts(&driver, 0, last, 1), LIKES_OK);
+    IS(likes_driver_last_counts(&driver, 0, last, 1), LIKES_NOT_ENDED);
+    IS(likes_seat_retire(&seat), LIKES_GONE);
+    IS(likes_driver_turn(&driver, LIKES_END_IF_IT_SERVES), LIKES_ENDED);
+    IS(likes_driver_last_counts(&driver, 0, last, 1), LIKES_COUNTED);
     IS(last[0], 13);
-    IS(driver.is_full, true);
-    likes_free_seat(&seat);
-    likes_free_driver(&driver);
-    IS(driver.is_full, false);
+    IS(driver.at != NULL, true);
+    likes_seat_free(&seat);
+    likes_driver_free(&driver);
+    IS(driver.at == NULL, true);
 }
 
 /* Two seats and two pages, the first of them marked: three phases, step by step. */
 static void two_seats(void) {
     const uint64_t counts[] = {10, 0};
-    const bool marks[] = {true, false};
+    const uint32_t marks[] = {0};
     likes_answer answer;
     likes_found found;
-    opened it = open_service((likes_options){.seats = 2, .users = 4, .room = 4, .hot = 0}, counts, 2, marks);
-    IS(likes_like(&it.seats[0], 0, 0), LIKES_LIKED);
-    IS(likes_look(&it.seats[0], 0, 0, 1, &answer), LIKES_SEEN);
+    opened it = open_service((likes_options){.seats = 2, .users = 4, .room = 4, .hot = 0}, counts, 2, marks, 1);
+    IS(likes_seat_like(&it.seats[0], 0, 0), LIKES_LIKED);
+    IS(likes_seat_look(&it.seats[0], 0, 0, 1, &answer), LIKES_SEEN);
     IS(answer.count, 11);
     change_phase(&it, 2);
-    IS(likes_like(&it.seats[0], 0, 0), LIKES_LIKED);
-    IS(likes_like(&it.seats[0], 2, 0), LIKES_LIKED);
-    IS(likes_like(&it.seats[1], 1, 0), LIKES_LIKED);
-    IS(likes_look(&it.seats[0], 0, 0, 7, &answer), LIKES_WAITS);
+    IS(likes_seat_like(&it.seats[0], 0, 0), LIKES_LIKED);
+    IS(likes_seat_like(&it.seats[0], 2, 0), LIKES_LIKED);
+    IS(likes_seat_like(&it.seats[1], 1, 0), LIKES_LIKED);
+    IS(likes_seat_look(&it.seats[0], 0, 0, 7, &answer), LIKES_WAITS);
     IS(answer.status, LIKES_WAITS);
-    IS(likes_glance(&it.seats[0], 0, 0, &answer), LIKES_SEEN);
+    IS(likes_seat_glance(&it.seats[0], 0, 0, &answer), LIKES_SEEN);
     IS(answer.count, 13);
-    IS(likes_glance(&it.seats[1], 3, 0, &answer), LIKES_SEEN);
+    IS(likes_seat_glance(&it.seats[1], 3, 0, &answer), LIKES_SEEN);
     IS(answer.count, 12);
     IS(answer.last, LIKES_NO_PAGE);
-    IS(likes_look(&it.seats[0], 0, 1, 8, &answer), LIKES_SEEN);
+    IS(likes_seat_look(&it.seats[0], 0, 1, 8, &answer), LIKES_SEEN);
     IS(answer.count, 0);
     IS(likes_seat_phase(&it.seats[0]), 1);
-    IS(likes_take_found(&it.seats[0], &found), false);
+    IS(likes_seat_take_found(&it.seats[0], &found), false);
     change_phase(&it, 2);
-    IS(likes_phase(&it.driver), 2);
-    IS(likes_like(&it.seats[0], 0, 1), LIKES_LIKED);
-    IS(likes_take_found(&it.seats[0], &found), true);
+    IS(likes_driver_phase(&it.driver), 2);
+    IS(likes_seat_like(&it.seats[0], 0, 1), LIKES_LIKED);
+    IS(likes_seat_take_found(&it.seats[0], &found), true);
     IS(found.tag, 7);
     IS(found.count, 14);
     IS(found.asked, 1);
@@ -111,47 +125,46 @@ static void two_seats(void) {
     IS(found.user, 0);
     IS(found.page, 0);
     IS(found.last, 0);
-    IS(likes_take_found(&it.seats[0], &found), false);
+    IS(likes_seat_take_found(&it.seats[0], &found), false);
     free_service(&it);
 }
 
 /* Room for two looks: what has no room, and when there is room again. */
 static void room(void) {
     const uint64_t counts[] = {10};
-    const bool marks[] = {true};
+    const uint32_t marks[] = {0};
     likes_answer answer;
     likes_found found;
-    opened it = open_service((likes_options){.seats = 1, .users = 1, .room = 2, .hot = 0}, counts, 1, marks);
+    opened it = open_service((likes_options){.seats = 1, .users = 1, .room = 2, .hot = 0}, counts, 1, marks, 1);
     change_phase(&it, 1);
-    IS(likes_look(&it.seats[0], 0, 0, 1, &answer), LIKES_WAITS);
-    IS(likes_look(&it.seats[0], 0, 0, 2, &answer), LIKES_WAITS);
-    IS(likes_look(&it.seats[0], 0, 0, 3, &answer), LIKES_NO_ROOM);
+    IS(likes_seat_look(&it.seats[0], 0, 0, 1, &answer), LIKES_WAITS);
+    IS(likes_seat_look(&it.seats[0], 0, 0, 2, &answer), LIKES_WAITS);
+    IS(likes_seat_look(&it.seats[0], 0, 0, 3, &answer), LIKES_NO_ROOM);
     change_phase(&it, 1);
-    IS(likes_turn(&it.seats[0]), LIKES_RUNS);
-    IS(likes_look(&it.seats[0], 0, 0, 3, &answer), LIKES_SEEN);
+    IS(likes_seat_turn(&it.seats[0]), LIKES_RUNS);
+    IS(likes_seat_look(&it.seats[0], 0, 0, 3, &answer), LIKES_SEEN);
     change_phase(&it, 1);
-    IS(likes_turn(&it.seats[0]), LIKES_RUNS);
-    IS(likes_look(&it.seats[0], 0, 0, 3, &answer), LIKES_NO_ROOM);
-    IS(likes_take_found(&it.seats[0], &found), true);
+    IS(likes_seat_turn(&it.seats[0]), LIKES_RUNS);
+    IS(likes_seat_look(&it.seats[0], 0, 0, 3, &answer), LIKES_NO_ROOM);
+    IS(likes_seat_take_found(&it.seats[0], &found), true);
     IS(found.tag, 1);
-    IS(likes_look(&it.seats[0], 0, 0, 3, &answer), LIKES_WAITS);
-    IS(likes_take_found(&it.seats[0], &found), true);
+    IS(likes_seat_look(&it.seats[0], 0, 0, 3, &answer), LIKES_WAITS);
+    IS(likes_seat_take_found(&it.seats[0], &found), true);
     IS(found.tag, 2);
-    IS(likes_take_found(&it.seats[0], &found), false);
+    IS(likes_seat_take_found(&it.seats[0], &found), false);
     free_service(&it);
 }
 
-/* Openings that are refused. */
+/* Openings with one wrong number. */
 static void openings(void) {
-    uint64_t counts[LIKES_MAX_PAGES + 1] = {0};
-    bool marks[LIKES_MAX_PAGES + 1] = {false};
+    static uint64_t counts[LIKES_MAX_PAGES + 1];
     likes_driver driver = {0};
     likes_options right = {.seats = 16, .users = 1, .room = 4096, .hot = 1000000}, wrong_one;
-#define REFUSED(field, value, status)                                         \
-    wrong_one = right;                                                        \
-    wrong_one.field = (value);                                                \
-    IS(likes_open(&wrong_one, counts, 1, marks, 0, &driver), status);         \
-    IS(driver.is_full, false)
+#define REFUSED(field, value, status)                                   \
+    wrong_one = right;                                                  \
+    wrong_one.field = (value);                                          \
+    IS(likes_open(&wrong_one, counts, 1, NULL, 0, &driver), status);    \
+    IS(driver.at == NULL, true)
     REFUSED(seats, 0, LIKES_WRONG_SEATS);
     REFUSED(seats, 17, LIKES_WRONG_SEATS);
     REFUSED(seats, UINT32_MAX, LIKES_WRONG_SEATS);
@@ -161,102 +174,380 @@ static void openings(void) {
     REFUSED(room, UINT32_MAX, LIKES_WRONG_ROOM);
     REFUSED(hot, 1000001, LIKES_WRONG_HOT);
     REFUSED(hot, UINT32_MAX, LIKES_WRONG_HOT);
-    IS(likes_open(&right, counts, 0, marks, 0, &driver), LIKES_WRONG_PAGES);
-    IS(likes_open(&right, counts, LIKES_MAX_PAGES + 1, marks, 0, &driver), LIKES_WRONG_PAGES);
-    IS(likes_open(&right, counts, 2, marks, 1, &driver), LIKES_WRONG_MARKS);
-    IS(likes_open(&right, counts, 1, marks, 2, &driver), LIKES_WRONG_MARKS);
+    for (int n = 0; n < 6; n++) {
+        REFUSED(reserved[n], 1, LIKES_WRONG_RESERVED);
+        REFUSED(reserved[n], UINT64_C(1) << 63, LIKES_WRONG_RESERVED);
+    }
+    IS(likes_open(&right, counts, 0, NULL, 0, &driver), LIKES_WRONG_PAGES);
+    IS(likes_open(&right, NULL, 0, NULL, 0, &driver), LIKES_WRONG_PAGES);
+    IS(likes_open(&right, counts, LIKES_MAX_PAGES + 1, NULL, 0, &driver), LIKES_WRONG_PAGES);
     counts[1] = LIKES_MAX_COUNT + 1;
-    IS(likes_open(&right, counts, 2, marks, 2, &driver), LIKES_WRONG_COUNT);
+    IS(likes_open(&right, counts, 2, NULL, 0, &driver), LIKES_WRONG_COUNT);
     counts[1] = UINT64_MAX;
-    IS(likes_open(&right, counts, 2, marks, 2, &driver), LIKES_WRONG_COUNT);
+    IS(likes_open(&right, counts, 2, NULL, 0, &driver), LIKES_WRONG_COUNT);
     counts[1] = LIKES_MAX_COUNT;
-    IS(likes_open(&right, counts, LIKES_MAX_PAGES, marks, LIKES_MAX_PAGES, &driver), LIKES_OK);
-    IS(likes_open(&right, counts, 1, marks, 0, &driver), LIKES_IN_USE);
-    likes_free_driver(&driver);
-    IS(driver.is_full, false);
+    IS(likes_open(&right, counts, LIKES_MAX_PAGES, NULL, 0, &driver), LIKES_OK);
+    IS(likes_open(&right, counts, 1, NULL, 0, &driver), LIKES_IN_USE);
+    likes_driver_free(&driver);
+    IS(driver.at == NULL, true);
 }
 
-/* Every call with an empty handle, and a seat too many. */
+/* An opening in which everything is wrong is put right in the order in which it is refused. */
+static void order_of_openings(void) {
+    uint64_t counts[] = {0, UINT64_MAX};
+    uint32_t marks[] = {1, 1};
+    likes_options options = {.seats = 17, .users = 0, .room = 0, .hot = 1000001, .reserved = {0, 1}};
+    likes_driver driver = {0};
+    opened it = open_service((likes_options){.seats = 1, .users = 1, .room = 1}, counts, 1, NULL, 0);
+    IS(likes_open(&options, counts, 0, marks, 2, &it.driver), LIKES_IN_USE);
+    free_service(&it);
+    IS(likes_open(&options, counts, 0, marks, 2, &driver), LIKES_WRONG_RESERVED);
+    options.reserved[1] = 0;
+    IS(likes_open(&options, counts, 0, marks, 2, &driver), LIKES_WRONG_PAGES);
+    IS(likes_open(&options, counts, 2, marks, 2, &driver), LIKES_WRONG_MARKS);
+    marks[1] = 0;
+    IS(likes_open(&options, counts, 2, marks, 2, &driver), LIKES_WRONG_COUNT);
+    counts[1] = 0;
+    IS(likes_open(&options, counts, 2, marks, 2, &driver), LIKES_WRONG_SEATS);
+    options.seats = 1;
+    IS(likes_open(&options, counts, 2, marks, 2, &driver), LIKES_WRONG_USERS);
+    options.users = 1;
+    IS(likes_open(&options, counts, 2, marks, 2, &driver), LIKES_WRONG_ROOM);
+    options.room = 1;
+    IS(likes_open(&options, counts, 2, marks, 2, &driver), LIKES_WRONG_HOT);
+    options.hot = 0;
+    IS(likes_open(&options, counts, 2, marks, 2, &driver), LIKES_OK);
+    likes_driver_free(&driver);
+}
+
+/* Opens a service with these marks, as many as are told, and asks in a split phase which pages are split. */
+static void split_by(const uint32_t *marks, size_t marks_len, size_t pages) {
+    static const uint64_t counts[LIKES_MAX_PAGES];
+    likes_answer answer;
+    opened it = open_service((likes_options){.seats = 1, .users = 1, .room = 4096}, counts, pages, marks, marks_len);
+    change_phase(&it, 1);
+    for (uint32_t page = 0; page < pages; page++) {
+        bool is_marked = false;
+        for (size_t n = 0; n < marks_len; n++)
+            is_marked |= marks[n] == page;
+        IS(likes_seat_look(&it.seats[0], 0, page, 0, &answer), is_marked ? LIKES_WAITS : LIKES_SEEN);
+    }
+    free_service(&it);
+}
+
+/* Marks in any order, up to 64 of them; one too many, two alike, and marks of no page. */
+static void marks(void) {
+    static const uint64_t counts[LIKES_MAX_PAGES];
+    const likes_options options = {.seats = 1, .users = 1, .room = 1};
+    uint32_t few[] = {1023, 0, 64, 63}, many[LIKES_MAX_MARKS + 1];
+    likes_driver driver = {0};
+    for (uint32_t n = 0; n <= LIKES_MAX_MARKS; n++)
+        many[n] = 1023 - 15 * n;
+    split_by(few, 1, LIKES_MAX_PAGES);
+    split_by(few, 4, LIKES_MAX_PAGES);
+    split_by(many, 64, LIKES_MAX_PAGES);
+    IS(likes_open(&options, counts, LIKES_MAX_PAGES, many, 65, &driver), LIKES_WRONG_MARKS);
+    for (size_t n = 1; n < 64; n++) {
+        uint32_t mark = many[n];
+        many[n] = many[n == 63 ? 0 : 63];
+        IS(likes_open(&options, counts, LIKES_MAX_PAGES, many, 64, &driver), LIKES_WRONG_MARKS);
+        many[n] = n % 2 ? LIKES_MAX_PAGES : UINT32_MAX;
+        IS(likes_open(&options, counts, LIKES_MAX_PAGES, many, 64, &driver), LIKES_WRONG_MARKS);
+        many[n] = mark;
+    }
+    for (uint32_t n = 0; n < LIKES_MAX_MARKS; n++)
+        many[n] = (n + 32) % 64;
+    split_by(many, 64, 64);
+    IS(likes_open(&options, counts, 63, many, 64, &driver), LIKES_WRONG_MARKS);
+    IS(driver.at == NULL, true);
+}
+
+/* Every call with an empty handle. */
 static void empty_handles(void) {
     likes_driver driver = {0};
     likes_seat seat = {0};
+    likes_phase phase = {0};
     likes_answer answer;
     likes_found found;
     likes_request request = {0};
     uint64_t counts[1] = {0};
-    IS(likes_take_seat(&driver, &seat), LIKES_EMPTY);
-    IS(likes_like(&seat, 0, 0), LIKES_EMPTY);
-    IS(likes_look(&seat, 0, 0, 0, &answer), LIKES_EMPTY);
+    IS(likes_driver_take_seat(&driver, &seat), LIKES_EMPTY);
+    IS(likes_driver_take_phase(&driver, &phase), LIKES_EMPTY);
+    IS(likes_phase_now(&phase), 0);
+    IS(likes_seat_like(&seat, 0, 0), LIKES_EMPTY);
+    IS(likes_seat_look(&seat, 0, 0, 0, &answer), LIKES_EMPTY);
     IS(answer.status, LIKES_EMPTY);
-    IS(likes_glance(&seat, 0, 0, &answer), LIKES_EMPTY);
-    IS(likes_take_found(&seat, &found), false);
-    IS(likes_run(&seat, &request, 1, &answer, 1), 0);
+    IS(likes_seat_glance(&seat, 0, 0, &answer), LIKES_EMPTY);
     IS(answer.status, LIKES_EMPTY);
-    IS(likes_turn(&seat), LIKES_EMPTY);
-    IS(likes_retire(&seat), LIKES_EMPTY);
+    IS(likes_seat_take_found(&seat, &found), false);
+    IS(likes_seat_run(&seat, &request, 1, &answer, 1), 0);
+    IS(answer.status, LIKES_EMPTY);
+    IS(likes_seat_run(&seat, NULL, 0, NULL, 0), 0);
+    IS(likes_seat_turn(&seat), LIKES_EMPTY);
+    IS(likes_seat_retire(&seat), LIKES_EMPTY);
     IS(likes_seat_phase(&seat), 0);
-    IS(likes_driver_turn(&driver, true), LIKES_EMPTY);
-    IS(likes_snapshot(&driver, 0, counts, 1), LIKES_EMPTY);
-    IS(likes_phase(&driver), 0);
-    IS(likes_last_counts(&driver, 0, counts, 1), LIKES_EMPTY);
-    likes_free_seat(&seat);
-    likes_free_driver(&driver);
-    opened it = open_service((likes_options){.seats = 1, .users = 1, .room = 1, .hot = 0}, counts, 1, NULL);
-    IS(likes_take_seat(&it.driver, &seat), LIKES_NO_SEAT);
-    IS(likes_take_seat(&it.driver, &it.seats[0]), LIKES_IN_USE);
+    IS(likes_driver_turn(&driver, LIKES_END_IF_IT_SERVES), LIKES_EMPTY);
+    IS(likes_driver_turn(&driver, 2), LIKES_EMPTY);
+    IS(likes_driver_snapshot(&driver, 0, counts, 1), LIKES_EMPTY);
+    IS(likes_driver_snapshot(&driver, UINT32_MAX, NULL, 0), LIKES_EMPTY);
+    IS(likes_driver_phase(&driver), 0);
+    IS(likes_driver_last_counts(&driver, 0, counts, 1), LIKES_EMPTY);
+    IS(likes_driver_last_counts(&driver, UINT32_MAX, NULL, 0), LIKES_EMPTY);
+    IS(driver.at == NULL && seat.at == NULL && phase.at == NULL, true);
+}
+
+/* Handles that are to be filled: in use, or one too many. */
+static void full_handles(void) {
+    const uint64_t counts[1] = {0};
+    likes_driver none = {0};
+    likes_seat seat = {0};
+    likes_phase phase = {0};
+    opened it = open_service((likes_options){.seats = 1, .users = 1, .room = 1, .hot = 0}, counts, 1, NULL, 0);
+    IS(likes_driver_take_seat(&it.driver, &seat), LIKES_ALL_TAKEN);
+    IS(likes_driver_take_phase(&it.driver, &phase), LIKES_ALL_TAKEN);
+    IS(likes_driver_take_seat(&it.driver, &it.seats[0]), LIKES_IN_USE);
+    IS(likes_driver_take_phase(&it.driver, &it.phase), LIKES_IN_USE);
+    IS(likes_driver_take_seat(&none, &it.seats[0]), LIKES_IN_USE);
+    IS(likes_driver_take_phase(&none, &it.phase), LIKES_IN_USE);
+    IS(seat.at == NULL && phase.at == NULL && none.at == NULL, true);
     free_service(&it);
+}
+
+/* NULL, empty handles and freed ones are freed, in each order of a service's handles. */
+static void frees(void) {
+    const uint64_t counts[1] = {0};
+    for (int order = 0; order < 6; order++) {
+        opened it = open_service((likes_options){.seats = 1, .users = 1, .room = 1, .hot = 0}, counts, 1, NULL, 0);
+        for (int n = 0; n < 6; n++) {
+            likes_seat_free(NULL);
+            likes_driver_free(NULL);
+            likes_phase_free(NULL);
+            int next = n >= 3 ? n - 3 : order < 3 ? (order + n) % 3 : (order - n) % 3;
+            if (next == 0)
+                likes_seat_free(&it.seats[0]);
+            else if (next == 1)
+                likes_driver_free(&it.driver);
+            else
+                likes_phase_free(&it.phase);
+        }
+        IS(it.seats[0].at == NULL && it.driver.at == NULL && it.phase.at == NULL, true);
+        IS(likes_seat_like(&it.seats[0], 0, 0), LIKES_EMPTY);
+        IS(likes_driver_turn(&it.driver, LIKES_NO_END), LIKES_EMPTY);
+        IS(likes_phase_now(&it.phase), 0);
+    }
+}
+
+/* The phase of a service, as its handle tells it: with the driver's, and when the driver is freed. */
+static void phases(void) {
+    const uint64_t counts[1] = {0};
+    const uint32_t marks[] = {0};
+    opened it = open_service((likes_options){.seats = 2, .users = 2, .room = 1, .hot = 0}, counts, 1, marks, 1);
+    for (uint64_t phase = 0; phase < 5; phase++) {
+        IS(likes_phase_now(&it.phase), phase);
+        IS(likes_driver_turn(&it.driver, LIKES_END_IF_IT_SERVES), LIKES_ANNOUNCED);
+        IS(likes_seat_turn(&it.seats[0]), LIKES_BETWEEN);
+        IS(likes_driver_turn(&it.driver, LIKES_NO_END), LIKES_NOT_ALL_IN);
+        IS(likes_seat_turn(&it.seats[1]), LIKES_BETWEEN);
+        IS(likes_phase_now(&it.phase), phase);
+        IS(likes_driver_turn(&it.driver, LIKES_NO_END), LIKES_RELEASED);
+        IS(likes_driver_phase(&it.driver), phase + 1);
+    }
+    likes_phase copy = it.phase;
+    IS(likes_phase_now(&copy), 5);
+    likes_driver_free(&it.driver);
+    IS(likes_phase_now(&copy), 5);
+    for (int i = 0; i < 2; i++)
+        likes_seat_free(&it.seats[i]);
+    IS(likes_phase_now(&copy), 5);
+    likes_phase_free(&copy);
+    IS(copy.at == NULL, true);
+}
+
+/* A phase that is taken late, when others have passed, by a service that runs on. */
+static void late_phase(void) {
+    const uint64_t counts[1] = {0};
+    const uint32_t marks[] = {0};
+    likes_options options = {.seats = 1, .users = 1, .room = 1};
+    opened it = {0};
+    likes_phase again = {0};
+    IS(likes_open(&options, counts, 1, marks, 1, &it.driver), LIKES_OK);
+    IS(likes_driver_take_seat(&it.driver, &it.seats[0]), LIKES_OK);
+    change_phase(&it, 1);
+    change_phase(&it, 1);
+    IS(likes_phase_now(&it.phase), 0);
+    IS(likes_driver_take_phase(&it.driver, &it.phase), LIKES_OK);
+    IS(likes_phase_now(&it.phase), 2);
+    likes_phase_free(&it.phase);
+    IS(likes_driver_take_phase(&it.driver, &again), LIKES_ALL_TAKEN);
+    change_phase(&it, 1);
+    memcpy(it.filled, &it, sizeof it.filled);
+    free_service(&it);
+}
+
+/* A service whose handles are moved, all of them, works where they are. */
+static void moved(void) {
+    const uint64_t counts[] = {10};
+    const uint32_t marks[] = {0};
+    uint64_t last[1];
+    opened it = open_service((likes_options){.seats = 3, .users = 3, .room = 1, .hot = 0}, counts, 1, marks, 1);
+    opened *at = (opened *)malloc(sizeof *at);
+    *at = it;
+    memset(&it, 0xff, sizeof it);
+    change_phase(at, 3);
+    likes_seat first = at->seats[0];
+    at->seats[0] = at->seats[2];
+    at->seats[2] = first;
+    for (uint32_t i = 0; i < 3; i++)
+        IS(likes_seat_like(&at->seats[i], 2 - i, 0), LIKES_LIKED);
+    change_phase(at, 3);
+    IS(likes_phase_now(&at->phase), 2);
+    for (uint32_t i = 0; i < 3; i++)
+        IS(likes_seat_retire(&at->seats[i]), LIKES_GONE);
+    IS(likes_driver_last_counts(&at->driver, 0, last, 1), LIKES_COUNTED);
+    IS(last[0], 13);
+    memcpy(at->filled, at, sizeof at->filled);
+    free_service(at);
+    free(at);
 }
 
 /* Wrong users, pages and kinds of requests, one by one and in rows. */
 static void wrong_numbers(void) {
     const uint64_t counts[] = {0, 0};
     likes_answer answer, answers[8];
-    opened it = open_service((likes_options){.seats = 3, .users = 9, .room = 1, .hot = 0}, counts, 2, NULL);
+    opened it = open_service((likes_options){.seats = 3, .users = 9, .room = 1, .hot = 0}, counts, 2, NULL, 0);
     likes_seat *seat = &it.seats[1];
     const uint32_t users[] = {9, 10, UINT32_MAX, 0, 3, 2, 4, 4}, pages[] = {0, 0, 0, 0, 1, 2, 2, UINT32_MAX};
     const uint32_t statuses[] = {LIKES_UNKNOWN_USER, LIKES_UNKNOWN_USER, LIKES_UNKNOWN_USER, LIKES_OTHER_SEAT,
                                  LIKES_OTHER_SEAT,   LIKES_OTHER_SEAT,   LIKES_UNKNOWN_PAGE, LIKES_UNKNOWN_PAGE};
     for (uint32_t i = 0; i < 8; i++) {
-        IS(likes_like(seat, users[i], pages[i]), statuses[i]);
-        IS(likes_look(seat, users[i], pages[i], 1, &answer), statuses[i]);
+        IS(likes_seat_like(seat, users[i], pages[i]), statuses[i]);
+        IS(likes_seat_look(seat, users[i], pages[i], 1, &answer), statuses[i]);
         IS(answer.status, statuses[i]);
-        IS(likes_glance(seat, users[i], pages[i], &answer), statuses[i]);
+        IS(likes_seat_glance(seat, users[i], pages[i], &answer), statuses[i]);
         IS(answer.status, statuses[i]);
         likes_request row[] = {{.user = users[i], .page = pages[i], .op = i % 3}, {.user = 1, .page = 1}};
-        IS(likes_run(seat, row, 2, answers, 2), 2);
+        IS(likes_seat_run(seat, row, 2, answers, 2), 2);
         IS(answers[0].status, statuses[i]);
         IS(answers[1].status, LIKES_LIKED);
     }
     likes_request row[] = {
         {.user = 1, .op = 3}, {.user = 1, .op = UINT32_MAX}, {.user = 1, .page = 1, .op = LIKES_LOOK}};
-    IS(likes_run(seat, row, 3, answers, 8), 3);
+    IS(likes_seat_run(seat, row, 3, answers, 8), 3);
     IS(answers[0].status, LIKES_UNKNOWN_OP);
     IS(answers[1].status, LIKES_UNKNOWN_OP);
     IS(answers[2].status, LIKES_SEEN);
     IS(answers[2].count, 8);
-    IS(likes_run(seat, row, 0, answers, 8), 0);
-    IS(likes_run(seat, row, 3, answers, 0), 0);
-    IS(likes_run(seat, row, 3, answers, 1), 1);
+    answers[0].count = UNWRITTEN;
+    IS(likes_seat_run(seat, row, 0, answers, 8), 0);
+    IS(likes_seat_run(seat, NULL, 0, answers, 8), 0);
+    IS(answers[0].count, UNWRITTEN);
+    IS(likes_seat_run(seat, row, 3, answers, 0), 0);
+    IS(likes_seat_run(seat, row, 3, NULL, 0), 0);
+    IS(likes_seat_run(seat, NULL, 0, NULL, 0), 0);
+    IS(likes_seat_run(seat, row, 3, answers, 1), 1);
+    free_service(&it);
+}
+
+/* Requests whose reserved field isn't 0 do nothing, in a joined phase and in a split one. */
+static void reserved_requests(void) {
+    const uint64_t counts[] = {7};
+    const uint32_t marks[] = {0}, values[] = {1, 1u << 31, UINT32_MAX};
+    likes_answer answers[4];
+    likes_found found;
+    opened it = open_service((likes_options){.seats = 1, .users = 1, .room = 4, .hot = 0}, counts, 1, marks, 1);
+    for (uint64_t phase = 0; phase < 3; phase++) {
+        for (int n = 0; n < 3; n++) {
+            likes_request row[] = {{.op = LIKES_LIKE, .reserved = values[n]},
+                                   {.op = LIKES_LOOK, .reserved = values[n]},
+                                   {.op = LIKES_GLANCE, .reserved = values[n]},
+                                   {.op = LIKES_GLANCE}};
+            IS(likes_seat_run(&it.seats[0], row, 4, answers, 4), 4);
+            for (int i = 0; i < 3; i++) {
+                IS(answers[i].status, LIKES_UNKNOWN_OP);
+                IS(answers[i].count, 0);
+                IS(answers[i].last, 0);
+            }
+            IS(answers[3].status, LIKES_SEEN);
+            IS(answers[3].count, 7);
+            IS(answers[3].last, LIKES_NO_PAGE);
+        }
+        change_phase(&it, 1);
+        IS(likes_seat_turn(&it.seats[0]), LIKES_RUNS);
+        IS(likes_seat_take_found(&it.seats[0], &found), false);
+    }
+    free_service(&it);
+}
+
+/* Ends that are none of likes_end do nothing: while a phase runs, while it is ending, and after the end. */
+static void unknown_ends(void) {
+    const uint64_t counts[] = {0};
+    const uint32_t marks[] = {0}, ends[] = {2, 3, 1u << 8, 1u << 31, UINT32_MAX};
+    opened it = open_service((likes_options){.seats = 1, .users = 1, .room = 1, .hot = 0}, counts, 1, marks, 1);
+    for (int stage = 0; stage < 4; stage++) {
+        uint64_t phase = likes_driver_phase(&it.driver);
+        for (size_t n = 0; n < sizeof ends / sizeof *ends; n++)
+            IS(likes_driver_turn(&it.driver, ends[n]), LIKES_UNKNOWN_END);
+        IS(likes_driver_phase(&it.driver), phase);
+        if (stage == 0)
+            IS(likes_seat_turn(&it.seats[0]), LIKES_RUNS);
+        if (stage == 0)
+            IS(likes_driver_turn(&it.driver, LIKES_END_IF_IT_SERVES), LIKES_ANNOUNCED);
+        if (stage == 1)
+            IS(likes_seat_turn(&it.seats[0]), LIKES_BETWEEN);
+        if (stage == 2) {
+            IS(likes_driver_turn(&it.driver, LIKES_NO_END), LIKES_RELEASED);
+            change_phase(&it, 1);
+            IS(likes_seat_retire(&it.seats[0]), LIKES_GONE);
+            IS(likes_driver_turn(&it.driver, LIKES_NO_END), LIKES_ENDED);
+        }
+    }
+    free_service(&it);
+}
+
+/* What a seat answers where several refusals apply: the first of likes.h. */
+static void order_of_refusals(void) {
+    const uint64_t counts[] = {0};
+    const uint32_t marks[] = {0};
+    likes_answer answer;
+    opened it = open_service((likes_options){.seats = 2, .users = 4, .room = 1, .hot = 0}, counts, 1, marks, 1);
+    likes_seat *seat = &it.seats[0];
+    IS(likes_driver_turn(&it.driver, LIKES_END_IF_IT_SERVES), LIKES_ANNOUNCED);
+    IS(likes_seat_like(seat, 9, 9), LIKES_BETWEEN);
+    IS(likes_seat_look(seat, 1, 9, 0, &answer), LIKES_BETWEEN);
+    IS(likes_seat_glance(seat, 0, 9, &answer), LIKES_BETWEEN);
+    IS(likes_seat_turn(&it.seats[1]), LIKES_BETWEEN);
+    IS(likes_driver_turn(&it.driver, LIKES_NO_END), LIKES_RELEASED);
+    IS(likes_seat_look(seat, 0, 0, 0, &answer), LIKES_WAITS);
+    IS(likes_seat_look(seat, 9, 9, 0, &answer), LIKES_UNKNOWN_USER);
+    IS(likes_seat_look(seat, 1, 9, 0, &answer), LIKES_OTHER_SEAT);
+    IS(likes_seat_look(seat, 0, 9, 0, &answer), LIKES_UNKNOWN_PAGE);
+    IS(likes_seat_look(seat, 0, 0, 0, &answer), LIKES_NO_ROOM);
+    change_phase(&it, 2);
+    IS(likes_seat_retire(seat), LIKES_GONE);
+    IS(likes_seat_like(seat, 9, 9), LIKES_GONE);
+    IS(likes_seat_look(seat, 1, 9, 0, &answer), LIKES_GONE);
+    IS(likes_driver_turn(&it.driver, LIKES_END_IF_IT_SERVES), LIKES_ANNOUNCED);
+    IS(likes_seat_glance(seat, 9, 9, &answer), LIKES_GONE);
     free_service(&it);
 }
 
 /* A row that ends between two phases, and one that ends at a look without room. */
 static void rows(void) {
     const uint64_t counts[] = {0};
-    const bool marks[] = {true};
+    const uint32_t marks[] = {0};
     likes_answer answers[4];
     likes_request row[4] = {
         {.tag = 1, .op = LIKES_LOOK}, {.op = LIKES_LIKE}, {.op = LIKES_GLANCE}, {.tag = 2, .op = LIKES_LOOK}};
-    opened it = open_service((likes_options){.seats = 1, .users = 1, .room = 1, .hot = 0}, counts, 1, marks);
+    opened it = open_service((likes_options){.seats = 1, .users = 1, .room = 1, .hot = 0}, counts, 1, marks, 1);
     change_phase(&it, 1);
-    IS(likes_run(&it.seats[0], row, 4, answers, 4), 3);
+    IS(likes_seat_run(&it.seats[0], row, 4, answers, 4), 3);
     IS(answers[0].status, LIKES_WAITS);
     IS(answers[1].status, LIKES_LIKED);
     IS(answers[2].status, LIKES_SEEN);
     IS(answers[2].count, 1);
     IS(answers[3].status, LIKES_NO_ROOM);
-    IS(likes_driver_turn(&it.driver, true), LIKES_ANNOUNCED);
-    IS(likes_run(&it.seats[0], row, 4, answers, 4), 0);
+    IS(likes_driver_turn(&it.driver, LIKES_END_IF_IT_SERVES), LIKES_ANNOUNCED);
+    IS(likes_seat_run(&it.seats[0], row, 4, answers, 4), 0);
     IS(answers[0].status, LIKES_BETWEEN);
     free_service(&it);
 }
@@ -264,51 +555,48 @@ static void rows(void) {
 /* Calls after the seat is gone: a status, and found looks can still be taken. */
 static void after_gone(void) {
     const uint64_t counts[] = {10, 20};
-    const bool marks[] = {true, false};
+    const uint32_t marks[] = {0};
     uint64_t last[2];
     likes_answer answer;
     likes_found found;
     likes_request row[] = {{.op = LIKES_LIKE}, {.op = LIKES_LOOK}, {.op = LIKES_GLANCE}};
     likes_answer answers[3];
-    opened it = open_service((likes_options){.seats = 2, .users = 2, .room = 2, .hot = 0}, counts, 2, marks);
+    opened it = open_service((likes_options){.seats = 2, .users = 2, .room = 2, .hot = 0}, counts, 2, marks, 1);
     change_phase(&it, 2);
-    IS(likes_look(&it.seats[0], 0, 0, 9, &answer), LIKES_WAITS);
-    IS(likes_retire(&it.seats[0]), LIKES_RUNS);
+    IS(likes_seat_look(&it.seats[0], 0, 0, 9, &answer), LIKES_WAITS);
+    IS(likes_seat_retire(&it.seats[0]), LIKES_RUNS);
     change_phase(&it, 2);
-    IS(likes_retire(&it.seats[0]), LIKES_GONE);
-    IS(likes_like(&it.seats[0], 0, 0), LIKES_GONE);
-    IS(likes_look(&it.seats[0], 0, 0, 1, &answer), LIKES_GONE);
-    IS(likes_glance(&it.seats[0], 0, 0, &answer), LIKES_GONE);
-    IS(likes_turn(&it.seats[0]), LIKES_GONE);
-    IS(likes_retire(&it.seats[0]), LIKES_GONE);
-    IS(likes_run(&it.seats[0], row, 3, answers, 3), 3);
+    IS(likes_seat_retire(&it.seats[0]), LIKES_GONE);
+    IS(likes_seat_like(&it.seats[0], 0, 0), LIKES_GONE);
+    IS(likes_seat_look(&it.seats[0], 0, 0, 1, &answer), LIKES_GONE);
+    IS(likes_seat_glance(&it.seats[0], 0, 0, &answer), LIKES_GONE);
+    IS(likes_seat_turn(&it.seats[0]), LIKES_GONE);
+    IS(likes_seat_retire(&it.seats[0]), LIKES_GONE);
+    IS(likes_seat_run(&it.seats[0], row, 3, answers, 3), 3);
     for (int i = 0; i < 3; i++)
         IS(answers[i].status, LIKES_GONE);
     IS(likes_seat_phase(&it.seats[0]), 0);
-    IS(likes_take_found(&it.seats[0], &found), true);
+    IS(likes_seat_take_found(&it.seats[0], &found), true);
     IS(found.tag, 9);
     IS(found.count, 10);
-    IS(likes_take_found(&it.seats[0], &found), false);
+    IS(likes_seat_take_found(&it.seats[0], &found), false);
     /* The other seat goes on alone. */
-    IS(likes_last_counts(&it.driver, 0, last, 2), LIKES_NOT_ENDED);
-    IS(likes_driver_turn(&it.driver, true), LIKES_ANNOUNCED);
-    IS(likes_driver_turn(&it.driver, true), LIKES_WAITING);
-    IS(likes_turn(&it.seats[1]), LIKES_BETWEEN);
-    IS(likes_driver_turn(&it.driver, true), LIKES_RELEASED);
-    IS(likes_like(&it.seats[1], 1, 0), LIKES_LIKED);
-    IS(likes_driver_turn(&it.driver, true), LIKES_ANNOUNCED);
-    IS(likes_retire(&it.seats[1]), LIKES_BETWEEN);
-    IS(likes_driver_turn(&it.driver, true), LIKES_RELEASED);
-    IS(likes_retire(&it.seats[1]), LIKES_GONE);
-    IS(likes_driver_turn(&it.driver, true), LIKES_ENDED);
-    IS(likes_last_counts(&it.driver, 0, last, 2), LIKES_OK);
+    IS(likes_driver_last_counts(&it.driver, 0, last, 2), LIKES_NOT_ENDED);
+    IS(likes_driver_turn(&it.driver, LIKES_END_IF_IT_SERVES), LIKES_ANNOUNCED);
+    IS(likes_driver_turn(&it.driver, LIKES_END_IF_IT_SERVES), LIKES_NOT_ALL_IN);
+    IS(likes_seat_turn(&it.seats[1]), LIKES_BETWEEN);
+    IS(likes_driver_turn(&it.driver, LIKES_END_IF_IT_SERVES), LIKES_RELEASED);
+    IS(likes_seat_like(&it.seats[1], 1, 0), LIKES_LIKED);
+    IS(likes_driver_turn(&it.driver, LIKES_END_IF_IT_SERVES), LIKES_ANNOUNCED);
+    IS(likes_seat_retire(&it.seats[1]), LIKES_BETWEEN);
+    IS(likes_driver_turn(&it.driver, LIKES_END_IF_IT_SERVES), LIKES_RELEASED);
+    IS(likes_seat_retire(&it.seats[1]), LIKES_GONE);
+    IS(likes_driver_turn(&it.driver, LIKES_END_IF_IT_SERVES), LIKES_ENDED);
+    IS(likes_driver_last_counts(&it.driver, 0, last, 2), LIKES_COUNTED);
     IS(last[0], 11);
     IS(last[1], 20);
     free_service(&it);
 }
-
-/* A page whose entry in a row of counts was not written. */
-#define UNWRITTEN UINT64_C(0xa5a5a5a5a5a5a5a5)
 
 static void clear(uint64_t *counts, size_t pages) {
     for (size_t page = 0; page < pages; page++)
@@ -325,8 +613,8 @@ static void wrong_ranges(likes_driver *driver) {
     uint64_t counts[5];
     clear(counts, 5);
     for (size_t n = 0; n < sizeof ranges / sizeof *ranges; n++) {
-        IS(likes_snapshot(driver, ranges[n].from, counts, ranges[n].length), LIKES_WRONG_LENGTH);
-        IS(likes_last_counts(driver, ranges[n].from, counts, ranges[n].length), LIKES_WRONG_LENGTH);
+        IS(likes_driver_snapshot(driver, ranges[n].from, counts, ranges[n].length), LIKES_WRONG_RANGE);
+        IS(likes_driver_last_counts(driver, ranges[n].from, counts, ranges[n].length), LIKES_WRONG_RANGE);
     }
     for (size_t page = 0; page < 5; page++)
         IS(counts[page], UNWRITTEN);
@@ -335,50 +623,51 @@ static void wrong_ranges(likes_driver *driver) {
 /* Last counts by ranges, as often as one likes, and what the driver answers from then on. */
 static void last_counts(void) {
     const uint64_t counts[] = {10, 20, 30, 40};
-    const bool marks[] = {true, false, false, true};
+    const uint32_t marks[] = {3, 0};
     uint64_t whole[4], parts[4], again[4];
     likes_seat extra = {0};
-    opened it = open_service((likes_options){.seats = 2, .users = 2, .room = 2, .hot = 0}, counts, 4, marks);
+    opened it = open_service((likes_options){.seats = 2, .users = 2, .room = 2, .hot = 0}, counts, 4, marks, 2);
     change_phase(&it, 2);
     change_phase(&it, 2);
     for (uint32_t page = 0; page < 4; page++)
         for (uint32_t i = 0; i <= page; i++)
-            IS(likes_like(&it.seats[i % 2], i % 2, page), LIKES_LIKED);
+            IS(likes_seat_like(&it.seats[i % 2], i % 2, page), LIKES_LIKED);
     wrong_ranges(&it.driver);
-    IS(likes_retire(&it.seats[0]), LIKES_GONE);
+    IS(likes_seat_retire(&it.seats[0]), LIKES_GONE);
     clear(whole, 4);
-    IS(likes_last_counts(&it.driver, 0, whole, 4), LIKES_NOT_ENDED);
-    IS(likes_last_counts(&it.driver, 4, whole, 0), LIKES_NOT_ENDED);
+    IS(likes_driver_last_counts(&it.driver, 0, whole, 4), LIKES_NOT_ENDED);
+    IS(likes_driver_last_counts(&it.driver, 4, NULL, 0), LIKES_NOT_ENDED);
     IS(whole[0], UNWRITTEN);
-    IS(likes_retire(&it.seats[1]), LIKES_GONE);
+    IS(likes_seat_retire(&it.seats[1]), LIKES_GONE);
     wrong_ranges(&it.driver);
-    IS(likes_phase(&it.driver), 2);
-    IS(likes_last_counts(&it.driver, 0, whole, 4), LIKES_OK);
+    IS(likes_driver_phase(&it.driver), 2);
+    IS(likes_driver_last_counts(&it.driver, 0, whole, 4), LIKES_COUNTED);
     clear(parts, 4);
-    IS(likes_last_counts(&it.driver, 1, parts + 1, 3), LIKES_OK);
+    IS(likes_driver_last_counts(&it.driver, 1, parts + 1, 3), LIKES_COUNTED);
     IS(parts[0], UNWRITTEN);
-    IS(likes_last_counts(&it.driver, 0, parts, 1), LIKES_OK);
+    IS(likes_driver_last_counts(&it.driver, 0, parts, 1), LIKES_COUNTED);
     clear(again, 4);
-    IS(likes_last_counts(&it.driver, 2, again, 0), LIKES_OK);
-    IS(likes_last_counts(&it.driver, 4, again, 0), LIKES_OK);
+    IS(likes_driver_last_counts(&it.driver, 2, again, 0), LIKES_COUNTED);
+    IS(likes_driver_last_counts(&it.driver, 4, NULL, 0), LIKES_COUNTED);
+    IS(likes_driver_last_counts(&it.driver, 5, NULL, 0), LIKES_WRONG_RANGE);
     IS(again[0], UNWRITTEN);
     for (int times = 0; times < 3; times++) {
-        IS(likes_driver_turn(&it.driver, times < 2), LIKES_ENDED);
-        IS(likes_phase(&it.driver), 2);
-        IS(likes_snapshot(&it.driver, 0, again, 4), LIKES_WAITING);
-        IS(likes_take_seat(&it.driver, &extra), LIKES_NO_SEAT);
+        IS(likes_driver_turn(&it.driver, times < 2 ? LIKES_END_IF_IT_SERVES : LIKES_NO_END), LIKES_ENDED);
+        IS(likes_phase_now(&it.phase), 2);
+        IS(likes_driver_phase(&it.driver), 2);
+        IS(likes_driver_snapshot(&it.driver, 0, again, 4), LIKES_NO_MOMENT);
+        IS(likes_driver_take_seat(&it.driver, &extra), LIKES_ALL_TAKEN);
         for (uint32_t i = 0; i < 2; i++)
-            IS(likes_like(&it.seats[i], i, 0), LIKES_GONE);
+            IS(likes_seat_like(&it.seats[i], i, 0), LIKES_GONE);
     }
     IS(again[0], UNWRITTEN);
     wrong_ranges(&it.driver);
-    IS(likes_last_counts(&it.driver, 0, again, 4), LIKES_OK);
+    IS(likes_driver_last_counts(&it.driver, 0, again, 4), LIKES_COUNTED);
     for (uint32_t page = 0; page < 4; page++) {
         IS(whole[page], counts[page] + page + 1);
         IS(parts[page], whole[page]);
         IS(again[page], whole[page]);
     }
-    IS(it.driver.is_full, true);
     free_service(&it);
 }
 
@@ -386,39 +675,39 @@ static void last_counts(void) {
  * which nobody is left: there are no last counts before turns have led to the next joined one. */
 static void all_gone_in_split(void) {
     const uint64_t counts[] = {10, 20};
-    const bool marks[] = {true, false};
+    const uint32_t marks[] = {0};
     uint64_t last[2];
     likes_answer answer;
     likes_found found;
-    opened it = open_service((likes_options){.seats = 2, .users = 2, .room = 2, .hot = 0}, counts, 2, marks);
+    opened it = open_service((likes_options){.seats = 2, .users = 2, .room = 2, .hot = 0}, counts, 2, marks, 1);
     change_phase(&it, 2);
     for (uint32_t i = 0; i < 2; i++) {
-        IS(likes_like(&it.seats[i], i, 0), LIKES_LIKED);
-        IS(likes_look(&it.seats[i], i, 0, 5 + i, &answer), LIKES_WAITS);
+        IS(likes_seat_like(&it.seats[i], i, 0), LIKES_LIKED);
+        IS(likes_seat_look(&it.seats[i], i, 0, 5 + i, &answer), LIKES_WAITS);
     }
     change_phase(&it, 2);
-    IS(likes_driver_turn(&it.driver, true), LIKES_ANNOUNCED);
-    IS(likes_retire(&it.seats[0]), LIKES_GONE);
-    IS(likes_take_found(&it.seats[0], &found), true);
+    IS(likes_driver_turn(&it.driver, LIKES_END_IF_IT_SERVES), LIKES_ANNOUNCED);
+    IS(likes_seat_retire(&it.seats[0]), LIKES_GONE);
+    IS(likes_seat_take_found(&it.seats[0], &found), true);
     IS(found.tag, 5);
     IS(found.count, 12);
     IS(found.ran, 2);
-    IS(likes_driver_turn(&it.driver, true), LIKES_WAITING);
-    IS(likes_retire(&it.seats[1]), LIKES_GONE);
-    IS(likes_take_found(&it.seats[1], &found), true);
+    IS(likes_driver_turn(&it.driver, LIKES_END_IF_IT_SERVES), LIKES_NOT_ALL_IN);
+    IS(likes_seat_retire(&it.seats[1]), LIKES_GONE);
+    IS(likes_seat_take_found(&it.seats[1], &found), true);
     IS(found.tag, 6);
     IS(found.count, 12);
-    IS(likes_driver_turn(&it.driver, true), LIKES_RELEASED);
-    IS(likes_phase(&it.driver), 3);
+    IS(likes_driver_turn(&it.driver, LIKES_END_IF_IT_SERVES), LIKES_RELEASED);
+    IS(likes_driver_phase(&it.driver), 3);
     clear(last, 2);
-    IS(likes_last_counts(&it.driver, 0, last, 2), LIKES_NOT_ENDED);
-    IS(likes_driver_turn(&it.driver, true), LIKES_ANNOUNCED);
-    IS(likes_last_counts(&it.driver, 0, last, 2), LIKES_NOT_ENDED);
+    IS(likes_driver_last_counts(&it.driver, 0, last, 2), LIKES_NOT_ENDED);
+    IS(likes_driver_turn(&it.driver, LIKES_END_IF_IT_SERVES), LIKES_ANNOUNCED);
+    IS(likes_driver_last_counts(&it.driver, 0, last, 2), LIKES_NOT_ENDED);
     IS(last[0], UNWRITTEN);
-    IS(likes_driver_turn(&it.driver, true), LIKES_RELEASED);
-    IS(likes_driver_turn(&it.driver, true), LIKES_ENDED);
-    IS(likes_phase(&it.driver), 4);
-    IS(likes_last_counts(&it.driver, 0, last, 2), LIKES_OK);
+    IS(likes_driver_turn(&it.driver, LIKES_END_IF_IT_SERVES), LIKES_RELEASED);
+    IS(likes_driver_turn(&it.driver, LIKES_END_IF_IT_SERVES), LIKES_ENDED);
+    IS(likes_driver_phase(&it.driver), 4);
+    IS(likes_driver_last_counts(&it.driver, 0, last, 2), LIKES_COUNTED);
     IS(last[0], 12);
     IS(last[1], 20);
     free_service(&it);
@@ -427,19 +716,19 @@ static void all_gone_in_split(void) {
 /* Seats leave in a joined phase that is ending, and the last counts are those of that phase. */
 static void last_of_ending(void) {
     const uint64_t counts[] = {10};
-    const bool marks[] = {true};
+    const uint32_t marks[] = {0};
     uint64_t now[1], last[1];
-    opened it = open_service((likes_options){.seats = 1, .users = 1, .room = 1, .hot = 0}, counts, 1, marks);
-    IS(likes_like(&it.seats[0], 0, 0), LIKES_LIKED);
-    IS(likes_driver_turn(&it.driver, true), LIKES_ANNOUNCED);
-    IS(likes_retire(&it.seats[0]), LIKES_GONE);
-    IS(likes_snapshot(&it.driver, 0, now, 1), LIKES_COUNTED);
-    IS(likes_last_counts(&it.driver, 0, last, 1), LIKES_OK);
+    opened it = open_service((likes_options){.seats = 1, .users = 1, .room = 1, .hot = 0}, counts, 1, marks, 1);
+    IS(likes_seat_like(&it.seats[0], 0, 0), LIKES_LIKED);
+    IS(likes_driver_turn(&it.driver, LIKES_END_IF_IT_SERVES), LIKES_ANNOUNCED);
+    IS(likes_seat_retire(&it.seats[0]), LIKES_GONE);
+    IS(likes_driver_snapshot(&it.driver, 0, now, 1), LIKES_COUNTED);
+    IS(likes_driver_last_counts(&it.driver, 0, last, 1), LIKES_COUNTED);
     IS(now[0], 11);
     IS(last[0], 11);
-    IS(likes_snapshot(&it.driver, 0, now, 1), LIKES_WAITING);
-    IS(likes_driver_turn(&it.driver, true), LIKES_ENDED);
-    IS(likes_phase(&it.driver), 0);
+    IS(likes_driver_snapshot(&it.driver, 0, now, 1), LIKES_NO_MOMENT);
+    IS(likes_driver_turn(&it.driver, LIKES_END_IF_IT_SERVES), LIKES_ENDED);
+    IS(likes_driver_phase(&it.driver), 0);
     free_service(&it);
 }
 
@@ -448,99 +737,208 @@ static void driving(void) {
     const uint64_t counts[] = {5, 5};
     uint64_t now[3] = {0};
     likes_answer answer;
-    opened it = open_service((likes_options){.seats = 1, .users = 1, .room = 2, .hot = 3}, counts, 2, NULL);
+    opened it = open_service((likes_options){.seats = 1, .users = 1, .room = 2, .hot = 3}, counts, 2, NULL, 0);
     likes_seat *seat = &it.seats[0];
-    IS(likes_driver_turn(&it.driver, false), LIKES_RUNNING);
-    IS(likes_snapshot(&it.driver, 0, now, 3), LIKES_WRONG_LENGTH);
-    IS(likes_snapshot(&it.driver, 0, now, 2), LIKES_WAITING);
+    IS(likes_driver_turn(&it.driver, LIKES_NO_END), LIKES_GOES_ON);
+    IS(likes_driver_snapshot(&it.driver, 0, now, 3), LIKES_WRONG_RANGE);
+    IS(likes_driver_snapshot(&it.driver, 0, now, 2), LIKES_NO_MOMENT);
     for (int i = 0; i < 3; i++)
-        IS(likes_like(seat, 0, 1), LIKES_LIKED);
-    IS(likes_like(seat, 0, 0), LIKES_LIKED);
-    IS(likes_driver_turn(&it.driver, true), LIKES_ANNOUNCED);
-    IS(likes_snapshot(&it.driver, 0, now, 2), LIKES_WAITING);
-    IS(likes_turn(seat), LIKES_BETWEEN);
-    IS(likes_snapshot(&it.driver, 1, now + 1, 1), LIKES_COUNTED);
+        IS(likes_seat_like(seat, 0, 1), LIKES_LIKED);
+    IS(likes_seat_like(seat, 0, 0), LIKES_LIKED);
+    IS(likes_driver_turn(&it.driver, LIKES_END_IF_IT_SERVES), LIKES_ANNOUNCED);
+    IS(likes_driver_snapshot(&it.driver, 0, now, 2), LIKES_NO_MOMENT);
+    IS(likes_seat_turn(seat), LIKES_BETWEEN);
+    IS(likes_driver_snapshot(&it.driver, 1, now + 1, 1), LIKES_COUNTED);
     IS(now[0], 0);
     IS(now[1], 8);
-    IS(likes_like(seat, 0, 0), LIKES_BETWEEN);
-    IS(likes_snapshot(&it.driver, 2, now, 0), LIKES_COUNTED);
+    IS(likes_seat_like(seat, 0, 0), LIKES_BETWEEN);
+    IS(likes_driver_snapshot(&it.driver, 2, NULL, 0), LIKES_COUNTED);
     IS(now[0], 0);
-    IS(likes_snapshot(&it.driver, 0, now, 1), LIKES_COUNTED);
+    IS(likes_driver_snapshot(&it.driver, 0, now, 1), LIKES_COUNTED);
     IS(now[0], 6);
     now[1] = 0;
-    IS(likes_snapshot(&it.driver, 0, now, 2), LIKES_COUNTED);
-    IS(likes_phase(&it.driver), 0);
+    IS(likes_driver_snapshot(&it.driver, 0, now, 2), LIKES_COUNTED);
+    IS(likes_driver_phase(&it.driver), 0);
     IS(now[0], 6);
     IS(now[1], 8);
-    IS(likes_driver_turn(&it.driver, false), LIKES_RELEASED);
-    IS(likes_phase(&it.driver), 1);
-    IS(likes_look(seat, 0, 0, 1, &answer), LIKES_SEEN); /* page 0 isn't hot */
+    IS(likes_driver_turn(&it.driver, LIKES_NO_END), LIKES_RELEASED);
+    IS(likes_driver_phase(&it.driver), 1);
+    IS(likes_seat_look(seat, 0, 0, 1, &answer), LIKES_SEEN); /* page 0 isn't hot */
     IS(answer.count, 6);
-    IS(likes_look(seat, 0, 1, 1, &answer), LIKES_WAITS);
+    IS(likes_seat_look(seat, 0, 1, 1, &answer), LIKES_WAITS);
     /* The seat's room is half taken: the phase ends early. No counts are given at the end of a split phase. */
-    IS(likes_driver_turn(&it.driver, false), LIKES_ANNOUNCED);
-    IS(likes_driver_turn(&it.driver, false), LIKES_WAITING);
-    IS(likes_turn(seat), LIKES_BETWEEN);
-    IS(likes_snapshot(&it.driver, 0, now, 2), LIKES_WAITING);
-    IS(likes_driver_turn(&it.driver, false), LIKES_RELEASED);
-    IS(likes_driver_turn(&it.driver, false), LIKES_RUNNING);
+    IS(likes_driver_turn(&it.driver, LIKES_NO_END), LIKES_ANNOUNCED);
+    IS(likes_driver_turn(&it.driver, LIKES_NO_END), LIKES_NOT_ALL_IN);
+    IS(likes_seat_turn(seat), LIKES_BETWEEN);
+    IS(likes_driver_snapshot(&it.driver, 0, now, 2), LIKES_NO_MOMENT);
+    IS(likes_driver_turn(&it.driver, LIKES_NO_END), LIKES_RELEASED);
+    IS(likes_driver_turn(&it.driver, LIKES_NO_END), LIKES_GOES_ON);
     free_service(&it);
     /* Where nothing can be split, the first phase goes on. */
-    it = open_service((likes_options){.seats = 1, .users = 1, .room = 2, .hot = 0}, counts, 2, NULL);
-    IS(likes_driver_turn(&it.driver, true), LIKES_RUNNING);
+    it = open_service((likes_options){.seats = 1, .users = 1, .room = 2, .hot = 0}, counts, 2, NULL, 0);
+    IS(likes_driver_turn(&it.driver, LIKES_END_IF_IT_SERVES), LIKES_GOES_ON);
     free_service(&it);
 }
 
 /* A split phase ends early when the looks that wait at a seat take half of its room. Found looks don't count. */
 static void early_end(void) {
     const uint64_t counts[] = {0};
-    const bool marks[] = {true};
+    const uint32_t marks[] = {0};
     likes_answer answer;
-    opened it = open_service((likes_options){.seats = 1, .users = 1, .room = 4, .hot = 0}, counts, 1, marks);
+    opened it = open_service((likes_options){.seats = 1, .users = 1, .room = 4, .hot = 0}, counts, 1, marks, 1);
     for (int phase = 1; phase <= 3; phase += 2) {
         change_phase(&it, 1);
-        IS(likes_look(&it.seats[0], 0, 0, 0, &answer), LIKES_WAITS);
-        IS(likes_driver_turn(&it.driver, false), LIKES_RUNNING);
-        IS(likes_look(&it.seats[0], 0, 0, 0, &answer), LIKES_WAITS);
-        IS(likes_driver_turn(&it.driver, false), LIKES_ANNOUNCED);
-        IS(likes_turn(&it.seats[0]), LIKES_BETWEEN);
-        IS(likes_driver_turn(&it.driver, false), LIKES_RELEASED);
-        IS(likes_turn(&it.seats[0]), LIKES_RUNS);
+        IS(likes_seat_look(&it.seats[0], 0, 0, 0, &answer), LIKES_WAITS);
+        IS(likes_driver_turn(&it.driver, LIKES_NO_END), LIKES_GOES_ON);
+        IS(likes_seat_look(&it.seats[0], 0, 0, 0, &answer), LIKES_WAITS);
+        IS(likes_driver_turn(&it.driver, LIKES_NO_END), LIKES_ANNOUNCED);
+        IS(likes_seat_turn(&it.seats[0]), LIKES_BETWEEN);
+        IS(likes_driver_turn(&it.driver, LIKES_NO_END), LIKES_RELEASED);
+        IS(likes_seat_turn(&it.seats[0]), LIKES_RUNS);
     }
     free_service(&it);
+}
+
+/* The error that a test of live handles ends with: a call has written one. */
+static void end_on_write(int signal) {
+    (void)signal;
+    static const char text[] = "a call writes a handle that it neither fills nor frees\n";
+    _exit(write(STDOUT_FILENO, text, sizeof text - 1) > 0 ? 1 : 2);
+}
+
+/* The calls of a service whose handles can't be written: none of them does, not even what is there already. So threads
+ * may use handles that are side by side. */
+static void still_handles(void) {
+    static _Alignas(4096) union {
+        opened it;
+        unsigned char page[4096];
+    } still;
+    const uint64_t counts[] = {10, 20};
+    const uint32_t marks[] = {0};
+    likes_request row[] = {{.op = LIKES_LIKE}, {.op = LIKES_LOOK}, {.op = LIKES_GLANCE, .page = 1}, {.op = 3}};
+    likes_answer answers[4];
+    likes_found found;
+    uint64_t last[2];
+    likes_seat extra = {0};
+    likes_phase another = {0};
+    still.it = open_service((likes_options){.seats = 2, .users = 2, .room = 2, .hot = 0}, counts, 2, marks, 1);
+    void (*before)(int) = signal(SIGSEGV, end_on_write);
+    IS(mprotect(&still, sizeof still, PROT_READ), 0);
+    for (uint64_t phase = 0; phase < 2; phase++) {
+        IS(likes_driver_turn(&still.it.driver, LIKES_NO_END), LIKES_GOES_ON);
+        for (uint32_t i = 0; i < 2; i++) {
+            IS(likes_seat_like(&still.it.seats[i], i, 0), LIKES_LIKED);
+            IS(likes_seat_look(&still.it.seats[i], i, 1, 0, &answers[0]), LIKES_SEEN);
+            IS(likes_seat_glance(&still.it.seats[i], i, 0, &answers[0]), LIKES_SEEN);
+            IS(likes_seat_phase(&still.it.seats[i]), phase);
+        }
+        IS(likes_seat_run(&still.it.seats[0], row, 4, answers, 4), 4);
+        change_phase(&still.it, 2);
+        IS(likes_driver_snapshot(&still.it.driver, 0, last, 2), LIKES_NO_MOMENT);
+        IS(likes_phase_now(&still.it.phase), phase + 1);
+    }
+    IS(likes_seat_retire(&still.it.seats[0]), LIKES_GONE);
+    IS(likes_seat_take_found(&still.it.seats[0], &found), true);
+    IS(likes_seat_retire(&still.it.seats[1]), LIKES_GONE);
+    IS(likes_driver_turn(&still.it.driver, LIKES_END_IF_IT_SERVES), LIKES_ENDED);
+    IS(likes_driver_last_counts(&still.it.driver, 0, last, 2), LIKES_COUNTED);
+    IS(last[0], 16);
+    IS(likes_driver_take_seat(&still.it.driver, &extra), LIKES_ALL_TAKEN);
+    IS(likes_driver_take_phase(&still.it.driver, &another), LIKES_ALL_TAKEN);
+    IS(mprotect(&still, sizeof still, PROT_READ | PROT_WRITE), 0);
+    signal(SIGSEGV, before);
+    free_service(&still.it);
+}
+
+/* All statuses, in the order of their numbers, and where these begin anew. */
+#define NAMED(name) {LIKES_##name, #name}
+static const struct {
+    uint32_t status;
+    const char *name;
+} named[] = {
+    NAMED(OK),           NAMED(LIKED),         NAMED(SEEN),           NAMED(WAITS),        NAMED(RUNS),
+    NAMED(BETWEEN),      NAMED(NO_ROOM),       NAMED(LIKE_LIMIT),     NAMED(GONE),         NAMED(GOES_ON),
+    NAMED(ANNOUNCED),    NAMED(NOT_ALL_IN),    NAMED(RELEASED),       NAMED(ENDED),        NAMED(COUNTED),
+    NAMED(NO_MOMENT),    NAMED(NOT_ENDED),     NAMED(ALL_TAKEN),      NAMED(EMPTY),        NAMED(IN_USE),
+    NAMED(NO_MEMORY),    NAMED(UNKNOWN_USER),  NAMED(OTHER_SEAT),     NAMED(UNKNOWN_PAGE), NAMED(UNKNOWN_OP),
+    NAMED(UNKNOWN_END),  NAMED(WRONG_RANGE),   NAMED(WRONG_RESERVED), NAMED(WRONG_PAGES),  NAMED(WRONG_MARKS),
+    NAMED(WRONG_COUNT),  NAMED(WRONG_SEATS),   NAMED(WRONG_USERS),    NAMED(WRONG_ROOM),   NAMED(WRONG_HOT),
+    NAMED(NO_THREAD),    NAMED(WRONG_PERIOD),  NAMED(NOT_STARTED),    NAMED(MOVED),        NAMED(UNKNOWN_SEAT),
+    NAMED(TAKEN),
+};
+enum { NAMES = sizeof named / sizeof *named, OUTCOMES = 18, ERRORS = 17 };
+
+/* Whether a text is a name in small letters, with spaces. */
+static bool is_text_of(const char *text, const char *name) {
+    for (; *name != 0; name++, text++)
+        if (*text != (*name == '_' ? ' ' : *name - 'A' + 'a'))
+            return false;
+    return *text == 0;
+}
+
+/* Each status has its number, and its name as its text. No other number has one. The errors are those from 100 on. */
+static void statuses(void) {
+    static const uint32_t far[] = {65536, 65636, 1u << 31, UINT32_MAX - 99, UINT32_MAX - 1, UINT32_MAX};
+    uint32_t known = 0;
+    for (uint32_t status = 0; status < 65536; status++) {
+        uint32_t next = known < OUTCOMES ? known : known < OUTCOMES + ERRORS ? 100 + known - OUTCOMES
+                                                                            : 1000 + known - OUTCOMES - ERRORS;
+        bool is_known = known < NAMES && status == next;
+        if (is_known)
+            IS(named[known].status, status);
+        IS(is_text_of(likes_status_text(status), is_known ? named[known].name : "UNKNOWN_STATUS"), true);
+        IS(likes_is_error(status), status >= 100);
+        known += is_known;
+    }
+    IS(known, NAMES);
+    for (size_t n = 0; n < sizeof far / sizeof *far; n++) {
+        IS(is_text_of(likes_status_text(far[n]), "UNKNOWN_STATUS"), true);
+        IS(likes_is_error(far[n]), true);
+    }
 }
 
 /* So many million calls over many phases, in the same memory. */
 static void memory(uint64_t millions) {
     const uint64_t counts[4] = {0};
-    const bool marks[4] = {true, false, true, false};
+    const uint32_t marks[] = {0, 2};
     likes_request requests[64];
     likes_answer answers[64];
     likes_found found;
-    opened it = open_service((likes_options){.seats = 1, .users = 1000, .room = 64, .hot = 0}, counts, 4, marks);
+    opened it = open_service((likes_options){.seats = 1, .users = 1000, .room = 64, .hot = 0}, counts, 4, marks, 2);
     for (uint32_t i = 0; i < 64; i++)
         requests[i] = (likes_request){.tag = i, .user = i * 7, .page = i % 4, .op = i % 8 ? LIKES_LIKE : LIKES_LOOK};
     size_t before = mallinfo2().uordblks;
     for (uint64_t calls = 0; calls < millions * 1000000; calls += 64) {
         size_t done = 0;
-        while ((done += likes_run(&it.seats[0], requests + done, 64 - done, answers, 64)) < 64) {
-            likes_driver_turn(&it.driver, true);
-            while (likes_take_found(&it.seats[0], &found))
+        while ((done += likes_seat_run(&it.seats[0], requests + done, 64 - done, answers, 64)) < 64) {
+            likes_driver_turn(&it.driver, LIKES_END_IF_IT_SERVES);
+            while (likes_seat_take_found(&it.seats[0], &found))
                 continue;
         }
-        likes_driver_turn(&it.driver, calls % 1024 == 0);
+        likes_driver_turn(&it.driver, calls % 1024 == 0 ? LIKES_END_IF_IT_SERVES : LIKES_NO_END);
     }
     IS(mallinfo2().uordblks, before);
     free_service(&it);
 }
 
 int main(int count, char **words) {
+    statuses();
     plain();
     two_seats();
     room();
     openings();
+    order_of_openings();
+    marks();
     empty_handles();
+    full_handles();
+    frees();
+    phases();
+    late_phase();
+    moved();
     wrong_numbers();
+    reserved_requests();
+    unknown_ends();
+    order_of_refusals();
     rows();
     after_gone();
     last_counts();
@@ -548,6 +946,7 @@ int main(int count, char **words) {
     last_of_ending();
     driving();
     early_end();
+    still_handles();
     if (count > 1)
         memory(strtoull(words[1], NULL, 10));
     puts(wrong ? "not all calls answered right" : "all calls answered right");

@@ -25,13 +25,14 @@ template <typename Call> static std::uint32_t thrown(Call call) {
 }
 
 static void openings() {
-    auto open = [](likes_options options, std::vector<std::uint64_t> counts, std::uint32_t period) {
+    auto open = [](likes::Options options, std::vector<std::uint64_t> counts, std::uint32_t period) {
         return thrown([&] { likes::Service service(options, counts, period); });
     };
     hold(open({2, 9, 4, 0}, {}, 1000) == LIKES_WRONG_PAGES, "no pages");
     hold(open({2, 9, 4, 0}, {0}, 0) == LIKES_WRONG_PERIOD, "period 0");
     hold(open({0, 9, 4, 0}, {0}, 1000) == LIKES_WRONG_SEATS, "no seats");
     hold(open({2, 9, 4, 0}, {0}, 1000) == LIKES_OK, "a right opening");
+    hold(open({2, 9}, {0}, 1000) == LIKES_OK, "an opening with the usual room");
 }
 
 // Only seats 0 and 1 can be held.

@@ -32,7 +32,7 @@ static uint32_t below(worker *it, uint32_t bound) {
 /* Takes found looks: their tags come in the order of asking, with none left out. */
 static void take(worker *it, likes_seat *seat, const uint64_t *tags) {
     likes_found found;
-    while (likes_take_found(seat, &found)) {
+    while (likes_seat_take_found(seat, &found)) {
         hold(found.tag == tags[it->next++ % LIKES_MAX_ROOM], "a look was found out of turn");
         hold(found.ran == found.asked + 1, "a look was found in another phase than the next");
         it->found++;
@@ -81,7 +81,7 @@ static void *work(void *at) {
     likes_seat *seat = likes_service_wake(&service, it->number);
     while (it->found < it->asked) {
         likes_service_drive(&service);
-        likes_turn(seat);
+        likes_seat_turn(seat);
         take(it, seat, tags);
     }
     likes_service_rest(&service, it->number);
@@ -94,10 +94,10 @@ int main(int count, char **words) {
         return 2;
     }
     const uint64_t counts[PAGES] = {0};
-    const bool marks[PAGES] = {true};
+    const uint32_t marks[] = {0};
     uint64_t totals[PAGES], phases, likes = 0, looks = 0;
     likes_options options = {.seats = SEATS, .users = USERS, .room = LIKES_MAX_ROOM, .hot = 1000};
-    hold(likes_service_start(&service, &options, counts, PAGES, marks, 1000) == LIKES_OK, "no service was started");
+    hold(likes_service_start(&service, &options, counts, PAGES, marks, 1, 1000) == LIKES_OK, "no service was started");
     until = likes_clock() + strtoull(words[1], NULL, 10) * UINT64_C(1000000000);
     for (uint32_t i = 0; i < SEATS; i++) {
         workers[i].number = workers[i].random = i;
@@ -111,9 +111,7 @@ int main(int count, char **words) {
         likes_service_glance(&service, user, 0, &answer);
         hold(answer.last == workers[user % SEATS].last[user / SEATS], "a user's last like is wrong");
     }
-    pthread_mutex_lock(&service.driving);
-    phases = likes_phase(&service.driver);
-    pthread_mutex_unlock(&service.driving);
+    phases = likes_service_phase(&service);
     hold(likes_service_stop(&service, totals, PAGES) == LIKES_OK, "the service was not stopped");
     for (uint32_t page = 0; page < PAGES; page++) {
         for (uint32_t i = 0; i < SEATS; i++)

@@ -24,15 +24,15 @@ static void hold(bool is_right, const char *text) {
 
 /* Ends the phase, and releases the next. The seat enters that by its next call. */
 static void change(void) {
-    hold(likes_driver_turn(&driver, true) == LIKES_ANNOUNCED, "the end was not announced");
-    hold(likes_turn(&seat) == LIKES_BETWEEN, "the seat did not answer");
-    hold(likes_driver_turn(&driver, false) == LIKES_RELEASED, "the next phase was not released");
+    hold(likes_driver_turn(&driver, LIKES_END_IF_IT_SERVES) == LIKES_ANNOUNCED, "the end was not announced");
+    hold(likes_seat_turn(&seat) == LIKES_BETWEEN, "the seat did not answer");
+    hold(likes_driver_turn(&driver, LIKES_NO_END) == LIKES_RELEASED, "the next phase was not released");
     phase++;
-    hold(likes_phase(&driver) == phase, "the driver tells another phase");
+    hold(likes_driver_phase(&driver) == phase, "the driver tells another phase");
 }
 
 static void like(uint32_t page) {
-    hold(likes_like(&seat, 0, page) == LIKES_LIKED, "a like was not counted");
+    hold(likes_seat_like(&seat, 0, page) == LIKES_LIKED, "a like was not counted");
     hold(likes_seat_phase(&seat) == phase, "the seat tells another phase");
     liked[page]++;
 }
@@ -40,7 +40,7 @@ static void like(uint32_t page) {
 /* A look at the page that is not marked shows all likes at once. */
 static void look(void) {
     likes_answer answer;
-    hold(likes_look(&seat, 0, 1, 0, &answer) == LIKES_SEEN, "a look was not answered");
+    hold(likes_seat_look(&seat, 0, 1, 0, &answer) == LIKES_SEEN, "a look was not answered");
     hold(answer.count == 20 + liked[1] && answer.last == 1, "a look shows another count or last like");
 }
 
@@ -53,13 +53,13 @@ static void two_phases(void) {
     like(1);
     look();
     like(0);
-    hold(likes_look(&seat, 0, 0, phase, &answer) == LIKES_WAITS, "a look did not wait");
-    hold(likes_glance(&seat, 0, 0, &answer) == LIKES_SEEN, "a glance was not answered");
+    hold(likes_seat_look(&seat, 0, 0, phase, &answer) == LIKES_WAITS, "a look did not wait");
+    hold(likes_seat_glance(&seat, 0, 0, &answer) == LIKES_SEEN, "a glance was not answered");
     hold(answer.count == 10 + liked[0], "a glance shows another count");
     uint64_t asked = phase, count = 10 + liked[0];
     change();
     like(0);
-    hold(likes_take_found(&seat, &found), "a look was not found");
+    hold(likes_seat_take_found(&seat, &found), "a look was not found");
     hold(found.tag == asked && found.asked == asked && found.ran == phase, "a look was found in another phase");
     hold(found.count == count && found.last == 0, "a found look shows another count or last like");
     like(1);
@@ -68,11 +68,11 @@ static void two_phases(void) {
 
 int main(void) {
     const uint64_t counts[] = {10, 20};
-    const bool marks[] = {true, false};
+    const uint32_t marks[] = {0};
     uint64_t totals[2];
     likes_options options = {.seats = 1, .users = 1, .room = 2};
-    hold(likes_open(&options, counts, 2, marks, 2, &driver) == LIKES_OK, "no service was opened");
-    hold(likes_take_seat(&driver, &seat) == LIKES_OK, "no seat was taken");
+    hold(likes_open(&options, counts, 2, marks, 1, &driver) == LIKES_OK, "no service was opened");
+    hold(likes_driver_take_seat(&driver, &seat) == LIKES_OK, "no seat was taken");
     while (phase < MODULUS - 4) {
         if (phase % 1000000 == 0)
             two_phases();
@@ -80,13 +80,14 @@ int main(void) {
     }
     while (phase < MODULUS + 4)
         two_phases();
-    hold(likes_retire(&seat) == LIKES_GONE, "the seat did not retire");
-    hold(likes_driver_turn(&driver, true) == LIKES_ENDED, "the service did not end");
-    hold(likes_last_counts(&driver, 0, totals, 2) == LIKES_OK, "there are no last counts");
+    hold(likes_seat_retire(&seat) == LIKES_GONE, "the seat did not retire");
+    hold(likes_driver_turn(&driver, LIKES_END_IF_IT_SERVES) == LIKES_ENDED, "the service did not end");
+    hold(likes_driver_last_counts(&driver, 0, totals, 2) == LIKES_COUNTED, "there are no last counts");
     hold(totals[0] == 10 + liked[0] && totals[1] == 20 + liked[1], "a total is wrong");
-    hold(likes_driver_turn(&driver, true) == LIKES_ENDED && likes_phase(&driver) == phase, "the service went on");
-    likes_free_seat(&seat);
-    likes_free_driver(&driver);
+    hold(likes_driver_turn(&driver, LIKES_END_IF_IT_SERVES) == LIKES_ENDED, "the service went on");
+    hold(likes_driver_phase(&driver) == phase, "the driver tells another phase at the end");
+    likes_seat_free(&seat);
+    likes_driver_free(&driver);
     printf("%" PRIu64 " phases, %" PRIu64 " likes\n", phase, liked[0] + liked[1]);
     return 0;
 }

@@ -37,7 +37,7 @@ typedef struct {
 
 enum { MOMENTS = 64 };
 
-/* A call that writes the counts of a range of pages: likes_snapshot or likes_last_counts. */
+/* A call that writes the counts of a range of pages: likes_driver_snapshot or likes_driver_last_counts. */
 typedef uint32_t ranged(likes_driver *driver, uint32_t from, uint64_t *counts, size_t counts_len);
 
 /* A round: its numbers, its seats behind locks, and what they have done. */
@@ -46,10 +46,13 @@ typedef struct {
     likes_options options;
     size_t pages;
     uint64_t counts[LIKES_MAX_PAGES], last[LIKES_MAX_PAGES];
-    bool marks[LIKES_MAX_PAGES];
+    uint32_t marks[LIKES_MAX_MARKS]; /* in random order */
+    size_t marks_len;
+    bool is_marked[LIKES_MAX_PAGES];
     uint32_t calls, longest;
     likes_driver driver;
     likes_seat seats[LIKES_MAX_SEATS];
+    likes_phase phase;
     pthread_mutex_t locks[LIKES_MAX_SEATS];
     history histories[LIKES_MAX_SEATS];
     moment moments[MOMENTS];
@@ -142,7 +145,7 @@ static bool answered(game *it, uint32_t number, likes_request request, likes_ans
         made.kind = WAITED;
         if (request.op != LIKES_LOOK || phase % 2 == 0)
             return false;
-        if (is_known && !it->marks[request.page] && (options->hot == 0 || request.page >= 64))
+        if (is_known && !it->is_marked[request.page] && (options->hot == 0 || request.page >= 64))
             return false;
         break;
     case LIKES_BETWEEN:
@@ -164,7 +167,7 @@ static bool answered(game *it, uint32_t number, likes_request request, likes_ans
 
 static void take_found(game *it, uint32_t number, uint64_t most) {
     likes_found found;
-    while (most-- > 0 && likes_take_found(&it->seats[number], &found)) {
+    while (most-- > 0 && likes_seat_take_found(&it->seats[number], &found)) {
         event made = {.kind = FOUND, .user = found.user, .page = found.page, .last = found.last};
         made.phase = found.ran;
         made.count = found.count;
@@ -172,6 +175,15 @@ static void take_found(game *it, uint32_t number, uint64_t most) {
         made.asked = found.asked;
         note(&it->histories[number], made);
     }
+}
+
+/* Compares the phase that any thread may read with a seat's own. A service is one phase ahead of a seat that has
+ * answered. One behind, its driver is between a release and telling it. */
+static void check_phase(const game *it, uint32_t number, uint64_t seat_phase) {
+    uint64_t now = likes_phase_now(&it->phase);
+    if (now + 1 < seat_phase || now > seat_phase + 1)
+        fail(it, "seat %u: the phase is told as %llu in phase %llu", number, (unsigned long long)now,
+             (unsigned long long)seat_phase);
 }
 
 /* Makes a call, or a row of them, and gives how many. */
@@ -183,14 +195,15 @@ static uint32_t call(game *it, uint32_t number, uint64_t *random, uint64_t *tag)
     for (uint32_t i = 0; i < length; i++)
         requests[i] = draw(it, number, random, (*tag)++);
     size_t done = 0;
+    check_phase(it, number, likes_seat_phase(seat));
     if (length > 1)
-        done = likes_run(seat, requests, length, answers, length);
+        done = likes_seat_run(seat, requests, length, answers, length);
     else if (requests[0].op == LIKES_LIKE)
-        answers[0].status = likes_like(seat, requests[0].user, requests[0].page);
+        answers[0].status = likes_seat_like(seat, requests[0].user, requests[0].page);
     else if (requests[0].op == LIKES_LOOK)
-        likes_look(seat, requests[0].user, requests[0].page, requests[0].tag, &answers[0]);
+        likes_seat_look(seat, requests[0].user, requests[0].page, requests[0].tag, &answers[0]);
     else
-        likes_glance(seat, requests[0].user, requests[0].page, &answers[0]);
+        likes_seat_glance(seat, requests[0].user, requests[0].page, &answers[0]);
     for (size_t i = 0; i < length && i <= done; i++) {
         bool stops = answers[i].status == LIKES_BETWEEN || answers[i].status == LIKES_NO_ROOM;
         if (length > 1 && stops != (i == done))
@@ -216,7 +229,7 @@ static void *play(void *at) {
         else if (choice < 950)
             take_found(it, number, below(&random, 2) == 0 ? UINT64_MAX : 1 + below(&random, 8));
         else if (choice < 980)
-            likes_turn(&it->seats[number]);
+            likes_seat_turn(&it->seats[number]);
         else if (choice < 985)
             pause_for(&random, it->longest);
         if (choice >= 970) {
@@ -226,7 +239,7 @@ static void *play(void *at) {
             pthread_mutex_lock(&it->locks[number]);
         }
     }
-    while (likes_retire(&it->seats[number]) != LIKES_GONE) {
+    while (likes_seat_retire(&it->seats[number]) != LIKES_GONE) {
         if (below(&random, 2) == 0)
             take_found(it, number, 1);
         pthread_mutex_unlock(&it->locks[number]);
@@ -240,11 +253,11 @@ static void *play(void *at) {
 
 /* Has all pages' counts written by one call, or by two calls whose ranges meet at a random page. Whether they were:
  * where the first range was written, the second is too. */
-static bool has_counts(game *it, uint64_t *random, ranged *call, uint64_t *counts, uint32_t written) {
+static bool has_counts(game *it, uint64_t *random, ranged *call, uint64_t *counts) {
     size_t first = below(random, 2) == 0 ? it->pages : below(random, it->pages + 1);
-    if (call(&it->driver, 0, counts, first) != written)
+    if (call(&it->driver, 0, counts, first) != LIKES_COUNTED)
         return false;
-    if (first < it->pages && call(&it->driver, (uint32_t)first, counts + first, it->pages - first) != written)
+    if (first < it->pages && call(&it->driver, (uint32_t)first, counts + first, it->pages - first) != LIKES_COUNTED)
         fail(it, "the counts of %zu pages were written, and not those of the others", first);
     return true;
 }
@@ -257,10 +270,10 @@ static void drive(game *it) {
         uint64_t now = likes_clock();
         if (it->taken < MOMENTS && below(&random, 4) == 0) {
             moment *next = &it->moments[it->taken];
-            next->phase = likes_phase(&it->driver);
-            it->taken += has_counts(it, &random, likes_snapshot, next->counts, LIKES_COUNTED);
+            next->phase = likes_driver_phase(&it->driver);
+            it->taken += has_counts(it, &random, likes_driver_snapshot, next->counts);
         }
-        uint32_t status = likes_driver_turn(&it->driver, now >= due);
+        uint32_t status = likes_driver_turn(&it->driver, now >= due ? LIKES_END_IF_IT_SERVES : LIKES_NO_END);
         if (status == LIKES_ENDED)
             break;
         if (status == LIKES_RELEASED)
@@ -268,14 +281,14 @@ static void drive(game *it) {
         for (uint32_t i = 0; i < it->options.seats; i++) {
             if (pthread_mutex_trylock(&it->locks[i]) == 0) {
                 if (below(&random, 2) == 0)
-                    likes_turn(&it->seats[i]);
+                    likes_seat_turn(&it->seats[i]);
                 pthread_mutex_unlock(&it->locks[i]);
             }
         }
         sched_yield();
     }
     /* Where all seats have left a split phase, the next joined one comes by turns that may end it. */
-    while (likes_driver_turn(&it->driver, true) != LIKES_ENDED)
+    while (likes_driver_turn(&it->driver, LIKES_END_IF_IT_SERVES) != LIKES_ENDED)
         continue;
 }
 
@@ -296,7 +309,7 @@ static uint64_t before(uint32_t *counts, const tally *it, uint64_t phase, uint32
 }
 
 static tally counted(game *it) {
-    tally made = {.phases = likes_phase(&it->driver) + 1, .pages = it->pages};
+    tally made = {.phases = likes_driver_phase(&it->driver) + 1, .pages = it->pages};
     made.all = (uint32_t *)calloc(made.phases * made.pages, sizeof *made.all);
     for (uint32_t i = 0; i < it->options.seats; i++) {
         made.own[i] = (uint32_t *)calloc(made.phases * made.pages, sizeof *made.all);
@@ -394,8 +407,10 @@ static void check_seen(const game *it, tally *of, uint32_t number) {
 static void check(game *it) {
     tally of = counted(it);
     uint64_t end = of.phases - 1, random = it->seed * 41;
+    if (likes_phase_now(&it->phase) != end)
+        fail(it, "the phase is told as %llu at the end", (unsigned long long)likes_phase_now(&it->phase));
     for (int times = 0; times < 2; times++)
-        if (!has_counts(it, &random, likes_last_counts, it->last, LIKES_OK))
+        if (!has_counts(it, &random, likes_driver_last_counts, it->last))
             fail(it, "there are no last counts");
     for (uint32_t page = 0; page < it->pages; page++)
         if (it->last[page] != it->counts[page] + row_of(of.all, &of, end)[page])
@@ -415,6 +430,12 @@ static void check(game *it) {
     all_moments += it->taken;
 }
 
+/* Puts a mark among the others. */
+static void put_mark(game *it, uint32_t page, size_t at) {
+    it->marks[it->marks_len++] = it->marks[at];
+    it->marks[at] = page;
+}
+
 /* Draws the numbers of a round. */
 static void draw_game(game *it, uint64_t seed) {
     uint64_t random = seed;
@@ -428,7 +449,9 @@ static void draw_game(game *it, uint64_t seed) {
     uint64_t marked = below(&random, 4);
     for (size_t page = 0; page < it->pages; page++) {
         it->counts[page] = below(&random, 4) == 0 ? LIKES_MAX_COUNT : low(&random, 1000000);
-        it->marks[page] = below(&random, 4) < marked;
+        it->is_marked[page] = below(&random, 4) < marked && it->marks_len < LIKES_MAX_MARKS;
+        if (it->is_marked[page])
+            put_mark(it, (uint32_t)page, below(&random, it->marks_len + 1));
     }
     it->calls = 1 + (uint32_t)low(&random, 20000);
     it->longest = 1 + (uint32_t)low(&random, 500);
@@ -439,13 +462,15 @@ static void play_round(uint64_t seed) {
     pthread_t threads[LIKES_MAX_SEATS];
     player players[LIKES_MAX_SEATS];
     draw_game(&it, seed);
-    if (likes_open(&it.options, it.counts, it.pages, it.marks, it.pages, &it.driver) != LIKES_OK)
+    if (likes_open(&it.options, it.counts, it.pages, it.marks, it.marks_len, &it.driver) != LIKES_OK)
         fail(&it, "the service was not opened");
     for (uint32_t i = 0; i < it.options.seats; i++) {
         pthread_mutex_init(&it.locks[i], NULL);
-        if (likes_take_seat(&it.driver, &it.seats[i]) != LIKES_OK)
+        if (likes_driver_take_seat(&it.driver, &it.seats[i]) != LIKES_OK)
             fail(&it, "seat %u was not handed out", i);
     }
+    if (likes_driver_take_phase(&it.driver, &it.phase) != LIKES_OK)
+        fail(&it, "the phase was not handed out");
     for (uint32_t i = 0; i < it.options.seats; i++) {
         players[i] = (player){&it, i};
         if (pthread_create(&threads[i], NULL, play, &players[i]) != 0)
@@ -458,10 +483,11 @@ static void play_round(uint64_t seed) {
     for (uint32_t i = 0; i < it.options.seats; i++) {
         all_calls += it.histories[i].length;
         free(it.histories[i].events);
-        likes_free_seat(&it.seats[i]);
+        likes_seat_free(&it.seats[i]);
         pthread_mutex_destroy(&it.locks[i]);
     }
-    likes_free_driver(&it.driver);
+    likes_phase_free(&it.phase);
+    likes_driver_free(&it.driver);
     rounds++;
 }
 

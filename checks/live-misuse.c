@@ -1,6 +1,6 @@
 /* Wrong uses of likes_helpers.h, each of which has to be answered by a status: calls of a service that isn't started,
- * was stopped or is a copy; wrong seats and periods; seats that have all left; and looks with tags of the host's at a
- * seat of which likes_service_look is asked too.
+ * was stopped or is a copy; wrong seats and periods; seats that have all left; looks with tags of the host's at a seat
+ * of which likes_service_look is asked too; and arrays of no entries. Threads read the phase while it changes.
  *
  * It ends with status 1 and a line where a call is answered otherwise, and by a signal after 30 seconds. */
 #include "likes_helpers.h"
@@ -17,7 +17,7 @@ static bool is_over;
         uint64_t is = (call), should = (expected);                                                              \
         if (is != should) {                                                                                     \
             printf("line %d: %s is %llu (%s), and not %llu\n", __LINE__, #call, (unsigned long long)is,          \
-                   likes_status_name((uint32_t)is), (unsigned long long)should);                                \
+                   likes_status_text((uint32_t)is), (unsigned long long)should);                                \
             exit(1);                                                                                            \
         }                                                                                                       \
     } while (0)
@@ -25,9 +25,9 @@ static bool is_over;
 /* A service with a page that is split in every split phase, and one that never is. */
 static uint32_t start(uint32_t seats, uint32_t room, uint32_t period) {
     static const uint64_t counts[] = {10, 20};
-    static const bool marks[] = {true, false};
+    static const uint32_t marks[] = {0};
     likes_options options = {.seats = seats, .users = 100, .room = room, .hot = 0};
-    return likes_service_start(&service, &options, counts, 2, marks, period);
+    return likes_service_start(&service, &options, counts, 2, marks, 1, period);
 }
 
 /* Every call of a service answers this. */
@@ -49,8 +49,9 @@ static void all_refused(likes_service *it, uint32_t status) {
     IS(likes_service_take_found(it, 0, &found), false);
     likes_service_rest(it, 0);
     IS(likes_service_drive(it), status);
+    IS(likes_service_phase(it), 0);
     likes_service_tick(it);
-    likes_service_turns(it);
+    likes_service_seat_turns(it);
     IS(likes_service_counts(it, counts, 2), status);
     IS(likes_service_retire(it), status);
     IS(likes_service_stop(it, counts, 2), status);
@@ -67,7 +68,7 @@ static void not_started(void) {
     all_refused(&service, LIKES_NOT_STARTED);
     IS(start(2, 4, 1), LIKES_OK);
     IS(likes_service_like(&service, 0, 0), LIKES_LIKED);
-    IS(likes_service_stop(&service, totals, 1), LIKES_WRONG_LENGTH);
+    IS(likes_service_stop(&service, totals, 1), LIKES_WRONG_RANGE);
     IS(likes_service_stop(&service, totals, 2), LIKES_OK);
     IS(totals[0], 11);
     all_refused(&service, LIKES_NOT_STARTED);
@@ -121,7 +122,7 @@ static void all_gone(void) {
     IS(likes_service_like(&service, 0, 0), LIKES_LIKED);
     IS(likes_service_like(&service, 1, 1), LIKES_LIKED);
     for (uint32_t i = 0; i < 2; i++) {
-        while (likes_retire(likes_service_wake(&service, i)) != LIKES_GONE) {
+        while (likes_seat_retire(likes_service_wake(&service, i)) != LIKES_GONE) {
             likes_service_rest(&service, i);
             sched_yield();
         }
@@ -205,8 +206,8 @@ static bool take_one(void) {
     likes_seat *seat = likes_service_wake(&service, 0);
     for (uint64_t end = likes_clock() + 5000000; !is_taken && likes_clock() < end;) {
         likes_service_drive(&service);
-        likes_turn(seat);
-        is_taken = likes_take_found(seat, &found);
+        likes_seat_turn(seat);
+        is_taken = likes_seat_take_found(seat, &found);
     }
     likes_service_rest(&service, 0);
     return is_taken;
@@ -231,22 +232,58 @@ static void taken(int askers) {
     IS(likes_service_stop(&service, totals, 2), LIKES_OK);
 }
 
-/* Each status has a name of its own. */
-static void names(void) {
-    for (uint32_t status = LIKES_OK; status <= LIKES_TAKEN; status++) {
-        bool is_known = status <= LIKES_WRONG_HOT || status >= LIKES_NO_THREAD;
-        IS(strcmp(likes_status_name(status), "unknown status") != 0, is_known);
-        for (uint32_t other = LIKES_OK; other < status && is_known; other++)
-            IS(strcmp(likes_status_name(status), likes_status_name(other)) != 0, true);
+/* Reads the phase until the end: it never falls, and so many changes are seen. */
+static void *read_phases(void *at) {
+    uint64_t phase = 0, *changes = (uint64_t *)at;
+    while (!__atomic_load_n(&is_over, __ATOMIC_SEQ_CST)) {
+        uint64_t now = likes_service_phase(&service);
+        IS(now >= phase, true);
+        __atomic_fetch_add(changes, now > phase, __ATOMIC_SEQ_CST);
+        phase = now;
     }
-    IS(strcmp(likes_status_name(LIKES_NO_THREAD), "no thread"), 0);
-    IS(strcmp(likes_status_name(LIKES_WRONG_PERIOD), "wrong period"), 0);
-    IS(strcmp(likes_status_name(LIKES_NOT_STARTED), "not started"), 0);
-    IS(strcmp(likes_status_name(LIKES_MOVED), "moved"), 0);
-    IS(strcmp(likes_status_name(LIKES_UNKNOWN_SEAT), "unknown seat"), 0);
-    IS(strcmp(likes_status_name(LIKES_TAKEN), "taken"), 0);
-    IS(strcmp(likes_status_name(LIKES_TAKEN + 1), "unknown status"), 0);
-    IS(strcmp(likes_status_name(UINT32_MAX), "unknown status"), 0);
+    return NULL;
+}
+
+/* Threads read the phase while the driver's thread changes it. */
+static void phases(void) {
+    enum { READERS = 3, CHANGES = 20 };
+    pthread_t threads[READERS];
+    uint64_t changes[READERS] = {0}, totals[2], phase;
+    is_over = false;
+    IS(likes_service_phase(&service), 0);
+    IS(start(2, 4, 100), LIKES_OK);
+    for (int i = 0; i < READERS; i++)
+        IS(pthread_create(&threads[i], NULL, read_phases, &changes[i]), 0);
+    for (int i = 0; i < READERS; i++)
+        while (__atomic_load_n(&changes[i], __ATOMIC_SEQ_CST) < CHANGES)
+            likes_sleep(100000);
+    __atomic_store_n(&is_over, true, __ATOMIC_SEQ_CST);
+    for (int i = 0; i < READERS; i++)
+        pthread_join(threads[i], NULL);
+    IS(likes_service_retire(&service), LIKES_OK);
+    phase = likes_service_phase(&service);
+    IS(phase, likes_driver_phase(&service.driver));
+    IS(phase >= CHANGES && phase % 2 == 0, true);
+    IS(likes_service_stop(&service, totals, 2), LIKES_OK);
+    IS(likes_service_phase(&service), 0);
+}
+
+/* Arrays of no entries may be NULL. */
+static void no_entries(void) {
+    uint64_t totals[1];
+    likes_options options = {.seats = 1, .users = 1, .room = 1};
+    IS(likes_service_start(&service, &options, NULL, 0, NULL, 0, 1000), LIKES_WRONG_PAGES);
+    IS(likes_service_start(&service, &options, (const uint64_t[]){5}, 1, NULL, 0, 1000), LIKES_OK);
+    likes_seat *seat = likes_service_wake(&service, 0);
+    IS(likes_service_run(&service, 0, NULL, 0, NULL), 0);
+    IS(likes_seat_take_all_found(seat, NULL, 0), 0);
+    likes_service_rest(&service, 0);
+    IS(likes_service_run(&service, 1, NULL, 0, NULL), 0);
+    IS(likes_service_counts(&service, NULL, 0), LIKES_WRONG_RANGE);
+    IS(likes_service_counts(&service, totals, 1), LIKES_NO_MOMENT);
+    IS(likes_service_stop(&service, NULL, 0), LIKES_WRONG_RANGE);
+    IS(likes_service_stop(&service, totals, 1), LIKES_OK);
+    IS(totals[0], 5);
 }
 
 int main(void) {
@@ -258,7 +295,8 @@ int main(void) {
     tagged();
     taken(1);
     taken(2);
-    names();
+    phases();
+    no_entries();
     puts("all wrong uses answered right");
     return 0;
 }

@@ -1,7 +1,7 @@
 /* Counts what the library allocates.
  *
  *   - No call but likes_open may allocate, and none but those that free may give memory back. Each free of a seat or of
- *     a driver has to give some back, and once all of a service are freed, in any order, all of it.
+ *     a driver has to give some back, and once all of a service and its phase are freed, in any order, all of it.
  *   - Each allocation of an opening is refused in turn, alone and with all that follow it. Each such opening has to
  *     answer that there is no memory, to leave the driver empty, and to give back what it took.
  *
@@ -76,6 +76,7 @@ enum { SEATS = 3, USERS = 1000, PAGES = 100, ROW = 30, ROOM = 64 };
 
 static likes_driver driver;
 static likes_seat seats[SEATS];
+static likes_phase phase_now;
 
 static void fail(int line, const char *call, const char *text) {
     printf("line %d: %s %s\n", line, call, text);
@@ -116,22 +117,26 @@ static void fail(int line, const char *call, const char *text) {
 /* Opens the service, where these allocations are refused. */
 static uint32_t open_service(size_t from, size_t to) {
     static const uint64_t counts[PAGES];
-    static const bool marks[PAGES] = {true};
+    static const uint32_t marks[] = {0};
     static const likes_options options = {.seats = SEATS, .users = USERS, .room = ROOM, .hot = 10};
     first = from;
     last = to;
     made = blocks = 0;
-    uint32_t status = likes_open(&options, counts, PAGES, marks, PAGES, &driver);
+    uint32_t status = likes_open(&options, counts, PAGES, marks, 1, &driver);
     first = last = 0;
     return status;
 }
 
-static void take_seats(void) {
+static void take_handles(void) {
     likes_seat extra = {0};
+    likes_phase another = {0};
     for (uint32_t i = 0; i < SEATS; i++)
-        IS(likes_take_seat(&driver, &seats[i]), LIKES_OK);
-    IS(likes_take_seat(&driver, &extra), LIKES_NO_SEAT);
-    IS(likes_take_seat(&driver, &seats[0]), LIKES_IN_USE);
+        IS(likes_driver_take_seat(&driver, &seats[i]), LIKES_OK);
+    IS(likes_driver_take_seat(&driver, &extra), LIKES_ALL_TAKEN);
+    IS(likes_driver_take_seat(&driver, &seats[0]), LIKES_IN_USE);
+    IS(likes_driver_take_phase(&driver, &phase_now), LIKES_OK);
+    IS(likes_driver_take_phase(&driver, &another), LIKES_ALL_TAKEN);
+    IS(likes_driver_take_phase(&driver, &phase_now), LIKES_IN_USE);
 }
 
 /* Each kind of request at each seat, one by one and in rows. More looks are asked for than have room. */
@@ -141,14 +146,14 @@ static void request(uint64_t phase) {
     likes_found found;
     for (uint32_t i = 0; i < 300; i++) {
         likes_seat *seat = &seats[i % SEATS];
-        STILL(likes_like(seat, i, i % PAGES));
-        STILL(likes_look(seat, i, i % 2 ? 0 : i % PAGES, i, &answer));
-        STILL(likes_glance(seat, i, i % PAGES, &answer));
+        STILL(likes_seat_like(seat, i, i % PAGES));
+        STILL(likes_seat_look(seat, i, i % 2 ? 0 : i % PAGES, i, &answer));
+        STILL(likes_seat_glance(seat, i, i % PAGES, &answer));
         row[i % ROW] = (likes_request){.tag = i, .user = i, .page = i % 7, .op = i % 4};
         if (i % ROW == ROW - 1)
-            STILL(likes_run(seat, row, ROW, answers, ROW));
+            STILL(likes_seat_run(seat, row, ROW, answers, ROW));
         if (i % 16 == 0)
-            STILL(likes_take_found(seat, &found));
+            STILL(likes_seat_take_found(seat, &found));
     }
     for (uint32_t i = 0; i < SEATS; i++)
         IS(likes_seat_phase(&seats[i]), phase);
@@ -158,61 +163,69 @@ static void request(uint64_t phase) {
 static void play(uint64_t phase) {
     uint64_t counts[PAGES];
     IS(likes_version(), LIKES_VERSION);
-    IS(likes_phase(&driver), phase);
-    IS(likes_driver_turn(&driver, false), LIKES_RUNNING);
+    IS(likes_driver_phase(&driver), phase);
+    IS(likes_phase_now(&phase_now), phase);
+    IS(likes_driver_turn(&driver, LIKES_NO_END), LIKES_GOES_ON);
+    IS(likes_driver_turn(&driver, 2), LIKES_UNKNOWN_END);
     request(phase);
-    IS(likes_driver_turn(&driver, true), LIKES_ANNOUNCED);
-    IS(likes_snapshot(&driver, 0, counts, PAGES), LIKES_WAITING);
-    IS(likes_driver_turn(&driver, true), LIKES_WAITING);
+    IS(likes_driver_turn(&driver, LIKES_END_IF_IT_SERVES), LIKES_ANNOUNCED);
+    IS(likes_driver_snapshot(&driver, 0, counts, PAGES), LIKES_NO_MOMENT);
+    IS(likes_driver_turn(&driver, LIKES_END_IF_IT_SERVES), LIKES_NOT_ALL_IN);
     for (uint32_t i = 0; i < SEATS; i++)
-        IS(likes_turn(&seats[i]), LIKES_BETWEEN);
-    IS(likes_snapshot(&driver, 10, counts, 20), phase % 2 == 0 ? LIKES_COUNTED : LIKES_WAITING);
-    IS(likes_snapshot(&driver, PAGES, counts, 1), LIKES_WRONG_LENGTH);
-    IS(likes_driver_turn(&driver, true), LIKES_RELEASED);
+        IS(likes_seat_turn(&seats[i]), LIKES_BETWEEN);
+    IS(likes_driver_snapshot(&driver, 10, counts, 20), phase % 2 == 0 ? LIKES_COUNTED : LIKES_NO_MOMENT);
+    IS(likes_driver_snapshot(&driver, PAGES, counts, 1), LIKES_WRONG_RANGE);
+    IS(likes_driver_turn(&driver, LIKES_END_IF_IT_SERVES), LIKES_RELEASED);
 }
 
 /* All seats leave, and the service ends. */
 static void end(void) {
     uint64_t counts[PAGES];
-    IS(likes_last_counts(&driver, 0, counts, PAGES), LIKES_NOT_ENDED);
-    IS(likes_last_counts(&driver, 1, counts, PAGES), LIKES_WRONG_LENGTH);
+    IS(likes_driver_last_counts(&driver, 0, counts, PAGES), LIKES_NOT_ENDED);
+    IS(likes_driver_last_counts(&driver, 1, counts, PAGES), LIKES_WRONG_RANGE);
     for (uint32_t i = 0; i < SEATS; i++)
-        IS(likes_retire(&seats[i]), LIKES_GONE);
-    IS(likes_driver_turn(&driver, true), LIKES_ENDED);
-    IS(likes_last_counts(&driver, 0, counts, PAGES), LIKES_OK);
-    IS(likes_last_counts(&driver, 10, counts, 20), LIKES_OK);
-    IS(likes_driver_turn(&driver, true), LIKES_ENDED);
-    IS(likes_snapshot(&driver, 0, counts, PAGES), LIKES_WAITING);
+        IS(likes_seat_retire(&seats[i]), LIKES_GONE);
+    IS(likes_driver_turn(&driver, LIKES_END_IF_IT_SERVES), LIKES_ENDED);
+    IS(likes_driver_last_counts(&driver, 0, counts, PAGES), LIKES_COUNTED);
+    IS(likes_driver_last_counts(&driver, 10, counts, 20), LIKES_COUNTED);
+    IS(likes_driver_turn(&driver, LIKES_END_IF_IT_SERVES), LIKES_ENDED);
+    IS(likes_driver_snapshot(&driver, 0, counts, PAGES), LIKES_NO_MOMENT);
 }
 
 /* Calls on empty handles, and openings that are refused. */
 static void refused(void) {
     static const uint64_t counts[1] = {LIKES_MAX_COUNT + 1};
-    static const bool marks[1];
     likes_options options = {.seats = 1, .users = 1, .room = 1, .hot = 0};
     likes_driver none = {0};
     likes_seat seat = {0};
+    likes_phase empty = {0};
     likes_answer answer;
-    STILL(likes_free_seat(&seat));
-    STILL(likes_free_driver(&none));
-    IS(likes_like(&seat, 0, 0), LIKES_EMPTY);
-    IS(likes_look(&seat, 0, 0, 0, &answer), LIKES_EMPTY);
-    IS(likes_driver_turn(&none, true), LIKES_EMPTY);
-    IS(likes_open(&options, counts, 1, marks, 0, &driver), LIKES_IN_USE);
+    STILL(likes_seat_free(&seat));
+    STILL(likes_driver_free(&none));
+    STILL(likes_phase_free(&empty));
+    STILL(likes_seat_free(NULL));
+    STILL(likes_driver_free(NULL));
+    STILL(likes_phase_free(NULL));
+    IS(likes_phase_now(&empty), 0);
+    IS(likes_seat_like(&seat, 0, 0), LIKES_EMPTY);
+    IS(likes_seat_look(&seat, 0, 0, 0, &answer), LIKES_EMPTY);
+    IS(likes_driver_turn(&none, LIKES_END_IF_IT_SERVES), LIKES_EMPTY);
+    IS(likes_open(&options, counts, 1, NULL, 0, &driver), LIKES_IN_USE);
     size_t held = blocks;
-    if (likes_open(&options, counts, 1, marks, 0, &none) != LIKES_WRONG_COUNT || none.is_full || blocks != held)
+    if (likes_open(&options, counts, 1, NULL, 0, &none) != LIKES_WRONG_COUNT || none.at != NULL || blocks != held)
         fail(__LINE__, "an opening with wrong numbers", "is answered otherwise, or leaves blocks behind");
 }
 
 /* How far a service has come when it is freed. */
 enum stage { OPENED, TAKEN, USED, ENDED, STAGES };
 
-/* Makes every call of likes.h on a service up to a stage, and frees it: the driver once so many seats are freed. */
-static void use(enum stage stage, uint32_t seats_first) {
+/* Makes every call of likes.h on a service up to a stage, and frees it: the driver and the phase once so many seats are
+ * freed, and the phase last if that is one more. */
+static void use(enum stage stage, uint32_t driver_after, uint32_t phase_after) {
     if (open_service(0, 0) != LIKES_OK)
         fail(__LINE__, "likes_open", "has failed");
     if (stage >= TAKEN)
-        take_seats();
+        take_handles();
     refused();
     for (uint64_t phase = 0; stage >= USED && phase < 8; phase++)
         play(phase);
@@ -220,11 +233,13 @@ static void use(enum stage stage, uint32_t seats_first) {
         request(8);
     if (stage == ENDED)
         end();
-    for (uint32_t i = 0; i <= SEATS; i++) {
-        if (i == seats_first)
-            FREES(likes_free_driver(&driver));
+    for (uint32_t i = 0; i <= SEATS + 1; i++) {
+        if (i == phase_after && stage >= TAKEN)
+            FREES(likes_phase_free(&phase_now));
+        if (i == driver_after)
+            FREES(likes_driver_free(&driver));
         if (i < SEATS && stage >= TAKEN)
-            FREES(likes_free_seat(&seats[i]));
+            FREES(likes_seat_free(&seats[i]));
     }
     if (blocks != 0) {
         printf("stage %d: %zu blocks were not given back\n", (int)stage, blocks);
@@ -237,7 +252,7 @@ static void refuse(size_t allocations) {
     for (size_t number = 1; number <= allocations; number++) {
         for (int all = 0; all < 2; all++) {
             uint32_t status = open_service(number, all ? SIZE_MAX : number);
-            if (status != LIKES_NO_MEMORY || driver.is_full || blocks != 0) {
+            if (status != LIKES_NO_MEMORY || driver.at != NULL || blocks != 0) {
                 printf("allocation %zu refused: status %u, %zu blocks left\n", number, status, blocks);
                 exit(1);
             }
@@ -247,12 +262,13 @@ static void refuse(size_t allocations) {
 
 int main(void) {
     for (int stage = OPENED; stage < STAGES; stage++)
-        for (uint32_t seats_first = 0; seats_first <= SEATS; seats_first++)
-            use((enum stage)stage, seats_first);
+        for (uint32_t driver_after = 0; driver_after <= SEATS; driver_after++)
+            for (uint32_t phase_after = 0; phase_after <= SEATS + 1; phase_after++)
+                use((enum stage)stage, driver_after, phase_after);
     if (open_service(0, 0) != LIKES_OK)
         fail(__LINE__, "likes_open", "has failed");
     size_t allocations = made;
-    likes_free_driver(&driver);
+    likes_driver_free(&driver);
     refuse(allocations);
     printf("each of %zu allocations refused\n", allocations);
     return 0;

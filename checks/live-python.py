@@ -2,9 +2,10 @@
 """Gives the class Likes of examples/python what C would cut or misread, and calls it after its end.
 
 Each has to be refused with the right exception, and nothing of it counted. It also compares the names and numbers of
-the statuses with likes.h. The library is the file that LIKES_LIBRARY names.
+the statuses and the fields of the structures with likes.h. The library is the file that LIKES_LIBRARY names.
 """
 
+import ctypes
 import os
 import re
 import sys
@@ -12,11 +13,22 @@ import sys
 ROOT = os.path.dirname(os.path.dirname(os.path.realpath(__file__)))
 sys.path.insert(0, f"{ROOT}/examples/python")
 
+import likes  # noqa: E402
 from likes import GLANCE, LIKE, LIKED, LOOK, Closed, Likes, Refused, Status  # noqa: E402
 
 # Numbers that C holds in 32 bits only if they are cut, and what is no whole number.
 OUTSIDE = [-1, -(2**32) + 4, 2**32, 2**32 + 4, 2**64 + 4]
 NO_NUMBERS = [4.0, "4", None]
+
+SIZES = {"void *": 8, "uint64_t ": 8, "uint32_t ": 4}
+STRUCTURES = {
+    "likes_driver": likes.Handle,
+    "likes_seat": likes.Handle,
+    "likes_options": likes.Options,
+    "likes_request": likes.Request,
+    "likes_answer": likes.Answer,
+    "likes_found": likes.Found,
+}
 
 wrong = []
 
@@ -39,6 +51,7 @@ def openings():
     for value, kind in bad:
         for name in ("users", "seats", "room", "hot"):
             refused(f"{name} {value!r}", kind, Likes, **{**right, name: value})
+        refused(f"mark {value!r}", kind, Likes, **{**right, "marks": [value]})
         if not isinstance(value, int) or not 0 <= value < 2**64:
             refused(f"count {value!r}", kind, Likes, **{**right, "counts": [0, value]})
     refused("period 0", ValueError, Likes, **right, period=0)
@@ -46,6 +59,8 @@ def openings():
     refused("17 seats", Refused, Likes, **{**right, "seats": 17})
     refused("2^32 - 1 seats", Refused, Likes, **{**right, "seats": 2**32 - 1})
     refused("no pages", Refused, Likes, **{**right, "counts": []})
+    refused("a mark of no page", Refused, Likes, **right, marks=[1])
+    refused("two marks of a page", Refused, Likes, **right, marks=[0, 0])
 
 
 def requests(service):
@@ -69,14 +84,25 @@ def closed(service):
     refused("no row after close", Closed, service.run, 0, [])
 
 
-def statuses():
+def statuses(header):
     """The statuses, as likes.h has them."""
-    with open(f"{ROOT}/include/likes.h", encoding="ascii") as file:
-        text = re.search(r"enum likes_status \{(.*?)\n\};", file.read(), re.S)[1]
+    text = re.search(r"enum likes_status \{(.*?)\n\};", header, re.S)[1]
     told = {name: int(value) for name, value in re.findall(r"LIKES_(\w+) = (\d+)", text)}
     here = {status.name: status.value for status in Status}
     if told != here:
         wrong.append(f"statuses: {set(told.items()) ^ set(here.items())}")
+
+
+def structures(header):
+    """The fields of the structures, and the sizes, as likes.h has them."""
+    for name, kind in STRUCTURES.items():
+        text = re.search(rf"typedef struct {name} \{{(.*?)\n\}} {name};", header, re.S)[1]
+        told = re.findall(r"(void \*|\w+ )(\w+)(?:\[(\d+)\])?;", text, re.M)
+        here = [(of, ctypes.sizeof(it)) for of, it in kind._fields_]
+        if here != [(of, int(times or 1) * SIZES[it]) for it, of, times in told]:
+            wrong.append(f"{name}: {here}, and not {told}")
+        if f"sizeof({name}) == {ctypes.sizeof(kind)}" not in header:
+            wrong.append(f"{name}: {ctypes.sizeof(kind)} bytes")
 
 
 def main():
@@ -91,7 +117,10 @@ def main():
     closed(service)
     if service.close() != [6, 1]:
         wrong.append(f"final counts: {service.close()}")
-    statuses()
+    with open(f"{ROOT}/include/likes.h", encoding="ascii") as file:
+        header = re.sub(r"/\*.*?\*/", "", file.read(), flags=re.S)
+    statuses(header)
+    structures(header)
     for line in wrong[:20]:
         print(f"wrong: {line}")
     print("not all held" if wrong else "all wrong numbers and late calls refused")

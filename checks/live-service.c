@@ -118,11 +118,12 @@ static void take_counts(void) {
 /* A service for a moment: with so many seats, so much room, and phases of so many microseconds. */
 static void play(uint64_t seed, uint32_t room, uint32_t period) {
     static worker workers[THREADS];
-    const bool marks[PAGES] = {true, true, false, false, false};
+    const uint32_t marks[] = {1, 0};
     const uint64_t counts[PAGES] = {1, 2, 3, 4, 5};
     uint64_t totals[PAGES];
     likes_options options = {.seats = SEATS, .users = USERS, .room = room, .hot = 50};
-    hold(likes_service_start(&service, &options, counts, PAGES, marks, period) == LIKES_OK, "no service was started");
+    uint32_t status = likes_service_start(&service, &options, counts, PAGES, marks, 2, period);
+    hold(status == LIKES_OK, "no service was started");
     for (uint32_t i = 0; i < THREADS; i++) {
         memset(&workers[i], 0, sizeof workers[i]);
         memset(workers[i].last, 0xff, sizeof workers[i].last);
@@ -133,7 +134,7 @@ static void play(uint64_t seed, uint32_t room, uint32_t period) {
     take_counts();
     for (uint32_t i = 0; i < THREADS; i++)
         pthread_join(workers[i].thread, NULL);
-    hold(likes_service_stop(&service, totals, PAGES - 1) == LIKES_WRONG_LENGTH, "a wrong length was taken");
+    hold(likes_service_stop(&service, totals, PAGES - 1) == LIKES_WRONG_RANGE, "a wrong length was taken");
     hold(likes_service_stop(&service, totals, PAGES) == LIKES_OK, "the service was not stopped");
     for (uint32_t page = 0; page < PAGES; page++) {
         for (uint32_t i = 0; i < THREADS; i++) {
@@ -150,14 +151,17 @@ static void play(uint64_t seed, uint32_t room, uint32_t period) {
 static void refused(void) {
     const uint64_t counts[1] = {0};
     likes_options options = {.seats = 17, .users = 1, .room = 1, .hot = 0};
-    hold(likes_service_start(&service, &options, counts, 1, NULL, 1000) == LIKES_WRONG_SEATS, "17 seats were opened");
+    uint32_t status = likes_service_start(&service, &options, counts, 1, NULL, 0, 1000);
+    hold(status == LIKES_WRONG_SEATS, "17 seats were opened");
     options.seats = 1;
-    hold(likes_service_start(&service, &options, counts, 0, NULL, 1000) == LIKES_WRONG_PAGES, "no pages were opened");
-    hold(likes_service_start(&service, &options, counts, 1, NULL, 1000) == LIKES_OK, "one page was refused");
+    status = likes_service_start(&service, &options, NULL, 0, NULL, 0, 1000);
+    hold(status == LIKES_WRONG_PAGES, "no pages were opened");
+    status = likes_service_start(&service, &options, counts, 1, NULL, 0, 1000);
+    hold(status == LIKES_OK, "one page was refused");
     hold(likes_service_like(&service, 1, 0) == LIKES_UNKNOWN_USER, "an unknown user has liked");
     hold(likes_service_like(&service, 0, 1) == LIKES_UNKNOWN_PAGE, "an unknown page was liked");
     uint64_t totals[1];
-    hold(likes_service_counts(&service, totals, 1) == LIKES_RUNNING, "a phase ended where nothing is split");
+    hold(likes_service_counts(&service, totals, 1) == LIKES_NO_MOMENT, "a phase ended where nothing is split");
     hold(likes_service_stop(&service, totals, 1) == LIKES_OK && totals[0] == 0, "the service was not stopped");
 }
 

@@ -6,8 +6,8 @@
  * Most programs need four calls: likes_service_start, likes_service_like, likes_service_look and likes_service_stop.
  *
  * A thread with many requests holds a seat for a batch of them: likes_service_wake, likes_service_run,
- * likes_take_found, likes_service_rest. While a seat rests, the driver's thread does its phase work. While it is awake,
- * the thread that holds it calls it at least once each phase, and waits for nothing else.
+ * likes_seat_take_found, likes_service_rest. While a seat rests, the driver's thread does its phase work. While it is
+ * awake, the thread that holds it calls it at least once each phase, and waits for nothing else.
  *
  * At a seat of which other threads ask likes_service_look, take your own looks by likes_service_take_found.
  *
@@ -39,14 +39,15 @@
 extern "C" {
 #endif
 
-/* What the helpers' calls answer, beside the statuses of likes.h. */
+/* What the helpers' calls answer, beside the statuses of likes.h. They are errors: likes_is_error holds of them, and
+ * likes_status_text has their texts. */
 enum likes_helper_status {
     LIKES_NO_THREAD = 1000,    /* the driver's thread can't be started */
     LIKES_WRONG_PERIOD = 1001, /* the period is 0 */
     LIKES_NOT_STARTED = 1002,  /* the service isn't started, or it was stopped */
     LIKES_MOVED = 1003,        /* the service is a copy */
     LIKES_UNKNOWN_SEAT = 1004, /* the service has fewer seats */
-    LIKES_TAKEN = 1005         /* the look was found, but somebody took it by likes_take_found */
+    LIKES_TAKEN = 1005         /* the look was found, but somebody took it by likes_seat_take_found */
 };
 
 /* So often a call tries again at once while its seat is between phases, before it yields the processor. */
@@ -78,7 +79,8 @@ typedef struct likes_place {
 } likes_place;
 
 typedef struct likes_service {
-    struct likes_service *mark; /* where the service was started; NULL: it isn't */
+    struct likes_service *self; /* where the service was started; NULL: it isn't */
+    likes_phase phase;
     likes_place places[LIKES_MAX_SEATS];
     uint32_t seats;
     size_t pages;
@@ -91,22 +93,6 @@ typedef struct likes_service {
     pthread_t thread;
     bool has_thread, is_stopping;
 } likes_service;
-
-/* The name of a status, for messages. */
-static inline const char *likes_status_name(uint32_t status) {
-    static const char *const names[] = {
-        /* 0 */ "ok", "liked", "seen", "waits", "runs", "between", "no room", "unknown user", "other seat",
-        /* 9 */ "unknown page", "unknown op", "full", "gone", "running", "announced", "waiting", "released",
-        /* 17 */ "counted", "ended", "empty", "in use", "no seat", "not ended", "wrong length", "no memory",
-        /* 25 */ "wrong pages", "wrong marks", "wrong count", "wrong seats", "wrong users", "wrong room", "wrong hot",
-    };
-    static const char *const helpers_names[] = {
-        /* 1000 */ "no thread", "wrong period", "not started", "moved", "unknown seat", "taken",
-    };
-    if (status >= LIKES_NO_THREAD && status <= LIKES_TAKEN)
-        return helpers_names[status - LIKES_NO_THREAD];
-    return status < sizeof names / sizeof *names ? names[status] : "unknown status";
-}
 
 /* A clock that never goes back, in nanoseconds. */
 static inline uint64_t likes_clock(void) {
@@ -132,9 +118,9 @@ static inline uint64_t likes_time_left(const uint64_t *at, uint64_t now) {
 
 /* What is wrong with a service: LIKES_NOT_STARTED, LIKES_MOVED, or LIKES_OK. */
 static inline uint32_t likes_service_fault(const likes_service *service) {
-    if (service->mark == service)
+    if (service->self == service)
         return LIKES_OK;
-    return service->mark == NULL ? LIKES_NOT_STARTED : LIKES_MOVED;
+    return service->self == NULL ? LIKES_NOT_STARTED : LIKES_MOVED;
 }
 
 /* The same, or LIKES_UNKNOWN_SEAT. */
@@ -153,17 +139,18 @@ static inline uint32_t likes_refuse(likes_answer *answer, uint32_t status) {
 /* The driver's turn, with `driving` held. From the end of one split phase to that of the next is a period, or less
  * where the looks that wait at a seat take half of its room: the driver hears of that within an eighth of a period. A
  * joined phase ends as soon as every seat has run what waited. */
-static inline uint32_t likes_service_turn(likes_service *service) {
+static inline uint32_t likes_service_driver_turn(likes_service *service) {
     uint64_t now = likes_clock(), left = likes_time_left(&service->due, now), next = now;
-    bool was_split = likes_phase(&service->driver) % 2 == 1;
-    uint32_t status = likes_driver_turn(&service->driver, !was_split || left == 0);
+    bool was_split = likes_driver_phase(&service->driver) % 2 == 1;
+    uint32_t end = was_split && left > 0 ? LIKES_NO_END : LIKES_END_IF_IT_SERVES;
+    uint32_t status = likes_driver_turn(&service->driver, end);
     if (status == LIKES_ANNOUNCED && was_split) {
         likes_set_time(&service->due, now + service->period);
     } else if (status == LIKES_RELEASED && was_split) {
-        status = likes_driver_turn(&service->driver, true);
+        status = likes_driver_turn(&service->driver, LIKES_END_IF_IT_SERVES);
     } else if (status == LIKES_RELEASED && left < service->period / 2) {
         likes_set_time(&service->due, now + service->period / 2);
-    } else if (status == LIKES_RUNNING) {
+    } else if (status == LIKES_GOES_ON) {
         uint64_t soon = service->period / 8;
         if (!was_split)
             likes_set_time(&service->due, now + service->period);
@@ -173,14 +160,14 @@ static inline uint32_t likes_service_turn(likes_service *service) {
     return status;
 }
 
-/* Makes a turn of the driver, unless another thread is making one. */
+/* Makes a turn of the driver, and gives its answer. Where another thread is making one, it is LIKES_NOT_ALL_IN. */
 static inline uint32_t likes_service_drive(likes_service *service) {
     uint32_t fault = likes_service_fault(service);
     if (fault != LIKES_OK)
         return fault;
     if (pthread_mutex_trylock(&service->driving) != 0)
-        return LIKES_WAITING;
-    uint32_t status = likes_service_turn(service);
+        return LIKES_NOT_ALL_IN;
+    uint32_t status = likes_service_driver_turn(service);
     pthread_mutex_unlock(&service->driving);
     return status;
 }
@@ -250,7 +237,7 @@ static inline void likes_place_deliver(likes_place *place) {
     likes_found found;
     const likes_wait *first = place->first;
     while (place->first != NULL && place->others.length < place->others.room) {
-        if (likes_take_found(&place->seat, &found)) {
+        if (likes_seat_take_found(&place->seat, &found)) {
             likes_place_hand(place, &found);
         } else {
             uint64_t phase = likes_seat_phase(&place->seat);
@@ -266,13 +253,13 @@ static inline void likes_place_deliver(likes_place *place) {
 }
 
 /* Does the phase work of the seats that rest. */
-static inline void likes_service_turns(likes_service *service) {
+static inline void likes_service_seat_turns(likes_service *service) {
     if (likes_service_fault(service) != LIKES_OK)
         return;
     for (uint32_t i = 0; i < service->seats; i++) {
         likes_place *place = &service->places[i];
         if (pthread_mutex_trylock(&place->lock) == 0) {
-            likes_turn(&place->seat);
+            likes_seat_turn(&place->seat);
             likes_place_deliver(place);
             pthread_mutex_unlock(&place->lock);
         }
@@ -291,12 +278,12 @@ static inline void *likes_service_thread(void *at) {
     likes_service *service = (likes_service *)at;
     unsigned tries = 0;
     while (!__atomic_load_n(&service->is_stopping, __ATOMIC_SEQ_CST)) {
-        likes_service_turns(service);
+        likes_service_seat_turns(service);
         uint32_t status = likes_service_drive(service);
-        if (status == LIKES_RUNNING) {
+        if (status == LIKES_GOES_ON) {
             likes_sleep(likes_service_nap(service));
             tries = 0;
-        } else if (status == LIKES_WAITING) {
+        } else if (status == LIKES_NOT_ALL_IN) {
             if (++tries < LIKES_SPINS)
                 sched_yield();
             else
@@ -312,14 +299,15 @@ static inline void *likes_service_thread(void *at) {
 
 /* Frees the seats and the driver, the rings and the locks. */
 static inline void likes_service_free(likes_service *service) {
-    service->mark = NULL;
+    service->self = NULL;
     for (uint32_t i = 0; i < LIKES_MAX_SEATS; i++) {
-        likes_free_seat(&service->places[i].seat);
+        likes_seat_free(&service->places[i].seat);
         free(service->places[i].others.at);
         pthread_mutex_destroy(&service->places[i].lock);
         pthread_cond_destroy(&service->places[i].found);
     }
-    likes_free_driver(&service->driver);
+    likes_phase_free(&service->phase);
+    likes_driver_free(&service->driver);
     pthread_mutex_destroy(&service->driving);
 }
 
@@ -335,12 +323,13 @@ static inline void likes_service_clear(likes_service *service) {
     }
 }
 
-/* Takes the seats, and memory for twice as many found looks as each has room for. */
-static inline uint32_t likes_service_take_seats(likes_service *service, uint32_t seats, uint32_t room) {
+/* Takes the phase and the seats, and memory for twice as many found looks as each seat has room for. */
+static inline uint32_t likes_service_take_all(likes_service *service, uint32_t seats, uint32_t room) {
     service->seats = seats;
+    likes_driver_take_phase(&service->driver, &service->phase);
     for (uint32_t i = 0; i < seats; i++) {
         likes_place *place = &service->places[i];
-        likes_take_seat(&service->driver, &place->seat);
+        likes_driver_take_seat(&service->driver, &place->seat);
         place->others.room = 2 * room;
         place->others.at = (likes_found *)calloc(2 * room, sizeof *place->others.at);
         if (place->others.at == NULL)
@@ -349,23 +338,21 @@ static inline uint32_t likes_service_take_seats(likes_service *service, uint32_t
     return LIKES_OK;
 }
 
-/* Opens a service and starts its driver's thread. options and counts are those of likes_open. marks has one for each
- * page, or is NULL: none is marked. period is the time from the end of one split phase to that of the next, in
- * microseconds, 1 or more: no look waits much longer. 1000 suits most hosts.
+/* Opens a service and starts its driver's thread. options, counts and marks are those of likes_open: NULL, 0 marks no
+ * page. period is the time from the end of one split phase to that of the next, in microseconds, 1 or more: no look
+ * waits much longer. 1000 suits most hosts.
  * LIKES_OK, an answer of likes_open, LIKES_WRONG_PERIOD or LIKES_NO_THREAD; but for LIKES_OK there is nothing to be
  * stopped. */
 static inline uint32_t likes_service_start(likes_service *service, const likes_options *options, const uint64_t *counts,
-                                           size_t pages, const bool *marks, uint32_t period) {
-    static const bool no_marks[1] = {false};
+                                           size_t pages, const uint32_t *marks, size_t marks_len, uint32_t period) {
     likes_service_clear(service);
-    size_t marks_len = marks == NULL ? 0 : pages;
     uint32_t status = LIKES_WRONG_PERIOD;
     if (period > 0)
-        status = likes_open(options, counts, pages, marks_len == 0 ? no_marks : marks, marks_len, &service->driver);
+        status = likes_open(options, counts, pages, marks, marks_len, &service->driver);
     if (status == LIKES_OK)
-        status = likes_service_take_seats(service, options->seats, options->room);
+        status = likes_service_take_all(service, options->seats, options->room);
     if (status == LIKES_OK) {
-        service->mark = service;
+        service->self = service;
         service->pages = pages;
         service->period = (uint64_t)period * 1000;
         service->has_thread = pthread_create(&service->thread, NULL, likes_service_thread, service) == 0;
@@ -375,6 +362,12 @@ static inline uint32_t likes_service_start(likes_service *service, const likes_o
     if (status != LIKES_OK)
         likes_service_free(service);
     return status;
+}
+
+/* The phase that the driver has last released, or 0 where likes_service_fault isn't LIKES_OK. It takes no lock, and any
+ * thread may call it. */
+static inline uint64_t likes_service_phase(const likes_service *service) {
+    return likes_service_fault(service) == LIKES_OK ? likes_phase_now(&service->phase) : 0;
 }
 
 /* Takes a seat's lock. Until likes_service_rest, the seat is this thread's, which may make any call on it. NULL, and
@@ -394,9 +387,9 @@ static inline void likes_service_rest(likes_service *service, uint32_t number) {
     pthread_mutex_unlock(&service->places[number].lock);
 }
 
-/* Runs a row of requests at a seat that is awake, through changes of phases, and gives the number of rows done. It
- * stops early only at a look that has no room: take found looks, and go on with that row. Where
- * likes_service_seat_fault isn't LIKES_OK, it is the status of the first answer, and no row is done. */
+/* Runs requests at a seat that is awake, through changes of phases, and gives the number of those done. It stops early
+ * only at a look that has no room: take found looks, and go on with that request. Where likes_service_seat_fault isn't
+ * LIKES_OK, it is the status of the first answer, and no request is done. */
 static inline size_t likes_service_run(likes_service *service, uint32_t number, const likes_request *requests,
                                        size_t length, likes_answer *answers) {
     uint32_t fault = likes_service_seat_fault(service, number);
@@ -406,10 +399,10 @@ static inline size_t likes_service_run(likes_service *service, uint32_t number, 
         return 0;
     }
     likes_seat *seat = &service->places[number].seat;
-    size_t done = likes_run(seat, requests, length, answers, length);
+    size_t done = likes_seat_run(seat, requests, length, answers, length);
     for (unsigned tries = 0; done < length && answers[done].status == LIKES_BETWEEN; tries++) {
         likes_service_pause(service, tries);
-        done += likes_run(seat, requests + done, length - done, answers + done, length - done);
+        done += likes_seat_run(seat, requests + done, length - done, answers + done, length - done);
     }
     return done;
 }
@@ -422,36 +415,36 @@ static inline bool likes_service_take_found(likes_service *service, uint32_t num
     likes_place *place = &service->places[number];
     likes_place_deliver(place);
     if (place->others.length == 0)
-        return likes_take_found(&place->seat, found);
+        return likes_seat_take_found(&place->seat, found);
     likes_ring_take(&place->others, found);
     return true;
 }
 
 /* Takes up to so many found looks at once, and gives their number. */
-static inline size_t likes_take_all_found(likes_seat *seat, likes_found *found, size_t length) {
+static inline size_t likes_seat_take_all_found(likes_seat *seat, likes_found *found, size_t found_len) {
     size_t taken = 0;
-    while (taken < length && likes_take_found(seat, &found[taken]))
+    while (taken < found_len && likes_seat_take_found(seat, &found[taken]))
         taken++;
     return taken;
 }
 
-/* Adds one like: an answer of likes_like, but never LIKES_BETWEEN. Any thread may call it. */
+/* Adds one like: an answer of likes_seat_like, but never LIKES_BETWEEN. Any thread may call it. */
 static inline uint32_t likes_service_like(likes_service *service, uint32_t user, uint32_t page) {
     uint32_t fault = likes_service_fault(service);
     if (fault != LIKES_OK)
         return fault;
     uint32_t number = likes_seat_of(user, service->seats);
     likes_seat *seat = likes_service_wake(service, number);
-    uint32_t status = likes_like(seat, user, page);
+    uint32_t status = likes_seat_like(seat, user, page);
     for (unsigned tries = 0; status == LIKES_BETWEEN; tries++) {
         likes_service_pause(service, tries);
-        status = likes_like(seat, user, page);
+        status = likes_seat_like(seat, user, page);
     }
     likes_service_rest(service, number);
     return status;
 }
 
-/* Looks at once: an answer of likes_glance, but never LIKES_BETWEEN. Any thread may call it. */
+/* Looks at once: an answer of likes_seat_glance, but never LIKES_BETWEEN. Any thread may call it. */
 static inline uint32_t likes_service_glance(likes_service *service, uint32_t user, uint32_t page,
                                             likes_answer *answer) {
     uint32_t fault = likes_service_fault(service);
@@ -459,10 +452,10 @@ static inline uint32_t likes_service_glance(likes_service *service, uint32_t use
         return likes_refuse(answer, fault);
     uint32_t number = likes_seat_of(user, service->seats);
     likes_seat *seat = likes_service_wake(service, number);
-    uint32_t status = likes_glance(seat, user, page, answer);
+    uint32_t status = likes_seat_glance(seat, user, page, answer);
     for (unsigned tries = 0; status == LIKES_BETWEEN; tries++) {
         likes_service_pause(service, tries);
-        status = likes_glance(seat, user, page, answer);
+        status = likes_seat_glance(seat, user, page, answer);
     }
     likes_service_rest(service, number);
     return status;
@@ -484,9 +477,9 @@ static inline void likes_place_await(likes_place *place, likes_wait *wait, likes
     }
 }
 
-/* Looks, and waits until the look is found if it has to: an answer of likes_look, but never LIKES_BETWEEN or
+/* Looks, and waits until the look is found if it has to: an answer of likes_seat_look, but never LIKES_BETWEEN or
  * LIKES_WAITS, and LIKES_NO_ROOM only where looks with tags of the host's fill the seat. LIKES_TAKEN: somebody took it
- * by likes_take_found. Any thread may call it. */
+ * by likes_seat_take_found. Any thread may call it. */
 static inline uint32_t likes_service_look(likes_service *service, uint32_t user, uint32_t page, likes_answer *answer) {
     uint32_t fault = likes_service_fault(service);
     if (fault != LIKES_OK)
@@ -500,7 +493,7 @@ static inline uint32_t likes_service_look(likes_service *service, uint32_t user,
         if (place->others.length > place->others.room / 2)
             likes_refuse(answer, LIKES_NO_ROOM);
         else
-            likes_look(&place->seat, user, page, (uint64_t)(uintptr_t)&wait, answer);
+            likes_seat_look(&place->seat, user, page, (uint64_t)(uintptr_t)&wait, answer);
         if (answer->status == LIKES_BETWEEN) {
             likes_service_pause(service, tries);
         } else if (answer->status == LIKES_NO_ROOM && place->first != NULL) {
@@ -518,34 +511,34 @@ static inline uint32_t likes_service_look(likes_service *service, uint32_t user,
 }
 
 /* The counts of all pages at one moment, the end of a joined phase, or the final counts where all seats are gone:
- * LIKES_COUNTED. Or LIKES_RUNNING, where no page can be split and so no phase ends, or LIKES_WRONG_LENGTH, where the
- * row hasn't one entry for each page. It takes up to two phases. The calling thread holds no seat. */
+ * LIKES_COUNTED. Or LIKES_NO_MOMENT, where no page can be split and so no phase ends, or LIKES_WRONG_RANGE, where the
+ * array hasn't one entry for each page. It takes up to two phases. The calling thread holds no seat. */
 static inline uint32_t likes_service_counts(likes_service *service, uint64_t *counts, size_t pages) {
     uint32_t status = likes_service_fault(service), turn = LIKES_RELEASED;
     if (status != LIKES_OK)
         return status;
     if (pages != service->pages)
-        return LIKES_WRONG_LENGTH;
+        return LIKES_WRONG_RANGE;
     pthread_mutex_lock(&service->driving);
-    while ((status = likes_snapshot(&service->driver, 0, counts, pages)) == LIKES_WAITING && turn != LIKES_RUNNING &&
-           turn != LIKES_ENDED) {
+    while ((status = likes_driver_snapshot(&service->driver, 0, counts, pages)) == LIKES_NO_MOMENT &&
+           turn != LIKES_GOES_ON && turn != LIKES_ENDED) {
         /* Where a joined phase is ending, a turn could release the next one unseen. */
-        bool is_ending = turn == LIKES_ANNOUNCED || turn == LIKES_WAITING;
-        if (!is_ending || likes_phase(&service->driver) % 2 == 1)
-            turn = likes_driver_turn(&service->driver, true);
-        likes_service_turns(service);
+        bool is_ending = turn == LIKES_ANNOUNCED || turn == LIKES_NOT_ALL_IN;
+        if (!is_ending || likes_driver_phase(&service->driver) % 2 == 1)
+            turn = likes_driver_turn(&service->driver, LIKES_END_IF_IT_SERVES);
+        likes_service_seat_turns(service);
         sched_yield();
     }
-    if (turn == LIKES_ENDED && likes_last_counts(&service->driver, 0, counts, pages) == LIKES_OK)
-        status = LIKES_COUNTED;
+    if (turn == LIKES_ENDED)
+        status = likes_driver_last_counts(&service->driver, 0, counts, pages);
     likes_set_time(&service->due, 0);
     likes_set_time(&service->next, 0);
     pthread_mutex_unlock(&service->driving);
-    return status == LIKES_WAITING ? (uint32_t)LIKES_RUNNING : status;
+    return status;
 }
 
 /* Ends the driver's thread, has all seats retire, and makes the driver's turns until it answers LIKES_ENDED: LIKES_OK.
- * No thread holds a seat, and no call of the service is begun any more but likes_service_wake, likes_take_found,
+ * No thread holds a seat, and no call of the service is begun any more but likes_service_wake, likes_seat_take_found,
  * likes_service_take_found, likes_service_rest, likes_service_counts and likes_service_stop. */
 static inline uint32_t likes_service_retire(likes_service *service) {
     uint32_t status = likes_service_fault(service);
@@ -557,28 +550,28 @@ static inline uint32_t likes_service_retire(likes_service *service) {
     service->has_thread = false;
     do {
         for (uint32_t i = 0; i < service->seats; i++) {
-            likes_retire(likes_service_wake(service, i));
+            likes_seat_retire(likes_service_wake(service, i));
             likes_service_rest(service, i);
         }
         pthread_mutex_lock(&service->driving);
-        status = likes_driver_turn(&service->driver, true);
+        status = likes_driver_turn(&service->driver, LIKES_END_IF_IT_SERVES);
         pthread_mutex_unlock(&service->driving);
     } while (status != LIKES_ENDED);
     return LIKES_OK;
 }
 
-/* Ends the service and gives the final counts: LIKES_OK, or LIKES_WRONG_LENGTH, where nothing was done. All threads are
+/* Ends the service and gives the final counts: LIKES_OK, or LIKES_WRONG_RANGE, where nothing was done. All threads are
  * done with it. Found looks that were not taken are lost: take them between likes_service_retire and this. */
 static inline uint32_t likes_service_stop(likes_service *service, uint64_t *counts, size_t pages) {
     uint32_t status = likes_service_fault(service);
     if (status != LIKES_OK)
         return status;
     if (pages != service->pages)
-        return LIKES_WRONG_LENGTH;
+        return LIKES_WRONG_RANGE;
     likes_service_retire(service);
-    status = likes_last_counts(&service->driver, 0, counts, pages);
+    likes_driver_last_counts(&service->driver, 0, counts, pages);
     likes_service_free(service);
-    return status;
+    return LIKES_OK;
 }
 
 #ifdef __cplusplus

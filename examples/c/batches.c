@@ -30,7 +30,7 @@ static void fill(worker *it, likes_request *row, uint64_t *random) {
 /* Takes the looks that were found. They come in the order in which they were asked for. */
 static void take(worker *it, likes_seat *seat, uint64_t *latest) {
     likes_found found;
-    while (likes_take_found(seat, &found)) {
+    while (likes_seat_take_found(seat, &found)) {
         if (found.tag <= *latest)
             abort();
         *latest = found.tag;
@@ -71,9 +71,9 @@ int main(int count, char **words) {
     const uint64_t counts[PAGES] = {0};
     uint64_t totals[PAGES], sum = 0, liked = 0, asked = 0, answered = 0;
     likes_options options = {.seats = threads, .users = USERS, .room = 4096, .hot = 1000};
-    uint32_t status = likes_service_start(&service, &options, counts, PAGES, NULL, 1000);
+    uint32_t status = likes_service_start(&service, &options, counts, PAGES, NULL, 0, 1000);
     if (status != LIKES_OK) {
-        fprintf(stderr, "not started: %s\n", likes_status_name(status));
+        fprintf(stderr, "not started: %s\n", likes_status_text(status));
         return 1;
     }
     for (uint32_t i = 0; i < threads; i++) {

@@ -10,16 +10,16 @@ int main(void) {
     likes_answer answer;
     uint64_t totals[2];
 
-    uint32_t status = likes_service_start(&service, &options, counts, 2, NULL, 1000);
+    uint32_t status = likes_service_start(&service, &options, counts, 2, NULL, 0, 1000);
     if (status != LIKES_OK) {
-        fprintf(stderr, "not started: %s\n", likes_status_name(status));
+        fprintf(stderr, "not started: %s\n", likes_status_text(status));
         return 1;
     }
     likes_service_like(&service, 7, 1); /* user 7 likes page 1, then page 0 */
     likes_service_like(&service, 7, 0);
     likes_service_look(&service, 7, 1, &answer);
     printf("page 1 has %" PRIu64 " like, and user 7 last liked page %" PRIu32 "\n", answer.count, answer.last);
-    printf("a like of page 2: %s\n", likes_status_name(likes_service_like(&service, 7, 2)));
+    printf("a like of page 2: %s\n", likes_status_text(likes_service_like(&service, 7, 2)));
 
     likes_service_stop(&service, totals, 2);
     printf("totals: %" PRIu64 " and %" PRIu64 "\n", totals[0], totals[1]);

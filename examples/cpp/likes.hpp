@@ -12,8 +12,13 @@
 namespace likes {
 
 struct Error : std::runtime_error {
-    explicit Error(std::uint32_t status) : std::runtime_error(likes_status_name(status)), status(status) {}
+    explicit Error(std::uint32_t why) : std::runtime_error(likes_status_text(why)), status(why) {}
     std::uint32_t status;
+};
+
+// The options of likes.h.
+struct Options {
+    std::uint32_t seats, users, room = LIKES_MAX_ROOM, hot = 0;
 };
 
 // What a look shows: the page of the user's last like, if there is one, and the count of the page looked at.
@@ -65,11 +70,11 @@ private:
 // A service with its driver's thread. Threads share it; the destructor ends it.
 class Service {
 public:
-    Service(likes_options options, const std::vector<std::uint64_t> &counts, std::uint32_t period = 1000)
+    // No page is marked as split. The period is in microseconds.
+    Service(const Options &options, const std::vector<std::uint64_t> &counts, std::uint32_t period = 1000)
         : service_(new likes_service), totals_(counts.size()) {
-        if (counts.empty())
-            throw Error(LIKES_WRONG_PAGES);
-        check(likes_service_start(service_.get(), &options, counts.data(), counts.size(), nullptr, period), LIKES_OK);
+        likes_options all = {options.seats, options.users, options.room, options.hot, {}};
+        check(likes_service_start(service_.get(), &all, counts.data(), counts.size(), nullptr, 0, period), LIKES_OK);
     }
     ~Service() { end(); }
     Service(const Service &) = delete;

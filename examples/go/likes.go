@@ -15,8 +15,8 @@ static size_t run_row(likes_service *service, uint32_t number, const likes_reque
 	size_t done = likes_service_run(service, number, requests, length, answers);
 	if (done < length)
 		likes_service_drive(service); // a look has no room: let the phase end
-	likes_turn(seat);
-	*taken = likes_take_all_found(seat, found, room);
+	likes_seat_turn(seat);
+	*taken = likes_seat_take_all_found(seat, found, room);
 	likes_service_rest(service, number);
 	return done;
 }
@@ -80,7 +80,7 @@ func Open(options Options, counts []uint64) (*Service, error) {
 	}
 	first := (*C.uint64_t)(unsafe.Pointer(&counts[0]))
 	period := C.uint32_t(options.Period.Microseconds())
-	told := C.likes_service_start(service.c, &numbers, first, C.size_t(len(counts)), nil, period)
+	told := C.likes_service_start(service.c, &numbers, first, C.size_t(len(counts)), nil, 0, period)
 	if told != C.LIKES_OK {
 		C.free(unsafe.Pointer(service.c))
 		return nil, status(told)
@@ -171,8 +171,6 @@ func (s *Service) serve(number uint32, calls <-chan call) {
 		var first *C.likes_request
 		if len(it.requests) > 0 {
 			first = &it.requests[0]
-		} else {
-			first = new(C.likes_request)
 		}
 		var taken C.size_t
 		done := C.run_row(s.c, C.uint32_t(number), first, C.size_t(len(it.requests)), &it.answers[0], &it.found[0], row, &taken)
@@ -235,5 +233,5 @@ func (it *seat) tell(done, taken int) {
 }
 
 func status(told C.uint32_t) error {
-	return errors.New(C.GoString(C.likes_status_name(told)))
+	return errors.New(C.GoString(C.likes_status_text(told)))
 }

@@ -16,31 +16,38 @@ import struct
 import threading
 import time
 from ctypes import POINTER, Structure, byref, c_bool, c_size_t, c_uint32, c_uint64, c_void_p
+from itertools import count
 
-# The statuses of likes.h, numbered from 0.
-Status = enum.IntEnum(
-    "Status",
-    "OK LIKED SEEN WAITS RUNS BETWEEN NO_ROOM UNKNOWN_USER OTHER_SEAT UNKNOWN_PAGE UNKNOWN_OP FULL GONE RUNNING"
-    " ANNOUNCED WAITING RELEASED COUNTED ENDED EMPTY IN_USE NO_SEAT NOT_ENDED WRONG_LENGTH NO_MEMORY WRONG_PAGES"
-    " WRONG_MARKS WRONG_COUNT WRONG_SEATS WRONG_USERS WRONG_ROOM WRONG_HOT",
-    start=0,
+# The statuses of likes.h: outcomes are numbered from 0, and errors from 100.
+OUTCOMES = (
+    "OK LIKED SEEN WAITS RUNS BETWEEN NO_ROOM LIKE_LIMIT GONE GOES_ON ANNOUNCED NOT_ALL_IN RELEASED ENDED COUNTED"
+    " NO_MOMENT NOT_ENDED ALL_TAKEN"
 )
-STATUSES = list(Status)
-OK, LIKED, SEEN, WAITS = STATUSES[:4]
+ERRORS = (
+    "EMPTY IN_USE NO_MEMORY UNKNOWN_USER OTHER_SEAT UNKNOWN_PAGE UNKNOWN_OP UNKNOWN_END WRONG_RANGE WRONG_RESERVED"
+    " WRONG_PAGES WRONG_MARKS WRONG_COUNT WRONG_SEATS WRONG_USERS WRONG_ROOM WRONG_HOT"
+)
+Status = enum.IntEnum("Status", [*zip(OUTCOMES.split(), count()), *zip(ERRORS.split(), count(100))])
+STATUSES = {status.value: status for status in Status}
+OK, LIKED, SEEN, WAITS = list(Status)[:4]
 LIKE, LOOK, GLANCE = range(3)
+NO_END, END_IF_IT_SERVES = range(2)
 MOST = NO_PAGE = 2**32 - 1
 
 
 class Handle(Structure):
-    _fields_ = [("at", c_void_p), ("is_full", c_bool)]
+    _fields_ = [("at", c_void_p)]
 
 
 class Options(Structure):
-    _fields_ = [("seats", c_uint32), ("users", c_uint32), ("room", c_uint32), ("hot", c_uint32)]
+    _fields_ = [
+        *((name, c_uint32) for name in ("seats", "users", "room", "hot")),
+        ("reserved", c_uint64 * 6),
+    ]
 
 
 class Request(Structure):
-    _fields_ = [("tag", c_uint64), ("user", c_uint32), ("page", c_uint32), ("op", c_uint32), ("unused", c_uint32)]
+    _fields_ = [("tag", c_uint64), *((name, c_uint32) for name in ("user", "page", "op", "reserved"))]
 
 
 # A Request from a tag, a user, a page and an op.
@@ -54,26 +61,28 @@ class Answer(Structure):
 class Found(Structure):
     _fields_ = [
         *((name, c_uint64) for name in ("tag", "count", "asked", "ran")),
-        *((name, c_uint32) for name in ("user", "page", "last", "unused")),
+        *((name, c_uint32) for name in ("user", "page", "last", "reserved")),
     ]
 
 
 def load():
-    """The library: the file that LIKES_LIBRARY names, or liblikes.so.0."""
+    """The library: the file that LIKES_LIBRARY names, or liblikes.so.0. Where likes.h has a call that takes NULL, the
+    library has one that takes none, with _nonnull in its name."""
     library = ctypes.CDLL(os.environ.get("LIKES_LIBRARY", "liblikes.so.0"))
     handle, number, size = POINTER(Handle), c_uint32, c_size_t
+    counts = POINTER(c_uint64)
     calls = {
-        "open": ([POINTER(Options), POINTER(c_uint64), size, POINTER(c_bool), size, handle], number),
-        "take_seat": ([handle, handle], number),
-        "run": ([handle, c_void_p, size, c_void_p, size], size),
-        "take_found": ([handle, POINTER(Found)], c_bool),
-        "turn": ([handle], number),
-        "retire": ([handle], number),
-        "driver_turn": ([handle, c_bool], number),
-        "phase": ([handle], c_uint64),
-        "last_counts": ([handle, number, POINTER(c_uint64), size], number),
-        "free_seat": ([handle], None),
-        "free_driver": ([handle], None),
+        "open_nonnull": ([POINTER(Options), counts, size, POINTER(c_uint32), size, handle], number),
+        "driver_take_seat": ([handle, handle], number),
+        "driver_turn": ([handle, number], number),
+        "driver_phase": ([handle], c_uint64),
+        "driver_last_counts_nonnull": ([handle, number, counts, size], number),
+        "driver_free_nonnull": ([handle], None),
+        "seat_run_nonnull": ([handle, c_void_p, size, c_void_p, size], size),
+        "seat_take_found": ([handle, POINTER(Found)], c_bool),
+        "seat_turn": ([handle], number),
+        "seat_retire": ([handle], number),
+        "seat_free_nonnull": ([handle], None),
     }
     for name, (takes, gives) in calls.items():
         call = getattr(library, f"likes_{name}")
@@ -127,14 +136,14 @@ class Row:
         left, begun = self.length - self.done, self.done
         rows = byref(self.rows, begun * ctypes.sizeof(Request))
         answers = byref(self.answers, begun * ctypes.sizeof(Answer))
-        self.done += library.likes_run(seat, rows, left, answers, left)
+        self.done += library.likes_seat_run_nonnull(seat, rows, left, answers, left)
         for at in range(begun, self.done):
             answer = self.answers[at]
             self.waits += answer.status == WAITS
             self.told[at] = shown(answer) if answer.status == SEEN else STATUSES[answer.status]
-        library.likes_turn(seat)
+        library.likes_seat_turn(seat)
         found = Found()
-        while library.likes_take_found(seat, byref(found)):
+        while library.likes_seat_take_found(seat, byref(found)):
             self.told[found.tag] = shown(found)
             self.waits -= 1
         return self.done == self.length and not self.waits
@@ -146,7 +155,8 @@ def shown(look):
 
 
 class Likes:
-    """A service. Its methods may be called by any thread."""
+    """A service. Its methods may be called by any thread. marks has the numbers of the pages that are split in every
+    split phase."""
 
     def __init__(self, counts, users, seats=1, room=4096, hot=0, marks=(), period=0.001):
         if not period > 0:
@@ -154,12 +164,13 @@ class Likes:
         self.library, self.pages, self.period, self.due = load(), len(counts), period, 0.0
         self.driver, self.driving, self.seats, self.totals = Handle(), threading.Lock(), [], None
         options = Options(whole("seats", seats), whole("users", users), whole("room", room), whole("hot", hot))
-        counts = (c_uint64 * max(1, self.pages))(*(whole("count", count, 2**64 - 1) for count in counts))
-        row = (c_bool * max(1, len(marks)))(*marks)
-        self.check(self.library.likes_open(options, counts, self.pages, row, len(marks), byref(self.driver)), OK)
+        counts = (c_uint64 * max(1, self.pages))(*(whole("count", it, 2**64 - 1) for it in counts))
+        row = (c_uint32 * max(1, len(marks)))(*(whole("mark", mark) for mark in marks))
+        opened = self.library.likes_open_nonnull(options, counts, self.pages, row, len(marks), byref(self.driver))
+        self.check(opened, OK)
         for _ in range(options.seats):
             self.seats.append((Handle(), threading.Lock()))
-            self.check(self.library.likes_take_seat(byref(self.driver), byref(self.seats[-1][0])), OK)
+            self.check(self.library.likes_driver_take_seat(byref(self.driver), byref(self.seats[-1][0])), OK)
 
     def __enter__(self):
         return self
@@ -181,8 +192,9 @@ class Likes:
             return
         try:
             now = time.monotonic()
-            status = self.library.likes_driver_turn(byref(self.driver), now >= self.due)
-            if status == Status.RELEASED and self.library.likes_phase(byref(self.driver)) % 2 == 1:
+            end = END_IF_IT_SERVES if now >= self.due else NO_END
+            status = self.library.likes_driver_turn(byref(self.driver), end)
+            if status == Status.RELEASED and self.library.likes_driver_phase(byref(self.driver)) % 2 == 1:
                 self.due = now + self.period
         finally:
             self.driving.release()
@@ -191,7 +203,7 @@ class Likes:
         """Makes the turns of the driver and of the seats that nobody holds."""
         for seat, lock in self.seats:
             if lock.acquire(blocking=False):
-                self.library.likes_turn(byref(seat))
+                self.library.likes_seat_turn(byref(seat))
                 lock.release()
         self.drive()
 
@@ -227,13 +239,14 @@ class Likes:
         """Ends the service, and gives the final counts. All threads are done with it. It may be called again."""
         if self.totals is not None:
             return self.totals
-        while self.library.likes_driver_turn(byref(self.driver), True) != Status.ENDED:
+        while self.library.likes_driver_turn(byref(self.driver), END_IF_IT_SERVES) != Status.ENDED:
             for seat, _ in self.seats:
-                self.library.likes_retire(byref(seat))
+                self.library.likes_seat_retire(byref(seat))
         totals = (c_uint64 * self.pages)()
-        self.check(self.library.likes_last_counts(byref(self.driver), 0, totals, self.pages), OK)
+        counted = self.library.likes_driver_last_counts_nonnull(byref(self.driver), 0, totals, self.pages)
+        self.check(counted, Status.COUNTED)
         for seat, _ in self.seats:
-            self.library.likes_free_seat(byref(seat))
-        self.library.likes_free_driver(byref(self.driver))
+            self.library.likes_seat_free_nonnull(byref(seat))
+        self.library.likes_driver_free_nonnull(byref(self.driver))
         self.totals = list(totals)
         return self.totals

@@ -1,0 +1,299 @@
+/* Compares the layouts of likes.h with the library at work. The bytes of options, requests, answers and found looks are
+ * put and read at places that stand here as numbers, and no field of likes.h is named but to compare its place with
+ * these. Each value differs from every other, so that no two can be mixed up unseen.
+ *
+ * It ends with status 1 and a line where something is elsewhere. */
+#include "likes.h"
+
+#include <inttypes.h>
+#include <stdio.h>
+#include <stdlib.h>
+#include <string.h>
+
+/* The places of the fields, and the sizes. */
+enum { SEATS = 0, USERS = 4, ROOM = 8, HOT = 12, OPTIONS_RESERVED = 16, OPTIONS = 64 };
+enum { TAG = 0, USER = 8, PAGE = 12, OP = 16, REQUEST_RESERVED = 20, REQUEST = 24 };
+enum { COUNT = 0, LAST = 8, STATUS = 12, ANSWER = 16 };
+enum { FOUND_TAG = 0, FOUND_COUNT = 8, ASKED = 16, RAN = 24, FOUND_USER = 32, FOUND_PAGE = 36, FOUND_LAST = 40 };
+enum { FOUND_RESERVED = 44, FOUND = 48, HANDLE = 8 };
+
+/* Bytes of any structure. */
+typedef union {
+    unsigned char bytes[OPTIONS];
+    uint64_t aligned[OPTIONS / 8];
+} row;
+
+static void is(int line, const char *what, uint64_t is, uint64_t should) {
+    if (is != should) {
+        printf("line %d: %s is %" PRIu64 ", and not %" PRIu64 "\n", line, what, is, should);
+        exit(1);
+    }
+}
+#define IS(what, expected) is(__LINE__, #what, what, expected)
+
+static void put32(row *at, size_t place, uint32_t number) {
+    memcpy(at->bytes + place, &number, sizeof number);
+}
+
+static void put64(row *at, size_t place, uint64_t number) {
+    memcpy(at->bytes + place, &number, sizeof number);
+}
+
+static uint32_t get32(const row *at, size_t place) {
+    uint32_t number;
+    memcpy(&number, at->bytes + place, sizeof number);
+    return number;
+}
+
+static uint64_t get64(const row *at, size_t place) {
+    uint64_t number;
+    memcpy(&number, at->bytes + place, sizeof number);
+    return number;
+}
+
+/* The places in likes.h are those above. */
+static void header(void) {
+    IS(sizeof(likes_options), OPTIONS);
+    IS(offsetof(likes_options, seats), SEATS);
+    IS(offsetof(likes_options, users), USERS);
+    IS(offsetof(likes_options, room), ROOM);
+    IS(offsetof(likes_options, hot), HOT);
+    IS(offsetof(likes_options, reserved), OPTIONS_RESERVED);
+    IS(sizeof(likes_request), REQUEST);
+    IS(offsetof(likes_request, tag), TAG);
+    IS(offsetof(likes_request, user), USER);
+    IS(offsetof(likes_request, page), PAGE);
+    IS(offsetof(likes_request, op), OP);
+    IS(offsetof(likes_request, reserved), REQUEST_RESERVED);
+    IS(sizeof(likes_answer), ANSWER);
+    IS(offsetof(likes_answer, count), COUNT);
+    IS(offsetof(likes_answer, last), LAST);
+    IS(offsetof(likes_answer, status), STATUS);
+    IS(sizeof(likes_found), FOUND);
+    IS(offsetof(likes_found, tag), FOUND_TAG);
+    IS(offsetof(likes_found, count), FOUND_COUNT);
+    IS(offsetof(likes_found, asked), ASKED);
+    IS(offsetof(likes_found, ran), RAN);
+    IS(offsetof(likes_found, user), FOUND_USER);
+    IS(offsetof(likes_found, page), FOUND_PAGE);
+    IS(offsetof(likes_found, last), FOUND_LAST);
+    IS(offsetof(likes_found, reserved), FOUND_RESERVED);
+    IS(sizeof(likes_driver), HANDLE);
+    IS(sizeof(likes_seat), HANDLE);
+    IS(sizeof(likes_phase), HANDLE);
+}
+
+/* A service with 3 seats, 30 users, room for 5 looks, and 7 pages, of which page 2 is marked and none gets hot. */
+static const uint64_t counts[7] = {100, 200, 300, 400, 500, 600, 700};
+static const uint32_t marks[] = {2};
+static void *driver, *seats[4], *phase;
+
+static uint32_t open_by(const row *options) {
+    return likes_open_nonnull((const likes_options *)options, counts, 7, marks, 1, (likes_driver *)&driver);
+}
+
+static row right_options(void) {
+    row options = {{0}};
+    put32(&options, SEATS, 3);
+    put32(&options, USERS, 30);
+    put32(&options, ROOM, 5);
+    put32(&options, HOT, 0);
+    return options;
+}
+
+/* Each of the fields is refused for what is too much for it alone. So is each reserved byte that is set. */
+static void options(void) {
+    row it = right_options();
+    for (size_t place = OPTIONS_RESERVED; place < OPTIONS; place++) {
+        it.bytes[place] = (unsigned char)(1 << place % 8);
+        IS(open_by(&it), 109); /* LIKES_WRONG_RESERVED */
+        it.bytes[place] = 0;
+    }
+    put32(&it, SEATS, 17);
+    IS(open_by(&it), 113); /* LIKES_WRONG_SEATS */
+    it = right_options();
+    put32(&it, USERS, 0);
+    IS(open_by(&it), 114); /* LIKES_WRONG_USERS */
+    it = right_options();
+    put32(&it, ROOM, 4097);
+    IS(open_by(&it), 115); /* LIKES_WRONG_ROOM */
+    it = right_options();
+    put32(&it, HOT, 1000001);
+    IS(open_by(&it), 116); /* LIKES_WRONG_HOT */
+    IS(driver == NULL, true);
+}
+
+/* The right options, of which the service shows the values at work: so many seats, users and looks that wait. */
+static void open(void) {
+    row it = right_options();
+    IS(open_by(&it), 0);
+    IS(driver != NULL, true);
+    for (int i = 0; i < 3; i++)
+        IS(likes_driver_take_seat((likes_driver *)&driver, (likes_seat *)&seats[i]), 0);
+    IS(likes_driver_take_seat((likes_driver *)&driver, (likes_seat *)&seats[3]), 17); /* LIKES_ALL_TAKEN */
+    IS(likes_driver_take_phase((likes_driver *)&driver, (likes_phase *)&phase), 0);
+    IS(likes_seat_like((likes_seat *)&seats[2], 29, 1), 1);   /* LIKES_LIKED */
+    IS(likes_seat_like((likes_seat *)&seats[0], 30, 1), 103); /* LIKES_UNKNOWN_USER */
+}
+
+/* Runs one request, of the numbers at its places, and gives its answer's bytes. All else of them is set. */
+static row run(int seat, uint64_t tag, uint32_t user, uint32_t page, uint32_t op, uint32_t reserved) {
+    row request, answer;
+    memset(&request, 0xa5, sizeof request);
+    memset(&answer, 0xa5, sizeof answer);
+    put64(&request, TAG, tag);
+    put32(&request, USER, user);
+    put32(&request, PAGE, page);
+    put32(&request, OP, op);
+    put32(&request, REQUEST_RESERVED, reserved);
+    size_t done = likes_seat_run_nonnull((likes_seat *)&seats[seat], (const likes_request *)&request, 1,
+                                         (likes_answer *)&answer, 1);
+    IS(done, get32(&answer, STATUS) == 6 ? 0 : 1); /* LIKES_NO_ROOM */
+    for (size_t place = ANSWER; place < sizeof answer; place++)
+        IS(answer.bytes[place], 0xa5);
+    return answer;
+}
+
+#define ANSWERS(count, last, status)                \
+    do {                                            \
+        IS(get64(&answer, COUNT), count);           \
+        IS(get32(&answer, LAST), last);             \
+        IS(get32(&answer, STATUS), status);         \
+    } while (0)
+
+/* Requests of each kind, in a joined phase: each number is read from its place, and each answer stands in its own. */
+static void requests(void) {
+    row answer = run(1, 9, 10, 6, 0, 0);
+    ANSWERS(0, 0, 1); /* LIKES_LIKED */
+    answer = run(1, 11, 10, 2, 1, 0);
+    ANSWERS(300, 6, 2); /* LIKES_SEEN */
+    answer = run(1, 12, 13, 6, 2, 0);
+    ANSWERS(701, UINT32_MAX, 2);
+    answer = run(1, 2, 31, 6, 0, 0);
+    ANSWERS(0, 0, 103); /* LIKES_UNKNOWN_USER */
+    answer = run(1, 2, 11, 6, 0, 0);
+    ANSWERS(0, 0, 104); /* LIKES_OTHER_SEAT */
+    answer = run(1, 2, 10, 7, 0, 0);
+    ANSWERS(0, 0, 105); /* LIKES_UNKNOWN_PAGE */
+    answer = run(1, 2, 10, 6, 3, 0);
+    ANSWERS(0, 0, 106); /* LIKES_UNKNOWN_OP */
+    for (int bit = 0; bit < 32; bit++) {
+        answer = run(1, 2, 10, 6, 0, UINT32_C(1) << bit);
+        ANSWERS(0, 0, 106);
+    }
+    for (int bit = 2; bit < 32; bit++) {
+        answer = run(1, 2, 10, 6, UINT32_C(1) << bit, 0);
+        ANSWERS(0, 0, 106);
+    }
+}
+
+/* Goes on to the next phase. */
+static void change(void) {
+    uint64_t before = likes_phase_now((likes_phase *)&phase);
+    IS(likes_driver_turn((likes_driver *)&driver, 1), 10); /* LIKES_ANNOUNCED */
+    for (int i = 0; i < 3; i++)
+        IS(likes_seat_turn((likes_seat *)&seats[i]), 5);   /* LIKES_BETWEEN */
+    IS(likes_driver_turn((likes_driver *)&driver, 0), 12); /* LIKES_RELEASED */
+    IS(likes_phase_now((likes_phase *)&phase), before + 1);
+}
+
+/* Four requests and four answers: where each of them begins. */
+static void arrays(void) {
+    static const uint32_t users[] = {10, 13, 16, 10}, pages[] = {6, 5, 3, 0}, lasts[] = {6, 3, UINT32_MAX, 6}, op = 2;
+    static const uint64_t shown[] = {701, 600, 401, 100};
+    uint64_t requests[4 * REQUEST / 8] = {0}, answers[4 * ANSWER / 8] = {0};
+    IS(likes_seat_like((likes_seat *)&seats[1], 13, 3), 1); /* LIKES_LIKED */
+    for (int n = 0; n < 4; n++) {
+        unsigned char *at = (unsigned char *)requests + n * REQUEST;
+        memcpy(at + USER, &users[n], 4);
+        memcpy(at + PAGE, &pages[n], 4);
+        memcpy(at + OP, &op, 4);
+    }
+    size_t done = likes_seat_run_nonnull((likes_seat *)&seats[1], (const likes_request *)requests, 4,
+                                         (likes_answer *)answers, 4);
+    IS(done, 4);
+    for (int n = 0; n < 4; n++) {
+        row answer;
+        memcpy(&answer, (unsigned char *)answers + n * ANSWER, ANSWER);
+        ANSWERS(shown[n], lasts[n], 2); /* LIKES_SEEN */
+    }
+}
+
+/* Looks that wait, of which the room has five, and a found one, whose numbers all differ. */
+static void found(void) {
+    const uint64_t tag = UINT64_C(0x0123456789abcdef);
+    row answer, it;
+    change();
+    change();
+    change();
+    answer = run(1, tag, 16, 2, 1, 0);
+    ANSWERS(0, 0, 3); /* LIKES_WAITS */
+    for (uint32_t n = 0; n < 4; n++) {
+        answer = run(1, n, 10, 2, 1, 0);
+        ANSWERS(0, 0, 3);
+    }
+    answer = run(1, 5, 10, 2, 1, 0);
+    ANSWERS(0, 0, 6); /* LIKES_NO_ROOM */
+    answer = run(1, 0, 16, 2, 0, 0);
+    ANSWERS(0, 0, 1); /* LIKES_LIKED */
+    answer = run(1, 0, 16, 5, 0, 0);
+    ANSWERS(0, 0, 1);
+    change();
+    IS(likes_seat_turn((likes_seat *)&seats[1]), 4); /* LIKES_RUNS */
+    memset(&it, 0xa5, sizeof it);
+    IS(likes_seat_take_found((likes_seat *)&seats[1], (likes_found *)&it), true);
+    IS(get64(&it, FOUND_TAG), tag);
+    IS(get64(&it, FOUND_COUNT), 301);
+    IS(get64(&it, ASKED), 3);
+    IS(get64(&it, RAN), 4);
+    IS(get32(&it, FOUND_USER), 16);
+    IS(get32(&it, FOUND_PAGE), 2);
+    IS(get32(&it, FOUND_LAST), 5);
+    IS(get32(&it, FOUND_RESERVED), 0);
+    for (size_t place = FOUND; place < sizeof it; place++)
+        IS(it.bytes[place], 0xa5);
+}
+
+/* A page that gets as many likes as the last option says becomes hot. */
+static void hot(void) {
+    void *hot_driver = NULL, *seat = NULL;
+    row it = right_options(), answer = {{0}};
+    put32(&it, SEATS, 1);
+    put32(&it, HOT, 2);
+    IS(likes_open_nonnull((likes_options *)&it, counts, 7, marks, 0, (likes_driver *)&hot_driver), 0);
+    IS(likes_driver_take_seat((likes_driver *)&hot_driver, (likes_seat *)&seat), 0);
+    for (uint32_t page = 0; page < 2; page++)
+        for (uint32_t n = 0; n <= page; n++)
+            IS(likes_seat_like((likes_seat *)&seat, 0, page), 1); /* LIKES_LIKED */
+    IS(likes_driver_turn((likes_driver *)&hot_driver, 1), 10);    /* LIKES_ANNOUNCED */
+    IS(likes_seat_turn((likes_seat *)&seat), 5);                  /* LIKES_BETWEEN */
+    IS(likes_driver_turn((likes_driver *)&hot_driver, 0), 12);    /* LIKES_RELEASED */
+    IS(likes_seat_look((likes_seat *)&seat, 0, 0, 0, (likes_answer *)&answer), 2); /* LIKES_SEEN */
+    ANSWERS(101, 1, 2);
+    IS(likes_seat_look((likes_seat *)&seat, 0, 1, 0, (likes_answer *)&answer), 3); /* LIKES_WAITS */
+    ANSWERS(0, 0, 3);
+    likes_seat_free_nonnull((likes_seat *)&seat);
+    likes_driver_free_nonnull((likes_driver *)&hot_driver);
+    IS(seat == NULL && hot_driver == NULL, true);
+}
+
+static void end(void) {
+    for (int i = 0; i < 3; i++)
+        likes_seat_free_nonnull((likes_seat *)&seats[i]);
+    likes_driver_free_nonnull((likes_driver *)&driver);
+    likes_phase_free_nonnull((likes_phase *)&phase);
+    IS(driver == NULL && seats[0] == NULL && seats[1] == NULL && seats[2] == NULL && phase == NULL, true);
+}
+
+int main(void) {
+    header();
+    options();
+    open();
+    requests();
+    arrays();
+    found();
+    end();
+    hot();
+    puts("all fields in their places");
+    return 0;
+}
