@@ -267,9 +267,9 @@ static void empty_handles(void) {
     likes_driver driver = {0};
     likes_seat seat = {0};
     likes_phase phase = {0};
-    likes_answer answer;
+    likes_answer answer, answers[2];
     likes_found found;
-    likes_request request = {0};
+    likes_request requests[2] = {{0}};
     uint64_t counts[1] = {0};
     IS(likes_driver_take_seat(&driver, &seat), LIKES_EMPTY);
     IS(likes_driver_take_phase(&driver, &phase), LIKES_EMPTY);
@@ -280,8 +280,10 @@ static void empty_handles(void) {
     IS(likes_seat_glance(&seat, 0, 0, &answer), LIKES_EMPTY);
     IS(answer.status, LIKES_EMPTY);
     IS(likes_seat_take_found(&seat, &found), false);
-    IS(likes_seat_run(&seat, &request, 1, &answer, 1), 0);
-    IS(answer.status, LIKES_EMPTY);
+    answers[0].status = answers[1].status = LIKES_OK;
+    IS(likes_seat_run(&seat, requests, 2, answers, 2), 0);
+    IS(answers[0].status, LIKES_EMPTY);
+    IS(answers[1].status, LIKES_OK);
     IS(likes_seat_run(&seat, NULL, 0, NULL, 0), 0);
     IS(likes_seat_turn(&seat), LIKES_EMPTY);
     IS(likes_seat_retire(&seat), LIKES_EMPTY);
@@ -741,6 +743,8 @@ static void driving(void) {
     likes_seat *seat = &it.seats[0];
     IS(likes_driver_turn(&it.driver, LIKES_NO_END), LIKES_GOES_ON);
     IS(likes_driver_snapshot(&it.driver, 0, now, 3), LIKES_WRONG_RANGE);
+    IS(likes_driver_snapshot(&it.driver, 3, NULL, 0), LIKES_WRONG_RANGE);
+    IS(likes_driver_snapshot(&it.driver, 2, NULL, 0), LIKES_NO_MOMENT);
     IS(likes_driver_snapshot(&it.driver, 0, now, 2), LIKES_NO_MOMENT);
     for (int i = 0; i < 3; i++)
         IS(likes_seat_like(seat, 0, 1), LIKES_LIKED);

@@ -250,6 +250,7 @@ static void found(void) {
     IS(get32(&it, FOUND_PAGE), 2);
     IS(get32(&it, FOUND_LAST), 5);
     IS(get32(&it, FOUND_RESERVED), 0);
+    IS(it.bytes[FOUND - 1], 0);
     for (size_t place = FOUND; place < sizeof it; place++)
         IS(it.bytes[place], 0xa5);
 }

@@ -40,7 +40,7 @@ static void take(worker *it, likes_seat *seat, uint64_t *latest) {
 
 static void *work(void *at) {
     worker *it = at;
-    likes_request row[ROW];
+    likes_request row[ROW] = {{0}}; /* its reserved fields are 0 and stay so */
     likes_answer answers[ROW];
     uint64_t random = it->number, liked = 0, latest = 0;
     likes_seat *seat = likes_service_wake(it->service, it->number);

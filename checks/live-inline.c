@@ -1,0 +1,119 @@
+/* The inline functions of likes.h, without the library: the calls that the library has in their place stand here, and
+ * see what they are passed. An array of no entries comes as a pointer that isn't NULL, and all else as it was.
+ *
+ * It ends with status 1 and a line where something else is passed. */
+#include "likes.h"
+
+#include <stdio.h>
+#include <stdlib.h>
+
+/* What the last call was passed, and how many there were. */
+static struct {
+    const void *first, *second, *third;
+    size_t first_len, second_len;
+    uint32_t from;
+    int calls;
+} seen;
+
+uint32_t likes_open_nonnull(const likes_options *options, const uint64_t *counts, size_t pages, const uint32_t *marks,
+                            size_t marks_len, likes_driver *driver) {
+    seen.calls += driver != NULL && options != NULL;
+    seen.first = counts;
+    seen.first_len = pages;
+    seen.second = marks;
+    seen.second_len = marks_len;
+    seen.third = options;
+    return 41;
+}
+
+size_t likes_seat_run_nonnull(likes_seat *seat, const likes_request *requests, size_t requests_len,
+                              likes_answer *answers, size_t answers_len) {
+    seen.calls += seat != NULL;
+    seen.first = requests;
+    seen.first_len = requests_len;
+    seen.second = answers;
+    seen.second_len = answers_len;
+    return 42;
+}
+
+static uint32_t see_counts(const likes_driver *driver, uint32_t from, const uint64_t *counts, size_t counts_len) {
+    seen.calls += driver != NULL;
+    seen.from = from;
+    seen.first = counts;
+    seen.first_len = counts_len;
+    return 43;
+}
+
+uint32_t likes_driver_snapshot_nonnull(likes_driver *driver, uint32_t from, uint64_t *counts, size_t counts_len) {
+    return see_counts(driver, from, counts, counts_len);
+}
+
+uint32_t likes_driver_last_counts_nonnull(likes_driver *driver, uint32_t from, uint64_t *counts, size_t counts_len) {
+    return see_counts(driver, from, counts, counts_len) + 1;
+}
+
+void likes_seat_free_nonnull(likes_seat *seat) {
+    seen.calls++;
+    seen.first = seat;
+}
+
+void likes_driver_free_nonnull(likes_driver *driver) {
+    seen.calls++;
+    seen.first = driver;
+}
+
+void likes_phase_free_nonnull(likes_phase *phase) {
+    seen.calls++;
+    seen.first = phase;
+}
+
+#define HOLD(what)                                           \
+    do {                                                     \
+        if (!(what)) {                                       \
+            printf("line %d: not %s\n", __LINE__, #what);    \
+            exit(1);                                         \
+        }                                                    \
+    } while (0)
+
+/* Whether the arrays have come as they are, and those of no entries as something else than NULL. */
+static bool has_passed(const void *first, size_t first_len, const void *second, size_t second_len) {
+    bool is_first = first_len == 0 ? seen.first != NULL : seen.first == first;
+    bool is_second = second_len == 0 ? seen.second != NULL : seen.second == second;
+    return is_first && is_second && seen.first_len == first_len && seen.second_len == second_len;
+}
+
+int main(void) {
+    likes_options options = {0};
+    likes_driver driver = {0};
+    likes_seat seat = {0};
+    likes_phase phase = {0};
+    likes_request requests[5] = {{0}};
+    likes_answer answers[4];
+    uint64_t counts[3] = {0};
+    uint32_t marks[2] = {0};
+    for (size_t n = 0; n < 4; n++) {
+        bool first = n & 1, second = n & 2;
+        HOLD(likes_open(&options, first ? counts : NULL, 3 * first, second ? marks : NULL, 2 * second, &driver) == 41);
+        HOLD(has_passed(counts, 3 * first, marks, 2 * second) && seen.third == &options);
+        HOLD(likes_seat_run(&seat, first ? requests : NULL, 5 * first, second ? answers : NULL, 4 * second) == 42);
+        HOLD(has_passed(requests, 5 * first, answers, 4 * second));
+        HOLD(likes_driver_snapshot(&driver, 7, first ? counts : NULL, 3 * first) == 43);
+        HOLD(has_passed(counts, 3 * first, answers, 4 * second) && seen.from == 7);
+        HOLD(likes_driver_last_counts(&driver, 8, first ? counts : NULL, 3 * first) == 44);
+        HOLD(has_passed(counts, 3 * first, answers, 4 * second) && seen.from == 8);
+    }
+    HOLD(seen.calls == 16);
+    likes_seat_free(NULL);
+    likes_driver_free(NULL);
+    likes_phase_free(NULL);
+    HOLD(seen.calls == 16);
+    likes_seat_free(&seat);
+    HOLD(seen.first == &seat);
+    likes_driver_free(&driver);
+    HOLD(seen.first == &driver);
+    likes_phase_free(&phase);
+    HOLD(seen.first == &phase && seen.calls == 19);
+    HOLD(likes_seat_of(7, 3) == 1 && likes_seat_of(UINT32_MAX, 16) == 15);
+    puts("all passed on as it should be");
+    return 0;
+}
