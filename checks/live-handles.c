@@ -1,11 +1,11 @@
 /* Two threads like by single calls, each at its own seat, in a split phase. Their handles are side by side, and then
- * 256 bytes apart. It prints how many likes a second both made, the best of seven times each, and the ratio. If a call
- * wrote its handle, handles side by side would be slower.
+ * 256 bytes apart. It prints how long a like took on a processor, the median of nine times, and the ratio. If a call
+ * wrote its handle, likes with handles side by side would take longer.
  *
  * It ends with status 1 if a count is wrong. */
 #include "likes_helpers.h"
 
-enum { LIKES = 4000000, TIMES = 7 };
+enum { LIKES = 4000000, TIMES = 9 };
 
 /* Room for two handles: in one cache line, or in two that are far apart. */
 static _Alignas(256) struct {
@@ -24,7 +24,7 @@ static void hold(bool is_right, const char *text) {
     }
 }
 
-/* What a thread likes with, and how long it took. */
+/* What a thread likes with, and how long it took, in nanoseconds on a processor. */
 typedef struct {
     likes_seat *seat;
     uint32_t user;
@@ -32,19 +32,26 @@ typedef struct {
     pthread_t thread;
 } player;
 
+/* How long this thread has had a processor, in nanoseconds. */
+static uint64_t worked(void) {
+    struct timespec time;
+    clock_gettime(CLOCK_THREAD_CPUTIME_ID, &time);
+    return (uint64_t)time.tv_sec * UINT64_C(1000000000) + (uint64_t)time.tv_nsec;
+}
+
 static void *play(void *at) {
     player *it = (player *)at;
     uint32_t liked = 0;
     pthread_barrier_wait(&begin);
-    uint64_t began = likes_clock();
+    uint64_t began = worked();
     for (uint32_t n = 0; n < LIKES; n++)
         liked += likes_seat_like(it->seat, it->user, 0) == LIKES_LIKED;
-    it->took = likes_clock() - began;
+    it->took = worked() - began;
     hold(liked == LIKES, "a like was refused");
     return NULL;
 }
 
-/* Millions of likes a second, of two threads whose handles are here. */
+/* How long a like takes two threads, of which the second has its handle here. */
 static double measure(likes_seat *second) {
     player players[2] = {{.seat = &room.seats[0], .user = 0}, {.seat = second, .user = 1}};
     pthread_barrier_init(&begin, NULL, 2);
@@ -53,7 +60,17 @@ static double measure(likes_seat *second) {
     for (int i = 0; i < 2; i++)
         pthread_join(players[i].thread, NULL);
     pthread_barrier_destroy(&begin);
-    return LIKES * 1000.0 / (double)players[0].took + LIKES * 1000.0 / (double)players[1].took;
+    return (double)(players[0].took + players[1].took) / (2.0 * LIKES);
+}
+
+static int compare(const void *one, const void *other) {
+    double difference = *(const double *)one - *(const double *)other;
+    return difference < 0 ? -1 : difference > 0;
+}
+
+static double median(double *times) {
+    qsort(times, TIMES, sizeof *times, compare);
+    return times[TIMES / 2];
 }
 
 /* Moves a handle. */
@@ -67,7 +84,7 @@ int main(void) {
     const uint32_t marks[] = {0};
     likes_options options = {.seats = 2, .users = 2, .room = 1};
     uint64_t last[1];
-    double beside = 0, apart = 0;
+    double beside[TIMES], apart[TIMES];
     hold(likes_open(&options, counts, 1, marks, 1, &driver) == LIKES_OK, "no service was opened");
     for (int i = 0; i < 2; i++)
         hold(likes_driver_take_seat(&driver, &room.seats[i]) == LIKES_OK, "no seat was taken");
@@ -76,11 +93,9 @@ int main(void) {
         hold(likes_seat_turn(&room.seats[i]) == LIKES_BETWEEN, "a seat does not answer");
     hold(likes_driver_turn(&driver, LIKES_NO_END) == LIKES_RELEASED, "no phase was released");
     for (int time = 0; time < TIMES; time++) {
-        double millions = measure(&room.seats[1]);
-        beside = millions > beside ? millions : beside;
+        beside[time] = measure(&room.seats[1]);
         move(&room.seats[1], &room.far);
-        millions = measure(&room.far);
-        apart = millions > apart ? millions : apart;
+        apart[time] = measure(&room.far);
         move(&room.far, &room.seats[1]);
     }
     while (likes_driver_turn(&driver, LIKES_END_IF_IT_SERVES) != LIKES_ENDED)
@@ -91,6 +106,7 @@ int main(void) {
     for (int i = 0; i < 2; i++)
         likes_seat_free(&room.seats[i]);
     likes_driver_free(&driver);
-    printf("%.0f million likes a second side by side, %.0f apart: %.2f times\n", beside, apart, beside / apart);
+    double ratio = median(beside) / median(apart);
+    printf("a like takes %.1f ns side by side, %.1f ns apart: %.2f times\n", median(beside), median(apart), ratio);
     return 0;
 }
