@@ -1,17 +1,15 @@
 //! Runs and replays of files, from their texts to the text of the report.
 #![tactic(auto)]
 
+mod asked;
 mod fault;
 mod line;
-mod lists;
 mod opened;
 mod opener;
 mod plans;
 mod progress;
 mod replay;
 mod run;
-mod setup;
-mod summed;
 
 pub use fault::DriverFault;
 pub use line::WRITE_FAILED;

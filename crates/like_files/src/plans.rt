@@ -1,19 +1,53 @@
-ghost use Rattle.std.specs.Prelude.{◌≡◌, ◌-◌, ◌<◌, ◌^◌, IfErr, MatchResult, Ok, OnOk, length, map, min};
+ghost use Rattle.std.specs.Prelude.{◌≡◌, ◌-◌, ◌<◌, ◌^◌, IfErr, MatchResult, None, Ok, OnOk, length, map, min};
 ghost use Rattle.like_records.specs.Reading.{ReadFailed};
-ghost use Rattle.like_files.specs.FailedReads.{TellsPlanRead};
-ghost use Rattle.like_files.specs.Inputs.{GivesPlan, ReadsPlans, RefusesPlan};
+ghost use Rattle.like_service.specs.Asked.{lists_of};
+ghost use Rattle.like_files.specs.FailedReads.{TellsPlanRead, TellsRead};
+ghost use Rattle.like_files.specs.Inputs.{GivesLists, GivesPlan, ReadsPlans, RefusesLists, RefusesPlan};
 ghost use Rattle.like_files.specs.Plans.{AddsPlan, IsFirstStop, Stops};
 
 use crate::fault::DriverFault;
-use like_requests::{MAX_SUBMITTERS, Pages, Request, RequestsFault, read_requests};
+use like_requests::{MAX_SUBMITTERS, Pages, Request, RequestsFault, read_pages, read_requests};
 use std::alloc::Global;
 use std::io::Read;
 use std::thread;
 use std::thread::Threads;
 
-/// The plans of the submitters, each read from its file. Where memory for one more plan is refused, that is its file's
-/// `Memory`.
-pub fn read_plans<R: Read + Drop>(
+/// The pages, and the plans of the submitters, each read from its file.
+pub fn read_lists<R: Read + Drop>(
+    alloc: Global,
+    pages: R,
+    requests: Vec<R>,
+) -> Result<(Pages, Vec<Vec<Request>>), DriverFault>
+    ensures lists { let files = map R.remaining requests.items in
+        MatchResult result (λ lists. GivesLists (R.remaining pages) files lists.0 (lists_of lists.1.items))
+        (RefusesLists (R.remaining pages) files) }
+    ensures read { IfErr result (TellsRead pages requests.items None) }
+{
+    let pages = read_pages(alloc, pages)?;
+    let plans = read_plans(alloc, &pages, requests)?;
+    Ok((pages, plans))
+}
+
+/// The same, where a thread may be started for each request file.
+pub fn read_lists_at_once<T: Threads + Sync, R: Read + Drop + Send>(
+    rt: &T,
+    alloc: Global,
+    pages: R,
+    requests: Vec<R>,
+) -> Result<(Pages, Vec<Vec<Request>>), DriverFault>
+    ensures lists { let files = map R.remaining requests.items in
+        MatchResult result (λ lists. GivesLists (R.remaining pages) files lists.0 (lists_of lists.1.items))
+        (RefusesLists (R.remaining pages) files) }
+    ensures read { IfErr result (TellsRead pages requests.items None) }
+{
+    let pages = read_pages(alloc, pages)?;
+    let plans = read_plans_at_once(rt, alloc, &pages, requests)?;
+    Ok((pages, plans))
+}
+
+// The plans of the submitters, each read from its file. Where memory for one more plan is refused, that is its file's
+// `Memory`.
+fn read_plans<R: Read + Drop>(
     alloc: Global,
     pages: &Pages,
     requests: Vec<R>,
@@ -28,10 +62,10 @@ pub fn read_plans<R: Read + Drop>(
     Ok(plans)
 }
 
-/// The same, where a thread may be started for each file, which reads it beside the others: the fault is still that of
-/// the first file at fault. A thread that can't be started is no fault, since the caller's own thread does its work.
-/// More files than a run takes are read by the caller's thread alone.
-pub fn read_plans_at_once<T: Threads + Sync, R: Read + Drop + Send>(
+// The same, where a thread may be started for each file, which reads it beside the others: the fault is still that of
+// the first file at fault. A thread that can't be started is no fault, since the caller's own thread does its work.
+// More files than a run takes are read by the caller's thread alone.
+fn read_plans_at_once<T: Threads + Sync, R: Read + Drop + Send>(
     rt: &T,
     alloc: Global,
     pages: &Pages,

@@ -8,11 +8,10 @@ ghost use Rattle.like_files.specs.Inputs.{GivesScript, RefusesScript, inputs_of}
 ghost use Rattle.like_files.specs.Replay.{HasReplayed, HasReplayedLists, IsReplayFilesFault, IsReplayListsFault};
 ghost use Rattle.like_replies.specs.declared.summary.Summary.{Summary};
 
+use crate::asked::{asked_summary, with_pages};
 use crate::fault::DriverFault;
-use crate::lists::read_lists;
+use crate::plans::read_lists;
 use crate::progress::{NoProgress, Part, Progress};
-use crate::setup::with_pages;
-use crate::summed::asked_summary;
 use like_command::Options;
 use like_replies::{Summary, write_text};
 use like_requests::{Request, Setup};

@@ -6,11 +6,10 @@ ghost use Rattle.like_files.specs.Inputs.{inputs_of};
 ghost use Rattle.like_files.specs.Run.{HasRun, HasRunLists, IsRunFilesFault, IsRunListsFault};
 ghost use Rattle.like_replies.specs.declared.summary.Summary.{Summary};
 
+use crate::asked::{asked_summary, with_pages};
 use crate::fault::DriverFault;
-use crate::lists::read_lists_at_once;
+use crate::plans::read_lists_at_once;
 use crate::progress::{NoProgress, Part, Progress};
-use crate::setup::with_pages;
-use crate::summed::asked_summary;
 use like_command::Options;
 use like_replies::{Summary, write_text_at_once};
 use like_requests::{Request, Setup};

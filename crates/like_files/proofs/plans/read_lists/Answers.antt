@@ -2,7 +2,7 @@ use Rattle.std.proofs.Common.{None, map}
 use Rattle.std.proofs.lemmas.Result.{err_from_is_err_and}
 use Rattle.like_files.proofs.Ended.{lists-refused}
 use Rattle.like_files.proofs.FailedReads.{plans-told}
-use Rattle.like_files.proofs.lists.read_lists_at_once.Goals as goal
+use Rattle.like_files.proofs.plans.read_lists.Goals as goal
 
 pub returns-in_err-plans-clause-lists : goal.returns-in_err-plans-clause-lists
 returns-in_err-plans-clause-lists g c =
