@@ -58,7 +58,7 @@ typedef struct likes_phase {
 } likes_phase;
 
 #define LIKES_MAX_SEATS 16u
-#define LIKES_MAX_PAGES 1024u
+#define LIKES_MAX_PAGES 16777216u
 #define LIKES_MAX_MARKS 64u
 #define LIKES_MAX_ROOM 4096u
 #define LIKES_MAX_HOT 1000000u
