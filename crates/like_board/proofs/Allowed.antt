@@ -1,5 +1,5 @@
 -- Each step is allowed by the rule, and tells what it is said to tell.
-use Rattle.std.proofs.Common.{◌≡◌, ◌≢◌, ℕ, ◌+◌, ◌%◌, ◌^◌, ◌<◌, bit_or, List, [], ◌∷◌, ◌++◌, get_or, slice_set, subst, ap, sym, ◌∙◌, refl, arith}
+use Rattle.std.proofs.Common.{◌≡◌, ◌≢◌, ℕ, ◌+◌, ◌%◌, ◌^◌, ◌<◌, List, [], ◌∷◌, ◌++◌, get_or, slice_set, subst, ap, sym, ◌∙◌, refl, arith}
 use Rattle.std.proofs.lemmas.List.{set-get_or}
 use mathlib.Core.Option.{some}
 use lib.ListN.{get_elem?}
@@ -14,8 +14,7 @@ use Rattle.like_core.specs.declared.view.WorkerSeatView.{WorkerSeatView}
 use Rattle.like_core.specs.declared.view.CoordSeatView.{CoordSeatView}
 use Rattle.like_core.specs.declared.view.View.{View}
 use Rattle.like_core.specs.declared.view.View.TheVariants.{Coord, Worker, Spent}
-use Rattle.like_core.specs.word.Word.{Fields, packed, IsLawful, released_modulo, answer_bit, retirement_bit}
-use Rattle.like_core.specs.views.Sights.{sight_of, coord_sight_of}
+use Rattle.like_core.specs.word.Forms.{form_of}
 use Rattle.like_core.specs.Post.{IsFresh, MayAdd, MayRead, MayGlance}
 use Rattle.like_core.specs.WorkerState.{RunsJoined, RunsSplit, SawEnding}
 use Rattle.like_core.specs.views.Views.{MayAnnounce, MayCount, MayPublish, MayRelease, fresh, looked_view, answered_view, retired_view, added_view, read_view, glanced_view, masked_view, post_of, likes_merged, adding, looked_coord, announced_coord, counted_coord, published_coord, mask_released, released_coord, made_coord, gathered_coord}
@@ -27,7 +26,7 @@ use Rattle.like_core.proofs.views.Posts.{post_fresh}
 use Rattle.like_board.specs.declared.key.Key.{Key}
 use Rattle.like_board.specs.Known.{worker_view_of, coord_view_of}
 use Rattle.like_board.specs.Rule.{opening_of, IsShowing}
-use Rattle.like_board.specs.Plays.{Looked, Surveyed, TellsLook, TellsSurvey, TellsWorker, TellsCoord, PageAct, TellsAdd, TellsRead, TellsAddAt, TellsReadAt, TellsMask, TellsCount, TellsCountAt}
+use Rattle.like_board.specs.Plays.{Looked, Surveyed, sight_at, coord_sight_at, TellsLook, TellsSurvey, TellsWorker, TellsCoord, PageAct, TellsAdd, TellsRead, TellsAddAt, TellsReadAt, TellsMask, TellsCount, TellsCountAt}
 use Rattle.like_board.specs.Closed.{TellsLast}
 use Rattle.like_board.proofs.coordinator.Leads.{splits}
 use Rattle.like_board.proofs.worker.Moves.{known_of}
@@ -66,30 +65,29 @@ looking {S} key slots id me is there = λ st shows _ at _.
     let here : get_elem? st.views id ≡ some (Worker v) = at ∙ ap (λ (m : Me S View). some m.0) is in
     let same = worker_opening z st.words st.views id v shows here in
     let r = looks z st.words st.views id v shows here there in
-    let P : Opening → Type 0 = λ y. (l : Looked y (get_or st.words 0 0) v) × (l.fields ≡ r.0.fields) in
-    let told : P v.opening = subst P (sym same) (r.0, refl) in
-    let w : View = Worker (looked_view v (sight_of r.0.fields v.worker)) in (
+    let found : ℕ = get_or st.words 0 0 in
+    let w : View = Worker (looked_view v (sight_at z found v.state)) in (
       w,
       keeps,
       tt,
       r.1,
       (
         record {
-          looked = told.0;
-          view = ap (λ (f : Fields). Worker (looked_view v (sight_of f v.worker))) (sym told.1);
+          looked = subst (λ (y : Opening). Looked y found v) (sym same) r.0;
+          view = ap (λ (y : Opening). Worker (looked_view v (sight_at y found v.state))) (sym same);
         },
         ap (λ (m : Me S View). m.1) is,
       ),
     )
 
-pub acknowledging : {S : Type 0} (key : Key) (slots id : ℕ) (me : Me S View) (bit : ℕ)
-    → bit ≡ answer_bit (worker_view_of me.0).worker
+pub acknowledging : {S : Type 0} (key : Key) (slots id : ℕ) (me : Me S View) (more : ℕ)
+    → more ≡ (form_of (worker_view_of me.0).opening.limits.form).answer (worker_view_of me.0).worker
     → me ≡ (Worker (worker_view_of me.0), [])
     → RunsJoined (worker_view_of me.0).state
     → SawEnding (worker_view_of me.0).last
-    → Allows (IsShowing key) slots id me 0 (λ n. bit_or n bit)
+    → Allows (IsShowing key) slots id me 0 (λ n. (n + more) % 2 ^ 64)
     (λ found after. TellsWorker Acknowledges answered_view me.0 after.0 × (after.1 ≡ []))
-acknowledging {S} key slots id me bit bit_is is joined saw = λ st shows _ at _.
+acknowledging {S} key slots id me more more_is is joined saw = λ st shows _ at _.
     let z = opening_of key in
     let v : WorkerSeatView = worker_view_of me.0 in
     let here : get_elem? st.views id ≡ some (Worker v) = at ∙ ap (λ (m : Me S View). some m.0) is in
@@ -98,8 +96,9 @@ acknowledging {S} key slots id me bit bit_is is joined saw = λ st shows _ at _.
       Worker (answered_view v),
       keeps,
       tt,
-      subst (λ (b : ℕ). ShowsSome z (slice_set st.words 0 (bit_or (get_or st.words 0 0) b))
-          (slice_set st.views id (Worker (answered_view v)))) (sym bit_is) r.1,
+      subst (λ (b : ℕ). ShowsSome z (slice_set st.words 0 ((get_or st.words 0 0 + b) % 2 ^ 64))
+          (slice_set st.views id (Worker (answered_view v))))
+          (sym (more_is ∙ ap (λ (y : Opening). (form_of y.limits.form).answer v.worker) same)) r.1,
       (
         record {
           view =
@@ -111,14 +110,14 @@ acknowledging {S} key slots id me bit bit_is is joined saw = λ st shows _ at _.
       ),
     )
 
-pub reporting : {S : Type 0} (key : Key) (slots id : ℕ) (me : Me S View) (bit : ℕ)
-    → bit ≡ answer_bit (worker_view_of me.0).worker
+pub reporting : {S : Type 0} (key : Key) (slots id : ℕ) (me : Me S View) (more : ℕ)
+    → more ≡ (form_of (worker_view_of me.0).opening.limits.form).answer (worker_view_of me.0).worker
     → me ≡ (Worker (worker_view_of me.0), [])
     → RunsSplit (worker_view_of me.0).state
     → SawEnding (worker_view_of me.0).last
-    → Allows (IsShowing key) slots id me 0 (λ n. bit_or n bit)
+    → Allows (IsShowing key) slots id me 0 (λ n. (n + more) % 2 ^ 64)
     (λ found after. TellsWorker Reports answered_view me.0 after.0 × (after.1 ≡ []))
-reporting {S} key slots id me bit bit_is is split saw = λ st shows _ at _.
+reporting {S} key slots id me more more_is is split saw = λ st shows _ at _.
     let z = opening_of key in
     let v : WorkerSeatView = worker_view_of me.0 in
     let here : get_elem? st.views id ≡ some (Worker v) = at ∙ ap (λ (m : Me S View). some m.0) is in
@@ -127,8 +126,9 @@ reporting {S} key slots id me bit bit_is is split saw = λ st shows _ at _.
       Worker (answered_view v),
       keeps,
       tt,
-      subst (λ (b : ℕ). ShowsSome z (slice_set st.words 0 (bit_or (get_or st.words 0 0) b))
-          (slice_set st.views id (Worker (answered_view v)))) (sym bit_is) r.1,
+      subst (λ (b : ℕ). ShowsSome z (slice_set st.words 0 ((get_or st.words 0 0 + b) % 2 ^ 64))
+          (slice_set st.views id (Worker (answered_view v))))
+          (sym (more_is ∙ ap (λ (y : Opening). (form_of y.limits.form).answer v.worker) same)) r.1,
       (
         record {
           view =
@@ -140,13 +140,13 @@ reporting {S} key slots id me bit bit_is is split saw = λ st shows _ at _.
       ),
     )
 
-pub retiring : {S : Type 0} (key : Key) (slots id : ℕ) (me : Me S View) (bit : ℕ)
-    → bit ≡ retirement_bit (worker_view_of me.0).worker
+pub retiring : {S : Type 0} (key : Key) (slots id : ℕ) (me : Me S View) (more : ℕ)
+    → more ≡ (form_of (worker_view_of me.0).opening.limits.form).retirement (worker_view_of me.0).worker
     → me ≡ (Worker (worker_view_of me.0), [])
     → RunsJoined (worker_view_of me.0).state
-    → Allows (IsShowing key) slots id me 0 (λ n. bit_or n bit)
+    → Allows (IsShowing key) slots id me 0 (λ n. (n + more) % 2 ^ 64)
     (λ found after. TellsWorker Retires retired_view me.0 after.0 × (after.1 ≡ []))
-retiring {S} key slots id me bit bit_is is joined = λ st shows _ at _.
+retiring {S} key slots id me more more_is is joined = λ st shows _ at _.
     let z = opening_of key in
     let v : WorkerSeatView = worker_view_of me.0 in
     let here : get_elem? st.views id ≡ some (Worker v) = at ∙ ap (λ (m : Me S View). some m.0) is in
@@ -155,8 +155,9 @@ retiring {S} key slots id me bit bit_is is joined = λ st shows _ at _.
       Worker (retired_view v),
       keeps,
       tt,
-      subst (λ (b : ℕ). ShowsSome z (slice_set st.words 0 (bit_or (get_or st.words 0 0) b))
-          (slice_set st.views id (Worker (retired_view v)))) (sym bit_is) r.1,
+      subst (λ (b : ℕ). ShowsSome z (slice_set st.words 0 ((get_or st.words 0 0 + b) % 2 ^ 64))
+          (slice_set st.views id (Worker (retired_view v))))
+          (sym (more_is ∙ ap (λ (y : Opening). (form_of y.limits.form).retirement v.worker) same)) r.1,
       (
         record {
           view =
@@ -178,17 +179,15 @@ surveying {S} key slots id me is = λ st shows _ at _.
     let same = coord_opening z st.words st.views id c shows here in
     let r = surveys z st.words st.views id c shows here in
     let found : ℕ = get_or st.words 0 0 in
-    let P : Opening → Type 0 = λ y. (l : Surveyed y found c) × (l.fields ≡ r.0.fields) in
-    let told : P c.opening = subst P (sym same) (r.0, refl) in
-    let d : View = Coord (looked_coord c found (coord_sight_of r.0.fields)) in (
+    let d : View = Coord (looked_coord c found (coord_sight_at z found)) in (
       d,
       keeps,
       tt,
       r.1,
       (
         record {
-          surveyed = told.0;
-          view = ap (λ (f : Fields). Coord (looked_coord c found (coord_sight_of f))) (sym told.1);
+          surveyed = subst (λ (y : Opening). Surveyed y found c) (sym same) r.0;
+          view = ap (λ (y : Opening). Coord (looked_coord c found (coord_sight_at y found))) (sym same);
           known = subst (λ (y : Opening). IsKnown y d) (sym same)
               (known_of z _ st.views id (Coord c) d here r.1);
         },
@@ -222,27 +221,24 @@ announcing {S} key slots id me is may = λ st shows _ at _.
       ),
     )
 
-pub releasing : {S : Type 0} (key : Key) (slots id : ℕ) (me : Me S View) (modulus : ℕ) (seen : Fields) (new : ℕ)
-    → modulus ≡ (coord_view_of me.0).opening.limits.modulus
-    → new ≡ packed (released_modulo modulus seen)
-    → IsLawful seen
-    → packed seen ≡ (coord_view_of me.0).word
+pub releasing : {S : Type 0} (key : Key) (slots id : ℕ) (me : Me S View) (seen new : ℕ)
+    → new ≡ (form_of (coord_view_of me.0).opening.limits.form).released seen
+    → seen ≡ (coord_view_of me.0).word
     → me ≡ (Coord (coord_view_of me.0), [])
     → MayRelease (coord_view_of me.0)
     → Allows (IsShowing key) slots id me 0 (λ _. new)
     (λ found after. TellsCoord Releases released_coord me.0 after.0 × (after.1 ≡ []))
-releasing {S} key slots id me modulus seen new modulus_is new_is lawful seen_is is may = λ st shows _ at _.
+releasing {S} key slots id me seen new new_is seen_is is may = λ st shows _ at _.
     let z = opening_of key in
     let c : CoordSeatView = coord_view_of me.0 in
     let here : get_elem? st.views id ≡ some (Coord c) = at ∙ ap (λ (m : Me S View). some m.0) is in
     let same = coord_opening z st.words st.views id c shows here in
-    let r = releases z st.words st.views id c modulus seen
-    (modulus_is ∙ ap (λ (y : Opening). y.limits.modulus) same) shows here may lawful seen_is in (
+    let r = releases z st.words st.views id c seen shows here may seen_is in (
       Coord (released_coord c),
       keeps,
       tt,
       subst (λ (n : ℕ). ShowsSome z (slice_set st.words 0 n) (slice_set st.views id (Coord (released_coord c))))
-          (sym new_is) r.1,
+          (sym (new_is ∙ ap (λ (y : Opening). (form_of y.limits.form).released seen) same)) r.1,
       (
         record {
           view =

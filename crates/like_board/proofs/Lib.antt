@@ -4,6 +4,7 @@ pub mod coordinator
 pub mod Gathering
 pub mod LastCounts
 pub mod InOrder
+pub mod Pushing
 pub mod Meanings
 pub mod Written
 pub mod Opens

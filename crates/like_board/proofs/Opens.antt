@@ -1,7 +1,6 @@
 -- What a new board shows.
 use Rattle.std.proofs.Common.{◌≡◌, ℕ, zero, suc, ◌<◌, ◌-◌, ◌*◌, ◌≤◌, nat_lt, Bool, false, List, [], ◌∷◌, All, length, get_or, subst, ap, sym, ◌∙◌, refl, arith, add-zero}
 use Rattle.std.proofs.lemmas.Bool.{cond-true, lt-ltb, le-ltb}
-use Rattle.std.proofs.Math.Nat.{zero-mod}
 use Rattle.std.proofs.lemmas.List.Elements.{All-nil}
 use mathlib.Core.Option.{some, some-injective, some-ne-none}
 use lib.ListN.{get_elem?}
@@ -16,10 +15,7 @@ use Rattle.like_core.specs.declared.view.View.TheVariants.{Coord}
 use Rattle.like_limits.specs.Limits.{max_count}
 use Rattle.like_core.specs.OpeningLimits.{AreLimits}
 use Rattle.like_core.specs.core.Numbers.{AllIn}
-use Rattle.like_core.specs.word.Word.{packed}
 use Rattle.like_core.specs.core.State.{start, numbers}
-use Rattle.like_core.specs.word.ShownWord.{mask, has_answered, is_gone, shown_fields}
-use Rattle.like_core.specs.views.Sights.{first_fields}
 use Rattle.like_core.specs.views.Views.{fresh_coord}
 use Rattle.like_core.specs.views.Reads.{all_before, IsCounted, HasReads, ReadsFit}
 use Rattle.like_core.specs.views.Layout.{mask_place, word_of}
@@ -28,41 +24,19 @@ use Rattle.like_core.proofs.views.KeptPlaces.{places_open}
 use Rattle.like_core.proofs.core.Reached.{start_reached}
 use Rattle.like_core.proofs.word.Masks.{mask_none}
 use Rattle.like_board.specs.declared.key.Key.{Key}
-use Rattle.like_board.specs.Rule.{opening_of, first_view}
+use Rattle.like_board.specs.Rule.{opening_of, first_view, first_word}
 use Rattle.like_board.proofs.worker.Moves.{counts_none}
-
--- the fields at the start are those of the core's start
-start_fields : (z : Opening) → shown_fields z (start z) ≡ first_fields z.workers
-start_fields z =
-    let P : WorkerState → Type 0 = λ st. has_answered 0 st ≡ false in
-    let Q : WorkerState → Type 0 = λ st. is_gone st ≡ false in
-    let runs : (i : ℕ) → i < z.workers → (start z).state i ≡ Runs 0 =
-    λ i below. cond-true (nat_lt i z.workers) (Runs 0) Gone (lt-ltb i z.workers below) in
-    let answered : mask (λ i. has_answered 0 ((start z).state i)) z.workers ≡ 0 =
-    mask_none (λ i. has_answered 0 ((start z).state i)) z.workers (λ i below. ap (has_answered 0) (runs i below))
-    in
-    let retired : mask (λ i. is_gone ((start z).state i)) z.workers ≡ 0 =
-    mask_none (λ i. is_gone ((start z).state i)) z.workers (λ i below. ap is_gone (runs i below))
-    in
-    λ m. record {
-      kind =
-          0;
-      workers = z.workers;
-      answered = answered m;
-      retired = retired m;
-      number = zero-mod z.limits.modulus m;
-    }
 
 -- a new board shows the core's start
 pub opens : (z : Opening) (words : List ℕ)
     → IsOpening z
     → length words ≡ word_of (length z.counts)
-    → get_or words 0 0 ≡ packed (first_fields z.workers)
+    → get_or words 0 0 ≡ first_word z
     → ((page : ℕ) → page < length z.counts → get_or words (word_of page) 0 ≡ get_or z.counts page 0)
     → get_or words mask_place 0 ≡ 0
-    → ShowsSome z words (Coord (fresh_coord z (packed (first_fields z.workers))) ∷ [])
+    → ShowsSome z words (Coord (fresh_coord z (first_word z)) ∷ [])
 opens z words opening width word pages mask_word =
-    let c : CoordSeatView = fresh_coord z (packed (first_fields z.workers)) in
+    let c : CoordSeatView = fresh_coord z (first_word z) in
     let fits : FitsCoord z (start z) c =
     record {
       seats = record {
@@ -97,7 +71,7 @@ opens z words opening width word pages mask_word =
         published = tt;
         board = record {
           width = width;
-          phase = word ∙ ap packed (sym (start_fields z));
+          phase = word;
           pages = λ page below. pages page below ∙ sym (add-zero (get_or z.counts page 0));
           mask = λ _. mask_word;
         };
@@ -154,7 +128,7 @@ AreFirst words word counts =
 pub opens_key : (key : Key) (counts : List ℕ) (marks : List Bool) (word : ℕ) (items words : List ℕ)
     → key.counts.items ≡ counts
     → key.marks.items ≡ marks
-    → word ≡ packed (first_fields key.workers)
+    → word ≡ first_word (opening_of key)
     → words ≡ items
     → AreFirst items word counts
     → 1 ≤ key.workers

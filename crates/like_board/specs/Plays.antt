@@ -1,4 +1,7 @@
 use Rattle.std.specs.Prelude.{◌≡◌, ℕ, ◌<◌, ◌≤◌, true}
+use Rattle.like_core.specs.declared.worker_state.WorkerState.{WorkerState}
+use Rattle.like_core.specs.declared.sight.Sight.{Sight}
+use Rattle.like_core.specs.declared.sight.CoordSight.{CoordSight}
 use Rattle.like_core.specs.declared.event.Event.TheVariants.{Look, CoordLook}
 use Rattle.like_core.specs.declared.shown.Shown.TheVariants.{Seen, Coord as CoordShown}
 use Rattle.like_core.specs.declared.opening.Opening.{Opening}
@@ -8,10 +11,9 @@ use Rattle.like_core.specs.declared.view.View.{View}
 use Rattle.like_core.specs.declared.view.View.TheVariants.{Coord, Worker}
 use Rattle.like_core.specs.Phase.{IsSplit}
 use Rattle.like_limits.specs.Limits.{total_bound}
-use Rattle.like_core.specs.OpeningLimits.{number_of}
-use Rattle.like_core.specs.word.Word.{Fields, packed, IsLawful}
-use Rattle.like_core.specs.views.Sights.{sight_of, coord_sight_of}
-use Rattle.like_core.specs.WorkerState.{IsSightWithin, SeesEndingStill, phase_of, seen}
+use Rattle.like_core.specs.word.Forms.{form_of}
+use Rattle.like_core.specs.views.Sights.{sight_in, coord_sight_in}
+use Rattle.like_core.specs.WorkerState.{IsSightOf, SeesEndingStill, phase_of, seen, turn_of}
 use Rattle.like_core.specs.Additions.{added_to}
 use Rattle.like_core.specs.views.Views.{looked_view, added_view, masked_view, looked_coord, counted_coord}
 use Rattle.like_core.specs.views.Layout.{word_of}
@@ -19,40 +21,41 @@ use Rattle.like_core.specs.views.Shows.{IsKnown, IsStep}
 use Rattle.like_core.specs.views.Actions.{Adds, ReadsMask, Counts}
 use Rattle.like_board.specs.Known.{worker_view_of, coord_view_of}
 
--- what a worker's look finds and shows
+-- what a worker in this state sees in a phase word of this opening
+abbrev pub sight_at : Opening → ℕ → WorkerState → Sight
+sight_at z word state = sight_in (form_of z.limits.form) (turn_of state) word
+
+-- what the coordinator sees there
+abbrev pub coord_sight_at : Opening → ℕ → CoordSight
+coord_sight_at z word = coord_sight_in (form_of z.limits.form) z.workers word
+
+-- what a worker's look at this word shows
 pub record Looked (z : Opening) (found : ℕ) (v : WorkerSeatView) : Type 0 where
-  pub fields : Fields
-  pub lawful : IsLawful fields
-  pub found_is : found ≡ packed fields
-  pub can : IsSightWithin z.limits v.state (sight_of fields v.worker)
-  pub within : phase_of (seen v.state (sight_of fields v.worker)) ≤ z.limits.last_phase
-  pub ending : SeesEndingStill v.state v.last (sight_of fields v.worker)
-  pub step : let sight = sight_of fields v.worker in
+  pub can : IsSightOf v.state (sight_at z found v.state)
+  pub within : phase_of (seen v.state (sight_at z found v.state)) ≤ z.limits.last_phase
+  pub ending : SeesEndingStill v.state v.last (sight_at z found v.state)
+  pub step : let sight = sight_at z found v.state in
       IsStep z (Look v.worker) (Seen sight) (Worker v) (Worker (looked_view v sight))
 
--- what the coordinator's look finds and shows
+-- what the coordinator's look at this word shows
 pub record Surveyed (z : Opening) (found : ℕ) (c : CoordSeatView) : Type 0 where
-  pub fields : Fields
-  pub lawful : IsLawful fields
-  pub found_is : found ≡ packed fields
-  pub number : (coord_sight_of fields).number ≡ number_of z.limits c.phase
+  pub number : (coord_sight_at z found).number ≡ c.phase
   pub within : c.phase ≤ z.limits.last_phase
-  pub ending : (coord_sight_of fields).ending ≡ c.ending
-  pub all_in : c.all_in ≡ true → (coord_sight_of fields).all_in ≡ true
-  pub gone : IsSplit c.phase → (coord_sight_of fields).all_gone ≡ true → c.gone ≡ true
-  pub step : let sight = coord_sight_of fields in
+  pub ending : (coord_sight_at z found).ending ≡ c.ending
+  pub all_in : c.all_in ≡ true → (coord_sight_at z found).all_in ≡ true
+  pub gone : IsSplit c.phase → (coord_sight_at z found).all_gone ≡ true → c.gone ≡ true
+  pub step : let sight = coord_sight_at z found in
       IsStep z CoordLook (CoordShown sight) (Coord c) (Coord (looked_coord c found sight))
 
 -- what a worker's look tells: of the view before, the word found and the view after
 pub record TellsLook (v : View) (found : ℕ) (w : View) : Type 0 where
   pub looked : Looked (worker_view_of v).opening found (worker_view_of v)
-  pub view : let me = worker_view_of v in
-      w ≡ Worker (looked_view me (sight_of looked.fields me.worker))
+  pub view : let me = worker_view_of v in w ≡ Worker (looked_view me (sight_at me.opening found me.state))
 
 -- what the coordinator's look tells
 pub record TellsSurvey (v : View) (found : ℕ) (w : View) : Type 0 where
   pub surveyed : Surveyed (coord_view_of v).opening found (coord_view_of v)
-  pub view : w ≡ Coord (looked_coord (coord_view_of v) found (coord_sight_of surveyed.fields))
+  pub view : let me = coord_view_of v in w ≡ Coord (looked_coord me found (coord_sight_at me.opening found))
   pub known : IsKnown (coord_view_of v).opening w
 
 -- what a worker does, as a relation of its views

@@ -4,8 +4,8 @@ use Rattle.like_core.specs.declared.opening.Opening.{Opening}
 use Rattle.like_core.specs.declared.view.CoordSeatView.{CoordSeatView}
 use Rattle.like_core.specs.declared.view.View.{View}
 use Rattle.like_core.specs.declared.view.View.TheVariants.{Coord}
-use Rattle.like_core.specs.word.Word.{packed}
-use Rattle.like_core.specs.views.Sights.{first_fields}
+use Rattle.like_core.specs.core.State.{start}
+use Rattle.like_core.specs.word.ShownWord.{shown_word}
 use Rattle.like_core.specs.views.Views.{fresh_coord}
 use Rattle.like_core.specs.views.Shows.{ShowsSome}
 use Rattle.like_board.specs.declared.key.Key.{Key}
@@ -22,7 +22,7 @@ IsShowing key s = ShowsSome (opening_of key) s.words s.views
 
 -- the phase word of a new board
 abbrev pub first_word : Opening → ℕ
-first_word z = packed (first_fields z.workers)
+first_word z = shown_word z (start z)
 
 -- the coordinator's view of a new board, once it made each worker's seat
 abbrev pub opened_coord : Opening → CoordSeatView

@@ -9,7 +9,7 @@ use crate::new_seats::make_seats;
 use crate::rule::BoardRule;
 use crate::worker_seat::WorkerSeat;
 use atomic_table::Table;
-use like_core::{Limits, PhaseWord, View};
+use like_core::{Limits, View};
 use std::alloc::{AllocError, Global};
 
 /// The phase word, the mask word and one word per page, which threads share.
@@ -70,8 +70,8 @@ impl Board {
         ensures views { IfOk result (λ r.
             AreFresh (board_id r.0) (opening_with limits workers counts.now split.now) r.2.items) }
     {
-        let first = PhaseWord::first(workers);
-        let words = first_words(alloc, first.pack(), counts)?;
+        let first = limits.form.first(workers);
+        let words = first_words(alloc, first, counts)?;
         let key = Key {
             workers,
             counts: Vec::from_slice(alloc, counts)?,
@@ -80,10 +80,11 @@ impl Board {
         };
         let (table, mut seat) = Table::of_words(alloc, words.as_slice(), &key)?;
         let board = Board { table };
-        let seats = make_seats(alloc, &board, &mut seat, workers)?;
+        let seats = make_seats(alloc, &board, &mut seat, workers, limits.form)?;
         let coord = CoordSeat {
             seat,
             seen: first,
+            workers,
             phase: 0,
             limits,
         };

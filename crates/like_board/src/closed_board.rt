@@ -28,7 +28,7 @@ fn gather(board: &Board, coord: &mut Seat<(), View>, mut seats: Vec<WorkerSeat>)
         (Coord (gathered_all (coord_view_of coord.old.me.0) (map seat_view seats.items)), []) }
 {
     while let Some(seat) = seats.pop() {
-        let WorkerSeat { seat, number: _ } = seat;
+        let WorkerSeat { seat, .. } = seat;
         board.table.shared.join_seat::<Gathers>(coord, seat);
     }
 }

@@ -1,31 +1,33 @@
 ghost use Rattle.std.specs.Prelude.{◌≡◌, ◌^◌, ◌<◌, ◌≤◌, ◌↔◌, true, [], length, IsSome, IsTrue};
-ghost use Rattle.std.specs.Option.{option_map};
 ghost use Rattle.like_core.specs.declared.view.View.TheVariants.{Coord};
-ghost use Rattle.like_core.specs.OpeningLimits.{AreLimits, number_of};
-ghost use Rattle.like_core.specs.word.Word.{packed};
-ghost use Rattle.like_core.specs.word.PhaseWord.{fields_of};
+ghost use Rattle.like_core.specs.OpeningLimits.{AreLimits};
+ghost use Rattle.like_core.specs.word.Forms.{form_of};
 ghost use Rattle.like_core.specs.views.Layout.{word_of};
-ghost use Rattle.like_core.specs.views.Sights.{coord_sight_of};
 ghost use Rattle.like_board.specs.Known.{coord_view_of};
 
 use crate::board::Board;
 use crate::layout::{MASK_WORD, PHASE_WORD, word_of};
 use crate::plays::{Announcing, Counting, Publishing, Releasing, Surveying};
 use atomic_table::Seat;
-use like_core::{CoordSight, Limits, PhaseWord, View};
+use like_core::{CoordSight, Limits, View};
 
 /// The coordinator's right to step on a board.
 #[derive(Drop)]
 pub struct CoordSeat {
     pub(crate) seat: Seat<(), View>,
     /// The phase word that it saw last.
-    pub(crate) seen: PhaseWord,
+    pub(crate) seen: u64,
+    /// How many workers there are.
+    pub(crate) workers: u32,
     /// The present phase.
     pub(crate) phase: u64,
     /// The limits of its board.
     pub(crate) limits: Limits,
     ghost is_coord: { seat.me ≡ (Coord (coord_view_of seat.me.0), []) },
-    ghost saw: { packed (fields_of seen) ≡ (coord_view_of seat.me.0).word },
+    ghost saw: { seen ≡ (coord_view_of seat.me.0).word },
+    ghost told: { IsSome (coord_view_of seat.me.0).last → (form_of limits.form).phase_in seen ≤ limits.last_phase },
+    ghost all: { workers ≡ (coord_view_of seat.me.0).opening.workers },
+    ghost few: { workers ≤ limits.seats },
     ghost sized: { seat.table_id.words ≡ word_of (length (coord_view_of seat.me.0).opening.counts) },
     ghost few_pages: { length (coord_view_of seat.me.0).opening.counts < 2 ^ 32 },
     ghost present: { phase ≡ (coord_view_of seat.me.0).phase },
@@ -34,8 +36,6 @@ pub struct CoordSeat {
     ghost none_back: { (coord_view_of seat.me.0).joined ≡ [] },
     ghost limited: { limits ≡ (coord_view_of seat.me.0).opening.limits },
     ghost lawful: { AreLimits limits },
-    ghost showed: { let last = (coord_view_of seat.me.0).last in
-        option_map (λ _. coord_sight_of (fields_of seen)) last ≡ last },
 }
 
 impl CoordSeat {
@@ -45,7 +45,7 @@ impl CoordSeat {
     ghost use Rattle.like_core.specs.views.Shows.{IsKnown};
     ghost use Rattle.like_board.specs.Seats.{board_id, coord_board, coord_view};
 
-    /// The present phase. In a phase word stands only its number.
+    /// The present phase.
     pub fn phase(&self) -> u64
         ensures { result ≡ (coord_view self.now).phase }
     {
@@ -64,7 +64,7 @@ impl CoordSeat {
         requires { coord_board self.old ≡ board_id board.now }
         ensures board { coord_board self.new ≡ coord_board self.old }
         ensures view { coord_view self.new ≡ looked_coord (coord_view self.old) (coord_view self.new).word result }
-        ensures number { let c = coord_view self.old in result.number ≡ number_of c.opening.limits c.phase }
+        ensures number { let c = coord_view self.old in result.number ≡ c.phase }
         ensures within { let c = coord_view self.old in c.phase ≤ c.opening.limits.last_phase }
         ensures ending { result.ending ≡ (coord_view self.old).ending }
         ensures all_in { (coord_view self.old).all_in ≡ true → result.all_in ≡ true }
@@ -76,8 +76,8 @@ impl CoordSeat {
             .table
             .shared
             .load::<Surveying>(&mut self.seat, PHASE_WORD);
-        self.seen = PhaseWord::of_packed(word);
-        self.seen.coord_sight()
+        self.seen = word;
+        self.limits.form.coord_sight_in(word, self.workers)
     }
 
     /// Announces the end of the phase.
@@ -129,11 +129,11 @@ impl CoordSeat {
         ensures view { coord_view self.new ≡ released_coord (coord_view self.old) }
         ensures event { Releases (coord_view self.old) (coord_view self.new) }
     {
-        let next = self.seen.released_modulo(self.limits.modulus);
+        let next = self.limits.form.released(self.seen);
         board
             .table
             .shared
-            .store::<Releasing>(&mut self.seat, PHASE_WORD, next.pack());
+            .store::<Releasing>(&mut self.seat, PHASE_WORD, next);
         self.phase += 1;
     }
 }

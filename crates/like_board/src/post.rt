@@ -37,7 +37,7 @@ impl<B: HoldsBoard + Drop> PostAt<B> {
 impl<B: HoldsBoard> Post for PostAt<B> {
     ghost use Rattle.like_core.specs.declared.worker_state.WorkerState.TheVariants.{Gone};
     ghost use Rattle.like_limits.specs.Limits.{total_bound};
-    ghost use Rattle.like_core.specs.WorkerState.{RunsJoined, RunsSplit, SawEnding, IsSightWithin, SeesEndingStill, phase_of, seen};
+    ghost use Rattle.like_core.specs.WorkerState.{RunsJoined, RunsSplit, SawEnding, IsSightOf, SeesEndingStill, phase_of, seen};
     ghost use Rattle.like_core.specs.Post.{looked_at, answered, retired, added, has_read, has_glanced, with_mask, additions_of, MayAdd, MayRead, MayGlance};
     ghost use Rattle.like_core.specs.views.Views.{looked_view, answered_view, retired_view, added_view, read_view, glanced_view, masked_view};
     ghost use Rattle.like_core.specs.views.Actions.{Looks, Acknowledges, Reports, Retires, Adds, Reads, Glances, ReadsMask};
@@ -48,7 +48,7 @@ impl<B: HoldsBoard> Post for PostAt<B> {
     #[inline(always)]
     fn look(&mut self) -> Sight
         requires { (post_meaning self.old).state ≢ Gone }
-        ensures sight { let v = post_meaning self.old in IsSightWithin v.limits v.state result }
+        ensures sight { IsSightOf (post_meaning self.old).state result }
         ensures within { let v = post_meaning self.old in phase_of (seen v.state result) ≤ v.limits.last_phase }
         ensures view { post_meaning self.new ≡ looked_at (post_meaning self.old) result }
         ensures ending { SeesEndingStill (post_meaning self.old).state (post_meaning self.old).last result }

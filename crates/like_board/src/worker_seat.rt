@@ -1,7 +1,9 @@
 ghost use Rattle.std.specs.Prelude.{◌≡◌, ◌≢◌, ◌<◌, ◌≤◌, [], length};
 ghost use Rattle.std.specs.Arc.{arc_value};
 ghost use Rattle.like_core.specs.declared.view.View.TheVariants.{Worker};
-ghost use Rattle.like_limits.specs.Limits.{max_workers, total_bound};
+ghost use Rattle.like_limits.specs.Limits.{total_bound};
+ghost use Rattle.like_core.specs.OpeningLimits.{most_seats};
+ghost use Rattle.like_core.specs.WorkerState.{turn_of};
 ghost use Rattle.like_core.specs.views.Layout.{word_of};
 ghost use Rattle.like_board.specs.Known.{worker_view_of};
 
@@ -12,7 +14,7 @@ use crate::plays::{
 };
 use crate::post::{BoardPost, PostAt, SharedPost};
 use atomic_table::Seat;
-use like_core::{PhaseWord, Sight, View};
+use like_core::{Form, Sight, View};
 use std::sync::Arc;
 
 /// The same value, of a type that any thread may take.
@@ -27,15 +29,21 @@ fn for_any_thread<T: Send>(value: T) -> T
 pub struct WorkerSeat {
     pub(crate) seat: Seat<(), View>,
     pub(crate) number: u32,
+    /// The form of its board's phase word.
+    pub(crate) form: Form,
+    /// Whether it has answered an odd phase last: 1 or 0. Who runs a phase has answered the one before.
+    pub(crate) turn: u64,
     ghost is_worker: { seat.me ≡ (Worker (worker_view_of seat.me.0), []) },
     ghost numbered: { number ≡ (worker_view_of seat.me.0).worker },
-    ghost few: { number < max_workers },
+    ghost formed: { form ≡ (worker_view_of seat.me.0).opening.limits.form },
+    ghost few: { number < most_seats form },
+    ghost turned: { turn ≡ turn_of (worker_view_of seat.me.0).state },
     ghost sized: { seat.table_id.words ≡ word_of (length (worker_view_of seat.me.0).opening.marks) },
 }
 
 impl WorkerSeat {
     ghost use Rattle.like_core.specs.declared.worker_state.WorkerState.TheVariants.{Gone};
-    ghost use Rattle.like_core.specs.WorkerState.{IsSightWithin, RunsJoined, RunsSplit, SawEnding, SeesEndingStill, phase_of, seen};
+    ghost use Rattle.like_core.specs.WorkerState.{IsSightOf, RunsJoined, RunsSplit, SawEnding, SeesEndingStill, phase_of, seen};
     ghost use Rattle.like_core.specs.Post.{MayAdd, MayRead, MayGlance};
     ghost use Rattle.like_core.specs.Additions.{added_to};
     ghost use Rattle.like_core.specs.views.Views.{looked_view, answered_view, retired_view, added_view, read_view, glanced_view, masked_view};
@@ -68,7 +76,7 @@ impl WorkerSeat {
         requires there { (seat_view self.old).state ≢ Gone }
         ensures board { seat_board self.new ≡ seat_board self.old }
         ensures view { seat_view self.new ≡ looked_view (seat_view self.old) result }
-        ensures sight { let v = seat_view self.old in IsSightWithin v.opening.limits v.state result }
+        ensures sight { IsSightOf (seat_view self.old).state result }
         ensures within { let v = seat_view self.old in phase_of (seen v.state result) ≤ v.opening.limits.last_phase }
         ensures ending { SeesEndingStill (seat_view self.old).state (seat_view self.old).last result }
         ensures event { Looks (seat_view self.old) result (seat_view self.new) }
@@ -77,7 +85,7 @@ impl WorkerSeat {
             .table
             .shared
             .load::<Looking>(&mut self.seat, PHASE_WORD);
-        PhaseWord::sight_in(word, self.number)
+        self.form.sight_in(word, self.turn)
     }
 
     pub(crate) fn acknowledge(&mut self, board: &Board)
@@ -88,11 +96,12 @@ impl WorkerSeat {
         ensures view { seat_view self.new ≡ answered_view (seat_view self.old) }
         ensures event { Acknowledges (seat_view self.old) (seat_view self.new) }
     {
-        let bit = PhaseWord::answer_bit(self.number);
+        let answer = self.form.answer(self.number);
         board
             .table
             .shared
-            .fetch_or::<Acknowledging>(&mut self.seat, PHASE_WORD, bit);
+            .fetch_add::<Acknowledging>(&mut self.seat, PHASE_WORD, answer);
+        self.turn = 0;
     }
 
     pub(crate) fn report(&mut self, board: &Board)
@@ -103,11 +112,12 @@ impl WorkerSeat {
         ensures view { seat_view self.new ≡ answered_view (seat_view self.old) }
         ensures event { Reports (seat_view self.old) (seat_view self.new) }
     {
-        let bit = PhaseWord::answer_bit(self.number);
+        let answer = self.form.answer(self.number);
         board
             .table
             .shared
-            .fetch_or::<Reporting>(&mut self.seat, PHASE_WORD, bit);
+            .fetch_add::<Reporting>(&mut self.seat, PHASE_WORD, answer);
+        self.turn = 1;
     }
 
     pub(crate) fn retire(&mut self, board: &Board)
@@ -117,11 +127,11 @@ impl WorkerSeat {
         ensures view { seat_view self.new ≡ retired_view (seat_view self.old) }
         ensures event { Retires (seat_view self.old) (seat_view self.new) }
     {
-        let bit = PhaseWord::retirement_bit(self.number);
+        let retirement = self.form.retirement(self.number);
         board
             .table
             .shared
-            .fetch_or::<Retiring>(&mut self.seat, PHASE_WORD, bit);
+            .fetch_add::<Retiring>(&mut self.seat, PHASE_WORD, retirement);
     }
 
     #[inline(always)]

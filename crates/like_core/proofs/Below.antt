@@ -1,7 +1,9 @@
-use Rattle.std.proofs.Common.{◌≡◌, ℕ, zero, suc, ◌-◌, ◌^◌, ◌<◌, ◌==◌, ◌&&◌, ◌||◌, ◌⊎◌, bit_or, max, subst, inl, inr, Bool, true, false, ap, sym, ◌∙◌, refl, eq-eqb, arith}
+use Rattle.std.proofs.Common.{◌≡◌, ℕ, zero, suc, ◌+◌, ◌-◌, ◌*◌, ◌/◌, ◌%◌, ◌^◌, ◌<◌, ◌==◌, ◌&&◌, ◌||◌, ◌⊎◌, bit_and, bit_or, max, subst, inl, inr, Bool, true, false, ap, sym, ◌∙◌, refl, eq-eqb, arith}
 use Rattle.std.specs.Int.{bit_at}
 use Rattle.std.proofs.lemmas.Bool.{cases_eq, eqb-true}
-use Rattle.std.proofs.lemmas.Nat.Bits.{bit_at-lt, bit_at_or, bit_at_ones, same_from_bits_below}
+use Rattle.std.proofs.Math.Nat.{mod-add-div'}
+use Rattle.std.proofs.lemmas.Nat.{and_mask, mod_below, pow_pos}
+use Rattle.std.proofs.lemmas.Nat.Bits.{bit_at-lt, bit_at_cat_low, bit_at_or, bit_at_ones, same_from_bits_below}
 use Rattle.like_core.specs.Functions.{each_below, has_bit}
 
 -- both tests say yes
@@ -77,3 +79,14 @@ either_bit a b a_below b_below =
 pub has_bit-or : (a b i : ℕ) → has_bit (bit_or a b) i ≡ (has_bit a i || has_bit b i)
 has_bit-or a b i =
     ap (λ k. k == 1) (bit_at_or a b i) ∙ either_bit (bit_at a i) (bit_at b i) (bit_at-lt a i) (bit_at-lt b i)
+
+-- a number has each bit below n just where its lowest n bits are all that there are
+pub low_bits : (mask n : ℕ) → (bit_and mask (2 ^ n - 1) == 2 ^ n - 1) ≡ each_below (has_bit mask) n
+low_bits mask n =
+    let low : ℕ = mask % 2 ^ n in
+    let parts : mask ≡ mask / 2 ^ n * 2 ^ n + low = omega (arith, mod-add-div' mask (2 ^ n)) in
+    ap (λ (k : ℕ). k == 2 ^ n - 1) (and_mask mask n) ∙
+    full_bits low n (mod_below mask (2 ^ n) (pow_pos n)) ∙
+    each_below-same (has_bit low) (has_bit mask) n
+    (λ i below. ap (λ (b : ℕ). b == 1)
+    (sym (ap (λ (k : ℕ). bit_at k i) parts ∙ bit_at_cat_low (mask / 2 ^ n) n low i below)))

@@ -9,5 +9,4 @@ pub mod Reached
 pub mod InPhase
 pub mod GivenLikes
 pub mod CoreReached
-pub mod Unanswered
 pub mod Adding

@@ -4,5 +4,4 @@ pub mod ViewLists
 pub mod KeptReads
 pub mod KeptPlaces
 pub mod Apart
-pub mod Sights
 pub mod Ends

@@ -1,8 +1,9 @@
--- The phase word: its fields, its steps and its masks.
+-- The phase word: its fields, its steps, its masks and its two forms.
 pub mod WordParts
-pub mod WordSteps
-pub mod FromFields
 pub mod Masks
-pub mod Numbering
-pub mod ShownEvents
+pub mod HowMany
+pub mod States
+pub mod Bits
+pub mod Counts
+pub mod Serving
 pub mod KindTells

@@ -1,10 +1,8 @@
-use Rattle.std.specs.Prelude.{◌≡◌, ℕ, ◌+◌, ◌≤◌, nat_lt, true, false, if◌then◌else◌, Option, IfSome, IsSomeAnd, MatchBool}
+use Rattle.std.specs.Prelude.{◌≡◌, ℕ, ◌+◌, ◌%◌, ◌≤◌, nat_lt, true, false, if◌then◌else◌, Option, IfSome, IsSomeAnd, MatchBool}
 use Rattle.like_core.specs.declared.worker_state.WorkerState.{WorkerState}
 use Rattle.like_core.specs.declared.worker_state.WorkerState.TheVariants.{Runs, Answered, Gone}
 use Rattle.like_core.specs.declared.sight.Sight.{Sight}
-use Rattle.like_core.specs.declared.limits.Limits.{Limits}
 use Rattle.like_core.specs.Phase.{IsJoined, IsSplit}
-use Rattle.like_core.specs.OpeningLimits.{number_of}
 
 -- the worker has answered this phase, or is gone
 abbrev pub IsIn : ℕ → WorkerState → Type 0
@@ -36,26 +34,25 @@ RunsJoined s = RunsSome IsJoined s
 abbrev pub RunsSplit : WorkerState → Type 0
 RunsSplit s = RunsSome IsSplit s
 
+-- 1 if the phase that it has answered last is odd, and 0 if it is even. Who runs a phase has answered the one before
+abbrev pub turn_of : WorkerState → ℕ
+turn_of (Runs phase) = (phase + 1) % 2
+turn_of (Answered phase) = phase % 2
+turn_of Gone = 1
+
 -- the phase that the worker runs or has answered
 abbrev pub phase_of : WorkerState → ℕ
 phase_of (Runs phase) = phase
 phase_of (Answered phase) = phase
 phase_of Gone = 0
 
--- what a worker in this state can see, if numbers are phases, as in a run: one that runs a phase sees that phase; one
--- that has answered a phase sees that phase and waits, or sees the next and runs it
+-- what a worker in this state can see: one that runs a phase sees that phase; one that has answered a phase sees that
+-- phase and waits, or sees the next and runs it
 abbrev pub IsSightOf : WorkerState → Sight → Type 0
 IsSightOf (Runs phase) sight = (sight.number ≡ phase) × (sight.waits ≡ false)
 IsSightOf (Answered phase) sight =
     MatchBool sight.waits (sight.number ≡ phase) (sight.number ≡ phase + 1)
 IsSightOf Gone sight = ⊥
-
--- the same within these limits, by the phases' numbers
-abbrev pub IsSightWithin : Limits → WorkerState → Sight → Type 0
-IsSightWithin l (Runs phase) sight = (sight.number ≡ number_of l phase) × (sight.waits ≡ false)
-IsSightWithin l (Answered phase) sight =
-    MatchBool sight.waits (sight.number ≡ number_of l phase) (sight.number ≡ number_of l (phase + 1))
-IsSightWithin l Gone sight = ⊥
 
 -- the worker's state after a sight
 abbrev pub seen : WorkerState → Sight → WorkerState

@@ -6,4 +6,5 @@ pub mod Tallies
 pub mod Places
 pub mod Layout
 pub mod Shows
+pub mod Serves
 pub mod Actions

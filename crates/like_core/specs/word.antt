@@ -2,5 +2,6 @@
 pub mod Kind
 pub mod Word
 pub mod PhaseWord
+pub mod Forms
 pub mod ShownWord
 pub mod KindTells

@@ -1,9 +1,11 @@
 //! Laws of the core's states, of the views of seats and of the places of a board's words. Each is the contract of a
 //! function that does nothing.
+ghost use Rattle.like_core.specs.declared.form.Form.TheVariants.{Bits, Counts};
 ghost use Rattle.like_core.specs.core.Exclusive.{ReachableIsExclusive};
 ghost use Rattle.like_core.specs.core.Likes.{LikesStayReachable, NoneHoldsWhileJoined};
 ghost use Rattle.like_core.specs.views.Layout.{WordsStandApart};
 ghost use Rattle.like_core.specs.views.Shows.{CountsAreOfOneMoment};
+ghost use Rattle.like_core.specs.views.Serves.{AllGoneCounts, AllInCounts, AnswersOne, FormServes, RetiresOne, WordTellsPhase};
 ghost use Rattle.like_core.specs.word.KindTells.{KindTellsPhase};
 ghost use Rattle.like_core.specs.views.Places.{AdditionKeepsPlaces, ReadKeepsPlaces, GlanceKeepsPlaces, JoinKeepsPlaces};
 ghost use Rattle.like_core.specs.views.Reads.{AdditionKeepsReads, ReadKeepsReads, GlanceKeepsReads, JoinKeepsReads};
@@ -24,8 +26,7 @@ pub fn none_holds_while_joined()
     ensures { NoneHoldsWhileJoined }
 {}
 
-/// A worker that has answered phase j tells j from j + 1 by the kind of the phase word. It is in no other phase, so it
-/// takes none for a later one whose word has the same number.
+/// A worker that has answered phase j tells j from j + 1 by the kind of the phase word. It is in no other phase.
 pub fn kind_tells_phase()
     ensures { KindTellsPhase }
 {}
@@ -82,4 +83,39 @@ pub fn counts_are_of_one_moment()
 /// the first 64 pages have 128 bytes each to themselves, so no two of them share a cache line of 64 or 128 bytes.
 pub fn words_stand_apart()
     ensures { WordsStandApart }
+{}
+
+/// The word of a program serves: it has a place for each phase and two bits for each worker.
+pub fn bits_serve()
+    ensures { FormServes Bits }
+{}
+
+/// The word of a service serves: a worker that answers adds 1 to a count, and no count carries into its neighbour.
+pub fn counts_serve()
+    ensures { FormServes Counts }
+{}
+
+/// An answer raises the count of those that have answered by one, and no other.
+pub fn answers_one()
+    ensures { AnswersOne }
+{}
+
+/// A retirement raises the count of those gone by one, and no other.
+pub fn retires_one()
+    ensures { RetiresOne }
+{}
+
+/// All are in just where those that have answered and those gone are together all workers.
+pub fn all_in_counts()
+    ensures { AllInCounts }
+{}
+
+/// All are gone just where those gone are all workers.
+pub fn all_gone_counts()
+    ensures { AllGoneCounts }
+{}
+
+/// A phase word is that of one phase alone.
+pub fn word_tells_phase()
+    ensures { WordTellsPhase }
 {}

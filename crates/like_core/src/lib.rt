@@ -6,6 +6,7 @@
 #![tactic(auto)]
 
 mod event;
+mod form;
 mod hot;
 pub mod laws;
 mod limits;
@@ -19,6 +20,7 @@ mod view;
 mod worker_state;
 
 pub use event::Event;
+pub use form::Form;
 pub use hot::{HOT_PAGES, is_hot};
 pub use limits::Limits;
 pub use opening::Opening;

@@ -2,8 +2,6 @@ ghost use Rattle.std.specs.Prelude.{◌≡◌, ◌↔◌, IsSome, IfSome, IsSome
 ghost use Rattle.like_core.specs.word.Word.{word_fields, packed, IsLawful};
 
 mod kind;
-mod sights;
-mod steps;
 
 pub use kind::Kind;
 
@@ -14,13 +12,13 @@ pub const LAST_PHASE: u32 = 16_777_214;
 const MAX_WORKERS: u32 = 16;
 
 // Where each field begins in the one number that holds all, from its lowest bit; the kind begins at bit 0.
-const WORKERS_AT: u32 = 2;
+pub(crate) const WORKERS_AT: u32 = 2;
 
-const ANSWERED_AT: u32 = 8;
+pub(crate) const ANSWERED_AT: u32 = 8;
 
-const RETIRED_AT: u32 = 24;
+pub(crate) const RETIRED_AT: u32 = 24;
 
-const NUMBER_AT: u32 = 40;
+pub(crate) const NUMBER_AT: u32 = 40;
 
 /// The phase word, unpacked. Bit `i` of `answered` says that worker `i` acknowledged or reported in this phase, bit
 /// `i` of `retired` that it retired.

@@ -1,7 +1,7 @@
 ghost use Rattle.std.specs.Prelude.{◌≡◌, ◌≢◌, ◌<◌, ◌≤◌, true};
 ghost use Rattle.like_core.specs.declared.worker_state.WorkerState.TheVariants.{Gone};
 ghost use Rattle.like_limits.specs.Limits.{total_bound};
-ghost use Rattle.like_core.specs.WorkerState.{RunsJoined, RunsSplit, SawEnding, IsSightWithin, SeesEndingStill, phase_of, seen};
+ghost use Rattle.like_core.specs.WorkerState.{RunsJoined, RunsSplit, SawEnding, IsSightOf, SeesEndingStill, phase_of, seen};
 ghost use Rattle.like_core.specs.Post.{PostView, looked_at, answered, retired, added, has_read, has_glanced, with_mask, additions_of, MayAdd, MayRead, MayGlance};
 
 use crate::sight::Sight;
@@ -17,7 +17,7 @@ pub trait Post {
     /// ending phase that a worker runs stays so until the worker answers or retires.
     fn look(&mut self) -> Sight
         requires { (view self.old).state ≢ Gone }
-        ensures sight { IsSightWithin (view self.old).limits (view self.old).state result }
+        ensures sight { IsSightOf (view self.old).state result }
         ensures within { phase_of (seen (view self.old).state result) ≤ (view self.old).limits.last_phase }
         ensures view { view self.new ≡ looked_at (view self.old) result }
         ensures ending { SeesEndingStill (view self.old).state (view self.old).last result };

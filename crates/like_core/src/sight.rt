@@ -1,8 +1,8 @@
 /// What a worker sees by a look at the phase word.
 #[derive(Clone, Copy, PartialEq, Eq)]
 pub struct Sight {
-    /// The number in the phase word: in a run the present phase, else that phase modulo the modulus of its limits.
-    pub number: u32,
+    /// The present phase.
+    pub number: u64,
     /// Whether its end was announced.
     pub ending: bool,
     /// Whether this worker has answered it and waits for the next.
@@ -12,8 +12,8 @@ pub struct Sight {
 /// What the coordinator sees by a look at the phase word.
 #[derive(Clone, Copy, PartialEq, Eq)]
 pub struct CoordSight {
-    /// The number in the phase word, as in a worker's sight.
-    pub number: u32,
+    /// The present phase.
+    pub number: u64,
     /// Whether its end was announced.
     pub ending: bool,
     /// Whether each worker has answered it or is gone.

@@ -6,8 +6,7 @@ use Rattle.std.proofs.lemmas.List.{get_or-set_other, get_or-set_same, length-set
 use Rattle.like_core.specs.declared.sight.Sight.{Sight}
 use Rattle.like_core.specs.declared.worker_state.WorkerState.{WorkerState}
 use Rattle.like_core.specs.declared.worker_state.WorkerState.TheVariants as state
-use Rattle.like_core.specs.WorkerState.{IsSightWithin, RunsSplit, seen}
-use Rattle.like_core.specs.declared.limits.Limits.{Limits}
+use Rattle.like_core.specs.WorkerState.{IsSightOf, RunsSplit, seen}
 use Rattle.like_requests.specs.declared.verdict.Verdict.TheVariants.{Accepted, UnknownUser}
 use Rattle.like_requests.specs.declared.verdict.Verdict.{Verdict}
 use Rattle.like_seat.specs.SeatView.{SeatView}
@@ -81,14 +80,14 @@ IsQuiet-both v now after a b = record {
 }
 
 -- a look leaves a worker that is there
-seen-there : (l : Limits) (s : WorkerState) (sight : Sight) → IsSightWithin l s sight → seen s sight ≢ state.Gone
-seen-there l (state.Runs k) sight can = λ e. absurd (cc e)
-seen-there l (state.Answered k) sight can = by_test sight.waits
+seen-there : (s : WorkerState) (sight : Sight) → IsSightOf s sight → seen s sight ≢ state.Gone
+seen-there (state.Runs k) sight can = λ e. absurd (cc e)
+seen-there (state.Answered k) sight can = by_test sight.waits
   where
     by_test : (b : Bool) → cond b (state.Answered k) (state.Runs (k + 1)) ≢ state.Gone
     by_test true = λ e. absurd (cc e)
     by_test false = λ e. absurd (cc e)
-seen-there l state.Gone sight can = absurd can
+seen-there state.Gone sight can = absurd can
 
 -- who runs a split phase is there
 split-there : (s : WorkerState) → RunsSplit s → s ≢ state.Gone
@@ -165,7 +164,7 @@ empty-by : (Runs : LiveView → Bool → TurnAnswer → LiveView → Type 0)
     → IsEmpty after
 empty-by Runs does v after answer empty (moves.is_gone gone a is) = subst IsEmpty (sym is) empty
 empty-by Runs does v after answer empty (moves.waits sight mask can w a is) =
-    subst IsEmpty (sym is) (λ gone. absurd (seen-there v.seat.post.limits v.seat.post.state sight can gone))
+    subst IsEmpty (sym is) (λ gone. absurd (seen-there v.seat.post.state sight can gone))
 empty-by Runs does v after answer empty (moves.works sight mask can w work) =
     does.empty (looked v sight mask) after sight.ending answer work
 

@@ -5,7 +5,7 @@ use Rattle.like_core.specs.declared.view.PageRead.{PageRead}
 use Rattle.like_core.specs.declared.worker_state.WorkerState.TheVariants.{Gone}
 use Rattle.like_core.specs.Additions.{page_read}
 use Rattle.like_core.specs.Post.{additions_of, answered}
-use Rattle.like_core.specs.WorkerState.{IsSightWithin, RunsJoined, RunsSplit}
+use Rattle.like_core.specs.WorkerState.{IsSightOf, RunsJoined, RunsSplit}
 use Rattle.like_seat.specs.Merge.{MergesAndReports}
 use Rattle.like_seat.specs.SeatView.{SeatView, phase_at}
 use Rattle.like_seat.specs.Steps.{saw}
@@ -70,7 +70,7 @@ pub data Works (v : LiveView) (ending : Bool) (answer : TurnAnswer) (after : Liv
 -- what a seat can see by a look at the phase word: the phase that it runs; or the one that it has answered, and then it
 -- waits; or the next one. A seat that is gone sees nothing
 abbrev pub CanSee : LiveView → Sight → Type 0
-CanSee v sight = IsSightWithin v.seat.post.limits v.seat.post.state sight
+CanSee v sight = IsSightOf v.seat.post.state sight
 
 -- a seat looks at the phase word, and acts on it: it is gone, and does not look; or it has answered a phase and waits,
 -- since the next is not released yet; or it runs the phase that it looked at, which it enters by that look if it is the

@@ -9,7 +9,7 @@ pub enum OpenError {
     Marks,
     #[error("first counts of at most 10^18")]
     Counts,
-    #[error("between 1 and 16 seats")]
+    #[error("between 1 and 64 seats")]
     Seats,
     #[error("at least one user")]
     Users,

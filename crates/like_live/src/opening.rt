@@ -9,7 +9,7 @@ use like_requests::{MAX_COUNT, MAX_HOT, MAX_STASH};
 const MAX_PAGES: u32 = 1 << 24;
 
 /// The most seats of a service.
-const MAX_SEATS: u32 = 16;
+const MAX_SEATS: u32 = 64;
 
 /// The most marked pages: those that are split in every split phase.
 pub const MAX_MARKS: usize = 64;
@@ -21,7 +21,7 @@ pub struct Opening {
     pub counts: Vec<u64>,
     /// The numbers of the pages that are split in every split phase: at most 64, no two alike, in any order.
     pub marks: Vec<u32>,
-    /// How many seats there are: 1 to 16.
+    /// How many seats there are: 1 to 64.
     pub seats: u32,
     /// How many users there are, at least one. User `u` belongs to seat `u mod seats`.
     pub users: u32,

@@ -50,7 +50,7 @@ pub struct NoCoordinator {
     pub seat: CoordSeat,
 }
 
-// Looks at the phase word of a run, whose number is the phase.
+// Looks at the phase word of a run.
 fn look_at_run(lead: &mut Lead, board: &Board) -> CoordSight
     requires here { lead.old.board ≡ board_id board.now }
     requires run { lead.old.seat.opening.limits ≡ run_limits }
@@ -169,12 +169,13 @@ impl Coordinator {
         ensures { CoordTurns self.old result self.new }
     {
         let sight = look_at_run(&mut self.lead, board);
-        self.phase = sight.number;
+        let phase = sight.number as u32;
+        self.phase = phase;
         if sight.all_gone {
             return CoordTurn::Ended;
         }
         if sight.ending && sight.all_in {
-            release(&mut self.lead, &mut self.choices, board, sight.number);
+            release(&mut self.lead, &mut self.choices, board, phase);
             self.left = self.turns;
             return CoordTurn::Released;
         }
@@ -185,7 +186,7 @@ impl Coordinator {
             self.left -= 1;
             return CoordTurn::Counted;
         }
-        if sight.number == LAST_PHASE {
+        if phase == LAST_PHASE {
             return CoordTurn::Stays;
         }
         self.lead.announce(board);

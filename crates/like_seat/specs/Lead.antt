@@ -5,7 +5,6 @@ use Rattle.like_core.specs.declared.sight.CoordSight.{CoordSight}
 use Rattle.like_core.specs.declared.view.CoordSeatView.{CoordSeatView}
 use Rattle.like_core.specs.declared.view.View.TheVariants.{Coord}
 use Rattle.like_limits.specs.Limits.{hot_pages}
-use Rattle.like_core.specs.OpeningLimits.{number_of}
 use Rattle.like_core.specs.Phase.{IsSplit}
 use Rattle.like_core.specs.views.Actions.{Surveys}
 use Rattle.like_core.specs.views.Shows.{IsKnown}
@@ -29,11 +28,11 @@ abbrev pub new_lead : BoardId → CoordSeatView → Option ℕ → List ℕ → 
 new_lead board seat hot counts =
     record { board = board; seat = seat; hot = hot; before = of_hot_pages counts }
 
--- what a look can show: the number of the present phase, which is no later than the last; whether it is ending; all in,
+-- what a look can show: the present phase, which is no later than the last; whether it is ending; all in,
 -- once a look at this phase showed that; and all gone in a split phase only where the last sight before its release
 -- showed that
 pub record IsSightOf (c : CoordSeatView) (sight : CoordSight) : Type 0 where
-  pub number : sight.number ≡ number_of c.opening.limits c.phase
+  pub number : sight.number ≡ c.phase
   pub within : c.phase ≤ c.opening.limits.last_phase
   pub ending : sight.ending ≡ c.ending
   pub all_in : c.all_in ≡ true → sight.all_in ≡ true

@@ -66,7 +66,7 @@ pub fn opened(alloc: Global, seats: u32, room: u32) -> Result<Service, Fail>
 // Wrong numbers, and what is told of them. Of several the first is told, in the order of `OpenError`.
 const WRONG: &[(Numbers, OpenError)] = &[
     (Numbers { seats: 0, ..PLAIN }, OpenError::Seats),
-    (Numbers { seats: 17, ..PLAIN }, OpenError::Seats),
+    (Numbers { seats: 65, ..PLAIN }, OpenError::Seats),
     (Numbers { users: 0, ..PLAIN }, OpenError::Users),
     (Numbers { room: 0, ..PLAIN }, OpenError::Room),
     (
@@ -147,7 +147,7 @@ const AT_LIMITS: &[Numbers] = &[
     Numbers {
         counts: &[1_000_000_000_000_000_000; 2],
         marks: &[1, 0],
-        seats: 16,
+        seats: 64,
         users: 1,
         room: 4_096,
         hot: Some(1_000_000),

@@ -17,7 +17,7 @@ use calls::{OnPost, Step};
 use like_board::{Board, BoardPost, CoordSeat, WorkerSeat};
 use like_core::{Limits, Post, WorkerState};
 use party::Party;
-use scripts::{each_call, equal_numbers, hot_phase, likes, three_phases};
+use scripts::{each_call, five_phases, hot_phase, likes, three_phases};
 use std::alloc::{AllocError, Global};
 use std::process::Abort;
 use std::test::Fail;
@@ -265,9 +265,9 @@ fn plays(
     Ok(())
 }
 
-// Phases 0 and 2 have the same number, and are told apart.
+// A board whose phase word has the form of a service's.
 #[test]
-fn goes_through_phases_of_equal_numbers(rt: HostRuntime) -> Result<(), Fail> {
+fn goes_through_phases_of_a_service(rt: HostRuntime) -> Result<(), Fail> {
     plays(
         &rt,
         rt.alloc(),
@@ -275,7 +275,7 @@ fn goes_through_phases_of_equal_numbers(rt: HostRuntime) -> Result<(), Fail> {
         5,
         false,
         small_limits(),
-        equal_numbers(),
+        five_phases(),
     )
 }
 

@@ -1,11 +1,13 @@
-ghost use Rattle.std.specs.Prelude.{◌≡◌, ◌<◌, ◌≤◌};
+ghost use Rattle.std.specs.Prelude.{◌≡◌};
 ghost use Rattle.like_core.specs.OpeningLimits.{AreLimits};
 
 mod cases;
 
 use crate::asserts::{assert_call, assert_named};
 use cases::{Case, LawfulWord, Step, cases, lawful_words, unlawful_words};
-use like_core::{CoordSight, Core, Event, Kind, Limits, NotNow, PhaseWord, Shown, check_events};
+use like_core::{
+    CoordSight, Core, Event, Form, Kind, Limits, NotNow, PhaseWord, Shown, check_events,
+};
 use std::alloc::{AllocError, Global};
 use std::process::Abort;
 use std::test::Fail;
@@ -59,10 +61,10 @@ fn goes_on(core: &mut Core, phase: u32) -> bool {
     check_events(core, &events) == Ok(())
 }
 
-// Whether the coordinator sees a phase of this number, whose end was not announced.
-fn shows_number(core: &mut Core, number: u32) -> bool {
+// Whether the coordinator sees this phase, whose end was not announced.
+fn shows_phase(core: &mut Core, phase: u32) -> bool {
     let sight = CoordSight {
-        number,
+        number: u64::from(phase),
         ending: false,
         all_in: false,
         all_gone: false,
@@ -70,41 +72,23 @@ fn shows_number(core: &mut Core, number: u32) -> bool {
     core.step(Event::CoordLook) == Ok(Shown::Coord(sight))
 }
 
-// A core within limits shows the number of each phase and goes on to the next, up to the last phase.
-fn assert_limits(rt: &impl Abort, core: &mut Core, last_phase: u32, modulus: u32)
-    requires { 0 < modulus }
-{
+// A core shows each phase and goes on to the next, up to the last phase.
+fn assert_last_phase(rt: &impl Abort, core: &mut Core, last_phase: u32) {
     for phase in 0..last_phase {
-        let goes = shows_number(core, phase % modulus) && goes_on(core, phase);
+        let goes = shows_phase(core, phase) && goes_on(core, phase);
         assert_call(rt, goes, "phases", phase as usize);
     }
     assert!(rt; core.step(Event::Announce) == Err(NotNow::Last));
 }
 
-// The same of a core of one worker and one page.
-fn assert_limits_of_one(
-    rt: &impl Abort,
-    alloc: Global,
-    limits: Limits,
-    last_phase: u32,
-    modulus: u32,
-) -> Result<(), Fail>
-    requires limits { AreLimits limits }
-    requires seat { 1 ≤ limits.seats }
-    requires page { 1 ≤ limits.pages }
-    requires some { 0 < modulus }
-{
-    let mut core = Core::with_limits(alloc, 1, &[0], &[true], limits)?;
-    assert_limits(rt, &mut core, last_phase, modulus);
+#[test]
+fn refuses_announcement_in_last_phase(rt: HostRuntime) -> Result<(), Fail> {
+    let mut core = Core::new(rt.alloc(), 1, &[0], &[true])?;
+    assert_last_phase(&rt, &mut core, 16_777_214);
     Ok(())
 }
 
-#[test]
-fn refuses_announcement_in_last_phase(rt: HostRuntime) -> Result<(), Fail> {
-    assert_limits_of_one(&rt, rt.alloc(), Limits::of_run(), 16_777_214, 16_777_216)
-}
-
-/// Limits of one page and one worker whose last phase is 4, with numbers modulo 2.
+/// Limits of one page and one worker, whose last phase is 4 and whose phase word counts.
 pub fn small_limits() -> Limits
     ensures lawful { AreLimits result }
     ensures page { result.pages ≡ 1 }
@@ -113,16 +97,17 @@ pub fn small_limits() -> Limits
     Limits {
         last_phase: 4,
         likes: 2,
-        modulus: 2,
         pages: 1,
         seats: 1,
+        form: Form::Counts,
     }
 }
 
-// The numbers of phases 0 to 4 modulo 2 are 0, 1, 0, 1 and 0.
 #[test]
-fn takes_numbers_modulo_2(rt: HostRuntime) -> Result<(), Fail> {
-    assert_limits_of_one(&rt, rt.alloc(), small_limits(), 4, 2)
+fn stays_in_its_last_phase(rt: HostRuntime) -> Result<(), Fail> {
+    let mut core = Core::with_limits(rt.alloc(), 1, &[0], &[true], small_limits())?;
+    assert_last_phase(&rt, &mut core, 4);
+    Ok(())
 }
 
 #[test]
@@ -130,20 +115,19 @@ fn limits_are_these_numbers(rt: HostRuntime) -> Result<(), Fail> {
     let run = Limits {
         last_phase: 16_777_214,
         likes: 64_000_000,
-        modulus: 16_777_216,
         pages: 1_024,
         seats: 16,
+        form: Form::Bits,
     };
     assert!(rt; Limits::of_run() == run);
     let service = Limits {
-        last_phase: 18_446_744_073_709_551_614,
+        last_phase: 281_474_976_710_654,
         likes: 72_057_594_037_927_936,
-        modulus: 16_777_214,
         pages: 16_777_216,
-        seats: 16,
+        seats: 64,
+        form: Form::Counts,
     };
     assert!(rt; Limits::of_service() == service);
-    assert!(rt; Limits::of_service().number(16_777_215) == 1);
     Ok(())
 }
 
@@ -180,26 +164,40 @@ fn packs_and_unpacks_words(rt: HostRuntime) -> Result<(), Fail> {
     Ok(())
 }
 
-// The first word of `idle-workers`, and the number of that after it, by what each step makes of the word.
-fn words_of_idle_workers() -> Option<(PhaseWord, u64)> {
-    let start = PhaseWord::new(Kind::JoinedRunning, 4, 0, 0, 0)?;
-    let answered = start.announced().answered_by(0);
-    let ending = answered.retired_by(1).retired_by(2).retired_by(3);
-    Some((ending, ending.released().pack()))
-}
-
-// The word after phase 1, where numbers are modulo 2.
-fn word_after_split_phase() -> Option<u64> {
-    let split = PhaseWord::new(Kind::SplitEnding, 1, 1, 0, 1)?;
-    Some(split.released_modulo(2).pack())
-}
-
+// The words of `idle-workers` at the end of phase 0 and at the start of phase 1, by what each step makes of a word.
 #[test]
 fn steps_lead_to_words_of_idle_workers(rt: HostRuntime) -> Result<(), Fail> {
-    let (ending, released) = words_of_idle_workers().expect(&rt, "words");
-    assert!(rt; ending.pack() == 234_881_297);
-    assert!(rt; ending.kind.is_ending() && !ending.kind.is_split());
-    assert!(rt; released == 1_099_746_508_818);
-    assert!(rt; word_after_split_phase() == Some(4));
+    let form = Form::Bits;
+    let gone = [
+        form.retirement(1),
+        form.retirement(2),
+        form.retirement(3),
+    ];
+    let mut ending = form.first(4).saturating_add(1).saturating_add(form.answer(0));
+    for more in gone {
+        ending = ending.saturating_add(more);
+    }
+    assert!(rt; ending == 234_881_297);
+    assert!(rt; PhaseWord::unpack(ending).is_some_and(|word| word.kind == Kind::JoinedEnding));
+    assert!(rt; form.released(234_881_297) == 1_099_746_508_818);
+    Ok(())
+}
+
+// The last phase but one of a service is ending. Of its 64 seats 63 have answered, and one is gone.
+const ALL_IN: u64 = 0xffff_ffff_fffd_02ff;
+
+#[test]
+fn counts_64_seats(rt: HostRuntime) -> Result<(), Fail> {
+    let form = Form::Counts;
+    let sight = CoordSight {
+        number: 281_474_976_710_653,
+        ending: true,
+        all_in: true,
+        all_gone: false,
+    };
+    assert!(rt; form.coord_sight_in(ALL_IN, 64) == sight);
+    assert!(rt; !form.coord_sight_in(ALL_IN - form.answer(63), 64).all_in);
+    assert!(rt; form.sight_in(ALL_IN, 1).waits && !form.sight_in(ALL_IN, 0).waits);
+    assert!(rt; form.released(ALL_IN) == 0xffff_ffff_fffe_0200);
     Ok(())
 }

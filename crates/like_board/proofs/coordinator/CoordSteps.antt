@@ -16,48 +16,47 @@ use Rattle.like_core.specs.declared.view.CoordSeatView.{CoordSeatView}
 use Rattle.like_core.specs.declared.view.View.{View}
 use Rattle.like_core.specs.declared.view.View.TheVariants.{Coord}
 use Rattle.like_core.specs.Phase.{IsJoined, IsSplit}
-use Rattle.like_core.specs.OpeningLimits.{number_of}
 use Rattle.like_core.specs.Functions.{update}
 use Rattle.like_core.specs.WorkerState.{IsIn}
-use Rattle.like_core.specs.word.Word.{Fields, packed, IsLawful, released_modulo}
+use Rattle.like_core.specs.word.Forms.{form_of}
 use Rattle.like_core.specs.core.Numbers.{AllIn, AllGone, CoordSees}
 use Rattle.like_core.specs.core.Table.{Permits}
 use Rattle.like_core.specs.core.State.{CoreState, numbers}
-use Rattle.like_core.specs.views.Sights.{coord_sight_of}
-use Rattle.like_core.specs.word.ShownWord.{shown_fields, shown_word}
+use Rattle.like_core.specs.word.ShownWord.{shown_word}
 use Rattle.like_core.specs.views.Views.{looked_coord, announced_coord, released_coord, mask_released, saw_all_gone, SawAllIn, MayAnnounce, MayRelease}
 use Rattle.like_core.specs.views.Layout.{mask_place}
 use Rattle.like_core.specs.views.Shows.{Shows, ShowsSome, FitsWorker, FitsCoord, IsStep}
 use Rattle.like_core.proofs.Updates.{update-same, update-other}
 use Rattle.like_core.proofs.core.Reached.{goes_on_by}
 use Rattle.like_core.proofs.core.InPhase.{reached_in_phase}
-use Rattle.like_core.proofs.core.Unanswered.{reached_unanswered}
-use Rattle.like_core.proofs.word.ShownEvents.{shown_lawful, same_fields, fields_released, word_announced, coord_sees}
+use Rattle.like_core.proofs.word.Serving.{coord_sees, serves}
 use Rattle.like_core.proofs.views.KeptPlaces.{places_same}
-use Rattle.like_board.specs.Plays.{Surveyed}
+use Rattle.like_board.specs.Plays.{Surveyed, coord_sight_at}
 use Rattle.like_board.proofs.worker.Moves.{moment_of, if_some}
 use Rattle.like_board.proofs.Tallying.{tallied_on}
 use Rattle.like_board.proofs.coordinator.Fitting.{same_seats}
 use Rattle.like_board.proofs.coordinator.Leads.{phased, of_coord, leads_word}
-use Rattle.like_board.proofs.worker.WorkerSteps.{running_is}
+use Rattle.like_board.proofs.worker.WorkerSteps.{added_word, running_is}
 
 -- a look of the coordinator is the event
 pub surveys : (z : Opening) (words : List ℕ) (views : List View) (place : ℕ) (c : CoordSeatView)
     → ShowsSome z words views
     → get_elem? views place ≡ some (Coord c)
-    → (r : Surveyed z (get_or words 0 0) c)
+    → Surveyed z (get_or words 0 0) c
     × ShowsSome z (set words 0 (get_or words 0 0))
-    (set views place (Coord (looked_coord c (get_or words 0 0) (coord_sight_of r.fields))))
+    (set views place (Coord (looked_coord c (get_or words 0 0) (coord_sight_at z (get_or words 0 0)))))
 surveys z words views place c some_state at =
     let s = some_state.state in
     let sh = some_state.shows in
     let p = reached_in_phase z s some_state.reachable in
-    let lawful = shown_lawful z s sh.opening p (reached_unanswered z s some_state.reachable) in
+    let f = form_of z.limits.form in
     let old : FitsCoord z s c = sh.seats.each place (Coord c) at in
-    let f : Fields = shown_fields z s in
-    let sight : CoordSight = coord_sight_of f in
-    let sees : CoordSees (numbers z s) sight = coord_sees z s in
     let found : ℕ = get_or words 0 0 in
+    let sight : CoordSight = coord_sight_at z found in
+    let sees : CoordSees (numbers z s) sight =
+    subst (λ (w : ℕ). CoordSees (numbers z s) (coord_sight_at z w)) (sym sh.board.phase)
+    (coord_sees f z s (serves z s sh.opening some_state.reachable))
+    in
     let d : CoordSeatView = looked_coord c found sight in
     let fits : FitsCoord z s d =
     record {
@@ -79,10 +78,7 @@ surveys z words views place c some_state at =
     in
     let permits : Permits (numbers z s) CoordLook = record { there = tt; suits = tt; leaves_last = tt; room = tt } in (
       record {
-        fields = f;
-        lawful = lawful;
-        found_is = sh.board.phase;
-        number = sees.number ∙ sym (ap (number_of z.limits) old.phase.present);
+        number = sees.number ∙ sym old.phase.present;
         within = subst (λ n. n ≤ z.limits.last_phase) (sym old.phase.present) p.within;
         ending = sees.ending ∙ sym old.phase.ending;
         all_in = λ is. sees.all_in.1 (old.phase.all_in is);
@@ -130,7 +126,7 @@ announces z words views place c some_state at may =
     let old : FitsCoord z s c = sh.seats.each place (Coord c) at in
     let last = some_and c.last
     (λ (sight : CoordSight). sight.ending ≡ false)
-    (λ (sight : CoordSight). (sight.number ≡ number_of z.limits s.phase) × (sight.ending ≡ s.ending))
+    (λ (sight : CoordSight). (sight.number ≡ s.phase) × (sight.ending ≡ s.ending))
     (λ (sight : CoordSight). sight.all_in ≡ true → CoordSees (numbers z s) sight × (c.word ≡ shown_word z s))
     may.0 old.phase.last old.phase.stays
     in
@@ -143,7 +139,7 @@ announces z words views place c some_state at may =
     record { there = tt; suits = running; leaves_last = below; room = tt } in
     let t : CoreState = phased s s.phase true s.hot in
     let reachable = goes_on_by z s Announce some_state.reachable permits in
-    let lawful = shown_lawful z t sh.opening (reached_in_phase z t reachable) (reached_unanswered z t reachable) in
+    let serving = serves z s sh.opening some_state.reachable in
     let word : ℕ = (get_or words 0 0 + 1) % 2 ^ 64 in
     let d : CoordSeatView = announced_coord c in
     let workers : (v : WorkerSeatView) → FitsWorker z s v → FitsWorker z t v =
@@ -183,7 +179,8 @@ announces z words views place c some_state at may =
     in
     let after_it : Shows z t (set words 0 word) (set views place (Coord d)) =
     leads_word z s words views place c d s.phase true s.hot word sh at refl refl refl (omega arith)
-    (ap (λ n. (n + 1) % 2 ^ 64) sh.board.phase ∙ word_announced z s lawful running)
+    (ap (λ n. (n + 1) % 2 ^ 64) sh.board.phase ∙
+    added_word (shown_word z s) 1 (shown_word z t) (serving.announces running) (serves z t sh.opening reachable).below)
     (λ fixed. elim fixed [
       | inl odd ↦ sh.board.mask (inl odd)
       | inr first ↦ let clash = first.1 in absurd (cc)
@@ -224,7 +221,7 @@ pub saw_all_in : (z : Opening) (s : CoreState) (c : CoordSeatView) → FitsCoord
 saw_all_in z s c f saw =
     let last = some_and c.last
     (λ (sight : CoordSight). (sight.ending ≡ true) × (sight.all_in ≡ true))
-    (λ (sight : CoordSight). (sight.number ≡ number_of z.limits s.phase) × (sight.ending ≡ s.ending))
+    (λ (sight : CoordSight). (sight.number ≡ s.phase) × (sight.ending ≡ s.ending))
     (λ (sight : CoordSight). sight.all_in ≡ true → CoordSees (numbers z s) sight × (c.word ≡ shown_word z s))
     saw f.phase.last f.phase.stays
     in
@@ -273,18 +270,19 @@ is_released z c word some_mask below is = elim (cases_eq (c.phase % 2) 0) [
     published_mask None there low same = absurd (cc)
     published_mask (Some mask) there low same = (low, same)
 
+-- the word that a release stores, if this one was seen
+abbrev pub released_word : Opening → ℕ → ℕ
+released_word z seen = (form_of z.limits.form).released seen
+
 -- a release is the event, where what is stored is made of the word that the last look saw
-pub releases : (z : Opening) (words : List ℕ) (views : List View) (place : ℕ) (c : CoordSeatView) (modulus : ℕ)
-    (seen : Fields)
-    → modulus ≡ z.limits.modulus
+pub releases : (z : Opening) (words : List ℕ) (views : List View) (place : ℕ) (c : CoordSeatView) (seen : ℕ)
     → ShowsSome z words views
     → get_elem? views place ≡ some (Coord c)
     → MayRelease c
-    → IsLawful seen
-    → packed seen ≡ c.word
+    → seen ≡ c.word
     → IsStep z (Release (mask_released c)) Done (Coord c) (Coord (released_coord c))
-    × ShowsSome z (set words 0 (packed (released_modulo modulus seen))) (set views place (Coord (released_coord c)))
-releases z words views place c modulus seen modulus_is some_state at may seen_lawful seen_is =
+    × ShowsSome z (set words 0 (released_word z seen)) (set views place (Coord (released_coord c)))
+releases z words views place c seen some_state at may seen_is =
     let s = some_state.state in
     let sh = some_state.shows in
     let old : FitsCoord z s c = sh.seats.each place (Coord c) at in
@@ -302,9 +300,7 @@ releases z words views place c modulus seen modulus_is some_state at may seen_la
     in
     let hot : ℕ → ℕ = update s.hot (s.phase + 1) mask in
     let t : CoreState = phased s (s.phase + 1) false hot in
-    let p = reached_in_phase z s some_state.reachable in
-    let lawful = shown_lawful z s sh.opening p (reached_unanswered z s some_state.reachable) in
-    let same : seen ≡ shown_fields z s = same_fields seen (shown_fields z s) seen_lawful lawful (seen_is ∙ now.word) in
+    let serving = serves z s sh.opening some_state.reachable in
     let d : CoordSeatView = released_coord c in
     let workers : (v : WorkerSeatView) → FitsWorker z s v → FitsWorker z t v =
     λ v f. record {
@@ -352,11 +348,10 @@ releases z words views place c modulus seen modulus_is some_state at may seen_la
       };
     }
     in
-    let after_it : Shows z t (set words 0 (packed (released_modulo modulus seen))) (set views place (Coord d)) =
+    let after_it : Shows z t (set words 0 (released_word z seen)) (set views place (Coord d)) =
     leads_word z s words views place c d (s.phase + 1) false hot
-    (packed (released_modulo modulus seen)) sh at refl refl refl (omega arith)
-    ((λ m. packed (released_modulo (modulus_is m) (same m)))
-    ∙ ap packed (sym (fields_released z s now.ending now.all_in)))
+    (released_word z seen) sh at refl refl refl (omega arith)
+    (ap (released_word z) (seen_is ∙ now.word) ∙ sym (serving.releases now.ending now.all_in))
     (λ fixed. elim fixed [
       | inl odd ↦
           let phase = old.phase.present in
@@ -374,7 +369,7 @@ releases z words views place c modulus seen modulus_is some_state at may seen_la
         mine = at;
         happen = record { before = tt; permits = permits; tells = refl };
         changed = 0;
-        word = packed (released_modulo modulus seen);
+        word = released_word z seen;
         shows_after = after_it;
       },
       record {

@@ -25,8 +25,8 @@ use Rattle.like_core.specs.views.Views.{seats_of}
 use Rattle.like_core.specs.views.Reads.{all_before, HaveBetween, IsCounted, ReadsFit}
 use Rattle.like_core.specs.views.Layout.{mask_place, word_of}
 use Rattle.like_core.specs.views.Shows.{IsKnown, Shows, ShowsSome, Moment, Fits, FitsWorker, FitsCoord, FixesMask}
+use Rattle.like_core.specs.views.Serves.{moved}
 use Rattle.like_core.proofs.Updates.{update-same, update-other, update_cases}
-use Rattle.like_core.proofs.word.ShownEvents.{moved}
 use Rattle.like_core.proofs.views.KeptReads.{reads_same, counted_same}
 use Rattle.like_core.proofs.views.Apart.{word_of-past}
 use Rattle.like_core.proofs.views.ViewLists.{within, sum_part, sum_two, sum_set}

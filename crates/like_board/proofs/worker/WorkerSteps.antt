@@ -1,5 +1,5 @@
 -- Each step of a worker is the event, and keeps what the board shows.
-use Rattle.std.proofs.Common.{◌≡◌, ◌≢◌, ℕ, ◌+◌, ◌≤◌, nat_lt, bit_or, Bool, true, false, cond, ◌⊎◌, inl, inr, IsTrue, ◌↔◌, MatchBool, List, get_or, set, subst, ap, sym, ◌∙◌, refl, arith}
+use Rattle.std.proofs.Common.{◌≡◌, ◌≢◌, ℕ, ◌+◌, ◌%◌, ◌^◌, ◌<◌, ◌≤◌, nat_lt, Bool, true, false, cond, ◌⊎◌, inl, inr, IsTrue, ◌↔◌, MatchBool, List, get_or, set, subst, ap, sym, ◌∙◌, refl, arith}
 use Rattle.std.proofs.lemmas.Bool.{cond-true, cond-false, lt-ltb, le-ltb}
 use mathlib.Core.Option.{some}
 use lib.ListN.{get_elem?}
@@ -9,31 +9,27 @@ use Rattle.like_core.specs.declared.sight.Sight.{Sight}
 use Rattle.like_core.specs.declared.event.Event.TheVariants.{Look, Acknowledge, Report, Retire}
 use Rattle.like_core.specs.declared.shown.Shown.TheVariants.{Done}
 use Rattle.like_core.specs.declared.opening.Opening.{Opening}
-use Rattle.like_core.specs.declared.limits.Limits.{Limits}
 use Rattle.like_core.specs.declared.view.WorkerSeatView.{WorkerSeatView}
 use Rattle.like_core.specs.declared.view.View.{View}
 use Rattle.like_core.specs.declared.view.View.TheVariants.{Worker}
 use Rattle.like_core.specs.Functions.{times}
 use Rattle.like_core.specs.Phase.{IsJoined, IsSplit}
-use Rattle.like_core.specs.OpeningLimits.{number_of}
-use Rattle.like_core.specs.WorkerState.{IsIn, looked, RunsSome, IsSightWithin, seen, phase_of, IsRunning, RunsJoined, RunsSplit, SawEnding}
-use Rattle.like_core.specs.word.Word.{Fields, packed, answer_bit, retirement_bit}
+use Rattle.like_core.specs.WorkerState.{IsIn, looked, RunsSome, IsSightOf, seen, phase_of, IsRunning, RunsJoined, RunsSplit, SawEnding}
+use Rattle.like_core.specs.word.Forms.{form_of}
 use Rattle.like_core.specs.core.Numbers.{Sees}
 use Rattle.like_core.specs.core.Table.{Permits}
 use Rattle.like_core.specs.core.State.{CoreState, numbers}
 use Rattle.like_core.specs.core.Reachable.{Reachable}
-use Rattle.like_core.specs.views.Sights.{sight_of}
-use Rattle.like_core.specs.word.ShownWord.{shown_fields}
+use Rattle.like_core.specs.word.ShownWord.{shown_word}
 use Rattle.like_core.specs.views.Views.{looked_view, answered_view, retired_view}
 use Rattle.like_core.specs.views.Shows.{Shows, ShowsSome, FitsWorker, IsStep}
+use Rattle.like_core.specs.views.Serves.{moved}
 use Rattle.like_core.proofs.Updates.{update-same}
 use Rattle.like_core.proofs.core.Reached.{goes_on_by}
 use Rattle.like_core.proofs.core.InPhase.{reached_in_phase}
-use Rattle.like_core.proofs.core.Unanswered.{reached_unanswered}
-use Rattle.like_core.proofs.word.Numbering.{number-le}
-use Rattle.like_core.proofs.word.ShownEvents.{moved, shown_lawful, fields_looked, word_answered, word_retired, worker_sees}
+use Rattle.like_core.proofs.word.Serving.{serves, worker_sees}
 use Rattle.like_core.proofs.views.KeptPlaces.{places_same}
-use Rattle.like_board.specs.Plays.{Looked}
+use Rattle.like_board.specs.Plays.{Looked, sight_at}
 use Rattle.like_board.proofs.worker.Moves.{moment_of, worker_moves}
 use Rattle.like_board.proofs.Tallying.{tallied_on}
 
@@ -54,32 +50,32 @@ not_true true no_ = absurd (no_ refl)
 not_true false no_ = refl
 
 -- what a look shows to a worker in this state, and where it takes the worker
-pub record LooksAt (l : Limits) (phase : ℕ) (state : WorkerState) (sight : Sight) : Type 0 where
-  pub can : IsSightWithin l state sight
-  pub within : phase_of (seen state sight) ≤ l.last_phase
+pub record LooksAt (last phase : ℕ) (state : WorkerState) (sight : Sight) : Type 0 where
+  pub can : IsSightOf state sight
+  pub within : phase_of (seen state sight) ≤ last
   pub goes : seen state sight ≡ looked phase state
 
 -- whoever is not gone looks so
-looks_at : (l : Limits) (phase : ℕ) (state : WorkerState) (sight : Sight)
+looks_at : (last phase : ℕ) (state : WorkerState) (sight : Sight)
     → ((j : ℕ) → state ≡ Runs j → j ≡ phase)
     → ((j : ℕ) → state ≡ Answered j → (j ≡ phase) ⊎ (j + 1 ≡ phase))
     → state ≢ Gone
-    → phase ≤ l.last_phase
-    → sight.number ≡ number_of l phase
+    → phase ≤ last
+    → sight.number ≡ phase
     → (IsTrue sight.waits ↔ (state ≡ Answered phase))
-    → LooksAt l phase state sight
-looks_at l phase (Runs j) sight runs answered there within number waits = record {
-  can = (number ∙ sym (ap (number_of l) (runs j refl)), not_true sight.waits (λ is. let e = waits.0 is in cc));
+    → LooksAt last phase state sight
+looks_at last phase (Runs j) sight runs answered there within number waits = record {
+  can = (number ∙ sym (runs j refl), not_true sight.waits (λ is. let e = waits.0 is in cc));
   within = (let same = runs j refl in omega arith);
   goes = refl;
 }
-looks_at l phase (Answered j) sight runs answered there within number waits = elim (answered j refl) [
+looks_at last phase (Answered j) sight runs answered there within number waits = elim (answered j refl) [
   | inl now ↦
       let is : sight.waits ≡ true = waits.1 (ap Answered now) in
       record {
-        can = subst (λ (b : Bool). MatchBool b (sight.number ≡ number_of l j) (sight.number ≡ number_of l (j + 1)))
-            (sym is) (number ∙ sym (ap (number_of l) now));
-        within = subst (λ (st : WorkerState). phase_of st ≤ l.last_phase)
+        can = subst (λ (b : Bool). MatchBool b (sight.number ≡ j) (sight.number ≡ j + 1))
+            (sym is) (number ∙ sym now);
+        within = subst (λ (st : WorkerState). phase_of st ≤ last)
             (sym (cond-true sight.waits (Answered j) (Runs (j + 1)) is)) (omega arith);
         goes =
             cond-true sight.waits (Answered j) (Runs (j + 1)) is ∙
@@ -89,9 +85,9 @@ looks_at l phase (Answered j) sight runs answered there within number waits = el
       let not : sight.waits ≡ false =
       not_true sight.waits (λ is. let e = waits.0 is in let same : j ≡ phase = cc in omega arith) in
       record {
-        can = subst (λ (b : Bool). MatchBool b (sight.number ≡ number_of l j) (sight.number ≡ number_of l (j + 1)))
-            (sym not) (number ∙ sym (ap (number_of l) before));
-        within = subst (λ (st : WorkerState). phase_of st ≤ l.last_phase)
+        can = subst (λ (b : Bool). MatchBool b (sight.number ≡ j) (sight.number ≡ j + 1))
+            (sym not) (number ∙ sym before);
+        within = subst (λ (st : WorkerState). phase_of st ≤ last)
             (sym (cond-false sight.waits (Answered j) (Runs (j + 1)) not)) (omega arith);
         goes =
             cond-false sight.waits (Answered j) (Runs (j + 1)) not ∙
@@ -99,7 +95,7 @@ looks_at l phase (Answered j) sight runs answered there within number waits = el
             ∙ sym (cond-true (nat_lt j phase) (Runs phase) (Answered j) (lt-ltb j phase (omega arith))));
       }
 ]
-looks_at l phase Gone sight runs answered there within number waits = absurd (there refl)
+looks_at last phase Gone sight runs answered there within number waits = absurd (there refl)
 
 -- a look of one who is in changes nothing
 looked_in : (phase : ℕ) (state : WorkerState) → IsIn phase state → looked phase state ≡ state
@@ -117,27 +113,33 @@ looked_gone phase (Answered j) is =
     absurd (Q is)
 looked_gone phase Gone is = refl
 
+-- a sum that is a word does not wrap
+pub added_word : (n more word : ℕ) → word ≡ n + more → word < 2 ^ 64 → (n + more) % 2 ^ 64 ≡ word
+added_word n more word is below = omega arith
+
 -- a look of a worker that is not gone is the event
 pub looks : (z : Opening) (words : List ℕ) (views : List View) (place : ℕ) (v : WorkerSeatView)
     → ShowsSome z words views
     → get_elem? views place ≡ some (Worker v)
     → v.state ≢ Gone
-    → (r : Looked z (get_or words 0 0) v)
+    → Looked z (get_or words 0 0) v
     × ShowsSome z (set words 0 (get_or words 0 0))
-    (set views place (Worker (looked_view v (sight_of r.fields v.worker))))
+    (set views place (Worker (looked_view v (sight_at z (get_or words 0 0) v.state))))
 looks z words views place v some_state at there =
     let s = some_state.state in
     let sh = some_state.shows in
     let i = v.worker in
     let p = reached_in_phase z s some_state.reachable in
-    let lawful = shown_lawful z s sh.opening p (reached_unanswered z s some_state.reachable) in
+    let serving = serves z s sh.opening some_state.reachable in
     let old : FitsWorker z s v = sh.seats.each place (Worker v) at in
-    let f : Fields = shown_fields z s in
-    let sight : Sight = sight_of f i in
-    let sees : Sees (numbers z s) i sight = worker_sees z s i old.there in
+    let sight : Sight = sight_at z (get_or words 0 0) v.state in
     let not_gone : s.state i ≢ Gone = λ gone. there (sym old.state ∙ gone) in
-    let la : LooksAt z.limits s.phase (s.state i) sight =
-    looks_at z.limits s.phase (s.state i) sight (p.runs i) (p.answered i) not_gone p.within sees.number sees.waits in
+    let same : sight_at z (shown_word z s) (s.state i) ≡ sight =
+    λ m. sight_at z (sym sh.board.phase m) (old.state m) in
+    let sees : Sees (numbers z s) i sight =
+    subst (Sees (numbers z s) i) same (worker_sees (form_of z.limits.form) z s i serving p not_gone) in
+    let la : LooksAt z.limits.last_phase s.phase (s.state i) sight =
+    looks_at z.limits.last_phase s.phase (s.state i) sight (p.runs i) (p.answered i) not_gone p.within sees.number sees.waits in
     let state : WorkerState = looked s.phase (s.state i) in
     let t : CoreState = moved s i state in
     let w : WorkerSeatView = looked_view v sight in
@@ -147,7 +149,7 @@ looks z words views place v some_state at there =
       opening = old.opening;
       there = old.there;
       state = update-same s.state i state ∙ (sym la.goes ∙ ap (λ st. seen st sight) old.state);
-      number = (let e = sees.number in let low = number-le z.limits s.phase in omega arith);
+      number = (let e = sees.number in omega arith);
       ending = λ _ saw. sym sees.ending ∙ saw;
       labels = old.labels;
       masks = old.masks;
@@ -155,7 +157,7 @@ looks z words views place v some_state at there =
     in
     let shows_after : Shows z t (set words 0 found) (set views place (Worker w)) =
     worker_moves z s words views place v w state found sh at refl
-    (sh.board.phase ∙ ap packed (sym (fields_looked z s i)))
+    (sh.board.phase ∙ sym (serving.looks i))
     fits
     (looked_in s.phase (s.state i))
     (λ _. looked_gone s.phase (s.state i))
@@ -164,10 +166,7 @@ looks z words views place v some_state at there =
     record { there = old.there; suits = not_gone; leaves_last = tt; room = tt }
     in (
       record {
-        fields = f;
-        lawful = lawful;
-        found_is = sh.board.phase;
-        can = subst (λ (st : WorkerState). IsSightWithin z.limits st sight) old.state la.can;
+        can = subst (λ (st : WorkerState). IsSightOf st sight) old.state la.can;
         within = subst (λ (st : WorkerState). phase_of (seen st sight) ≤ z.limits.last_phase) old.state la.within;
         ending = λ runs saw. sees.ending ∙ old.ending runs saw;
         step = record {
@@ -191,6 +190,13 @@ looks z words views place v some_state at there =
       },
     )
 
+-- the word after an answer of worker i, and after it retired
+abbrev pub answered_word : Opening → ℕ → ℕ → ℕ
+answered_word z word i = (word + (form_of z.limits.form).answer i) % 2 ^ 64
+
+abbrev pub retired_word : Opening → ℕ → ℕ → ℕ
+retired_word z word i = (word + (form_of z.limits.form).retirement i) % 2 ^ 64
+
 -- what a worker that runs the present phase makes of the board by its answer
 answers : (z : Opening) (s : CoreState) (words : List ℕ) (views : List View) (place : ℕ) (v : WorkerSeatView)
     (phase : ℕ)
@@ -199,12 +205,13 @@ answers : (z : Opening) (s : CoreState) (words : List ℕ) (views : List View) (
     → get_elem? views place ≡ some (Worker v)
     → v.state ≡ Runs phase
     → phase ≡ s.phase
-    → Shows z (moved s v.worker (Answered s.phase)) (set words 0 (bit_or (get_or words 0 0) (answer_bit v.worker)))
+    → Reachable z (moved s v.worker (Answered s.phase))
+    → Shows z (moved s v.worker (Answered s.phase)) (set words 0 (answered_word z (get_or words 0 0) v.worker))
     (set views place (Worker (answered_view v)))
-answers z s words views place v phase reached sh at runs present =
+answers z s words views place v phase reached sh at runs present reaches =
     let i = v.worker in
-    let p = reached_in_phase z s reached in
-    let lawful = shown_lawful z s sh.opening p (reached_unanswered z s reached) in
+    let f = form_of z.limits.form in
+    let serving = serves z s sh.opening reached in
     let old : FitsWorker z s v = sh.seats.each place (Worker v) at in
     let here : s.state i ≡ Runs phase = old.state ∙ runs in
     let state : WorkerState = Answered s.phase in
@@ -219,8 +226,10 @@ answers z s words views place v phase reached sh at runs present =
       masks = old.masks;
     }
     in
-    worker_moves z s words views place v (answered_view v) state (bit_or (get_or words 0 0) (answer_bit i)) sh at refl
-    (ap (λ n. bit_or n (answer_bit i)) sh.board.phase ∙ word_answered z s i phase lawful old.there here)
+    worker_moves z s words views place v (answered_view v) state (answered_word z (get_or words 0 0) i) sh at refl
+    (ap (λ n. (n + f.answer i) % 2 ^ 64) sh.board.phase ∙
+    added_word (shown_word z s) (f.answer i) (shown_word z (moved s i state)) (serving.answers i phase old.there here)
+    (serves z (moved s i state) sh.opening reaches).below)
     fits
     (λ is. absurd (subst (IsIn s.phase) here is))
     (λ _ gone. absurd (cc))
@@ -232,7 +241,7 @@ pub acknowledges : (z : Opening) (words : List ℕ) (views : List View) (place :
     → RunsJoined v.state
     → SawEnding v.last
     → IsStep z (Acknowledge v.worker) Done (Worker v) (Worker (answered_view v))
-    × ShowsSome z (set words 0 (bit_or (get_or words 0 0) (answer_bit v.worker)))
+    × ShowsSome z (set words 0 (answered_word z (get_or words 0 0) v.worker))
     (set views place (Worker (answered_view v)))
 acknowledges z words views place v some_state at joined saw =
     let s = some_state.state in
@@ -241,7 +250,6 @@ acknowledges z words views place v some_state at joined saw =
     let old : FitsWorker z s v = sh.seats.each place (Worker v) at in
     let here : s.state v.worker ≡ Runs runs.0 = old.state ∙ runs.1 in
     let present : runs.0 ≡ s.phase = (reached_in_phase z s some_state.reachable).runs v.worker runs.0 here in
-    let after_it = answers z s words views place v runs.0 some_state.reachable sh at runs.1 present in
     let ending : s.ending ≡ true = old.ending (runs_view v runs.0 runs.1) saw in
     let permits : Permits (numbers z s) (Acknowledge v.worker) =
     record {
@@ -250,19 +258,21 @@ acknowledges z words views place v some_state at joined saw =
       leaves_last = tt;
       room = tt;
     }
-    in (
+    in
+    let reaches = goes_on_by z s (Acknowledge v.worker) some_state.reachable permits in
+    let after_it = answers z s words views place v runs.0 some_state.reachable sh at runs.1 present reaches in (
       record {
         moment = moment_of z words views some_state;
         place = place;
         mine = at;
         happen = record { before = tt; permits = permits; tells = refl };
         changed = 0;
-        word = bit_or (get_or words 0 0) (answer_bit v.worker);
+        word = answered_word z (get_or words 0 0) v.worker;
         shows_after = after_it;
       },
       record {
         state = moved s v.worker (Answered s.phase);
-        reachable = goes_on_by z s (Acknowledge v.worker) some_state.reachable permits;
+        reachable = reaches;
         shows = after_it;
         tallied =
             tallied_on z.limits s (moved s v.worker (Answered s.phase)) views place (Worker v)
@@ -280,7 +290,7 @@ pub reports : (z : Opening) (words : List ℕ) (views : List View) (place : ℕ)
     → RunsSplit v.state
     → SawEnding v.last
     → IsStep z (Report v.worker) Done (Worker v) (Worker (answered_view v))
-    × ShowsSome z (set words 0 (bit_or (get_or words 0 0) (answer_bit v.worker)))
+    × ShowsSome z (set words 0 (answered_word z (get_or words 0 0) v.worker))
     (set views place (Worker (answered_view v)))
 reports z words views place v some_state at split saw =
     let s = some_state.state in
@@ -289,7 +299,6 @@ reports z words views place v some_state at split saw =
     let old : FitsWorker z s v = sh.seats.each place (Worker v) at in
     let here : s.state v.worker ≡ Runs runs.0 = old.state ∙ runs.1 in
     let present : runs.0 ≡ s.phase = (reached_in_phase z s some_state.reachable).runs v.worker runs.0 here in
-    let after_it = answers z s words views place v runs.0 some_state.reachable sh at runs.1 present in
     let ending : s.ending ≡ true = old.ending (runs_view v runs.0 runs.1) saw in
     let permits : Permits (numbers z s) (Report v.worker) =
     record {
@@ -303,19 +312,21 @@ reports z words views place v some_state at split saw =
       leaves_last = tt;
       room = tt;
     }
-    in (
+    in
+    let reaches = goes_on_by z s (Report v.worker) some_state.reachable permits in
+    let after_it = answers z s words views place v runs.0 some_state.reachable sh at runs.1 present reaches in (
       record {
         moment = moment_of z words views some_state;
         place = place;
         mine = at;
         happen = record { before = tt; permits = permits; tells = refl };
         changed = 0;
-        word = bit_or (get_or words 0 0) (answer_bit v.worker);
+        word = answered_word z (get_or words 0 0) v.worker;
         shows_after = after_it;
       },
       record {
         state = moved s v.worker (Answered s.phase);
-        reachable = goes_on_by z s (Report v.worker) some_state.reachable permits;
+        reachable = reaches;
         shows = after_it;
         tallied =
             tallied_on z.limits s (moved s v.worker (Answered s.phase)) views place (Worker v)
@@ -332,7 +343,7 @@ pub retires : (z : Opening) (words : List ℕ) (views : List View) (place : ℕ)
     → get_elem? views place ≡ some (Worker v)
     → RunsJoined v.state
     → IsStep z (Retire v.worker) Done (Worker v) (Worker (retired_view v))
-    × ShowsSome z (set words 0 (bit_or (get_or words 0 0) (retirement_bit v.worker)))
+    × ShowsSome z (set words 0 (retired_word z (get_or words 0 0) v.worker))
     (set views place (Worker (retired_view v)))
 retires z words views place v some_state at joined =
     let s = some_state.state in
@@ -340,7 +351,8 @@ retires z words views place v some_state at joined =
     let i = v.worker in
     let runs = running_is IsJoined v.state joined in
     let p = reached_in_phase z s some_state.reachable in
-    let lawful = shown_lawful z s sh.opening p (reached_unanswered z s some_state.reachable) in
+    let f = form_of z.limits.form in
+    let serving = serves z s sh.opening some_state.reachable in
     let old : FitsWorker z s v = sh.seats.each place (Worker v) at in
     let here : s.state i ≡ Runs runs.0 = old.state ∙ runs.1 in
     let present : runs.0 ≡ s.phase = p.runs i runs.0 here in
@@ -356,16 +368,19 @@ retires z words views place v some_state at joined =
       masks = old.masks;
     }
     in
-    let after_it : Shows z (moved s i Gone) (set words 0 (bit_or (get_or words 0 0) (retirement_bit i)))
+    let permits : Permits (numbers z s) (Retire i) =
+    record { there = old.there; suits = (here ∙ ap Runs present, even); leaves_last = tt; room = tt }
+    in
+    let reaches = goes_on_by z s (Retire i) some_state.reachable permits in
+    let after_it : Shows z (moved s i Gone) (set words 0 (retired_word z (get_or words 0 0) i))
     (set views place (Worker (retired_view v))) =
-    worker_moves z s words views place v (retired_view v) Gone (bit_or (get_or words 0 0) (retirement_bit i)) sh at refl
-    (ap (λ n. bit_or n (retirement_bit i)) sh.board.phase ∙ word_retired z s i runs.0 lawful old.there here)
+    worker_moves z s words views place v (retired_view v) Gone (retired_word z (get_or words 0 0) i) sh at refl
+    (ap (λ n. (n + f.retirement i) % 2 ^ 64) sh.board.phase ∙
+    added_word (shown_word z s) (f.retirement i) (shown_word z (moved s i Gone)) (serving.retires i runs.0 old.there here)
+    (serves z (moved s i Gone) sh.opening reaches).below)
     fits
     (λ is. absurd (subst (IsIn s.phase) here is))
     (λ odd _. absurd (omega arith))
-    in
-    let permits : Permits (numbers z s) (Retire i) =
-    record { there = old.there; suits = (here ∙ ap Runs present, even); leaves_last = tt; room = tt }
     in (
       record {
         moment = moment_of z words views some_state;
@@ -373,12 +388,12 @@ retires z words views place v some_state at joined =
         mine = at;
         happen = record { before = tt; permits = permits; tells = refl };
         changed = 0;
-        word = bit_or (get_or words 0 0) (retirement_bit i);
+        word = retired_word z (get_or words 0 0) i;
         shows_after = after_it;
       },
       record {
         state = moved s i Gone;
-        reachable = goes_on_by z s (Retire i) some_state.reachable permits;
+        reachable = reaches;
         shows = after_it;
         tallied =
             tallied_on z.limits s (moved s i Gone) views place (Worker v) (Worker (retired_view v)) (omega arith)

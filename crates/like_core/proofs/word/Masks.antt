@@ -5,12 +5,8 @@ use Rattle.std.proofs.lemmas.Nat.{and_comm, pow_pos}
 use Rattle.std.proofs.lemmas.Nat.Bits.{bit_at_above, bit_at_cat_high, bit_at_cat_low, bit_at_lowest}
 use Rattle.std.proofs.lemmas.Bool.{cases_eq}
 use Rattle.like_core.specs.Functions.{has_bit}
-use Rattle.like_core.specs.word.ShownWord.{weight, mask}
-use Rattle.like_core.proofs.word.WordSteps.{more_bits-apart}
-
-weight-lt : (b : Bool) → weight b < 2
-weight-lt true = omega arith
-weight-lt false = omega arith
+use Rattle.like_core.specs.word.Forms.{weight, mask}
+use Rattle.like_core.proofs.word.States.{weight-lt}
 
 -- a mask of n bits
 pub mask-lt : (f : ℕ → Bool) (n : ℕ) → mask f n < 2 ^ n
@@ -68,10 +64,6 @@ mask-has_bit f n i below =
     let weighs : P (f i) = elim (f i) as P [ true ↦ refl | false ↦ refl ] in
     ap (λ b. b == 1) (mask_bit f n i below) ∙ weighs
 
--- a mask has no bit past its length
-pub mask_past : (f : ℕ → Bool) (n i : ℕ) → n ≤ i → bit_at (mask f n) i ≡ 0
-mask_past f n i past = bit_at_above (mask f n) n i (mask-lt f n) past
-
 -- one test more that says yes adds its bit
 pub mask_more : (f g : ℕ → Bool) (n i : ℕ)
     → i < n
@@ -95,36 +87,6 @@ mask_more f g (suc n) i below was is others = elim (cases_eq i n) [
       ap (λ b. weight b * 2 ^ n) (others n (λ eq. other (sym eq))) in
       omega arith
 ]
-
--- tests that never both say yes have masks without a common bit
-pub mask_apart : (f g : ℕ → Bool) (n : ℕ) → ((i : ℕ) → f i ≡ true → g i ≡ false) → bit_and (mask f n) (mask g n) ≡ 0
-mask_apart f g zero apart = refl
-mask_apart f g (suc n) apart =
-    let rest = mask_apart f g n apart in
-    let f_past = mask_past f n n (omega arith) in
-    let g_past = mask_past g n n (omega arith) in
-    let no_more : (m : ℕ) → m + 0 * 2 ^ n ≡ m = λ m. omega (arith, zero-mul (2 ^ n)) in
-    let one_more : (m : ℕ) → m + 1 * 2 ^ n ≡ m + 2 ^ n = λ m. omega (arith, one-mul (2 ^ n)) in
-    let P : Bool → Bool → Type 0 = λ b c. bit_and (mask f n + weight b * 2 ^ n) (mask g n + weight c * 2 ^ n) ≡ 0 in
-    let Q : Bool → Type 0 = λ b. (b ≡ true → g n ≡ false) → P b (g n) in
-    let by_f : Q (f n) =
-    elim (f n) as Q [
-      | true ↦ λ clash.
-          subst (P true) (sym (clash refl))
-          ((λ m. bit_and (one_more (mask f n) m) (no_more (mask g n) m))
-          ∙ more_bits-apart (mask f n) (mask g n) n rest f_past g_past)
-      | false ↦ λ _.
-          let R : Bool → Type 0 = P false in
-          elim (g n) as R [
-            | true ↦
-                (λ m. bit_and (no_more (mask f n) m) (one_more (mask g n) m)) ∙
-                (and_comm (mask f n) (mask g n + 2 ^ n)
-                ∙ more_bits-apart (mask g n) (mask f n) n (and_comm (mask g n) (mask f n) ∙ rest) g_past f_past)
-            | false ↦ (λ m. bit_and (no_more (mask f n) m) (no_more (mask g n) m)) ∙ rest
-          ]
-    ]
-    in
-    by_f (apart n)
 
 -- a number has no bit from k on just where it is below 2 ^ k
 pub shr_none : (n k : ℕ) → (n / 2 ^ k ≡ 0) ↔ (n < 2 ^ k)

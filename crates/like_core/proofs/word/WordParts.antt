@@ -69,31 +69,3 @@ finds w kind is (Some q) some fields p same =
     let parts : fields_of p ≡ unpacked w = sym (unpacked-packed (fields_of p) p.lawful) ∙ ap unpacked same in
     fields ∙ (ap (λ k. record (unpacked w) { kind = k }) is ∙ sym parts)
 finds w kind is None some fields p same = absurd (none_packs w kind is None some p same)
-
--- a packed word's number stands above all other fields
-pub number_in : (f : Fields) → IsLawful f → packed f / 2 ^ 40 ≡ f.number
-number_in f lawful =
-    let answered_is : f.answered < 2 ^ 16 = narrow f f.answered lawful lawful.answered in
-    let retired_is : f.retired < 2 ^ 16 = narrow f f.retired lawful lawful.retired in
-    let k = lawful.kind in
-    let n = lawful.few_workers in
-    omega arith
-
--- its lowest bit is that of an ending phase
-pub ending_in : (f : Fields) → bit_and (packed f) 1 ≡ f.kind % 2
-ending_in f = and_mask (packed f) 1 ∙ omega arith
-
--- and a worker's bit of `answered` stands eight bits higher
-pub answered_in : (f : Fields) (i : ℕ) → IsLawful f → i < 16 → bit_and (packed f / 2 ^ (8 + i)) 1 ≡ bit_at f.answered i
-answered_in f i lawful within =
-    let k = lawful.kind in
-    let n = lawful.few_workers in
-    let high : ℕ = (f.retired + 2 ^ 16 * f.number) * 2 ^ 16 + f.answered in
-    let low : ℕ = f.kind + 4 * f.workers in
-    let parts : packed f ≡ high * 2 ^ 8 + low = omega arith in
-    let below : low < 2 ^ 8 = omega arith in
-    let place : 8 + i - 8 ≡ i = omega arith in
-    and_mask (packed f / 2 ^ (8 + i)) 1 ∙
-    (ap (λ w. bit_at w (8 + i)) parts ∙
-    (bit_at_cat_high high 8 low (8 + i) below (omega arith) ∙
-    (ap (λ j. bit_at high j) place ∙ bit_at_cat_low (f.retired + 2 ^ 16 * f.number) 16 f.answered i within)))

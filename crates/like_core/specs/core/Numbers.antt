@@ -5,7 +5,6 @@ use Rattle.like_core.specs.declared.sight.Sight.{Sight}
 use Rattle.like_core.specs.declared.sight.CoordSight.{CoordSight}
 use Rattle.like_core.specs.declared.limits.Limits.{Limits}
 use Rattle.like_limits.specs.Limits.{total_bound}
-use Rattle.like_core.specs.OpeningLimits.{number_of}
 use Rattle.like_core.specs.Functions.{sum_below, update}
 use Rattle.like_core.specs.Phase.{split}
 use Rattle.like_core.specs.WorkerState.{IsIn, looked}
@@ -77,13 +76,13 @@ AllGone n = (i : ℕ) → i < n.workers → n.state i ≡ Gone
 
 -- what worker i sees by a look
 pub record Sees (n : Numbers) (i : ℕ) (sight : Sight) : Type 0 where
-  pub number : sight.number ≡ number_of n.limits n.phase
+  pub number : sight.number ≡ n.phase
   pub ending : sight.ending ≡ n.ending
   pub waits : IsTrue sight.waits ↔ (n.state i ≡ Answered n.phase)
 
 -- what the coordinator sees by a look
 pub record CoordSees (n : Numbers) (sight : CoordSight) : Type 0 where
-  pub number : sight.number ≡ number_of n.limits n.phase
+  pub number : sight.number ≡ n.phase
   pub ending : sight.ending ≡ n.ending
   pub all_in : IsTrue sight.all_in ↔ AllIn n
   pub all_gone : IsTrue sight.all_gone ↔ AllGone n

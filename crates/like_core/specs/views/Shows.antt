@@ -12,7 +12,7 @@ use Rattle.like_core.specs.declared.view.View.{View}
 use Rattle.like_core.specs.declared.view.View.TheVariants.{Coord, Worker, Spent}
 use Rattle.like_limits.specs.Limits.{max_count}
 use Rattle.like_core.specs.Phase.{IsSplit}
-use Rattle.like_core.specs.OpeningLimits.{number_of, AreLimits}
+use Rattle.like_core.specs.OpeningLimits.{AreLimits}
 use Rattle.like_core.specs.PhaseMasks.{mask_of}
 use Rattle.like_core.specs.core.Numbers.{AllIn, AllGone, CoordSees}
 use Rattle.like_core.specs.core.Table.{Permits, IsShown}
@@ -72,7 +72,7 @@ pub record KnowsPhase (z : Opening) (s : CoreState) (c : CoordSeatView) : Type 0
   pub ending : c.ending ≡ s.ending
   -- its last sight has the phase's number, and shows whether it is ending
   pub last : IfSome c.last (λ sight.
-      (sight.number ≡ number_of z.limits s.phase) × (sight.ending ≡ s.ending))
+      (sight.number ≡ s.phase) × (sight.ending ≡ s.ending))
   -- if that sight showed all in, a look would show the same now, and the phase word has not changed
   pub stays : IfSome c.last (λ sight. sight.all_in ≡ true
       → CoordSees (numbers z s) sight × (c.word ≡ shown_word z s))

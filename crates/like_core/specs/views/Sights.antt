@@ -1,27 +1,22 @@
-use Rattle.std.specs.Prelude.{ℕ, ◌%◌, ◌==◌, ◌||◌}
+use Rattle.std.specs.Prelude.{ℕ, ◌/◌, ◌%◌, ◌==◌}
 use Rattle.like_core.specs.declared.sight.Sight.{Sight}
 use Rattle.like_core.specs.declared.sight.CoordSight.{CoordSight}
-use Rattle.like_core.specs.Functions.{each_below, has_bit}
-use Rattle.like_core.specs.word.Word.{Fields}
+use Rattle.like_core.specs.word.Forms.{WordForm}
 
--- the fields of the phase word at the start
-abbrev pub first_fields : ℕ → Fields
-first_fields workers = record { kind = 0; workers = workers; answered = 0; retired = 0; number = 0 }
-
--- what worker i sees in a phase word with these fields: it waits if its bit of `answered` is set
-abbrev pub sight_of : Fields → ℕ → Sight
-sight_of f i = record {
-  number = f.number;
-  ending = f.kind % 2 == 1;
-  waits = has_bit f.answered i;
+-- what a worker sees in a word of this form. It waits if the word's phase is split and it has answered an odd one last,
+-- or neither: so the word's lowest two bits tell it
+abbrev pub sight_in : WordForm → ℕ → ℕ → Sight
+sight_in f turn word = record {
+  number = f.phase_in word;
+  ending = word % 2 == 1;
+  waits = word / 2 % 2 == turn;
 }
 
--- what the coordinator sees there: all are in if each worker's bit is set in `answered` or in `retired`, and all are
--- gone if each worker's bit of `retired` is set
-abbrev pub coord_sight_of : Fields → CoordSight
-coord_sight_of f = record {
-  number = f.number;
-  ending = f.kind % 2 == 1;
-  all_in = each_below (λ i. has_bit f.answered i || has_bit f.retired i) f.workers;
-  all_gone = each_below (λ i. has_bit f.retired i) f.workers;
+-- what the coordinator of so many workers sees there
+abbrev pub coord_sight_in : WordForm → ℕ → ℕ → CoordSight
+coord_sight_in f workers word = record {
+  number = f.phase_in word;
+  ending = word % 2 == 1;
+  all_in = f.all_in workers word;
+  all_gone = f.all_gone workers word;
 }

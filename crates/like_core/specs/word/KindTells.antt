@@ -5,7 +5,7 @@ use Rattle.like_core.specs.declared.worker_state.WorkerState.TheVariants.{Runs, 
 use Rattle.like_core.specs.declared.opening.Opening.{Opening}
 use Rattle.like_core.specs.core.State.{CoreState}
 use Rattle.like_core.specs.core.Reachable.{Reachable}
-use Rattle.like_core.specs.word.ShownWord.{shown_fields}
+use Rattle.like_core.specs.word.ShownWord.{shown_word}
 
 -- the phase that a word of this kind tells a worker in this state. If it has answered phase j, that is j if the kind is
 -- split and j is, or neither is; otherwise it is j + 1
@@ -18,4 +18,4 @@ phase_told kind Gone = 0
 abbrev pub KindTellsPhase : Type 0
 KindTellsPhase =
     (z : Opening) (s : CoreState) (i : ℕ) → Reachable z s → s.state i ≢ Gone
-    → phase_told (shown_fields z s).kind (s.state i) ≡ s.phase
+    → phase_told (shown_word z s % 4) (s.state i) ≡ s.phase

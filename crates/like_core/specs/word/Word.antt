@@ -50,27 +50,3 @@ pub record IsLawful (f : Fields) : Type 0 where
   pub number : f.number ≤ last_phase
   -- the greatest number is that of a running phase
   pub last : f.number ≡ last_phase → f.kind ≡ 0
-
--- after the end of a running phase was announced
-abbrev pub announced : Fields → Fields
-announced f = record f { kind = f.kind + 1 }
-
--- after worker i acknowledged or reported
-abbrev pub answered_by : Fields → ℕ → Fields
-answered_by f i = record f { answered = f.answered + 2 ^ i }
-
--- after worker i retired
-abbrev pub retired_by : Fields → ℕ → Fields
-retired_by f i = record f { retired = f.retired + 2 ^ i }
-
--- after the phase that follows an ending one was released
-abbrev pub released : Fields → Fields
-released f = record f {
-  kind = (if f.kind == 1 then 2 else 0);
-  answered = 0;
-  number = f.number + 1;
-}
-
--- the same, if a number is its phase modulo this
-abbrev pub released_modulo : ℕ → Fields → Fields
-released_modulo modulus f = record (released f) { number = (f.number + 1) % modulus }

@@ -27,7 +27,7 @@ impl Core {
         let state = self.states[worker as usize];
         self.set_state(worker, state.looked(self.phase));
         Sight {
-            number: self.limits.number(self.phase),
+            number: self.phase,
             ending: self.ending,
             waits: state == WorkerState::Answered(self.phase),
         }
@@ -37,7 +37,7 @@ impl Core {
         ensures { CoordSees (numbers_of self.now) result }
     {
         CoordSight {
-            number: self.limits.number(self.phase),
+            number: self.phase,
             ending: self.ending,
             all_in: self.all_in(),
             all_gone: self.all_gone(),

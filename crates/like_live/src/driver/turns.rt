@@ -11,7 +11,7 @@ use like_core::CoordSight;
 use like_seat::Lead;
 
 /// The last phase of a service.
-pub(crate) const LAST_PHASE: u64 = u64::MAX - 1;
+pub(crate) const LAST_PHASE: u64 = (1 << 48) - 2;
 
 // Looks, and does what the sight asks for. `splits` says whether something would be split in a split phase.
 pub(crate) fn act(

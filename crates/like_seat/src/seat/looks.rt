@@ -1,7 +1,7 @@
 ghost use Rattle.std.specs.Prelude.{◌≡◌, ◌≢◌, false};
 ghost use Rattle.like_core.specs.declared.worker_state.WorkerState.TheVariants.{Gone};
 ghost use Rattle.like_core.specs.Post.{answered, retired};
-ghost use Rattle.like_core.specs.WorkerState.{IsRunning, IsSightWithin, RunsJoined, SawEnding, SeesEndingStill};
+ghost use Rattle.like_core.specs.WorkerState.{IsRunning, IsSightOf, RunsJoined, SawEnding, SeesEndingStill};
 ghost use Rattle.like_seat.specs.SeatView.{IsSeat};
 ghost use Rattle.like_seat.specs.Steps.{Looks};
 
@@ -13,7 +13,7 @@ impl<P: Post, W: Copy> Seat<P, W> {
     #[inline(always)]
     pub fn look(&mut self) -> Sight
         requires { self.old.post.state ≢ Gone }
-        ensures sight { IsSightWithin self.old.post.limits self.old.post.state result }
+        ensures sight { IsSightOf self.old.post.state result }
         ensures ending { SeesEndingStill self.old.post.state self.old.post.last result }
         ensures looks { Looks self.old result self.new }
         ensures runs { result.waits ≡ false → IsRunning self.new.post.state }

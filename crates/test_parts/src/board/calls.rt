@@ -23,12 +23,12 @@ pub enum OnPost {
 #[derive(Clone, Copy)]
 pub enum OnCoord {
     Look(CoordSight),
-    /// It sees the phase of this number running, and announces its end.
-    Announce(u32),
-    /// It sees all workers in at the end of a joined phase of this number, and counts the page.
-    Count(u32, u64),
-    /// It sees all workers in at the end of a phase of this number, and releases the next with this mask.
-    Release(u32, u64),
+    /// It sees this phase running, and announces its end.
+    Announce(u64),
+    /// It sees all workers in at the end of this joined phase, and counts the page.
+    Count(u64, u64),
+    /// It sees all workers in at the end of this phase, and releases the next with this mask.
+    Release(u64, u64),
     /// The present phase, and whether it is the last.
     IsIn(u64, bool),
 }

@@ -29,7 +29,7 @@ pub fn lead(coord: &mut CoordSeat, board: &Board, call: OnCoord) -> bool
 }
 
 // A look shows a phase that runs, or that all workers are in at its end.
-fn sees(coord: &mut CoordSeat, board: &Board, number: u32, all_in: bool) -> bool
+fn sees(coord: &mut CoordSeat, board: &Board, number: u64, all_in: bool) -> bool
     requires { coord_board coord.old ≡ board_id board.now }
     ensures seat { KeepsSeat coord.old coord.new }
     ensures within { let c = coord_view coord.new in c.phase ≤ c.opening.limits.last_phase }

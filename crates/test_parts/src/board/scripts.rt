@@ -12,9 +12,9 @@ pub fn hot_phase() -> &'static [&'static [Step]] {
     HOT_PHASE
 }
 
-/// Phases 0, 2 and 4 have the same number modulo 2. The last is 4.
-pub fn equal_numbers() -> &'static [&'static [Step]] {
-    EQUAL_NUMBERS
+/// A worker goes through phases 0 to 4. The last is 4.
+pub fn five_phases() -> &'static [&'static [Step]] {
+    FIVE_PHASES
 }
 
 /// Two workers make each call of a post, of a page that is marked and begins at 10.
@@ -27,7 +27,7 @@ pub fn likes() -> &'static [&'static [Step]] {
     LIKES
 }
 
-// A worker's look at a phase of this number, whose end is announced or not, and which it has answered or not.
+// A worker's look at this phase, whose end is announced or not, and which it has answered or not.
 macro_rules! looks {
     ($who:ident, $number:literal, $ending:literal, $waits:literal) => {
         Step::$who(OnPost::Look(Sight {
@@ -143,32 +143,27 @@ const HOT_PHASE: &[&[Step]] = &[
     ],
 ];
 
-// A worker goes on from a phase of number 0.
-const PAST_0: &[Step] = &[
-    announces!(0),
-    looks!(First, 0, true, false),
-    Step::First(OnPost::Answer),
-    releases!(0, 0),
-    looks!(First, 1, false, false),
-];
+// A worker goes on from a phase to the next.
+macro_rules! past {
+    ($phase:literal, $next:literal) => {
+        &[
+            announces!($phase),
+            looks!(First, $phase, true, false),
+            Step::First(OnPost::Answer),
+            releases!($phase, 0),
+            looks!(First, $next, false, false),
+        ]
+    };
+}
 
-// It goes on from one of number 1.
-const PAST_1: &[Step] = &[
-    announces!(1),
-    looks!(First, 1, true, false),
-    Step::First(OnPost::Answer),
-    releases!(1, 0),
-    looks!(First, 0, false, false),
-];
-
-const EQUAL_NUMBERS: &[&[Step]] = &[
+const FIVE_PHASES: &[&[Step]] = &[
     &[looks!(First, 0, false, false), is_in!(0, false)],
-    PAST_0,
+    past!(0, 1),
     &[is_in!(1, false)],
-    PAST_1,
+    past!(1, 2),
     &[is_in!(2, false)],
-    PAST_0,
+    past!(2, 3),
     &[is_in!(3, false)],
-    PAST_1,
+    past!(3, 4),
     &[is_in!(4, true)],
 ];

@@ -1,11 +1,11 @@
-use Rattle.std.proofs.Common.{ap, ◌∙◌}
-use Rattle.like_core.specs.word.Word.{packed}
+use Rattle.std.proofs.Common.{length, ap, arith}
+use Rattle.like_core.proofs.views.Apart.{word_of-past}
 use Rattle.like_board.proofs.Opens.{opens_key}
 use Rattle.like_board.proofs.board.Board.with_limits.Goals as goal
 
 pub of_words-requires : goal.of_words-requires
 of_words-requires c =
-    let word = c.pack.result in
+    let word = c.first-first.result in
     opens_key
     (record {
       workers = c.args.workers;
@@ -20,7 +20,7 @@ of_words-requires c =
     c.as_slice.result.now
     c.in_ok-from_slice.ensures.items
     c.in_ok-from_slice-2.ensures.items
-    (c.pack.ensures ∙ ap packed c.first-first.ensures)
+    c.first-first.ensures
     c.as_slice.ensures.value (
       c.in_ok-words.ensures.len,
       c.in_ok-words.ensures.phase_word,
@@ -33,3 +33,13 @@ of_words-requires c =
     c.requires.few_pages
     c.requires.counts
     c.requires.limits
+
+pub invariant_of-board : goal.invariant_of-board
+invariant_of-board c =
+    let made = c.in_ok-table.ensures in
+    let many = word_of-past (length c.args.counts.now) in
+    let items = c.as_slice.ensures.value in
+    let long = ap length items in
+    let words = c.in_ok-words.ensures.len in
+    let count = made.0 in
+    record { some_word = omega arith; no_slot = made.1 }

@@ -1,7 +1,6 @@
-use Rattle.std.proofs.Common.{ap, ◌∙◌}
+use Rattle.std.proofs.Common.{◌∙◌, ap}
 use Rattle.like_core.specs.declared.limits.Limits.{Limits}
-use Rattle.like_core.specs.word.Word.{packed}
-use Rattle.like_core.specs.word.PhaseWord.{fields_of}
+use Rattle.like_core.specs.word.Forms.{form_of}
 use Rattle.like_board.proofs.Allowed.{releasing}
 use Rattle.like_board.proofs.coord_seat.CoordSeat.release.Goals as goal
 
@@ -10,8 +9,7 @@ store-requires c =
     let seat = c.args.self.now in (
       c.requires.here,
       c.args.board.now.some_word,
-      releasing c.args.board.now.table.shared.key _ _ _ seat.limits.modulus (fields_of seat.seen) _
-          (ap (λ (l : Limits). l.modulus) seat.limited)
-          (c.pack.ensures ∙ ap packed c.released_modulo-next.ensures.fields) seat.seen.lawful seat.saw seat.is_coord
-          c.requires.may,
+      releasing c.args.board.now.table.shared.key _ _ _ seat.seen _
+          (c.released-next.ensures ∙ ap (λ (l : Limits). (form_of l.form).released seat.seen) seat.limited) seat.saw
+          seat.is_coord c.requires.may,
     )

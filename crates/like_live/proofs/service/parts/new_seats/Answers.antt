@@ -6,7 +6,7 @@ use Rattle.std.specs.Arc.{arc_value}
 use Rattle.like_board.specs.Seats.{board_id}
 use Rattle.like_live.specs.LiveView.{LiveView}
 use Rattle.like_live.specs.Service.{IsOpenedSeat}
-use Rattle.like_live.proofs.Newly.{each-pushed}
+use Rattle.like_board.proofs.Pushing.{each-pushed}
 use Rattle.like_live.proofs.service.parts.new_seats.Goals as goal
 
 pub overflow_cast-number : goal.overflow_cast-number
@@ -17,7 +17,7 @@ overflow_cast-number c =
     (from.1 ∙ c.args.workers.ok.0) in
     let turn = YieldsList-turn all l.yielded _ l.yielded_by _ c.next.new.self c.in-Some.worker c.in-Some.is
     c.next.ensures.steps in
-    let few : length c.args.workers.items ≤ 16 = subst (λ n. n ≤ 16) (sym c.requires.len) c.requires.within.1.1.1.0.1 in
+    let few : length c.args.workers.items ≤ 64 = subst (λ n. n ≤ 64) (sym c.requires.len) c.requires.within.1.1.1.0.1 in
     omega (arith, turn.0, few, c.len-number.ensures, l.seats.ok.0, l.invariant.len)
 
 pub loop-worker-preserved : goal.loop-worker-preserved

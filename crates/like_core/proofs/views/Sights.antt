@@ -1,1 +1,0 @@
--- What a worker sees within the limits of its board.

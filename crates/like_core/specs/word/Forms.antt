@@ -1,0 +1,115 @@
+-- The two forms of the phase word. A program's word has two bits for each worker; a service's counts how many have
+-- answered and how many are gone.
+use Rattle.std.specs.Prelude.{ℕ, zero, suc, ◌+◌, ◌*◌, ◌/◌, ◌%◌, ◌^◌, ◌==◌, ◌||◌, nat_lt, Bool, true, false, if◌then◌else◌}
+use Rattle.like_core.specs.declared.worker_state.WorkerState.{WorkerState}
+use Rattle.like_core.specs.declared.worker_state.WorkerState.TheVariants.{Runs, Answered, Gone}
+use Rattle.like_core.specs.declared.form.Form.{Form}
+use Rattle.like_core.specs.declared.form.Form.TheVariants.{Bits, Counts}
+use Rattle.like_core.specs.Functions.{each_below, has_bit, sum_below}
+use Rattle.like_core.specs.word.Word.{Fields, packed, answer_bit, retirement_bit}
+
+-- a bit as a number
+abbrev pub weight : Bool → ℕ
+weight true = 1
+weight false = 0
+
+-- the number whose bit i, for each i below n, is set if the test says yes of i
+abbrev pub mask : (ℕ → Bool) → ℕ → ℕ
+mask test zero = 0
+mask test (suc n) = mask test n + weight (test n) * 2 ^ n
+
+-- of how many numbers below n the test says yes
+abbrev pub how_many : (ℕ → Bool) → ℕ → ℕ
+how_many test n = sum_below (λ i. weight (test i)) n
+
+-- whether a worker in this state has answered this phase
+abbrev pub has_answered : ℕ → WorkerState → Bool
+has_answered phase (Runs j) = false
+has_answered phase (Answered j) = j == phase
+has_answered phase Gone = false
+
+-- whether a worker in this state is gone
+abbrev pub is_gone : WorkerState → Bool
+is_gone (Runs j) = false
+is_gone (Answered j) = false
+is_gone Gone = true
+
+-- what a word of either form has in its lowest two bits: the high one is set if the phase is split, the low one if it is
+-- ending
+abbrev pub kind_in : ℕ → Bool → ℕ
+kind_in phase ending = 2 * (phase % 2) + weight ending
+
+-- those bits of the word that a release stores: the next phase runs
+abbrev pub released_kind : ℕ → ℕ
+released_kind word = (if word % 4 == 1 then 2 else 0)
+
+-- a form of the phase word
+pub record WordForm : Type 0 where
+  -- the word of so many workers in a phase, which may be ending, if these are their states
+  pub word : ℕ → ℕ → Bool → (ℕ → WorkerState) → ℕ
+  -- what worker i adds to it by an answer, and by retiring
+  pub answer : ℕ → ℕ
+  pub retirement : ℕ → ℕ
+  -- the phase that a word tells
+  pub phase_in : ℕ → ℕ
+  -- whether a word of so many workers shows all in, and all gone
+  pub all_in : ℕ → ℕ → Bool
+  pub all_gone : ℕ → ℕ → Bool
+  -- the word that a release stores, if it saw this one
+  pub released : ℕ → ℕ
+
+-- the fields of a word of bits
+abbrev pub bits_fields : ℕ → ℕ → Bool → (ℕ → WorkerState) → Fields
+bits_fields workers phase ending state = record {
+  kind = kind_in phase ending;
+  workers = workers;
+  answered = mask (λ i. has_answered phase (state i)) workers;
+  retired = mask (λ i. is_gone (state i)) workers;
+  number = phase;
+}
+
+-- the form of a program: a phase has 24 bits, and at most 16 workers have two bits each
+abbrev pub bits : WordForm
+bits = record {
+  word = λ workers phase ending state. packed (bits_fields workers phase ending state);
+  answer = answer_bit;
+  retirement = retirement_bit;
+  phase_in = λ word. word / 2 ^ 40;
+  all_in = λ workers word. each_below (λ i. has_bit (word / 2 ^ 8) i || has_bit (word / 2 ^ 24) i) workers;
+  all_gone = λ workers word. each_below (λ i. has_bit (word / 2 ^ 24) i) workers;
+  released = λ word. packed (record {
+    kind = released_kind word;
+    workers = word / 4 % 2 ^ 6;
+    answered = 0;
+    retired = word / 2 ^ 24 % 2 ^ 16;
+    number = word / 2 ^ 40 + 1;
+  });
+}
+
+-- the form of a service: a phase has 48 bits, and each of the two counts has 7
+abbrev pub counts : WordForm
+counts = record {
+  word = λ workers phase ending state.
+      kind_in phase ending
+      + 4 * how_many (λ i. has_answered phase (state i)) workers
+      + 2 ^ 9 * how_many (λ i. is_gone (state i)) workers
+      + 2 ^ 16 * phase;
+  answer = λ _. 4;
+  retirement = λ _. 2 ^ 9;
+  phase_in = λ word. word / 2 ^ 16;
+  all_in = λ workers word. word / 4 % 2 ^ 7 + word / 2 ^ 9 % 2 ^ 7 == workers;
+  all_gone = λ workers word. word / 2 ^ 9 % 2 ^ 7 == workers;
+  released = λ word. released_kind word + 2 ^ 9 * (word / 2 ^ 9 % 2 ^ 7) + 2 ^ 16 * (word / 2 ^ 16 + 1);
+}
+
+abbrev pub form_of : Form → WordForm
+form_of Bits = bits
+form_of Counts = counts
+
+-- the workers' states at the start
+abbrev pub first_states : ℕ → ℕ → WorkerState
+first_states workers i = (if nat_lt i workers then Runs 0 else Gone)
+
+-- the word at the start: so many workers run phase 0
+abbrev pub first_word : WordForm → ℕ → ℕ
+first_word f workers = f.word workers 0 false (first_states workers)
