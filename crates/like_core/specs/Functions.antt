@@ -1,4 +1,4 @@
-use Rattle.std.specs.Prelude.{ℕ, zero, suc, ◌+◌, ◌==◌, Bool, true, ◌&&◌, if◌then◌else◌, List, count_by}
+use Rattle.std.specs.Prelude.{ℕ, zero, suc, ◌+◌, ◌*◌, ◌^◌, ◌==◌, Bool, true, false, ◌&&◌, if◌then◌else◌, List, count_by}
 use Rattle.std.specs.Int.{bit_at}
 
 -- the function that is x at i, and f elsewhere
@@ -22,3 +22,17 @@ has_bit mask i = bit_at mask i == 1
 -- how often x is in a list
 abbrev pub times : ℕ → List ℕ → ℕ
 times x xs = count_by (λ y. y == x) xs
+
+-- a bit as a number
+abbrev pub weight : Bool → ℕ
+weight true = 1
+weight false = 0
+
+-- the number whose bit i, for each i below n, is set if the test says yes of i
+abbrev pub mask : (ℕ → Bool) → ℕ → ℕ
+mask test zero = 0
+mask test (suc n) = mask test n + weight (test n) * 2 ^ n
+
+-- of how many numbers below n the test says yes
+abbrev pub how_many : (ℕ → Bool) → ℕ → ℕ
+how_many test n = sum_below (λ i. weight (test i)) n

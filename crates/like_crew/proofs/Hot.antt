@@ -4,7 +4,7 @@ use Rattle.std.specs.List.{All, filter, flat_map, range_with_len}
 use Rattle.std.proofs.lemmas.Bool.{cases_eq, cases_lt, eq-eqb, ne_eqb, le-ltb, lt-ltb}
 use Rattle.std.proofs.lemmas.List.Sums.{sum_by-cons}
 use Rattle.like_limits.specs.Limits.{hot_pages}
-use Rattle.like_core.specs.word.ShownWord.{mask}
+use Rattle.like_core.specs.Functions.{mask}
 use Rattle.like_core.proofs.word.Masks.{mask_same}
 use Rattle.like_service.specs.declared.log.Ran.{Ran}
 use Rattle.like_service.specs.declared.log.Took.{Took}

@@ -4,7 +4,7 @@ use Rattle.std.proofs.Math.Nat.{mod-eq_of_lt, pow-le-pow_right}
 use Rattle.std.proofs.lemmas.List.{get_or-set_other, get_or-set_same}
 use Rattle.like_core.specs.declared.view.CoordSeatView.{CoordSeatView}
 use Rattle.like_core.specs.Phase.{IsJoined}
-use Rattle.like_core.specs.word.ShownWord.{mask, weight}
+use Rattle.like_core.specs.Functions.{mask, weight}
 use Rattle.like_core.specs.views.Views.{counted_coord, MayCount, MayPublish, SawAllIn}
 use Rattle.like_core.proofs.word.Masks.{mask-lt, mask_same}
 use Rattle.like_seat.specs.Lead.{counted_from, has_risen}

@@ -9,7 +9,7 @@ use Rattle.like_core.specs.Phase.{IsSplit}
 use Rattle.like_core.specs.views.Actions.{Surveys}
 use Rattle.like_core.specs.views.Shows.{IsKnown}
 use Rattle.like_core.specs.views.Views.{announced_coord, counted_coord, looked_coord, published_coord, released_coord}
-use Rattle.like_core.specs.word.ShownWord.{mask}
+use Rattle.like_core.specs.Functions.{mask}
 
 -- its board; what its seat knows; how many likes make a page hot, if any do; and the counts at its last choice of the
 -- pages that may be hot

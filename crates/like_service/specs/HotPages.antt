@@ -2,7 +2,7 @@
 use Rattle.std.specs.Prelude.{ℕ, ◌+◌, ◌%◌, ◌==◌, ◌||◌, nat_lt, nat_le, min, if◌then◌else◌, List, length, map, filter, Option, Some, None}
 use Rattle.std.specs.List.{range_with_len, sum_by}
 use Rattle.like_limits.specs.Limits.{hot_pages}
-use Rattle.like_core.specs.word.ShownWord.{mask}
+use Rattle.like_core.specs.Functions.{mask}
 use Rattle.like_service.specs.declared.chosen.Chosen.{Chosen}
 use Rattle.like_service.specs.declared.log.Ran.{Ran}
 use Rattle.like_service.specs.Likes.{likes_among}

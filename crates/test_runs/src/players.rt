@@ -17,7 +17,7 @@ use std::process::Abort;
 
 mod shared;
 
-use shared::{List, Shared, is_joined, open_all};
+use shared::{List, Shared, is_joined, open_all, phase_of};
 
 /// A worker, with what it took and ran so far.
 #[derive(Drop)]
@@ -66,8 +66,9 @@ impl Player {
 
     // A turn with this look. It does nothing in a phase that it has answered.
     fn turn_at(&mut self, shared: &mut Shared<'_>, sight: Sight) {
-        if !self.answered || sight.number != self.phase {
-            self.enter(sight.number);
+        let phase = phase_of(sight.number);
+        if !self.answered || phase != self.phase {
+            self.enter(phase);
             if is_joined(self.phase) {
                 self.joined_turn(shared, sight.ending);
             } else {

@@ -8,13 +8,13 @@ use Rattle.like_core.specs.declared.form.Form.TheVariants.{Bits}
 use Rattle.like_core.specs.declared.worker_state.WorkerState.{WorkerState}
 use Rattle.like_core.specs.declared.worker_state.WorkerState.TheVariants.{Runs, Answered, Gone}
 use Rattle.like_core.specs.declared.opening.Opening.{Opening}
-use Rattle.like_core.specs.Functions.{update, has_bit}
+use Rattle.like_core.specs.Functions.{update, has_bit, mask}
 use Rattle.like_core.specs.OpeningLimits.{most_phase, most_seats}
 use Rattle.like_core.specs.WorkerState.{looked}
 use Rattle.like_core.specs.core.State.{CoreState}
 use Rattle.like_core.specs.core.Exclusive.{IsInPhase}
 use Rattle.like_core.specs.word.Word.{Fields, packed, answer_bit, retirement_bit}
-use Rattle.like_core.specs.word.Forms.{mask, has_answered, is_gone, bits, bits_fields, kind_in}
+use Rattle.like_core.specs.word.Forms.{has_answered, is_gone, bits, bits_fields, kind_in}
 use Rattle.like_core.specs.word.ShownWord.{word_in}
 use Rattle.like_core.specs.views.Shows.{IsOpening}
 use Rattle.like_core.specs.views.Serves.{Serves, moved}

@@ -6,12 +6,12 @@ use Rattle.like_core.specs.declared.form.Form.TheVariants.{Counts}
 use Rattle.like_core.specs.declared.worker_state.WorkerState.{WorkerState}
 use Rattle.like_core.specs.declared.worker_state.WorkerState.TheVariants.{Runs, Answered, Gone}
 use Rattle.like_core.specs.declared.opening.Opening.{Opening}
-use Rattle.like_core.specs.Functions.{update}
+use Rattle.like_core.specs.Functions.{update, how_many}
 use Rattle.like_core.specs.OpeningLimits.{most_phase, most_seats}
 use Rattle.like_core.specs.WorkerState.{looked}
 use Rattle.like_core.specs.core.State.{CoreState}
 use Rattle.like_core.specs.core.Exclusive.{IsInPhase}
-use Rattle.like_core.specs.word.Forms.{has_answered, is_gone, how_many, counts, kind_in}
+use Rattle.like_core.specs.word.Forms.{has_answered, is_gone, counts, kind_in}
 use Rattle.like_core.specs.word.ShownWord.{word_in}
 use Rattle.like_core.specs.views.Shows.{IsOpening}
 use Rattle.like_core.specs.views.Serves.{AllGoneCounts, AllInCounts, AnswersOne, RetiresOne, Serves, answered_now, gone_now, moved}

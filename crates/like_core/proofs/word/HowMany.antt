@@ -1,7 +1,7 @@
 -- Of how many numbers a test says yes.
 use Rattle.std.proofs.Common.{◌≡◌, ◌≢◌, ℕ, zero, suc, ◌+◌, ◌<◌, ◌≤◌, ◌||◌, ◌==◌, Bool, true, false, inl, inr, ap, sym, ◌∙◌, refl, arith}
 use Rattle.std.proofs.lemmas.Bool.{cases_eq}
-use Rattle.like_core.specs.word.Forms.{weight, how_many}
+use Rattle.like_core.specs.Functions.{weight, how_many}
 
 -- equal tests give equal numbers
 pub how_many-same : (f g : ℕ → Bool) (n : ℕ) → ((i : ℕ) → i < n → f i ≡ g i) → how_many f n ≡ how_many g n

@@ -4,11 +4,11 @@ use Rattle.std.proofs.lemmas.Bool.{cases_eq, eqb-true, ne_eqb, cond-true, cond-f
 use Rattle.like_core.specs.declared.worker_state.WorkerState.{WorkerState}
 use Rattle.like_core.specs.declared.worker_state.WorkerState.TheVariants.{Runs, Answered, Gone}
 use Rattle.like_core.specs.declared.opening.Opening.{Opening}
-use Rattle.like_core.specs.Functions.{update}
+use Rattle.like_core.specs.Functions.{update, weight}
 use Rattle.like_core.specs.WorkerState.{IsIn, looked}
 use Rattle.like_core.specs.core.State.{CoreState}
 use Rattle.like_core.specs.core.Exclusive.{IsInPhase}
-use Rattle.like_core.specs.word.Forms.{weight, has_answered, is_gone, first_states, kind_in, released_kind}
+use Rattle.like_core.specs.word.Forms.{has_answered, is_gone, first_states, kind_in, released_kind}
 use Rattle.like_core.proofs.Updates.{update-same, update-other}
 
 pub weight-lt : (b : Bool) → weight b < 2

@@ -6,12 +6,12 @@ use Rattle.like_core.specs.declared.form.Form.TheVariants.{Bits, Counts}
 use Rattle.like_core.specs.declared.opening.Opening.{Opening}
 use Rattle.like_core.specs.declared.worker_state.WorkerState.{WorkerState}
 use Rattle.like_core.specs.declared.worker_state.WorkerState.TheVariants.{Runs, Answered, Gone}
-use Rattle.like_core.specs.Functions.{update}
+use Rattle.like_core.specs.Functions.{update, how_many}
 use Rattle.like_core.specs.WorkerState.{looked}
 use Rattle.like_core.specs.core.Numbers.{AllIn, AllGone}
 use Rattle.like_core.specs.core.State.{CoreState, numbers}
 use Rattle.like_core.specs.core.Reachable.{Reachable}
-use Rattle.like_core.specs.word.Forms.{WordForm, form_of, has_answered, how_many, is_gone, kind_in}
+use Rattle.like_core.specs.word.Forms.{WordForm, form_of, has_answered, is_gone, kind_in}
 use Rattle.like_core.specs.word.ShownWord.{shown_word, word_in}
 use Rattle.like_core.specs.views.Shows.{IsOpening}
 

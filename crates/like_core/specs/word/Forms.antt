@@ -1,26 +1,12 @@
 -- The two forms of the phase word. A program's word has two bits for each worker; a service's counts how many have
 -- answered and how many are gone.
-use Rattle.std.specs.Prelude.{ℕ, zero, suc, ◌+◌, ◌*◌, ◌/◌, ◌%◌, ◌^◌, ◌==◌, ◌||◌, nat_lt, Bool, true, false, if◌then◌else◌}
+use Rattle.std.specs.Prelude.{ℕ, ◌+◌, ◌*◌, ◌/◌, ◌%◌, ◌^◌, ◌==◌, ◌||◌, nat_lt, Bool, true, false, if◌then◌else◌}
 use Rattle.like_core.specs.declared.worker_state.WorkerState.{WorkerState}
 use Rattle.like_core.specs.declared.worker_state.WorkerState.TheVariants.{Runs, Answered, Gone}
 use Rattle.like_core.specs.declared.form.Form.{Form}
 use Rattle.like_core.specs.declared.form.Form.TheVariants.{Bits, Counts}
-use Rattle.like_core.specs.Functions.{each_below, has_bit, sum_below}
+use Rattle.like_core.specs.Functions.{each_below, has_bit, how_many, mask, weight}
 use Rattle.like_core.specs.word.Word.{Fields, packed, answer_bit, retirement_bit}
-
--- a bit as a number
-abbrev pub weight : Bool → ℕ
-weight true = 1
-weight false = 0
-
--- the number whose bit i, for each i below n, is set if the test says yes of i
-abbrev pub mask : (ℕ → Bool) → ℕ → ℕ
-mask test zero = 0
-mask test (suc n) = mask test n + weight (test n) * 2 ^ n
-
--- of how many numbers below n the test says yes
-abbrev pub how_many : (ℕ → Bool) → ℕ → ℕ
-how_many test n = sum_below (λ i. weight (test i)) n
 
 -- whether a worker in this state has answered this phase
 abbrev pub has_answered : ℕ → WorkerState → Bool

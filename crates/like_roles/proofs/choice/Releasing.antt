@@ -9,7 +9,7 @@ use Rattle.like_core.specs.declared.opening.Opening.{Opening}
 use Rattle.like_limits.specs.Limits.{hot_pages}
 use Rattle.like_core.specs.Phase.{IsJoined, IsSplit}
 use Rattle.like_core.specs.PhaseMasks.{mask_of}
-use Rattle.like_core.specs.word.ShownWord.{mask}
+use Rattle.like_core.specs.Functions.{mask}
 use Rattle.like_core.specs.views.Views.{published_coord, released_coord}
 use Rattle.like_core.proofs.word.Masks.{mask_same}
 use Rattle.like_seat.specs.Lead.{counted_from, has_risen, risen}

@@ -5,6 +5,11 @@ use like_roles::Chosen;
 use like_tables::Held;
 use std::mem::replace;
 
+/// The phase of a run that a sight tells.
+pub fn phase_of(number: u64) -> u32 {
+    u32::try_from(number).unwrap_or(u32::MAX)
+}
+
 /// How many items of a submitter's list are open, of which the end mark is the last, and how many requests are taken.
 #[derive(Clone, Copy)]
 pub struct List {
@@ -77,7 +82,7 @@ impl Shared<'_> {
     /// A turn of the coordinator; the phase in which the run ended where all workers are gone.
     pub fn lead(&mut self) -> Option<u32> {
         match self.step(Event::CoordLook) {
-            Shown::Coord(sight) if sight.all_gone => Some(sight.number),
+            Shown::Coord(sight) if sight.all_gone => Some(phase_of(sight.number)),
             Shown::Coord(sight) => {
                 self.go_on(sight);
                 None
@@ -89,7 +94,7 @@ impl Shared<'_> {
     // Ends a phase that all have answered, counts a turn of one that goes on, or announces its end where none is left.
     fn go_on(&mut self, sight: CoordSight) {
         if sight.ending && sight.all_in {
-            self.release(sight.number);
+            self.release(phase_of(sight.number));
         } else if !sight.ending && self.turns_left > 0 {
             self.turns_left -= 1;
         } else if !sight.ending {

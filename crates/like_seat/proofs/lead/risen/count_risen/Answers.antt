@@ -2,7 +2,7 @@ use Rattle.std.proofs.Common.{◌≡◌, ◌+◌, ◌-◌, ◌*◌, ◌^◌, ◌
 use Rattle.std.proofs.lemmas.Bool.{lt-leb, le-leb}
 use Rattle.std.proofs.lemmas.List.{get_or-set_other, length-set, length-take-le, take_more_set}
 use Rattle.like_core.specs.declared.view.CoordSeatView.{CoordSeatView}
-use Rattle.like_core.specs.word.ShownWord.{weight}
+use Rattle.like_core.specs.Functions.{weight}
 use Rattle.like_core.specs.views.Views.{counted_coord, MayCount}
 use Rattle.like_board.specs.Seats.{coord_view}
 use Rattle.like_seat.specs.Lead.{counted_from, has_risen}

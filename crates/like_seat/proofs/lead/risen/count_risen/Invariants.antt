@@ -1,6 +1,6 @@
 use Rattle.std.proofs.Common.{◌≡◌, ◌≤◌, ℕ, length, take, get_or}
 use Rattle.like_board.specs.Seats.{coord_board, coord_view}
-use Rattle.like_core.specs.word.ShownWord.{mask}
+use Rattle.like_core.specs.Functions.{mask}
 use Rattle.like_seat.specs.Lead.{counted_from, has_risen}
 use Rattle.like_seat.proofs.lead.risen.count_risen.Given as goal
 
