@@ -1,5 +1,5 @@
-/* Takes a service with one seat past phase 16,777,214, where the number in the phase word begins again at 0: around
- * that place each phase, answer and count is right, and so are the totals.
+/* Takes a service with one seat past phase 16,777,214, the last of a program: around that phase each phase, answer and
+ * count is right, and so are the totals.
  *
  * usage: live-far */
 #include "likes.h"
@@ -8,8 +8,8 @@
 #include <stdio.h>
 #include <stdlib.h>
 
-/* After so many phases the number in the phase word begins again at 0. */
-static const uint64_t MODULUS = 16777214;
+/* The last phase of a program. */
+static const uint64_t LAST_OF_PROGRAM = 16777214;
 
 static likes_driver driver;
 static likes_seat seat;
@@ -73,12 +73,12 @@ int main(void) {
     likes_options options = {.seats = 1, .users = 1, .room = 2};
     hold(likes_open(&options, counts, 2, marks, 1, &driver) == LIKES_OK, "no service was opened");
     hold(likes_driver_take_seat(&driver, &seat) == LIKES_OK, "no seat was taken");
-    while (phase < MODULUS - 4) {
+    while (phase < LAST_OF_PROGRAM - 4) {
         if (phase % 1000000 == 0)
             two_phases();
         change();
     }
-    while (phase < MODULUS + 4)
+    while (phase < LAST_OF_PROGRAM + 4)
         two_phases();
     hold(likes_seat_retire(&seat) == LIKES_GONE, "the seat did not retire");
     hold(likes_driver_turn(&driver, LIKES_END_IF_IT_SERVES) == LIKES_ENDED, "the service did not end");
