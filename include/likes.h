@@ -57,7 +57,7 @@ typedef struct likes_phase {
     void *at;
 } likes_phase;
 
-#define LIKES_MAX_SEATS 16u
+#define LIKES_MAX_SEATS 64u
 #define LIKES_MAX_PAGES 16777216u
 #define LIKES_MAX_MARKS 64u
 #define LIKES_MAX_ROOM 4096u
