@@ -9,9 +9,8 @@
  *   - Pointers. Every pointer is valid and aligned for its type. An array has the stated length; if that is 0, the
  *     pointer may be NULL. No other pointer is NULL, but for one to a handle that is to be freed. What two pointers of
  *     one call point to doesn't overlap. What a call writes needs no value before.
- *   - One call at a time on each driver and on each seat, from any thread. Two calls on the same object are ordered by
- *     a lock, by a thread's start or join, or by a sequentially consistent atomic. likes_phase_now may be called by
- *     many threads at once.
+ *   - One call at a time on each driver, each seat and each phase, from any thread. Two calls on the same object are
+ *     ordered by a lock, by a thread's start or join, or by a sequentially consistent atomic.
  *   - A handle, likes_driver, likes_seat or likes_phase, begins as {0}, which is empty. Only the call that fills it and
  *     the one that frees it change it. After a copy, only one of the two is used.
  *   - No call is made from a signal handler, or in the child of a fork.
