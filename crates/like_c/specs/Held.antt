@@ -12,7 +12,7 @@ use Rattle.like_live.specs.declared.driver_answer.DriverAnswer.{DriverAnswer}
 use Rattle.like_live.specs.Calls.{GlanceCase, LikeCase, LookCase, RetireCase, TakesFound}
 use Rattle.like_live.specs.Driver.{DriverTurns, TakesLast, TakesSnapshot}
 use Rattle.like_live.specs.Moves.{Moves}
-use Rattle.like_seat.specs.SeatView.{phase_at}
+use Rattle.like_seat.specs.StationView.{phase_at}
 use Rattle.like_c.specs.declared.opened.BoxedPhase.{BoxedPhase}
 use Rattle.like_c.specs.declared.opened.BoxedSeat.{BoxedSeat}
 use Rattle.like_c.specs.declared.opened.Opened.{Opened}

@@ -100,7 +100,13 @@ fn boxed(
 
 fn boxed_phase(alloc: Global, driver: &Driver) -> Result<Box<BoxedPhase, Global>, AllocError> {
     let phase = driver.phase_now()?;
-    Ok(Box::new(alloc, BoxedPhase { phase, apart: APART })?)
+    Ok(Box::new(
+        alloc,
+        BoxedPhase {
+            phase,
+            apart: APART,
+        },
+    )?)
 }
 
 // Tests every number of what C asks for.

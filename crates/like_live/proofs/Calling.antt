@@ -10,7 +10,7 @@ use Rattle.like_core.specs.WorkerState.{phase_of}
 use Rattle.like_requests.specs.declared.request.PageRef.TheVariants.{Known, Unknown}
 use Rattle.like_requests.specs.declared.verdict.Verdict.TheVariants.{Accepted, UnknownUser, OtherHome, UnknownPage}
 use Rattle.like_requests.specs.Verdict.{is_known}
-use Rattle.like_seat.specs.SeatView.{SeatView, tally_of}
+use Rattle.like_seat.specs.StationView.{StationView, tally_of}
 use Rattle.like_seat.specs.Steps.{CountsLike}
 use Rattle.like_live.specs.declared.answer.LikeAnswer.{LikeAnswer}
 use Rattle.like_live.specs.declared.asked.Asked.{Asked}
@@ -28,7 +28,7 @@ last_test true true false e = cc
 last_test true true true e = refl
 
 -- the page of a request that is accepted is there
-pub page_there : (s : SeatView Asked) (user page : ℕ) → verdict_at s user page ≡ Accepted → page < pages_of s.post
+pub page_there : (s : StationView Asked) (user page : ℕ) → verdict_at s user page ≡ Accepted → page < pages_of s.post
 page_there s user page is =
     ltb-true page (pages_of s.post) (by_test (nat_lt page (pages_of s.post)) (last_test _ _ _ is))
   where
@@ -61,16 +61,16 @@ added-more xs phase page old other =
     omega (arith, sum_by-append f xs (addition phase page old 1 ∷ []), sum_by-cons f (addition phase page old 1) [])
 
 -- a like that is counted is one more of its page's tally
-counts-tally : (s after : SeatView Asked) (user page : ℕ) (old : Option ℕ) (other : ℕ)
+counts-tally : (s after : StationView Asked) (user page : ℕ) (old : Option ℕ) (other : ℕ)
     → page < length s.slice
     → CountsLike s user page old after
     → tally_of after other ≡ tally_of s other + cond (page == other) 1 0
 counts-tally s after user page None other there c =
-    let e = ap (λ (t : SeatView Asked). tally_of t other) c.1 in
+    let e = ap (λ (t : StationView Asked). tally_of t other) c.1 in
     let more = slice-more s.slice page other there in
     omega arith
 counts-tally s after user page (Some count) other there c =
-    let e = ap (λ (t : SeatView Asked). tally_of t other) c.1 in
+    let e = ap (λ (t : StationView Asked). tally_of t other) c.1 in
     let more = added-more s.post.additions (phase_of s.post.state) page count other in
     omega arith
 

@@ -16,7 +16,7 @@ use Rattle.like_core.specs.WorkerState.{IsRunning, RunsJoined, RunsSplit, phase_
 use Rattle.like_tables.specs.Share.{owns}
 use Rattle.like_tables.specs.UserTable.{UserTable, last_of}
 use Rattle.like_seat.specs.declared.seen.Seen.{Seen}
-use Rattle.like_seat.specs.SeatView.{SeatView, phase_at}
+use Rattle.like_seat.specs.StationView.{StationView, phase_at}
 use Rattle.like_seat.specs.Steps.{Reads, without_first}
 use Rattle.like_live.specs.declared.asked.Asked.{Asked}
 use Rattle.like_live.specs.declared.asked.Found.{Found}
@@ -190,22 +190,22 @@ Finding-more v now next a f d first is shown post capacity slice sliced last fou
         (sym (map-append (read_for (length v.seat.post.additions)) d.found (f ∷ [])))
 
 -- the first that waits still is the seat's, once it is taken out
-pub Finding-first : (v now : LiveView) (s : SeatView Asked) (a : Asked) → Finding v now → All (IsOwn v.seat) (waiting v)
+pub Finding-first : (v now : LiveView) (s : StationView Asked) (a : Asked) → Finding v now → All (IsOwn v.seat) (waiting v)
     → slice_get (waiting now) 0 ≡ Some a → s ≡ without_first now.seat → IsOwn s a
 Finding-first v now s a d own first is =
     let mine : IsOwn v.seat a =
     All-head (IsOwn v.seat) a (drop 1 (waiting now))
     (subst (All (IsOwn v.seat)) (first_of (waiting now) a first) (Finding-own v now d own)) in
     let marks : s.post.marks ≡ v.seat.post.marks =
-    ap (λ (t : SeatView Asked). t.post.marks) is ∙ ap (λ (p : PostView). p.marks) d.post in
-    let last : s.last ≡ v.seat.last = ap (λ (t : SeatView Asked). t.last) is ∙ d.last in
+    ap (λ (t : StationView Asked). t.post.marks) is ∙ ap (λ (p : PostView). p.marks) d.post in
+    let last : s.last ≡ v.seat.last = ap (λ (t : StationView Asked). t.last) is ∙ d.last in
     record {
       there = subst (λ (m : List Bool). a.page < length m) (sym marks) mine.there;
       owned = subst (λ (t : UserTable). IsTrue (owns t.share a.user)) (sym last) mine.owned;
     }
 
 -- the first that waits still is found by a read
-pub Finding-next : (v now : LiveView) (s after : SeatView Asked) (found : List Found) (a : Asked) (seen : Seen)
+pub Finding-next : (v now : LiveView) (s after : StationView Asked) (found : List Found) (a : Asked) (seen : Seen)
     (phase : ℕ)
     → Finding v now
     → slice_get (waiting now) 0 ≡ Some a
@@ -215,31 +215,31 @@ pub Finding-next : (v now : LiveView) (s after : SeatView Asked) (found : List F
     → found ≡ now.found ++ record { asked = a; last = seen.last; count = seen.count; phase = phase } ∷ []
     → Finding v (record { seat = after; found = found })
 Finding-next v now s after found a seen phase d first is reads phase_is found_is =
-    let last : s.last ≡ v.seat.last = ap (λ (t : SeatView Asked). t.last) is ∙ d.last in
-    let post : s.post ≡ now.seat.post = ap (λ (t : SeatView Asked). t.post) is in
+    let last : s.last ≡ v.seat.last = ap (λ (t : StationView Asked). t.last) is ∙ d.last in
+    let post : s.post ≡ now.seat.post = ap (λ (t : StationView Asked). t.post) is in
     let additions : s.post.additions ≡ v.seat.post.additions = ap (λ (p : PostView). p.additions) (post ∙ d.post) in
     let state : phase_of now.seat.post.state ≡ phase = ap (λ (p : PostView). phase_of p.state) d.post ∙ sym phase_is in
     let count : length now.seat.post.additions ≡ length v.seat.post.additions =
     ap (λ (p : PostView). length p.additions) d.post in
     let e : after ≡ record (without_first now.seat) { post = has_read now.seat.post a.page seen.count } =
-    reads.read ∙ ap (λ (t : SeatView Asked). record t { post = has_read t.post a.page seen.count }) is in
+    reads.read ∙ ap (λ (t : StationView Asked). record t { post = has_read t.post a.page seen.count }) is in
     let f : Found = record { asked = a; last = seen.last; count = seen.count; phase = phase } in
     Finding-more v now (record { seat = after; found = found }) a f d
     (first_of (waiting now) a first
-    ∙ ap (λ (xs : List Asked). a ∷ xs) (sym (ap (λ (t : SeatView Asked). t.held.held) e)))
+    ∙ ap (λ (xs : List Asked). a ∷ xs) (sym (ap (λ (t : StationView Asked). t.held.held) e)))
     refl
     (record {
       last = reads.last ∙ ap (λ (t : UserTable). last_of t a.user) last;
       own = subst (λ (xs : List Addition). added_to a.page xs ≤ seen.count) additions reads.own;
       phase = phase_is;
     })
-    (ap (λ (t : SeatView Asked). t.post) e
+    (ap (λ (t : StationView Asked). t.post) e
     ∙ (λ m. record now.seat.post {
       reads =
           now.seat.post.reads ++ page_read (state m) a.page seen.count (count m) ∷ [];
     }))
-    (ap (λ (t : SeatView Asked). t.held.capacity) e)
-    (ap (λ (t : SeatView Asked). t.slice) e)
-    (ap (λ (t : SeatView Asked). t.sliced) e)
-    (ap (λ (t : SeatView Asked). t.last) e)
+    (ap (λ (t : StationView Asked). t.held.capacity) e)
+    (ap (λ (t : StationView Asked). t.slice) e)
+    (ap (λ (t : StationView Asked). t.sliced) e)
+    (ap (λ (t : StationView Asked). t.last) e)
     found_is

@@ -15,7 +15,7 @@ use Rattle.like_core.specs.Phase.{IsSplit}
 use Rattle.like_core.specs.Post.{answered, has_glanced, has_read, pages_of}
 use Rattle.like_core.specs.WorkerState.{RunsJoined, phase_of, seen}
 use Rattle.like_seat.specs.Merge.{MergesAndReports, merged}
-use Rattle.like_seat.specs.SeatView.{SeatView, phase_at}
+use Rattle.like_seat.specs.StationView.{StationView, phase_at}
 use Rattle.like_seat.specs.Steps.{CountsLike}
 use Rattle.like_seat.proofs.MergedLikes.{merging-all}
 use Rattle.like_live.specs.declared.answer.TurnAnswer.{TurnAnswer}
@@ -169,13 +169,13 @@ more_added phase page from xs ys within =
     ap (added_in phase page) (drop-append-le from xs ys within) ∙ sum_by-append _ (drop from xs) ys
 
 -- a merge and a report
-Keeps-merged : (v : LiveView) (s : SeatView Asked) → IsSized v → MergesAndReports v.seat s → Keeps v (with_seat v s)
+Keeps-merged : (v : LiveView) (s : StationView Asked) → IsSized v → MergesAndReports v.seat s → Keeps v (with_seat v s)
 Keeps-merged v s sized m =
     let adds = m.1.0.0 in
     let old = v.seat.post.additions in
     let is : s ≡ record (merged v.seat adds) { post = answered (merged v.seat adds).post } =
-    m.1.1 ∙ ap (λ (t : SeatView Asked). record t { post = answered t.post }) m.1.0.1.1 in
-    subst (λ (t : SeatView Asked). Keeps v (with_seat v t)) (sym is) (record {
+    m.1.1 ∙ ap (λ (t : StationView Asked). record t { post = answered t.post }) m.1.0.1.1 in
+    subst (λ (t : StationView Asked). Keeps v (with_seat v t)) (sym is) (record {
       reads = λ r there. there;
       glances = λ r there. there;
       more = adds;
@@ -205,11 +205,11 @@ Keeps-merged v s sized m =
     })
 
 -- a like that is counted
-pub Keeps-counts : (v : LiveView) (s : SeatView Asked) (user page : ℕ) (old : Option ℕ)
+pub Keeps-counts : (v : LiveView) (s : StationView Asked) (user page : ℕ) (old : Option ℕ)
     → page < length v.seat.slice
     → CountsLike v.seat user page old s
     → Keeps v (with_seat v s)
-Keeps-counts v s user page None there c = subst (λ (t : SeatView Asked). Keeps v (with_seat v t)) (sym c.1) (record {
+Keeps-counts v s user page None there c = subst (λ (t : StationView Asked). Keeps v (with_seat v t)) (sym c.1) (record {
   reads = λ r there. there;
   glances = λ r there. there;
   more = [];
@@ -231,7 +231,7 @@ Keeps-counts v s user page None there c = subst (λ (t : SeatView Asked). Keeps 
 Keeps-counts v s user page (Some count) there c =
     let old = v.seat.post.additions in
     let new = addition (phase_at v.seat) page count 1 ∷ [] in
-    subst (λ (t : SeatView Asked). Keeps v (with_seat v t)) (sym c.1) (record {
+    subst (λ (t : StationView Asked). Keeps v (with_seat v t)) (sym c.1) (record {
       reads = λ r there. there;
       glances = λ r there. there;
       more = new;

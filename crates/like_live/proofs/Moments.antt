@@ -23,7 +23,7 @@ use Rattle.like_core.specs.views.Shows.{FitsWorker, Moment}
 use Rattle.like_core.specs.views.Tallies.{paged}
 use Rattle.like_core.specs.views.Views.{post_of}
 use Rattle.like_core.proofs.core.CoreReached.{reachable_is_exclusive}
-use Rattle.like_seat.specs.SeatView.{IsSeat}
+use Rattle.like_seat.specs.StationView.{IsStation}
 use Rattle.like_live.specs.LiveView.{LiveView, tally}
 use Rattle.like_live.specs.Moments.{HoldsNone, IsSeatAt, LastCountsAreTallies, SeatsAreExclusive, post_in, workers_in}
 use Rattle.like_live.specs.Service.{HasMergedOnceGone}
@@ -57,7 +57,7 @@ state-at z m s at =
     fits.state ∙ sym (ap (λ (p : PostView). p.state) at.post)
 
 -- who runs no split phase has no like in its slice
-none-held : (s : LiveView) → IsSeat s.seat → ¬ RunsSplit s.seat.post.state → HoldsNone s
+none-held : (s : LiveView) → IsStation s.seat → ¬ RunsSplit s.seat.post.state → HoldsNone s
 none-held s live apart page =
     elim (cases_eq (slice_index s.seat.slice page) 0) [
       | inl none ↦ none
@@ -74,7 +74,7 @@ seats_are_exclusive z m a b at_a at_b live joined =
     (apart, none-held b live apart)
 
 -- a seat that is gone has added all its likes
-merged-once-gone : (s : LiveView) → IsSeat s.seat → HasMergedOnceGone s
+merged-once-gone : (s : LiveView) → IsStation s.seat → HasMergedOnceGone s
 merged-once-gone s live gone page =
     let none = none-held s live (λ split. subst RunsSplit gone split) page in
     omega arith

@@ -4,7 +4,7 @@ use Rattle.std.proofs.lemmas.List.{length-replicate}
 use Rattle.like_core.specs.declared.sight.Sight.{Sight}
 use Rattle.like_core.specs.Post.{answered, pages_of}
 use Rattle.like_seat.specs.Merge.{MergesAndReports, merged}
-use Rattle.like_seat.specs.SeatView.{SeatView}
+use Rattle.like_seat.specs.StationView.{StationView}
 use Rattle.like_seat.proofs.MergedLikes.{merged-tally}
 use Rattle.like_live.specs.declared.answer.TurnAnswer.{TurnAnswer}
 use Rattle.like_live.specs.declared.asked.Asked.{Asked}
@@ -70,12 +70,12 @@ Leaves-found v after f = subst (Leaves v) (sym f.rest) (record {
 })
 
 -- to merge a slice and report leaves each page's tally
-Leaves-merged : (v : LiveView) (s : SeatView Asked) → IsSized v → MergesAndReports v.seat s → Leaves v (with_seat v s)
+Leaves-merged : (v : LiveView) (s : StationView Asked) → IsSized v → MergesAndReports v.seat s → Leaves v (with_seat v s)
 Leaves-merged v s sized m =
     let adds = m.1.0.0 in
     let is : s ≡ record (merged v.seat adds) { post = answered (merged v.seat adds).post } =
-    m.1.1 ∙ ap (λ (t : SeatView Asked). record t { post = answered t.post }) m.1.0.1.1 in
-    subst (λ (t : SeatView Asked). Leaves v (with_seat v t)) (sym is) (record {
+    m.1.1 ∙ ap (λ (t : StationView Asked). record t { post = answered t.post }) m.1.0.1.1 in
+    subst (λ (t : StationView Asked). Leaves v (with_seat v t)) (sym is) (record {
       same = record { board = refl; worker = refl; marks = refl; share = refl };
       tallies = merged-tally v.seat adds m.1.0.1.0 sized;
       last = refl;

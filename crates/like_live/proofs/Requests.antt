@@ -5,9 +5,9 @@ use Rattle.std.proofs.lemmas.Bool.{and_from, and_parts, eq-eqb, eqb-true}
 use Rattle.like_core.specs.OpeningLimits.{service_limits}
 use Rattle.like_requests.specs.Verdict.{is_accepted}
 use Rattle.like_requests.specs.declared.request.Request.{Request}
-use Rattle.like_seat.specs.SeatView.{IsSeat, SeatView}
+use Rattle.like_seat.specs.StationView.{IsStation, StationView}
 use Rattle.like_tables.specs.Share.{Share, owns}
-use Rattle.like_seat.specs.SeatView.{likes_of}
+use Rattle.like_seat.specs.StationView.{likes_of}
 use Rattle.like_live.specs.declared.asked.Asked.{Asked}
 
 -- the user of a request that is accepted is the seat's
@@ -24,8 +24,8 @@ owned_since s r home is =
     and_from _ _ user.0 (eq-eqb _ _ mine)
 
 -- a seat that has not counted all its likes may count one more
-pub not-full : (s : SeatView Asked)
-    → IsSeat s
+pub not-full : (s : StationView Asked)
+    → IsStation s
     → s.post.limits ≡ service_limits
     → likes_of s < 2 ^ 56
     → likes_of s < s.post.limits.likes

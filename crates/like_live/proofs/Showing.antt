@@ -11,7 +11,7 @@ use Rattle.like_core.specs.Additions.{added_in, page_read}
 use Rattle.like_core.specs.Phase.{IsSplit}
 use Rattle.like_core.specs.Post.{PostView, slices}
 use Rattle.like_core.specs.WorkerState.{IsRunning, RunsSplit, phase_of}
-use Rattle.like_seat.specs.SeatView.{phase_at}
+use Rattle.like_seat.specs.StationView.{phase_at}
 use Rattle.like_live.specs.declared.answer.GlanceAnswer.{GlanceAnswer}
 use Rattle.like_live.specs.declared.answer.GlanceAnswer.TheVariants as glanced
 use Rattle.like_live.specs.declared.answer.LookAnswer.{LookAnswer}

@@ -9,7 +9,7 @@ use Rattle.like_core.specs.declared.worker_state.WorkerState.TheVariants as stat
 use Rattle.like_core.specs.WorkerState.{IsSightOf, RunsSplit, seen}
 use Rattle.like_requests.specs.declared.verdict.Verdict.TheVariants.{Accepted, UnknownUser}
 use Rattle.like_requests.specs.declared.verdict.Verdict.{Verdict}
-use Rattle.like_seat.specs.SeatView.{SeatView}
+use Rattle.like_seat.specs.StationView.{StationView}
 use Rattle.like_seat.specs.Steps.{CountsLike}
 use Rattle.like_tables.specs.UserTable.{UserTable, last_of, with_last}
 use Rattle.like_live.specs.declared.answer.TurnAnswer.{TurnAnswer}
@@ -106,7 +106,7 @@ empty-works v after ending answer (moves.acknowledges now joined e a found is) =
 empty-works v after ending answer (moves.runs_split split e a is) =
     subst IsEmpty (sym is) (λ gone. absurd (split-there v.seat.post.state split gone))
 empty-works v after ending answer (moves.reports s split e a merges is) =
-    subst IsEmpty (sym is) (λ gone. absurd (cc (sym (ap (λ (t : SeatView Asked). t.post.state) merges.1.1) ∙ gone)))
+    subst IsEmpty (sym is) (λ gone. absurd (cc (sym (ap (λ (t : StationView Asked). t.post.state) merges.1.1) ∙ gone)))
 
 empty-retire_works : (v after : LiveView) (ending : Bool) (answer : TurnAnswer)
     → RetireWorks v ending answer after
@@ -127,7 +127,7 @@ finds-asks v after f =
     ∙ map-append ask_of v.found f.found
     ∙ ap (λ xs. map ask_of v.found ++ xs) (asks-found f.found ∙ ap (map ask_waiting) f.order)
 
-pub merged-asks : (v : LiveView) (s : SeatView Asked) → s.held ≡ v.seat.held → asks_left (with_seat v s) ≡ asks_left v
+pub merged-asks : (v : LiveView) (s : StationView Asked) → s.held ≡ v.seat.held → asks_left (with_seat v s) ≡ asks_left v
 merged-asks v s held = ap (λ h. map ask_of v.found ++ map ask_waiting h.held) held
 
 works-asks : (v after : LiveView) (ending : Bool) (answer : TurnAnswer)
@@ -139,7 +139,7 @@ works-asks v after ending answer (moves.runs_split split e a is) = ap asks_left 
 works-asks v after ending answer (moves.reports s split e a merges is) =
     ap asks_left is
     ∙ merged-asks v s
-    (ap (λ (t : SeatView Asked). t.held) merges.1.1 ∙ ap (λ (t : SeatView Asked). t.held) merges.1.0.1.1)
+    (ap (λ (t : StationView Asked). t.held) merges.1.1 ∙ ap (λ (t : StationView Asked). t.held) merges.1.0.1.1)
 
 retire_works-asks : (v after : LiveView) (ending : Bool) (answer : TurnAnswer)
     → RetireWorks v ending answer after
@@ -218,7 +218,7 @@ first_test : (a : Bool) (rest : Verdict) → cond (not a) UnknownUser rest ≡ A
 first_test false rest e = cc
 first_test true rest e = refl
 
-pub user_there : (s : SeatView Asked) (user page : ℕ) → verdict_at s user page ≡ Accepted → user < s.last.share.users
+pub user_there : (s : StationView Asked) (user page : ℕ) → verdict_at s user page ≡ Accepted → user < s.last.share.users
 user_there s user page is = ltb-true user s.last.share.users (first_test _ _ is)
 
 -- a like is the user's last
@@ -238,27 +238,27 @@ last-more t user page other there =
     ]
 
 -- what a like that is counted leaves
-pub record IsCounted (s after : SeatView Asked) (user page : ℕ) : Type 0 where
+pub record IsCounted (s after : StationView Asked) (user page : ℕ) : Type 0 where
   pub held : after.held ≡ s.held
   pub last : after.last ≡ with_last s.last user page
   pub is_in : after.post.state ≡ s.post.state
   pub marks : after.post.marks ≡ s.post.marks
   pub sized : length after.slice ≡ length s.slice
 
-pub is_counted : (s after : SeatView Asked) (user page : ℕ) (old : Option ℕ)
+pub is_counted : (s after : StationView Asked) (user page : ℕ) (old : Option ℕ)
     → CountsLike s user page old after
     → IsCounted s after user page
 is_counted s after user page None c = record {
-  held = ap (λ (t : SeatView Asked). t.held) c.1;
-  last = ap (λ (t : SeatView Asked). t.last) c.1;
-  is_in = ap (λ (t : SeatView Asked). t.post.state) c.1;
-  marks = ap (λ (t : SeatView Asked). t.post.marks) c.1;
-  sized = ap (λ (t : SeatView Asked). length t.slice) c.1 ∙ length-set s.slice page _;
+  held = ap (λ (t : StationView Asked). t.held) c.1;
+  last = ap (λ (t : StationView Asked). t.last) c.1;
+  is_in = ap (λ (t : StationView Asked). t.post.state) c.1;
+  marks = ap (λ (t : StationView Asked). t.post.marks) c.1;
+  sized = ap (λ (t : StationView Asked). length t.slice) c.1 ∙ length-set s.slice page _;
 }
 is_counted s after user page (Some count) c = record {
-  held = ap (λ (t : SeatView Asked). t.held) c.1;
-  last = ap (λ (t : SeatView Asked). t.last) c.1;
-  is_in = ap (λ (t : SeatView Asked). t.post.state) c.1;
-  marks = ap (λ (t : SeatView Asked). t.post.marks) c.1;
-  sized = ap (λ (t : SeatView Asked). length t.slice) c.1;
+  held = ap (λ (t : StationView Asked). t.held) c.1;
+  last = ap (λ (t : StationView Asked). t.last) c.1;
+  is_in = ap (λ (t : StationView Asked). t.post.state) c.1;
+  marks = ap (λ (t : StationView Asked). t.post.marks) c.1;
+  sized = ap (λ (t : StationView Asked). length t.slice) c.1;
 }

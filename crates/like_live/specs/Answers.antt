@@ -4,7 +4,7 @@ use Rattle.std.specs.List.{sum_by}
 use Rattle.like_core.specs.declared.worker_state.WorkerState.TheVariants.{Runs}
 use Rattle.like_core.specs.Additions.{added_before, added_in, page_read}
 use Rattle.like_core.specs.Post.{additions_in, slices}
-use Rattle.like_seat.specs.SeatView.{phase_at}
+use Rattle.like_seat.specs.StationView.{phase_at}
 use Rattle.like_live.specs.declared.answer.GlanceAnswer.TheVariants as glanced
 use Rattle.like_live.specs.declared.answer.LookAnswer.TheVariants as looked
 use Rattle.like_live.specs.declared.asked.Found.{Found}

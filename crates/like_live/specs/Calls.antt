@@ -9,7 +9,7 @@ use Rattle.like_requests.specs.declared.verdict.Verdict.{Verdict}
 use Rattle.like_requests.specs.declared.verdict.Verdict.TheVariants.{Accepted}
 use Rattle.like_requests.specs.Verdict.{verdict_of}
 use Rattle.like_seat.specs.declared.seen.Seen.{Seen}
-use Rattle.like_seat.specs.SeatView.{SeatView, likes_of, phase_at}
+use Rattle.like_seat.specs.StationView.{StationView, likes_of, phase_at}
 use Rattle.like_seat.specs.Steps.{CountsLike, Glances, Reads, holding}
 use Rattle.like_tables.specs.UserTable.{UserTable, with_last}
 use Rattle.like_live.specs.declared.answer.GlanceAnswer.{GlanceAnswer}
@@ -31,7 +31,7 @@ page_ref pages page = if nat_lt page pages then Known page else Unknown
 
 -- the verdict on a request of a user for a page at this seat: that it is accepted, or the first of these that fails:
 -- the user exists, the user is this seat's, the page exists
-abbrev pub verdict_at : SeatView Asked → ℕ → ℕ → Verdict
+abbrev pub verdict_at : StationView Asked → ℕ → ℕ → Verdict
 verdict_at s user page =
     verdict_of s.last.share.users s.last.share.submitters s.last.share.worker
     (record { op = Look; user = user; page = page_ref (pages_of s.post) page })
@@ -42,7 +42,7 @@ pub data LikesNow (v : LiveView) (user page : ℕ) (answer : LikeAnswer) (after 
       → answer ≡ like.Refused (verdict_at v.seat user page) → after ≡ v → LikesNow v user page answer after
   full : verdict_at v.seat user page ≡ Accepted → likes_of v.seat ≡ v.seat.post.limits.likes
       → answer ≡ like.Full → after ≡ v → LikesNow v user page answer after
-  liked : (old : Option ℕ) (s : SeatView Asked)
+  liked : (old : Option ℕ) (s : StationView Asked)
       → verdict_at v.seat user page ≡ Accepted → likes_of v.seat < v.seat.post.limits.likes
       → answer ≡ like.Liked → CountsLike v.seat user page old s → after ≡ with_seat v s
       → LikesNow v user page answer after
@@ -63,7 +63,7 @@ asked_now v user page tag =
 pub data LooksNow (v : LiveView) (user page tag : ℕ) (answer : LookAnswer) (after : LiveView) : Type 0 where
   refused : verdict_at v.seat user page ≢ Accepted
       → answer ≡ look.Refused (verdict_at v.seat user page) → after ≡ v → LooksNow v user page tag answer after
-  seen : (shown : Seen) (s : SeatView Asked)
+  seen : (shown : Seen) (s : StationView Asked)
       → verdict_at v.seat user page ≡ Accepted → slices v.seat.post page ≡ false
       → answer ≡ look.Seen shown → Reads v.seat user page shown s → after ≡ with_seat v s
       → LooksNow v user page tag answer after
@@ -87,11 +87,11 @@ pub data LookCase (v : LiveView) (user page tag : ℕ) (answer : LookAnswer) (af
 pub data GlancesNow (v : LiveView) (user page : ℕ) (answer : GlanceAnswer) (after : LiveView) : Type 0 where
   refused : verdict_at v.seat user page ≢ Accepted
       → answer ≡ glance.Refused (verdict_at v.seat user page) → after ≡ v → GlancesNow v user page answer after
-  plain : (shown : Seen) (s : SeatView Asked)
+  plain : (shown : Seen) (s : StationView Asked)
       → verdict_at v.seat user page ≡ Accepted → slices v.seat.post page ≡ false
       → answer ≡ glance.Seen shown → Reads v.seat user page shown s → after ≡ with_seat v s
       → GlancesNow v user page answer after
-  split : (shown : Seen) (s : SeatView Asked)
+  split : (shown : Seen) (s : StationView Asked)
       → verdict_at v.seat user page ≡ Accepted → slices v.seat.post page ≡ true
       → answer ≡ glance.Seen shown → Glances v.seat user page shown s → after ≡ with_seat v s
       → GlancesNow v user page answer after

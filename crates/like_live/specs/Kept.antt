@@ -4,7 +4,7 @@ use Rattle.like_core.specs.OpeningLimits.{service_limits}
 use Rattle.like_core.specs.Phase.{IsJoined, IsSplit}
 use Rattle.like_core.specs.Post.{pages_of}
 use Rattle.like_core.specs.WorkerState.{IsRunning}
-use Rattle.like_seat.specs.SeatView.{IsSeat, SeatView, phase_at}
+use Rattle.like_seat.specs.StationView.{IsStation, StationView, phase_at}
 use Rattle.like_tables.specs.Waiting.{Waiting}
 use Rattle.like_live.specs.declared.asked.Asked.{Asked}
 use Rattle.like_live.specs.declared.asked.Found.{Found}
@@ -12,7 +12,7 @@ use Rattle.like_live.specs.LiveView.{IsLive, IsOwn, RanNext, live_of}
 
 -- a live seat's parts agree: a worker's seat, a stash of found looks, the number of pages, how many more looks may
 -- wait, and half of the room
-pub record AreLiveSeatParts (s : SeatView Asked) (found : Waiting Found) (pages room half : ℕ) : Type 0 where
+pub record AreLiveSeatParts (s : StationView Asked) (found : Waiting Found) (pages room half : ℕ) : Type 0 where
   pub live : IsLive (live_of s found)
   pub capacity : found.capacity ≡ s.held.capacity
   pub pages_are : pages ≡ pages_of s.post
@@ -21,8 +21,8 @@ pub record AreLiveSeatParts (s : SeatView Asked) (found : Waiting Found) (pages 
 
 -- a live seat's parts after a look at the phase word that showed a phase that it runs: what waits was asked in that
 -- phase if it is split, and otherwise in the one before
-pub record HasLooked (s : SeatView Asked) (found : Waiting Found) : Type 0 where
-  pub seat : IsSeat s
+pub record HasLooked (s : StationView Asked) (found : Waiting Found) : Type 0 where
+  pub seat : IsStation s
   pub runs : IsRunning s.post.state
   pub limits : s.post.limits ≡ service_limits
   pub home : s.last.share.submitters ≡ s.last.share.workers

@@ -3,7 +3,7 @@ use Rattle.std.specs.Prelude.{◌≡◌, ℕ, ◌+◌, ◌<◌, ◌≤◌, IsTru
 use Rattle.like_core.specs.OpeningLimits.{service_limits}
 use Rattle.like_core.specs.Phase.{IsJoined}
 use Rattle.like_core.specs.Post.{PostView, pages_of}
-use Rattle.like_seat.specs.SeatView.{IsSeat, SeatView, phase_at, tally_of}
+use Rattle.like_seat.specs.StationView.{IsStation, StationView, phase_at, tally_of}
 use Rattle.like_tables.specs.Share.{owns}
 use Rattle.like_tables.specs.UserTable.{UserTable}
 use Rattle.like_tables.specs.Waiting.{Waiting}
@@ -12,15 +12,15 @@ use Rattle.like_live.specs.declared.asked.Found.{Found}
 
 -- a worker's seat, which holds the looks that wait; and the looks that were found and not taken yet
 pub record LiveView : Type 0 where
-  pub seat : SeatView Asked
+  pub seat : StationView Asked
   pub found : List Found
 
 -- the live seat of a worker's seat and a stash of found looks
-abbrev pub live_of : SeatView Asked → Waiting Found → LiveView
+abbrev pub live_of : StationView Asked → Waiting Found → LiveView
 live_of s found = record { seat = s; found = found.held }
 
 -- with this worker's seat
-abbrev pub with_seat : LiveView → SeatView Asked → LiveView
+abbrev pub with_seat : LiveView → StationView Asked → LiveView
 with_seat v s = record v { seat = s }
 
 -- the looks that wait, in the order of asking
@@ -47,7 +47,7 @@ pub record IsSameSeat (v after : LiveView) : Type 0 where
   pub share : after.seat.last.share ≡ v.seat.last.share
 
 -- the look is one that the seat can answer: its page exists, and its user is the seat's
-pub record IsOwn (s : SeatView Asked) (a : Asked) : Type 0 where
+pub record IsOwn (s : StationView Asked) (a : Asked) : Type 0 where
   pub there : a.page < pages_of s.post
   pub owned : IsTrue (owns s.last.share a.user)
 
@@ -59,7 +59,7 @@ RanNext f = f.phase ≡ f.asked.phase + 1
 -- seats is its own; nothing waits unless it runs or has answered a split phase, and what waits was asked in that phase;
 -- what was found ran in the next phase; and no more looks wait or were found than there is room for
 pub record IsLive (v : LiveView) : Type 0 where
-  pub seat : IsSeat v.seat
+  pub seat : IsStation v.seat
   pub limits : v.seat.post.limits ≡ service_limits
   pub home : v.seat.last.share.submitters ≡ v.seat.last.share.workers
   pub split : IsJoined (phase_at v.seat) → waiting v ≡ []

@@ -13,7 +13,7 @@ use Rattle.like_core.specs.WorkerState.{RunsJoined, RunsSplit}
 use Rattle.like_core.specs.views.Places.{count_after}
 use Rattle.like_core.specs.views.Shows.{Moment}
 use Rattle.like_core.specs.views.Views.{post_of}
-use Rattle.like_seat.specs.SeatView.{IsSeat}
+use Rattle.like_seat.specs.StationView.{IsStation}
 use Rattle.like_live.specs.LiveView.{LiveView, tally}
 
 -- a seat's post, the board aside
@@ -35,7 +35,7 @@ HoldsNone s = (page : ℕ) → slice_index s.seat.slice page ≡ 0
 -- slice
 abbrev pub SeatsAreExclusive : Type 0
 SeatsAreExclusive =
-    (z : Opening) (m : Moment z) (a b : LiveView) → IsSeatAt z m a → IsSeatAt z m b → IsSeat b.seat
+    (z : Opening) (m : Moment z) (a b : LiveView) → IsSeatAt z m a → IsSeatAt z m b → IsStation b.seat
     → RunsJoined a.seat.post.state → ¬ RunsSplit b.seat.post.state × HoldsNone b
 
 -- a view, if it is that of a worker's seat
@@ -56,6 +56,6 @@ pub record AreSeatsAt (z : Opening) (m : Moment z) (seats : List LiveView) : Typ
 -- tallies of all seats
 abbrev pub LastCountsAreTallies : Type 0
 LastCountsAreTallies =
-    (z : Opening) (m : Moment z) (seats : List LiveView) → AreSeatsAt z m seats → All (λ s. IsSeat s.seat) seats
+    (z : Opening) (m : Moment z) (seats : List LiveView) → AreSeatsAt z m seats → All (λ s. IsStation s.seat) seats
     → AllGone (numbers z m.state)
     → (page : ℕ) → count_after z.counts m.views page ≡ slice_index z.counts page + sum_by (λ s. tally s page) seats

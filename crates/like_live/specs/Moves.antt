@@ -7,7 +7,7 @@ use Rattle.like_core.specs.Additions.{page_read}
 use Rattle.like_core.specs.Post.{additions_of, answered}
 use Rattle.like_core.specs.WorkerState.{IsSightOf, RunsJoined, RunsSplit}
 use Rattle.like_seat.specs.Merge.{MergesAndReports}
-use Rattle.like_seat.specs.SeatView.{SeatView, phase_at}
+use Rattle.like_seat.specs.StationView.{StationView, phase_at}
 use Rattle.like_seat.specs.Steps.{saw}
 use Rattle.like_tables.specs.UserTable.{last_of}
 use Rattle.like_live.specs.declared.answer.TurnAnswer.{TurnAnswer}
@@ -26,7 +26,7 @@ acknowledged v = with_seat v (record v.seat { post = answered v.seat.post })
 
 -- the look is shown its user's last like, and a count of its page that has all that the seat added, in the phase that
 -- the seat runs
-pub record IsFoundAt (s : SeatView Asked) (f : Found) : Type 0 where
+pub record IsFoundAt (s : StationView Asked) (f : Found) : Type 0 where
   pub last : f.last ≡ last_of s.last f.asked.user
   pub own : additions_of s.post f.asked.page ≤ f.count
   pub phase : f.phase ≡ phase_at s
@@ -64,7 +64,7 @@ pub data Works (v : LiveView) (ending : Bool) (answer : TurnAnswer) (after : Liv
       → answer ≡ turn.Between → FindsAll v now → after ≡ acknowledged now → Works v ending answer after
   runs_split : RunsSplit v.seat.post.state → ending ≡ false
       → answer ≡ turn.Runs → after ≡ v → Works v ending answer after
-  reports : (s : SeatView Asked) → RunsSplit v.seat.post.state → ending ≡ true
+  reports : (s : StationView Asked) → RunsSplit v.seat.post.state → ending ≡ true
       → answer ≡ turn.Between → MergesAndReports v.seat s → after ≡ with_seat v s → Works v ending answer after
 
 -- what a seat can see by a look at the phase word: the phase that it runs; or the one that it has answered, and then it

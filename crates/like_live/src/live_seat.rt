@@ -4,7 +4,7 @@ ghost use Rattle.like_limits.specs.Limits.{max_stash};
 ghost use Rattle.like_core.specs.OpeningLimits.{service_limits};
 ghost use Rattle.like_core.specs.Post.{IsFresh, additions_of, pages_of};
 ghost use Rattle.like_core.specs.WorkerState.{IsRunning};
-ghost use Rattle.like_seat.specs.SeatView.{phase_at};
+ghost use Rattle.like_seat.specs.StationView.{phase_at};
 ghost use Rattle.like_live.specs.LiveView.{IsLive, IsNewLive, IsSameSeat, KeepsTallies, RanNext, tally};
 ghost use Rattle.like_live.specs.Moves.{Moves};
 ghost use Rattle.like_live.specs.Calls.{GlanceCase, LikeCase, LookCase, RetireCase, TakesFound, TalliesLike, last_after};
@@ -17,7 +17,7 @@ use crate::answer::{GlanceAnswer, LikeAnswer, LookAnswer, TurnAnswer};
 use crate::asked::{Asked, Found};
 use crate::hint::Hint;
 use like_core::Post;
-use like_seat::Seat;
+use like_seat::Station;
 use like_tables::{Stash, Users};
 use moves::work_or_retire;
 pub use requests::MAX_LIKES;
@@ -30,7 +30,7 @@ use std::marker::Model;
 #[derive(Drop)]
 pub struct LiveSeat<P: Post> {
     /// What waits is in its stash.
-    seat: Seat<P, Asked>,
+    seat: Station<P, Asked>,
     found: Stash<Found>,
     /// How many pages there are.
     pages: u32,
@@ -76,7 +76,7 @@ impl<P: Post + Drop> LiveSeat<P> {
     {
         let pages = marks.len() as u32;
         let found = Stash::new(alloc, room)?;
-        match Seat::new(alloc, post, marks, room, last) {
+        match Station::new(alloc, post, marks, room, last) {
             Ok(seat) => Ok(LiveSeat {
                 seat,
                 found,

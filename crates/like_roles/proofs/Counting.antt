@@ -6,7 +6,7 @@ use Rattle.like_core.specs.Additions.{all_added}
 use Rattle.like_core.specs.Post.{has_read, pages_of}
 use Rattle.like_tables.specs.UserTable.{with_last}
 use Rattle.like_tables.specs.declared.held.Held.{Held}
-use Rattle.like_seat.specs.SeatView.{IsSeat, SeatView, phase_at}
+use Rattle.like_seat.specs.StationView.{IsStation, StationView, phase_at}
 use Rattle.like_seat.specs.declared.merged.Merged.{Merged}
 use Rattle.like_seat.specs.Steps as steps
 use Rattle.like_seat.specs.Steps.{CountsLike, MergesPage, liked_last, sliced, with_addition}
@@ -27,7 +27,7 @@ pub record HasNoted (d e : Desk) (phase page old n : ℕ) : Type 0 where
   pub rest : e ≡ record d { adds = e.adds }
 
 -- so it was by the worker
-pub noting-view : (t : SeatView Held) (d e : Desk) (phase page old n : ℕ)
+pub noting-view : (t : StationView Held) (d e : Desk) (phase page old n : ℕ)
     → HasNoted d e phase page old n
     → phase ≡ phase_at t
     → view_of t e ≡ serve.noting (view_of t d) page old n
@@ -41,10 +41,10 @@ noting-view t d e phase page old n h is =
     })
 
 -- a like in the slice
-pub liked-slice : (s t : SeatView Held) (d : Desk) (user page : ℕ)
+pub liked-slice : (s t : StationView Held) (d : Desk) (user page : ℕ)
     → IsSettled s d
     → HasRoomForOne s d
-    → IsSeat t
+    → IsStation t
     → page < pages_of s.post
     → CountsLike s user page None t
     → IsSettled t d × HasRoomToNote t d × Likes (view_of s d) user page (view_of t d)
@@ -55,11 +55,11 @@ liked-slice s t d user page is room seat there c =
     let more : sum now.slice ≡ sum s.slice + 1 =
     omega (arith, sum_by-set (λ x. x) s.slice page (get_or s.slice page 0 + 1) 0 inside) in
     let before = is.sound.room in (
-      settled-after s t d d is seat (ap (λ (x : SeatView Held). x.post.limits) c.1)
-          (ap (λ (x : SeatView Held). x.post.last) c.1) (ap (λ (x : SeatView Held). x.last.share) c.1)
-          (subst (λ xs. All (IsOwn t) xs) (sym (ap (λ (x : SeatView Held). x.held.held) c.1))
-          (AreOwn-moved s t s.held.held (ap (λ (x : SeatView Held). x.last.share) c.1)
-          (ap (λ (x : SeatView Held). x.post.marks) c.1) is.sound.held))
+      settled-after s t d d is seat (ap (λ (x : StationView Held). x.post.limits) c.1)
+          (ap (λ (x : StationView Held). x.post.last) c.1) (ap (λ (x : StationView Held). x.last.share) c.1)
+          (subst (λ xs. All (IsOwn t) xs) (sym (ap (λ (x : StationView Held). x.held.held) c.1))
+          (AreOwn-moved s t s.held.held (ap (λ (x : StationView Held). x.last.share) c.1)
+          (ap (λ (x : StationView Held). x.post.marks) c.1) is.sound.held))
           (subst (λ x. HasRoom x d) (sym c.1)
           (record {
             taken =
@@ -84,10 +84,10 @@ liked-slice s t d user page is room seat there c =
     )
 
 -- a like on the board, which was noted
-pub liked-board : (s t : SeatView Held) (d e : Desk) (user page phase count : ℕ)
+pub liked-board : (s t : StationView Held) (d e : Desk) (user page phase count : ℕ)
     → IsSettled s d
     → HasRoomForOne s d
-    → IsSeat t
+    → IsStation t
     → CountsLike s user page (Some count) t
     → phase ≡ phase_at s
     → HasNoted d e phase page count 1
@@ -101,11 +101,11 @@ liked-board s t d e user page phase count is room seat c phase_is h =
     let noted : view_of now e ≡ serve.noting (view_of now d) page count 1 =
     noting-view now d e phase page count 1 h phase_is in
     let all : IsSettled now e → IsSettled t e = subst (λ x. IsSettled x e) (sym c.1) in (
-      settled-after s t d e is seat (ap (λ (x : SeatView Held). x.post.limits) c.1)
-          (ap (λ (x : SeatView Held). x.post.last) c.1) (ap (λ (x : SeatView Held). x.last.share) c.1)
-          (subst (λ xs. All (IsOwn t) xs) (sym (ap (λ (x : SeatView Held). x.held.held) c.1))
-          (AreOwn-moved s t s.held.held (ap (λ (x : SeatView Held). x.last.share) c.1)
-          (ap (λ (x : SeatView Held). x.post.marks) c.1) is.sound.held))
+      settled-after s t d e is seat (ap (λ (x : StationView Held). x.post.limits) c.1)
+          (ap (λ (x : StationView Held). x.post.last) c.1) (ap (λ (x : StationView Held). x.last.share) c.1)
+          (subst (λ xs. All (IsOwn t) xs) (sym (ap (λ (x : StationView Held). x.held.held) c.1))
+          (AreOwn-moved s t s.held.held (ap (λ (x : StationView Held). x.last.share) c.1)
+          (ap (λ (x : StationView Held). x.post.marks) c.1) is.sound.held))
           (subst (λ x. HasRoom x e) (sym c.1) (subst (λ x. HasRoom now x) (sym h.rest) (record {
             taken = before.taken;
             ran = before.ran;
@@ -125,18 +125,18 @@ liked-board s t d e user page phase count is room seat c phase_is h =
     )
 
 -- a read leaves all else as it is
-pub read-settled : (s t : SeatView Held) (d : Desk) (page count : ℕ)
+pub read-settled : (s t : StationView Held) (d : Desk) (page count : ℕ)
     → IsSettled s d
-    → IsSeat t
+    → IsStation t
     → t ≡ record s { post = has_read s.post page count }
     → IsSettled t d
 read-settled s t d page count is seat e =
     let before = is.sound.room in
-    settled-after s t d d is seat (ap (λ (x : SeatView Held). x.post.limits) e)
-    (ap (λ (x : SeatView Held). x.post.last) e) (ap (λ (x : SeatView Held). x.last.share) e)
-    (subst (λ xs. All (IsOwn t) xs) (sym (ap (λ (x : SeatView Held). x.held.held) e))
-    (AreOwn-moved s t s.held.held (ap (λ (x : SeatView Held). x.last.share) e)
-    (ap (λ (x : SeatView Held). x.post.marks) e) is.sound.held))
+    settled-after s t d d is seat (ap (λ (x : StationView Held). x.post.limits) e)
+    (ap (λ (x : StationView Held). x.post.last) e) (ap (λ (x : StationView Held). x.last.share) e)
+    (subst (λ xs. All (IsOwn t) xs) (sym (ap (λ (x : StationView Held). x.held.held) e))
+    (AreOwn-moved s t s.held.held (ap (λ (x : StationView Held). x.last.share) e)
+    (ap (λ (x : StationView Held). x.post.marks) e) is.sound.held))
     (subst (λ x. HasRoom x d) (sym e)
     (record {
       taken =
@@ -149,9 +149,9 @@ read-settled s t d page count is seat e =
     refl
 
 -- a page that was merged, and noted, leaves room
-pub merged-settled : (s t : SeatView Held) (d e : Desk) (from phase : ℕ) (m : Merged)
+pub merged-settled : (s t : StationView Held) (d e : Desk) (from phase : ℕ) (m : Merged)
     → IsSettled s d
-    → IsSeat t
+    → IsStation t
     → MergesPage s from m t
     → HasNoted d e phase m.page m.old m.likes
     → IsSettled t e
@@ -165,11 +165,11 @@ merged-settled s t d e from phase m is seat merges h =
     omega (arith, sum_by-set (λ x. x) s.slice page 0 0 merges.next.there) in
     let same = merged_page-likes s page m.old merges.next.there in
     let before = is.sound.room in
-    settled-after s t d e is seat (ap (λ (x : SeatView Held). x.post.limits) merges.merged)
-    (ap (λ (x : SeatView Held). x.post.last) merges.merged) (ap (λ (x : SeatView Held). x.last.share) merges.merged)
-    (subst (λ xs. All (IsOwn t) xs) (sym (ap (λ (x : SeatView Held). x.held.held) merges.merged))
-    (AreOwn-moved s t s.held.held (ap (λ (x : SeatView Held). x.last.share) merges.merged)
-    (ap (λ (x : SeatView Held). x.post.marks) merges.merged) is.sound.held))
+    settled-after s t d e is seat (ap (λ (x : StationView Held). x.post.limits) merges.merged)
+    (ap (λ (x : StationView Held). x.post.last) merges.merged) (ap (λ (x : StationView Held). x.last.share) merges.merged)
+    (subst (λ xs. All (IsOwn t) xs) (sym (ap (λ (x : StationView Held). x.held.held) merges.merged))
+    (AreOwn-moved s t s.held.held (ap (λ (x : StationView Held). x.last.share) merges.merged)
+    (ap (λ (x : StationView Held). x.post.marks) merges.merged) is.sound.held))
     (subst (λ x. HasRoom x e) (sym merges.merged) (subst (λ x. HasRoom now x) (sym h.rest) (record {
       taken = before.taken;
       ran = before.ran;

@@ -36,7 +36,7 @@ use Rattle.like_roles.specs.worker.Turns as turns
 use Rattle.like_roles.specs.worker.Turns.{CanGive, Gives, TakesAsk, Turns, Works, held_from, merged, saw, settled, trying, with_stashed, with_taken, without_first}
 use Rattle.like_requests.specs.Setup.{IsThere}
 use Rattle.like_seat.specs.Merge.{Merges}
-use Rattle.like_seat.specs.SeatView.{HasPhaseMask, IsSliceInSplit}
+use Rattle.like_seat.specs.StationView.{HasPhaseMask, IsSliceInSplit}
 use Rattle.like_service.proofs.Blocks.{block-next-prompt, block-next-waits, order-parts, order_below-prompt, order_below-waits, stashed-block, stashed-other, stashed-prompt, took_to_wait-joined}
 use Rattle.like_roles.proofs.Effects.{HasRunOne, Runs-effects}
 use Rattle.like_roles.proofs.InBlocks.{before-next, parity, parts, running-of_within, runs-phase, runs-weaker, within-of_running}

@@ -20,7 +20,7 @@ use Rattle.like_core.specs.WorkerState.{IsRunning, phase_of}
 use Rattle.like_core.proofs.core.InPhase.{split-IsSplit}
 use Rattle.like_tables.specs.Share.{submitter_of}
 use Rattle.like_tables.specs.declared.held.Held.{Held}
-use Rattle.like_seat.specs.SeatView.{IsSeat, SeatView}
+use Rattle.like_seat.specs.StationView.{IsStation, StationView}
 use Rattle.like_seat.specs.Steps.{holding, without_first}
 use Rattle.like_roles.specs.declared.worker.desk.Desk.{Desk}
 use Rattle.like_roles.specs.worker.WorkerView.{is_look_at_sliced}
@@ -39,7 +39,7 @@ none_first [] h = refl
 none_first (y ∷ ys) h = cc
 
 -- what may be held stays so in the same share, at a board with the same marks
-pub AreOwn-moved : (s t : SeatView Held) (hs : List Held)
+pub AreOwn-moved : (s t : StationView Held) (hs : List Held)
     → t.last.share ≡ s.last.share
     → t.post.marks ≡ s.post.marks
     → All (IsOwn s) hs
@@ -52,9 +52,9 @@ AreOwn-moved s t hs share marks own = λ i y k. let o = own i y k in record {
 
 -- a worker stays settled where its seat made a step in the same share and at the same board, it holds only what it may,
 -- and there is room
-pub settled-after : (s t : SeatView Held) (d e : Desk)
+pub settled-after : (s t : StationView Held) (d e : Desk)
     → IsSettled s d
-    → IsSeat t
+    → IsStation t
     → t.post.limits ≡ s.post.limits
     → t.post.last ≡ s.post.last
     → t.last.share ≡ s.last.share
@@ -84,25 +84,25 @@ settled-after s t d e is seat limits last share own room rest =
     }
 
 -- the first request that is held is taken out, which leaves room to run it
-pub settled-pop : (s t : SeatView Held) (d : Desk) (first : Held)
+pub settled-pop : (s t : StationView Held) (d : Desk) (first : Held)
     → IsSettled s d
-    → IsSeat t
+    → IsStation t
     → t ≡ without_first s
     → slice_get s.held.held 0 ≡ Some first
     → IsSettled t d × HasRoomForOne t d × IsOwn t first
 settled-pop s t d first is seat e some =
     let list = first_of s.held.held first some in
     let longer : length s.held.held ≡ length (drop 1 s.held.held) + 1 = ap length list ∙ omega arith in
-    let held : t.held.held ≡ drop 1 s.held.held = ap (λ (x : SeatView Held). x.held.held) e in
-    let share = ap (λ (x : SeatView Held). x.last.share) e in
-    let marks = ap (λ (x : SeatView Held). x.post.marks) e in
-    let added = ap (λ (x : SeatView Held). x.post) e in
-    let slice = ap (λ (x : SeatView Held). x.slice) e in
+    let held : t.held.held ≡ drop 1 s.held.held = ap (λ (x : StationView Held). x.held.held) e in
+    let share = ap (λ (x : StationView Held). x.last.share) e in
+    let marks = ap (λ (x : StationView Held). x.post.marks) e in
+    let added = ap (λ (x : StationView Held). x.post) e in
+    let slice = ap (λ (x : StationView Held). x.slice) e in
     let room = is.sound.room in
     let own = AreOwn-moved s t s.held.held share marks is.sound.held in
     let first_own = subst (λ xs. All (IsOwn t) xs) list own in (
-      settled-after s t d d is seat (ap (λ (x : SeatView Held). x.post.limits) e)
-          (ap (λ (x : SeatView Held). x.post.last) e) share
+      settled-after s t d d is seat (ap (λ (x : StationView Held). x.post.limits) e)
+          (ap (λ (x : StationView Held). x.post.last) e) share
           (subst (λ xs. All (IsOwn t) xs) (sym held) (All-drop (IsOwn t) 1 s.held.held own))
           (rw (held, added, slice) (record {
             taken = room.taken;
@@ -123,24 +123,24 @@ settled-pop s t d first is seat e some =
     )
 
 -- a request is put behind those that are held
-pub settled-push : (s t : SeatView Held) (d : Desk) (h : Held)
+pub settled-push : (s t : StationView Held) (d : Desk) (h : Held)
     → IsSettled s d
     → HasRoomForOne s d
     → IsOwn s h
-    → IsSeat t
+    → IsStation t
     → t ≡ holding s h
     → IsSettled t d
 settled-push s t d h is room own seat e =
-    let held : t.held.held ≡ s.held.held ++ h ∷ [] = ap (λ (x : SeatView Held). x.held.held) e in
+    let held : t.held.held ≡ s.held.held ++ h ∷ [] = ap (λ (x : StationView Held). x.held.held) e in
     let longer : length (s.held.held ++ h ∷ []) ≡ length s.held.held + 1 = length-append s.held.held (h ∷ []) in
-    let share = ap (λ (x : SeatView Held). x.last.share) e in
-    let marks = ap (λ (x : SeatView Held). x.post.marks) e in
-    let added = ap (λ (x : SeatView Held). x.post) e in
-    let slice = ap (λ (x : SeatView Held). x.slice) e in
+    let share = ap (λ (x : StationView Held). x.last.share) e in
+    let marks = ap (λ (x : StationView Held). x.post.marks) e in
+    let added = ap (λ (x : StationView Held). x.post) e in
+    let slice = ap (λ (x : StationView Held). x.slice) e in
     let all = All-append (IsOwn s) s.held.held (h ∷ []) is.sound.held
     (All-cons (IsOwn s) h [] own (λ i y k. absurd (omega arith))) in
-    settled-after s t d d is seat (ap (λ (x : SeatView Held). x.post.limits) e)
-    (ap (λ (x : SeatView Held). x.post.last) e) share
+    settled-after s t d d is seat (ap (λ (x : StationView Held). x.post.limits) e)
+    (ap (λ (x : StationView Held). x.post.last) e) share
     (subst (λ xs. All (IsOwn t) xs) (sym held) (AreOwn-moved s t (s.held.held ++ h ∷ []) share marks all))
     (rw (held, added, slice) (record {
       taken = is.sound.room.taken;
@@ -155,7 +155,7 @@ sum-less : (xs : List ℕ) (i : ℕ) → i < length xs → 1 ≤ get_or xs i 0 �
 sum-less xs i h some = omega (arith, sum_by-set (λ x. x) xs i (get_or xs i 0 - 1) 0 h)
 
 -- a request was taken from the submitter at a place
-pub settled-taken : (s : SeatView Held) (d n : Desk) (place : ℕ)
+pub settled-taken : (s : StationView Held) (d n : Desk) (place : ℕ)
     → IsSound s d
     → d.pending ≡ None
     → place < length d.left.items
@@ -223,7 +223,7 @@ pub place-served : (worker workers place : ℕ) → worker < workers → (worker
 place-served worker workers place h = add-mul-mod_self_left worker workers place ∙ mod-eq_of_lt h
 
 -- what was taken from the submitter at a place is the worker's
-pub IsOwn-taken : (s : SeatView Held) (place submitter : ℕ) (ask : Numbered)
+pub IsOwn-taken : (s : StationView Held) (place submitter : ℕ) (ask : Numbered)
     → s.last.share.worker < s.last.share.workers
     → submitter ≡ submitter_of s.last.share.workers s.last.share.worker place
     → IsThere (pages_of s.post) ask.request.page
@@ -238,7 +238,7 @@ IsOwn-taken s place submitter ask is_worker at there judged =
     }
 
 -- and may be answered now, where it need not wait
-pub CanServe-taken : (s : SeatView Held) (d : Desk) (place : ℕ) (h : Held) (verdict : Verdict) (waits : Bool)
+pub CanServe-taken : (s : StationView Held) (d : Desk) (place : ℕ) (h : Held) (verdict : Verdict) (waits : Bool)
     → s.last.share.worker < s.last.share.workers
     → h.submitter ≡ submitter_of s.last.share.workers s.last.share.worker place
     → IsThere (pages_of s.post) h.ask.request.page
@@ -257,7 +257,7 @@ CanServe-taken s d place h verdict waits is_worker at there judged run is prompt
     }
 
 -- a desk that tries the submitter at a place, after a look for held requests that found none
-pub view_of-tried : (s t : SeatView Held) (d e : Desk) (place : ℕ)
+pub view_of-tried : (s t : StationView Held) (d e : Desk) (place : ℕ)
     → e ≡ record d { pending = Some place; cursor = (place + 1) % length d.ended.items }
     → t ≡ s
     → view_of t e ≡ trying (view_of s d) place

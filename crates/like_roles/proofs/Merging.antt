@@ -5,7 +5,7 @@ use Rattle.like_core.specs.declared.view.Addition.{Addition}
 use Rattle.like_tables.specs.declared.held.Held.{Held}
 use Rattle.like_seat.specs.Merge as merge
 use Rattle.like_seat.specs.Merge.{Merges}
-use Rattle.like_seat.specs.SeatView.{SeatView, phase_at}
+use Rattle.like_seat.specs.StationView.{StationView, phase_at}
 use Rattle.like_core.specs.Post.{pages_of}
 use Rattle.like_seat.proofs.WholeMerge.{merge_of}
 use Rattle.like_service.specs.declared.log.Added.{Added}
@@ -42,7 +42,7 @@ pub HaveNoted-none : (d : Desk) → HaveNoted d d []
 HaveNoted-none d = record { noted = sym (noted-none d.notes (length d.ran.items) d.adds.items); rest = refl }
 
 -- one more was
-pub HaveNoted-more : (s : SeatView Held) (d0 d e : Desk) (adds : List Addition) (phase page old n : ℕ)
+pub HaveNoted-more : (s : StationView Held) (d0 d e : Desk) (adds : List Addition) (phase page old n : ℕ)
     → HaveNoted d0 d adds
     → HasNoted d e phase page old n
     → phase ≡ phase_at s
@@ -59,7 +59,7 @@ HaveNoted-more s d0 d e adds phase page old n have has phase_is n_is = record {
 }
 
 -- the worker has merged its slice
-pub IsMerged-noted : (s t : SeatView Held) (d e : Desk) (adds : List Addition)
+pub IsMerged-noted : (s t : StationView Held) (d e : Desk) (adds : List Addition)
     → Merges (phase_at s) s.slice (pages_of s.post) adds
     → t ≡ merge.merged s adds
     → HaveNoted d e adds

@@ -23,7 +23,7 @@ use Rattle.like_service.specs.Service.{Service}
 use Rattle.like_roles.specs.worker.Turns as turns
 use Rattle.like_roles.specs.worker.Turns.{Pends, Turns, Works}
 use Rattle.like_roles.specs.worker.WorkerView.{WorkerView, phase_at, submitter_at}
-use Rattle.like_seat.specs.SeatView.{IsSliceInSplit}
+use Rattle.like_seat.specs.StationView.{IsSliceInSplit}
 use Rattle.like_roles.proofs.Effects.{Runs-effects}
 use Rattle.like_seat.proofs.MergedLikes.{cond_same, same_everywhere}
 use Rattle.like_roles.proofs.notes.NotedMerge.{noted-nothing, one-of_likes}

@@ -10,7 +10,7 @@ ghost use Rattle.like_roles.specs.worker.New.{IsNew, IsPostOf};
 ghost use Rattle.like_roles.specs.worker.Follows.{Follows, IsAskedBy, IsDone, IsServiceOf};
 ghost use Rattle.like_service.specs.Service.{Service};
 ghost use Rattle.like_roles.specs.worker.Turns.{CanGive, Gives, HasTaken, Pends, TakesNothing, Turns};
-ghost use Rattle.like_seat.specs.SeatView.{IsSliceInSplit};
+ghost use Rattle.like_seat.specs.StationView.{IsSliceInSplit};
 
 mod desk;
 mod places;
@@ -19,7 +19,7 @@ use self::desk::Desk;
 use crate::turn::Turn;
 use like_core::Post;
 use like_requests::{Gate, Setup, Taken};
-use like_seat::Seat;
+use like_seat::Station;
 use like_service::WorkerLog;
 use like_tables::{Held, Users};
 use std::alloc::{AllocError, Global};
@@ -30,7 +30,7 @@ use std::marker::Model;
 /// Its submitters are `w`, `w + N`, `w + 2 N`, .. for worker `w` of `N`; place `j` is that of submitter `w + j N`.
 #[derive(Drop)]
 pub struct Worker<P: Post> {
-    seat: Seat<P, Held>,
+    seat: Station<P, Held>,
     desk: Desk,
 }
 
@@ -136,7 +136,7 @@ impl<P: Post> Worker<P> {
             return Err(NoWorker { post });
         };
         let Parts { marks, last, desk } = parts;
-        match Seat::new(alloc, post, marks, setup.stash, last) {
+        match Station::new(alloc, post, marks, setup.stash, last) {
             Ok(seat) => Ok(Worker { seat, desk }),
             Err(refused) => Err(NoWorker { post: refused.post }),
         }

@@ -9,7 +9,7 @@ use Rattle.like_core.specs.declared.worker_state.WorkerState.TheVariants as stat
 use Rattle.like_core.specs.WorkerState.{RunsSplit, phase_of, seen}
 use Rattle.like_core.specs.PhaseMasks.{HasMask}
 use Rattle.like_core.specs.Post.{PostView, looked_at, slices}
-use Rattle.like_seat.specs.SeatView.{HasPhaseMask, IsSliceInSplit}
+use Rattle.like_seat.specs.StationView.{HasPhaseMask, IsSliceInSplit}
 use Rattle.like_seat.specs.Steps.{masks_entered, masks_in, saw_at}
 
 -- who stays in a phase has read the masks that it had read

@@ -10,7 +10,7 @@ use Rattle.like_core.specs.Additions.{all_added}
 use Rattle.like_core.specs.Post.{additions_in, pages_of}
 use Rattle.like_core.proofs.core.Labels.{one_before-next}
 use Rattle.like_seat.specs.Merge.{IsMerged, Merges, liked_below, merged}
-use Rattle.like_seat.specs.SeatView.{SeatView, likes_of, phase_at, tally_of}
+use Rattle.like_seat.specs.StationView.{StationView, likes_of, phase_at, tally_of}
 use Rattle.like_seat.specs.Steps.{merged_page}
 use Rattle.like_seat.proofs.WholeMerge.{liked-next}
 
@@ -19,7 +19,7 @@ pub all_added-push : (xs : List Addition) (a : Addition) → all_added (xs ++ a 
 all_added-push xs a = sum_by-append (λ (b : Addition). b.likes) xs (a ∷ []) ∙ omega arith
 
 -- the merge of a page leaves the number of likes
-pub merged_page-likes : {W : Type 0} (s : SeatView W) (page old : ℕ)
+pub merged_page-likes : {W : Type 0} (s : StationView W) (page old : ℕ)
     → page < length s.slice
     → likes_of (merged_page s page old) ≡ likes_of s
 merged_page-likes s page old there =
@@ -125,7 +125,7 @@ module _ (test : ℕ → Bool) (phase : ℕ) (slice : List ℕ) (page : ℕ) whe
             ∙ sym (ap (λ (k : ℕ). cond (test phase) k 0) none ∙ cond_same (test phase) 0))
       ]
 
-module _ {W : Type 0} (s : SeatView W) (adds : List Addition)
+module _ {W : Type 0} (s : StationView W) (adds : List Addition)
     (merges : Merges (phase_at s) s.slice (pages_of s.post) adds) (sized : length s.slice ≡ pages_of s.post) where
   -- a page has as many likes after a merge as before, added and in the slice
   pub merged-tally : (page : ℕ) → tally_of (merged s adds) page ≡ tally_of s page
@@ -154,10 +154,10 @@ module _ {W : Type 0} (s : SeatView W) (adds : List Addition)
       omega arith
 
 -- so it is of each page where a slice is merged
-pub IsMerged-tally : {W : Type 0} (s t : SeatView W)
+pub IsMerged-tally : {W : Type 0} (s t : StationView W)
     → IsMerged s t
     → length s.slice ≡ pages_of s.post
     → (page : ℕ)
     → tally_of t page ≡ tally_of s page
 IsMerged-tally {W} s t m sized page =
-    ap (λ (u : SeatView W). tally_of u page) m.1.1 ∙ merged-tally s m.0 m.1.0 sized page
+    ap (λ (u : StationView W). tally_of u page) m.1.1 ∙ merged-tally s m.0 m.1.0 sized page

@@ -8,7 +8,7 @@ use Rattle.like_core.specs.WorkerState.{phase_of}
 use Rattle.like_tables.specs.Liked.{AreUnliked}
 use Rattle.like_seat.specs.declared.tables.Tables.{Tables}
 use Rattle.like_seat.specs.Kept.{IsKept}
-use Rattle.like_seat.specs.SeatView.{IsSliceInSplit}
+use Rattle.like_seat.specs.StationView.{IsSliceInSplit}
 
 -- a slice without a like may belong to every worker
 splits-empty : (post : PostView) (slice : List ℕ) → AreUnliked slice 0 (length slice) → IsSliceInSplit post slice

@@ -9,7 +9,7 @@ use Rattle.like_core.specs.declared.view.Addition.{Addition}
 use Rattle.like_core.specs.Post.{pages_of}
 use Rattle.like_tables.specs.Liked.{AreUnliked, IsNextLiked}
 use Rattle.like_seat.specs.Merge.{Merges, liked_below, merged}
-use Rattle.like_seat.specs.SeatView.{SeatView, phase_at}
+use Rattle.like_seat.specs.StationView.{StationView, phase_at}
 use Rattle.like_seat.specs.Steps.{merged_page}
 
 -- the pages that a slice has likes of, and one page more
@@ -72,12 +72,12 @@ zeros (x ∷ xs) h =
 
 module _ {W : Type 0} where
   -- the seat after pages were merged by these additions, with this slice
-  abbrev pub merged_with : SeatView W → List Addition → List ℕ → SeatView W
+  abbrev pub merged_with : StationView W → List Addition → List ℕ → StationView W
   merged_with s adds slice =
       record s { post = record s.post { additions = s.post.additions ++ adds }; slice = slice }
 
   -- the first n pages are merged, by these additions
-  pub record Merging (s0 s : SeatView W) (n : ℕ) (adds : List Addition) : Type 0 where
+  pub record Merging (s0 s : StationView W) (n : ℕ) (adds : List Addition) : Type 0 where
     pub merges : Merges (phase_at s0) s0.slice n adds
     pub rest : s ≡ merged_with s0 adds s.slice
     pub sized : length s.slice ≡ length s0.slice
@@ -85,7 +85,7 @@ module _ {W : Type 0} where
     pub left : (page : ℕ) → n ≤ page → get_or s.slice page 0 ≡ get_or s0.slice page 0
 
   -- no page is merged at first
-  pub Merging-start : (s : SeatView W) → Merging s s 0 []
+  pub Merging-start : (s : StationView W) → Merging s s 0 []
   Merging-start s = record {
     merges = record {
       pages_are = refl;
@@ -99,19 +99,19 @@ module _ {W : Type 0} where
   }
 
   -- the addition that merges a page, where its count was this
-  abbrev pub merge_of : SeatView W → ℕ → ℕ → Addition
+  abbrev pub merge_of : StationView W → ℕ → ℕ → Addition
   merge_of s page old =
       record { phase = phase_at s; page = page; old = old; likes = get_or s.slice page 0 }
 
   -- the next page is merged, where its count was this
-  pub Merging-page : (s0 s t : SeatView W) (n old : ℕ) (adds : List Addition) → Merging s0 s n adds → n < length s.slice
+  pub Merging-page : (s0 s t : StationView W) (n old : ℕ) (adds : List Addition) → Merging s0 s n adds → n < length s.slice
       → get_or s.slice n 0 ≢ 0 → t ≡ merged_page s n old
       → Merging s0 t (n + 1) (adds ++ merge_of s n old ∷ [])
   Merging-page s0 s t n old adds m inside liked is =
       let new : Addition = merge_of s n old in
-      let phase : phase_at s ≡ phase_at s0 = ap {A = SeatView W} (λ x. phase_at x) m.rest in
+      let phase : phase_at s ≡ phase_at s0 = ap {A = StationView W} (λ x. phase_at x) m.rest in
       let same : get_or s.slice n 0 ≡ get_or s0.slice n 0 = m.left n (omega arith) in
-      let slice : t.slice ≡ set s.slice n 0 = ap {A = SeatView W} (λ x. x.slice) is in
+      let slice : t.slice ≡ set s.slice n 0 = ap {A = StationView W} (λ x. x.slice) is in
       let walks : Merging s0 (merged_page s n old) (n + 1) (adds ++ new ∷ []) = record {
         merges = record {
           pages_are = map-append (λ (a : Addition). a.page) adds (new ∷ [])
@@ -121,7 +121,7 @@ module _ {W : Type 0} where
           phase_is = All-push (λ (a : Addition). a.phase ≡ phase_at s0) adds new m.merges.phase_is phase;
         };
         rest =
-            ap {A = SeatView W} (λ x. merged_with x (new ∷ []) (set s.slice n 0)) m.rest
+            ap {A = StationView W} (λ x. merged_with x (new ∷ []) (set s.slice n 0)) m.rest
             ∙ (λ k. record s0 {
               post =
                   record s0.post { additions = append_assoc s0.post.additions adds (new ∷ []) k };
@@ -135,7 +135,7 @@ module _ {W : Type 0} where
       in subst (λ x. Merging s0 x (n + 1) (adds ++ new ∷ [])) (sym is) walks
 
   -- there is nothing to merge of a page that has no like
-  Merging-none : (s0 s : SeatView W) (n : ℕ) (adds : List Addition) → Merging s0 s n adds → get_or s.slice n 0 ≡ 0
+  Merging-none : (s0 s : StationView W) (n : ℕ) (adds : List Addition) → Merging s0 s n adds → get_or s.slice n 0 ≡ 0
       → Merging s0 s (n + 1) adds
   Merging-none s0 s n adds m none =
       let is : get_or s0.slice n 0 ≡ 0 = sym (m.left n (omega arith)) ∙ none in
@@ -155,7 +155,7 @@ module _ {W : Type 0} where
       }
 
   -- nor of so many of them
-  unliked_next : (s0 s : SeatView W) (n more : ℕ) (adds : List Addition) → Merging s0 s n adds
+  unliked_next : (s0 s : StationView W) (n more : ℕ) (adds : List Addition) → Merging s0 s n adds
       → AreUnliked s.slice n (n + more) → Merging s0 s (n + more) adds
   unliked_next s0 s n zero adds m none = subst (λ k. Merging s0 s k adds) (omega arith) m
   unliked_next s0 s n (suc more) adds m none =
@@ -163,7 +163,7 @@ module _ {W : Type 0} where
       subst (λ k. Merging s0 s k adds) (omega arith)
       (unliked_next s0 s (n + 1) more adds first (λ page low high. none page (omega arith) (omega arith)))
 
-  pub Merging-unliked : (s0 s : SeatView W) (n k : ℕ) (adds : List Addition) → Merging s0 s n adds → n ≤ k
+  pub Merging-unliked : (s0 s : StationView W) (n k : ℕ) (adds : List Addition) → Merging s0 s n adds → n ≤ k
       → AreUnliked s.slice n k → Merging s0 s k adds
   Merging-unliked s0 s n k adds m up none =
       let same : n + (k - n) ≡ k = omega arith in
@@ -171,7 +171,7 @@ module _ {W : Type 0} where
       (unliked_next s0 s n (k - n) adds m (λ page low high. none page low (omega arith)))
 
   -- all pages are merged
-  pub Merging-end : (s0 s : SeatView W) (adds : List Addition) → Merging s0 s (pages_of s0.post) adds
+  pub Merging-end : (s0 s : StationView W) (adds : List Addition) → Merging s0 s (pages_of s0.post) adds
       → length s0.slice ≡ pages_of s0.post → s ≡ merged s0 adds
   Merging-end s0 s adds m pages =
       let slice : s.slice ≡ replicate (pages_of s0.post) 0 =
@@ -179,7 +179,7 @@ module _ {W : Type 0} where
       m.rest ∙ ap (merged_with s0 adds) slice
 
   -- a page is merged, and those before it that have no like
-  pub Merging-next : (s0 s t : SeatView W) (from page old : ℕ) (adds : List Addition) → Merging s0 s from adds
+  pub Merging-next : (s0 s t : StationView W) (from page old : ℕ) (adds : List Addition) → Merging s0 s from adds
       → IsNextLiked s.slice from page → t ≡ merged_page s page old
       → Merging s0 t (page + 1) (adds ++ merge_of s page old ∷ [])
   Merging-next s0 s t from page old adds m next is =
@@ -187,7 +187,7 @@ module _ {W : Type 0} where
       (Merging-unliked s0 s from page adds m next.after next.least) next.there next.liked is
 
   -- no page is left
-  pub Merging-done : (s0 s t : SeatView W) (from : ℕ) (adds : List Addition) → Merging s0 s from adds
+  pub Merging-done : (s0 s t : StationView W) (from : ℕ) (adds : List Addition) → Merging s0 s from adds
       → from ≤ length s.slice → AreUnliked s.slice from (length s.slice) → t ≡ s → length s0.slice ≡ pages_of s0.post
       → Merges (phase_at s0) s0.slice (pages_of s0.post) adds × (t ≡ merged s0 adds)
   Merging-done s0 s t from adds m within none is pages =

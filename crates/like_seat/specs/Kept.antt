@@ -4,11 +4,11 @@ use Rattle.like_core.specs.Phase.{is_marked, split}
 use Rattle.like_core.specs.PhaseMasks.{mask_of, HasMask}
 use Rattle.like_core.specs.Post.{PostView}
 use Rattle.like_core.specs.WorkerState.{RunsSplit, phase_of}
-use Rattle.like_seat.specs.SeatView.{IsSeat, SeatView, likes_of}
+use Rattle.like_seat.specs.StationView.{IsStation, StationView, likes_of}
 use Rattle.like_seat.specs.declared.tables.Tables.{Tables}
 
 -- the seat of a post and what is kept beside it
-abbrev pub view_of : {W : Type 0} → PostView → Tables W → SeatView W
+abbrev pub view_of : {W : Type 0} → PostView → Tables W → StationView W
 view_of post t =
     record { post = post; held = t.held; slice = t.slice; sliced = t.sliced.likes; last = t.last }
 
@@ -28,4 +28,4 @@ pub record IsKept {W : Type 0} (post : PostView) (t : Tables W) : Type 0 where
   pub state : post.state ≡ t.state
   pub hot : KnowsHot post t.hot
   pub likes : t.likes ≡ likes_of (view_of post t)
-  pub seat : IsSeat (view_of post t)
+  pub seat : IsStation (view_of post t)

@@ -1,6 +1,6 @@
 pub mod Kept
 pub mod Lead
 pub mod Merge
-pub mod SeatView
+pub mod StationView
 pub mod SlicedLike
 pub mod Steps

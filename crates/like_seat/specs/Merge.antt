@@ -3,7 +3,7 @@ use Rattle.std.specs.Prelude.{◌≡◌, ℕ, ◌==◌, not, filter, List, ◌++
 use Rattle.std.specs.List.{range_with_len}
 use Rattle.like_core.specs.declared.view.Addition.{Addition}
 use Rattle.like_core.specs.Post.{answered, pages_of}
-use Rattle.like_seat.specs.SeatView.{SeatView, phase_at}
+use Rattle.like_seat.specs.StationView.{StationView, phase_at}
 
 -- the pages below a number that a slice has likes of, in order
 abbrev pub liked_below : List ℕ → ℕ → List ℕ
@@ -17,19 +17,19 @@ pub record Merges (phase : ℕ) (slice : List ℕ) (pages : ℕ) (adds : List Ad
   pub phase_is : All (λ a. a.phase ≡ phase) adds
 
 -- the slice is added to the board by these additions, and emptied
-abbrev pub merged : {W : Type 0} → SeatView W → List Addition → SeatView W
+abbrev pub merged : {W : Type 0} → StationView W → List Addition → StationView W
 merged s adds = record s {
   post = record s.post { additions = s.post.additions ++ adds };
   slice = replicate (pages_of s.post) 0;
 }
 
 -- the slice is merged: one addition for each page that it has likes of, with all of them, in page order
-abbrev pub IsMerged : {W : Type 0} → SeatView W → SeatView W → Type 0
+abbrev pub IsMerged : {W : Type 0} → StationView W → StationView W → Type 0
 IsMerged s after =
     (adds : List Addition)
     × (Merges (phase_at s) s.slice (pages_of s.post) adds × (after ≡ merged s adds))
 
 -- the slice is merged, and then its phase answered
-abbrev pub MergesAndReports : {W : Type 0} → SeatView W → SeatView W → Type 0
+abbrev pub MergesAndReports : {W : Type 0} → StationView W → StationView W → Type 0
 MergesAndReports {W} s after =
-    (now : SeatView W) × (IsMerged s now × (after ≡ record now { post = answered now.post }))
+    (now : StationView W) × (IsMerged s now × (after ≡ record now { post = answered now.post }))

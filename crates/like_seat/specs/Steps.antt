@@ -8,11 +8,11 @@ use Rattle.like_tables.specs.Liked.{AreUnliked, IsNextLiked}
 use Rattle.like_tables.specs.UserTable.{UserTable, last_of, with_last}
 use Rattle.like_seat.specs.declared.merged.Merged.{Merged}
 use Rattle.like_seat.specs.declared.seen.Seen.{Seen}
-use Rattle.like_seat.specs.SeatView.{SeatView, tally_of}
+use Rattle.like_seat.specs.StationView.{StationView, tally_of}
 use Rattle.like_seat.specs.SlicedLike.{sliced_like}
 
 -- a seat that has done nothing yet: it holds nothing, its slice is empty, and no like ever went into it
-pub record IsNewSeat {W : Type 0} (post : PostView) (room : ℕ) (users : UserTable) (s : SeatView W)
+pub record IsNewStation {W : Type 0} (post : PostView) (room : ℕ) (users : UserTable) (s : StationView W)
     : Type 0 where
   pub at_post : s.post ≡ post
   pub held : s.held ≡ record { held = []; capacity = room }
@@ -36,31 +36,31 @@ saw_at post sight mask = record (looked_at post sight) {
 }
 
 -- the seat after a look
-abbrev pub saw : {W : Type 0} → SeatView W → Sight → ℕ → SeatView W
+abbrev pub saw : {W : Type 0} → StationView W → Sight → ℕ → StationView W
 saw s sight mask = record s { post = saw_at s.post sight mask }
 
 -- it looks, and sees this
-abbrev pub Looks : {W : Type 0} → SeatView W → Sight → SeatView W → Type 0
+abbrev pub Looks : {W : Type 0} → StationView W → Sight → StationView W → Type 0
 Looks s sight after = (mask : ℕ) × (after ≡ saw s sight mask)
 
 -- one more like of a page in the slice, after all looks so far
-abbrev pub sliced : {W : Type 0} → SeatView W → ℕ → SeatView W
+abbrev pub sliced : {W : Type 0} → StationView W → ℕ → StationView W
 sliced s page = record s {
   slice = slice_set s.slice page (slice_index s.slice page + 1);
   sliced = s.sliced ++ sliced_like page (length s.post.looks) ∷ [];
 }
 
 -- n is added to a page's count on the board, which was this before
-abbrev pub with_addition : {W : Type 0} → SeatView W → ℕ → ℕ → ℕ → SeatView W
+abbrev pub with_addition : {W : Type 0} → StationView W → ℕ → ℕ → ℕ → StationView W
 with_addition s page old n = record s { post = added s.post page old n }
 
 -- the user's last like is of this page
-abbrev pub liked_last : {W : Type 0} → SeatView W → ℕ → ℕ → SeatView W
+abbrev pub liked_last : {W : Type 0} → StationView W → ℕ → ℕ → StationView W
 liked_last s user page = record s { last = with_last s.last user page }
 
 -- a user's like of a page is counted, and is the user's last: in the slice, where the page is sliced, else on the board,
 -- where the page's count was the one that is returned
-abbrev pub CountsLike : {W : Type 0} → SeatView W → ℕ → ℕ → Option ℕ → SeatView W → Type 0
+abbrev pub CountsLike : {W : Type 0} → StationView W → ℕ → ℕ → Option ℕ → StationView W → Type 0
 CountsLike s user page old after =
     MatchOption old
     ((slices s.post page ≡ true) × (after ≡ liked_last (sliced s page) user page))
@@ -68,7 +68,7 @@ CountsLike s user page old after =
     × (after ≡ liked_last (with_addition s page count 1) user page))
 
 -- a page is read for a user's look: the user's last like is shown, and the page's count
-pub record Reads {W : Type 0} (s : SeatView W) (user page : ℕ) (shown : Seen) (after : SeatView W)
+pub record Reads {W : Type 0} (s : StationView W) (user page : ℕ) (shown : Seen) (after : StationView W)
     : Type 0 where
   pub last : shown.last ≡ last_of s.last user
   pub own : additions_of s.post page ≤ shown.count
@@ -76,7 +76,7 @@ pub record Reads {W : Type 0} (s : SeatView W) (user page : ℕ) (shown : Seen) 
 
 -- a page that is sliced is glanced at for a user's look: the user's last like is shown, and the page's count with the
 -- seat's slice of it, which has all likes that the seat has counted
-pub record Glances {W : Type 0} (s : SeatView W) (user page : ℕ) (shown : Seen) (after : SeatView W)
+pub record Glances {W : Type 0} (s : StationView W) (user page : ℕ) (shown : Seen) (after : StationView W)
     : Type 0 where
   pub count : ℕ
   pub last : shown.last ≡ last_of s.last user
@@ -85,28 +85,28 @@ pub record Glances {W : Type 0} (s : SeatView W) (user page : ℕ) (shown : Seen
   pub glanced : after ≡ record s { post = has_glanced s.post page count }
 
 -- one more waits, behind all others
-abbrev pub holding : {W : Type 0} → SeatView W → W → SeatView W
+abbrev pub holding : {W : Type 0} → StationView W → W → StationView W
 holding s w = record s { held = record s.held { held = s.held.held ++ w ∷ [] } }
 
 -- without the first that it held
-abbrev pub without_first : {W : Type 0} → SeatView W → SeatView W
+abbrev pub without_first : {W : Type 0} → StationView W → StationView W
 without_first s = record s { held = record s.held { held = drop 1 s.held.held } }
 
 -- a page's likes are added to its count, which was this, and its slice is emptied
-abbrev pub merged_page : {W : Type 0} → SeatView W → ℕ → ℕ → SeatView W
+abbrev pub merged_page : {W : Type 0} → StationView W → ℕ → ℕ → StationView W
 merged_page s page old =
     let t = with_addition s page old (slice_index s.slice page) in
     record t { slice = slice_set s.slice page 0 }
 
 -- a page's likes were merged, all of them
-pub record MergesPage {W : Type 0} (s : SeatView W) (from : ℕ) (m : Merged) (after : SeatView W)
+pub record MergesPage {W : Type 0} (s : StationView W) (from : ℕ) (m : Merged) (after : StationView W)
     : Type 0 where
   pub next : IsNextLiked s.slice from m.page
   pub likes : m.likes ≡ slice_index s.slice m.page
   pub merged : after ≡ merged_page s m.page m.old
 
 -- the next page from one on that has a like is merged, if there is one
-abbrev pub MergesNext : {W : Type 0} → SeatView W → ℕ → Option Merged → SeatView W → Type 0
+abbrev pub MergesNext : {W : Type 0} → StationView W → ℕ → Option Merged → StationView W → Type 0
 MergesNext s from merged after =
     MatchOption merged
     (AreUnliked s.slice from (length s.slice) × (after ≡ s))

@@ -8,12 +8,12 @@
 
 mod lead;
 mod merged;
-mod seat;
 mod seen;
 mod slice_log;
+mod station;
 mod tables;
 
 pub use lead::{Lead, NoLead};
 pub use merged::Merged;
-pub use seat::{NoSeat, Seat};
 pub use seen::Seen;
+pub use station::{NoStation, Station};

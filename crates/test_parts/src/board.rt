@@ -268,15 +268,7 @@ fn plays(
 // A board whose phase word has the form of a service's.
 #[test]
 fn goes_through_phases_of_a_service(rt: HostRuntime) -> Result<(), Fail> {
-    plays(
-        &rt,
-        rt.alloc(),
-        1,
-        5,
-        false,
-        small_limits(),
-        five_phases(),
-    )
+    plays(&rt, rt.alloc(), 1, 5, false, small_limits(), five_phases())
 }
 
 #[test]

@@ -168,12 +168,11 @@ fn packs_and_unpacks_words(rt: HostRuntime) -> Result<(), Fail> {
 #[test]
 fn steps_lead_to_words_of_idle_workers(rt: HostRuntime) -> Result<(), Fail> {
     let form = Form::Bits;
-    let gone = [
-        form.retirement(1),
-        form.retirement(2),
-        form.retirement(3),
-    ];
-    let mut ending = form.first(4).saturating_add(1).saturating_add(form.answer(0));
+    let gone = [form.retirement(1), form.retirement(2), form.retirement(3)];
+    let mut ending = form
+        .first(4)
+        .saturating_add(1)
+        .saturating_add(form.answer(0));
     for more in gone {
         ending = ending.saturating_add(more);
     }

@@ -1,6 +1,6 @@
 ghost use Rattle.std.specs.Prelude.{◌≡◌, All, true};
 ghost use Rattle.like_core.specs.WorkerState.{IsRunning, RunsJoined, SawEnding};
-ghost use Rattle.like_seat.specs.SeatView.{IsSeat};
+ghost use Rattle.like_seat.specs.StationView.{IsStation};
 ghost use Rattle.like_live.specs.LiveView.{IsLive, RanNext, live_of};
 ghost use Rattle.like_live.specs.Kept.{HasLooked};
 ghost use Rattle.like_live.specs.Moves.{FindsAll, Moves, Works};
@@ -10,7 +10,7 @@ use crate::answer::TurnAnswer;
 use crate::asked::{Asked, Found};
 use crate::live_seat::LiveSeat;
 use like_core::Post;
-use like_seat::Seat;
+use like_seat::Station;
 use like_tables::Stash;
 
 impl<P: Post> LiveSeat<P> {
@@ -35,7 +35,7 @@ impl<P: Post> LiveSeat<P> {
 
 // The phase work of a seat that is to retire: in a joined phase it finds what waits, and retires.
 pub(crate) fn work_or_retire<P: Post>(
-    seat: &mut Seat<P, Asked>,
+    seat: &mut Station<P, Asked>,
     found: &mut Stash<Found>,
     ending: bool,
 ) -> TurnAnswer
@@ -55,7 +55,7 @@ pub(crate) fn work_or_retire<P: Post>(
 
 // The phase work of a seat that runs a phase.
 #[inline(always)]
-fn work<P: Post>(seat: &mut Seat<P, Asked>, found: &mut Stash<Found>, ending: bool) -> TurnAnswer
+fn work<P: Post>(seat: &mut Station<P, Asked>, found: &mut Stash<Found>, ending: bool) -> TurnAnswer
     requires looked { HasLooked seat.old found.old }
     requires ending { ending ≡ true → SawEnding seat.old.post.last }
     ensures works { Works (live_of seat.old found.old) ending result (live_of seat.new found.new) }
@@ -75,7 +75,7 @@ fn work<P: Post>(seat: &mut Seat<P, Asked>, found: &mut Stash<Found>, ending: bo
 // Of a joined phase: all that waits runs first.
 #[inline(always)]
 fn joined_work<P: Post>(
-    seat: &mut Seat<P, Asked>,
+    seat: &mut Station<P, Asked>,
     found: &mut Stash<Found>,
     ending: bool,
 ) -> TurnAnswer
@@ -96,12 +96,12 @@ fn joined_work<P: Post>(
 
 // Runs all that waits, in order. Mostly none does.
 #[inline(always)]
-fn find_all<P: Post>(seat: &mut Seat<P, Asked>, found: &mut Stash<Found>)
+fn find_all<P: Post>(seat: &mut Station<P, Asked>, found: &mut Stash<Found>)
     requires looked { HasLooked seat.old found.old }
     requires joined { RunsJoined seat.old.post.state }
     ensures finds { FindsAll (live_of seat.old found.old) (live_of seat.new found.new) }
     ensures next { All RanNext found.new.held }
-    ensures seat { IsSeat seat.new }
+    ensures seat { IsStation seat.new }
     ensures capacity { found.new.capacity ≡ found.old.capacity }
 {
     if seat.holds_none() {
@@ -113,12 +113,12 @@ fn find_all<P: Post>(seat: &mut Seat<P, Asked>, found: &mut Stash<Found>)
 // Runs what waits, one after the other.
 #[cold]
 #[inline(never)]
-fn find_each<P: Post>(seat: &mut Seat<P, Asked>, found: &mut Stash<Found>)
+fn find_each<P: Post>(seat: &mut Station<P, Asked>, found: &mut Stash<Found>)
     requires looked { HasLooked seat.old found.old }
     requires joined { RunsJoined seat.old.post.state }
     ensures finds { FindsAll (live_of seat.old found.old) (live_of seat.new found.new) }
     ensures next { All RanNext found.new.held }
-    ensures seat { IsSeat seat.new }
+    ensures seat { IsStation seat.new }
     ensures capacity { found.new.capacity ≡ found.old.capacity }
 {
     let phase = seat.phase();

@@ -1,7 +1,7 @@
 ghost use Rattle.std.specs.Prelude.{◌≡◌, ◌+◌, ◌<◌, ◌↔◌, IsTrue, length};
 ghost use Rattle.like_core.specs.Post.{pages_of};
 ghost use Rattle.like_core.specs.WorkerState.{IsRunning, RunsSplit};
-ghost use Rattle.like_seat.specs.SeatView.{phase_at};
+ghost use Rattle.like_seat.specs.StationView.{phase_at};
 ghost use Rattle.like_seat.specs.Steps.{holding};
 ghost use Rattle.like_tables.specs.Share.{owns};
 ghost use Rattle.like_live.specs.LiveView.{IsLive, IsOwn, room_of, waiting, with_seat};

@@ -22,7 +22,7 @@ use Rattle.like_roles.specs.worker.Serve.{noted, noted_at}
 use Rattle.like_service.specs.Service.{Service, is_split_in}
 use Rattle.like_seat.specs.Merge.{Merges, liked_below}
 use Rattle.like_roles.specs.worker.WorkerView.{WorkerView, phase_at}
-use Rattle.like_seat.specs.SeatView.{IsSliceInSplit}
+use Rattle.like_seat.specs.StationView.{IsSliceInSplit}
 use Rattle.like_seat.proofs.WholeMerge.{liked-next}
 use Rattle.like_roles.proofs.notes.Noted.{AreMore, apart, count-all, count-none, none-passes, noted-each, noted-merged}
 

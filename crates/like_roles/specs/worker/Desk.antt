@@ -12,14 +12,14 @@ use Rattle.like_core.specs.WorkerState.{IsRunning}
 use Rattle.like_tables.specs.declared.held.Held.{Held}
 use Rattle.like_limits.specs.Limits.{max_likes}
 use Rattle.like_tables.specs.Share.{Share, dealt, submitter_of, worker_of}
-use Rattle.like_seat.specs.SeatView.{IsSeat, SeatView, likes_of, phase_at}
+use Rattle.like_seat.specs.StationView.{IsStation, StationView, likes_of, phase_at}
 use Rattle.like_roles.specs.declared.turn.Turn.{Turn}
 use Rattle.like_roles.specs.declared.worker.desk.Desk.{Desk}
 use Rattle.like_roles.specs.worker.Turns.{Works}
 use Rattle.like_roles.specs.worker.WorkerView.{WorkerView, has_to_wait}
 
 -- the worker of a seat and what is kept beside it
-abbrev pub view_of : SeatView Held → Desk → WorkerView
+abbrev pub view_of : StationView Held → Desk → WorkerView
 view_of s d = record {
   post = s.post;
   held = s.held;
@@ -43,13 +43,13 @@ pub record IsJudged (s : Share) (h : Held) (verdict : Verdict) : Type 0 where
       ↔ IsTrue (is_accepted s.users s.submitters h.submitter h.ask.request)
 
 -- a request that the worker may hold: of one of its submitters, of a page that is there, and accepted
-pub record IsOwn (s : SeatView Held) (h : Held) : Type 0 where
+pub record IsOwn (s : StationView Held) (h : Held) : Type 0 where
   pub served : worker_of s.last.share.workers h.submitter ≡ s.last.share.worker
   pub there : IsThere (pages_of s.post) h.ask.request.page
   pub judged : IsJudged s.last.share h Accepted
 
 -- the submitter at a place is tried: it has not ended, and there is room for a look that waits
-pub record IsTried (s : SeatView Held) (d : Desk) (place : ℕ) : Type 0 where
+pub record IsTried (s : StationView Held) (d : Desk) (place : ℕ) : Type 0 where
   pub there : place < vec_len d.ended
   pub running : IsRunning s.post.state
   pub joined : IsJoined (phase_at s) → s.held.held ≡ []
@@ -65,7 +65,7 @@ pub record HasSubmitters (s : Share) (d : Desk) : Type 0 where
 
 -- there is room to take and to run what was not taken yet, and to run what is held; and, where additions are noted, to
 -- note one for each like that was not added yet, of which there are no more than all these and those in the slice
-pub record HasRoom (s : SeatView Held) (d : Desk) : Type 0 where
+pub record HasRoom (s : StationView Held) (d : Desk) : Type 0 where
   pub taken : vec_len d.taken + sum d.left.items ≤ vec_capacity d.taken
   pub ran : vec_len d.ran + length s.held.held + sum d.left.items ≤ vec_capacity d.ran
   pub few_ran : vec_capacity d.ran ≤ max_likes
@@ -74,19 +74,19 @@ pub record HasRoom (s : SeatView Held) (d : Desk) : Type 0 where
   pub few : likes_of s + length s.held.held + sum d.left.items ≤ max_likes
 
 -- and there is room to run one more request
-pub record HasRoomForOne (s : SeatView Held) (d : Desk) : Type 0 where
+pub record HasRoomForOne (s : StationView Held) (d : Desk) : Type 0 where
   pub ran : vec_len d.ran + length s.held.held + sum d.left.items < vec_capacity d.ran
   pub adds : d.notes ≡ true
       → vec_len d.adds + sum s.slice + length s.held.held + sum d.left.items < vec_capacity d.adds
   pub few : likes_of s + length s.held.held + sum d.left.items < max_likes
 
 -- there is room to note one more request that was run
-pub record HasRoomToNote (s : SeatView Held) (d : Desk) : Type 0 where
+pub record HasRoomToNote (s : StationView Held) (d : Desk) : Type 0 where
   pub ran : vec_len d.ran + length s.held.held + sum d.left.items < vec_capacity d.ran
 
 -- what is true of a worker between two calls: its board has the limits of a run, and it has started once its post looked
-pub record IsSound (s : SeatView Held) (d : Desk) : Type 0 where
-  pub seat : IsSeat s
+pub record IsSound (s : StationView Held) (d : Desk) : Type 0 where
+  pub seat : IsStation s
   pub run : s.post.limits ≡ run_limits
   pub started : d.started ≡ is_some s.post.last
   pub places : HasSubmitters s.last.share d
@@ -95,16 +95,16 @@ pub record IsSound (s : SeatView Held) (d : Desk) : Type 0 where
   pub tried : (place : ℕ) → d.pending ≡ Some place → IsTried s d place
 
 -- and no submitter is tried
-pub record IsSettled (s : SeatView Held) (d : Desk) : Type 0 where
+pub record IsSettled (s : StationView Held) (d : Desk) : Type 0 where
   pub sound : IsSound s d
   pub untried : d.pending ≡ None
 
 -- what the worker does that has looked and runs a phase, by its seat and its desk before and after
-abbrev pub WorksAt : SeatView Held → Desk → Bool → Turn → SeatView Held → Desk → Type 0
+abbrev pub WorksAt : StationView Held → Desk → Bool → Turn → StationView Held → Desk → Type 0
 WorksAt s d ending answer t e = Works (view_of s d) ending answer (view_of t e)
 
 -- a request of the worker, with its verdict, that may be answered now
-pub record CanServe (s : SeatView Held) (d : Desk) (h : Held) (verdict : Verdict) : Type 0 where
+pub record CanServe (s : StationView Held) (d : Desk) (h : Held) (verdict : Verdict) : Type 0 where
   pub running : IsRunning s.post.state
   pub served : worker_of s.last.share.workers h.submitter ≡ s.last.share.worker
   pub there : IsThere (pages_of s.post) h.ask.request.page

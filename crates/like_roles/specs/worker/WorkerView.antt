@@ -6,7 +6,7 @@ use Rattle.like_requests.specs.declared.request.Request.{Request}
 use Rattle.like_service.specs.Looks.{page_looked_at}
 use Rattle.like_core.specs.WorkerState.{phase_of}
 use Rattle.like_core.specs.Post.{PostView, slices}
-use Rattle.like_seat.specs.SeatView.{SeatView}
+use Rattle.like_seat.specs.StationView.{StationView}
 use Rattle.like_seat.specs.SlicedLike.{SlicedLike}
 use Rattle.like_tables.specs.Share.{submitter_of}
 use Rattle.like_tables.specs.declared.held.Held.{Held}
@@ -37,12 +37,12 @@ pub record WorkerView : Type 0 where
   pub adds : List Added
 
 -- its seat
-abbrev pub seat_of : WorkerView → SeatView Held
+abbrev pub seat_of : WorkerView → StationView Held
 seat_of v =
     record { post = v.post; held = v.held; slice = v.slice; sliced = v.sliced; last = v.last }
 
 -- with its seat like this, and all else the same
-abbrev pub with_seat : WorkerView → SeatView Held → WorkerView
+abbrev pub with_seat : WorkerView → StationView Held → WorkerView
 with_seat v s =
     record v { post = s.post; held = s.held; slice = s.slice; sliced = s.sliced; last = s.last }
 

@@ -1,6 +1,6 @@
 ghost use Rattle.std.specs.Prelude.{◌≡◌};
 ghost use Rattle.like_core.specs.OpeningLimits.{run_limits};
-ghost use Rattle.like_seat.specs.SeatView.{phase_at};
+ghost use Rattle.like_seat.specs.StationView.{phase_at};
 
 mod addition;
 mod merge;
@@ -10,7 +10,7 @@ mod taken;
 mod turns;
 
 use like_core::Post;
-use like_seat::Seat;
+use like_seat::Station;
 use like_service::{Added, Ran, Took};
 use like_tables::Held;
 
@@ -35,7 +35,7 @@ pub(crate) struct Desk {
 }
 
 // The phase that a worker runs or has answered, which in a run is below 2^24.
-pub(crate) fn phase_of_run<P: Post>(seat: &Seat<P, Held>) -> u32
+pub(crate) fn phase_of_run<P: Post>(seat: &Station<P, Held>) -> u32
     requires { seat.now.post.limits ≡ run_limits }
     ensures { result ≡ phase_at seat.now }
 {

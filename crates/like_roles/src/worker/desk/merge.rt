@@ -6,12 +6,12 @@ ghost use Rattle.like_roles.specs.worker.Turns.{IsMerged};
 
 use crate::worker::desk::{Desk, phase_of_run};
 use like_core::Post;
-use like_seat::Seat;
+use like_seat::Station;
 use like_tables::Held;
 
 impl Desk {
     // Adds each page's slice that is not empty to the page's count on the board, in page order, and empties it.
-    pub fn merge<P: Post>(&mut self, seat: &mut Seat<P, Held>)
+    pub fn merge<P: Post>(&mut self, seat: &mut Station<P, Held>)
         requires settled { IsSettled seat.old self.old }
         requires split { RunsSplit seat.old.post.state }
         requires ending { SawEnding seat.old.post.last }

@@ -10,13 +10,13 @@ ghost use Rattle.like_roles.specs.worker.Serve.{Likes, Runs, GivesReply};
 use crate::worker::desk::{Desk, phase_of_run};
 use like_core::Post;
 use like_requests::{Gate, Op, PageRef, Verdict};
-use like_seat::Seat;
+use like_seat::Station;
 use like_service::{Ran, Reply};
 use like_tables::Held;
 
 // Whether a request with this verdict has to wait for the next joined phase: an accepted look at a page that is split in
 // the phase that the worker runs.
-pub(crate) fn waits<P: Post>(seat: &Seat<P, Held>, held: &Held, verdict: Verdict) -> bool
+pub(crate) fn waits<P: Post>(seat: &Station<P, Held>, held: &Held, verdict: Verdict) -> bool
     requires running { IsRunning seat.now.post.state }
     requires judged { IsJudged seat.now.last.share held.now verdict }
     requires there { IsThere (pages_of seat.now.post) held.now.ask.request.page }
@@ -36,7 +36,7 @@ pub(crate) fn waits<P: Post>(seat: &Seat<P, Held>, held: &Held, verdict: Verdict
 
 impl Desk {
     // Counts an accepted like of a page, which is then the user's last, and notes its addition, if it is one.
-    fn like<P: Post>(&mut self, seat: &mut Seat<P, Held>, user: u32, page: u32)
+    fn like<P: Post>(&mut self, seat: &mut Station<P, Held>, user: u32, page: u32)
         requires settled { IsSettled seat.old self.old }
         requires room { HasRoomForOne seat.old self.old }
         requires running { IsRunning seat.old.post.state }
@@ -53,7 +53,12 @@ impl Desk {
     }
 
     // Answers a request with this verdict.
-    fn serve<P: Post>(&mut self, seat: &mut Seat<P, Held>, held: &Held, verdict: Verdict) -> Reply
+    fn serve<P: Post>(
+        &mut self,
+        seat: &mut Station<P, Held>,
+        held: &Held,
+        verdict: Verdict,
+    ) -> Reply
         requires settled { IsSettled seat.old self.old }
         requires room { HasRoomForOne seat.old self.old }
         requires can { CanServe seat.old self.old held.now verdict }
@@ -88,7 +93,7 @@ impl Desk {
     // Runs a request with this verdict, and notes it.
     pub fn run<P: Post, G: Gate>(
         &mut self,
-        seat: &mut Seat<P, Held>,
+        seat: &mut Station<P, Held>,
         gate: &G,
         held: Held,
         verdict: Verdict,

@@ -7,7 +7,7 @@ use crate::worker::desk::request::waits;
 use crate::worker::desk::{Desk, phase_of_run};
 use like_core::Post;
 use like_requests::{Gate, Numbered, Taken};
-use like_seat::Seat;
+use like_seat::Station;
 use like_service::Took;
 use like_tables::Held;
 
@@ -15,7 +15,7 @@ impl Desk {
     /// Completes a turn by what was taken from the submitter that was tried.
     pub fn give<P: Post, G: Gate>(
         &mut self,
-        seat: &mut Seat<P, Held>,
+        seat: &mut Station<P, Held>,
         gate: &G,
         taken: Taken,
     ) -> Turn
@@ -44,7 +44,7 @@ impl Desk {
     // Takes a request, and runs it or puts it into the stash.
     fn take<P: Post, G: Gate>(
         &mut self,
-        seat: &mut Seat<P, Held>,
+        seat: &mut Station<P, Held>,
         gate: &G,
         place: usize,
         ask: Numbered,

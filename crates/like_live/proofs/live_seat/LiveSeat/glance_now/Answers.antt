@@ -1,6 +1,6 @@
 use Rattle.std.proofs.Common.{◌≡◌, false, true, refl, ap, sym, subst, ◌∙◌}
 use Rattle.like_core.specs.Post.{slices}
-use Rattle.like_seat.specs.SeatView.{SeatView}
+use Rattle.like_seat.specs.StationView.{StationView}
 use Rattle.like_seat.specs.Steps.{Glances, Reads}
 use Rattle.like_live.specs.declared.asked.Asked.{Asked}
 use Rattle.like_live.specs.Calls.{plain, split}
@@ -13,9 +13,9 @@ returns-then-is_sliced-clause-case g c =
     let same : s ≡ c.args.self.now.seat = ap (λ (w : LiveView). w.seat) c.self.view_is in
     let sliced : slices s.post c.args.page ≡ true = sym c.is_sliced.ensures ∙ c.if-is_sliced.true in
     split c.glance.result c.glance.new.self (c.accepts.ensures.verdict.0 c.if-not-accepts.false)
-    (subst (λ (t : SeatView Asked). slices t.post c.args.page ≡ true) same sliced)
+    (subst (λ (t : StationView Asked). slices t.post c.args.page ≡ true) same sliced)
     refl
-    (subst (λ (t : SeatView Asked). Glances t c.args.user c.args.page c.glance.result c.glance.new.self) same
+    (subst (λ (t : StationView Asked). Glances t c.args.user c.args.page c.glance.result c.glance.new.self) same
     c.glance.ensures.glances)
     (ap (λ (w : LiveView). with_seat w c.glance.new.self) c.self.view_is)
 
@@ -25,8 +25,8 @@ returns-clause-case g c =
     let same : s ≡ c.args.self.now.seat = ap (λ (w : LiveView). w.seat) c.self.view_is in
     let whole : slices s.post c.args.page ≡ false = sym c.is_sliced.ensures ∙ c.if-is_sliced.false in
     plain c.read_for.result c.read_for.new.self (c.accepts.ensures.verdict.0 c.if-not-accepts.false)
-    (subst (λ (t : SeatView Asked). slices t.post c.args.page ≡ false) same whole)
+    (subst (λ (t : StationView Asked). slices t.post c.args.page ≡ false) same whole)
     refl
-    (subst (λ (t : SeatView Asked). Reads t c.args.user c.args.page c.read_for.result c.read_for.new.self) same
+    (subst (λ (t : StationView Asked). Reads t c.args.user c.args.page c.read_for.result c.read_for.new.self) same
     c.read_for.ensures.reads)
     (ap (λ (w : LiveView). with_seat w c.read_for.new.self) c.self.view_is)

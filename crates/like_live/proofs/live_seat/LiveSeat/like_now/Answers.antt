@@ -1,5 +1,5 @@
 use Rattle.std.proofs.Common.{◌≡◌, ◌<◌, arith, refl, ap, subst}
-use Rattle.like_seat.specs.SeatView.{SeatView, likes_of}
+use Rattle.like_seat.specs.StationView.{StationView, likes_of}
 use Rattle.like_seat.specs.Steps.{CountsLike}
 use Rattle.like_live.specs.declared.asked.Asked.{Asked}
 use Rattle.like_live.specs.Calls.{liked}
@@ -14,8 +14,8 @@ returns-clause-case g c =
     let same : s ≡ c.args.self.now.seat = ap (λ (w : LiveView). w.seat) c.self.view_is in
     let few = not-full s live.seat live.limits (omega (arith, c.likes.ensures.likes, c.if-likes-ge-MAX_LIKES.false)) in
     liked c.count_like.result c.count_like.new.self (c.accepts.ensures.verdict.0 c.if-not-accepts.false)
-    (subst (λ (t : SeatView Asked). likes_of t < t.post.limits.likes) same few)
+    (subst (λ (t : StationView Asked). likes_of t < t.post.limits.likes) same few)
     refl
-    (subst (λ (t : SeatView Asked). CountsLike t c.args.user c.args.page c.count_like.result c.count_like.new.self) same
+    (subst (λ (t : StationView Asked). CountsLike t c.args.user c.args.page c.count_like.result c.count_like.new.self) same
     c.count_like.ensures.counts)
     (ap (λ (w : LiveView). with_seat w c.count_like.new.self) c.self.view_is)

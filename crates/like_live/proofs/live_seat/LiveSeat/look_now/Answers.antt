@@ -1,6 +1,6 @@
 use Rattle.std.proofs.Common.{◌≡◌, false, refl, ap, sym, subst, ◌∙◌}
 use Rattle.like_core.specs.Post.{slices}
-use Rattle.like_seat.specs.SeatView.{SeatView}
+use Rattle.like_seat.specs.StationView.{StationView}
 use Rattle.like_seat.specs.Steps.{Reads}
 use Rattle.like_live.specs.declared.asked.Asked.{Asked}
 use Rattle.like_live.specs.Calls.{seen}
@@ -13,8 +13,8 @@ returns-then-not-is_sliced-clause-case g c =
     let same : s ≡ c.args.self.now.seat = ap (λ (w : LiveView). w.seat) c.self.view_is in
     let plain : slices s.post c.args.page ≡ false = sym c.is_sliced.ensures ∙ c.if-not-is_sliced.true in
     seen c.read_for.result c.read_for.new.self (c.accepts.ensures.verdict.0 c.if-not-accepts.false)
-    (subst (λ (t : SeatView Asked). slices t.post c.args.page ≡ false) same plain)
+    (subst (λ (t : StationView Asked). slices t.post c.args.page ≡ false) same plain)
     refl
-    (subst (λ (t : SeatView Asked). Reads t c.args.user c.args.page c.read_for.result c.read_for.new.self) same
+    (subst (λ (t : StationView Asked). Reads t c.args.user c.args.page c.read_for.result c.read_for.new.self) same
     c.read_for.ensures.reads)
     (ap (λ (w : LiveView). with_seat w c.read_for.new.self) c.self.view_is)

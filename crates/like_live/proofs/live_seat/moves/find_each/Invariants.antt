@@ -1,5 +1,5 @@
 use Rattle.std.proofs.Common.{◌≡◌, length}
-use Rattle.like_seat.specs.SeatView.{IsSeat}
+use Rattle.like_seat.specs.StationView.{IsStation}
 use Rattle.like_live.specs.LiveView.{live_of}
 use Rattle.like_live.proofs.Finding.{Finding}
 use Rattle.like_live.proofs.live_seat.moves.find_each.Given as goal
@@ -7,7 +7,7 @@ use Rattle.like_live.proofs.live_seat.moves.find_each.Given as goal
 abbrev pub invariant-loop-asked : goal.invariant-loop-asked
 invariant-loop-asked g l = record {
   finding : Finding (live_of l.initial.seat l.initial.found) (live_of l.seat l.found);
-  seat : IsSeat l.seat;
+  seat : IsStation l.seat;
   capacity : l.found.capacity ≡ l.initial.found.capacity;
 }
 

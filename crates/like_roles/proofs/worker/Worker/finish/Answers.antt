@@ -1,6 +1,6 @@
 use Rattle.std.proofs.Common.{subst}
 use Rattle.like_roles.specs.worker.WorkerView.{WorkerView}
-use Rattle.like_seat.specs.SeatView.{IsSliceInSplit}
+use Rattle.like_seat.specs.StationView.{IsSliceInSplit}
 use Rattle.like_roles.proofs.Started.{follows-done}
 use Rattle.like_roles.proofs.worker.Worker.finish.Goals as goal
 

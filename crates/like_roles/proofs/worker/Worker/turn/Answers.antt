@@ -1,7 +1,7 @@
 use Rattle.std.proofs.Common.{subst}
 use Rattle.like_roles.specs.worker.Desk.{view_of}
 use Rattle.like_roles.specs.worker.WorkerView.{WorkerView}
-use Rattle.like_seat.specs.SeatView.{HasPhaseMask, IsSliceInSplit}
+use Rattle.like_seat.specs.StationView.{HasPhaseMask, IsSliceInSplit}
 use Rattle.like_roles.specs.worker.Turns.{Turns}
 use Rattle.like_roles.proofs.Followed.{follows-turn}
 use Rattle.like_roles.proofs.Keeps.{turns-keeps}

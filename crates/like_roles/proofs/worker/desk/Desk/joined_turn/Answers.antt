@@ -1,6 +1,6 @@
 use Rattle.std.proofs.Common.{◌≡◌, true, drop, refl, ap, sym, ◌∙◌, subst}
 use Rattle.like_tables.specs.declared.held.Held.{Held}
-use Rattle.like_seat.specs.SeatView.{SeatView}
+use Rattle.like_seat.specs.StationView.{StationView}
 use Rattle.like_roles.specs.worker.Desk.{view_of}
 use Rattle.like_roles.specs.worker.Serve.{Runs}
 use Rattle.like_roles.specs.worker.Turns.{runs_held, tries_joined}
@@ -37,5 +37,5 @@ returns-clause-works g c =
     (subst (λ xs. IsNextPlace xs d.cursor place) c.deref.ensures.value c.in-Some-next_place.ensures)
     c.if-ending.false
     (c.try_next.ensures.answer
-    ∙ ap (λ (t : SeatView Held). Try (submitter_of t.last.share.workers t.last.share.worker place)) same)
+    ∙ ap (λ (t : StationView Held). Try (submitter_of t.last.share.workers t.last.share.worker place)) same)
     (view_of-tried s c.next_held.new.self d c.try_next.new.self place c.try_next.ensures.tried same)

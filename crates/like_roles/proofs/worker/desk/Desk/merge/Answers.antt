@@ -1,7 +1,7 @@
 use Rattle.std.proofs.Common.{◌≡◌, ◌∷◌, ◌++◌, [], length, subst, ap, sym, ◌∙◌, arith}
 use Rattle.std.proofs.lemmas.List.{length-set}
 use Rattle.like_tables.specs.declared.held.Held.{Held}
-use Rattle.like_seat.specs.SeatView.{SeatView, phase_at}
+use Rattle.like_seat.specs.StationView.{StationView, phase_at}
 use Rattle.like_seat.specs.Steps.{MergesNext}
 use Rattle.like_seat.proofs.WholeMerge.{Merging-done, Merging-next, Merging-start, merge_of}
 use Rattle.like_roles.proofs.Counting.{HasNoted, merged-settled}
@@ -38,10 +38,10 @@ loop-merged-preserved g c =
     let merges = subst (λ r. MergesNext s c.loop-merged.from r t) c.in-Some.is c.merge_next.ensures.merges in
     let n = c.note_addition.ensures in
     let phase_is : c.phase_of_run-phase.result ≡ phase_at s =
-    c.phase_of_run-phase.ensures ∙ sym (ap (λ (x : SeatView Held). phase_at x) i.merging.1.0.rest) in
+    c.phase_of_run-phase.ensures ∙ sym (ap (λ (x : StationView Held). phase_at x) i.merging.1.0.rest) in
     let noted : HasNoted d e c.phase_of_run-phase.result m.page m.old m.likes =
     record { noted = n.noted; len = n.len; capacity = n.capacity; rest = n.rest } in
-    let sized = ap (λ (x : SeatView Held). length x.slice) merges.merged ∙ length-set s.slice m.page 0 in
+    let sized = ap (λ (x : StationView Held). length x.slice) merges.merged ∙ length-set s.slice m.page 0 in
     record {
       settled = merged-settled s t d e c.loop-merged.from c.phase_of_run-phase.result m i.settled
           c.merge_next.ensures.seat merges noted;

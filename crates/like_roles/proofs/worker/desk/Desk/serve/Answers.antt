@@ -1,5 +1,5 @@
 use Rattle.std.proofs.Common.{refl, ap, sym, ◌∙◌}
-use Rattle.like_seat.specs.SeatView.{SeatView}
+use Rattle.like_seat.specs.StationView.{StationView}
 use Rattle.like_tables.specs.declared.held.Held.{Held}
 use Rattle.like_roles.specs.worker.Desk.{view_of}
 use Rattle.like_roles.specs.worker.Serve.{likes, looks}
@@ -23,4 +23,4 @@ returns-in-Look-clause-serves g c =
     let reads = c.read_for-seen.ensures.reads in
     looks c.in-Known.page c.read_for-seen.result.count accepted c.in-Look.is c.in-Known.is
     (ap (λ x. Seen x c.read_for-seen.result.count) reads.last) reads.own
-    (ap (λ (s : SeatView Held). view_of s c.args.self.now) reads.read)
+    (ap (λ (s : StationView Held). view_of s c.args.self.now) reads.read)

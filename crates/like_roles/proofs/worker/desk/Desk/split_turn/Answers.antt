@@ -1,5 +1,5 @@
 use Rattle.std.proofs.Common.{◌≢◌, length, refl, ap, subst}
-use Rattle.like_seat.specs.SeatView.{SeatView}
+use Rattle.like_seat.specs.StationView.{StationView}
 use Rattle.like_tables.specs.declared.held.Held.{Held}
 use Rattle.like_roles.specs.worker.Desk.{view_of}
 use Rattle.like_roles.specs.worker.Turns.{reports, tries_split}
@@ -10,7 +10,7 @@ use Rattle.like_roles.proofs.worker.desk.Desk.split_turn.Goals as goal
 pub returns-then-ending-clause-works : goal.returns-then-ending-clause-works
 returns-then-ending-clause-works g c =
     reports (view_of c.merge.new.seat c.merge.new.self) c.requires.split c.if-ending.true refl c.merge.ensures.merged
-    (ap (λ (s : SeatView Held). view_of s c.merge.new.self) c.report.ensures.stops)
+    (ap (λ (s : StationView Held). view_of s c.merge.new.self) c.report.ensures.stops)
 
 pub returns-in-Some-clause-works : goal.returns-in-Some-clause-works
 returns-in-Some-clause-works g c =

@@ -1,0 +1,52 @@
+-- What a worker's seat is, as contracts see it.
+use Rattle.std.specs.Prelude.{◌≡◌, ◌≢◌, ℕ, ◌+◌, ◌≤◌, true, List, length, slice_index, sum}
+use Rattle.like_core.specs.Additions.{all_added}
+use Rattle.like_core.specs.OpeningLimits.{AreLimits}
+use Rattle.like_core.specs.PhaseMasks.{HasMask}
+use Rattle.like_core.specs.Post.{PostView, additions_of, pages_of, slices}
+use Rattle.like_core.specs.WorkerState.{RunsSplit, phase_of}
+use Rattle.like_seat.specs.SlicedLike.{SlicedLike}
+use Rattle.like_tables.specs.UserTable.{UserTable}
+use Rattle.like_tables.specs.Waiting.{IsWaiting, Waiting}
+
+-- its post; what it holds, which is its stash in a split phase and its backlog in a joined one; its slice, a number for
+-- each page; all likes that ever went into its slice, in order; and the last likes of its users
+pub record StationView (W : Type 0) : Type 0 where
+  pub post : PostView
+  pub held : Waiting W
+  pub slice : List ℕ
+  pub sliced : List SlicedLike
+  pub last : UserTable
+
+-- the phase that it runs or has answered
+abbrev pub phase_at : {W : Type 0} → StationView W → ℕ
+phase_at s = phase_of s.post.state
+
+-- how many likes it has counted: what it has added, and its slice
+abbrev pub likes_of : {W : Type 0} → StationView W → ℕ
+likes_of s = all_added s.post.additions + sum s.slice
+
+-- how many likes of a page
+abbrev pub tally_of : {W : Type 0} → StationView W → ℕ → ℕ
+tally_of s page = additions_of s.post page + slice_index s.slice page
+
+-- in a split phase the post has read the phase's mask
+abbrev pub HasPhaseMask : PostView → Type 0
+HasPhaseMask post = RunsSplit post.state → HasMask (phase_of post.state) post.masks
+
+-- a slice that is not empty belongs to a worker that runs a split phase, and has pages that are split in it alone
+abbrev pub IsSliceInSplit : PostView → List ℕ → Type 0
+IsSliceInSplit post slice =
+    (page : ℕ) → slice_index slice page ≢ 0 → RunsSplit post.state × (slices post page ≡ true)
+
+-- what is true of every seat: its board's limits are lawful, and its pages and its phase are within them; its slice has a
+-- number for each page; it has counted no more likes than a worker may add; and it holds no more than it has room for
+pub record IsStation {W : Type 0} (s : StationView W) : Type 0 where
+  pub few_pages : pages_of s.post ≤ s.post.limits.pages
+  pub limits : AreLimits s.post.limits
+  pub within : phase_at s ≤ s.post.limits.last_phase
+  pub sized : length s.slice ≡ pages_of s.post
+  pub masked : HasPhaseMask s.post
+  pub split : IsSliceInSplit s.post s.slice
+  pub few : likes_of s ≤ s.post.limits.likes
+  pub waiting : IsWaiting s.held

@@ -1,0 +1,126 @@
+ghost use Rattle.std.specs.Prelude.{◌≡◌, ◌≤◌, ◌↔◌, IfErr, IfOk, IsTrue};
+ghost use Rattle.like_core.specs.declared.worker_state.WorkerState.TheVariants.{Gone};
+ghost use Rattle.like_limits.specs.Limits.{max_stash};
+ghost use Rattle.like_core.specs.OpeningLimits.{AreLimits};
+ghost use Rattle.like_core.specs.Post.{IsFresh, pages_of};
+ghost use Rattle.like_seat.specs.StationView.{IsStation, likes_of, phase_at};
+ghost use Rattle.like_seat.specs.Steps.{IsNewStation};
+
+mod answers;
+mod looks;
+mod merges;
+mod waits;
+
+use crate::tables::Tables;
+use like_core::{Post, WorkerState};
+use like_tables::Users;
+use std::alloc::Global;
+use std::marker::Model;
+
+/// A worker's station: its post at a board, and what it keeps beside it.
+///
+/// `W` is what waits for the next joined phase.
+#[derive(Drop)]
+pub struct Station<P: Post, W: Copy> {
+    post: P,
+    tables: Tables<W>,
+}
+
+impl<P: Post, W: Copy> Model for Station<P, W> {
+    ghost use Rattle.like_seat.specs.StationView.{StationView};
+
+    ghost Value = { StationView W };
+
+    ghost use Rattle.like_seat.specs.Kept.{view_of, IsKept};
+
+    ghost view = { λ s. view_of (P.view s.post) s.tables };
+
+    ghost invariant = { λ s. IsKept (P.view s.post) s.tables };
+}
+
+/// There is no memory for a seat. The post that was passed comes back.
+#[derive(Drop)]
+pub struct NoStation<P: Post> {
+    pub post: P,
+}
+
+impl<P: Post, W: Copy> Station<P, W> {
+    /// A seat that has done nothing yet, with these marks of split pages, with room for so many that wait, and with these
+    /// last likes. All its room is made here: its steps take no memory.
+    pub fn new(
+        alloc: Global,
+        post: P,
+        marks: Vec<bool>,
+        room: u32,
+        last: Users,
+    ) -> Result<Station<P, W>, NoStation<P>>
+        requires fresh { IsFresh (P.view post) }
+        requires limits { AreLimits (P.view post).limits }
+        requires marks { marks.items ≡ (P.view post).marks }
+        requires few_pages { pages_of (P.view post) ≤ (P.view post).limits.pages }
+        requires some { 1 ≤ room }
+        requires few { room ≤ max_stash }
+        ensures new { IfOk result (IsNewStation (P.view post) room last) }
+        ensures seat { IfOk result (λ seat. IsStation seat) }
+        ensures post { IfErr result (λ refused. refused.post ≡ post) }
+    {
+        match Tables::new(alloc, marks, room, last) {
+            Ok(tables) => Ok(Station { post, tables }),
+            Err(_) => Err(NoStation { post }),
+        }
+    }
+
+    /// The phase that it runs or has answered, and 0 once it is gone.
+    #[inline(always)]
+    pub fn phase(&self) -> u64
+        ensures phase { result ≡ phase_at self.now }
+        ensures seat { IsStation self.now }
+    {
+        self.tables.phase()
+    }
+
+    /// Whether it is gone.
+    #[inline(always)]
+    pub fn is_gone(&self) -> bool
+        ensures { IsTrue result ↔ (self.now.post.state ≡ Gone) }
+    {
+        matches!(self.tables.state, WorkerState::Gone)
+    }
+
+    /// How many likes it has counted: what it has added on the board, and its slice.
+    #[inline(always)]
+    pub fn likes(&self) -> u64
+        ensures likes { result ≡ likes_of self.now }
+        ensures seat { IsStation self.now }
+    {
+        self.tables.likes
+    }
+
+    /// Its users, with their last likes.
+    #[inline(always)]
+    pub fn users(&self) -> &Users
+        ensures { result.now ≡ self.now.last }
+    {
+        &self.tables.last
+    }
+
+    /// Leaves the post, whatever is left to do.
+    pub fn leave(self) -> P
+        ensures post { P.view result ≡ self.post }
+        ensures seat { IsStation self }
+    {
+        let Station { post, .. } = self;
+        post
+    }
+
+    /// Takes it apart: its post, and its users' last likes.
+    pub fn finish(self) -> (P, Users)
+        ensures post { P.view result.0 ≡ self.post }
+        ensures last { result.1 ≡ self.last }
+        ensures seat { IsStation self }
+    {
+        let Station { post, tables } = self;
+        let Tables { last, .. } = tables;
+        (post, last)
+    }
+}

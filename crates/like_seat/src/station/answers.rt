@@ -1,0 +1,79 @@
+ghost use Rattle.std.specs.Prelude.{◌≡◌, ◌<◌, false, true, IsTrue};
+ghost use Rattle.like_core.specs.Post.{pages_of, slices};
+ghost use Rattle.like_core.specs.WorkerState.{IsRunning};
+ghost use Rattle.like_tables.specs.Share.{owns};
+ghost use Rattle.like_seat.specs.StationView.{IsStation, likes_of};
+ghost use Rattle.like_seat.specs.Steps.{CountsLike, Glances, Reads};
+
+use crate::seen::Seen;
+use crate::station::Station;
+use like_core::Post;
+
+impl<P: Post, W: Copy> Station<P, W> {
+    /// Whether a page is split in the phase that it runs.
+    #[inline(always)]
+    pub fn is_sliced(&self, page: u32) -> bool
+        requires running { IsRunning self.now.post.state }
+        requires there { page < pages_of self.now.post }
+        ensures { result ≡ slices self.now.post page }
+    {
+        self.tables.is_sliced(page)
+    }
+
+    /// Counts a user's like of a page, and remembers it as the user's last. Of a sliced page it goes into the slice. Else
+    /// it is added to the page's count, and the count before comes back.
+    #[inline(always)]
+    pub fn count_like(&mut self, user: u32, page: u32) -> Option<u64>
+        requires running { IsRunning self.old.post.state }
+        requires there { page < pages_of self.old.post }
+        requires owned { IsTrue (owns self.old.last.share user) }
+        requires room { likes_of self.old < self.old.post.limits.likes }
+        ensures counts { CountsLike self.old user page result self.new }
+        ensures seat { IsStation self.new }
+    {
+        let sliced = self.tables.is_sliced(page);
+        self.tables.last.set(user, page);
+        self.tables.likes += 1;
+        if sliced {
+            self.tables.slice.add(page);
+            self.tables.sliced = self.tables.sliced.then(&self.post, page);
+            return None;
+        }
+        Some(self.post.add(page, 1))
+    }
+
+    /// Reads a page's count for a user's look.
+    #[inline(always)]
+    pub fn read_for(&mut self, user: u32, page: u32) -> Seen
+        requires running { IsRunning self.old.post.state }
+        requires there { page < pages_of self.old.post }
+        requires plain { slices self.old.post page ≡ false }
+        requires owned { IsTrue (owns self.old.last.share user) }
+        ensures reads { Reads self.old user page result self.new }
+        ensures seat { IsStation self.new }
+    {
+        Seen {
+            last: self.tables.last.last(user),
+            count: self.post.read(page),
+        }
+    }
+
+    /// Shows a user at once what the seat knows of a sliced page: the page's count with the seat's own slice of it. It
+    /// lacks what the slices of others have.
+    #[inline(always)]
+    pub fn glance(&mut self, user: u32, page: u32) -> Seen
+        requires running { IsRunning self.old.post.state }
+        requires there { page < pages_of self.old.post }
+        requires sliced { slices self.old.post page ≡ true }
+        requires owned { IsTrue (owns self.old.last.share user) }
+        ensures glances { Glances self.old user page result self.new }
+        ensures seat { IsStation self.new }
+    {
+        let last = self.tables.last.last(user);
+        let own = self.tables.slice.likes(page);
+        Seen {
+            last,
+            count: self.post.glance(page) + own,
+        }
+    }
+}

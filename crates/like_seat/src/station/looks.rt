@@ -1,0 +1,53 @@
+ghost use Rattle.std.specs.Prelude.{◌≡◌, ◌≢◌, false};
+ghost use Rattle.like_core.specs.declared.worker_state.WorkerState.TheVariants.{Gone};
+ghost use Rattle.like_core.specs.Post.{answered, retired};
+ghost use Rattle.like_core.specs.WorkerState.{IsRunning, IsSightOf, RunsJoined, SawEnding, SeesEndingStill};
+ghost use Rattle.like_seat.specs.StationView.{IsStation};
+ghost use Rattle.like_seat.specs.Steps.{Looks};
+
+use crate::station::Station;
+use like_core::{Post, Sight, WorkerState};
+
+impl<P: Post, W: Copy> Station<P, W> {
+    /// Looks at the phase word, and enters the next phase where it was released; of a split one it then reads the mask.
+    #[inline(always)]
+    pub fn look(&mut self) -> Sight
+        requires { self.old.post.state ≢ Gone }
+        ensures sight { IsSightOf self.old.post.state result }
+        ensures ending { SeesEndingStill self.old.post.state self.old.post.last result }
+        ensures looks { Looks self.old result self.new }
+        ensures runs { result.waits ≡ false → IsRunning self.new.post.state }
+        ensures seat { IsStation self.new }
+    {
+        let sight = self.post.look();
+        if let WorkerState::Answered(phase) = self.tables.state {
+            if !sight.waits {
+                self.tables.enter(&mut self.post, phase + 1);
+            }
+        }
+        sight
+    }
+
+    /// Stops at the end of a joined phase, and waits for the release of the next.
+    #[cold]
+    #[inline(never)]
+    pub fn acknowledge(&mut self)
+        requires runs { RunsJoined self.old.post.state }
+        requires ending { SawEnding self.old.post.last }
+        ensures stops { self.new ≡ record self.old { post = answered self.old.post } }
+        ensures seat { IsStation self.new }
+    {
+        self.tables.state = WorkerState::Answered(self.tables.phase());
+        self.post.acknowledge();
+    }
+
+    /// Ends the worker's part, in a joined phase. No step may follow.
+    pub fn retire(&mut self)
+        requires { RunsJoined self.old.post.state }
+        ensures ends { self.new ≡ record self.old { post = retired self.old.post } }
+        ensures seat { IsStation self.new }
+    {
+        self.tables.state = WorkerState::Gone;
+        self.post.retire();
+    }
+}

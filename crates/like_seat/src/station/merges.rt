@@ -1,0 +1,71 @@
+ghost use Rattle.std.specs.Prelude.{◌≡◌, ◌≤◌, ℕ, length};
+ghost use Rattle.like_core.specs.Post.{answered};
+ghost use Rattle.like_core.specs.WorkerState.{RunsSplit, SawEnding};
+ghost use Rattle.like_tables.specs.Liked.{AreUnliked};
+ghost use Rattle.like_seat.specs.Merge.{IsMerged, MergesAndReports};
+ghost use Rattle.like_seat.specs.StationView.{IsStation, likes_of, tally_of};
+ghost use Rattle.like_seat.specs.Steps.{MergesNext};
+
+use crate::merged::Merged;
+use crate::station::Station;
+use like_core::{Post, WorkerState};
+
+impl<P: Post, W: Copy> Station<P, W> {
+    /// Adds the slice of the next page from `from` on that has a like to the page's count, and empties it.
+    pub fn merge_next(&mut self, from: u32) -> Option<Merged>
+        requires split { RunsSplit self.old.post.state }
+        requires ending { SawEnding self.old.post.last }
+        requires within { from ≤ length self.old.slice }
+        ensures merges { MergesNext self.old from result self.new }
+        ensures seat { IsStation self.new }
+    {
+        let page = self.tables.slice.next(from)?;
+        let likes = self.tables.slice.take(page);
+        let old = self.post.add(page, likes);
+        Some(Merged { page, old, likes })
+    }
+
+    /// Adds each page's slice that has a like to the page's count, in page order, and empties it.
+    pub fn merge(&mut self)
+        requires split { RunsSplit self.old.post.state }
+        requires ending { SawEnding self.old.post.last }
+        ensures merges { IsMerged self.old self.new }
+        ensures empty { AreUnliked self.new.slice 0 (length self.new.slice) }
+        ensures likes { likes_of self.new ≡ likes_of self.old }
+        ensures tallies { (page : ℕ) → tally_of self.new page ≡ tally_of self.old page }
+        ensures seat { IsStation self.new }
+    {
+        let mut from = 0;
+        while let Some(merged) = self.merge_next(from) {
+            from = merged.page + 1;
+        }
+    }
+
+    /// Merges its slice, stops at the end of the split phase, and waits for the release of the next.
+    #[cold]
+    #[inline(never)]
+    pub fn merge_and_report(&mut self)
+        requires split { RunsSplit self.old.post.state }
+        requires ending { SawEnding self.old.post.last }
+        ensures reports { MergesAndReports self.old self.new }
+        ensures empty { AreUnliked self.new.slice 0 (length self.new.slice) }
+        ensures likes { likes_of self.new ≡ likes_of self.old }
+        ensures tallies { (page : ℕ) → tally_of self.new page ≡ tally_of self.old page }
+        ensures seat { IsStation self.new }
+    {
+        self.merge();
+        self.report();
+    }
+
+    /// Stops at the end of a split phase, once its slice is merged, and waits for the release of the next.
+    pub fn report(&mut self)
+        requires runs { RunsSplit self.old.post.state }
+        requires ending { SawEnding self.old.post.last }
+        requires merged { AreUnliked self.old.slice 0 (length self.old.slice) }
+        ensures stops { self.new ≡ record self.old { post = answered self.old.post } }
+        ensures seat { IsStation self.new }
+    {
+        self.tables.state = WorkerState::Answered(self.tables.phase());
+        self.post.report();
+    }
+}
