@@ -22,7 +22,7 @@ use Rattle.like_c.specs.declared.rows.Options.{Options}
 use Rattle.like_c.specs.declared.rows.RequestRow.{RequestRow}
 use Rattle.like_c.specs.Rows.{found_row, glance_op, glance_row, like_op, look_op, look_row, status_row}
 use Rattle.like_live.specs.declared.open_error.OpenError.{OpenError}
-use Rattle.like_live.specs.Opening.{IsRefusedFor, numbers_of}
+use Rattle.like_live.specs.Opening.{IsRefusedFor}
 use Rattle.like_c.specs.Opened.{IsOpenedAs, asked_of}
 use Rattle.like_c.specs.Status.{driver_status, last_status, like_status, open_status, snapshot_status, turn_status}
 use Rattle.like_c.specs.Status as status
@@ -218,5 +218,5 @@ pub data OpensAt (options : Options) (counts marks : List ℕ) (at : Option Open
   opens : (o : Opened) → at ≡ None → IsUnreserved options → IsOpenedAs (asked_of options counts marks) o
       → result ≡ status.ok → after ≡ Some o → OpensAt options counts marks at result after
   refused : (error : OpenError) → at ≡ None → IsUnreserved options
-      → IsRefusedFor (numbers_of (asked_of options counts marks)) error → result ≡ open_status error → after ≡ None
+      → IsRefusedFor (asked_of options counts marks) error → result ≡ open_status error → after ≡ None
       → OpensAt options counts marks at result after

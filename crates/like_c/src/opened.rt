@@ -1,6 +1,6 @@
 //! What is behind the handles.
 ghost use Rattle.std.specs.Prelude.{◌≡◌, IfErr, IfOk, MatchResult, map, reverse};
-ghost use Rattle.like_live.specs.Opening.{AreWithinLimits, IsFirstWrong, IsRefusedFor, asking, numbers_of};
+ghost use Rattle.like_live.specs.Opening.{AreWithinLimits, IsFirstWrong, IsRefusedFor, asking};
 ghost use Rattle.like_c.specs.Opened.{IsOpenedAs, asked_of, hot_of, seat_in};
 
 use crate::rows::Options;
@@ -53,7 +53,7 @@ impl Opened {
         marks: &[u32],
     ) -> Result<Box<Opened, Global>, OpenError>
         ensures opened { IfOk result (λ b. IsOpenedAs (asked_of options.now counts.now marks.now) b.value) }
-        ensures refused { IfErr result (IsRefusedFor (numbers_of (asked_of options.now counts.now marks.now))) }
+        ensures refused { IfErr result (IsRefusedFor (asked_of options.now counts.now marks.now)) }
     {
         check(options, counts, marks)?;
         let Ok(opening) = opening_of(alloc, options, counts, marks) else {
@@ -111,8 +111,8 @@ fn boxed_phase(alloc: Global, driver: &Driver) -> Result<Box<BoxedPhase, Global>
 
 // Tests every number of what C asks for.
 fn check(options: &Options, counts: &[u64], marks: &[u32]) -> Result<(), OpenError>
-    ensures { let numbers = numbers_of (asked_of options.now counts.now marks.now) in
-        MatchResult result (λ _. AreWithinLimits numbers) (IsFirstWrong numbers) }
+    ensures { let asked = asked_of options.now counts.now marks.now in
+        MatchResult result (λ _. AreWithinLimits asked) (IsFirstWrong asked) }
 {
     let hot = hot_of(options.hot);
     Opening::check_numbers(

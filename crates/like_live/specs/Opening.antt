@@ -31,25 +31,6 @@ asking o = record {
   hot = o.hot;
 }
 
--- the numbers that are tested
-pub record Numbers : Type 0 where
-  pub counts : List ℕ
-  pub marks : List ℕ
-  pub seats : ℕ
-  pub users : ℕ
-  pub room : ℕ
-  pub hot : Option ℕ
-
-abbrev pub numbers_of : Asking → Numbers
-numbers_of a = record {
-  counts = a.counts;
-  marks = a.marks;
-  seats = a.seats;
-  users = a.users;
-  room = a.room;
-  hot = a.hot;
-}
-
 -- these can be marked, of so many pages: a few, and no two alike
 pub record AreMarks (pages : ℕ) (marks : List ℕ) : Type 0 where
   pub few : length marks ≤ max_marks
@@ -57,37 +38,37 @@ pub record AreMarks (pages : ℕ) (marks : List ℕ) : Type 0 where
   pub unlike : AllPairs (λ page other. page ≢ other) marks
 
 -- the limit that this error says is broken
-abbrev pub Holds : Numbers → OpenError → Type 0
-Holds n Pages = (1 ≤ length n.counts) × (length n.counts ≤ service_limits.pages)
-Holds n Marks = AreMarks (length n.counts) n.marks
-Holds n Counts = All (λ count. count ≤ max_count) n.counts
-Holds n Seats = (1 ≤ n.seats) × (n.seats ≤ service_limits.seats)
-Holds n Users = 1 ≤ n.users
-Holds n Room = (1 ≤ n.room) × (n.room ≤ max_stash)
-Holds n Hot = IsHotLimit n.hot
-Holds n Memory = ⊤
+abbrev pub Holds : Asking → OpenError → Type 0
+Holds a Pages = (1 ≤ length a.counts) × (length a.counts ≤ service_limits.pages)
+Holds a Marks = AreMarks (length a.counts) a.marks
+Holds a Counts = All (λ count. count ≤ max_count) a.counts
+Holds a Seats = (1 ≤ a.seats) × (a.seats ≤ service_limits.seats)
+Holds a Users = 1 ≤ a.users
+Holds a Room = (1 ≤ a.room) × (a.room ≤ max_stash)
+Holds a Hot = IsHotLimit a.hot
+Holds a Memory = ⊤
 
 -- the limits, in the order of their tests
 abbrev pub limits : List OpenError
 limits = Pages ∷ Marks ∷ Counts ∷ Seats ∷ Users ∷ Room ∷ Hot ∷ []
 
 -- every limit holds
-abbrev pub AreWithinLimits : Numbers → Type 0
-AreWithinLimits n = AllByRecursion (Holds n) limits
+abbrev pub AreWithinLimits : Asking → Type 0
+AreWithinLimits a = AllByRecursion (Holds a) limits
 
 abbrev pub IsWithinLimits : Opening → Type 0
-IsWithinLimits o = AreWithinLimits (numbers_of (asking o))
+IsWithinLimits o = AreWithinLimits (asking o)
 
 -- the first limit that is broken
-abbrev pub IsFirstWrong : Numbers → OpenError → Type 0
-IsFirstWrong n error = FailsFirst (Holds n) limits error
+abbrev pub IsFirstWrong : Asking → OpenError → Type 0
+IsFirstWrong a error = FailsFirst (Holds a) limits error
 
 -- why no service was opened: a number is wrong, and this is the first one; or there is no memory
-abbrev pub IsRefusedFor : Numbers → OpenError → Type 0
-IsRefusedFor n error = IsFirstWrong n error ⊎ ((error ≡ Memory) × AreWithinLimits n)
+abbrev pub IsRefusedFor : Asking → OpenError → Type 0
+IsRefusedFor a error = IsFirstWrong a error ⊎ ((error ≡ Memory) × AreWithinLimits a)
 
 abbrev pub IsRefused : Opening → OpenError → Type 0
-IsRefused o = IsRefusedFor (numbers_of (asking o))
+IsRefused o = IsRefusedFor (asking o)
 
 -- whether something would be split in a split phase: a page is marked, or pages can be hot
 abbrev pub splits_by : List Bool → Option ℕ → Bool

@@ -1,6 +1,6 @@
 ghost use Rattle.std.specs.Prelude.{◌≡◌, ◌≢◌, ◌%◌, ◌≤◌, ◌↔◌, AllPairs, IsTrue, MatchResult};
 ghost use Rattle.like_requests.specs.Setup.{IsHotLimit};
-ghost use Rattle.like_live.specs.Opening.{AreMarks, AreWithinLimits, IsFirstWrong, IsWithinLimits, Numbers, asking, board_opening, numbers_of, splits_by};
+ghost use Rattle.like_live.specs.Opening.{AreMarks, AreWithinLimits, Asking, IsFirstWrong, IsWithinLimits, asking, board_opening, splits_by};
 
 use crate::open_error::OpenError;
 use like_requests::{MAX_COUNT, MAX_HOT, MAX_STASH};
@@ -34,7 +34,7 @@ pub struct Opening {
 impl Opening {
     /// Tests every number, in the order of `OpenError`, whose `Memory` it never answers.
     pub fn check(&self) -> Result<(), OpenError>
-        ensures { MatchResult result (λ _. IsWithinLimits self.now) (IsFirstWrong (numbers_of (asking self.now))) }
+        ensures { MatchResult result (λ _. IsWithinLimits self.now) (IsFirstWrong (asking self.now)) }
     {
         Opening::check_numbers(
             &self.counts,
@@ -55,9 +55,9 @@ impl Opening {
         room: u32,
         hot: Option<u32>,
     ) -> Result<(), OpenError>
-        ensures { let numbers : Numbers =
+        ensures { let asked : Asking =
             record { counts = counts.now; marks = marks.now; seats = seats; users = users; room = room; hot = hot } in
-            MatchResult result (λ _. AreWithinLimits numbers) (IsFirstWrong numbers) }
+            MatchResult result (λ _. AreWithinLimits asked) (IsFirstWrong asked) }
     {
         let pages = counts.len();
         if pages < 1 || pages > MAX_PAGES as usize {

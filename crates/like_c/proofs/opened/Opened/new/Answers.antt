@@ -2,7 +2,7 @@ use Rattle.std.proofs.Common.{map, rules, ap, refl, subst, sym, ◌∙◌, IfErr
 use Rattle.std.specs.Prelude.{IsSome, reverse}
 use Rattle.like_c.specs.Opened.{seat_in}
 use Rattle.like_c.specs.declared.opened.Opened.{Opened}
-use Rattle.like_live.specs.Opening.{Asking, IsRefusedFor, numbers_of}
+use Rattle.like_live.specs.Opening.{Asking, IsRefusedFor}
 use Rattle.like_c.proofs.opened.Opened.new.Goals as goal
 
 pub returns-in-Ok-new-clause-opened : goal.returns-in-Ok-new-clause-opened
@@ -18,5 +18,5 @@ returns-in-Ok-new-clause-opened c = record {
 
 pub returns-in_err-driver-clause-refused : goal.returns-in_err-driver-clause-refused
 returns-in_err-driver-clause-refused c =
-    subst (λ (asked : Asking). IfErr c.from_residual-in_err-driver.result (IsRefusedFor (numbers_of asked)))
+    subst (λ (asked : Asking). IfErr c.from_residual-in_err-driver.result (IsRefusedFor asked))
     c.in-Ok.ensures (search rules)
