@@ -159,14 +159,14 @@ static void room(void) {
 static void openings(void) {
     static uint64_t counts[LIKES_MAX_PAGES + 1];
     likes_driver driver = {0};
-    likes_options right = {.seats = 16, .users = 1, .room = 4096, .hot = 1000000}, wrong_one;
+    likes_options right = {.seats = LIKES_MAX_SEATS, .users = 1, .room = 4096, .hot = 1000000}, wrong_one;
 #define REFUSED(field, value, status)                                   \
     wrong_one = right;                                                  \
     wrong_one.field = (value);                                          \
     IS(likes_open(&wrong_one, counts, 1, NULL, 0, &driver), status);    \
     IS(driver.at == NULL, true)
     REFUSED(seats, 0, LIKES_WRONG_SEATS);
-    REFUSED(seats, 17, LIKES_WRONG_SEATS);
+    REFUSED(seats, LIKES_MAX_SEATS + 1, LIKES_WRONG_SEATS);
     REFUSED(seats, UINT32_MAX, LIKES_WRONG_SEATS);
     REFUSED(users, 0, LIKES_WRONG_USERS);
     REFUSED(room, 0, LIKES_WRONG_ROOM);
@@ -186,17 +186,20 @@ static void openings(void) {
     counts[1] = UINT64_MAX;
     IS(likes_open(&right, counts, 2, NULL, 0, &driver), LIKES_WRONG_COUNT);
     counts[1] = LIKES_MAX_COUNT;
-    IS(likes_open(&right, counts, LIKES_MAX_PAGES, NULL, 0, &driver), LIKES_OK);
+    IS(likes_open(&right, counts, 2, NULL, 0, &driver), LIKES_OK);
     IS(likes_open(&right, counts, 1, NULL, 0, &driver), LIKES_IN_USE);
     likes_driver_free(&driver);
     IS(driver.at == NULL, true);
+    right.seats = 1; /* each takes 9 bytes a page */
+    IS(likes_open(&right, counts, LIKES_MAX_PAGES, NULL, 0, &driver), LIKES_OK);
+    likes_driver_free(&driver);
 }
 
 /* An opening in which everything is wrong is put right in the order in which it is refused. */
 static void order_of_openings(void) {
     uint64_t counts[] = {0, UINT64_MAX};
     uint32_t marks[] = {1, 1};
-    likes_options options = {.seats = 17, .users = 0, .room = 0, .hot = 1000001, .reserved = {0, 1}};
+    likes_options options = {.seats = LIKES_MAX_SEATS + 1, .users = 0, .room = 0, .hot = 1000001, .reserved = {0, 1}};
     likes_driver driver = {0};
     opened it = open_service((likes_options){.seats = 1, .users = 1, .room = 1}, counts, 1, NULL, 0);
     IS(likes_open(&options, counts, 0, marks, 2, &it.driver), LIKES_IN_USE);
@@ -220,9 +223,11 @@ static void order_of_openings(void) {
     likes_driver_free(&driver);
 }
 
+enum { PAGES = 1024 };
+
 /* Opens a service with these marks, as many as are told, and asks in a split phase which pages are split. */
 static void split_by(const uint32_t *marks, size_t marks_len, size_t pages) {
-    static const uint64_t counts[LIKES_MAX_PAGES];
+    static const uint64_t counts[PAGES];
     likes_answer answer;
     opened it = open_service((likes_options){.seats = 1, .users = 1, .room = 4096}, counts, pages, marks, marks_len);
     change_phase(&it, 1);
@@ -237,22 +242,22 @@ static void split_by(const uint32_t *marks, size_t marks_len, size_t pages) {
 
 /* Marks in any order, up to 64 of them; one too many, two alike, and marks of no page. */
 static void marks(void) {
-    static const uint64_t counts[LIKES_MAX_PAGES];
+    static const uint64_t counts[PAGES];
     const likes_options options = {.seats = 1, .users = 1, .room = 1};
     uint32_t few[] = {1023, 0, 64, 63}, many[LIKES_MAX_MARKS + 1];
     likes_driver driver = {0};
     for (uint32_t n = 0; n <= LIKES_MAX_MARKS; n++)
         many[n] = 1023 - 15 * n;
-    split_by(few, 1, LIKES_MAX_PAGES);
-    split_by(few, 4, LIKES_MAX_PAGES);
-    split_by(many, 64, LIKES_MAX_PAGES);
-    IS(likes_open(&options, counts, LIKES_MAX_PAGES, many, 65, &driver), LIKES_WRONG_MARKS);
+    split_by(few, 1, PAGES);
+    split_by(few, 4, PAGES);
+    split_by(many, 64, PAGES);
+    IS(likes_open(&options, counts, PAGES, many, 65, &driver), LIKES_WRONG_MARKS);
     for (size_t n = 1; n < 64; n++) {
         uint32_t mark = many[n];
         many[n] = many[n == 63 ? 0 : 63];
-        IS(likes_open(&options, counts, LIKES_MAX_PAGES, many, 64, &driver), LIKES_WRONG_MARKS);
-        many[n] = n % 2 ? LIKES_MAX_PAGES : UINT32_MAX;
-        IS(likes_open(&options, counts, LIKES_MAX_PAGES, many, 64, &driver), LIKES_WRONG_MARKS);
+        IS(likes_open(&options, counts, PAGES, many, 64, &driver), LIKES_WRONG_MARKS);
+        many[n] = n % 2 ? PAGES : UINT32_MAX;
+        IS(likes_open(&options, counts, PAGES, many, 64, &driver), LIKES_WRONG_MARKS);
         many[n] = mark;
     }
     for (uint32_t n = 0; n < LIKES_MAX_MARKS; n++)

@@ -30,9 +30,11 @@ typedef struct {
     size_t length, room;
 } history;
 
+enum { MOST_PAGES = 1024 };
+
 /* The counts of all pages at the end of a phase. */
 typedef struct {
-    uint64_t phase, counts[LIKES_MAX_PAGES];
+    uint64_t phase, counts[MOST_PAGES];
 } moment;
 
 enum { MOMENTS = 64 };
@@ -45,10 +47,10 @@ typedef struct {
     uint64_t seed;
     likes_options options;
     size_t pages;
-    uint64_t counts[LIKES_MAX_PAGES], last[LIKES_MAX_PAGES];
+    uint64_t counts[MOST_PAGES], last[MOST_PAGES];
     uint32_t marks[LIKES_MAX_MARKS]; /* in random order */
     size_t marks_len;
-    bool is_marked[LIKES_MAX_PAGES];
+    bool is_marked[MOST_PAGES];
     uint32_t calls, longest;
     likes_driver driver;
     likes_seat seats[LIKES_MAX_SEATS];
@@ -389,7 +391,7 @@ static void check_seen(const game *it, tally *of, uint32_t number) {
     const history *done = &it->histories[number];
     uint32_t *last = (uint32_t *)malloc(it->options.users * sizeof *last);
     memset(last, 0xff, it->options.users * sizeof *last);
-    uint64_t mine[LIKES_MAX_PAGES] = {0};
+    uint64_t mine[MOST_PAGES] = {0};
     for (size_t n = 0; n < done->length; n++) {
         const event *made = &done->events[n];
         if (made->kind == LIKED) {
