@@ -443,7 +443,7 @@ static void draw_game(game *it, uint64_t seed) {
     uint64_t random = seed;
     memset(it, 0, sizeof *it);
     it->seed = seed;
-    it->options.seats = 1 + (uint32_t)low(&random, 8);
+    it->options.seats = 1 + (uint32_t)low(&random, below(&random, 4) == 0 ? LIKES_MAX_SEATS : 8);
     it->options.users = it->options.seats + (uint32_t)low(&random, 500);
     it->options.room = 1 + (uint32_t)low(&random, below(&random, 2) == 0 ? 4 : 300);
     it->options.hot = below(&random, 2) == 0 ? 0 : 1 + (uint32_t)low(&random, 100);
