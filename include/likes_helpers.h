@@ -80,7 +80,8 @@ typedef struct likes_place {
 
 typedef struct likes_service {
     struct likes_service *self; /* where the service was started; NULL: it isn't */
-    likes_phase phase;
+    pthread_mutex_t reading;
+    likes_phase phase; /* used under `reading` */
     likes_place places[LIKES_MAX_SEATS];
     uint32_t seats;
     size_t pages;
@@ -308,12 +309,14 @@ static inline void likes_service_free(likes_service *service) {
     }
     likes_phase_free(&service->phase);
     likes_driver_free(&service->driver);
+    pthread_mutex_destroy(&service->reading);
     pthread_mutex_destroy(&service->driving);
 }
 
 /* Makes a service that isn't started, with its locks. */
 static inline void likes_service_clear(likes_service *service) {
     memset(service, 0, sizeof *service);
+    pthread_mutex_init(&service->reading, NULL);
     pthread_mutex_init(&service->driving, NULL);
     for (uint32_t i = 0; i < LIKES_MAX_SEATS; i++) {
         likes_place *place = &service->places[i];
@@ -364,10 +367,15 @@ static inline uint32_t likes_service_start(likes_service *service, const likes_o
     return status;
 }
 
-/* The phase that the driver has last released, or 0 where likes_service_fault isn't LIKES_OK. It takes no lock, and any
- * thread may call it. */
-static inline uint64_t likes_service_phase(const likes_service *service) {
-    return likes_service_fault(service) == LIKES_OK ? likes_phase_now(&service->phase) : 0;
+/* The phase that the driver has last released, or 0 where likes_service_fault isn't LIKES_OK. Any thread may call it. It
+ * doesn't wait for the driver. */
+static inline uint64_t likes_service_phase(likes_service *service) {
+    if (likes_service_fault(service) != LIKES_OK)
+        return 0;
+    pthread_mutex_lock(&service->reading);
+    uint64_t phase = likes_phase_now(&service->phase);
+    pthread_mutex_unlock(&service->reading);
+    return phase;
 }
 
 /* Takes a seat's lock. Until likes_service_rest, the seat is this thread's, which may make any call on it. NULL, and
