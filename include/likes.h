@@ -51,7 +51,7 @@ typedef struct likes_seat {
     void *at;
 } likes_seat;
 
-/* The phase of a service, for any thread to read. */
+/* The phase of a service, which can be read while other threads call the driver and the seats. */
 typedef struct likes_phase {
     void *at;
 } likes_phase;
@@ -143,8 +143,7 @@ uint32_t likes_driver_take_seat(likes_driver *driver, likes_seat *seat);
 /* Hands out the phase, once: LIKES_OK, or the first that applies of LIKES_IN_USE, EMPTY and ALL_TAKEN. */
 uint32_t likes_driver_take_phase(likes_driver *driver, likes_phase *phase);
 
-/* The phase that the driver has last released, as any thread may read it at any time. It may be over by then. An empty
- * handle gives 0. */
+/* The phase that the driver has last released. It may be over by then. An empty handle gives 0. */
 uint64_t likes_phase_now(const likes_phase *phase);
 
 /* The seat of a user, in a service with so many seats (1 or more). */
