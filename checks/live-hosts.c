@@ -181,7 +181,7 @@ static void take_found(game *it, uint32_t number, uint64_t most) {
 }
 
 /* Compares the phase, as its handle tells it, with a seat's own, unless another thread reads it just now. A service is
- * one phase ahead of a seat that has answered. It is one behind while its driver has released a phase and not told it. */
+ * one phase ahead of a seat that has answered. It is told one behind when its driver has only just released a phase. */
 static void check_phase(game *it, uint32_t number, uint64_t seat_phase) {
     if (pthread_mutex_trylock(&it->reading) != 0)
         return;

@@ -367,8 +367,8 @@ static inline uint32_t likes_service_start(likes_service *service, const likes_o
     return status;
 }
 
-/* The phase that the driver has last released, or 0 where likes_service_fault isn't LIKES_OK. Any thread may call it. It
- * doesn't wait for the driver. */
+/* The phase that the driver has last released, or 0 where likes_service_fault isn't LIKES_OK. Any thread may call it,
+ * and it doesn't wait for the driver. */
 static inline uint64_t likes_service_phase(likes_service *service) {
     if (likes_service_fault(service) != LIKES_OK)
         return 0;
