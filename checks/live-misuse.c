@@ -192,9 +192,9 @@ static void *ask(void *at) {
     while (!__atomic_load_n(&is_over, __ATOMIC_SEQ_CST)) {
         likes_answer answer;
         uint32_t status = likes_service_look(&service, 0, 0, &answer);
-        IS(status == LIKES_SEEN || status == LIKES_TAKEN, true);
+        IS(status == LIKES_SEEN || status == LIKES_LOOK_LOST, true);
         IS(answer.count, status == LIKES_SEEN ? 10 : 0);
-        *taken += status == LIKES_TAKEN;
+        *taken += status == LIKES_LOOK_LOST;
     }
     return NULL;
 }

@@ -47,7 +47,7 @@ enum likes_helper_status {
     LIKES_NOT_STARTED = 1002,  /* the service isn't started, or it was stopped */
     LIKES_MOVED = 1003,        /* the service is a copy */
     LIKES_UNKNOWN_SEAT = 1004, /* the service has fewer seats */
-    LIKES_TAKEN = 1005         /* the look was found, but somebody took it by likes_seat_take_found */
+    LIKES_LOOK_LOST = 1005     /* the look was found, but somebody took it by likes_seat_take_found */
 };
 
 /* So often a call tries again at once while its seat is between phases, before it yields the processor. */
@@ -58,7 +58,7 @@ typedef struct likes_wait {
     struct likes_wait *next;
     uint64_t asked; /* the phase in which it was asked */
     likes_found found;
-    uint32_t status; /* LIKES_WAITS, LIKES_SEEN or LIKES_TAKEN */
+    uint32_t status; /* LIKES_WAITS, LIKES_SEEN or LIKES_LOOK_LOST */
 } likes_wait;
 
 /* Found looks with tags of the host's, in a ring: those that came before one of likes_service_look. */
@@ -217,7 +217,7 @@ static inline void likes_place_end(likes_place *place, uint32_t status) {
 /* Ends the waits before one, or all before NULL, whose looks were found and aren't there any more. */
 static inline void likes_place_drop(likes_place *place, const likes_wait *wait) {
     while (place->first != wait)
-        likes_place_end(place, LIKES_TAKEN);
+        likes_place_end(place, LIKES_LOOK_LOST);
 }
 
 /* Hands a found look to the thread that waits for it, or keeps it if its tag is the host's. */
@@ -486,8 +486,8 @@ static inline void likes_place_await(likes_place *place, likes_wait *wait, likes
 }
 
 /* Looks, and waits until the look is found if it has to: an answer of likes_seat_look, but never LIKES_BETWEEN or
- * LIKES_WAITS, and LIKES_NO_ROOM only where looks with tags of the host's fill the seat. LIKES_TAKEN: somebody took it
- * by likes_seat_take_found. Any thread may call it. */
+ * LIKES_WAITS, and LIKES_NO_ROOM only where looks with tags of the host's fill the seat. LIKES_LOOK_LOST: somebody took
+ * it by likes_seat_take_found. Any thread may call it. */
 static inline uint32_t likes_service_look(likes_service *service, uint32_t user, uint32_t page, likes_answer *answer) {
     uint32_t fault = likes_service_fault(service);
     if (fault != LIKES_OK)
