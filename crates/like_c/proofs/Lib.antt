@@ -1,5 +1,2 @@
 pub mod Answering
-pub mod DriverHandleBox
-pub mod HandleSends
-pub mod PhaseHandleBox
-pub mod SeatHandleBox
+pub mod Handle

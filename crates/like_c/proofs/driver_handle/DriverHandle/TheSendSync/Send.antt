@@ -5,7 +5,7 @@ use Rattle.std_alloc.proofs.SendSync.{quiet}
 use Rattle.like_c.proofs.opened.Opened.TheSendSync.{the_send as home}
 use Rattle.like_c.specs.contracts.opened.Opened as Home
 use Rattle.like_c.specs.contracts.driver_handle.DriverHandle.{the_row, the_type}
-use Rattle.like_c.proofs.HandleSends.{keyless}
+use Rattle.like_c.proofs.Handle.Sends.{keyless}
 
 pub send : IsSend the_row
 send =
