@@ -1,6 +1,6 @@
 -- `get` of a handle lends what is behind the pointer, if it isn't null, and the handle follows it.
 use Rattle.std.specs.Prelude.{◌≡◌, Option, Some, None}
-use mathlib.Core.Path.{refl, sym, ap, subst, ◌∙◌}
+use mathlib.Core.Path.{refl, sym, ap, ◌∙◌}
 use mathlib.Core.List.{List, [], ◌∷◌, ◌++◌}
 use Prim.Native.Nat.{ℕ}
 use seplogic.Ra.Ura.{Ura}
@@ -8,15 +8,12 @@ use lib.Dec.{lit<}
 use base.Fraction.{full_share}
 use mir.Raw.{raw as bare}
 use mir.Syntax.{named}
-use mir.Val.{Val, vptr, vnull, vstruct, vcons, vnil, of_list}
-use base.Logic.{SProp, ent, sep, emp, via, fst∗, snd∗, id⊢, guard, guard_i, never}
+use mir.Val.{Val, vptr, vnull, vstruct, of_list}
+use base.Logic.{SProp, ent, sep, emp, via, fst∗, guard_i, never}
 use base.Fml.{Lft, GName, Share, Fml, ftrue, fsep, flft, fobs, fres}
-use prog.Memory.{Memory}
-use prog.Routine.{Routine}
 use prog.Wp.{Env, WpFn, Tables}
 use types.Logic.{Logic, sem}
-use contract.Monad.{Fun, fact, fact_use}
-use contract.Running.{tables, tables_of}
+use contract.Monad.{fact, fact_use}
 use sound.WpLaws.{WpFn-mono}
 use types.Kit.{Item, ‵, raw, ◌⊛◌, some, later, given, at_ret, ◌$◌, ◌∵◌, !, qed, by, move, keep, use0, use1, drop, split, join, pick, fsplit, fsplit3, fjoin, fpack, fpick, feq_i, feq_l, rewrite, learn, suffices, frame, done, await, group}
 use types.Part.{whole, sub, look_in, agg}
@@ -31,12 +28,8 @@ use denote.Ref.{MutBor, MutRef, mut_vals, mut_Tells}
 use denote.Follow.{follows, follows_by, Part, lends_Part}
 use denote.Signature.{plain, mut_ref_to}
 use denote.Steps.{nothing, opens, closes}
-use denote.Struct.Struct.{within}
 use denote.Triple.Entry.{on_entry}
-use denote.Triple.Spec.{triple_of}
-use denote.Triple.Table.{entered}
 use denote.Triple.Walked.{says, Stays, stay_dropped, walk_of, ends_at, walked, walk_Meets, Goes-spent_ref}
-use Rattle.std.specs.Global.{Global}
 use Rattle.std.specs.contracts.option.Option as OP
 use Rattle.std.proofs.option.Made.{Some-of, none_of}
 use Rattle.std.proofs.GlobalToken.{dealloc_token-Testable}
@@ -44,7 +37,7 @@ use Rattle.std_alloc.proofs.VecSteps.Shapes.{after}
 use Rattle.std_heap.specs.contracts.GlobalAllocator.TheImpl.{ghosts}
 use Rattle.std_alloc.specs.Box.Ownership.{box_owns}
 use Rattle.like_c.specs.Handle.{the_alloc, handle_owns}
-use Rattle.like_c.proofs.Handle.Kind.{HandleType, fields, owned, word, σ}
+use Rattle.like_c.proofs.Handle.Kind.{HandleType, fields, word, σ}
 use mir.Syntax.{Fn, Sym, Lifetime, Ty, erased, mut, int, w8, w64, ptr_eq, op2, cond, skip, aggregate, ty_bool, ty_enum, ty_ptr, ty_ref, ty_named, ttcons, ttnil, tcons, tnil, local, value_local, place, deref, field, copy, rv_opd, addr_of, seq, assign, block, return}
 use denote.Builtin.{RefMutOf}
 use denote.Triple.Clauses.{Ended, Clauses, closing}
@@ -52,7 +45,6 @@ use denote.Triple.Spec.{Meets}
 use denote.Follow.{follows_if}
 use Rattle.std.specs.Prelude.{MatchOption}
 use Rattle.std.specs.Option.{ghost_name_of}
-
 
 -- the code as it is generated
 abbrev optional : Lifetime → Sym → Ty

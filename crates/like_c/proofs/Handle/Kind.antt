@@ -3,7 +3,7 @@ use Prim.Native.Nat.{ℕ}
 use Rattle.like_c.specs.Handle.{handle_owns}
 use Rattle.like_c.specs.contracts.parts.Parts as Parts
 use Rattle.std.proofs.alloc.Calls.{Al}
-use Rattle.std.specs.Prelude.{◌≡◌, Option, Some, None}
+use Rattle.std.specs.Prelude.{◌≡◌, Option}
 use Rattle.std_heap.proofs.Global.TheLaws as heap
 use Rattle.std_heap.specs.contracts.Global as Heap
 use Rattle.std_heap.specs.contracts.GlobalAllocator.TheImpl.{ghosts, dict}

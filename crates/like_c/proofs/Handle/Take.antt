@@ -1,58 +1,47 @@
 -- The code of `take_parts` of a handle leaves a null pointer, and what the handle owned goes with the parts.
 use Rattle.std.specs.Prelude.{◌≡◌, ◌≢◌, Option, Some, None}
-use mathlib.Core.Path.{refl, sym, ap, subst, ◌∙◌}
+use mathlib.Core.Path.{refl, sym, ap, ◌∙◌}
 use mathlib.Core.List.{List, [], ◌∷◌, ◌++◌}
-use Prim.Native.Nat.{ℕ}
 use seplogic.Ra.Ura.{Ura}
 use lib.Dec.{lit<}
 use base.Fraction.{full_share}
 use mir.Raw.{raw as bare}
 use mir.Syntax.{named}
-use mir.Val.{Val, vptr, vnull, vunit, vstruct, vcons, vnil, of_list}
-use base.Logic.{SProp, ent, sep, emp, via, fst∗, snd∗, id⊢, guard, guard_i, never}
-use base.Fml.{Lft, GName, Share, Fml, ftrue, fsep, flft, fobs, fres}
-use prog.Memory.{Memory}
-use prog.Routine.{Routine}
-use prog.Wp.{Env, WpFn, Tables}
+use mir.Val.{Val, vptr, vnull, vstruct, of_list}
+use base.Logic.{ent, sep, fst∗, id⊢, never}
+use base.Fml.{Fml, ftrue, fsep, flft}
+use prog.Wp.{WpFn, Tables}
 use types.Logic.{Logic, sem}
-use contract.Monad.{Fun, fact, fact_use}
-use contract.Running.{tables, tables_of}
+use contract.Monad.{fact}
 use sound.WpLaws.{WpFn-mono}
-use types.Kit.{Item, ‵, raw, ◌⊛◌, some, later, given, prop, at_ret, ◌$◌, ◌∵◌, !, qed, by, move, keep, use0, use1, drop, split, join, pick, fsplit, fsplit3, fjoin, fpack, fpick, feq_i, feq_l, rewrite, regoal, learn, suffices, frame, done, await, group}
+use types.Kit.{Item, ‵, raw, ◌⊛◌, prop, ◌$◌, ◌∵◌, !, qed, move, keep, use1, drop, split, join, fsplit, fsplit3, fjoin, fpack, fpick, feq_i, feq_l, rewrite, regoal, suffices, frame, done, group}
 use types.Part.{whole, sub, look_in, store_in, agg}
-use types.Run.{stop, fld, hop, load, lit, unit_lit, of_opd, bin, and_then, no_more, first, blocks, skips, branches, exec, returns, returns_within, assigns, enter, addr}
-use types.ByLocal.{alloc_all, pass_all, free_all, look_at, get, get_in, through, sets, env, sets_last}
-use denote.Exit.{no, yes}
-use denote.RattleType.{RattleType, Valss, owns}
-use denote.Memory.{part_at, mem, cell_at, part_of, lone}
-use denote.RawPtr.{Ptr, RawPtr, block_ptr, null_ptr, ptr_val, in_a_block, Testable, tests_null}
-use denote.Ref.{MutBor, MutRef, mut_vals, mut_Tells}
-use denote.Signature.{plain, mut_ref_to}
+use types.Run.{stop, fld, load, lit, of_opd, and_then, no_more, returns, assigns, enter}
+use types.ByLocal.{alloc_all, pass_all, free_all, look_at, get, through, sets}
+use denote.Exit.{yes}
+use denote.RattleType.{RattleType, Valss}
+use denote.Memory.{cell_at, lone}
+use denote.RawPtr.{Ptr, RawPtr, block_ptr, null_ptr, ptr_val, in_a_block}
+use denote.Ref.{MutRef, mut_vals}
+use denote.Signature.{plain}
 use denote.Steps.{nothing, opens, closes, heard}
 use denote.Struct.Struct.{within}
-use denote.Triple.Entry.{on_entry}
-use denote.Triple.Spec.{triple_of}
-use denote.Triple.Table.{entered}
-use denote.Triple.Walked.{says, Stays, stay_dropped, stay_ref, walk_of, ends_at, walked, walk_Meets, Goes-ref, Goes-dropped}
+use denote.Triple.Walked.{Stays, stay_dropped, stay_ref, walk_of, ends_at, walk_Meets, Goes-ref, Goes-dropped}
 use Rattle.std_alloc.specs.Box.Ownership.{box_owns}
 use Rattle.std_heap.specs.contracts.GlobalAllocator.TheImpl.{ghosts}
 use denote.Signature.{Slot}
 use Rattle.std_heap.specs.contracts.Global as Heap
 use Rattle.like_c.specs.contracts.parts.Parts as Parts
-
-use mathlib.Core.Bool.{◌&&◌}
 use lib.Dec.{T as Holds}
 use Rattle.std.proofs.mem.Facts.{says_two}
-use mir.Syntax.{Fn, Ty, aggregate, int, mut, w64, ty_ptr, ty_ref, ty_named, ty_struct, tcons, tnil, local, value_local, place, deref, field, copy, rv_opd, seq, assign, return}
+use mir.Syntax.{Fn, Ty, aggregate, int, mut, w64, ty_ptr, ty_ref, ty_named, tnil, local, value_local, place, deref, field, copy, rv_opd, seq, assign, return}
 use mir.Val.{has_ty, WT}
-use denote.Builtin.{RefMutOf, unit}
+use denote.Builtin.{RefMutOf}
 use denote.Param.{layout}
 use denote.Triple.Clauses.{Ended, Clauses, closing}
 use denote.Triple.Spec.{Meets}
-use Rattle.std.proofs.alloc.Calls.{Al, handle_tells}
+use Rattle.std.proofs.alloc.Calls.{handle_tells}
 use Rattle.std_alloc.proofs.ResultValues.{and_tt}
-use Rattle.std_heap.specs.contracts.GlobalAllocator.TheImpl.{dict}
-use Rattle.std_heap.proofs.Global.TheLaws as heap
 use Rattle.like_c.specs.Handle.{the_alloc, handle_owns}
 use Rattle.like_c.proofs.Handle.Kind.{HandleType, fields, parts_ty, parts_word, the_al, word, σ}
 

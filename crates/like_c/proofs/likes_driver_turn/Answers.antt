@@ -1,4 +1,4 @@
-use Rattle.std.proofs.Common.{refl, sym, ◌∙◌}
+use Rattle.std.proofs.Common.{refl, sym}
 use Rattle.like_c.specs.Held.{at_some, drives, unknown_end}
 use Rattle.like_c.proofs.likes_driver_turn.Goals as goal
 
