@@ -1,5 +1,5 @@
 -- `get` of a handle lends what is behind the pointer, if it isn't null, and the handle follows it.
-use Rattle.std.specs.Prelude.{◌≡◌, Option, Some, None}
+use Rattle.std.specs.Prelude.{◌≡◌, Option, Some, None, MatchOption}
 use mathlib.Core.Path.{refl, sym, ap, ◌∙◌}
 use mathlib.Core.List.{List, [], ◌∷◌, ◌++◌}
 use Prim.Native.Nat.{ℕ}
@@ -7,7 +7,7 @@ use seplogic.Ra.Ura.{Ura}
 use lib.Dec.{lit<}
 use base.Fraction.{full_share}
 use mir.Raw.{raw as bare}
-use mir.Syntax.{named}
+use mir.Syntax.{named, Fn, Sym, Lifetime, Ty, erased, mut, int, w8, w64, ptr_eq, op2, cond, skip, aggregate, ty_bool, ty_enum, ty_ptr, ty_ref, ty_named, ttcons, ttnil, tcons, tnil, local, value_local, place, deref, field, copy, rv_opd, addr_of, seq, assign, block, return}
 use mir.Val.{Val, vptr, vnull, vstruct, of_list}
 use base.Logic.{SProp, ent, sep, emp, via, fst∗, guard_i, never}
 use base.Fml.{Lft, GName, Share, Fml, ftrue, fsep, flft, fobs, fres}
@@ -25,7 +25,7 @@ use denote.RattleType.{RattleType, Valss, owns}
 use denote.Memory.{part_at, mem, cell_at, part_of, lone}
 use denote.RawPtr.{Ptr, RawPtr, block_ptr, null_ptr, ptr_val, in_a_block, Testable, tests_null}
 use denote.Ref.{MutBor, MutRef, mut_vals, mut_Tells}
-use denote.Follow.{follows, follows_by, Part, lends_Part}
+use denote.Follow.{follows, follows_by, Part, lends_Part, follows_if}
 use denote.Signature.{plain, mut_ref_to}
 use denote.Steps.{nothing, opens, closes}
 use denote.Triple.Entry.{on_entry}
@@ -38,15 +38,12 @@ use Rattle.std_heap.specs.contracts.GlobalAllocator.TheImpl.{ghosts}
 use Rattle.std_alloc.specs.Box.Ownership.{box_owns}
 use Rattle.like_c.specs.Handle.{the_alloc, handle_owns}
 use Rattle.like_c.proofs.Handle.Kind.{HandleType, fields, word, σ}
-use mir.Syntax.{Fn, Sym, Lifetime, Ty, erased, mut, int, w8, w64, ptr_eq, op2, cond, skip, aggregate, ty_bool, ty_enum, ty_ptr, ty_ref, ty_named, ttcons, ttnil, tcons, tnil, local, value_local, place, deref, field, copy, rv_opd, addr_of, seq, assign, block, return}
 use denote.Builtin.{RefMutOf}
 use denote.Triple.Clauses.{Ended, Clauses, closing}
 use denote.Triple.Spec.{Meets}
-use denote.Follow.{follows_if}
-use Rattle.std.specs.Prelude.{MatchOption}
 use Rattle.std.specs.Option.{ghost_name_of}
 
--- the code as it is generated
+-- `core::option::Option` of a `&mut` to what is held
 abbrev optional : Lifetime → Sym → Ty
 optional κ held = ty_enum (99 ∷ 111 ∷ 114 ∷ 101 ∷ 58 ∷ 58 ∷ 111 ∷ 112 ∷ 116 ∷ 105 ∷ 111 ∷ 110 ∷ 58 ∷ 58 ∷ 79 ∷ 112 ∷ 116 ∷ 105 ∷ 111 ∷ 110 ∷ []) (ttcons tnil (ttcons (tcons (ty_ref κ mut (ty_named (held, []) tnil)) tnil) ttnil))
 

@@ -5,8 +5,8 @@ use mathlib.Core.List.{List, [], ◌∷◌, ◌++◌}
 use seplogic.Ra.Ura.{Ura}
 use base.Fraction.{full_share}
 use mir.Raw.{raw as bare}
-use mir.Syntax.{named}
-use mir.Val.{Val, vptr, vunit, vstruct, of_list}
+use mir.Syntax.{named, Fn, Ty, mut, opd_unit, ty_unit, ty_ptr, ty_ref, ty_named, tnil, local, value_local, place, deref, field, copy, rv_opd, seq, assign, return}
+use mir.Val.{Val, vptr, vunit, vstruct, of_list, has_ty, WT}
 use base.Logic.{ent, fst∗, never}
 use base.Fml.{Fml, ftrue, fsep, flft}
 use prog.Wp.{WpFn, Tables}
@@ -22,17 +22,14 @@ use denote.RattleType.{RattleType, Valss}
 use denote.Memory.{cell_at, lone}
 use denote.RawPtr.{Ptr, RawPtr, block_ptr, null_ptr, ptr_val, in_a_block}
 use denote.Ref.{MutRef, mut_vals}
-use denote.Signature.{plain}
+use denote.Signature.{plain, Slot}
 use denote.Steps.{nothing, opens, closes, heard}
 use denote.Triple.Walked.{says, Stays, stay_dropped, stay_ref, walk_of, ends_at, walk_Meets, Goes-ref, Goes-dropped}
 use Rattle.std_alloc.specs.Box.Ownership.{box_owns}
 use Rattle.std_heap.specs.contracts.GlobalAllocator.TheImpl.{ghosts}
-use denote.Signature.{Slot}
 use Rattle.std_heap.specs.contracts.Global as Heap
 use Rattle.like_c.specs.contracts.parts.Parts as Parts
 use lib.Dec.{T as Holds}
-use mir.Syntax.{Fn, Ty, mut, opd_unit, ty_unit, ty_ptr, ty_ref, ty_named, tnil, local, value_local, place, deref, field, copy, rv_opd, seq, assign, return}
-use mir.Val.{has_ty, WT}
 use denote.Builtin.{RefMutOf, unit}
 use denote.Param.{layout}
 use denote.Triple.Clauses.{Ended, Clauses, closing}

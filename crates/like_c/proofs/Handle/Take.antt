@@ -3,11 +3,11 @@ use Rattle.std.specs.Prelude.{◌≡◌, ◌≢◌, Option, Some, None}
 use mathlib.Core.Path.{refl, sym, ap, ◌∙◌}
 use mathlib.Core.List.{List, [], ◌∷◌, ◌++◌}
 use seplogic.Ra.Ura.{Ura}
-use lib.Dec.{lit<}
+use lib.Dec.{lit<, T as Holds}
 use base.Fraction.{full_share}
 use mir.Raw.{raw as bare}
-use mir.Syntax.{named}
-use mir.Val.{Val, vptr, vnull, vstruct, of_list}
+use mir.Syntax.{named, Fn, Ty, aggregate, int, mut, w64, ty_ptr, ty_ref, ty_named, tnil, local, value_local, place, deref, field, copy, rv_opd, seq, assign, return}
+use mir.Val.{Val, vptr, vnull, vstruct, of_list, has_ty, WT}
 use base.Logic.{ent, sep, fst∗, id⊢, never}
 use base.Fml.{Fml, ftrue, fsep, flft}
 use prog.Wp.{WpFn, Tables}
@@ -23,19 +23,15 @@ use denote.RattleType.{RattleType, Valss}
 use denote.Memory.{cell_at, lone}
 use denote.RawPtr.{Ptr, RawPtr, block_ptr, null_ptr, ptr_val, in_a_block}
 use denote.Ref.{MutRef, mut_vals}
-use denote.Signature.{plain}
+use denote.Signature.{plain, Slot}
 use denote.Steps.{nothing, opens, closes, heard}
 use denote.Struct.Struct.{within}
 use denote.Triple.Walked.{Stays, stay_dropped, stay_ref, walk_of, ends_at, walk_Meets, Goes-ref, Goes-dropped}
 use Rattle.std_alloc.specs.Box.Ownership.{box_owns}
 use Rattle.std_heap.specs.contracts.GlobalAllocator.TheImpl.{ghosts}
-use denote.Signature.{Slot}
 use Rattle.std_heap.specs.contracts.Global as Heap
 use Rattle.like_c.specs.contracts.parts.Parts as Parts
-use lib.Dec.{T as Holds}
 use Rattle.std.proofs.mem.Facts.{says_two}
-use mir.Syntax.{Fn, Ty, aggregate, int, mut, w64, ty_ptr, ty_ref, ty_named, tnil, local, value_local, place, deref, field, copy, rv_opd, seq, assign, return}
-use mir.Val.{has_ty, WT}
 use denote.Builtin.{RefMutOf}
 use denote.Param.{layout}
 use denote.Triple.Clauses.{Ended, Clauses, closing}
