@@ -7,9 +7,7 @@ use crate::status;
 use like_board::SharedPost;
 use like_live::{Found, GlanceAnswer, LikeAnswer, LiveSeat, LookAnswer};
 use like_seat::Seen;
-
-/// In the place of a page: the user has liked none.
-const NO_PAGE: u32 = u32::MAX;
+use like_tables::NO_PAGE;
 
 // What is asked for in a request.
 const LIKE: u64 = 0;

@@ -3,8 +3,8 @@ ghost use Rattle.like_tables.specs.LastLike.{no_page};
 
 use std::marker::Model;
 
-// No page has this number.
-const NO_PAGE: u32 = u32::MAX;
+/// No page has this number: in the place of a page, it says that there is none.
+pub const NO_PAGE: u32 = u32::MAX;
 
 /// The page of a user's last like, if there is one, in four bytes.
 #[derive(Clone, Drop)]

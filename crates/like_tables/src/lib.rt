@@ -11,6 +11,7 @@ mod stash;
 mod users;
 
 pub use held::Held;
+pub use last_like::NO_PAGE;
 pub use slice::Slice;
 pub use stash::Stash;
 pub use users::Users;
