@@ -1,10 +1,9 @@
 -- What a new board shows.
-use Rattle.std.proofs.Common.{◌≡◌, ℕ, zero, suc, ◌<◌, ◌-◌, ◌*◌, ◌≤◌, nat_lt, Bool, false, List, [], ◌∷◌, All, length, get_or, subst, ap, sym, ◌∙◌, refl, arith, add-zero}
+use Rattle.std.proofs.Common.{◌≡◌, ℕ, zero, suc, ◌<◌, ◌-◌, ◌*◌, ◌≤◌, nat_lt, Bool, List, [], ◌∷◌, All, length, get_or, subst, ap, sym, ◌∙◌, refl, arith, add-zero}
 use Rattle.std.proofs.lemmas.Bool.{cond-true, lt-ltb, le-ltb}
 use Rattle.std.proofs.lemmas.List.Elements.{All-nil}
 use mathlib.Core.Option.{some, some-injective, some-ne-none}
 use lib.ListN.{get_elem?}
-use Rattle.like_core.specs.declared.worker_state.WorkerState.{WorkerState}
 use Rattle.like_core.specs.declared.worker_state.WorkerState.TheVariants.{Runs, Gone}
 use Rattle.like_core.specs.declared.opening.Opening.{Opening}
 use Rattle.like_core.specs.declared.view.PageCount.{PageCount}
@@ -22,7 +21,6 @@ use Rattle.like_core.specs.views.Layout.{mask_place, word_of}
 use Rattle.like_core.specs.views.Shows.{IsOpening, ShowsSome, Fits, FitsCoord}
 use Rattle.like_core.proofs.views.KeptPlaces.{places_open}
 use Rattle.like_core.proofs.core.Reached.{start_reached}
-use Rattle.like_core.proofs.word.Masks.{mask_none}
 use Rattle.like_board.specs.declared.key.Key.{Key}
 use Rattle.like_board.specs.Rule.{opening_of, first_view, first_word}
 use Rattle.like_board.proofs.worker.Moves.{counts_none}

@@ -1,4 +1,4 @@
-use Rattle.std.proofs.Common.{rules, ◌≡◌, ℕ, List, Some, slice_get, subst, sym, ◌∙◌}
+use Rattle.std.proofs.Common.{rules, ◌≡◌, ℕ, subst, sym, ◌∙◌}
 use Rattle.like_core.specs.Post.{IsFresh}
 use Rattle.like_core.specs.views.Views.{fresh}
 use Rattle.like_board.specs.declared.worker_seat.WorkerSeat.{WorkerSeat}

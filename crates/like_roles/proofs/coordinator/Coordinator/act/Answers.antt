@@ -54,13 +54,13 @@ returns-then-self-gt0 c =
     look.ensures.event look.ensures.saw
     (counts c.if-sight.false c.if-sight-4.false c.if-self-gt0.true refl refl)
 
-pub returns-then-sight-eq-LAST_PHASE : goal.returns-then-sight-eq-LAST_PHASE
-returns-then-sight-eq-LAST_PHASE c =
+pub returns-then-phase-eq-LAST_PHASE : goal.returns-then-phase-eq-LAST_PHASE
+returns-then-phase-eq-LAST_PHASE c =
     let i = c.self.inside in
     let look = c.look_at_run-sight in
     by_case _ i.lead look.new.lead i.turns i.left i.phase i.choices look.result _ _ c.self.view_is look.ensures.shows
     look.ensures.event look.ensures.saw
-    (stays c.if-sight.false c.if-sight-4.false (omega arith) c.if-sight-eq-LAST_PHASE.true refl refl)
+    (stays c.if-sight.false c.if-sight-4.false (omega arith) c.if-phase-eq-LAST_PHASE.true refl refl)
 
 pub returns : goal.returns
 returns c =
@@ -68,7 +68,7 @@ returns c =
     let look = c.look_at_run-sight in
     let within = look.ensures.within in
     let number = look.ensures.shows.number in
-    let other = c.if-sight-eq-LAST_PHASE.false in
+    let other = c.if-phase-eq-LAST_PHASE.false in
     let below : look.result.number < last_phase = omega arith in
     by_case _ i.lead look.new.lead i.turns i.left i.phase i.choices look.result _ _ c.self.view_is look.ensures.shows
     look.ensures.event look.ensures.saw

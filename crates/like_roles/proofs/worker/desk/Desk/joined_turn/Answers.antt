@@ -1,4 +1,4 @@
-use Rattle.std.proofs.Common.{◌≡◌, true, drop, refl, ap, sym, ◌∙◌, subst}
+use Rattle.std.proofs.Common.{◌≡◌, true, drop, refl, ap, rules, sym, ◌∙◌, subst}
 use Rattle.like_tables.specs.declared.held.Held.{Held}
 use Rattle.like_seat.specs.StationView.{StationView}
 use Rattle.like_roles.specs.worker.Desk.{view_of}
@@ -39,3 +39,15 @@ returns-clause-works g c =
     (c.try_next.ensures.answer
     ∙ ap (λ (t : StationView Held). Try (submitter_of t.last.share.workers t.last.share.worker place)) same)
     (view_of-tried s c.next_held.new.self d c.try_next.new.self place c.try_next.ensures.tried same)
+
+pub run-requires-clause-can : goal.run-requires-clause-can
+run-requires-clause-can g c κs within =
+    let own = (settled-pop c.args.seat.now c.next_held.new.self c.args.self.now c.in-Some.first c.requires.settled
+    c.next_held.ensures.seat c.next_held.ensures.rest (sym c.next_held.ensures.first ∙ c.in-Some.is)).2 in
+    record {
+      running = search rules;
+      served = own.served;
+      there = own.there;
+      judged = own.judged;
+      prompt = search rules;
+    }
