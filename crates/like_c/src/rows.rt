@@ -1,6 +1,7 @@
 //! The rows that cross between C and Rattle.
 ghost use Rattle.std.specs.Prelude.{◌≡◌, ◌<◌, ◌≤◌, ◌≢◌, ◌↔◌, ℕ, IsTrue, length, slice_get};
 ghost use Rattle.like_c.specs.Held.{AnswersRow, IsToWait, IsUnreserved, KeepsUnasked, RunsRows};
+ghost use Rattle.like_c.specs.Order.{AreInOrder};
 ghost use Rattle.like_c.specs.Rows.{found_row, glance_row, like_op, look_row, page_or_none, seen_row, status_row};
 
 use crate::status;
@@ -24,6 +25,12 @@ pub struct Options {
     pub room: u32,
     pub hot: u32,
     pub reserved: [u64; 6],
+}
+
+/// A law: the fields are in the order of likes.h.
+pub fn rows_are_in_order()
+    ensures { AreInOrder }
+{
 }
 
 // The sizes that likes.h pins.
