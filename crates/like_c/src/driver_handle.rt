@@ -27,7 +27,7 @@ impl Model for DriverHandle {
 impl DriverHandle {
     ghost use Rattle.like_c.specs.Lends.{LendsDriver};
 
-    /// The driver, if there is one. The pointer is read alone.
+    /// The driver, if there is one. The pointer stays as it is.
     #[inline(always)]
     pub(crate) fn get(&mut self) -> Option<&mut Opened>
         ensures* lends { sem 𝓛 (LendsDriver self.entry result) }

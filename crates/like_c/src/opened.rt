@@ -8,7 +8,7 @@ use like_board::SharedPost;
 use like_live::{Driver, LiveSeat, OpenError, Opening, PhaseNow, Service};
 use std::alloc::{AllocError, Global};
 
-// At the end of a box: what two boxes have in use lies as far apart, 128 bytes.
+// Padding at the end of a box: what two boxes have in use lies at least so far apart, 128 bytes.
 type Apart = [u64; 16];
 
 const APART: Apart = [0; 16];

@@ -27,7 +27,7 @@ impl Model for PhaseHandle {
 impl PhaseHandle {
     ghost use Rattle.like_c.specs.Lends.{LendsPhase};
 
-    /// The phase, if there is one. The pointer is read alone.
+    /// The phase, if there is one. The pointer stays as it is.
     #[inline(always)]
     pub(crate) fn get(&mut self) -> Option<&mut BoxedPhase>
         ensures* lends { sem 𝓛 (LendsPhase self.entry result) }

@@ -30,8 +30,7 @@ pub struct Options {
 /// A law: the fields are in the order of likes.h.
 pub fn rows_are_in_order()
     ensures { AreInOrder }
-{
-}
+{}
 
 // The sizes that likes.h pins.
 const _: () = prove!(size_of::<Options>() == 64);

@@ -27,7 +27,7 @@ impl Model for SeatHandle {
 impl SeatHandle {
     ghost use Rattle.like_c.specs.Lends.{LendsSeat};
 
-    /// The seat, if there is one. The pointer is read alone.
+    /// The seat, if there is one. The pointer stays as it is.
     #[inline(always)]
     pub(crate) fn get(&mut self) -> Option<&mut BoxedSeat>
         ensures* lends { sem 𝓛 (LendsSeat self.entry result) }
