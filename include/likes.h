@@ -196,12 +196,13 @@ typedef struct likes_request {
     uint32_t user;     /* below the service's users */
     uint32_t page;     /* below the number of pages */
     uint32_t op;       /* a likes_op */
-    uint32_t reserved; /* 0 */
+    uint32_t reserved; /* 0: a request is filled whole, as by {.op = LIKES_LOOK} */
 } likes_request;
 
 /* Runs requests one by one, and gives the number of those done. It stops before the first that is LIKES_BETWEEN or
  * LIKES_NO_ROOM, and at the end of the shorter array. The answer at which it stopped has that status, and those behind
- * it stay as they were. At an empty handle it does none, and the first answer is LIKES_EMPTY. */
+ * it stay as they were. LIKES_UNKNOWN_OP comes before all that a seat's call answers, and without phase work. At an
+ * empty handle it does none, and the first answer is LIKES_EMPTY. */
 static inline size_t likes_seat_run(likes_seat *seat, const likes_request *requests, size_t requests_len,
                                     likes_answer *answers, size_t answers_len);
 
