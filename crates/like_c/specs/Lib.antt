@@ -1,7 +1,7 @@
 pub mod Handle
 pub mod Held
+pub mod Layout
 pub mod Lends
 pub mod Opened
-pub mod Order
 pub mod Rows
 pub mod Status

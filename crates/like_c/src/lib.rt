@@ -17,7 +17,7 @@ mod status;
 use crate::opened::Opened;
 pub use driver_handle::DriverHandle;
 pub use phase_handle::PhaseHandle;
-pub use rows::{AnswerRow, FoundRow, Options, RequestRow, rows_are_in_order};
+pub use rows::{AnswerRow, FoundRow, Options, RequestRow, rows_are_laid_out};
 pub use seat_handle::SeatHandle;
 use std::alloc::Global;
 

@@ -1,7 +1,7 @@
 //! The rows that cross between C and Rattle.
 ghost use Rattle.std.specs.Prelude.{◌≡◌, ◌<◌, ◌≤◌, ◌≢◌, ◌↔◌, ℕ, IsTrue, length, slice_get};
 ghost use Rattle.like_c.specs.Held.{AnswersRow, IsToWait, IsUnreserved, KeepsUnasked, RunsRows};
-ghost use Rattle.like_c.specs.Order.{AreInOrder};
+ghost use Rattle.like_c.specs.Layout.{AreLaidOut};
 ghost use Rattle.like_c.specs.Rows.{found_row, glance_row, like_op, look_row, page_or_none, seen_row, status_row};
 
 use crate::status;
@@ -27,9 +27,9 @@ pub struct Options {
     pub reserved: [u64; 6],
 }
 
-/// A law: the fields are in the order of likes.h.
-pub fn rows_are_in_order()
-    ensures { AreInOrder }
+/// A law: the fields are in the order of likes.h, and at the places that it asserts.
+pub fn rows_are_laid_out()
+    ensures { AreLaidOut }
 {}
 
 // The sizes that likes.h pins.

@@ -1,0 +1,37 @@
+-- Where the fields of what crosses to C are in memory, as likes.h asserts it.
+use Rattle.std.specs.Prelude.{◌≡◌, ℕ, ◌+◌, List, [], ◌∷◌}
+use mir.Syntax.{Ty}
+use mathlib.Core.Option.{some, none}
+use prog.Memory.{field_of}
+use denote.Memory.{lone}
+use denote.RattleType.{RattleType}
+use Rattle.like_c.specs.contracts.rows.AnswerRow as Answer
+use Rattle.like_c.specs.contracts.rows.FoundRow as Found
+use Rattle.like_c.specs.contracts.rows.Options as Opening
+use Rattle.like_c.specs.contracts.rows.RequestRow as Request
+use Rattle.like_c.specs.declared.rows.AnswerRow.{AnswerRow}
+use Rattle.like_c.specs.declared.rows.FoundRow.{FoundRow}
+use Rattle.like_c.specs.declared.rows.Options.{Options}
+use Rattle.like_c.specs.declared.rows.RequestRow.{RequestRow}
+
+-- field k of the type begins at this place
+pub record Begins (type : RattleType) (k place : ℕ) : Type 0 where
+  pub field : Ty
+  pub there : field_of (lone type.mir) k ≡ some (field, place)
+
+-- the fields of the type from field k on begin at these places, and it has no others
+abbrev pub HasPlaces : RattleType → ℕ → List ℕ → Type 0
+HasPlaces type k [] = field_of (lone type.mir) k ≡ none
+HasPlaces type k (place ∷ places) = Begins type k place × HasPlaces type (k + 1) places
+
+-- these are the fields of each, from the first one on, and their places
+pub record AreLaidOut : Type 0 where
+  pub options : (o : Options) → Opening.struct.as_values o ≡ (o.seats, (o.users, (o.room, (o.hot, (o.reserved, tt)))))
+  pub options_at : HasPlaces Opening.the_row 0 (0 ∷ 4 ∷ 8 ∷ 12 ∷ 16 ∷ [])
+  pub request : (r : RequestRow) → Request.struct.as_values r ≡ (r.tag, (r.user, (r.page, (r.op, tt))))
+  pub request_at : HasPlaces Request.the_row 0 (0 ∷ 8 ∷ 12 ∷ 16 ∷ [])
+  pub answer : (a : AnswerRow) → Answer.struct.as_values a ≡ (a.count, (a.last, (a.status, tt)))
+  pub answer_at : HasPlaces Answer.the_row 0 (0 ∷ 8 ∷ 12 ∷ [])
+  pub found : (f : FoundRow) → Found.struct.as_values f
+      ≡ (f.tag, (f.count, (f.asked, (f.ran, (f.user, (f.page, (f.last, (f.reserved, tt))))))))
+  pub found_at : HasPlaces Found.the_row 0 (0 ∷ 8 ∷ 16 ∷ 24 ∷ 32 ∷ 36 ∷ 40 ∷ 44 ∷ [])
