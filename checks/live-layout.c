@@ -109,7 +109,7 @@ static void options(void) {
         IS(open_by(&it), 109); /* LIKES_WRONG_RESERVED */
         it.bytes[place] = 0;
     }
-    put32(&it, SEATS, 17);
+    put32(&it, SEATS, 65);
     IS(open_by(&it), 113); /* LIKES_WRONG_SEATS */
     it = right_options();
     put32(&it, USERS, 0);

@@ -62,7 +62,7 @@ static void all_refused(likes_service *it, uint32_t status) {
 static void not_started(void) {
     uint64_t totals[2];
     all_refused(&service, LIKES_NOT_STARTED);
-    IS(start(17, 4, 1000), LIKES_WRONG_SEATS);
+    IS(start(LIKES_MAX_SEATS + 1, 4, 1000), LIKES_WRONG_SEATS);
     all_refused(&service, LIKES_NOT_STARTED);
     IS(start(2, 4, 0), LIKES_WRONG_PERIOD);
     all_refused(&service, LIKES_NOT_STARTED);
@@ -89,7 +89,7 @@ static void moved(void) {
 }
 
 static void unknown_seats(void) {
-    static const uint32_t numbers[] = {2, 15, 16, 17, UINT32_MAX};
+    static const uint32_t numbers[] = {2, 63, 64, 65, UINT32_MAX};
     likes_request request = {.op = LIKES_LIKE};
     likes_answer answer;
     likes_found found;

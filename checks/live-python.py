@@ -56,7 +56,7 @@ def openings():
             refused(f"count {value!r}", kind, Likes, **{**right, "counts": [0, value]})
     refused("period 0", ValueError, Likes, **right, period=0)
     refused("period -1", ValueError, Likes, **right, period=-1)
-    refused("17 seats", Refused, Likes, **{**right, "seats": 17})
+    refused("65 seats", Refused, Likes, **{**right, "seats": 65})
     refused("2^32 - 1 seats", Refused, Likes, **{**right, "seats": 2**32 - 1})
     refused("no pages", Refused, Likes, **{**right, "counts": []})
     refused("a mark of no page", Refused, Likes, **right, marks=[1])

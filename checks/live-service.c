@@ -150,9 +150,9 @@ static void play(uint64_t seed, uint32_t room, uint32_t period) {
 /* What is refused leaves nothing behind. */
 static void refused(void) {
     const uint64_t counts[1] = {0};
-    likes_options options = {.seats = 17, .users = 1, .room = 1, .hot = 0};
+    likes_options options = {.seats = LIKES_MAX_SEATS + 1, .users = 1, .room = 1, .hot = 0};
     uint32_t status = likes_service_start(&service, &options, counts, 1, NULL, 0, 1000);
-    hold(status == LIKES_WRONG_SEATS, "17 seats were opened");
+    hold(status == LIKES_WRONG_SEATS, "a seat too many was opened");
     options.seats = 1;
     status = likes_service_start(&service, &options, NULL, 0, NULL, 0, 1000);
     hold(status == LIKES_WRONG_PAGES, "no pages were opened");
