@@ -1,5 +1,5 @@
 -- Each step is allowed by the rule, and tells what it is said to tell.
-use Rattle.std.proofs.Common.{◌≡◌, ◌≢◌, ℕ, ◌+◌, ◌%◌, ◌^◌, ◌<◌, List, [], ◌∷◌, ◌++◌, get_or, slice_set, subst, ap, sym, ◌∙◌, refl, arith}
+use Rattle.std.proofs.Common.{◌≡◌, ◌≢◌, ℕ, ◌+◌, ◌%◌, ◌^◌, ◌<◌, false, List, [], ◌∷◌, ◌++◌, length, get_or, slice_index, slice_set, subst, ap, sym, ◌∙◌, refl, arith}
 use Rattle.std.proofs.lemmas.List.{set-get_or}
 use mathlib.Core.Option.{some}
 use lib.ListN.{get_elem?}
@@ -14,28 +14,30 @@ use Rattle.like_core.specs.declared.view.WorkerSeatView.{WorkerSeatView}
 use Rattle.like_core.specs.declared.view.CoordSeatView.{CoordSeatView}
 use Rattle.like_core.specs.declared.view.View.{View}
 use Rattle.like_core.specs.declared.view.View.TheVariants.{Coord, Worker, Spent}
+use Rattle.like_core.specs.OpeningLimits.{has_slots}
+use Rattle.like_core.specs.Slots.{IsChoice}
 use Rattle.like_core.specs.word.Forms.{form_of}
 use Rattle.like_core.specs.Post.{IsFresh, MayAdd, MayRead, MayGlance}
 use Rattle.like_core.specs.WorkerState.{RunsJoined, RunsSplit, SawEnding}
-use Rattle.like_core.specs.views.Views.{MayAnnounce, MayCount, MayPublish, MayRelease, fresh, looked_view, answered_view, retired_view, added_view, read_view, glanced_view, masked_view, post_of, likes_merged, adding, looked_coord, announced_coord, counted_coord, published_coord, mask_released, released_coord, made_coord, gathered_coord}
+use Rattle.like_core.specs.views.Views.{MayAnnounce, MayCount, MayPublish, MayPut, MayPublishSlots, MayReadSlot, MayReadSlots, MayRelease, fresh, looked_view, answered_view, retired_view, added_view, read_view, glanced_view, masked_view, slotted_view, slots_read, post_of, likes_merged, adding, looked_coord, announced_coord, counted_coord, published_coord, slotted_coord, slots_put, mask_released, released_coord, made_coord, gathered_coord}
 use Rattle.like_core.specs.views.Actions.{Acknowledges, Reports, Retires, Reads, Glances, Announces, Releases}
-use Rattle.like_core.specs.views.Layout.{mask_place, word_of}
+use Rattle.like_core.specs.views.Layout.{mask_place, slot_place, word_of}
 use Rattle.like_core.specs.views.Shows.{ShowsSome, FitsWorker, FitsCoord, IsKnown, IsStep, IsSteps}
 use Rattle.like_core.proofs.views.Apart.{word_of-injective}
 use Rattle.like_core.proofs.views.Posts.{post_fresh}
 use Rattle.like_board.specs.declared.key.Key.{Key}
 use Rattle.like_board.specs.Known.{worker_view_of, coord_view_of}
 use Rattle.like_board.specs.Rule.{opening_of, IsShowing}
-use Rattle.like_board.specs.Plays.{Looked, Surveyed, sight_at, coord_sight_at, TellsLook, TellsSurvey, TellsWorker, TellsCoord, PageAct, TellsAdd, TellsRead, TellsAddAt, TellsReadAt, TellsMask, TellsCount, TellsCountAt}
+use Rattle.like_board.specs.Plays.{Looked, Surveyed, sight_at, coord_sight_at, TellsLook, TellsSurvey, TellsWorker, TellsCoord, PageAct, TellsAdd, TellsRead, TellsAddAt, TellsReadAt, TellsMask, TellsSlot, TellsSlotAt, TellsSlots, TellsPutAt, TellsCount, TellsCountAt}
 use Rattle.like_board.specs.Closed.{TellsLast}
 use Rattle.like_board.proofs.coordinator.Leads.{splits}
 use Rattle.like_board.proofs.worker.Moves.{known_of}
 use Rattle.like_board.proofs.worker.WorkerSteps.{looks, acknowledges, reports, retires}
 use Rattle.like_board.proofs.coordinator.CoordSteps.{surveys, announces, releases}
-use Rattle.like_board.proofs.coordinator.Choosing.{counts, publishes}
+use Rattle.like_board.proofs.coordinator.Choosing.{counts, publishes, puts, publishes_slots}
 use Rattle.like_board.proofs.Tallying.{tallied_made, places_made}
 use Rattle.like_board.proofs.worker.Additions.{adds}
-use Rattle.like_board.proofs.worker.Readings.{IsRead, reads, glances, reads_mask}
+use Rattle.like_board.proofs.worker.Readings.{IsRead, reads, glances, reads_mask, reads_slot, reads_slots}
 use Rattle.like_board.proofs.Gathering.{gathers}
 use Rattle.like_board.proofs.LastCounts.{closes}
 
@@ -311,6 +313,56 @@ publishing {S} key slots id me mask is may = λ st shows _ at _.
       (refl, ap (λ (m : Me S View). m.1) is),
     )
 
+putting_into : {S : Type 0} (key : Key) (slots id : ℕ) (me : Me S View) (slot page : ℕ)
+    → me ≡ (Coord (coord_view_of me.0), [])
+    → MayPut (coord_view_of me.0) slot page
+    → Allows (IsShowing key) slots id me (slot_place slot) (λ _. page)
+    (λ found after. TellsPutAt (slot_place slot) page me.0 after.0 × (after.1 ≡ []))
+putting_into {S} key slots id me slot page is may = λ st shows _ at _.
+    let z = opening_of key in
+    let c : CoordSeatView = coord_view_of me.0 in
+    let d : CoordSeatView = slotted_coord c slot page in
+    let here : get_elem? st.views id ≡ some (Coord c) = at ∙ ap (λ (m : Me S View). some m.0) is in (
+      Coord d,
+      keeps,
+      tt,
+      puts z st.words st.views id c slot page shows here may,
+      (
+        λ other on.
+            let same : slot ≡ other = omega arith in
+            ap (λ (k : ℕ). Coord (slotted_coord c k page)) same,
+        ap (λ (m : Me S View). m.1) is,
+      ),
+    )
+
+pub putting : {S : Type 0} (key : Key) (slots id : ℕ) (me : Me S View) (slot page word : ℕ)
+    → word ≡ slot_place slot
+    → me ≡ (Coord (coord_view_of me.0), [])
+    → MayPut (coord_view_of me.0) slot page
+    → Allows (IsShowing key) slots id me word (λ _. page)
+    (λ found after. TellsPutAt word page me.0 after.0 × (after.1 ≡ []))
+putting {S} key slots id me slot page word word_is is may =
+    subst (λ (i : ℕ). Allows (IsShowing key) slots id me i (λ _. page)
+    (λ found after. TellsPutAt i page me.0 after.0 × (after.1 ≡ []))) (sym word_is)
+    (putting_into key slots id me slot page is may)
+
+pub publishing_slots : {S : Type 0} (key : Key) (slots id : ℕ) (me : Me S View) (bits : ℕ)
+    → me ≡ (Coord (coord_view_of me.0), [])
+    → MayPublishSlots (coord_view_of me.0) bits
+    → Allows (IsShowing key) slots id me mask_place (λ _. bits)
+    (λ found after. let c = coord_view_of me.0 in
+    (after.0 ≡ Coord (published_coord c (slots_put c bits))) × (after.1 ≡ []))
+publishing_slots {S} key slots id me bits is may = λ st shows _ at _.
+    let z = opening_of key in
+    let c : CoordSeatView = coord_view_of me.0 in
+    let here : get_elem? st.views id ≡ some (Coord c) = at ∙ ap (λ (m : Me S View). some m.0) is in (
+      Coord (published_coord c (slots_put c bits)),
+      keeps,
+      tt,
+      publishes_slots z st.words st.views id c bits shows here may,
+      (refl, ap (λ (m : Me S View). m.1) is),
+    )
+
 pub making : {S : Type 0} (key : Key) (id : ℕ) (v : View)
     → v ≡ Coord (coord_view_of v)
     → (coord_view_of v).made < (coord_view_of v).opening.workers
@@ -443,14 +495,16 @@ glancing {S} key slots id me page word word_is is may =
 pub reading_mask : {S : Type 0} (key : Key) (slots id : ℕ) (me : Me S View)
     → me ≡ (Worker (worker_view_of me.0), [])
     → RunsSplit (worker_view_of me.0).state
+    → has_slots (worker_view_of me.0).opening.limits ≡ false
     → Allows (IsShowing key) slots id me mask_place (λ k. k)
     (λ found after. TellsMask me.0 found after.0 × (after.1 ≡ []))
-reading_mask {S} key slots id me is split = λ st shows _ at _.
+reading_mask {S} key slots id me is split plain = λ st shows _ at _.
     let z = opening_of key in
     let v : WorkerSeatView = worker_view_of me.0 in
     let here : get_elem? st.views id ≡ some (Worker v) = at ∙ ap (λ (m : Me S View). some m.0) is in
     let same = worker_opening z st.words st.views id v shows here in
-    let r = reads_mask z st.words st.views id v shows here split in
+    let r = reads_mask z st.words st.views id v shows here split
+    (ap (λ (y : Opening). has_slots y.limits) (sym same) ∙ plain) in
     let found : ℕ = get_or st.words mask_place 0 in
     let w : WorkerSeatView = masked_view v found in (
       Worker w,
@@ -463,6 +517,72 @@ reading_mask {S} key slots id me is split = λ st shows _ at _.
               refl;
           step = subst (λ (y : Opening). IsStep y (Hot v.worker) (HotShown found) (Worker v) (Worker w))
               (sym same) r.0;
+        },
+        ap (λ (m : Me S View). m.1) is,
+      ),
+    )
+
+reading_from : {S : Type 0} (key : Key) (slots id : ℕ) (me : Me S View) (slot : ℕ)
+    → me ≡ (Worker (worker_view_of me.0), [])
+    → MayReadSlot (worker_view_of me.0) slot
+    → Allows (IsShowing key) slots id me (slot_place slot) (λ k. k)
+    (λ found after. TellsSlotAt (slot_place slot) me.0 found after.0 × (after.1 ≡ []))
+reading_from {S} key slots id me slot is may = λ st shows _ at _.
+    let z = opening_of key in
+    let v : WorkerSeatView = worker_view_of me.0 in
+    let here : get_elem? st.views id ≡ some (Worker v) = at ∙ ap (λ (m : Me S View). some m.0) is in
+    let r = reads_slot z st.words st.views id v slot shows here may in
+    let found : ℕ = get_or st.words (slot_place slot) 0 in
+    let w : View = Worker (slotted_view v slot found) in
+    let told : TellsSlot slot me.0 found w = record { view = refl; fits = r.0 } in (
+      w,
+      keeps,
+      tt,
+      r.1,
+      (
+        λ other on.
+            let same : slot ≡ other = omega arith in
+            subst (λ (k : ℕ). TellsSlot k me.0 found w) same told,
+        ap (λ (m : Me S View). m.1) is,
+      ),
+    )
+
+pub reading_slot : {S : Type 0} (key : Key) (slots id : ℕ) (me : Me S View) (slot word : ℕ)
+    → word ≡ slot_place slot
+    → me ≡ (Worker (worker_view_of me.0), [])
+    → MayReadSlot (worker_view_of me.0) slot
+    → Allows (IsShowing key) slots id me word (λ k. k)
+    (λ found after. TellsSlotAt word me.0 found after.0 × (after.1 ≡ []))
+reading_slot {S} key slots id me slot word word_is is may =
+    subst (λ (i : ℕ). Allows (IsShowing key) slots id me i (λ k. k)
+    (λ found after. TellsSlotAt i me.0 found after.0 × (after.1 ≡ []))) (sym word_is)
+    (reading_from key slots id me slot is may)
+
+pub reading_slots : {S : Type 0} (key : Key) (slots id : ℕ) (me : Me S View)
+    → me ≡ (Worker (worker_view_of me.0), [])
+    → MayReadSlots (worker_view_of me.0)
+    → Allows (IsShowing key) slots id me mask_place (λ k. k)
+    (λ found after. TellsSlots me.0 found after.0 × (after.1 ≡ []))
+reading_slots {S} key slots id me is may = λ st shows _ at _.
+    let z = opening_of key in
+    let v : WorkerSeatView = worker_view_of me.0 in
+    let here : get_elem? st.views id ≡ some (Worker v) = at ∙ ap (λ (m : Me S View). some m.0) is in
+    let same = worker_opening z st.words st.views id v shows here in
+    let r = reads_slots z st.words st.views id v shows here may.split
+    (ap (λ (y : Opening). has_slots y.limits) (sym same) ∙ may.slotted) may.all in
+    let found : ℕ = get_or st.words mask_place 0 in
+    let w : WorkerSeatView = masked_view v (slots_read v found) in (
+      Worker w,
+      keeps,
+      tt,
+      r.2,
+      (
+        record {
+          view = refl;
+          choice = subst (λ (y : Opening). IsChoice y.factor (length y.marks) (slice_index v.slots) found)
+              (sym same) r.0;
+          step = subst (λ (y : Opening). IsStep y (Hot v.worker) (HotShown (slots_read v found)) (Worker v) (Worker w))
+              (sym same) r.1;
         },
         ap (λ (m : Me S View). m.1) is,
       ),

@@ -82,7 +82,11 @@ gathers z words views place other c v some_state at apart mine =
         opening = sh.opening;
         merged = sh.merged;
         coord = d;
-        published = known.0;
+        published = known.0.published;
+        chosen = known.0.chosen;
+        slots = known.0.slots;
+        all_slots = known.0.all_slots;
+        slots_fit = known.0.slots_fit;
         board = sh.board;
         seats = record {
           first = set_else changed other 0 Spent (λ same. apart (sym same ∙ sym is.0)) ∙ here;
@@ -104,6 +108,13 @@ gathers z words views place other c v some_state at apart mine =
               sum_gathered (seats_of i) views place other c v at mine refl
               (sum_by-cons (λ (w : WorkerSeatView). cond (w.worker == i) 1 0) v c.joined) ∙
               (sh.seats.once i ∙ ap (λ (e : CoordSeatView). cond (nat_lt i e.made) 1 0) is.1);
+          slots = λ j u found. elim (at_set changed other j Spent (Worker u) found) [
+            | inl spent ↦ let clash = spent.1 in absurd (cc)
+            | inr before ↦ elim (at_set views place j (Coord d) (Worker u) before.1) [
+              | inl first ↦ let clash = first.1 in absurd (cc)
+              | inr rest ↦ known.0.read j u rest.1
+            ]
+          ];
         };
         reads = record {
           workers = join_keeps_reads z.counts s.phase views place other c v at there sh.reads.workers;

@@ -9,3 +9,4 @@ pub mod Meanings
 pub mod Written
 pub mod Opens
 pub mod Allowed
+pub mod FirstPages

@@ -4,12 +4,13 @@ use Rattle.like_core.specs.declared.view.WorkerSeatView.{WorkerSeatView}
 use Rattle.like_core.specs.declared.view.CoordSeatView.{CoordSeatView}
 use Rattle.like_core.specs.declared.view.View.{View}
 use Rattle.like_core.specs.declared.view.View.TheVariants.{Coord, Worker, Spent}
+use Rattle.like_limits.specs.Buckets.{run_factor}
 use Rattle.like_core.specs.OpeningLimits.{run_limits}
 use Rattle.like_core.specs.views.Views.{fresh, fresh_coord}
 
 -- the opening of a view that is of no board
 abbrev pub nowhere : Opening
-nowhere = record { workers = 0; counts = []; marks = []; limits = run_limits }
+nowhere = record { workers = 0; counts = []; marks = []; limits = run_limits; factor = run_factor }
 
 -- the worker's view that a view is
 abbrev pub worker_view_of : View → WorkerSeatView

@@ -1,4 +1,5 @@
 pub mod Known
+pub mod Marks
 pub mod Rule
 pub mod Plays
 pub mod Seats

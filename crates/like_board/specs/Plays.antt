@@ -1,4 +1,4 @@
-use Rattle.std.specs.Prelude.{◌≡◌, ℕ, ◌<◌, ◌≤◌, true}
+use Rattle.std.specs.Prelude.{◌≡◌, ℕ, ◌^◌, ◌<◌, ◌≤◌, true, length, slice_index}
 use Rattle.like_core.specs.declared.worker_state.WorkerState.{WorkerState}
 use Rattle.like_core.specs.declared.sight.Sight.{Sight}
 use Rattle.like_core.specs.declared.sight.CoordSight.{CoordSight}
@@ -15,8 +15,9 @@ use Rattle.like_core.specs.word.Forms.{form_of}
 use Rattle.like_core.specs.views.Sights.{sight_in, coord_sight_in}
 use Rattle.like_core.specs.WorkerState.{IsSightOf, SeesEndingStill, phase_of, seen, turn_of}
 use Rattle.like_core.specs.Additions.{added_to}
-use Rattle.like_core.specs.views.Views.{looked_view, added_view, masked_view, looked_coord, counted_coord}
-use Rattle.like_core.specs.views.Layout.{word_of}
+use Rattle.like_core.specs.Slots.{IsChoice}
+use Rattle.like_core.specs.views.Views.{looked_view, added_view, masked_view, slotted_view, slots_read, looked_coord, counted_coord, slotted_coord}
+use Rattle.like_core.specs.views.Layout.{slot_place, word_of}
 use Rattle.like_core.specs.views.Shows.{IsKnown, IsStep}
 use Rattle.like_core.specs.views.Actions.{Adds, ReadsMask, Counts}
 use Rattle.like_board.specs.Known.{worker_view_of, coord_view_of}
@@ -110,6 +111,28 @@ TellsReadAt does next word v found w = (page : ℕ) → word ≡ word_of page �
 pub record TellsMask (v : View) (found : ℕ) (w : View) : Type 0 where
   pub view : w ≡ Worker (masked_view (worker_view_of v) found)
   pub step : let me = worker_view_of v in ReadsMask me found (masked_view me found)
+
+-- what a read of a slot's word tells: the view after has the page that it found there, a number of 32 bits
+pub record TellsSlot (slot : ℕ) (v : View) (found : ℕ) (w : View) : Type 0 where
+  pub view : w ≡ Worker (slotted_view (worker_view_of v) slot found)
+  pub fits : found < 2 ^ 32
+
+-- the same of a word, where it is a slot's
+abbrev pub TellsSlotAt : ℕ → View → ℕ → View → Type 0
+TellsSlotAt word v found w = (slot : ℕ) → word ≡ slot_place slot → TellsSlot slot v found w
+
+-- what a read of the mask word tells a worker that has read the slots: the view after has the mask of the pages in
+-- those that are in use, which are a lawful choice; and it is the action
+pub record TellsSlots (v : View) (found : ℕ) (w : View) : Type 0 where
+  pub view : let me = worker_view_of v in w ≡ Worker (masked_view me (slots_read me found))
+  pub choice : let me = worker_view_of v in
+      IsChoice me.opening.factor (length me.opening.marks) (slice_index me.slots) found
+  pub step : let me = worker_view_of v in ReadsMask me (slots_read me found) (masked_view me (slots_read me found))
+
+-- what a page that is put into the slot of a word tells: the view after has it there
+abbrev pub TellsPutAt : ℕ → ℕ → View → View → Type 0
+TellsPutAt word page v w =
+    (slot : ℕ) → word ≡ slot_place slot → w ≡ Coord (slotted_coord (coord_view_of v) slot page)
 
 -- what the coordinator's read of a page's count tells: the view after has it, and it is the action
 pub record TellsCount (page : ℕ) (v : View) (found : ℕ) (w : View) : Type 0 where

@@ -12,8 +12,13 @@ use Rattle.like_board.specs.declared.key.Key.{Key}
 
 -- the opening that a key stands for
 abbrev pub opening_of : Key → Opening
-opening_of key =
-    record { workers = key.workers; counts = key.counts.items; marks = key.marks.items; limits = key.limits }
+opening_of key = record {
+  workers = key.workers;
+  counts = key.pages.counts;
+  marks = key.pages.marks;
+  limits = key.limits;
+  factor = key.factor;
+}
 
 -- the rule of a board: between any two atomic steps, its words and the views of all seats show some state of the core
 -- that can be reached

@@ -6,8 +6,10 @@ ghost use Rattle.like_core.specs.views.Layout.{word_of};
 ghost use Rattle.like_board.specs.Known.{coord_view_of};
 
 use crate::board::Board;
-use crate::layout::{MASK_WORD, PHASE_WORD, word_of};
-use crate::plays::{Announcing, Counting, Publishing, Releasing, Surveying};
+use crate::layout::{MASK_WORD, PHASE_WORD, slot_place, word_of};
+use crate::plays::{
+    Announcing, Counting, Publishing, PublishingSlots, Putting, Releasing, Surveying,
+};
 use atomic_table::Seat;
 use like_core::{CoordSight, Limits, View};
 
@@ -40,7 +42,7 @@ pub struct CoordSeat {
 
 impl CoordSeat {
     ghost use Rattle.like_core.specs.Phase.{IsSplit};
-    ghost use Rattle.like_core.specs.views.Views.{looked_coord, announced_coord, counted_coord, published_coord, released_coord, MayAnnounce, MayCount, MayPublish, MayRelease};
+    ghost use Rattle.like_core.specs.views.Views.{looked_coord, announced_coord, counted_coord, published_coord, slotted_coord, slots_put, released_coord, MayAnnounce, MayCount, MayPublish, MayPut, MayPublishSlots, MayRelease};
     ghost use Rattle.like_core.specs.views.Actions.{Surveys, Announces, Counts, Releases};
     ghost use Rattle.like_core.specs.views.Shows.{IsKnown};
     ghost use Rattle.like_board.specs.Seats.{board_id, coord_board, coord_view};
@@ -107,8 +109,8 @@ impl CoordSeat {
         board.table.shared.load::<Counting>(&mut self.seat, word)
     }
 
-    /// Stores the mask of hot pages with which the split phase that comes next is to be released. It is no event of the
-    /// core: the release is.
+    /// Stores the mask of hot pages with which the split phase that comes next is to be released, on a board without
+    /// slots. It is no event of the core: the release is.
     pub fn publish(&mut self, board: &Board, mask: u64)
         requires here { coord_board self.old ≡ board_id board.now }
         requires may { MayPublish (coord_view self.old) mask }
@@ -119,6 +121,34 @@ impl CoordSeat {
             .table
             .shared
             .store::<Publishing>(&mut self.seat, MASK_WORD, mask);
+    }
+
+    /// Puts a page into a slot, while all are in. It is no event of the core. What was published before has to be
+    /// published again.
+    pub fn put(&mut self, board: &Board, slot: u32, page: u32)
+        requires here { coord_board self.old ≡ board_id board.now }
+        requires may { MayPut (coord_view self.old) slot page }
+        ensures board { coord_board self.new ≡ coord_board self.old }
+        ensures view { coord_view self.new ≡ slotted_coord (coord_view self.old) slot page }
+    {
+        let word = slot_place(slot);
+        board
+            .table
+            .shared
+            .store::<Putting>(&mut self.seat, word, page as u64);
+    }
+
+    /// Stores which slots are in use, by bits: their pages are hot in the split phase that comes next.
+    pub fn publish_slots(&mut self, board: &Board, bits: u64)
+        requires here { coord_board self.old ≡ board_id board.now }
+        requires may { MayPublishSlots (coord_view self.old) bits }
+        ensures board { coord_board self.new ≡ coord_board self.old }
+        ensures view { let c = coord_view self.old in coord_view self.new ≡ published_coord c (slots_put c bits) }
+    {
+        board
+            .table
+            .shared
+            .store::<PublishingSlots>(&mut self.seat, MASK_WORD, bits);
     }
 
     /// Releases the next phase, a split one with the mask that was published last.

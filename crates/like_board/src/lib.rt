@@ -1,10 +1,11 @@
-//! The board of the like service: the phase word, the pages' counts and the mask of hot pages, as words that change in
-//! single atomic steps, over which the coordinator and the workers step with seats of their own.
+//! The board of the like service: the phase word, the pages' counts, the mask of hot pages and their slots, as words
+//! that change in single atomic steps, over which the coordinator and the workers step with seats of their own.
 #![tactic(auto)]
 
 mod board;
 mod closed_board;
 mod coord_seat;
+mod first_pages;
 mod holder;
 mod key;
 mod layout;

@@ -1,10 +1,10 @@
 //! What each kind of step tells the seat that makes it, and how a worker's seat is made and given back.
 ghost use Rattle.std.specs.Prelude.{◌≡◌, []};
 ghost use Rattle.like_core.specs.declared.view.View.TheVariants.{Coord, Worker, Spent};
-ghost use Rattle.like_core.specs.views.Views.{fresh, answered_view, retired_view, read_view, glanced_view, announced_coord, released_coord, published_coord, made_coord, gathered_coord};
+ghost use Rattle.like_core.specs.views.Views.{fresh, answered_view, retired_view, read_view, glanced_view, announced_coord, released_coord, published_coord, slots_put, made_coord, gathered_coord};
 ghost use Rattle.like_core.specs.views.Actions.{Acknowledges, Reports, Retires, Reads, Glances, Announces, Releases};
 ghost use Rattle.like_board.specs.Known.{coord_view_of, worker_view_of};
-ghost use Rattle.like_board.specs.Plays.{TellsLook, TellsSurvey, TellsWorker, TellsCoord, TellsAddAt, TellsReadAt, TellsMask, TellsCountAt};
+ghost use Rattle.like_board.specs.Plays.{TellsLook, TellsSurvey, TellsWorker, TellsCoord, TellsAddAt, TellsReadAt, TellsMask, TellsSlotAt, TellsSlots, TellsCountAt, TellsPutAt};
 ghost use Rattle.like_board.specs.Closed.{TellsLast};
 
 use atomic_table::{Join, Play, Split};
@@ -68,6 +68,20 @@ impl Play<(), View> for ReadingMask {
     ghost then = { λ _ me found after. TellsMask me.0 found after.0 × (after.1 ≡ []) };
 }
 
+/// A worker's read of a slot's word.
+pub struct ReadingSlot;
+
+impl Play<(), View> for ReadingSlot {
+    ghost then = { λ step me found after. TellsSlotAt step.word me.0 found after.0 × (after.1 ≡ []) };
+}
+
+/// A worker's read of the mask word where it tells which slots are in use.
+pub struct ReadingSlots;
+
+impl Play<(), View> for ReadingSlots {
+    ghost then = { λ _ me found after. TellsSlots me.0 found after.0 × (after.1 ≡ []) };
+}
+
 /// The coordinator's look.
 pub struct Surveying;
 
@@ -95,6 +109,21 @@ pub struct Publishing;
 impl Play<(), View> for Publishing {
     ghost then = { λ step me _ after.
         (after.0 ≡ Coord (published_coord (coord_view_of me.0) step.first)) × (after.1 ≡ []) };
+}
+
+/// A page that is put into a slot.
+pub struct Putting;
+
+impl Play<(), View> for Putting {
+    ghost then = { λ step me _ after. TellsPutAt step.word step.first me.0 after.0 × (after.1 ≡ []) };
+}
+
+/// A word that is published, which tells which slots are in use.
+pub struct PublishingSlots;
+
+impl Play<(), View> for PublishingSlots {
+    ghost then = { λ step me _ after. let c = coord_view_of me.0 in
+        (after.0 ≡ Coord (published_coord c (slots_put c step.first))) × (after.1 ≡ []) };
 }
 
 /// A release.

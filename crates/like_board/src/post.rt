@@ -1,9 +1,10 @@
-ghost use Rattle.std.specs.Prelude.{◌≡◌, ◌<◌, ◌≢◌, ◌≤◌};
+ghost use Rattle.std.specs.Prelude.{◌≡◌, ◌<◌, ◌≢◌, ◌≤◌, true, false, length, slice_index};
+ghost use Rattle.like_core.specs.OpeningLimits.{has_slots};
 
 use crate::board::Board;
 use crate::holder::HoldsBoard;
 use crate::worker_seat::WorkerSeat;
-use like_core::{Post, Sight};
+use like_core::{Post, Sight, SlotPost};
 use std::sync::Arc;
 
 /// A worker's seat at its board. Each call is one step on one of the board's words, and none waits.
@@ -136,7 +137,8 @@ impl<B: HoldsBoard> Post for PostAt<B> {
     }
 
     fn hot(&mut self) -> u64
-        requires { RunsSplit (post_meaning self.old).state }
+        requires split { RunsSplit (post_meaning self.old).state }
+        requires plain { has_slots (post_meaning self.old).limits ≡ false }
         ensures view { post_meaning self.new ≡ with_mask (post_meaning self.old) result }
         ensures board { post_board self.new ≡ post_board self.old }
         ensures known { post_view self.new ≡ masked_view (post_view self.old) result }
@@ -144,5 +146,35 @@ impl<B: HoldsBoard> Post for PostAt<B> {
     {
         let board = self.board.board();
         self.seat.hot(board)
+    }
+}
+
+impl<B: HoldsBoard> SlotPost for PostAt<B> {
+    ghost use Rattle.like_limits.specs.Limits.{hot_pages};
+    ghost use Rattle.like_core.specs.Slots.{IsChoice, mask_of_slots};
+    ghost use Rattle.like_core.specs.WorkerState.{RunsSplit};
+    ghost use Rattle.like_core.specs.Post.{pages_of, with_mask};
+    ghost use Rattle.like_core.specs.views.Views.{masked_view};
+    ghost use Rattle.like_core.specs.views.Actions.{ReadsMask};
+    ghost use Rattle.like_board.specs.Seats.{post_board, post_view, post_meaning};
+
+    fn slots(&mut self, pages: &mut [u32]) -> u64
+        requires split { RunsSplit (post_meaning self.old).state }
+        requires slotted { has_slots (post_meaning self.old).limits ≡ true }
+        requires places { length pages.old ≡ hot_pages }
+        ensures view { post_meaning self.new
+            ≡ with_mask (post_meaning self.old) (mask_of_slots (slice_index pages.new) result hot_pages) }
+        ensures choice { IsChoice (post_meaning self.old).factor (pages_of (post_meaning self.old))
+            (slice_index pages.new) result }
+        ensures places { length pages.new ≡ hot_pages }
+        ensures board { post_board self.new ≡ post_board self.old }
+        ensures known { post_view self.new ≡ masked_view (record (post_view self.old) { slots = pages.new })
+            (mask_of_slots (slice_index pages.new) result hot_pages) }
+        ensures event { ReadsMask (record (post_view self.old) { slots = pages.new })
+            (mask_of_slots (slice_index pages.new) result hot_pages) (post_view self.new) }
+    {
+        let board = self.board.board();
+        self.seat.read_slots(board, pages);
+        self.seat.hot_slots(board)
     }
 }

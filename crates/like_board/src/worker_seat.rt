@@ -1,16 +1,18 @@
-ghost use Rattle.std.specs.Prelude.{◌≡◌, ◌≢◌, ◌<◌, ◌≤◌, [], length};
+ghost use Rattle.std.specs.Prelude.{◌≡◌, ◌≢◌, ◌<◌, ◌≤◌, true, false, [], length, slice_index};
 ghost use Rattle.std.specs.Arc.{arc_value};
 ghost use Rattle.like_core.specs.declared.view.View.TheVariants.{Worker};
-ghost use Rattle.like_limits.specs.Limits.{total_bound};
-ghost use Rattle.like_core.specs.OpeningLimits.{most_seats};
+ghost use Rattle.like_limits.specs.Limits.{hot_pages, total_bound};
+ghost use Rattle.like_core.specs.OpeningLimits.{has_slots, most_seats};
+ghost use Rattle.like_core.specs.Slots.{IsChoice};
 ghost use Rattle.like_core.specs.WorkerState.{turn_of};
 ghost use Rattle.like_core.specs.views.Layout.{word_of};
 ghost use Rattle.like_board.specs.Known.{worker_view_of};
 
 use crate::board::Board;
-use crate::layout::{MASK_WORD, PHASE_WORD, word_of};
+use crate::layout::{MASK_WORD, PHASE_WORD, slot_place, word_of};
 use crate::plays::{
-    Acknowledging, Adding, Glancing, Looking, Reading, ReadingMask, Reporting, Retiring,
+    Acknowledging, Adding, Glancing, Looking, Reading, ReadingMask, ReadingSlot, ReadingSlots,
+    Reporting, Retiring,
 };
 use crate::post::{BoardPost, PostAt, SharedPost};
 use atomic_table::Seat;
@@ -46,7 +48,7 @@ impl WorkerSeat {
     ghost use Rattle.like_core.specs.WorkerState.{IsSightOf, RunsJoined, RunsSplit, SawEnding, SeesEndingStill, phase_of, seen};
     ghost use Rattle.like_core.specs.Post.{MayAdd, MayRead, MayGlance};
     ghost use Rattle.like_core.specs.Additions.{added_to};
-    ghost use Rattle.like_core.specs.views.Views.{looked_view, answered_view, retired_view, added_view, read_view, glanced_view, masked_view};
+    ghost use Rattle.like_core.specs.views.Views.{looked_view, answered_view, retired_view, added_view, read_view, glanced_view, masked_view, slotted_view, slots_read, MayReadSlot, MayReadSlots};
     ghost use Rattle.like_core.specs.views.Actions.{Looks, Acknowledges, Reports, Retires, Adds, Reads, Glances, ReadsMask};
     ghost use Rattle.like_board.specs.Seats.{board_id, seat_board, seat_view, seat_meaning, post_board, post_view, post_meaning};
 
@@ -180,6 +182,7 @@ impl WorkerSeat {
     pub(crate) fn hot(&mut self, board: &Board) -> u64
         requires here { seat_board self.old ≡ board_id board.now }
         requires runs { RunsSplit (seat_view self.old).state }
+        requires plain { has_slots (seat_view self.old).opening.limits ≡ false }
         ensures board { seat_board self.new ≡ seat_board self.old }
         ensures view { seat_view self.new ≡ masked_view (seat_view self.old) result }
         ensures event { ReadsMask (seat_view self.old) result (seat_view self.new) }
@@ -188,5 +191,47 @@ impl WorkerSeat {
             .table
             .shared
             .load::<ReadingMask>(&mut self.seat, MASK_WORD)
+    }
+
+    /// The page that a slot holds in the split phase that the worker runs.
+    pub(crate) fn slot(&mut self, board: &Board, slot: u32) -> u32
+        requires here { seat_board self.old ≡ board_id board.now }
+        requires may { MayReadSlot (seat_view self.old) slot }
+        ensures board { seat_board self.new ≡ seat_board self.old }
+        ensures view { seat_view self.new ≡ slotted_view (seat_view self.old) slot result }
+    {
+        let word = slot_place(slot);
+        board.table.shared.load::<ReadingSlot>(&mut self.seat, word) as u32
+    }
+
+    /// The pages that the slots hold, each by its slot.
+    pub(crate) fn read_slots(&mut self, board: &Board, pages: &mut [u32])
+        requires here { seat_board self.old ≡ board_id board.now }
+        requires split { RunsSplit (seat_view self.old).state }
+        requires slotted { has_slots (seat_view self.old).opening.limits ≡ true }
+        requires places { length pages.old ≡ hot_pages }
+        ensures board { seat_board self.new ≡ seat_board self.old }
+        ensures view { seat_view self.new ≡ record (seat_view self.old) { slots = pages.new } }
+        ensures places { length pages.new ≡ hot_pages }
+    {
+        for (slot, page) in pages.iter_mut().enumerate() {
+            *page = self.slot(board, slot as u32);
+        }
+    }
+
+    /// Which slots are in use, by bits, once the worker has read them all.
+    pub(crate) fn hot_slots(&mut self, board: &Board) -> u64
+        requires here { seat_board self.old ≡ board_id board.now }
+        requires may { MayReadSlots (seat_view self.old) }
+        ensures board { seat_board self.new ≡ seat_board self.old }
+        ensures view { let v = seat_view self.old in seat_view self.new ≡ masked_view v (slots_read v result) }
+        ensures choice { let v = seat_view self.old in
+            IsChoice v.opening.factor (length v.opening.marks) (slice_index v.slots) result }
+        ensures event { let v = seat_view self.old in ReadsMask v (slots_read v result) (seat_view self.new) }
+    {
+        board
+            .table
+            .shared
+            .load::<ReadingSlots>(&mut self.seat, MASK_WORD)
     }
 }

@@ -6,4 +6,5 @@ pub mod core
 pub mod Times
 pub mod Below
 pub mod PhaseMasks
+pub mod Slots
 pub mod views

@@ -1,12 +1,13 @@
 -- Masks of hot pages by phase.
-use Rattle.std.proofs.Common.{◌≡◌, ℕ, ◌%◌, ◌<◌, ◌==◌, Bool, true, false, ◌&&◌, ◌||◌, inl, inr, List, [], ◌∷◌, ◌++◌, append_assoc, subst, ap, sym, ◌∙◌, refl, eq-eqb, arith}
+use Rattle.std.proofs.Common.{◌≡◌, ℕ, ◌%◌, ◌^◌, ◌<◌, ◌≤◌, ◌==◌, nat_lt, Bool, true, false, ◌&&◌, ◌||◌, inl, inr, List, [], ◌∷◌, ◌++◌, append_assoc, subst, ap, sym, ◌∙◌, refl, eq-eqb, arith}
 use Rattle.std.specs.List.{list_any}
-use Rattle.std.proofs.lemmas.Bool.{cases_eq, cases_lt, cond-true, ne_eqb, le-ltb}
+use Rattle.std.proofs.lemmas.Bool.{cases_eq, cases_lt, cond-true, ne_eqb, le-ltb, lt-ltb}
+use Rattle.std.proofs.lemmas.Nat.Bits.{bit_at_above}
 use Rattle.std.proofs.lemmas.List.Elements.{All-tail}
 use Rattle.like_core.specs.declared.view.PhaseMask.{PhaseMask}
 use Rattle.like_limits.specs.Limits.{hot_pages}
 use Rattle.like_core.specs.Functions.{has_bit}
-use Rattle.like_core.specs.Phase.{IsSplit, is_hot, split}
+use Rattle.like_core.specs.Phase.{IsSplit, is_hot, is_hot_by, split_by}
 use Rattle.like_core.specs.PhaseMasks.{mask_of, HasMask, AreMasksOf, KeepsMasks}
 use Rattle.like_core.proofs.Updates.{update-other}
 
@@ -28,25 +29,25 @@ mask_of-right hot (m ∷ masks) phase right has = elim (cases_eq phase m.phase) 
 ]
 
 -- a page is split as the right masks say, where the list has the phase's mask wherever that is asked
-pub split-known : (marked : ℕ → Bool) (hot : ℕ → ℕ) (masks : List PhaseMask) (phase page : ℕ)
+pub split-known : (bound : ℕ) (marked : ℕ → Bool) (hot : ℕ → ℕ) (masks : List PhaseMask) (phase page : ℕ)
     → AreMasksOf hot masks
-    → (IsSplit phase → marked page ≡ false → page < hot_pages → HasMask phase masks)
-    → split marked hot phase page ≡ split marked (mask_of masks) phase page
-split-known marked hot masks phase page right knows = elim (cases_eq (phase % 2) 1) [
+    → (IsSplit phase → marked page ≡ false → page < bound → HasMask phase masks)
+    → split_by bound marked hot phase page ≡ split_by bound marked (mask_of masks) phase page
+split-known bound marked hot masks phase page right knows = elim (cases_eq (phase % 2) 1) [
   | inl odd ↦ ap (λ (b : Bool). (phase % 2 == 1) && b) (marked_or (marked page) (knows odd))
   | inr even ↦
       let none : (phase % 2 == 1) ≡ false = ne_eqb (phase % 2) 1 even in
-      (λ m. none m && (marked page || is_hot (hot phase) page)) ∙
-      sym (λ m. none m && (marked page || is_hot (mask_of masks phase) page))
+      (λ m. none m && (marked page || is_hot_by bound (hot phase) page)) ∙
+      sym (λ m. none m && (marked page || is_hot_by bound (mask_of masks phase) page))
 ]
   where
-    marked_or : (b : Bool) → (b ≡ false → page < hot_pages → HasMask phase masks)
-        → (b || is_hot (hot phase) page) ≡ (b || is_hot (mask_of masks phase) page)
+    marked_or : (b : Bool) → (b ≡ false → page < bound → HasMask phase masks)
+        → (b || is_hot_by bound (hot phase) page) ≡ (b || is_hot_by bound (mask_of masks phase) page)
     marked_or true asks = refl
-    marked_or false asks = elim (cases_lt page hot_pages) [
-      | inl first ↦ ap (λ n. is_hot n page) (sym (mask_of-right hot masks phase right (asks refl first)))
+    marked_or false asks = elim (cases_lt page bound) [
+      | inl first ↦ ap (λ n. is_hot_by bound n page) (sym (mask_of-right hot masks phase right (asks refl first)))
       | inr past ↦
-          let none = le-ltb page hot_pages past in
+          let none = le-ltb page bound past in
           (λ m. none m && has_bit (hot phase) page) ∙ sym (λ m. none m && has_bit (mask_of masks phase) page)
     ]
 
@@ -67,3 +68,18 @@ masks-both a b c first then_keeps = (
   then_keeps.0 ++ first.0,
   then_keeps.1 ∙ (ap (λ (l : List PhaseMask). then_keeps.0 ++ l) first.1 ∙ sym (append_assoc then_keeps.0 first.0 a)),
 )
+
+-- a mask of 64 bits has none of a later page, so the first 64 pages alone can be hot by it
+pub is_hot-narrow : (bound mask page : ℕ) → hot_pages ≤ bound → mask < 2 ^ 64 → is_hot mask page ≡ is_hot_by bound mask page
+is_hot-narrow bound mask page room narrow = elim (cases_lt page hot_pages) [
+  | inl first ↦
+      let in_run = lt-ltb page hot_pages first in
+      let in_all = lt-ltb page bound (omega arith) in
+      (λ m. in_run m && has_bit mask page) ∙ sym (λ m. in_all m && has_bit mask page)
+  | inr past ↦
+      let none : has_bit mask page ≡ false = ap (λ b. b == 1) (bit_at_above mask 64 page narrow past) in
+      let in_run = le-ltb page hot_pages past in
+      let P : Bool → Type 0 = λ b. false ≡ (b && has_bit mask page) in
+      let not_in_all : P (nat_lt page bound) = elim (nat_lt page bound) as P [ true ↦ sym none | false ↦ refl ] in
+      (λ m. in_run m && has_bit mask page) ∙ not_in_all
+]

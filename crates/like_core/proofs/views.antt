@@ -4,4 +4,6 @@ pub mod ViewLists
 pub mod KeptReads
 pub mod KeptPlaces
 pub mod Apart
+pub mod Chosen
+pub mod SplitPages
 pub mod Ends

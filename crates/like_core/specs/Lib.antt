@@ -3,6 +3,7 @@ pub mod word
 pub mod Phase
 pub mod OpeningLimits
 pub mod Functions
+pub mod Slots
 pub mod WorkerState
 pub mod PhaseMasks
 pub mod core

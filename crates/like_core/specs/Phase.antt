@@ -18,11 +18,20 @@ IsSplit phase = phase % 2 ≡ 1
 abbrev pub is_marked : List Bool → ℕ → Bool
 is_marked marks page = slice_index_or marks page false
 
--- whether a page is hot by a mask: it is one of the first 64, and its bit is set
-abbrev pub is_hot : ℕ → ℕ → Bool
-is_hot mask page = nat_lt page hot_pages && has_bit mask page
+-- whether a page is hot by a mask, where those below a bound may be: its bit is set
+abbrev pub is_hot_by : ℕ → ℕ → ℕ → Bool
+is_hot_by bound mask page = nat_lt page bound && has_bit mask page
 
--- whether a page is split in a phase: `marked` says which pages are marked as split, and `hot` is each phase's mask of
--- hot pages
+-- whether a page is hot by a mask in a run, where the first 64 may be
+abbrev pub is_hot : ℕ → ℕ → Bool
+is_hot mask page = is_hot_by hot_pages mask page
+
+-- whether a page is split in a phase, where those below a bound may be hot: `marked` says which pages are marked as
+-- split, and `hot` is each phase's mask of hot pages
+abbrev pub split_by : ℕ → (ℕ → Bool) → (ℕ → ℕ) → ℕ → ℕ → Bool
+split_by bound marked hot phase page =
+    (phase % 2 == 1) && (marked page || is_hot_by bound (hot phase) page)
+
+-- whether a page is split in a phase of a run, where the first 64 may be hot
 abbrev pub split : (ℕ → Bool) → (ℕ → ℕ) → ℕ → ℕ → Bool
-split marked hot phase page = (phase % 2 == 1) && (marked page || is_hot (hot phase) page)
+split marked hot phase page = split_by hot_pages marked hot phase page

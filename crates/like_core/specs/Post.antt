@@ -7,9 +7,8 @@ use Rattle.like_core.specs.declared.view.Addition.{Addition}
 use Rattle.like_core.specs.declared.view.Look.{Look}
 use Rattle.like_core.specs.declared.view.PageRead.{PageRead}
 use Rattle.like_core.specs.declared.view.PhaseMask.{PhaseMask}
-use Rattle.like_limits.specs.Limits.{hot_pages}
 use Rattle.like_core.specs.Additions.{addition, look_after, all_added, added_to, added_in, page_read}
-use Rattle.like_core.specs.Phase.{IsSplit, is_marked, split}
+use Rattle.like_core.specs.Phase.{IsSplit, is_marked, split_by}
 use Rattle.like_core.specs.PhaseMasks.{mask_of, HasMask}
 use Rattle.like_core.specs.WorkerState.{IsRunning, SawEnding, phase_of, seen}
 
@@ -21,6 +20,8 @@ pub record PostView : Type 0 where
   -- whether each page of the board is marked as split
   pub marks : List Bool
   pub limits : Limits
+  -- the factor of the buckets of its pages
+  pub factor : ℕ
   -- the worker's state
   pub state : WorkerState
   -- its last sight, if it looked, and all its looks, in order, each with how much it had done before
@@ -58,13 +59,13 @@ pub record IsFresh (v : PostView) : Type 0 where
 
 -- whether the page is sliced in the post's phase
 abbrev pub slices : PostView → ℕ → Bool
-slices v page = split (is_marked v.marks) (mask_of v.masks) (phase_of v.state) page
+slices v page = split_by v.limits.hot (is_marked v.marks) (mask_of v.masks) (phase_of v.state) page
 
--- the post knows whether the page is sliced: an unmarked page of the first 64 may be hot in a split phase, so there the
+-- the post knows whether the page is sliced: an unmarked page that may be hot may be so in a split phase, so there the
 -- post has read the phase's mask
 abbrev pub KnowsSlices : PostView → ℕ → Type 0
 KnowsSlices v page =
-    IsSplit (phase_of v.state) → is_marked v.marks page ≡ false → page < hot_pages
+    IsSplit (phase_of v.state) → is_marked v.marks page ≡ false → page < v.limits.hot
     → HasMask (phase_of v.state) v.masks
 
 -- the post after a look

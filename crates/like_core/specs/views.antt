@@ -6,5 +6,6 @@ pub mod Tallies
 pub mod Places
 pub mod Layout
 pub mod Shows
+pub mod SplitPages
 pub mod Serves
 pub mod Actions

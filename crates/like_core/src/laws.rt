@@ -2,9 +2,11 @@
 //! function that does nothing.
 ghost use Rattle.like_core.specs.declared.form.Form.TheVariants.{Bits, Counts};
 ghost use Rattle.like_core.specs.core.Exclusive.{ReachableIsExclusive};
+ghost use Rattle.like_core.specs.Slots.{SlotsTell};
 ghost use Rattle.like_core.specs.core.Likes.{LikesStayReachable, NoneHoldsWhileJoined};
 ghost use Rattle.like_core.specs.views.Layout.{WordsStandApart};
 ghost use Rattle.like_core.specs.views.Shows.{CountsAreOfOneMoment};
+ghost use Rattle.like_core.specs.views.SplitPages.{SlicesAreSplit, SlotsAreExact};
 ghost use Rattle.like_core.specs.views.Serves.{AllGoneCounts, AllInCounts, AnswersOne, FormServes, RetiresOne, WordTellsPhase};
 ghost use Rattle.like_core.specs.word.KindTells.{KindTellsPhase};
 ghost use Rattle.like_core.specs.views.Places.{AdditionKeepsPlaces, ReadKeepsPlaces, GlanceKeepsPlaces, JoinKeepsPlaces};
@@ -79,10 +81,27 @@ pub fn counts_are_of_one_moment()
     ensures { CountsAreOfOneMoment }
 {}
 
-/// No two pages have the same word on a board, and none has the phase word or the mask word. These two and the words of
-/// the first 64 pages have 128 bytes each to themselves, so no two of them share a cache line of 64 or 128 bytes.
+/// No two pages have the same word on a board, and none has the phase word, the mask word or that of a slot. The first
+/// two and the words of the first 64 pages have 128 bytes each to themselves, so no two of them share a cache line of 64
+/// or 128 bytes.
 pub fn words_stand_apart()
     ensures { WordsStandApart }
+{}
+
+/// A mask of slots has the bit of a page just where a slot in use holds the page.
+pub fn slots_tell()
+    ensures { SlotsTell }
+{}
+
+/// In a split phase of a service the split pages are those in the slots in use. These are pages of the service, and no
+/// two are alike or share a bucket.
+pub fn slots_are_exact()
+    ensures { SlotsAreExact }
+{}
+
+/// What a worker slices in a phase that it runs is what is split in it.
+pub fn slices_are_split()
+    ensures { SlicesAreSplit }
 {}
 
 /// The word of a program serves: it has a place for each phase and two bits for each worker.

@@ -16,6 +16,7 @@ mod post;
 mod pure_core;
 mod shown;
 mod sight;
+mod slot_post;
 mod view;
 mod worker_state;
 
@@ -29,6 +30,7 @@ pub use post::Post;
 pub use pure_core::{Core, NotNow, Wrong, check_events};
 pub use shown::Shown;
 pub use sight::{CoordSight, Sight};
+pub use slot_post::SlotPost;
 pub use view::{
     Addition, CoordSeatView, Look, PageCount, PageRead, PhaseMask, View, WorkerSeatView,
 };

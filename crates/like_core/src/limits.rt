@@ -13,6 +13,8 @@ pub struct Limits {
     pub likes: u64,
     /// The most pages.
     pub pages: u32,
+    /// How many pages may be hot: the first ones.
+    pub hot: u32,
     /// The most workers.
     pub seats: u32,
     /// The form of the phase word.
@@ -29,6 +31,7 @@ impl Limits {
             last_phase: u64::from(LAST_PHASE),
             likes: 64_000_000,
             pages: 1_024,
+            hot: 64,
             seats: 16,
             form: Form::Bits,
         }
@@ -43,6 +46,7 @@ impl Limits {
             last_phase: (1 << 48) - 2,
             likes: 1 << 56,
             pages: 1 << 24,
+            hot: 1 << 24,
             seats: 64,
             form: Form::Counts,
         }

@@ -1,6 +1,7 @@
-ghost use Rattle.std.specs.Prelude.{◌≡◌, ◌≢◌, ◌<◌, ◌≤◌, true};
+ghost use Rattle.std.specs.Prelude.{◌≡◌, ◌≢◌, ◌<◌, ◌≤◌, true, false};
 ghost use Rattle.like_core.specs.declared.worker_state.WorkerState.TheVariants.{Gone};
 ghost use Rattle.like_limits.specs.Limits.{total_bound};
+ghost use Rattle.like_core.specs.OpeningLimits.{has_slots};
 ghost use Rattle.like_core.specs.WorkerState.{RunsJoined, RunsSplit, SawEnding, IsSightOf, SeesEndingStill, phase_of, seen};
 ghost use Rattle.like_core.specs.Post.{PostView, looked_at, answered, retired, added, has_read, has_glanced, with_mask, additions_of, MayAdd, MayRead, MayGlance};
 
@@ -60,8 +61,10 @@ pub trait Post {
         ensures own { additions_of (view self.old) page ≤ result }
         ensures bounded { result < total_bound };
 
-    /// The mask of the hot pages of the split phase that the worker runs: bit `p` is that of page `p`.
+    /// The mask of the hot pages of the split phase that the worker runs: bit `p` is that of page `p`. A board with slots
+    /// has no such mask.
     fn hot(&mut self) -> u64
-        requires { RunsSplit (view self.old).state }
+        requires split { RunsSplit (view self.old).state }
+        requires plain { has_slots (view self.old).limits ≡ false }
         ensures { view self.new ≡ with_mask (view self.old) result };
 }

@@ -58,6 +58,8 @@ pub struct WorkerSeatView {
     pub glances: LinkedList<PageRead>,
     /// The masks that it read, the latest first.
     pub masks: LinkedList<PhaseMask>,
+    /// The pages of the first slots, as it read them in its split phase.
+    pub slots: LinkedList<u32>,
 }
 
 /// What the coordinator's seat knows.
@@ -83,6 +85,8 @@ pub struct CoordSeatView {
     pub published: Option<u64>,
     /// The masks with which it released phases, the latest first.
     pub masks: LinkedList<PhaseMask>,
+    /// The page that it put last into each slot.
+    pub slots: LinkedList<u32>,
     /// What the workers' seats knew that were given back.
     pub joined: LinkedList<WorkerSeatView>,
 }

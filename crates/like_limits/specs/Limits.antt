@@ -41,7 +41,7 @@ max_count = 10 ^ 18
 abbrev pub total_bound : ℕ
 total_bound = 2 ^ 63
 
--- how many pages can be hot: the first ones
+-- how many pages can be hot at a time; in a run these are the first ones
 abbrev pub hot_pages : ℕ
 hot_pages = 64
 

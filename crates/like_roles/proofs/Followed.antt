@@ -19,7 +19,8 @@ use Rattle.like_core.specs.declared.view.Addition.{Addition}
 use Rattle.like_core.specs.declared.view.PhaseMask.{PhaseMask}
 use Rattle.like_core.specs.PhaseMasks.{AreMasksOf}
 use Rattle.like_core.proofs.PhaseMasks.{masks-before, split-known}
-use Rattle.like_core.specs.Phase.{IsJoined, IsSplit, split}
+use Rattle.like_core.specs.declared.limits.Limits.{Limits}
+use Rattle.like_core.specs.Phase.{IsJoined, IsSplit, split, split_by}
 use Rattle.like_core.specs.WorkerState.{IsRunning, RunsJoined, RunsSplit, RunsSome, phase_of, seen}
 use Rattle.like_core.specs.Post.{additions_in, answered, looked_at, pages_of, slices}
 use Rattle.like_tables.specs.declared.held.Held.{Held}
@@ -86,7 +87,8 @@ slices-alike : (service : Service) (v : WorkerView)
     → is_split_in service (phase_at v) page ≡ slices v.post page
 slices-alike service v s run has page =
     ap (λ xs. split (λ p. get_or xs p false) service.hot (phase_at v) page) s.marks_alike
-    ∙ split-known (λ p. get_or v.post.marks p false) service.hot v.post.masks (phase_at v) page s.hot_alike
+    ∙ ap (λ (l : Limits). split_by l.hot (λ p. get_or v.post.marks p false) service.hot (phase_at v) page) (sym s.run)
+    ∙ split-known v.post.limits.hot (λ p. get_or v.post.marks p false) service.hot v.post.masks (phase_at v) page s.hot_alike
     (λ odd _ _. has (runs-split v.post.state run odd))
 
 -- what a run does to a worker that follows the plans, where the order after it is known
@@ -132,6 +134,7 @@ follows-run service v after h stashed run here none served sized t was un has as
             done.0.marks_alike;
         hot_alike = done.0.hot_alike;
         stash_alike = done.0.stash_alike;
+        run = done.0.run;
       },
       record { slice = done.1.slice; users = done.1.users },
       done.2,
@@ -243,6 +246,7 @@ follows-saw service v sight masks right f kept here none = record {
         f.served.marks_alike;
     hot_alike = right;
     stash_alike = f.served.stash_alike;
+    run = f.served.run;
   };
   sized = record { slice = f.sized.slice; users = f.sized.users };
   tallied = record {
@@ -291,6 +295,7 @@ follows-held service v first rest after none f kept j e run =
           f.served.marks_alike;
       hot_alike = f.served.hot_alike;
       stash_alike = f.served.stash_alike;
+      run = f.served.run;
     })
     (record { slice = f.sized.slice; users = f.sized.users })
     (record {
@@ -334,6 +339,7 @@ follows-trying service v place f run empty =
           f.served.marks_alike;
       hot_alike = f.served.hot_alike;
       stash_alike = f.served.stash_alike;
+      run = f.served.run;
     })
     (record { slice = f.sized.slice; users = f.sized.users })
     (record {
@@ -368,6 +374,7 @@ follows-answered service v P f run none empty =
             f.served.marks_alike;
         hot_alike = f.served.hot_alike;
         stash_alike = f.served.stash_alike;
+        run = f.served.run;
       };
       sized = record { slice = f.sized.slice; users = f.sized.users };
       tallied = record {
@@ -418,6 +425,7 @@ follows-reported service v adds merges f run none kept has =
             f.served.marks_alike;
         hot_alike = f.served.hot_alike;
         stash_alike = f.served.stash_alike;
+        run = f.served.run;
       };
       sized = record { slice = length-replicate (pages_of v.post) 0; users = f.sized.users };
       tallied = record {
@@ -466,6 +474,7 @@ follows-works service v ending answer after none f kept has (turns.retires j e e
             f.served.marks_alike;
         hot_alike = f.served.hot_alike;
         stash_alike = f.served.stash_alike;
+        run = f.served.run;
       };
       sized = record { slice = f.sized.slice; users = f.sized.users };
       tallied = record {
@@ -543,6 +552,7 @@ follows-settled service v f = record {
         f.served.marks_alike;
     hot_alike = f.served.hot_alike;
     stash_alike = f.served.stash_alike;
+    run = f.served.run;
   };
   sized = record { slice = f.sized.slice; users = f.sized.users };
   tallied = record {
@@ -594,8 +604,10 @@ waits-alike service v submitter number r asked s run has =
     ∙ ap (λ m. is_look_at_sliced v.last.share.users m (is_split_in service (phase_at v)) submitter r) s.submitters_alike
     ∙ ap (λ xs. is_look_at_sliced v.last.share.users v.last.share.submitters
     (λ page. split (λ p. get_or xs p false) service.hot (phase_at v) page) submitter r) s.marks_alike
+    ∙ ap (λ (l : Limits). is_look_at_sliced v.last.share.users v.last.share.submitters
+    (λ page. split_by l.hot (λ p. get_or v.post.marks p false) service.hot (phase_at v) page) submitter r) (sym s.run)
     ∙ (λ m. is_look_at_sliced v.last.share.users v.last.share.submitters
-    (λ page. split-known (λ p. get_or v.post.marks p false) service.hot v.post.masks (phase_at v) page s.hot_alike
+    (λ page. split-known v.post.limits.hot (λ p. get_or v.post.marks p false) service.hot v.post.masks (phase_at v) page s.hot_alike
     (λ odd _ _. has (runs-split v.post.state run odd)) m) submitter r)
 
 -- the slice has nothing of the page of a look that need not wait
@@ -677,6 +689,7 @@ follows-takes service v place ask answer after none f kept has run empty asked t
           f.served.marks_alike;
       hot_alike = f.served.hot_alike;
       stash_alike = f.served.stash_alike;
+      run = f.served.run;
     })
     (record { slice = f.sized.slice; users = f.sized.users })
     (record {
@@ -727,6 +740,7 @@ follows-takes service v place ask answer after none f kept has run empty asked t
           f.served.marks_alike;
       hot_alike = f.served.hot_alike;
       stash_alike = f.served.stash_alike;
+      run = f.served.run;
     })
     (record { slice = f.sized.slice; users = f.sized.users })
     (record {
@@ -778,6 +792,7 @@ follows-give service v took answer after can asked kept has room (turns.ends pla
           f.served.marks_alike;
       hot_alike = f.served.hot_alike;
       stash_alike = f.served.stash_alike;
+      run = f.served.run;
     })
     (record { slice = f.sized.slice; users = f.sized.users })
     (record {

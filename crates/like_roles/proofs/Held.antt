@@ -216,7 +216,7 @@ waits-split post users submitters submitter r waits is h =
     of_page (page_looked_at r.op r.page) (and_parts (is_accepted users submitters submitter r) _ (sym is ∙ h)).1 where
       of_page : (o : Option ℕ) → option_map_or (slices post) o false ≡ true → IsSplit (phase_of post.state)
       of_page None e = cc
-      of_page (Some page) e = split-IsSplit (is_marked post.marks) (mask_of post.masks) (phase_of post.state) page e
+      of_page (Some page) e = split-IsSplit post.limits.hot (is_marked post.marks) (mask_of post.masks) (phase_of post.state) page e
 
 -- the submitter at a place is one of the worker's
 pub place-served : (worker workers place : ℕ) → worker < workers → (worker + workers * place) % workers ≡ worker

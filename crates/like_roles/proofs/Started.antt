@@ -60,6 +60,7 @@ follows-new s sizes worker post notes v service p new same =
         marks_alike = sym marks_are;
         hot_alike = subst (AreMasksOf service.hot) (sym masks) (All-nil (λ m. m.mask ≡ service.hot m.phase));
         stash_alike = same.stash_is ∙ sym (ap (λ x. x.capacity) new.held);
+        run = ap (λ x. x.limits) new.at_post ∙ p.limits;
       };
       sized = record {
         slice = ap length new.slice ∙ length-replicate (length s.pages) 0 ∙ sym pages;

@@ -67,6 +67,7 @@ fn choose(lead: &mut Lead, choices: &mut Choices, board: &Board, phase: u32)
     requires here { lead.old.board ≡ board_id board.now }
     requires saw { SawAllIn lead.old.seat }
     requires joined { IsJoined lead.old.seat.phase }
+    requires run { lead.old.seat.opening.limits ≡ run_limits }
     requires phase { phase ≡ lead.old.seat.phase }
     requires within { phase ≤ last_phase }
     ensures board { lead.new.board ≡ lead.old.board }
@@ -83,6 +84,7 @@ fn choose(lead: &mut Lead, choices: &mut Choices, board: &Board, phase: u32)
 fn release(lead: &mut Lead, choices: &mut Choices, board: &Board, phase: u32)
     requires here { lead.old.board ≡ board_id board.now }
     requires saw { SawAllIn lead.old.seat }
+    requires run { lead.old.seat.opening.limits ≡ run_limits }
     requires phase { phase ≡ lead.old.seat.phase }
     requires within { phase ≤ last_phase }
     ensures board { lead.new.board ≡ lead.old.board }

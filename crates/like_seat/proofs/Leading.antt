@@ -1,8 +1,9 @@
 -- What a lead reads and chooses.
-use Rattle.std.proofs.Common.{◌≡◌, ℕ, suc, ◌+◌, ◌-◌, ◌*◌, ◌%◌, ◌^◌, ◌<◌, ◌≤◌, Bool, leb, List, [], ◌∷◌, ◌++◌, length, get_or, set, refl, sym, ap, ◌∙◌, arith, add-zero, one-mul}
+use Rattle.std.proofs.Common.{◌≡◌, ℕ, suc, ◌+◌, ◌-◌, ◌*◌, ◌%◌, ◌^◌, ◌<◌, ◌≤◌, Bool, false, leb, List, [], ◌∷◌, ◌++◌, length, get_or, set, refl, sym, ap, ◌∙◌, arith, add-zero, one-mul}
 use Rattle.std.proofs.Math.Nat.{mod-eq_of_lt, pow-le-pow_right}
 use Rattle.std.proofs.lemmas.List.{get_or-set_other, get_or-set_same}
 use Rattle.like_core.specs.declared.view.CoordSeatView.{CoordSeatView}
+use Rattle.like_core.specs.OpeningLimits.{has_slots}
 use Rattle.like_core.specs.Phase.{IsJoined}
 use Rattle.like_core.specs.Functions.{mask, weight}
 use Rattle.like_core.specs.views.Views.{counted_coord, MayCount, MayPublish, SawAllIn}
@@ -40,12 +41,13 @@ pub may-publish : (c : CoordSeatView) (page : ℕ) (counts : List ℕ) (f : ℕ 
     → SawAllIn c
     → IsJoined c.phase
     → n ≤ length c.opening.counts
+    → has_slots c.opening.limits ≡ false
     → MayPublish (counted_from c page counts) (mask f n)
-may-publish c page [] f n saw joined there =
+may-publish c page [] f n saw joined there plain =
     let grows = pow-le-pow_right {n = 2} (omega arith) {i = n} {j = length c.opening.counts} (omega (arith, there)) in
-    (saw, joined, omega (arith, grows, mask-lt f n))
-may-publish c page (x ∷ counts) f n saw joined there =
-    may-publish (counted_coord c page x) (page + 1) counts f n saw joined there
+    (saw, joined, omega (arith, grows, mask-lt f n), plain)
+may-publish c page (x ∷ counts) f n saw joined there plain =
+    may-publish (counted_coord c page x) (page + 1) counts f n saw joined there plain
 
 -- one bit of a mask of 64
 pub bit-is : (page : ℕ) → page < 64 → 1 * 2 ^ page % 18446744073709551616 ≡ 2 ^ page

@@ -1,6 +1,6 @@
 -- How a seat is kept.
 use Rattle.std.specs.Prelude.{◌≡◌, ℕ, Bool}
-use Rattle.like_core.specs.Phase.{is_marked, split}
+use Rattle.like_core.specs.Phase.{is_marked, split_by}
 use Rattle.like_core.specs.PhaseMasks.{mask_of, HasMask}
 use Rattle.like_core.specs.Post.{PostView}
 use Rattle.like_core.specs.WorkerState.{RunsSplit, phase_of}
@@ -12,9 +12,10 @@ abbrev pub view_of : {W : Type 0} → PostView → Tables W → StationView W
 view_of post t =
     record { post = post; held = t.held; slice = t.slice; sliced = t.sliced.likes; last = t.last }
 
--- whether the page is split in the phase that the worker runs, as its tables have it
-abbrev pub is_split_by : {W : Type 0} → Tables W → ℕ → Bool
-is_split_by t page = split (is_marked t.marks.items) (λ _. t.hot) (phase_of t.state) page
+-- whether the page is split in the phase that the worker runs, as its tables have it, where the pages below a bound may
+-- be hot
+abbrev pub is_split_by : {W : Type 0} → ℕ → Tables W → ℕ → Bool
+is_split_by bound t page = split_by bound (is_marked t.marks.items) (λ _. t.hot) (phase_of t.state) page
 
 -- in a split phase its post has read the phase's mask, which is this
 abbrev pub KnowsHot : PostView → ℕ → Type 0

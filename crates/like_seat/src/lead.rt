@@ -1,7 +1,8 @@
-ghost use Rattle.std.specs.Prelude.{◌≡◌, ◌↔◌, ◌+◌, ◌%◌, ◌≤◌, ◌==◌, IfErr, IfOk, IsTrue, length, min};
+ghost use Rattle.std.specs.Prelude.{◌≡◌, ◌↔◌, ◌+◌, ◌%◌, ◌≤◌, ◌==◌, false, IfErr, IfOk, IsTrue, length, min};
 ghost use Rattle.like_board.specs.Seats.{board_id, coord_board, coord_view};
 ghost use Rattle.like_limits.specs.Limits.{hot_pages};
 ghost use Rattle.like_core.specs.declared.view.View.TheVariants.{Coord};
+ghost use Rattle.like_core.specs.OpeningLimits.{has_slots};
 ghost use Rattle.like_core.specs.Phase.{IsJoined};
 ghost use Rattle.like_core.specs.views.Shows.{IsKnown};
 ghost use Rattle.like_core.specs.views.Views.{MayAnnounce, MayPublish, MayRelease, SawAllIn};
@@ -133,6 +134,7 @@ impl Lead {
         requires here { self.old.board ≡ board_id board.now }
         requires saw { SawAllIn self.old.seat }
         requires joined { IsJoined self.old.seat.phase }
+        requires plain { has_slots self.old.seat.opening.limits ≡ false }
         ensures chooses { ChoosesRisen self.old result self.new }
         ensures few { length self.new.before ≡ min hot_pages (length self.new.seat.opening.counts) }
         ensures may { MayPublish self.new.seat result }

@@ -1,5 +1,6 @@
-ghost use Rattle.std.specs.Prelude.{◌≡◌, ◌^◌, ◌<◌, ◌≤◌, [], IfOk, length, replicate};
-ghost use Rattle.like_limits.specs.Limits.{max_stash};
+ghost use Rattle.std.specs.Prelude.{◌≡◌, ◌^◌, ◌<◌, ◌≤◌, ℕ, false, [], IfOk, length, replicate};
+ghost use Rattle.like_limits.specs.Limits.{hot_pages, max_stash};
+ghost use Rattle.like_core.specs.OpeningLimits.{has_slots};
 ghost use Rattle.like_core.specs.WorkerState.{phase_of};
 ghost use Rattle.like_core.specs.declared.worker_state.WorkerState.TheVariants.{Runs};
 ghost use Rattle.like_seat.specs.Kept.{is_split_by};
@@ -68,7 +69,8 @@ impl<W: Copy> Tables<W> {
     #[cold]
     #[inline(never)]
     pub fn enter<P: Post>(&mut self, post: &mut P, phase: u64)
-        requires { (P.view post.old).state ≡ Runs phase }
+        requires runs { (P.view post.old).state ≡ Runs phase }
+        requires plain { has_slots (P.view post.old).limits ≡ false }
         ensures post { P.view post.new ≡ record (P.view post.old) {
           masks = masks_entered (P.view post.old).masks phase self.new.hot;
         } }
@@ -95,7 +97,7 @@ impl<W: Copy> Tables<W> {
     #[inline(always)]
     pub fn is_sliced(&self, page: u32) -> bool
         requires { page < length self.now.marks.items }
-        ensures { result ≡ is_split_by self.now page }
+        ensures { (bound : ℕ) → hot_pages ≤ bound → result ≡ is_split_by bound self.now page }
     {
         self.phase() % 2 == 1 && (self.marks[page as usize] || is_hot(self.hot, page))
     }

@@ -24,8 +24,7 @@ use Rattle.like_core.specs.core.Table.{Permits}
 use Rattle.like_core.specs.core.State.{CoreState, numbers}
 use Rattle.like_core.specs.word.ShownWord.{shown_word}
 use Rattle.like_core.specs.views.Views.{looked_coord, announced_coord, released_coord, mask_released, saw_all_gone, SawAllIn, MayAnnounce, MayRelease}
-use Rattle.like_core.specs.views.Layout.{mask_place}
-use Rattle.like_core.specs.views.Shows.{Shows, ShowsSome, FitsWorker, FitsCoord, IsStep}
+use Rattle.like_core.specs.views.Shows.{Shows, ShowsSome, FitsWorker, FitsCoord, IsStep, mask_in}
 use Rattle.like_core.proofs.Updates.{update-same, update-other}
 use Rattle.like_core.proofs.core.Reached.{goes_on_by}
 use Rattle.like_core.proofs.core.InPhase.{reached_in_phase}
@@ -35,7 +34,7 @@ use Rattle.like_board.specs.Plays.{Surveyed, coord_sight_at}
 use Rattle.like_board.proofs.worker.Moves.{moment_of, if_some}
 use Rattle.like_board.proofs.Tallying.{tallied_on}
 use Rattle.like_board.proofs.coordinator.Fitting.{same_seats}
-use Rattle.like_board.proofs.coordinator.Leads.{phased, of_coord, leads_word}
+use Rattle.like_board.proofs.coordinator.Leads.{phased, of_coord, choice_same, choice_forgot, leads_word}
 use Rattle.like_board.proofs.worker.WorkerSteps.{added_word, running_is}
 
 -- a look of the coordinator is the event
@@ -74,7 +73,8 @@ surveys z words views place c some_state at =
     in
     let after_it : Shows z s (set words 0 found) (set views place (Coord d)) =
     leads_word z s words views place c d s.phase s.ending s.hot found sh at refl refl refl
-    (omega arith) sh.board.phase sh.board.mask tt fits (λ v f. f)
+    (omega arith) sh.board.phase sh.board.mask sh.board.chosen
+    (choice_forgot z words views c d refl (of_coord z s words views place c sh at).0) fits (λ v f. f)
     in
     let permits : Permits (numbers z s) CoordLook = record { there = tt; suits = tt; leaves_last = tt; room = tt } in (
       record {
@@ -151,6 +151,7 @@ announces z words views place c some_state at may =
       ending = λ _ _. refl;
       labels = f.labels;
       masks = f.masks;
+      slots = f.slots;
     }
     in
     let fits : FitsCoord z t d =
@@ -185,7 +186,11 @@ announces z words views place c some_state at may =
       | inl odd ↦ sh.board.mask (inl odd)
       | inr first ↦ let clash = first.1 in absurd (cc)
     ])
-    (of_coord z s words views place c sh at).0
+    (λ fixed. elim fixed [
+      | inl odd ↦ sh.board.chosen (inl odd)
+      | inr first ↦ let clash = first.1 in absurd (cc)
+    ])
+    (choice_same z words views c d refl (of_coord z s words views place c sh at).0)
     fits
     workers
     in (
@@ -233,8 +238,8 @@ saw_all_in z s c f saw =
       gone = λ all. ap saw_all_gone last.1 ∙ now.0.all_gone.1 all;
     }
 
--- the mask with which a phase is released has only bits of pages that exist; it is 0 for a joined phase, and the word
--- that was published for a split one
+-- the mask with which a phase is released has only bits of pages that exist; it is 0 for a joined phase, and for a
+-- split one the mask that was published, which the words tell
 record IsReleased (z : Opening) (c : CoordSeatView) (word : ℕ) : Type 0 where
   pub there : mask_released c < 2 ^ length z.counts
   pub none : IsSplit c.phase → mask_released c ≡ 0
@@ -288,8 +293,8 @@ releases z words views place c seen some_state at may seen_is =
     let old : FitsCoord z s c = sh.seats.each place (Coord c) at in
     let now : AllAreIn z s c = saw_all_in z s c old may.0 in
     let mask : ℕ = mask_released c in
-    let published = of_coord z s words views place c sh at in
-    let is : IsReleased z c (get_or words mask_place 0) = is_released z c _ may.1 old.choice.published published.0 in
+    let known = of_coord z s words views place c sh at in
+    let is : IsReleased z c (mask_in z words) = is_released z c _ may.1 old.choice.published known.0.published in
     let permits : Permits (numbers z s) (Release mask) =
     record {
       there = is.there;
@@ -320,6 +325,7 @@ releases z words views place c seen some_state at may seen_is =
             omega arith,
             before.1 ∙ sym (update-other s.hot (s.phase + 1) mask own.phase (λ next. absurd (omega arith))),
           );
+      slots = f.slots;
     }
     in
     let fits : FitsCoord z t d =
@@ -359,7 +365,14 @@ releases z words views place c seen some_state at may seen_is =
           is.word_is even ∙ sym (update-same s.hot (s.phase + 1) mask)
       | inr first ↦ let none = first.0 in absurd (omega arith)
     ])
-    published.0
+    (λ fixed. elim fixed [
+      | inl odd ↦
+          let phase = old.phase.present in
+          let even : IsJoined c.phase = omega arith in
+          known.0.chosen (may.1 even)
+      | inr first ↦ let none = first.0 in absurd (omega arith)
+    ])
+    (choice_same z words views c d refl known.0)
     fits
     workers
     in (

@@ -16,9 +16,8 @@ use Rattle.like_core.specs.declared.view.View.{View}
 use Rattle.like_core.specs.declared.view.View.TheVariants.{Coord, Worker}
 use Rattle.like_limits.specs.Limits.{max_count}
 use Rattle.like_core.specs.Functions.{update}
-use Rattle.like_core.specs.Phase.{is_marked, split}
 use Rattle.like_core.specs.core.Table.{IsShown}
-use Rattle.like_core.specs.core.State.{CoreState, Label, labelled, after, numbers}
+use Rattle.like_core.specs.core.State.{CoreState, Label, is_split_now, labelled, after, numbers}
 use Rattle.like_core.specs.core.Reachable.{Reachable, after_all}
 use Rattle.like_core.specs.WorkerState.{IsIn, phase_of}
 use Rattle.like_core.specs.Post.{PostView, MayAdd, slices}
@@ -87,6 +86,7 @@ fits_added z s v page count n rest f present = record {
   ending = f.ending;
   labels = own_labels z s v page count n f present;
   masks = f.masks;
+  slots = f.slots;
 }
 
 -- how long the lists are after the addition
@@ -243,7 +243,7 @@ adds z words views place v page n some_state at may =
     let part = sum_part (paged page) views place (Worker v) at in
     let found : get_or words (word_of page) 0 ≡ get_or z.counts page 0 + length (s.applied page) =
     sh.board.pages page on in
-    let same : split (is_marked z.marks) s.hot s.phase page ≡ slices (post_of v) page =
+    let same : is_split_now z s page ≡ slices (post_of v) page =
     slices_are z s v page old present may.known in
     let a : Adding z s i page n (likes_merged v page n) (adding v page) =
     adds_either z s i page n (slices (post_of v) page) same may.like
@@ -261,7 +261,7 @@ adds z words views place v page n some_state at may =
     let long = applied_here s i page n in
     let word_is : word ≡ get_or z.counts page 0 + length (applied_by s i page n page) = omega arith in
     let shows : Shows z t (set words (word_of page) word) (set views place (Worker w)) =
-    page_steps z s a.rest (applied_by s i page n) words views place v w page word sh at refl on word_is
+    page_steps z s a.rest (applied_by s i page n) words views place v w page word sh at refl refl on word_is
     (λ q other. applied_else s i page n q other)
     a.merged
     (others_keep s i page n)

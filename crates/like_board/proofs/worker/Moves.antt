@@ -1,11 +1,12 @@
 -- A step of one worker keeps what the board shows.
-use Rattle.std.proofs.Common.{◌≡◌, ◌≢◌, ℕ, ◌+◌, ◌<◌, ◌≤◌, ◌==◌, nat_lt, Bool, true, false, cond, inl, inr, List, [], All, length, get_or, set, Option, Some, None, IfSome, subst, ap, sym, ◌∙◌, refl, eq-eqb, arith}
+use Rattle.std.proofs.Common.{◌≡◌, ◌≢◌, ℕ, ◌+◌, ◌<◌, ◌≤◌, ◌==◌, nat_lt, Bool, true, false, cond, inl, inr, List, [], All, length, take, get_or, set, Option, Some, None, IfSome, subst, ap, sym, ◌∙◌, refl, eq-eqb, arith}
 use Rattle.std.proofs.Math.ListN.{length-set}
 use Rattle.std.proofs.lemmas.List.{get_or-set_same, get_or-set_other}
 use Rattle.std.proofs.lemmas.Bool.{cases_eq, cases_lt, le-ltb, cond-true, cond-false}
 use mathlib.Core.Option.{some, some-injective}
 use lib.ListN.{get_elem?}
 use Rattle.atomic_table.proofs.Lists.{at_set, set_else, set_here}
+use Rattle.like_limits.specs.Limits.{hot_pages}
 use Rattle.like_core.specs.declared.worker_state.WorkerState.{WorkerState}
 use Rattle.like_core.specs.declared.worker_state.WorkerState.TheVariants.{Gone}
 use Rattle.like_core.specs.declared.sight.CoordSight.{CoordSight}
@@ -23,13 +24,24 @@ use Rattle.like_core.specs.word.ShownWord.{shown_word}
 use Rattle.like_core.specs.Additions.{added_before}
 use Rattle.like_core.specs.views.Views.{seats_of}
 use Rattle.like_core.specs.views.Reads.{all_before, HaveBetween, IsCounted, ReadsFit}
-use Rattle.like_core.specs.views.Layout.{mask_place, word_of}
-use Rattle.like_core.specs.views.Shows.{IsKnown, Shows, ShowsSome, Moment, Fits, FitsWorker, FitsCoord, FixesMask}
+use Rattle.like_core.specs.views.Layout.{mask_place, slot_place, word_of}
+use Rattle.like_core.specs.views.Shows.{IsKnown, Shows, ShowsSome, Moment, Fits, FitsWorker, FitsCoord, FixesMask, IsChosen, mask_in}
 use Rattle.like_core.specs.views.Serves.{moved}
 use Rattle.like_core.proofs.Updates.{update-same, update-other, update_cases}
 use Rattle.like_core.proofs.views.KeptReads.{reads_same, counted_same}
 use Rattle.like_core.proofs.views.Apart.{word_of-past}
+use Rattle.like_core.proofs.views.Chosen.{KeepsChoice, mask_in-kept, chosen-kept}
 use Rattle.like_core.proofs.views.ViewLists.{within, sum_part, sum_two, sum_set}
+
+-- a word that is no slot's and not the mask's leaves the choice
+pub keeps_elsewhere : (words : List ℕ) (place word : ℕ)
+    → ((slot : ℕ) → slot < hot_pages → slot_place slot ≢ place)
+    → mask_place ≢ place
+    → KeepsChoice words (set words place word)
+keeps_elsewhere words place word no_slot no_mask = record {
+  slots = λ slot below. get_or-set_other words place (slot_place slot) word 0 (no_slot slot below);
+  mask = get_or-set_other words place mask_place word 0 no_mask;
+}
 
 -- the moment at which words and views show some state
 abbrev pub moment_of : (z : Opening) (words : List ℕ) (views : List View) → ShowsSome z words views → Moment z
@@ -79,6 +91,7 @@ fits_worker_moved z s i state v other f = record {
   ending = f.ending;
   labels = f.labels;
   masks = f.masks;
+  slots = f.slots;
 }
 
 -- a worker of which no seat was given back is none of those whose seats were
@@ -215,6 +228,10 @@ same_coord z s words views place c sh at =
     let inner : Coord sh.coord ≡ Coord c = some-injective (Coord sh.coord) (Coord c) same in
     (zeroth, cc)
 
+-- equal views are views of one worker
+pub worker-injective : (v w : WorkerSeatView) → Worker v ≡ Worker w → v ≡ w
+worker-injective v w same = cc
+
 -- after a worker's step, with a new view of its own that fits, the words and the views show the state after, where the
 -- words do and each view fits it that is no seat of the worker's
 pub worker_steps : (z : Opening) (s t : CoreState) (words later : List ℕ) (views : List View) (place : ℕ)
@@ -226,17 +243,19 @@ pub worker_steps : (z : Opening) (s t : CoreState) (words later : List ℕ) (vie
     → get_or later 0 0 ≡ shown_word z t
     → ((page : ℕ) → page < length z.counts
     → get_or later (word_of page) 0 ≡ get_or z.counts page 0 + length (t.applied page))
-    → get_or later mask_place 0 ≡ get_or words mask_place 0
-    → (FixesMask t.phase t.ending → get_or words mask_place 0 ≡ t.hot t.phase)
+    → KeepsChoice words later
+    → (FixesMask t.phase t.ending → mask_in z words ≡ t.hot t.phase)
+    → (FixesMask t.phase t.ending → IsChosen z words)
     → ((i : ℕ) → t.unmerged i ≡ [])
     → FitsWorker z t w
+    → w.slots ≡ take (length w.slots) sh.coord.slots
     → ((u : View) → seats_of v.worker u ≡ 0 → ((c : CoordSeatView) → u ≡ Coord c → v.worker < c.made) → Fits z s u
     → Fits z t u)
     → ReadsFit z.counts t.phase (set views place (Worker w))
     → All (IsCounted z.counts (all_before (set views place (Worker w)))) sh.coord.counted
     → Shows z t later (set views place (Worker w))
-worker_steps z s t words later views place v w sh at number width word pages same_mask mask merged fits others reads
-    counted =
+worker_steps z s t words later views place v w sh at number width word pages keeps mask chosen merged fits slots others
+    reads counted =
     let seated = has_seat z s words views place v sh at in
     let not_first : place ≢ 0 = λ zeroth.
     let here : get_elem? views 0 ≡ some (Worker v) = ap (get_elem? views) (sym zeroth) ∙ at in
@@ -249,15 +268,20 @@ worker_steps z s t words later views place v w sh at number width word pages sam
       merged = merged;
       coord = sh.coord;
       published = if_some sh.coord.published
-          (λ mask. get_or words mask_place 0 ≡ mask)
-          (λ mask. get_or later mask_place 0 ≡ mask)
-          (λ mask is. same_mask ∙ is)
+          (λ mask. mask_in z words ≡ mask)
+          (λ mask. mask_in z later ≡ mask)
+          (λ mask is. mask_in-kept z words later keeps ∙ is)
           sh.published;
+      chosen = λ some_mask. chosen-kept z words later keeps (sh.chosen some_mask);
+      slots = λ slot below. keeps.slots slot below ∙ sh.slots slot below;
+      all_slots = sh.all_slots;
+      slots_fit = sh.slots_fit;
       board = record {
         width = width ∙ sh.board.width;
         phase = word;
         pages = pages;
-        mask = λ odd. same_mask ∙ mask odd;
+        mask = λ fixed. mask_in-kept z words later keeps ∙ mask fixed;
+        chosen = λ fixed. chosen-kept z words later keeps (chosen fixed);
       };
       seats = record {
         first = set_else views place 0 (Worker w) (λ eq. not_first (sym eq)) ∙ sh.seats.first;
@@ -281,6 +305,12 @@ worker_steps z s t words later views place v w sh at number width word pages sam
         once = λ i.
             sum_set (seats_of i) views place (Worker v) (Worker w) at (ap (λ k. cond (k == i) 1 0) number) ∙
             sh.seats.once i;
+        slots = λ j u found. elim (at_set views place j (Worker w) (Worker u) found) [
+          | inl here ↦
+              subst (λ (x : WorkerSeatView). x.slots ≡ take (length x.slots) sh.coord.slots)
+              (worker-injective w u here.1) slots
+          | inr there ↦ sh.seats.slots j u there.1
+        ];
       };
       reads = record { workers = reads; coordinator = counted };
     }
@@ -289,15 +319,16 @@ worker_steps z s t words later views place v w sh at number width word pages sam
 -- views show the state after
 pub worker_moves : (z : Opening) (s : CoreState) (words : List ℕ) (views : List View) (place : ℕ) (v w : WorkerSeatView)
     (state : WorkerState) (word : ℕ)
-    → Shows z s words views
+    → (sh : Shows z s words views)
     → get_elem? views place ≡ some (Worker v)
-    → w ≡ record v { state = w.state; last = w.last; looks = w.looks }
+    → w ≡ record v { state = w.state; last = w.last; looks = w.looks; slots = w.slots }
     → word ≡ shown_word z (moved s v.worker state)
     → FitsWorker z (moved s v.worker state) w
+    → w.slots ≡ take (length w.slots) sh.coord.slots
     → (IsIn s.phase (s.state v.worker) → state ≡ s.state v.worker)
     → (IsSplit s.phase → state ≡ Gone → s.state v.worker ≡ Gone)
     → Shows z (moved s v.worker state) (set words 0 word) (set views place (Worker w))
-worker_moves z s words views place v w state word sh at rest word_is fits stays gone =
+worker_moves z s words views place v w state word sh at rest word_is fits slots stays gone =
     let wide = sh.board.width in
     let past = word_of-past (length z.counts) in
     let old : FitsWorker z s v = sh.seats.each place (Worker v) at in
@@ -307,10 +338,12 @@ worker_moves z s words views place v w state word sh at rest word_is fits stays 
     (get_or-set_same words 0 word 0 (omega arith) ∙ word_is)
     (λ page below. get_or-set_other words 0 (word_of page) word 0
     (λ eq. let far = word_of-past page in absurd (omega arith)) ∙ sh.board.pages page below)
-    (get_or-set_other words 0 mask_place word 0 (λ eq. absurd (omega arith)))
+    (keeps_elsewhere words 0 word (λ slot below eq. absurd (omega arith)) (λ eq. absurd (omega arith)))
     sh.board.mask
+    sh.board.chosen
     sh.merged
     fits
+    slots
     (λ u none seat f. fits_other z s v.worker state old.there stays gone u none seat f)
     (reads_same z.counts s.phase s.phase views place (Worker v) (Worker w) (omega arith) at
     (λ k p. ap (λ (x : WorkerSeatView). added_before k p x.additions) rest)

@@ -1,5 +1,5 @@
 -- A step on a page's word keeps what the board shows.
-use Rattle.std.proofs.Common.{◌≡◌, ◌≢◌, ℕ, ◌+◌, ◌<◌, true, inl, inr, List, [], All, length, get_or, set, ap, sym, ◌∙◌, refl, arith}
+use Rattle.std.proofs.Common.{◌≡◌, ◌≢◌, ℕ, ◌+◌, ◌<◌, ◌≤◌, true, inl, inr, List, [], All, length, take, get_or, set, subst, ap, sym, ◌∙◌, refl, arith}
 use Rattle.std.proofs.Math.ListN.{length-set}
 use Rattle.std.proofs.lemmas.List.{get_or-set_same, get_or-set_other}
 use Rattle.std.proofs.lemmas.Bool.{cases_eq}
@@ -12,28 +12,28 @@ use Rattle.like_core.specs.declared.view.CoordSeatView.{CoordSeatView}
 use Rattle.like_core.specs.declared.view.View.{View}
 use Rattle.like_core.specs.declared.view.View.TheVariants.{Coord, Worker, Spent}
 use Rattle.like_core.specs.core.Numbers.{CoordSees}
-use Rattle.like_core.specs.Phase.{is_marked, split}
+use Rattle.like_core.specs.Phase.{is_marked, split_by}
 use Rattle.like_core.specs.WorkerState.{phase_of}
 use Rattle.like_core.specs.Post.{slices, KnowsSlices}
-use Rattle.like_core.specs.core.State.{CoreState, Label, labelled, numbers}
+use Rattle.like_core.specs.core.State.{CoreState, Label, is_split_now, labelled, numbers}
 use Rattle.like_core.specs.word.ShownWord.{shown_word}
 use Rattle.like_core.specs.views.Views.{post_of, seats_of}
 use Rattle.like_core.specs.views.Reads.{all_before, IsCounted, ReadsFit}
-use Rattle.like_core.specs.views.Layout.{mask_place, word_of}
+use Rattle.like_core.specs.views.Layout.{word_of}
 use Rattle.like_core.specs.views.Shows.{Shows, Fits, FitsWorker}
 use Rattle.like_core.proofs.PhaseMasks.{split-known}
 use Rattle.like_core.proofs.views.Apart.{word_of-past, word_of-order, word_of-injective}
-use Rattle.like_board.proofs.worker.Moves.{if_some, joined_other, worker_other, worker_steps}
+use Rattle.like_board.proofs.worker.Moves.{if_some, keeps_elsewhere, joined_other, worker_other, worker_steps}
 
 -- what the post knows of slices is what is split in the state
 pub slices_are : (z : Opening) (s : CoreState) (v : WorkerSeatView) (page : ℕ)
     → FitsWorker z s v
     → phase_of v.state ≡ s.phase
     → KnowsSlices (post_of v) page
-    → split (is_marked z.marks) s.hot s.phase page ≡ slices (post_of v) page
+    → is_split_now z s page ≡ slices (post_of v) page
 slices_are z s v page f present knows =
-    sym (λ m. split (is_marked (f.opening m).marks) s.hot (present m) page) ∙
-    split-known (is_marked v.opening.marks) s.hot v.masks (phase_of v.state) page
+    sym (λ m. split_by (f.opening m).limits.hot (is_marked (f.opening m).marks) s.hot (present m) page) ∙
+    split-known v.opening.limits.hot (is_marked v.opening.marks) s.hot v.masks (phase_of v.state) page
     (λ i d inside. (f.masks i d inside).1) knows
 
 -- the state with these unmerged and applied likes
@@ -60,6 +60,7 @@ fits_worker_else z s unmerged applied i v keeps other f = record {
   ending = f.ending;
   labels = λ phase page. keeps v.worker phase page other ∙ f.labels phase page;
   masks = f.masks;
+  slots = f.slots;
 }
 
 -- the view of another seat keeps fitting
@@ -116,6 +117,7 @@ pub page_steps : (z : Opening) (s : CoreState) (unmerged : ℕ → List ℕ) (ap
     → (sh : Shows z s words views)
     → get_elem? views place ≡ some (Worker v)
     → w.worker ≡ v.worker
+    → w.slots ≡ v.slots
     → page < length z.counts
     → word ≡ get_or z.counts page 0 + length (applied page)
     → ((q : ℕ) → q ≢ page → length (applied q) ≡ length (s.applied q))
@@ -125,10 +127,10 @@ pub page_steps : (z : Opening) (s : CoreState) (unmerged : ℕ → List ℕ) (ap
     → ReadsFit z.counts s.phase (set views place (Worker w))
     → All (IsCounted z.counts (all_before (set views place (Worker w)))) sh.coord.counted
     → Shows z (with_likes s unmerged applied) (set words (word_of page) word) (set views place (Worker w))
-page_steps z s unmerged applied words views place v w page word sh at number on word_is others merged keeps fits reads
-    counted =
+page_steps z s unmerged applied words views place v w page word sh at number same_slots on word_is others merged
+    keeps fits reads counted =
     let wide = sh.board.width in
-    let past = word_of-past page in
+    let past : 96 ≤ word_of page = word_of-past page in
     let inside = word_of-order page (length z.counts) on in
     let t : CoreState = with_likes s unmerged applied in
     let later : List ℕ = set words (word_of page) word in
@@ -145,10 +147,12 @@ page_steps z s unmerged applied words views place v w page word sh at number on 
     (length-set words (word_of page) word)
     (get_or-set_other words (word_of page) 0 word 0 (λ eq. absurd (omega arith)) ∙ sh.board.phase)
     pages
-    (get_or-set_other words (word_of page) mask_place word 0 (λ eq. absurd (omega arith)))
+    (keeps_elsewhere words (word_of page) word (λ slot below eq. absurd (omega arith)) (λ eq. absurd (omega arith)))
     sh.board.mask
+    sh.board.chosen
     merged
     fits
+    (subst (λ (l : List ℕ). l ≡ take (length l) sh.coord.slots) (sym same_slots) (sh.seats.slots place v at))
     (λ u none seat f. fits_else z s unmerged applied v.worker keeps u none seat f)
     reads
     counted

@@ -1,8 +1,8 @@
 -- A worker's read of a page's word, or of the mask word, is the event, and keeps what the board shows.
-use Rattle.std.proofs.Common.{◌≡◌, ℕ, ◌+◌, ◌<◌, ◌≤◌, inl, List, length, get_or, slice_index, set, subst, ap, sym, ◌∙◌, refl, arith}
-use Rattle.std.proofs.Math.ListN.{length-set}
-use Rattle.std.proofs.lemmas.List.{get_or-set_same, get_or-set_other}
-use Rattle.std.proofs.lemmas.List.Elements.{All-cons}
+use Rattle.std.proofs.Common.{◌≡◌, ℕ, ◌+◌, ◌^◌, ◌<◌, ◌≤◌, true, false, inl, List, [], ◌∷◌, ◌++◌, length, take, get_or, slice_index, set, subst, ap, sym, ◌∙◌, refl, arith}
+use Rattle.std.proofs.Math.Seq.{take-length}
+use Rattle.std.proofs.lemmas.List.{length_push, length-take-le, set-get_or, take-take, take_more}
+use Rattle.std.proofs.lemmas.List.Elements.{All-cons, All-get_or}
 use mathlib.Core.Option.{some}
 use lib.ListN.{get_elem?}
 use Rattle.like_core.specs.declared.worker_state.WorkerState.TheVariants.{Runs}
@@ -15,21 +15,23 @@ use Rattle.like_core.specs.declared.view.PageRead.{PageRead}
 use Rattle.like_core.specs.declared.view.WorkerSeatView.{WorkerSeatView}
 use Rattle.like_core.specs.declared.view.View.{View}
 use Rattle.like_core.specs.declared.view.View.TheVariants.{Worker}
-use Rattle.like_limits.specs.Limits.{total_bound}
-use Rattle.like_core.specs.Phase.{IsSplit, is_marked, split}
+use Rattle.like_limits.specs.Limits.{hot_pages, total_bound}
+use Rattle.like_core.specs.Phase.{IsSplit}
 use Rattle.like_core.specs.core.Table.{Permits, IsShown}
-use Rattle.like_core.specs.core.State.{CoreState, after, numbers}
+use Rattle.like_core.specs.core.State.{CoreState, after, is_split_now, numbers}
 use Rattle.like_core.specs.WorkerState.{phase_of, IsRunning, RunsSplit}
 use Rattle.like_core.specs.Post.{MayRead, MayGlance, KnowsSlices, slices}
-use Rattle.like_core.specs.Additions.{added_to}
-use Rattle.like_core.specs.views.Views.{read_view, glanced_view, masked_view, post_of}
-use Rattle.like_core.specs.views.Reads.{all_before, ReadsFit}
+use Rattle.like_core.specs.OpeningLimits.{has_slots}
+use Rattle.like_core.specs.Slots.{IsChoice}
+use Rattle.like_core.specs.Additions.{added_before, added_to}
+use Rattle.like_core.specs.views.Views.{read_view, glanced_view, masked_view, slotted_view, slots_read, MayReadSlot, post_of}
+use Rattle.like_core.specs.views.Reads.{all_before, HaveBetween, ReadsFit}
 use Rattle.like_core.specs.views.Places.{count_after, PlacesTile}
 use Rattle.like_core.specs.views.Tallies.{paged}
-use Rattle.like_core.specs.views.Layout.{mask_place, word_of}
-use Rattle.like_core.specs.views.Shows.{Shows, ShowsSome, FitsWorker, IsStep}
+use Rattle.like_core.specs.views.Layout.{mask_place, slot_in, slot_place, word_of}
+use Rattle.like_core.specs.views.Shows.{Shows, ShowsSome, FitsWorker, IsStep, mask_in}
 use Rattle.like_core.proofs.core.InPhase.{reached_in_phase}
-use Rattle.like_core.proofs.views.Apart.{word_of-past}
+use Rattle.like_core.proofs.Slots.{choice-same, mask_by-plain, mask_by-slots, mask_of_slots-same}
 use Rattle.like_core.proofs.views.KeptPlaces.{read_keeps_places, glance_keeps_places, places_same}
 use Rattle.like_core.proofs.views.KeptReads.{read_keeps_reads, glance_keeps_reads, reads_same, counted_same}
 use Rattle.like_core.proofs.views.ViewLists.{sum_part}
@@ -38,6 +40,14 @@ use Rattle.like_board.proofs.worker.Moves.{moment_of, worker_steps}
 use Rattle.like_board.proofs.worker.WorkerSteps.{running_is}
 use Rattle.like_board.proofs.worker.Pages.{slices_are, page_steps}
 use Rattle.like_board.proofs.Tallying.{tallied_on}
+
+-- the first elements of a list that is the beginning of another
+taken_before : (front whole : List ℕ) (n : ℕ)
+    → n ≤ length front
+    → front ≡ take (length front) whole
+    → take n front ≡ take n whole
+taken_before front whole n within same =
+    ap (take n) same ∙ take-take n (length front) whole within
 
 -- a step of a worker that finds a page's count, after which its view is w, is the event and keeps what is shown; and
 -- the count has the worker's own additions and is below the bound of all counts
@@ -61,7 +71,7 @@ reads_word : (z : Opening) (words : List ℕ) (views : List View) (place : ℕ) 
     → IsShown (numbers z some_state.state) event
     (Count (slice_index z.counts page + length (some_state.state.applied page)))
     → (some_state.state.state v.worker ≡ Runs some_state.state.phase → v.worker < z.workers → page < length z.counts
-    → split (is_marked z.marks) some_state.state.hot some_state.state.phase page ≡ slices (post_of v) page
+    → is_split_now z some_state.state page ≡ slices (post_of v) page
     → Permits (numbers z some_state.state) event)
     → (get_or words (word_of page) 0 ≡ slice_index z.counts page + all_before views (phase_of v.state + 1) page
     → ReadsFit z.counts (phase_of v.state) views
@@ -83,7 +93,7 @@ reads_word z words views place v page event rs gs some_state at running may_ther
     ap (λ (y : Opening). length y.marks) old.opening ∙ sh.opening.marks
     in
     let on : page < length z.counts = omega arith in
-    let same : split (is_marked z.marks) s.hot s.phase page ≡ slices (post_of v) page =
+    let same : is_split_now z s page ≡ slices (post_of v) page =
     slices_are z s v page old present knows in
     let sums = some_state.tallied.sums page in
     let part = sum_part (paged page) views place (Worker v) at in
@@ -106,10 +116,11 @@ reads_word z words views place v page event rs gs some_state at running may_ther
       ending = old.ending;
       labels = old.labels;
       masks = old.masks;
+      slots = old.slots;
     }
     in
     let shows : Shows z s (set words (word_of page) count) (set views place (Worker w)) =
-    page_steps z s s.unmerged s.applied words views place v w page count sh at refl on found
+    page_steps z s s.unmerged s.applied words views place v w page count sh at refl refl on found
     (λ q other. refl)
     sh.merged
     (λ j phase q other. refl)
@@ -181,32 +192,78 @@ glances z words views place v page may some_state at =
     (λ is. glance_keeps_reads z.counts views place v page count at is)
     (λ is. glance_keeps_places z.counts views place v page count at is)
 
--- a read of the mask word is the event
-pub reads_mask : (z : Opening) (words : List ℕ) (views : List View) (place : ℕ) (v : WorkerSeatView)
-    → ShowsSome z words views
+-- a read of a word after which the view w has the additions and reads that it had keeps what the board shows
+word_reads : (z : Opening) (words : List ℕ) (views : List View) (place : ℕ) (v w : WorkerSeatView) (word : ℕ)
+    → (some_state : ShowsSome z words views)
+    → get_elem? views place ≡ some (Worker v)
+    → w ≡ record v { masks = w.masks; slots = w.slots }
+    → FitsWorker z some_state.state w
+    → w.slots ≡ take (length w.slots) some_state.shows.coord.slots
+    → Shows z some_state.state (set words word (get_or words word 0)) (set views place (Worker w))
+word_reads z words views place v w word some_state at rest fits slots =
+    let s = some_state.state in
+    let sh = some_state.shows in
+    let same : set words word (get_or words word 0) ≡ words = set-get_or words word 0 in
+    subst (λ (later : List ℕ). Shows z s later (set views place (Worker w))) (sym same)
+    (worker_steps z s s words words views place v w sh at (ap (λ (x : WorkerSeatView). x.worker) rest)
+    refl
+    sh.board.phase
+    sh.board.pages
+    (record { slots = λ slot below. refl; mask = refl })
+    sh.board.mask
+    sh.board.chosen
+    sh.merged
+    fits
+    slots
+    (λ u none seat f. f)
+    (reads_same z.counts s.phase s.phase views place (Worker v) (Worker w) (omega arith) at
+    (λ k p. ap (λ (x : WorkerSeatView). added_before k p x.additions) rest)
+    (λ f has. subst (λ (x : WorkerSeatView). HaveBetween z.counts f s.phase x) (sym rest) has) sh.reads.workers)
+    (counted_same z.counts views place (Worker v) (Worker w) sh.coord.counted at
+    (λ k p. ap (λ (x : WorkerSeatView). added_before k p x.additions) rest) sh.reads.coordinator))
+
+-- and so what the views show of some state
+word_read : (z : Opening) (words : List ℕ) (views : List View) (place : ℕ) (v : WorkerSeatView) (masks : List PhaseMask)
+    (slots : List ℕ) (word : ℕ)
+    → (some_state : ShowsSome z words views)
+    → get_elem? views place ≡ some (Worker v)
+    → Shows z some_state.state (set words word (get_or words word 0))
+    (set views place (Worker (record v { masks = masks; slots = slots })))
+    → ShowsSome z (set words word (get_or words word 0))
+    (set views place (Worker (record v { masks = masks; slots = slots })))
+word_read z words views place v masks slots word some_state at shows =
+    let s = some_state.state in
+    let w : WorkerSeatView = record v { masks = masks; slots = slots } in
+    record {
+      state = s;
+      reachable = some_state.reachable;
+      shows = shows;
+      tallied = tallied_on z.limits s s views place (Worker v) (Worker w) (omega arith) (λ _. refl) at
+          (λ _. refl) (λ _. refl) (λ _ _. refl) some_state.tallied;
+      places = places_same z.counts views place (Worker v) (Worker w) at (λ _. refl) (λ _. refl)
+          (λ _ _ has. has) some_state.places;
+    }
+
+-- a read of the mask word that tells the phase's mask is the event
+tells_mask : (z : Opening) (words : List ℕ) (views : List View) (place : ℕ) (v : WorkerSeatView) (mask : ℕ)
+    → (some_state : ShowsSome z words views)
     → get_elem? views place ≡ some (Worker v)
     → RunsSplit v.state
-    → IsStep z (Hot v.worker) (HotShown (get_or words mask_place 0)) (Worker v)
-    (Worker (masked_view v (get_or words mask_place 0)))
-    × ShowsSome z (set words mask_place (get_or words mask_place 0))
-    (set views place (Worker (masked_view v (get_or words mask_place 0))))
-reads_mask z words views place v some_state at split_phase =
+    → mask ≡ mask_in z words
+    → IsStep z (Hot v.worker) (HotShown mask) (Worker v) (Worker (masked_view v mask))
+    × ShowsSome z (set words mask_place (get_or words mask_place 0)) (set views place (Worker (masked_view v mask)))
+tells_mask z words views place v mask some_state at split_phase mask_is =
     let s = some_state.state in
     let sh = some_state.shows in
     let i = v.worker in
-    let last : ℕ = mask_place in
-    let found : ℕ = get_or words last 0 in
-    let later : List ℕ = set words last found in
-    let w : WorkerSeatView = masked_view v found in
+    let w : WorkerSeatView = masked_view v mask in
     let old : FitsWorker z s v = sh.seats.each place (Worker v) at in
     let runs = running_is IsSplit v.state split_phase in
     let here : s.state i ≡ Runs runs.0 = old.state ∙ runs.1 in
     let now : runs.0 ≡ s.phase = (reached_in_phase z s some_state.reachable).runs i runs.0 here in
     let present : phase_of v.state ≡ s.phase = ap phase_of runs.1 ∙ now in
     let odd : IsSplit s.phase = subst IsSplit now runs.2 in
-    let found_is : found ≡ s.hot s.phase = sh.board.mask (inl odd) in
-    let wide = sh.board.width in
-    let past = word_of-past (length z.counts) in
+    let found_is : mask ≡ s.hot s.phase = mask_is ∙ sh.board.mask (inl odd) in
     let P : PhaseMask → Type 0 = λ m. (m.phase ≤ s.phase) × (m.mask ≡ s.hot m.phase) in
     let fits : FitsWorker z s w =
     record {
@@ -216,44 +273,137 @@ reads_mask z words views place v some_state at split_phase =
       number = old.number;
       ending = old.ending;
       labels = old.labels;
-      masks = All-cons P (record { phase = phase_of v.state; mask = found }) v.masks
+      masks = All-cons P (record { phase = phase_of v.state; mask = mask }) v.masks
           (omega arith, found_is ∙ ap s.hot (sym present)) old.masks;
+      slots = old.slots;
     }
     in
     let permits : Permits (numbers z s) (Hot i) =
     record { there = old.there; suits = (here ∙ ap Runs now, odd); leaves_last = tt; room = tt }
     in
-    let shows : Shows z s later (set views place (Worker w)) =
-    worker_steps z s s words later views place v w sh at refl
-    (length-set words last found)
-    (get_or-set_other words last 0 found 0 (λ eq. absurd (omega arith)) ∙ sh.board.phase)
-    (λ page below. get_or-set_other words last (word_of page) found 0
-    (λ eq. let far = word_of-past page in absurd (omega arith)) ∙ sh.board.pages page below)
-    (get_or-set_same words last found 0 (omega arith))
-    sh.board.mask
-    sh.merged
-    fits
-    (λ u none seat f. f)
-    (reads_same z.counts s.phase s.phase views place (Worker v) (Worker w) (omega arith) at (λ k p. refl)
-    (λ f has. has) sh.reads.workers)
-    (counted_same z.counts views place (Worker v) (Worker w) sh.coord.counted at (λ k p. refl) sh.reads.coordinator)
+    let shows : Shows z s (set words mask_place (get_or words mask_place 0)) (set views place (Worker w)) =
+    word_reads z words views place v w mask_place some_state at refl fits (sh.seats.slots place v at)
     in (
       record {
         moment = moment_of z words views some_state;
         place = place;
         mine = at;
         happen = record { before = tt; permits = permits; tells = ap HotShown found_is };
-        changed = last;
-        word = found;
+        changed = mask_place;
+        word = get_or words mask_place 0;
         shows_after = shows;
       },
-      record {
-        state = s;
-        reachable = some_state.reachable;
-        shows = shows;
-        tallied = tallied_on z.limits s s views place (Worker v) (Worker w) (omega arith) (λ _. refl) at
-            (λ _. refl) (λ _. refl) (λ _ _. refl) some_state.tallied;
-        places = places_same z.counts views place (Worker v) (Worker w) at (λ _. refl) (λ _. refl)
-            (λ _ _ has. has) some_state.places;
-      },
+      word_read z words views place v w.masks w.slots mask_place some_state at shows,
+    )
+
+-- on a board without slots the mask word is the mask
+pub reads_mask : (z : Opening) (words : List ℕ) (views : List View) (place : ℕ) (v : WorkerSeatView)
+    → ShowsSome z words views
+    → get_elem? views place ≡ some (Worker v)
+    → RunsSplit v.state
+    → has_slots z.limits ≡ false
+    → IsStep z (Hot v.worker) (HotShown (get_or words mask_place 0)) (Worker v)
+    (Worker (masked_view v (get_or words mask_place 0)))
+    × ShowsSome z (set words mask_place (get_or words mask_place 0))
+    (set views place (Worker (masked_view v (get_or words mask_place 0))))
+reads_mask z words views place v some_state at split_phase plain =
+    tells_mask z words views place v (get_or words mask_place 0) some_state at split_phase
+    (sym (mask_by-plain z.limits (slot_in words) (get_or words mask_place 0) plain))
+
+-- the slots that a worker has read, once these are all, hold what their words do
+read_all : (z : Opening) (s : CoreState) (words : List ℕ) (views : List View) (place : ℕ) (v : WorkerSeatView)
+    → Shows z s words views
+    → get_elem? views place ≡ some (Worker v)
+    → length v.slots ≡ hot_pages
+    → (slot : ℕ)
+    → slot < hot_pages
+    → slot_in words slot ≡ slice_index v.slots slot
+read_all z s words views place v sh at all slot below =
+    let whole : v.slots ≡ sh.coord.slots =
+    sh.seats.slots place v at ∙
+    (ap (λ (n : ℕ). take n sh.coord.slots) (all ∙ sym sh.all_slots) ∙ take-length sh.coord.slots)
+    in
+    sh.slots slot below ∙ ap (λ (l : List ℕ). slice_index l slot) (sym whole)
+
+-- a read of the mask word is the event, where it tells which of the slots are in use that the worker has read; their
+-- pages are a lawful choice
+pub reads_slots : (z : Opening) (words : List ℕ) (views : List View) (place : ℕ) (v : WorkerSeatView)
+    → (some_state : ShowsSome z words views)
+    → get_elem? views place ≡ some (Worker v)
+    → RunsSplit v.state
+    → has_slots z.limits ≡ true
+    → length v.slots ≡ hot_pages
+    → IsChoice z.factor (length z.marks) (slice_index v.slots) (get_or words mask_place 0)
+    × IsStep z (Hot v.worker) (HotShown (slots_read v (get_or words mask_place 0))) (Worker v)
+    (Worker (masked_view v (slots_read v (get_or words mask_place 0))))
+    × ShowsSome z (set words mask_place (get_or words mask_place 0))
+    (set views place (Worker (masked_view v (slots_read v (get_or words mask_place 0)))))
+reads_slots z words views place v some_state at split_phase slotted all =
+    let s = some_state.state in
+    let sh = some_state.shows in
+    let found : ℕ = get_or words mask_place 0 in
+    let same = read_all z s words views place v sh at all in
+    let old : FitsWorker z s v = sh.seats.each place (Worker v) at in
+    let runs = running_is IsSplit v.state split_phase in
+    let here : s.state v.worker ≡ Runs runs.0 = old.state ∙ runs.1 in
+    let now : runs.0 ≡ s.phase = (reached_in_phase z s some_state.reachable).runs v.worker runs.0 here in
+    let odd : IsSplit s.phase = subst IsSplit now runs.2 in
+    let lawful : IsChoice z.factor (length z.counts) (slice_index v.slots) found =
+    choice-same z.factor (length z.counts) (slot_in words) (slice_index v.slots) found same
+    (sh.board.chosen (inl odd) slotted)
+    in
+    let told =
+    tells_mask z words views place v (slots_read v found) some_state at split_phase
+    (sym (mask_by-slots z.limits (slot_in words) found slotted ∙
+    mask_of_slots-same (slot_in words) (slice_index v.slots) found hot_pages same))
+    in
+    (subst (λ (n : ℕ). IsChoice z.factor n (slice_index v.slots) found) (sym sh.opening.marks) lawful, told.0, told.1)
+
+-- a read of a slot's word finds the page that the coordinator put there, a number of 32 bits
+pub reads_slot : (z : Opening) (words : List ℕ) (views : List View) (place : ℕ) (v : WorkerSeatView) (slot : ℕ)
+    → (some_state : ShowsSome z words views)
+    → get_elem? views place ≡ some (Worker v)
+    → MayReadSlot v slot
+    → (slot_in words slot < 2 ^ 32)
+    × ShowsSome z (set words (slot_place slot) (slot_in words slot))
+    (set views place (Worker (slotted_view v slot (slot_in words slot))))
+reads_slot z words views place v slot some_state at may =
+    let s = some_state.state in
+    let sh = some_state.shows in
+    let page : ℕ = slot_in words slot in
+    let w : WorkerSeatView = slotted_view v slot page in
+    let old : FitsWorker z s v = sh.seats.each place (Worker v) at in
+    let fits : FitsWorker z s w =
+    record {
+      opening = old.opening;
+      there = old.there;
+      state = old.state;
+      number = old.number;
+      ending = old.ending;
+      labels = old.labels;
+      masks = old.masks;
+      slots = λ not_split. absurd (not_split may.split);
+    }
+    in
+    let put : ℕ = slice_index sh.coord.slots slot in
+    let next = may.next in
+    let here = may.there in
+    let all = sh.all_slots in
+    let found : page ≡ put = sh.slots slot here in
+    let long : length w.slots ≡ slot + 1 =
+    (let pushed = length_push (take slot v.slots) page in
+    let taken = length-take-le slot v.slots next in
+    omega arith)
+    in
+    let before : take slot v.slots ≡ take slot sh.coord.slots = taken_before v.slots sh.coord.slots slot next
+    (sh.seats.slots place v at)
+    in
+    let slots : w.slots ≡ take (length w.slots) sh.coord.slots =
+    ((λ m. before m ++ found m ∷ []) ∙ sym (take_more sh.coord.slots slot 0 (omega arith)))
+    ∙ ap (λ (n : ℕ). take n sh.coord.slots) (sym long)
+    in (
+      subst (λ (n : ℕ). n < 2 ^ 32) (sym found)
+          (All-get_or (λ (n : ℕ). n < 2 ^ 32) sh.coord.slots slot 0 (omega arith) sh.slots_fit),
+      word_read z words views place v v.masks w.slots (slot_place slot) some_state at
+          (word_reads z words views place v w (slot_place slot) some_state at refl fits slots),
     )

@@ -1,5 +1,5 @@
 -- Each step of a worker is the event, and keeps what the board shows.
-use Rattle.std.proofs.Common.{◌≡◌, ◌≢◌, ℕ, ◌+◌, ◌%◌, ◌^◌, ◌<◌, ◌≤◌, nat_lt, Bool, true, false, cond, ◌⊎◌, inl, inr, IsTrue, ◌↔◌, MatchBool, List, get_or, set, subst, ap, sym, ◌∙◌, refl, arith}
+use Rattle.std.proofs.Common.{◌≡◌, ◌≢◌, ℕ, ◌+◌, ◌%◌, ◌^◌, ◌<◌, ◌≤◌, nat_lt, Bool, true, false, cond, ◌⊎◌, inl, inr, IsTrue, ◌↔◌, MatchBool, List, [], get_or, set, subst, ap, sym, ◌∙◌, refl, arith}
 use Rattle.std.proofs.lemmas.Bool.{cond-true, cond-false, lt-ltb, le-ltb}
 use mathlib.Core.Option.{some}
 use lib.ListN.{get_elem?}
@@ -113,6 +113,15 @@ looked_gone phase (Answered j) is =
     absurd (Q is)
 looked_gone phase Gone is = refl
 
+-- who runs no split phase after a look knew no slots before
+slots_looked : (state : WorkerState) (sight : Sight) (slots : List ℕ)
+    → (¬ RunsSplit state → slots ≡ [])
+    → ¬ RunsSplit (seen state sight)
+    → slots ≡ []
+slots_looked (Runs j) sight slots none not_split = none not_split
+slots_looked (Answered j) sight slots none not_split = none (λ split. split)
+slots_looked Gone sight slots none not_split = none (λ split. split)
+
 -- a sum that is a word does not wrap
 pub added_word : (n more word : ℕ) → word ≡ n + more → word < 2 ^ 64 → (n + more) % 2 ^ 64 ≡ word
 added_word n more word is below = omega arith
@@ -153,12 +162,14 @@ looks z words views place v some_state at there =
       ending = λ _ saw. sym sees.ending ∙ saw;
       labels = old.labels;
       masks = old.masks;
+      slots = slots_looked v.state sight v.slots old.slots;
     }
     in
     let shows_after : Shows z t (set words 0 found) (set views place (Worker w)) =
     worker_moves z s words views place v w state found sh at refl
     (sh.board.phase ∙ sym (serving.looks i))
     fits
+    (sh.seats.slots place v at)
     (looked_in s.phase (s.state i))
     (λ _. looked_gone s.phase (s.state i))
     in
@@ -224,6 +235,7 @@ answers z s words views place v phase reached sh at runs present reaches =
       ending = λ running _. absurd running;
       labels = old.labels;
       masks = old.masks;
+      slots = λ _. refl;
     }
     in
     worker_moves z s words views place v (answered_view v) state (answered_word z (get_or words 0 0) i) sh at refl
@@ -231,6 +243,7 @@ answers z s words views place v phase reached sh at runs present reaches =
     added_word (shown_word z s) (f.answer i) (shown_word z (moved s i state)) (serving.answers i phase old.there here)
     (serves z (moved s i state) sh.opening reaches).below)
     fits
+    refl
     (λ is. absurd (subst (IsIn s.phase) here is))
     (λ _ gone. absurd (cc))
 
@@ -366,6 +379,7 @@ retires z words views place v some_state at joined =
       ending = λ running _. absurd running;
       labels = old.labels;
       masks = old.masks;
+      slots = λ _. refl;
     }
     in
     let permits : Permits (numbers z s) (Retire i) =
@@ -379,6 +393,7 @@ retires z words views place v some_state at joined =
     added_word (shown_word z s) (f.retirement i) (shown_word z (moved s i Gone)) (serving.retires i runs.0 old.there here)
     (serves z (moved s i Gone) sh.opening reaches).below)
     fits
+    refl
     (λ is. absurd (subst (IsIn s.phase) here is))
     (λ odd _. absurd (omega arith))
     in (

@@ -8,10 +8,9 @@ use Rattle.like_core.specs.declared.shown.Shown.TheVariants.{Sliced, Old}
 use Rattle.like_core.specs.declared.opening.Opening.{Opening}
 use Rattle.like_limits.specs.Limits.{total_bound}
 use Rattle.like_core.specs.Functions.{sum_below, update, times}
-use Rattle.like_core.specs.Phase.{is_marked, split}
 use Rattle.like_core.specs.core.Numbers.{total}
 use Rattle.like_core.specs.core.Table.{Permits, IsShown}
-use Rattle.like_core.specs.core.State.{Label, CoreState, without, after, numbers}
+use Rattle.like_core.specs.core.State.{Label, CoreState, without, is_split_now, after, numbers}
 use Rattle.like_core.specs.core.Reachable.{after_all, PermitsAll}
 use Rattle.like_core.proofs.Updates.{update-same, update-other, update_cases}
 use Rattle.like_core.proofs.Times.{times-cons_same}
@@ -45,7 +44,7 @@ likes_of : (z : Opening) (s : CoreState) (i page n : ℕ)
     → i < z.workers
     → page < length z.counts
     → s.state i ≡ Runs s.phase
-    → split (is_marked z.marks) s.hot s.phase page ≡ true
+    → is_split_now z s page ≡ true
     → total (numbers z s) page + n < total_bound
     → PermitsAll z s (replicate n (Like i page))
     × (after_all z s (replicate n (Like i page)) ≡ given_to s i (replicate n page))
@@ -84,7 +83,7 @@ adds_plain : (z : Opening) (s : CoreState) (i page : ℕ)
     → i < z.workers
     → page < length z.counts
     → s.state i ≡ Runs s.phase
-    → split (is_marked z.marks) s.hot s.phase page ≡ false
+    → is_split_now z s page ≡ false
     → get_or z.counts page 0 + length (s.applied page) + 1 < total_bound
     → Adding z s i page 1 [] (Like i page)
 adds_plain z s i page merged there on runs plain small =
@@ -92,11 +91,11 @@ adds_plain z s i page merged there on runs plain small =
     record {
       before = tt;
       permits = record { there = (there, on); suits = runs; leaves_last = tt; room = omega arith };
-      tells = sym (cond-false (split (is_marked z.marks) s.hot s.phase page) Sliced
+      tells = sym (cond-false (is_split_now z s page) Sliced
           (Old (get_or z.counts page 0 + length (s.applied page))) plain);
       rest = s.unmerged;
       merged = merged;
-      leads = cond-false (split (is_marked z.marks) s.hot s.phase page) _ _ plain;
+      leads = cond-false (is_split_now z s page) _ _ plain;
     }
 
 -- likes of a sliced page and their merge
@@ -105,7 +104,7 @@ adds_sliced : (z : Opening) (s : CoreState) (i page n : ℕ)
     → i < z.workers
     → page < length z.counts
     → s.state i ≡ Runs s.phase
-    → split (is_marked z.marks) s.hot s.phase page ≡ true
+    → is_split_now z s page ≡ true
     → s.ending ≡ true
     → get_or z.counts page 0 + length (s.applied page) + n < total_bound
     → Adding z s i page n (replicate n (Like i page)) (Merge i page)
@@ -146,7 +145,7 @@ adds_sliced z s i page n merged there on runs sliced ending small =
 
 -- an addition is the like where the page is not sliced, and else the likes and their merge
 pub adds_either : (z : Opening) (s : CoreState) (i page n : ℕ) (sliced : Bool)
-    → split (is_marked z.marks) s.hot s.phase page ≡ sliced
+    → is_split_now z s page ≡ sliced
     → (sliced ≡ false → n ≡ 1)
     → (sliced ≡ true → s.ending ≡ true)
     → ((j : ℕ) → s.unmerged j ≡ [])

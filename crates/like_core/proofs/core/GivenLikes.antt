@@ -6,10 +6,9 @@ use Rattle.like_core.specs.declared.event.Event.TheVariants.{Like}
 use Rattle.like_core.specs.declared.opening.Opening.{Opening}
 use Rattle.like_limits.specs.Limits.{total_bound}
 use Rattle.like_core.specs.Functions.{update, times}
-use Rattle.like_core.specs.Phase.{is_marked, split}
 use Rattle.like_core.specs.core.Numbers.{total}
 use Rattle.like_core.specs.core.Table.{Permits}
-use Rattle.like_core.specs.core.State.{CoreState, after, numbers}
+use Rattle.like_core.specs.core.State.{CoreState, is_split_now, after, numbers}
 use Rattle.like_core.specs.core.Reachable.{Reachable}
 use Rattle.like_core.specs.core.Likes.{given, MayLike, LikesStayReachable}
 use Rattle.like_core.proofs.Updates.{update-same, update-other, update_cases}
@@ -67,15 +66,15 @@ given_to-nil s i =
 
 -- a sliced like gives its worker one page
 pub after-like : (z : Opening) (s : CoreState) (i page : ℕ)
-    → split (is_marked z.marks) s.hot s.phase page ≡ true
+    → is_split_now z s page ≡ true
     → after z s (Like i page) ≡ given_to s i (page ∷ [])
-after-like z s i page sliced = cond-true (split (is_marked z.marks) s.hot s.phase page) _ _ sliced
+after-like z s i page sliced = cond-true (is_split_now z s page) _ _ sliced
 
 -- the state stays reachable with likes for one worker
 pub reach_given_to : (z : Opening) (s : CoreState) (i : ℕ) (likes : List ℕ)
     → Reachable z s
     → ((page : ℕ) → 0 < times page likes
-    → (s.state i ≡ Runs s.phase) × (page < length z.counts) × (split (is_marked z.marks) s.hot s.phase page ≡ true))
+    → (s.state i ≡ Runs s.phase) × (page < length z.counts) × (is_split_now z s page ≡ true))
     → ((page : ℕ) → total (numbers z (given_to s i likes)) page < total_bound)
     → Reachable z (given_to s i likes)
 reach_given_to z s i [] r pages totals = subst (Reachable z) (sym (given_to-nil s i)) r

@@ -6,11 +6,11 @@ use Rattle.like_core.specs.declared.event.Event.{Event}
 use Rattle.like_core.specs.declared.event.Event.TheVariants.{Look, Acknowledge, Report, Retire, Like, Read, Glance, Merge, Hot, CoordLook, CoordRead, Announce, Release}
 use Rattle.like_core.specs.declared.opening.Opening.{Opening}
 use Rattle.like_core.specs.Functions.{update, times}
-use Rattle.like_core.specs.Phase.{IsJoined, IsSplit, is_hot, is_marked, split}
+use Rattle.like_core.specs.Phase.{IsJoined, IsSplit, is_hot_by, is_marked, split_by}
 use Rattle.like_core.specs.WorkerState.{IsIn, looked}
 use Rattle.like_core.specs.core.Numbers.{Numbers}
 use Rattle.like_core.specs.core.Table.{Permits}
-use Rattle.like_core.specs.core.State.{CoreState, Label, start, without, after, numbers}
+use Rattle.like_core.specs.core.State.{CoreState, Label, start, without, is_split_now, after, numbers}
 use Rattle.like_core.specs.core.Reachable.{Reachable, after_all, PermitsAll}
 use Rattle.like_core.specs.core.Exclusive.{IsExclusive, IsInPhase}
 use Rattle.like_core.proofs.Updates.{update-other, update_cases}
@@ -25,11 +25,15 @@ empty_from_times (x ∷ xs) none =
     absurd (omega arith)
 
 -- a page is split in no joined phase
-pub split-IsSplit : (marks : ℕ → Bool) (hot : ℕ → ℕ) (phase page : ℕ)
-    → split marks hot phase page ≡ true
+pub split-IsSplit : (bound : ℕ) (marked : ℕ → Bool) (hot : ℕ → ℕ) (phase page : ℕ)
+    → split_by bound marked hot phase page ≡ true
     → IsSplit phase
-split-IsSplit marks hot phase page is =
-    eqb-true (phase % 2) 1 (and_parts (phase % 2 == 1) (marks page || is_hot (hot phase) page) is).0
+split-IsSplit bound marked hot phase page is =
+    eqb-true (phase % 2) 1 (and_parts (phase % 2 == 1) (marked page || is_hot_by bound (hot phase) page) is).0
+
+-- nor is it in the present one
+split_now-IsSplit : (z : Opening) (s : CoreState) (page : ℕ) → is_split_now z s page ≡ true → IsSplit s.phase
+split_now-IsSplit z s page is = split-IsSplit z.limits.hot (is_marked z.marks) s.hot s.phase page is
 
 -- a state in phase is exclusive
 pub exclusive : (z : Opening) (s : CoreState) → IsInPhase z s → IsExclusive s
@@ -194,9 +198,9 @@ keeps_in_phase z s (Like i page) p may =
     let sliced_like : CoreState = record s { unmerged = update s.unmerged i (s.unmerged i ++ page ∷ []) } in
     let label : Label = record { worker = i; phase = s.phase } in
     let plain_like : CoreState = record s { applied = update s.applied page (s.applied page ++ label ∷ []) } in
-    in_phase_either z (split (is_marked z.marks) s.hot s.phase page) sliced_like plain_like
+    in_phase_either z (is_split_now z s page) sliced_like plain_like
     (λ sliced. moves_likes z s i (s.unmerged i ++ page ∷ []) p may.suits
-    (split-IsSplit (is_marked z.marks) s.hot s.phase page sliced))
+    (split_now-IsSplit z s page sliced))
     (record {
       runs = p.runs;
       answered = p.answered;
@@ -208,7 +212,7 @@ keeps_in_phase z s (Like i page) p may =
 keeps_in_phase z s (Read i page) p may = p
 keeps_in_phase z s (Glance i page) p may = p
 keeps_in_phase z s (Merge i page) p may =
-    let odd = split-IsSplit (is_marked z.marks) s.hot s.phase page may.suits.1 in
+    let odd = split_now-IsSplit z s page may.suits.1 in
     let q = moves_likes z s i (without page (s.unmerged i)) p may.suits.0 odd in
     record {
       runs = q.runs;

@@ -4,10 +4,9 @@ use Rattle.like_core.specs.declared.event.Event.{Event}
 use Rattle.like_core.specs.declared.event.Event.TheVariants.{Look, Acknowledge, Report, Retire, Like, Read, Glance, Merge, Hot, CoordLook, CoordRead, Announce, Release}
 use Rattle.like_core.specs.declared.opening.Opening.{Opening}
 use Rattle.like_core.specs.Functions.{update, times}
-use Rattle.like_core.specs.Phase.{is_marked, split}
 use Rattle.like_core.specs.core.Numbers.{with_unmerged, with_count}
 use Rattle.like_core.specs.core.Table.{next}
-use Rattle.like_core.specs.core.State.{CoreState, Label, without, after, numbers}
+use Rattle.like_core.specs.core.State.{CoreState, Label, without, is_split_now, after, numbers}
 use Rattle.like_core.proofs.Updates.{update-same, update-other, update_cases}
 use Rattle.like_core.proofs.Times.{times-push, times-without}
 
@@ -69,7 +68,7 @@ numbers-after z s (Like i page) =
     let in_count : numbers z plain_like ≡ with_count n page (n.count page + 1) =
     λ m. record n { count = λ q. count-update z.counts s.applied page (label ∷ []) q m }
     in
-    ap-cond (numbers z) (split (is_marked z.marks) s.hot s.phase page) sliced_like plain_like _ _ in_slice in_count
+    ap-cond (numbers z) (is_split_now z s page) sliced_like plain_like _ _ in_slice in_count
 numbers-after z s (Read i page) = refl
 numbers-after z s (Glance i page) = refl
 numbers-after z s (Merge i page) =

@@ -4,17 +4,17 @@ use Rattle.std.proofs.lemmas.Bool.{cond-true, cond-false, cases_lt, lt-ltb, le-l
 use Rattle.like_core.specs.views.Layout.{mask_place, word_of, WordsStandApart}
 
 -- the place of one of the first 64 pages
-pub word_of-first : (page : ℕ) → page < 64 → word_of page ≡ 16 * (page + 2)
+pub word_of-first : (page : ℕ) → page < 64 → word_of page ≡ 16 * (page + 6)
 unfolding word_of
-word_of-first page below = cond-true (nat_lt page 64) (16 * (page + 2)) (16 * 66 + (page - 64)) (lt-ltb page 64 below)
+word_of-first page below = cond-true (nat_lt page 64) (16 * (page + 6)) (16 * 70 + (page - 64)) (lt-ltb page 64 below)
 
 -- the place of one of the others
-pub word_of-dense : (page : ℕ) → 64 ≤ page → word_of page ≡ 16 * 66 + (page - 64)
+pub word_of-dense : (page : ℕ) → 64 ≤ page → word_of page ≡ 16 * 70 + (page - 64)
 unfolding word_of
-word_of-dense page past = cond-false (nat_lt page 64) (16 * (page + 2)) (16 * 66 + (page - 64)) (le-ltb page 64 past)
+word_of-dense page past = cond-false (nat_lt page 64) (16 * (page + 6)) (16 * 70 + (page - 64)) (le-ltb page 64 past)
 
--- it lies past the mask's
-pub word_of-past : (page : ℕ) → mask_place + 16 ≤ word_of page
+-- it lies past the mask's and those of the slots
+pub word_of-past : (page : ℕ) → mask_place + 80 ≤ word_of page
 word_of-past page = elim (cases_lt page 64) [
   | inl below ↦ let here = word_of-first page below in omega arith
   | inr past ↦ let here = word_of-dense page past in omega arith
@@ -57,7 +57,9 @@ word_of-injective page other same = elim (cases_lt page other) [
 pub words_stand_apart : WordsStandApart
 words_stand_apart = record {
   mask = omega arith;
-  pages = word_of-past;
+  slots = λ slot. omega arith;
+  slot_order = λ slot later less. omega arith;
+  pages = λ slot page below. let past = word_of-past page in omega arith;
   order = word_of-order;
   apart = word_of-apart;
 }

@@ -1,23 +1,22 @@
 -- The word of a program serves.
-use Rattle.std.proofs.Common.{◌≡◌, ◌≢◌, ℕ, ◌+◌, ◌*◌, ◌/◌, ◌%◌, ◌^◌, ◌<◌, ◌≤◌, ◌==◌, ◌||◌, Bool, true, subst, ap, sym, ◌∙◌, refl, eq-eqb, arith}
+use Rattle.std.proofs.Common.{◌≡◌, ℕ, ◌+◌, ◌*◌, ◌/◌, ◌%◌, ◌^◌, ◌<◌, ◌≤◌, ◌==◌, ◌||◌, Bool, subst, ap, sym, ◌∙◌, refl, eq-eqb, arith}
 use Rattle.std.proofs.lemmas.Nat.{pow-add}
 use Rattle.std.proofs.lemmas.Nat.Bits.{bit_at_cat_low}
 use lib.Pow.{pow_mono}
 use Rattle.like_core.specs.declared.form.Form.{Form}
 use Rattle.like_core.specs.declared.form.Form.TheVariants.{Bits}
 use Rattle.like_core.specs.declared.worker_state.WorkerState.{WorkerState}
-use Rattle.like_core.specs.declared.worker_state.WorkerState.TheVariants.{Runs, Answered, Gone}
+use Rattle.like_core.specs.declared.worker_state.WorkerState.TheVariants.{Answered, Gone}
 use Rattle.like_core.specs.declared.opening.Opening.{Opening}
 use Rattle.like_core.specs.Functions.{update, has_bit, mask}
 use Rattle.like_core.specs.OpeningLimits.{most_phase, most_seats}
 use Rattle.like_core.specs.WorkerState.{looked}
 use Rattle.like_core.specs.core.State.{CoreState}
 use Rattle.like_core.specs.core.Exclusive.{IsInPhase}
-use Rattle.like_core.specs.word.Word.{Fields, packed, answer_bit, retirement_bit}
+use Rattle.like_core.specs.word.Word.{Fields, packed}
 use Rattle.like_core.specs.word.Forms.{has_answered, is_gone, bits, bits_fields, kind_in}
-use Rattle.like_core.specs.word.ShownWord.{word_in}
 use Rattle.like_core.specs.views.Shows.{IsOpening}
-use Rattle.like_core.specs.views.Serves.{Serves, moved}
+use Rattle.like_core.specs.views.Serves.{Serves}
 use Rattle.like_core.proofs.Updates.{update-same, update-other}
 use Rattle.like_core.proofs.Below.{below-each, each-below}
 use Rattle.like_core.proofs.word.Masks.{mask-lt, mask_same, mask_none, mask-has_bit, mask_more}

@@ -1,10 +1,10 @@
 -- The word of a service serves: no count carries into its neighbour.
-use Rattle.std.proofs.Common.{◌≡◌, ◌≢◌, ℕ, ◌+◌, ◌-◌, ◌*◌, ◌/◌, ◌%◌, ◌^◌, ◌<◌, ◌≤◌, ◌==◌, ◌||◌, Bool, true, false, subst, ap, sym, ◌∙◌, refl, eq-eqb, arith}
+use Rattle.std.proofs.Common.{◌≡◌, ℕ, ◌+◌, ◌-◌, ◌*◌, ◌/◌, ◌%◌, ◌^◌, ◌<◌, ◌≤◌, Bool, true, false, subst, ap, sym, ◌∙◌, refl, eq-eqb, arith}
 use Rattle.std.proofs.lemmas.Bool.{eqb-true}
 use Rattle.like_core.specs.declared.form.Form.{Form}
 use Rattle.like_core.specs.declared.form.Form.TheVariants.{Counts}
 use Rattle.like_core.specs.declared.worker_state.WorkerState.{WorkerState}
-use Rattle.like_core.specs.declared.worker_state.WorkerState.TheVariants.{Runs, Answered, Gone}
+use Rattle.like_core.specs.declared.worker_state.WorkerState.TheVariants.{Answered, Gone}
 use Rattle.like_core.specs.declared.opening.Opening.{Opening}
 use Rattle.like_core.specs.Functions.{update, how_many}
 use Rattle.like_core.specs.OpeningLimits.{most_phase, most_seats}
@@ -12,9 +12,8 @@ use Rattle.like_core.specs.WorkerState.{looked}
 use Rattle.like_core.specs.core.State.{CoreState}
 use Rattle.like_core.specs.core.Exclusive.{IsInPhase}
 use Rattle.like_core.specs.word.Forms.{has_answered, is_gone, counts, kind_in}
-use Rattle.like_core.specs.word.ShownWord.{word_in}
 use Rattle.like_core.specs.views.Shows.{IsOpening}
-use Rattle.like_core.specs.views.Serves.{AllGoneCounts, AllInCounts, AnswersOne, RetiresOne, Serves, answered_now, gone_now, moved}
+use Rattle.like_core.specs.views.Serves.{AllGoneCounts, AllInCounts, AnswersOne, RetiresOne, Serves, answered_now, gone_now}
 use Rattle.like_core.proofs.Updates.{update-same, update-other}
 use Rattle.like_core.proofs.word.HowMany.{how_many-same, how_many-none, how_many-more, how_many-both, how_many-all, all-how_many}
 use Rattle.like_core.proofs.word.States.{weight-lt, not_both, looked-has_answered, looked-is_gone, test_same, in_not_next, in_test, test_in, gone_test, kind_released}

@@ -1,5 +1,5 @@
 -- The kind of the phase word tells a worker the present phase.
-use Rattle.std.proofs.Common.{◌≡◌, ◌≢◌, ℕ, ◌+◌, ◌*◌, ◌/◌, ◌%◌, ◌^◌, ◌==◌, inl, inr, eq-eqb, ◌∙◌, refl, arith}
+use Rattle.std.proofs.Common.{◌≡◌, ◌≢◌, ℕ, ◌+◌, ◌/◌, ◌%◌, ◌==◌, inl, inr, eq-eqb, ◌∙◌, refl, arith}
 use Rattle.std.proofs.lemmas.Bool.{cond-true, cond-false, ne_eqb}
 use Rattle.like_core.specs.declared.form.Form.{Form}
 use Rattle.like_core.specs.declared.form.Form.TheVariants.{Bits, Counts}

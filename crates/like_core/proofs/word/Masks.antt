@@ -1,8 +1,8 @@
-use Rattle.std.proofs.Common.{◌≡◌, ◌≢◌, ℕ, zero, suc, ◌+◌, ◌-◌, ◌*◌, ◌/◌, ◌^◌, ◌<◌, ◌≤◌, ◌==◌, ◌↔◌, bit_and, Bool, true, false, inl, inr, sym, subst, ap, ◌∙◌, refl, arith, pow-suc, zero-mul, one-mul}
+use Rattle.std.proofs.Common.{◌≡◌, ◌≢◌, ℕ, zero, suc, ◌+◌, ◌-◌, ◌*◌, ◌/◌, ◌^◌, ◌<◌, ◌==◌, ◌↔◌, Bool, true, false, inl, inr, sym, subst, ap, ◌∙◌, refl, arith, pow-suc, zero-mul, one-mul}
 use Rattle.std.specs.Int.{bit_at}
 use Rattle.std.proofs.Math.Nat.{div-lt_iff_lt-mul}
-use Rattle.std.proofs.lemmas.Nat.{and_comm, pow_pos}
-use Rattle.std.proofs.lemmas.Nat.Bits.{bit_at_above, bit_at_cat_high, bit_at_cat_low, bit_at_lowest}
+use Rattle.std.proofs.lemmas.Nat.{pow_pos}
+use Rattle.std.proofs.lemmas.Nat.Bits.{bit_at_cat_high, bit_at_cat_low, bit_at_lowest}
 use Rattle.std.proofs.lemmas.Bool.{cases_eq}
 use Rattle.like_core.specs.Functions.{has_bit, weight, mask}
 use Rattle.like_core.proofs.word.States.{weight-lt}

@@ -1,13 +1,11 @@
 -- What either form of the phase word asks of the workers' states.
-use Rattle.std.proofs.Common.{◌≡◌, ◌≢◌, ℕ, ◌+◌, ◌*◌, ◌%◌, ◌<◌, ◌==◌, nat_lt, ◌||◌, inl, inr, Bool, true, false, cond, subst, ap, sym, ◌∙◌, refl, eq-eqb, arith}
+use Rattle.std.proofs.Common.{◌≡◌, ℕ, ◌+◌, ◌*◌, ◌%◌, ◌<◌, ◌==◌, nat_lt, ◌||◌, inl, inr, Bool, true, false, cond, subst, ap, sym, ◌∙◌, refl, eq-eqb, arith}
 use Rattle.std.proofs.lemmas.Bool.{cases_eq, eqb-true, ne_eqb, cond-true, cond-false, lt-ltb, ltb-true}
 use Rattle.like_core.specs.declared.worker_state.WorkerState.{WorkerState}
 use Rattle.like_core.specs.declared.worker_state.WorkerState.TheVariants.{Runs, Answered, Gone}
-use Rattle.like_core.specs.declared.opening.Opening.{Opening}
 use Rattle.like_core.specs.Functions.{update, weight}
 use Rattle.like_core.specs.WorkerState.{IsIn, looked}
 use Rattle.like_core.specs.core.State.{CoreState}
-use Rattle.like_core.specs.core.Exclusive.{IsInPhase}
 use Rattle.like_core.specs.word.Forms.{has_answered, is_gone, first_states, kind_in, released_kind}
 use Rattle.like_core.proofs.Updates.{update-same, update-other}
 

@@ -1,7 +1,5 @@
-use Rattle.std.proofs.Common.{◌≡◌, ◌≢◌, ℕ, ◌+◌, ◌-◌, ◌*◌, ◌/◌, ◌%◌, ◌^◌, ◌<◌, ◌≤◌, Option, Some, None, IsSome, IfSome, IfNone, IsSomeAnd, bit_and, sym, subst, ap, ◌∙◌, arith}
+use Rattle.std.proofs.Common.{◌≡◌, ◌≢◌, ℕ, ◌/◌, ◌^◌, ◌<◌, ◌≤◌, Option, Some, None, IsSome, IfSome, IfNone, IsSomeAnd, bit_and, sym, subst, ap, ◌∙◌, arith}
 use Rattle.std.proofs.lemmas.Nat.{and_mask}
-use Rattle.std.specs.Int.{bit_at}
-use Rattle.std.proofs.lemmas.Nat.Bits.{bit_at_cat_high, bit_at_cat_low}
 use lib.Pow.{pow_mono}
 use Rattle.like_core.specs.declared.phase_word.PhaseWord.{PhaseWord}
 use Rattle.like_core.specs.word.PhaseWord.{fields_of}

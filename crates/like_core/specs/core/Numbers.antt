@@ -6,7 +6,7 @@ use Rattle.like_core.specs.declared.sight.CoordSight.{CoordSight}
 use Rattle.like_core.specs.declared.limits.Limits.{Limits}
 use Rattle.like_limits.specs.Limits.{total_bound}
 use Rattle.like_core.specs.Functions.{sum_below, update}
-use Rattle.like_core.specs.Phase.{split}
+use Rattle.like_core.specs.Phase.{split_by}
 use Rattle.like_core.specs.WorkerState.{IsIn, looked}
 
 -- what the table of events speaks of
@@ -56,7 +56,7 @@ with_more n page likes = with_count n page (n.count page + likes)
 
 -- whether likes of the page go into slices in the present phase
 abbrev pub sliced : Numbers → ℕ → Bool
-sliced n page = split n.marked (λ _. n.hot) n.phase page
+sliced n page = split_by n.limits.hot n.marked (λ _. n.hot) n.phase page
 
 -- the page's count and all its unmerged likes
 abbrev pub total : Numbers → ℕ → ℕ

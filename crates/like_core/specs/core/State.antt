@@ -5,8 +5,9 @@ use Rattle.like_core.specs.declared.event.Event.{Event}
 use Rattle.like_core.specs.declared.event.Event.TheVariants.{Look, Acknowledge, Report, Retire, Like, Read, Glance, Merge, Hot, CoordLook, CoordRead, Announce, Release}
 use Rattle.like_core.specs.declared.opening.Opening.{Opening}
 use Rattle.like_core.specs.declared.limits.Limits.{Limits}
+use Rattle.like_limits.specs.Buckets.{run_factor}
 use Rattle.like_core.specs.Functions.{update, times}
-use Rattle.like_core.specs.Phase.{is_marked, split}
+use Rattle.like_core.specs.Phase.{is_marked, split_by}
 use Rattle.like_core.specs.OpeningLimits.{run_limits}
 use Rattle.like_core.specs.WorkerState.{looked}
 use Rattle.like_core.specs.core.Numbers.{Numbers}
@@ -38,10 +39,15 @@ pub record CoreState : Type 0 where
 abbrev pub label_now : CoreState → ℕ → Label
 label_now s i = record { worker = i; phase = s.phase }
 
--- the opening with these limits, workers, counts and marks
+-- the opening with these limits, workers, counts and marks, and the factor of a run
 abbrev pub opening_with : Limits → ℕ → List ℕ → List Bool → Opening
 opening_with limits workers counts marks =
-    record { workers = workers; counts = counts; marks = marks; limits = limits }
+    record { workers = workers; counts = counts; marks = marks; limits = limits; factor = run_factor }
+
+-- the opening of a service: no page is marked, since the pages that are always split keep a slot each
+abbrev pub opening_by : ℕ → Limits → ℕ → List ℕ → Opening
+opening_by factor limits workers counts =
+    record (opening_with limits workers counts (replicate (length counts) false)) { factor = factor }
 
 -- the opening of a run with these workers, counts and marks
 abbrev pub opening : ℕ → List ℕ → List Bool → Opening
@@ -64,7 +70,7 @@ without page likes = filter (λ other. not (other == page)) likes
 
 -- whether the page is split in the present phase
 abbrev pub is_split_now : Opening → CoreState → ℕ → Bool
-is_split_now z s page = split (is_marked z.marks) s.hot s.phase page
+is_split_now z s page = split_by z.limits.hot (is_marked z.marks) s.hot s.phase page
 
 -- the state after the event
 abbrev pub after : Opening → CoreState → Event → CoreState

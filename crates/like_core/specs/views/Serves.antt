@@ -1,8 +1,7 @@
 -- What a form of the phase word has to keep: in each state that can be reached, the word shows the state, and each step
 -- makes of it the word of the state after.
-use Rattle.std.specs.Prelude.{◌≡◌, ◌≢◌, ℕ, ◌+◌, ◌%◌, ◌^◌, ◌<◌, ◌≤◌, ◌↔◌, Bool, true, false, IsTrue}
+use Rattle.std.specs.Prelude.{◌≡◌, ℕ, ◌+◌, ◌%◌, ◌^◌, ◌<◌, ◌≤◌, ◌↔◌, true, false, IsTrue}
 use Rattle.like_core.specs.declared.form.Form.{Form}
-use Rattle.like_core.specs.declared.form.Form.TheVariants.{Bits, Counts}
 use Rattle.like_core.specs.declared.opening.Opening.{Opening}
 use Rattle.like_core.specs.declared.worker_state.WorkerState.{WorkerState}
 use Rattle.like_core.specs.declared.worker_state.WorkerState.TheVariants.{Runs, Answered, Gone}

@@ -1,4 +1,4 @@
-use Rattle.std.specs.Prelude.{◌≡◌, ◌⊎◌, ℕ, Bool, false, ◌+◌, ◌^◌, ◌<◌, ◌≤◌, All, nat_lt, true, if◌then◌else◌, List, [], length, slice_index, slice_set, IfSome}
+use Rattle.std.specs.Prelude.{◌≡◌, ◌⊎◌, ℕ, Bool, false, ◌+◌, ◌^◌, ◌<◌, ◌≤◌, All, nat_lt, true, if◌then◌else◌, List, [], length, take, slice_index, slice_set, IfSome, IsSome}
 use Rattle.std.specs.List.{sum_by}
 use mathlib.Core.Option.{some}
 use lib.ListN.{get_elem?}
@@ -10,9 +10,10 @@ use Rattle.like_core.specs.declared.view.WorkerSeatView.{WorkerSeatView}
 use Rattle.like_core.specs.declared.view.CoordSeatView.{CoordSeatView}
 use Rattle.like_core.specs.declared.view.View.{View}
 use Rattle.like_core.specs.declared.view.View.TheVariants.{Coord, Worker, Spent}
-use Rattle.like_limits.specs.Limits.{max_count}
+use Rattle.like_limits.specs.Limits.{hot_pages, max_count}
 use Rattle.like_core.specs.Phase.{IsSplit}
-use Rattle.like_core.specs.OpeningLimits.{AreLimits}
+use Rattle.like_core.specs.OpeningLimits.{AreLimits, has_slots}
+use Rattle.like_core.specs.Slots.{IsChoice, mask_by}
 use Rattle.like_core.specs.PhaseMasks.{mask_of}
 use Rattle.like_core.specs.core.Numbers.{AllIn, AllGone, CoordSees}
 use Rattle.like_core.specs.core.Table.{Permits, IsShown}
@@ -20,13 +21,13 @@ use Rattle.like_core.specs.core.State.{CoreState, labelled, after, numbers}
 use Rattle.like_core.specs.core.Reachable.{Reachable, after_all, PermitsAll}
 use Rattle.like_core.specs.core.Exclusive.{NoneUnmerged}
 use Rattle.like_core.specs.word.ShownWord.{shown_word}
-use Rattle.like_core.specs.WorkerState.{IsRunning, SawEnding, SawNoLater}
+use Rattle.like_core.specs.WorkerState.{IsRunning, RunsSplit, SawEnding, SawNoLater}
 use Rattle.like_core.specs.Additions.{added_in}
 use Rattle.like_core.specs.views.Views.{seats_of}
 use Rattle.like_core.specs.views.Reads.{all_before, IsCounted, ReadsFit}
 use Rattle.like_core.specs.views.Tallies.{Tallied}
 use Rattle.like_core.specs.views.Places.{PlacesTile, count_after}
-use Rattle.like_core.specs.views.Layout.{phase_place, mask_place, word_of}
+use Rattle.like_core.specs.views.Layout.{phase_place, mask_place, slot_in, word_of}
 
 -- an opening that a board may have
 pub record IsOpening (z : Opening) : Type 0 where
@@ -37,6 +38,7 @@ pub record IsOpening (z : Opening) : Type 0 where
   pub marks : length z.marks ≡ length z.counts
   pub counts : All (λ n. n ≤ max_count) z.counts
   pub limits : AreLimits z.limits
+  pub factor : z.factor < 2 ^ 32
 
 -- what a worker's seat knows is true of the state
 pub record FitsWorker (z : Opening) (s : CoreState) (v : WorkerSeatView) : Type 0 where
@@ -52,6 +54,8 @@ pub record FitsWorker (z : Opening) (s : CoreState) (v : WorkerSeatView) : Type 
       → labelled v.worker phase (s.applied page) ≡ added_in phase page v.additions
   -- each mask that it read is its phase's, and none is of a later phase
   pub masks : All (λ m. (m.phase ≤ s.phase) × (m.mask ≡ s.hot m.phase)) v.masks
+  -- it knows slots in a split phase alone
+  pub slots : ¬ RunsSplit v.state → v.slots ≡ []
 
 -- what the coordinator knows of the workers' seats is true of the state
 pub record KnowsSeats (z : Opening) (s : CoreState) (c : CoordSeatView) : Type 0 where
@@ -102,10 +106,20 @@ Fits z s (Coord c) = FitsCoord z s c
 Fits z s (Worker v) = FitsWorker z s v
 Fits z s Spent = Unit {0}
 
--- when the mask word has to be the phase's mask: in a split phase, and in phase 0 until its end is announced, since no
+-- when the words have to tell the phase's mask: in a split phase, and in phase 0 until its end is announced, since no
 -- mask is published before that
 abbrev pub FixesMask : ℕ → Bool → Type 0
 FixesMask phase ending = IsSplit phase ⊎ ((phase ≡ 0) × (ending ≡ false))
+
+-- the mask that a board's words tell
+abbrev pub mask_in : Opening → List ℕ → ℕ
+mask_in z words = mask_by z.limits (slot_in words) (slice_index words mask_place)
+
+-- in a service the pages in the slots in use are a lawful choice
+abbrev pub IsChosen : Opening → List ℕ → Type 0
+IsChosen z words =
+    has_slots z.limits ≡ true
+    → IsChoice z.factor (length z.counts) (slot_in words) (slice_index words mask_place)
 
 -- the words show the state; those that the layout does not name may be anything
 pub record WordsShow (z : Opening) (s : CoreState) (words : List ℕ) : Type 0 where
@@ -114,8 +128,9 @@ pub record WordsShow (z : Opening) (s : CoreState) (words : List ℕ) : Type 0 w
   -- each page's word is its count: the one at the start and the likes applied to it
   pub pages : (page : ℕ) → page < length z.counts
       → slice_index words (word_of page) ≡ slice_index z.counts page + length (s.applied page)
-  -- the mask word is the phase's mask, when it has to be
-  pub mask : FixesMask s.phase s.ending → slice_index words mask_place ≡ s.hot s.phase
+  -- the words tell the phase's mask, when they have to
+  pub mask : FixesMask s.phase s.ending → mask_in z words ≡ s.hot s.phase
+  pub chosen : FixesMask s.phase s.ending → IsChosen z words
 
 -- the seats fit the state, and this is what the coordinator knows
 pub record SeatsFit (z : Opening) (s : CoreState) (coord : CoordSeatView) (views : List View)
@@ -128,6 +143,9 @@ pub record SeatsFit (z : Opening) (s : CoreState) (coord : CoordSeatView) (views
   pub each : (place : ℕ) (v : View) → get_elem? views place ≡ some v → Fits z s v
   -- each worker whose seat was made has exactly one: its own, or one that was given back
   pub once : (i : ℕ) → sum_by (seats_of i) views ≡ (if nat_lt i coord.made then 1 else 0)
+  -- the slots that a worker has read are as the coordinator left them
+  pub slots : (place : ℕ) (v : WorkerSeatView) → get_elem? views place ≡ some (Worker v)
+      → v.slots ≡ take (length v.slots) coord.slots
 
 -- the reads are counted: each count that was read has the additions that it has to have
 pub record ReadsAreCounted (z : Opening) (s : CoreState) (coord : CoordSeatView) (views : List View)
@@ -141,9 +159,14 @@ pub record ReadsAreCounted (z : Opening) (s : CoreState) (coord : CoordSeatView)
 pub record Shows (z : Opening) (s : CoreState) (words : List ℕ) (views : List View) : Type 0 where
   pub opening : IsOpening z
   pub merged : NoneUnmerged s
-  -- what the coordinator knows; if it published a mask since its last look, that is the mask word
+  -- what the coordinator knows; if it published a mask since its last look, the words tell that
   pub coord : CoordSeatView
-  pub published : IfSome coord.published (λ mask. slice_index words mask_place ≡ mask)
+  pub published : IfSome coord.published (λ mask. mask_in z words ≡ mask)
+  pub chosen : IsSome coord.published → IsChosen z words
+  -- the slots are as it left them
+  pub slots : (slot : ℕ) → slot < hot_pages → slot_in words slot ≡ slice_index coord.slots slot
+  pub all_slots : length coord.slots ≡ hot_pages
+  pub slots_fit : All (λ page. page < 2 ^ 32) coord.slots
   pub board : WordsShow z s words
   pub seats : SeatsFit z s coord views
   pub reads : ReadsAreCounted z s coord views

@@ -1,4 +1,4 @@
-use Rattle.std.specs.Prelude.{◌≡◌, ℕ, ◌+◌, ◌==◌, ◌<◌, Bool, true, false, ◌%◌, ◌^◌, if◌then◌else◌, List, [], ◌∷◌, ◌++◌, length, replicate, count_by, Option, Some, None, IsSome, IsSomeAnd}
+use Rattle.std.specs.Prelude.{◌≡◌, ℕ, ◌+◌, ◌==◌, ◌<◌, ◌≤◌, Bool, true, false, ◌%◌, ◌^◌, if◌then◌else◌, List, [], ◌∷◌, ◌++◌, length, take, replicate, slice_index, slice_set, count_by, Option, Some, None, IsSome, IsSomeAnd}
 use Rattle.std.specs.Option.{unwrap_or}
 use Rattle.like_core.specs.declared.worker_state.WorkerState.TheVariants.{Runs, Answered, Gone}
 use Rattle.like_core.specs.declared.sight.Sight.{Sight}
@@ -11,8 +11,11 @@ use Rattle.like_core.specs.declared.view.CoordSeatView.{CoordSeatView}
 use Rattle.like_core.specs.declared.view.View.{View}
 use Rattle.like_core.specs.declared.view.View.TheVariants.{Coord, Worker, Spent}
 use Rattle.like_core.specs.Additions.{addition, look_after, page_read}
+use Rattle.like_limits.specs.Limits.{hot_pages}
 use Rattle.like_core.specs.Phase.{IsJoined}
-use Rattle.like_core.specs.WorkerState.{phase_of, seen}
+use Rattle.like_core.specs.OpeningLimits.{has_slots}
+use Rattle.like_core.specs.Slots.{IsChoice, mask_of_slots}
+use Rattle.like_core.specs.WorkerState.{RunsSplit, phase_of, seen}
 use Rattle.like_core.specs.Post.{PostView, slices}
 
 -- a worker's view before its seat made a step: it runs phase 0, and did nothing yet
@@ -27,6 +30,7 @@ fresh z worker = record {
   reads = [];
   glances = [];
   masks = [];
+  slots = [];
 }
 
 -- the coordinator's view before its first step, when this is the phase word
@@ -44,6 +48,7 @@ fresh_coord z word = record {
   counted = [];
   published = None;
   masks = [];
+  slots = replicate hot_pages 0;
   joined = [];
 }
 
@@ -57,11 +62,11 @@ looked_view v sight = record v {
 
 -- a worker's view after an acknowledgement or a report
 abbrev pub answered_view : WorkerSeatView → WorkerSeatView
-answered_view v = record v { state = Answered (phase_of v.state) }
+answered_view v = record v { state = Answered (phase_of v.state); slots = [] }
 
 -- a worker's view after it retired
 abbrev pub retired_view : WorkerSeatView → WorkerSeatView
-retired_view v = record v { state = Gone }
+retired_view v = record v { state = Gone; slots = [] }
 
 -- a worker's view after it added n to a page's count, which was `old` before
 abbrev pub added_view : WorkerSeatView → ℕ → ℕ → ℕ → WorkerSeatView
@@ -83,6 +88,27 @@ abbrev pub masked_view : WorkerSeatView → ℕ → WorkerSeatView
 masked_view v mask =
     record v { masks = record { phase = phase_of v.state; mask = mask } ∷ v.masks }
 
+-- a worker's view after it read a slot, which holds this page: it begins anew with slot 0
+abbrev pub slotted_view : WorkerSeatView → ℕ → ℕ → WorkerSeatView
+slotted_view v slot page = record v { slots = take slot v.slots ++ page ∷ [] }
+
+-- the mask of the pages in the slots that it read, where this word says which are in use
+abbrev pub slots_read : WorkerSeatView → ℕ → ℕ
+slots_read v bits = mask_of_slots (slice_index v.slots) bits hot_pages
+
+-- a worker may read a slot: it runs a split phase of a service, and has read those before it
+pub record MayReadSlot (v : WorkerSeatView) (slot : ℕ) : Type 0 where
+  pub split : RunsSplit v.state
+  pub slotted : has_slots v.opening.limits ≡ true
+  pub there : slot < hot_pages
+  pub next : slot ≤ length v.slots
+
+-- it may read which of them are in use: it has read all
+pub record MayReadSlots (v : WorkerSeatView) : Type 0 where
+  pub split : RunsSplit v.state
+  pub slotted : has_slots v.opening.limits ≡ true
+  pub all : length v.slots ≡ hot_pages
+
 -- what a worker's view means as a post, the board aside
 abbrev pub post_of : WorkerSeatView → PostView
 post_of v = record {
@@ -90,6 +116,7 @@ post_of v = record {
   worker = v.worker;
   marks = v.opening.marks;
   limits = v.opening.limits;
+  factor = v.opening.factor;
   state = v.state;
   last = v.last;
   looks = v.looks;
@@ -135,6 +162,14 @@ counted_coord c page count =
 abbrev pub published_coord : CoordSeatView → ℕ → CoordSeatView
 published_coord c mask = record c { published = Some mask }
 
+-- the coordinator's view after it put a page into a slot
+abbrev pub slotted_coord : CoordSeatView → ℕ → ℕ → CoordSeatView
+slotted_coord c slot page = record c { slots = slice_set c.slots slot page; published = None }
+
+-- the mask of the pages that it put into slots, where this word says which are in use
+abbrev pub slots_put : CoordSeatView → ℕ → ℕ
+slots_put c bits = mask_of_slots (slice_index c.slots) bits hot_pages
+
 -- the mask with which the coordinator releases: the one that it published last, and 0 for a joined phase
 abbrev pub mask_released : CoordSeatView → ℕ
 mask_released c = (if c.phase % 2 == 0 then unwrap_or c.published 0 else 0)
@@ -176,9 +211,28 @@ SawAllIn c = IsSomeAnd c.last (λ sight. (sight.ending ≡ true) × (sight.all_i
 abbrev pub MayCount : CoordSeatView → ℕ → Type 0
 MayCount c page = SawAllIn c × IsJoined c.phase × (page < length c.opening.counts)
 
--- it may publish a mask: it saw all in, the phase is joined, and each bit of the mask is that of a page that exists
+-- it may publish a mask: it saw all in, the phase is joined, each bit of the mask is that of a page that exists, and
+-- the board has no slots
 abbrev pub MayPublish : CoordSeatView → ℕ → Type 0
-MayPublish c mask = SawAllIn c × IsJoined c.phase × (mask < 2 ^ length c.opening.counts)
+MayPublish c mask =
+    SawAllIn c × IsJoined c.phase × (mask < 2 ^ length c.opening.counts)
+    × (has_slots c.opening.limits ≡ false)
+
+-- it may put a page into a slot of a service: it saw all in, and the phase is joined
+pub record MayPut (c : CoordSeatView) (slot page : ℕ) : Type 0 where
+  pub all_in : SawAllIn c
+  pub joined : IsJoined c.phase
+  pub slotted : has_slots c.opening.limits ≡ true
+  pub there : slot < hot_pages
+  pub known : page < length c.opening.counts
+
+-- it may publish which slots are in use: their pages are a lawful choice
+pub record MayPublishSlots (c : CoordSeatView) (bits : ℕ) : Type 0 where
+  pub all_in : SawAllIn c
+  pub joined : IsJoined c.phase
+  pub slotted : has_slots c.opening.limits ≡ true
+  pub width : bits < 2 ^ 64
+  pub choice : IsChoice c.opening.factor (length c.opening.counts) (slice_index c.slots) bits
 
 -- it may release: it saw all in, and if the next phase is split, it published a mask since that look
 abbrev pub MayRelease : CoordSeatView → Type 0

@@ -1,4 +1,4 @@
-use Rattle.std.specs.Prelude.{◌≡◌, ℕ, ◌+◌, ◌*◌, ◌%◌, ◌^◌, ◌<◌, ◌≤◌, ◌↔◌, bit_and, ◌==◌, if◌then◌else◌}
+use Rattle.std.specs.Prelude.{◌≡◌, ℕ, ◌+◌, ◌*◌, ◌%◌, ◌^◌, ◌<◌, ◌≤◌, ◌↔◌, bit_and}
 use Rattle.like_core.specs.declared.phase_word.kind.Kind.{Kind}
 use Rattle.like_limits.specs.Limits.{max_workers}
 use Rattle.like_core.specs.word.Kind.{code_of}

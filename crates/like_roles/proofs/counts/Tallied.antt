@@ -253,14 +253,15 @@ counted-served : (service : Service) (v : WorkerView) (page old : ℕ)
     → IsServed service (counted v page old)
 counted-served service v page old s =
     let same : (w : WorkerView) → w.last ≡ v.last → w.post.marks ≡ v.post.marks → w.post.masks ≡ v.post.masks
-    → w.held ≡ v.held → IsServed service w = λ w last marks masks held. record {
+    → w.held ≡ v.held → w.post.limits ≡ v.post.limits → IsServed service w = λ w last marks masks held limits. record {
       users = s.users ∙ ap (λ x. x.share.users) (sym last);
       submitters_alike = s.submitters_alike ∙ ap (λ x. x.share.submitters) (sym last);
       marks_alike = s.marks_alike ∙ sym marks;
       hot_alike = subst (AreMasksOf service.hot) (sym masks) s.hot_alike;
       stash_alike = s.stash_alike ∙ ap (λ x. x.capacity) (sym held);
+      run = limits ∙ s.run;
     } in
-    counted_by (IsServed service) v page old (same _ refl refl refl refl) (same _ refl refl refl refl)
+    counted_by (IsServed service) v page old (same _ refl refl refl refl refl) (same _ refl refl refl refl refl)
 
 -- one more entry that ran no like changes no number of a phase
 pub within-none : (service : Service) (ran : List Ran) (e : Ran) (page phase : ℕ)
@@ -326,6 +327,7 @@ unchanged service v h stashed answer reads served sized t none right shows later
             served.marks_alike;
         hot_alike = served.hot_alike;
         stash_alike = served.stash_alike;
+        run = served.run;
       },
       record { slice = sized.slice; users = sized.users },
       record {
@@ -366,6 +368,7 @@ one_like service v h stashed page old served sized t like no_look right in_pages
         marks_alike = s.marks_alike;
         hot_alike = s.hot_alike;
         stash_alike = s.stash_alike;
+        run = s.run;
       },
       record { slice = z.slice; users = length-set v.last.last user (Some page) ∙ sized.users },
       record {

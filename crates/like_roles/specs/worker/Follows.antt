@@ -10,6 +10,7 @@ use Rattle.like_core.specs.declared.view.Addition.{Addition}
 use Rattle.like_core.specs.declared.view.PageRead.{PageRead}
 use Rattle.like_core.specs.declared.worker_state.WorkerState.{WorkerState}
 use Rattle.like_core.specs.declared.worker_state.WorkerState.TheVariants.{Runs, Answered, Gone}
+use Rattle.like_core.specs.OpeningLimits.{run_limits}
 use Rattle.like_core.specs.Phase.{IsJoined}
 use Rattle.like_core.specs.PhaseMasks.{AreMasksOf}
 use Rattle.like_core.specs.WorkerState.{IsRunning, RunsJoined}
@@ -28,14 +29,15 @@ use Rattle.like_service.specs.Service.{Service, is_split_in, request_at, submitt
 use Rattle.like_requests.specs.Setup.{IsThere}
 use Rattle.like_roles.specs.worker.WorkerView.{WorkerView, TookAllEnds, phase_at, submitter_at}
 
--- the service is the one that the worker serves, with as much room for looks that wait, and the masks that its post read
--- are the service's
+-- the service is the one that the worker serves, with as much room for looks that wait; the masks that its post read are
+-- the service's, and its board has the limits of a run
 pub record IsServed (service : Service) (v : WorkerView) : Type 0 where
   pub users : service.users ≡ v.last.share.users
   pub submitters_alike : submitters service ≡ v.last.share.submitters
   pub marks_alike : marks_of service.pages ≡ v.post.marks
   pub hot_alike : AreMasksOf service.hot v.post.masks
   pub stash_alike : service.stash ≡ v.held.capacity
+  pub run : v.post.limits ≡ run_limits
 
 -- the worker has a place for each page, and for each user
 pub record IsSized (v : WorkerView) : Type 0 where

@@ -31,7 +31,7 @@ impl<P: Post, W: Copy> Station<P, W> {
         ensures counts { CountsLike self.old user page result self.new }
         ensures seat { IsStation self.new }
     {
-        let sliced = self.tables.is_sliced(page);
+        let sliced = self.is_sliced(page);
         self.tables.last.set(user, page);
         self.tables.likes += 1;
         if sliced {

@@ -13,5 +13,5 @@ load-requires c =
     let past = word_of-past (length (seat_view c.args.self.now).opening.marks) in (
       c.requires.here,
       omega arith,
-      reading_mask c.args.board.now.table.shared.key _ _ _ seat.is_worker c.requires.runs,
+      reading_mask c.args.board.now.table.shared.key _ _ _ seat.is_worker c.requires.runs c.requires.plain,
     )

@@ -1,4 +1,5 @@
 use Rattle.std.proofs.Common.{length, sym, ◌∙◌, ap, rules}
+use Rattle.like_core.specs.core.State.{opening_with}
 use Rattle.like_core.proofs.core.Started.{start_sizes, start_bounds, start_stands}
 use Rattle.like_core.proofs.core.CoreReached.{starts_reachable, core_is_exclusive}
 use Rattle.like_core.proofs.pure_core.Core.with_limits.Goals as goal
@@ -19,22 +20,16 @@ invariant_of-result-clause-bounded c =
 pub returns-clause-start : goal.returns-clause-start
 returns-clause-start c =
     start_stands c.in_ok-vec.field-0.items c.in_ok-empty_rows.field-0.items c.in_ok-from_slice.field-0
-    c.in_ok-from_slice-2.field-0.items _
+    c.in_ok-from_slice-2.field-0.items (opening_with c.args.limits c.args.workers c.args.counts.now c.args.split.now)
     (let h = c.in_ok-vec.ensures.items_if_clones_equal in search (rules, h)) c.in_ok-empty_rows.ensures
     c.in_ok-from_slice.ensures c.in_ok-from_slice-2.ensures.items
 
 pub returns-clause-reachable : goal.returns-clause-reachable
 returns-clause-reachable c =
     starts_reachable _
-    (record {
-      workers =
-          c.args.workers;
-      counts = c.args.counts.now;
-      marks = c.args.split.now;
-      limits = c.args.limits;
-    })
+    (opening_with c.args.limits c.args.workers c.args.counts.now c.args.split.now)
     (start_stands c.in_ok-vec.field-0.items c.in_ok-empty_rows.field-0.items c.in_ok-from_slice.field-0
-    c.in_ok-from_slice-2.field-0.items _
+    c.in_ok-from_slice-2.field-0.items (opening_with c.args.limits c.args.workers c.args.counts.now c.args.split.now)
     (let h = c.in_ok-vec.ensures.items_if_clones_equal in search (rules, h)) c.in_ok-empty_rows.ensures
     c.in_ok-from_slice.ensures c.in_ok-from_slice-2.ensures.items)
 

@@ -15,6 +15,10 @@ invariant_of-self-then-sight-3 c =
     ∙ ap (λ (l : LeadView). l.seat.opening) c.look_at_run-sight.ensures.saw)
     ∙ c.self.invariant
 
+pub release-requires-clause-run : goal.release-requires-clause-run
+release-requires-clause-run c =
+    ap (λ (l : LeadView). l.seat.opening.limits) c.look_at_run-sight.ensures.saw ∙ c.self.invariant
+
 pub returns-then-sight : goal.returns-then-sight
 returns-then-sight c =
     let i = c.self.inside in

@@ -1,8 +1,9 @@
-use Rattle.std.proofs.Common.{◌≡◌, ◌≤◌, ◌++◌, ℕ, List, length, min, take, drop, sym, ap, ◌∙◌, subst, arith}
+use Rattle.std.proofs.Common.{◌≡◌, ◌≤◌, ◌++◌, ℕ, false, List, length, min, take, drop, sym, ap, ◌∙◌, subst, arith}
 use Rattle.std.proofs.Math.Seq.{take-append_seam}
 use Rattle.like_core.specs.declared.opening.Opening.{Opening}
 use Rattle.like_core.specs.declared.view.CoordSeatView.{CoordSeatView}
 use Rattle.like_limits.specs.Limits.{hot_pages}
+use Rattle.like_core.specs.OpeningLimits.{has_slots}
 use Rattle.like_core.specs.Phase.{IsJoined}
 use Rattle.like_core.specs.views.Views.{MayPublish, SawAllIn}
 use Rattle.like_board.specs.Seats.{coord_board, coord_view}
@@ -67,8 +68,10 @@ returns-in-Some-clause-may c =
     let seat_is : c.args.self.now.seat ≡ known = sym (ap (λ (v : LeadView). v.seat) c.self.view_is) in
     let saw : SawAllIn known = subst SawAllIn seat_is c.requires.saw in
     let joined : IsJoined known.phase = subst (λ (d : CoordSeatView). IsJoined d.phase) seat_is c.requires.joined in
+    let plain : has_slots known.opening.limits ≡ false =
+    subst (λ (d : CoordSeatView). has_slots d.opening.limits ≡ false) seat_is c.requires.plain in
     let there : length first ≤ length known.opening.counts =
     omega (arith, c.self.invariant, ap (λ (xs : List ℕ). length xs) c.deref_mut.ensures.value) in
     subst (λ m. MayPublish (coord_view c.count_risen.new.seat) m) (sym c.count_risen.ensures.risen)
     (subst (λ (d : CoordSeatView). MayPublish d (risen c.in-Some.least first counts)) (sym c.count_risen.ensures.view)
-    (may-publish known 0 counts (has_risen c.in-Some.least first counts) (length first) saw joined there))
+    (may-publish known 0 counts (has_risen c.in-Some.least first counts) (length first) saw joined there plain))

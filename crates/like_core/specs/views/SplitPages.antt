@@ -1,0 +1,36 @@
+-- Which pages are split at a moment of a board.
+use Rattle.std.specs.Prelude.{◌≡◌, ℕ, ◌<◌, ◌↔◌, true, false, length, slice_index}
+use mathlib.Core.Option.{some}
+use lib.ListN.{get_elem?}
+use Rattle.like_limits.specs.Limits.{hot_pages}
+use Rattle.like_core.specs.declared.opening.Opening.{Opening}
+use Rattle.like_core.specs.declared.view.WorkerSeatView.{WorkerSeatView}
+use Rattle.like_core.specs.declared.view.View.TheVariants.{Worker}
+use Rattle.like_core.specs.Phase.{IsSplit, is_marked}
+use Rattle.like_core.specs.OpeningLimits.{has_slots}
+use Rattle.like_core.specs.Slots.{IsChoice, IsInSlot}
+use Rattle.like_core.specs.WorkerState.{IsRunning}
+use Rattle.like_core.specs.Post.{KnowsSlices, slices}
+use Rattle.like_core.specs.core.State.{is_split_now}
+use Rattle.like_core.specs.views.Views.{post_of}
+use Rattle.like_core.specs.views.Layout.{mask_place, slot_in}
+use Rattle.like_core.specs.views.Shows.{Moment}
+
+-- the choice in the slots is lawful, and an unmarked page is split just where a slot in use holds it
+pub record AreExact (z : Opening) (m : Moment z) : Type 0 where
+  pub choice : IsChoice z.factor (length z.counts) (slot_in m.words) (slice_index m.words mask_place)
+  pub split : (page : ℕ) → page < length z.counts → is_marked z.marks page ≡ false
+      → (is_split_now z m.state page ≡ true)
+      ↔ IsInSlot (slot_in m.words) (slice_index m.words mask_place) hot_pages page
+
+-- so it is at each moment of a split phase of a service
+abbrev pub SlotsAreExact : Type 0
+SlotsAreExact =
+    (z : Opening) (m : Moment z) → has_slots z.limits ≡ true → IsSplit m.state.phase → AreExact z m
+
+-- at each moment, a worker that runs a phase and knows whether a page is sliced in it slices just what is split in it
+abbrev pub SlicesAreSplit : Type 0
+SlicesAreSplit =
+    (z : Opening) (m : Moment z) (place : ℕ) (v : WorkerSeatView) (page : ℕ)
+    → get_elem? m.views place ≡ some (Worker v) → IsRunning v.state → KnowsSlices (post_of v) page
+    → slices (post_of v) page ≡ is_split_now z m.state page
