@@ -1,6 +1,10 @@
+pub mod Apart
+pub mod ByPage
 pub mod Dealt
 pub mod Homes
 pub mod Owned
 pub mod PageSets
 pub mod Places
+pub mod Sliced
+pub mod Tagged
 pub mod Walk

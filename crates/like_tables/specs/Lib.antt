@@ -1,3 +1,4 @@
+pub mod Factors
 pub mod Homes
 pub mod LastLike
 pub mod Liked
@@ -6,5 +7,8 @@ pub mod Places
 pub mod Ring
 pub mod Share
 pub mod Slice
+pub mod SplitPages
+pub mod SplitSlice
+pub mod Tags
 pub mod UserTable
 pub mod Waiting

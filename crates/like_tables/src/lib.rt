@@ -2,16 +2,22 @@
 //! joined phase, and the last likes of its users.
 #![tactic(auto)]
 
+mod buckets;
 mod held;
 mod last_like;
 mod page_set;
 mod share;
 mod slice;
+mod split_pages;
+mod split_slice;
 mod stash;
 mod users;
 
+pub use buckets::{BUCKETS, bucket, factor_for};
 pub use held::Held;
 pub use last_like::NO_PAGE;
 pub use slice::Slice;
+pub use split_pages::SplitPages;
+pub use split_slice::SplitSlice;
 pub use stash::Stash;
 pub use users::Users;

@@ -3,11 +3,59 @@ ghost use Rattle.std.specs.Prelude.{◌≡◌, length};
 mod calls;
 
 use crate::asserts::{assert_call, assert_call_at};
-use calls::{OnSlice, OnStash, OnUsers, held_of, of_a_million, of_five, slices, stashes};
+use calls::{
+    OnSlice, OnSplits, OnStash, OnUsers, held_of, of_a_million, of_five, slices, splits, stashes,
+};
 use like_requests::{Op, PageRef, Request, Verdict};
-use like_tables::{Held, Slice, Stash, Users};
+use like_tables::{Held, Slice, SplitPages, Stash, Users, factor_for};
 use std::process::Abort;
 use std::test::Fail;
+
+// Makes a call of a table of split pages, and tells whether it may be made and is answered as it says.
+fn answers_splits(splits: &mut SplitPages, call: OnSplits) -> bool {
+    match call {
+        OnSplits::Put(page) => {
+            if splits.page_in(splits.bucket(page)).is_some() {
+                return false;
+            }
+            splits.put(page);
+            true
+        }
+        OnSplits::Has(page, want) => splits.has(page) == want,
+        OnSplits::Bucket(page, want) => splits.bucket(page) == want,
+        OnSplits::PageIn(place, want) => place < 1_024 && splits.page_in(place) == want,
+        OnSplits::Next(from, want) => splits.next(from) == want,
+        OnSplits::Clear => {
+            splits.clear();
+            true
+        }
+    }
+}
+
+// Makes the calls of a table of split pages, and asserts their answers.
+fn call_splits(rt: &impl Abort, splits: &mut SplitPages, factor: u32, calls: &[OnSplits]) {
+    for at in 0..calls.len() {
+        assert_call_at(rt, answers_splits(splits, calls[at]), factor as usize, at);
+    }
+}
+
+#[test]
+fn a_page_is_split_that_was_put(rt: HostRuntime) -> Result<(), Fail> {
+    for (factor, calls) in splits() {
+        assert!(rt; *factor >= 1 << 22);
+        let mut splits = SplitPages::new(rt.alloc(), *factor)?;
+        call_splits(&rt, &mut splits, *factor, calls);
+    }
+    Ok(())
+}
+
+// The pages 0 and 610 share a bucket by the first factor.
+#[test]
+fn a_factor_parts_pages(rt: HostRuntime) {
+    assert!(rt; factor_for(&[0, 1, 2]) == Some(2_654_435_769));
+    assert!(rt; factor_for(&[0, 610]) == Some(2_656_076_303));
+    assert!(rt; factor_for(&[7, 7]) == None);
+}
 
 // Makes a call of a slice of so many pages, and tells whether it may be made and is answered as it says.
 fn answers_slice(slice: &mut Slice, pages: u32, call: OnSlice) -> bool

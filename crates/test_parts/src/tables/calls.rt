@@ -37,6 +37,26 @@ pub enum OnUsers {
     Set(u32, u32),
 }
 
+#[derive(Clone, Copy)]
+pub enum OnSplits {
+    /// Splits this page, whose bucket is empty.
+    Put(u32),
+    /// Whether this page is split.
+    Has(u32, bool),
+    /// The bucket of this page.
+    Bucket(u32, u32),
+    /// The page in this bucket.
+    PageIn(u32, Option<u32>),
+    /// The page in the next bucket that holds one, from this one on.
+    Next(u32, Option<u32>),
+    Clear,
+}
+
+/// Tables of split pages: the factor of each, and its calls.
+pub fn splits() -> &'static [(u32, &'static [OnSplits])] {
+    SPLITS
+}
+
 /// Slices: how many pages each has, and its calls.
 pub fn slices() -> &'static [(u32, &'static [OnSlice])] {
     SLICES
@@ -124,6 +144,52 @@ const SLICES: &[(u32, &[OnSlice])] = &[
             OnSlice::IsEmpty(true),
             OnSlice::Add(1_023),
             OnSlice::Take(1_023, 1),
+        ],
+    ),
+];
+
+const SPLITS: &[(u32, &[OnSplits])] = &[
+    // By this factor page 0 to 1,023 has the bucket of its number.
+    (
+        4_194_304,
+        &[
+            OnSplits::Next(0, None),
+            OnSplits::Put(0),
+            OnSplits::Put(1_023),
+            OnSplits::Has(0, true),
+            OnSplits::Has(1, false),
+            OnSplits::Has(1_023, true),
+            OnSplits::Has(1_024, false),
+            OnSplits::Bucket(1_023, 1_023),
+            OnSplits::Bucket(1_024, 0),
+            OnSplits::PageIn(0, Some(0)),
+            OnSplits::PageIn(1, None),
+            OnSplits::Next(0, Some(0)),
+            OnSplits::Next(1, Some(1_023)),
+            OnSplits::Next(1_024, None),
+            OnSplits::Clear,
+            OnSplits::Has(0, false),
+            OnSplits::Has(1_023, false),
+            OnSplits::Put(1_024),
+            OnSplits::Has(1_024, true),
+            OnSplits::Has(0, false),
+        ],
+    ),
+    // The pages 198 and 999,999 share a bucket.
+    (
+        2_654_435_769,
+        &[
+            OnSplits::Put(999_999),
+            OnSplits::Has(999_999, true),
+            OnSplits::Has(198, false),
+            OnSplits::Bucket(198, 379),
+            OnSplits::PageIn(379, Some(999_999)),
+            OnSplits::Next(379, Some(999_999)),
+            OnSplits::Next(380, None),
+            OnSplits::Clear,
+            OnSplits::Put(198),
+            OnSplits::Has(999_999, false),
+            OnSplits::Has(198, true),
         ],
     ),
 ];

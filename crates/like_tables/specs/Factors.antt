@@ -1,0 +1,28 @@
+-- The factor by which the pages of a service have their buckets.
+use Rattle.std.specs.Prelude.{◌≡◌, ℕ, ◌+◌, ◌*◌, ◌%◌, ◌^◌, ◌<◌, ◌≤◌, List, length, slice_index}
+use Rattle.like_limits.specs.Buckets.{bucket}
+
+-- no two of these pages share a bucket
+abbrev pub AreApart : ℕ → List ℕ → Type 0
+AreApart factor pages =
+    (i j : ℕ) → i < length pages → j < length pages
+    → bucket factor (slice_index pages i) ≡ bucket factor (slice_index pages j) → i ≡ j
+
+-- how many factors are tried
+abbrev pub max_tries : ℕ
+max_tries = 1000
+
+-- the factors, in the order in which they are tried
+abbrev pub factor_at : ℕ → ℕ
+factor_at n = 2654435769 + 1640534 * n
+
+-- by each of the first factors two of these pages share a bucket
+abbrev pub NoneParts : List ℕ → ℕ → Type 0
+NoneParts pages tries = (n : ℕ) → n < tries → ¬ AreApart (factor_at n) pages
+
+-- the factor is the first of all by which no two of these pages share a bucket. It is odd, and page 1 isn't in bucket 0
+pub record IsFirstApart (pages : List ℕ) (factor : ℕ) : Type 0 where
+  pub apart : AreApart factor pages
+  pub odd : factor % 2 ≡ 1
+  pub least : 2 ^ 22 ≤ factor
+  pub first : (n : ℕ) × (n < max_tries × (factor ≡ factor_at n) × NoneParts pages n)
