@@ -1,0 +1,165 @@
+-- Pages put into free slots, one after another.
+use Rattle.std.proofs.Common.{◌≡◌, ℕ, zero, suc, ◌<◌, ◌==◌, ◌||◌, ◌⊎◌, inl, inr, true, false, List, [], ◌∷◌, ◌++◌, length, get_or, set, refl, sym, ap, ◌∙◌, subst, arith, get_or-set_same, get_or-set_other, slice_index}
+use Rattle.std.specs.List.{Contains}
+use Rattle.std.proofs.lemmas.Bool.{both_ways, or_left, or_right, eq-eqb}
+use Rattle.std.proofs.lemmas.List.Elements.{Contains-append_cases, Contains-append_left, Contains-append_right}
+use Rattle.like_limits.specs.Limits.{hot_pages}
+use Rattle.like_limits.specs.Buckets.{bucket}
+use Rattle.like_core.specs.Functions.{has_bit}
+use Rattle.like_core.specs.Slots.{IsChoice}
+use Rattle.like_choice.specs.Slots.{IsFull, IsTaken}
+use Rattle.like_choice.specs.Steps.{Fills, StayInUse}
+use Rattle.like_choice.proofs.Masks.{in_use-set}
+
+-- a list of one page has no other
+only : (page other : ℕ) → Contains (page ∷ []) other → other ≡ page
+only page other (zero, below, is) = sym is
+only page other (suc k, below, is) = absurd (omega arith)
+
+-- no page is put in
+pub Fills-none : (factor pages : ℕ) (slots : List ℕ) (bits : ℕ) → Fills factor pages [] slots bits slots bits
+Fills-none factor pages slots bits = record {
+  stay = λ slot used. (used.1, refl);
+  asked = λ slot used. inl used.1;
+  lawful = λ choice. choice;
+  left_out = λ page among below. absurd (omega (arith, among.1));
+}
+
+-- a page is left out
+pub Fills-left : (factor pages page : ℕ) (slots : List ℕ) (bits : ℕ)
+    → (page < pages → IsTaken factor slots bits page ⊎ IsFull bits)
+    → Fills factor pages (page ∷ []) slots bits slots bits
+Fills-left factor pages page slots bits out = record {
+  stay = λ slot used. (used.1, refl);
+  asked = λ slot used. inl used.1;
+  lawful = λ choice. choice;
+  left_out = λ other among below.
+      let same = only page other among in
+      subst (λ p. IsTaken factor slots bits p ⊎ IsFull bits) (sym same) (out (subst (λ p. p < pages) same below));
+}
+
+-- a slot that is free, and the page in it after it was put there
+record IsPut (factor page : ℕ) (slots : List ℕ) (bits after slot : ℕ) : Type 0 where
+  all : length slots ≡ hot_pages
+  there : slot < hot_pages
+  free : has_bit bits slot ≡ false
+  sets : (i : ℕ) → has_bit after i ≡ (has_bit bits i || (i == slot))
+  apart : ¬ (IsTaken factor slots bits page)
+
+-- the pages of the other slots in use
+old-page : {factor page : ℕ} {slots : List ℕ} {bits after slot : ℕ} → IsPut factor page slots bits after slot
+    → (i : ℕ) → has_bit bits i ≡ true → get_or (set slots slot page) i 0 ≡ get_or slots i 0
+old-page {factor} {page} {slots} {bits} {after} {slot} put i was =
+    get_or-set_other slots slot i page 0
+    (λ e. both_ways (has_bit bits slot) put.free (ap (has_bit bits) (sym e) ∙ was))
+
+-- the page of the slot
+new-page : {factor page : ℕ} {slots : List ℕ} {bits after slot : ℕ} → IsPut factor page slots bits after slot
+    → (i : ℕ) → i ≡ slot → get_or (set slots slot page) i 0 ≡ page
+new-page {factor} {page} {slots} {bits} {after} {slot} put i is =
+    ap (λ k. get_or (set slots slot page) k 0) is
+    ∙ get_or-set_same slots slot page 0 (omega (arith, put.all, put.there))
+
+-- a slot in use afterwards was in use, or it is that one
+used-put : {factor page : ℕ} {slots : List ℕ} {bits after slot : ℕ} → IsPut factor page slots bits after slot
+    → (i : ℕ) → has_bit after i ≡ true → (has_bit bits i ≡ true) ⊎ (i ≡ slot)
+used-put {factor} {page} {slots} {bits} {after} {slot} put = in_use-set bits after slot put.sets
+
+-- the slot is in use
+put-used : {factor page : ℕ} {slots : List ℕ} {bits after slot : ℕ} → IsPut factor page slots bits after slot
+    → has_bit after slot ≡ true
+put-used {factor} {page} {slots} {bits} {after} {slot} put =
+    put.sets slot ∙ or_right (has_bit bits slot) (slot == slot) (eq-eqb slot slot refl)
+
+-- where another slot in use had the bucket, it was taken
+put-alone : {factor page : ℕ} {slots : List ℕ} {bits after slot : ℕ} → IsPut factor page slots bits after slot
+    → (i j : ℕ) → i < hot_pages → has_bit bits i ≡ true → j ≡ slot
+    → bucket factor (get_or (set slots slot page) i 0) ≡ bucket factor (get_or (set slots slot page) j 0) → i ≡ j
+put-alone {factor} {page} {slots} {bits} {after} {slot} put i j small was is same =
+    absurd (put.apart (
+      i,
+      (small, was),
+      ap (bucket factor) (sym (old-page put i was)) ∙ same ∙ ap (bucket factor) (new-page put j is),
+    ))
+
+-- the buckets of the slots in use stay apart
+put-apart : {factor page : ℕ} {slots : List ℕ} {bits after slot pages : ℕ}
+    → IsPut factor page slots bits after slot → IsChoice factor pages (slice_index slots) bits
+    → (i j : ℕ) → i < hot_pages → j < hot_pages → has_bit after i ≡ true → has_bit after j ≡ true
+    → bucket factor (get_or (set slots slot page) i 0) ≡ bucket factor (get_or (set slots slot page) j 0) → i ≡ j
+put-apart {factor} {page} {slots} {bits} {after} {slot} put choice i j i_small j_small i_used j_used same =
+    elim (used-put put i i_used) [
+      | inl i_was ↦ elim (used-put put j j_used) [
+        | inl j_was ↦ choice.apart i j i_small j_small i_was j_was
+            (ap (bucket factor) (sym (old-page put i i_was)) ∙ same ∙ ap (bucket factor) (old-page put j j_was))
+        | inr j_is ↦ put-alone put i j i_small i_was j_is same
+      ]
+      | inr i_is ↦ elim (used-put put j j_used) [
+        | inl j_was ↦ sym (put-alone put j i j_small j_was i_is (sym same))
+        | inr j_is ↦ i_is ∙ sym j_is
+      ]
+    ]
+
+-- a page is put into a free slot
+pub Fills-put : (factor pages page : ℕ) (slots : List ℕ) (bits after slot : ℕ) → length slots ≡ hot_pages
+    → slot < hot_pages → has_bit bits slot ≡ false
+    → ((i : ℕ) → has_bit after i ≡ (has_bit bits i || (i == slot)))
+    → page < pages → ¬ (IsTaken factor slots bits page)
+    → Fills factor pages (page ∷ []) slots bits (set slots slot page) after
+Fills-put factor pages page slots bits after slot all there free sets below apart =
+    let put : IsPut factor page slots bits after slot =
+    record { all = all; there = there; free = free; sets = sets; apart = apart } in
+    record {
+      stay = λ i used. (sets i ∙ or_left (has_bit bits i) (i == slot) used.1, old-page put i used.1);
+      asked = λ i used. elim (used-put put i used.1) [
+        | inl was ↦ inl was
+        | inr is ↦ inr (0, omega arith, sym (new-page put i is))
+      ];
+      lawful = λ choice. record {
+        there = λ i small used. elim (used-put put i used) [
+          | inl was ↦ subst (λ p. p < pages) (sym (old-page put i was)) (choice.there i small was)
+          | inr is ↦ subst (λ p. p < pages) (sym (new-page put i is)) below
+        ];
+        apart = put-apart put choice;
+      };
+      left_out = λ other among small. inl (
+        slot,
+        (there, put-used put),
+        ap (bucket factor) (new-page put slot refl ∙ sym (only page other among)),
+      );
+    }
+
+-- a bucket that is taken stays so
+taken-stays : (factor : ℕ) (slots : List ℕ) (bits : ℕ) (after : List ℕ) (bits_after page : ℕ)
+    → StayInUse slots bits after bits_after → IsTaken factor slots bits page → IsTaken factor after bits_after page
+taken-stays factor slots bits after bits_after page stay (slot, used, same) =
+    let kept = stay slot used in
+    (slot, (used.0, kept.0), ap (bucket factor) kept.1 ∙ same)
+
+-- one list of pages after another
+pub Fills-more : (factor pages : ℕ) (some more slots : List ℕ) (bits : ℕ) (between : List ℕ) (bits_between : ℕ)
+    (after : List ℕ) (bits_after : ℕ) → Fills factor pages some slots bits between bits_between
+    → Fills factor pages more between bits_between after bits_after
+    → Fills factor pages (some ++ more) slots bits after bits_after
+Fills-more factor pages some more slots bits between bits_between after bits_after first second = record {
+  stay = λ slot used.
+      let one = first.stay slot used in
+      let two = second.stay slot (used.0, one.0) in
+      (two.0, two.1 ∙ one.1);
+  asked = λ slot used. elim (second.asked slot used) [
+    | inl was ↦ elim (first.asked slot (used.0, was)) [
+      | inl had ↦ inl had
+      | inr among ↦ inr (Contains-append_left some more _
+          (subst (λ p. Contains some p) (sym (second.stay slot (used.0, was)).1) among))
+    ]
+    | inr among ↦ inr (Contains-append_right some more _ among)
+  ];
+  lawful = λ choice. second.lawful (first.lawful choice);
+  left_out = λ page among below. elim (Contains-append_cases some more page among) [
+    | inl early ↦ elim (first.left_out page early below) [
+      | inl taken ↦ inl (taken-stays factor between bits_between after bits_after page second.stay taken)
+      | inr full ↦ inr (λ slot small. (second.stay slot (small, full slot small)).0)
+    ]
+    | inr late ↦ second.left_out page late below
+  ];
+}

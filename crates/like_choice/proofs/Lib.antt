@@ -1,0 +1,5 @@
+pub mod Masks
+pub mod Filling
+pub mod Choosing
+pub mod Newly
+pub mod Proposals

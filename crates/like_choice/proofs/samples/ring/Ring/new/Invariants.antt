@@ -1,0 +1,5 @@
+use Rattle.std.proofs.Common.{◌≡◌, vec_len}
+use Rattle.like_choice.proofs.samples.ring.Ring.new.Given as goal
+
+abbrev pub invariant-loop : goal.invariant-loop
+invariant-loop l = vec_len l.all ≡ l.counter

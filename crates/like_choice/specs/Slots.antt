@@ -1,0 +1,73 @@
+-- The slots of a service, and what a choice makes of them.
+use Rattle.std.specs.Prelude.{◌≡◌, ℕ, ◌-◌, ◌^◌, ◌<◌, ◌≤◌, ◌⊎◌, true, List, ◌++◌, length, replicate, slice_index}
+use Rattle.std.specs.List.{Contains}
+use Rattle.like_limits.specs.Limits.{hot_pages}
+use Rattle.like_limits.specs.Buckets.{bucket}
+use Rattle.like_core.specs.Functions.{has_bit}
+use Rattle.like_core.specs.Slots.{IsChoice}
+
+-- the factor of its buckets; how many pages there are; how many are marked, which are those in the first slots; the
+-- page in each slot; and a bit for each slot in use
+pub record SlotsView : Type 0 where
+  pub factor : ℕ
+  pub pages : ℕ
+  pub marks : ℕ
+  pub slots : List ℕ
+  pub bits : ℕ
+
+-- no two of these pages share a bucket
+abbrev pub AreApart : ℕ → List ℕ → Type 0
+AreApart factor pages = (i j : ℕ) → i < length pages → j < length pages
+    → bucket factor (slice_index pages i) ≡ bucket factor (slice_index pages j) → i ≡ j
+
+-- those of a new service: only the marked pages have slots
+abbrev pub new_slots : ℕ → ℕ → List ℕ → SlotsView
+new_slots factor pages marks = record {
+  factor = factor;
+  pages = pages;
+  marks = length marks;
+  slots = marks ++ replicate (hot_pages - length marks) 0;
+  bits = 2 ^ length marks - 1;
+}
+
+-- a slot is in use
+abbrev pub IsInUse : ℕ → ℕ → Type 0
+IsInUse bits slot = (slot < hot_pages) × (has_bit bits slot ≡ true)
+
+-- the page of a slot in use has the same bucket as this one
+abbrev pub IsTaken : ℕ → List ℕ → ℕ → ℕ → Type 0
+IsTaken factor slots bits page =
+    (slot : ℕ) × IsInUse bits slot × (bucket factor (slice_index slots slot) ≡ bucket factor page)
+
+-- all slots are in use
+abbrev pub IsFull : ℕ → Type 0
+IsFull bits = (slot : ℕ) → slot < hot_pages → has_bit bits slot ≡ true
+
+-- what is always so: the pages in the slots in use are a lawful choice, and the marked ones are in theirs
+pub record AreSlots (v : SlotsView) : Type 0 where
+  pub choice : IsChoice v.factor v.pages (slice_index v.slots) v.bits
+  pub marks : v.marks ≤ hot_pages
+  pub marked : (slot : ℕ) → slot < v.marks → has_bit v.bits slot ≡ true
+  pub all : length v.slots ≡ hot_pages
+  pub below : v.bits < 2 ^ 64
+
+-- a slot keeps its page through a choice
+abbrev pub KeepsSlot : SlotsView → SlotsView → ℕ → Type 0
+KeepsSlot old new slot =
+    (has_bit new.bits slot ≡ true) × (slice_index new.slots slot ≡ slice_index old.slots slot)
+
+-- what a choice makes of the slots, where these pages are proposed
+pub record Chooses (old : SlotsView) (proposed : List ℕ) (new : SlotsView) : Type 0 where
+  -- the service is the same
+  pub same : (new.factor ≡ old.factor) × (new.pages ≡ old.pages) × (new.marks ≡ old.marks)
+  -- a marked page keeps its slot
+  pub marked : (slot : ℕ) → slot < old.marks → KeepsSlot old new slot
+  -- so does a page that was in and is proposed again
+  pub again : (slot : ℕ) → IsInUse old.bits slot → Contains proposed (slice_index old.slots slot)
+      → KeepsSlot old new slot
+  -- each page that is in is marked or proposed
+  pub asked : (slot : ℕ) → IsInUse new.bits slot
+      → (slot < new.marks) ⊎ Contains proposed (slice_index new.slots slot)
+  -- a page of the service that is proposed is in, unless another one has its bucket or no slot is left
+  pub left_out : (page : ℕ) → Contains proposed page → page < new.pages
+      → IsTaken new.factor new.slots new.bits page ⊎ IsFull new.bits

@@ -1,0 +1,26 @@
+-- The steps of a choice: which slots stay in use, and how pages are put into free ones.
+use Rattle.std.specs.Prelude.{◌≡◌, ℕ, ◌<◌, ◌==◌, ◌&&◌, ◌||◌, ◌⊎◌, nat_lt, Bool, true, List, slice_index}
+use Rattle.std.specs.List.{list_any, Contains}
+use Rattle.like_core.specs.Functions.{has_bit}
+use Rattle.like_core.specs.Slots.{IsChoice}
+use Rattle.like_choice.specs.Slots.{IsFull, IsInUse, IsTaken}
+
+-- whether a slot stays in use: it is a marked page's, or its page is proposed again
+abbrev pub stays : List ℕ → ℕ → ℕ → List ℕ → ℕ → Bool
+stays slots bits marks proposed slot =
+    has_bit bits slot && (nat_lt slot marks || list_any (λ page. page == slice_index slots slot) proposed)
+
+-- the slots in use stay, with their pages
+abbrev pub StayInUse : List ℕ → ℕ → List ℕ → ℕ → Type 0
+StayInUse slots bits after bits_after = (slot : ℕ) → IsInUse bits slot
+    → (has_bit bits_after slot ≡ true) × (slice_index after slot ≡ slice_index slots slot)
+
+-- pages of this list are put into free slots: where the choice was lawful, it is
+pub record Fills (factor pages : ℕ) (proposed slots : List ℕ) (bits : ℕ) (after : List ℕ) (bits_after : ℕ)
+    : Type 0 where
+  pub stay : StayInUse slots bits after bits_after
+  pub asked : (slot : ℕ) → IsInUse bits_after slot
+      → (has_bit bits slot ≡ true) ⊎ Contains proposed (slice_index after slot)
+  pub lawful : IsChoice factor pages (slice_index slots) bits → IsChoice factor pages (slice_index after) bits_after
+  pub left_out : (page : ℕ) → Contains proposed page → page < pages
+      → IsTaken factor after bits_after page ⊎ IsFull bits_after

@@ -1,0 +1,103 @@
+ghost use Rattle.std.specs.Prelude.{◌≡◌, ◌<◌, IfOk};
+
+mod best;
+mod entry;
+mod judge;
+mod reader;
+mod ring;
+pub mod sample;
+pub mod sampler;
+mod table;
+
+use self::best::Best;
+use self::judge::Judge;
+use self::reader::Reader;
+use self::ring::Ring;
+use self::sampler::Sampler;
+use self::table::Table;
+use crate::choice::Choice;
+use crate::proposal::Proposal;
+use crate::slots::Slots;
+use std::alloc::{AllocError, Global};
+use std::marker::Model;
+
+/// A service's own choice of the pages that get slots, by samples of what its seats do, as in phase reconciliation
+/// (OSDI 2014, section 5.5).
+///
+/// Each seat stores about one in 256 of its requests. At each choice the driver reads what is new, and proposes the
+/// pages with the most likes of late, but for those at which more looks would wait. All its memory is taken when it is
+/// made. Contracts see it as the number of seats.
+#[derive(Drop)]
+pub struct Samples {
+    readers: Vec<Reader>,
+    table: Table,
+    /// The likes between two choices from which on a page is popular; 0: none is.
+    hot: u32,
+}
+
+impl Model for Samples {
+    ghost use Rattle.std.specs.Prelude.{ℕ, vec_len};
+
+    ghost Value = { ℕ };
+
+    ghost view = { λ s. vec_len s.readers };
+}
+
+impl Samples {
+    /// For so many seats. A page is popular from `hot` likes between two choices on, where the likes before them count
+    /// too, a sixteenth less at each choice: 1 to 511 act as 512, and 0 says that no page is. A page gets a slot at
+    /// half as many again, and keeps it down to half as many.
+    pub fn new(alloc: Global, seats: u32, hot: u32) -> Result<Samples, AllocError>
+        ensures { IfOk result (λ samples. samples ≡ seats) }
+    {
+        let mut readers = Vec::with_capacity(alloc, seats as usize)?;
+        for _ in 0..seats {
+            readers.push(Reader::new(Ring::new(alloc)?))?;
+        }
+        Ok(Samples {
+            readers,
+            table: Table::new(alloc)?,
+            hot,
+        })
+    }
+
+    /// What a seat samples its requests with. Each seat has one.
+    pub fn sampler(&self, seat: u32) -> Result<Sampler, AllocError>
+        requires { seat < self.now }
+    {
+        let ring = self.readers[seat as usize].ring().share()?;
+        Ok(Sampler::new(ring, seat))
+    }
+
+    // Reads what the seats have stored since the last choice.
+    fn read(&mut self, slots: &Slots) {
+        self.table.fade();
+        for reader in &mut self.readers {
+            reader.read(&mut self.table);
+        }
+        let bits = slots.bits();
+        for slot in 0..64u32 {
+            if bits >> slot & 1 == 1 {
+                self.table.mark_in(slots.page(slot));
+            }
+        }
+    }
+}
+
+impl Choice for Samples {
+    fn propose(&mut self, slots: &Slots, proposed: &mut Proposal) {
+        proposed.clear();
+        if self.hot == 0 {
+            return;
+        }
+        self.read(slots);
+        let judge = Judge::new(self.hot, &self.table);
+        let mut best = Best::new();
+        for entry in self.table.entries() {
+            if let Some(candidate) = judge.candidate(entry) {
+                best.offer(candidate);
+            }
+        }
+        best.propose(slots, proposed);
+    }
+}

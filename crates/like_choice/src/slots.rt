@@ -1,0 +1,112 @@
+ghost use Rattle.std.specs.Prelude.{◌≡◌, ◌<◌, ◌≤◌, All, length, slice_index};
+ghost use Rattle.like_limits.specs.Buckets.{bucket, buckets};
+ghost use Rattle.like_limits.specs.Limits.{hot_pages};
+ghost use Rattle.like_choice.specs.Slots.{AreApart, AreSlots, Chooses, new_slots};
+
+mod fill;
+mod kept;
+mod marked;
+mod taken;
+
+use self::fill::fill;
+use self::kept::kept;
+use self::marked::marked_first;
+use crate::bits::low_bits;
+use crate::bucket::bucket_of;
+use std::marker::Model;
+
+/// The slots of a service: 64 places for the pages that are split in its split phases.
+///
+/// A marked page has one of the first slots for ever. The others are given anew by each choice. No two pages in slots
+/// share a bucket, a place in the tables in which seats look pages up.
+#[derive(Drop)]
+pub struct Slots {
+    factor: u32,
+    pages: u32,
+    marks: u32,
+    slots: [u32; 64],
+    bits: u64,
+}
+
+impl Model for Slots {
+    ghost use Rattle.like_choice.specs.Slots.{AreSlots, SlotsView};
+
+    ghost Value = { SlotsView };
+
+    ghost view = { λ s. record {
+      factor = s.factor;
+      pages = s.pages;
+      marks = s.marks;
+      slots = s.slots;
+      bits = s.bits;
+    } };
+
+    ghost invariant = { λ s. AreSlots (record {
+      factor = s.factor;
+      pages = s.pages;
+      marks = s.marks;
+      slots = s.slots;
+      bits = s.bits;
+    }) };
+}
+
+impl Slots {
+    /// The slots of a service with these marked pages, which get the first ones. The factor tells each page's bucket.
+    pub fn new(factor: u32, pages: u32, marks: &[u32]) -> Slots
+        requires few { length marks.now ≤ hot_pages }
+        requires there { All (λ page. page < pages) marks.now }
+        requires apart { AreApart factor marks.now }
+        ensures new { result ≡ new_slots factor pages marks.now }
+        ensures lawful { AreSlots result }
+    {
+        let many = marks.len() as u32;
+        Slots {
+            factor,
+            pages,
+            marks: many,
+            slots: marked_first(marks),
+            bits: low_bits(many),
+        }
+    }
+
+    /// Takes the pages that are proposed, the most popular first. A page that is in and is proposed again keeps its
+    /// slot; those that aren't lose theirs, but for marked ones. Of the others it drops those that are no page of the
+    /// service, whose bucket another page has, or for which no slot is left.
+    pub fn choose(&mut self, proposed: &[u32])
+        ensures chooses { Chooses self.old proposed.now self.new }
+        ensures lawful { AreSlots self.new }
+    {
+        self.bits = kept(&self.slots, self.bits, self.marks, proposed);
+        self.bits = fill(
+            &mut self.slots,
+            self.bits,
+            self.factor,
+            self.pages,
+            proposed,
+        );
+    }
+
+    /// The bucket of a page.
+    pub fn bucket(&self, page: u32) -> u32
+        ensures bucket { result ≡ bucket self.now.factor page }
+        ensures below { result < buckets }
+    {
+        bucket_of(self.factor, page)
+    }
+
+    /// The page in a slot. It tells nothing where the slot isn't in use.
+    pub fn page(&self, slot: u32) -> u32
+        requires { slot < hot_pages }
+        ensures { result ≡ slice_index self.now.slots slot }
+    {
+        self.slots[slot as usize]
+    }
+
+    /// A bit for each slot: whether it is in use.
+    pub fn bits(&self) -> u64
+        ensures bits { result ≡ self.now.bits }
+        ensures lawful { AreSlots self.now }
+    {
+        self.bits
+    }
+}

@@ -1,0 +1,216 @@
+use super::*;
+use std::alloc::AllocError;
+
+/// How many pages the drawn services have.
+const PAGES: u32 = 1_000_000;
+
+/// How many requests there are between two choices.
+const REQUESTS: u32 = 120_000;
+
+/// Likes at Zipf 1.4: of 2^32 draws, those below each number are of one of the first pages by popularity: of the first
+/// one, two and so on to 64, and then of the first 128, 256 and so on.
+static ZIPF: [u32; 78] = [
+    1_387_445_015,
+    1_913_188_363,
+    2_211_208_784,
+    2_410_428_260,
+    2_556_194_776,
+    2_669_123_399,
+    2_760_131_180,
+    2_835_621_244,
+    2_899_635_436,
+    2_954_870_617,
+    3_003_206_096,
+    3_045_998_042,
+    3_084_253_648,
+    3_118_739_148,
+    3_150_049_505,
+    3_178_654_891,
+    3_204_932_587,
+    3_229_189_430,
+    3_251_677_943,
+    3_272_608_162,
+    3_292_156_452,
+    3_310_472_174,
+    3_327_682_805,
+    3_343_897_921,
+    3_359_212_313,
+    3_373_708_477,
+    3_387_458_598,
+    3_400_526_159,
+    3_412_967_253,
+    3_424_831_660,
+    3_436_163_734,
+    3_447_003_148,
+    3_457_385_512,
+    3_467_342_897,
+    3_476_904_276,
+    3_486_095_901,
+    3_494_941_624,
+    3_503_463_177,
+    3_511_680_405,
+    3_519_611_475,
+    3_527_273_056,
+    3_534_680_473,
+    3_541_847_845,
+    3_548_788_205,
+    3_555_513_607,
+    3_562_035_217,
+    3_568_363_397,
+    3_574_507_776,
+    3_580_477_322,
+    3_586_280_391,
+    3_591_924_788,
+    3_597_417_807,
+    3_602_766_277,
+    3_607_976_598,
+    3_613_054_778,
+    3_618_006_457,
+    3_622_836_945,
+    3_627_551_238,
+    3_632_154_047,
+    3_636_649_817,
+    3_641_042_744,
+    3_645_336_797,
+    3_649_535_731,
+    3_653_643_101,
+    3_811_504_182,
+    3_931_620_378,
+    4_022_833_922,
+    4_092_030_137,
+    4_144_497_335,
+    4_184_269_995,
+    4_214_415_811,
+    4_237_263_498,
+    4_254_579_348,
+    4_267_702_515,
+    4_277_648_093,
+    4_285_185_461,
+    4_290_897_729,
+    4_294_967_295,
+];
+
+/// A fixed generator.
+#[derive(Drop)]
+struct Drawn {
+    state: u64,
+}
+
+impl Drawn {
+    fn next(&mut self) -> u32 {
+        self.state = self
+            .state
+            .wrapping_mul(6_364_136_223_846_793_005)
+            .wrapping_add(1_442_695_040_888_963_407);
+        (self.state >> 32) as u32
+    }
+
+    /// How many pages are more popular than the one that is liked next.
+    fn rank(&mut self) -> u32 {
+        let drawn = self.next();
+        let part = ZIPF.iter().position(|above| drawn < *above).unwrap_or(77) as u32;
+        if part < 64 {
+            part
+        } else {
+            let first = 64 << part.min(77).saturating_sub(64);
+            (first + self.next() % (first.max(1))).min(PAGES - 1)
+        }
+    }
+}
+
+/// The page with so many more popular ones: each page is one of these.
+fn page_at(rank: u32) -> u32 {
+    (u64::from(rank) * 611_953 % 1_000_000) as u32
+}
+
+/// Whether a page is in a slot.
+fn is_in(slots: &Slots, page: u32) -> bool {
+    let bits = slots.bits();
+    for slot in 0..64u32 {
+        if bits >> slot & 1 == 1 && slots.page(slot) == page {
+            return true;
+        }
+    }
+    false
+}
+
+#[test]
+fn slots_of_a_proposal(rt: HostRuntime) {
+    // The factor is that of buckets by the page modulo 1,024.
+    let mut slots = Slots::new(1 << 22, 5_000, &[7]);
+    assert_eq!(rt; (slots.page(0), slots.bits()), (7, 1));
+    // 1,031 has the bucket of 7, 1,034 that of 10, and there are no pages from 5,000 on.
+    slots.choose(&[10, 1_031, 1_034, 5_000, 20, 10]);
+    assert_eq!(rt;
+        (slots.page(0), slots.page(1), slots.page(2), slots.bits()),
+        (7, 10, 20, 7)
+    );
+    slots.choose(&[30, 20]);
+    assert_eq!(rt;
+        (slots.page(0), slots.page(1), slots.page(2), slots.bits()),
+        (7, 30, 20, 7)
+    );
+    slots.choose(&[]);
+    assert_eq!(rt; slots.bits(), 1);
+}
+
+#[test]
+fn proposals_that_are_set(rt: HostRuntime) {
+    let slots = Slots::new(1 << 22, 100, &[]);
+    let mut proposal = Proposal::new();
+    let mut proposed = Proposed::new();
+    proposed.set(&[3, 1, 2]);
+    proposed.propose(&slots, &mut proposal);
+    assert_eq!(rt; proposal.pages(), [3, 1, 2].as_slice());
+    NoProposal.propose(&slots, &mut proposal);
+    assert!(rt; proposal.pages().is_empty());
+}
+
+#[test]
+fn popular_pages_are_found(rt: HostRuntime) -> Result<(), AllocError> {
+    let mut drawn = Drawn { state: 1 };
+    let mut samples = Samples::new(rt.alloc(), 2, 512)?;
+    let mut slots = Slots::new(0x9e37_79b1, PAGES, &[]);
+    let mut proposal = Proposal::new();
+    let mut samplers = [samples.sampler(0)?, samples.sampler(1)?];
+    let mut best = 0u64;
+    let mut sliced = 0u64;
+    for choice in 0..12u32 {
+        for request in 0..REQUESTS {
+            let rank = drawn.rank();
+            let page = page_at(rank);
+            let sampler = &mut samplers[request as usize % 2];
+            if sampler.skips(1).is_some() {
+                sampler.note(page, Kind::Like);
+            }
+            if choice >= 10 {
+                best = best.wrapping_add(u64::from(rank < 64));
+                sliced = sliced.wrapping_add(u64::from(is_in(&slots, page)));
+            }
+        }
+        samples.propose(&slots, &mut proposal);
+        slots.choose(proposal.pages());
+    }
+    assert!(rt; sliced / 95 >= best / 100, "{sliced} of {best}");
+    Ok(())
+}
+
+#[test]
+fn pages_that_are_alike_are_not_popular(rt: HostRuntime) -> Result<(), AllocError> {
+    let mut drawn = Drawn { state: 2 };
+    let mut samples = Samples::new(rt.alloc(), 1, 1)?;
+    let slots = Slots::new(1 << 22, PAGES, &[]);
+    let mut proposal = Proposal::new();
+    let mut sampler = samples.sampler(0)?;
+    for _ in 0..12u32 {
+        for _ in 0..REQUESTS / 64 {
+            if let Some(place) = sampler.skips(64) {
+                sampler.note(drawn.next() % PAGES, Kind::Like);
+                assert!(rt; place < 64);
+            }
+        }
+        samples.propose(&slots, &mut proposal);
+        assert!(rt; proposal.pages().is_empty());
+    }
+    Ok(())
+}
